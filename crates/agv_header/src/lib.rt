@@ -1,0 +1,17 @@
+//! What every layer of the desk speaks of: names, vehicles, stretches of track, and refusals.
+//!
+//! - [`Name`] is the name of a load, node, edge, station, job, order, reference, manufacturer or
+//!   vehicle. [`Name::read`] accepts exactly the texts of 1 to 32 bytes of `A-Z a-z 0-9 _ . : -`.
+//! - [`VehicleKey`] names a vehicle, and [`Thing`] a node or an edge of the layout.
+//! - [`Refusal`] lists every refusal of the desk, each with its number, name and HTTP status.
+//!
+//! Nothing here takes memory.
+#![tactic(auto)]
+
+mod key;
+mod name;
+mod refusal;
+
+pub use key::{Thing, VehicleKey};
+pub use name::{Name, NotName};
+pub use refusal::{Refusal, Verb};

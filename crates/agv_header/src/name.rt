@@ -1,0 +1,149 @@
+//! Names: 1 to 32 bytes, kept inline, ordered by their bytes.
+ghost use Rattle.std.specs.Prelude.{◌≡◌, ◌↔◌, IsOk, IfOk, Some, nat_eq, refl};
+ghost use Rattle.std.specs.Ordering.{nat_cmp};
+ghost use Rattle.std.specs.Cmp.Lexicographic.{pointwise, slice_cmp, nat_list_eq_equiv, nat_list_cmp_total, texts_po, texts_ties};
+ghost use Rattle.std.specs.Cmp.{partial_equiv_from_equiv};
+ghost use Rattle.std.specs.List.{list_all};
+ghost use Rattle.agv_header.specs.Name.{is_name_byte, is_name, IsName};
+
+use std::cmp::Ordering;
+use std::marker::Model;
+use std::{fmt, str};
+
+/// A name: 1 to 32 bytes of `A-Z a-z 0-9 _ . : -`. In a clause it is the list of its bytes.
+#[derive(Clone, Copy)]
+pub struct Name {
+    bytes: [u8; 32],
+    len: usize,
+}
+
+impl Model for Name {
+    ghost use Rattle.std.specs.Prelude.{ℕ, List};
+
+    ghost Value = { List ℕ };
+
+    ghost use Rattle.agv_header.specs.Padded.{shown, IsPadded, padded, padded-shown};
+
+    ghost view = { shown };
+
+    ghost invariant = { IsPadded };
+
+    ghost inverse = { padded };
+
+    ghost inverse_ok = { padded-shown };
+}
+
+/// The text is no name: it is empty, longer than 32 bytes, or has a byte that no name has.
+#[derive(Clone, Copy, Debug, PartialEq, Eq)]
+pub struct NotName;
+
+fn is_allowed(byte: u8) -> bool
+    ensures { result ≡ is_name_byte byte }
+{
+    byte.is_ascii_alphanumeric() || byte == b'_' || byte == b'.' || byte == b':' || byte == b'-'
+}
+
+fn are_allowed(bytes: &[u8]) -> bool
+    ensures { result ≡ list_all is_name_byte bytes.now }
+{
+    bytes.iter().all(|byte| is_allowed(*byte))
+}
+
+fn spells_name(bytes: &[u8]) -> bool
+    ensures { result ≡ is_name bytes.now }
+{
+    !bytes.is_empty() && bytes.len() <= 32 && are_allowed(bytes)
+}
+
+impl Name {
+    /// The name that the text is. It takes no memory.
+    ///
+    /// `NotName` where the text is empty, has more than 32 bytes, or has a byte that is no letter,
+    /// digit, `_`, `.`, `:` or `-` of ASCII.
+    pub fn read(text: &str) -> Result<Name, NotName>
+        ensures kept { IfOk result (λ name. name ≡ text.now) }
+        ensures exact { IsOk result ↔ IsName text.now }
+    {
+        let bytes = text.as_bytes();
+        if !spells_name(bytes) {
+            return Err(NotName);
+        }
+        let mut padded = [0; 32];
+        padded[..bytes.len()].copy_from_slice(bytes);
+        Ok(Name {
+            bytes: padded,
+            len: bytes.len(),
+        })
+    }
+
+    /// The bytes of the name: 1 to 32, all ASCII.
+    pub fn as_bytes(&self) -> &[u8]
+        ensures bytes { result.now ≡ self.now }
+        ensures name { IsName self.now }
+    {
+        &self.bytes[..self.len]
+    }
+
+    /// The name as text.
+    pub fn as_str(&self) -> &str
+        ensures text { result.now ≡ self.now }
+        ensures name { IsName self.now }
+    {
+        match str::from_utf8(self.as_bytes()) {
+            Ok(text) => text,
+            Err(_) => unreachable!(),
+        }
+    }
+}
+
+impl PartialEq for Name {
+    ghost eq = { pointwise nat_eq };
+
+    ghost laws = { partial_equiv_from_equiv nat_list_eq_equiv };
+
+    fn eq(&self, other: &Self) -> bool {
+        self.as_bytes() == other.as_bytes()
+    }
+}
+
+impl Eq for Name {
+    ghost laws = { nat_list_eq_equiv };
+}
+
+impl PartialOrd for Name {
+    ghost partial_cmp = { λ a b. Some (slice_cmp nat_cmp a b) };
+
+    ghost laws = { texts_po };
+
+    fn partial_cmp(&self, other: &Self) -> Option<Ordering> {
+        Some(self.cmp(other))
+    }
+}
+
+impl Ord for Name {
+    ghost cmp = { slice_cmp nat_cmp };
+
+    ghost total = { nat_list_cmp_total };
+
+    ghost matches_partial_cmp = { λ a b. refl };
+
+    ghost matches_eq = { texts_ties };
+
+    fn cmp(&self, other: &Self) -> Ordering {
+        self.as_bytes().cmp(other.as_bytes())
+    }
+}
+
+impl fmt::Display for Name {
+    ghost output = { λ name. Some name };
+
+    fn fmt<W: fmt::Write>(&self, f: &mut fmt::Formatter<W>) -> fmt::Result {
+        write!(f, "{}", self.as_str())
+    }
+}
+
+impl fmt::Debug for Name {
+    fn fmt<W: fmt::Write>(&self, f: &mut fmt::Formatter<W>) -> fmt::Result {
+        write!(f, "{}", self.as_str())
+    }
+}
