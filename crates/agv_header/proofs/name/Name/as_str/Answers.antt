@@ -1,8 +1,8 @@
 use Rattle.std.proofs.Common.{sym, subst}
 use Rattle.std.specs.Str.{IsUtf8}
-use Rattle.agv_header.proofs.Names.{name_utf8}
+use Rattle.agv_header.specs.Name.{IsUtf8-name}
 use Rattle.agv_header.proofs.name.Name.as_str.Goals as goal
 
 pub unreachable-requires : goal.unreachable-requires
 unreachable-requires c =
-    c.in-Err.ensures.cases.0 (subst IsUtf8 (sym c.as_bytes.ensures.bytes) (name_utf8 _ c.as_bytes.ensures.name))
+    c.in-Err.ensures.cases.0 (subst IsUtf8 (sym c.as_bytes.ensures.bytes) (IsUtf8-name _ c.as_bytes.ensures.name))
