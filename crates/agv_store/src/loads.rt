@@ -82,7 +82,7 @@ impl<S: Alter + Drop> Loads<S> {
         ensures clean { IsClean S.Store self.new → IsClean S.Store self.old }
         ensures answers { IsClean S.Store self.new → IfOk result (λ yes. (loads : Registered) → HoldsLoads S.Store self.old loads
             → (yes ≡ set.contains loads name) × HoldsLoads S.Store self.new loads) }
-        ensures open { IsClean S.Store self.new → IfOk result (λ _. IsOpen S.Store self.new) }
+        ensures shows { IsClean S.Store self.new → IfOk result (λ yes. (loads : Registered) × HoldsLoads S.Store self.new loads × (yes ≡ set.contains loads name)) }
         ensures failed { IsClean S.Store self.new → IsOpen S.Store self.new → OnErr result ((loads : Registered) → HoldsLoads S.Store self.old loads → HoldsLoads S.Store self.new loads) }
         ensures survives { Survives (state S.Store self.old) (state S.Store self.new) (λ _. HoldsNothing S.Store self.old) }
     {

@@ -1,5 +1,5 @@
 //! The statements of SQL on the table `load`, each in one call of the database.
-ghost use Rattle.std.specs.Prelude.{◌≡◌, false, not, length, nat_eq, IfOk, OnOk, OnErr};
+ghost use Rattle.std.specs.Prelude.{◌≡◌, ◌==◌, false, not, vec_len, IfOk, OnOk, OnErr};
 ghost use Rattle.std.specs.FinSet as set;
 ghost use Rattle.sqlite.specs.State.{Survives};
 ghost use Rattle.sqlite.specs.Held.{state};
@@ -43,7 +43,7 @@ pub(crate) fn find_load<S: Alter>(
     name: &str,
 ) -> Result<Vec<Row>, Error>
     ensures found { IsClean S.Store conn.new → IfOk result (λ rows. (loads : Registered) → HoldsLoads S.Store conn.old loads
-        → nat_eq (length rows.items) 0 ≡ not (set.contains loads name.now)) }
+        → (vec_len rows == 0) ≡ not (set.contains loads name.now)) }
     ensures kept { IsClean S.Store conn.new → IsOpen S.Store conn.new → (loads : Registered) → HoldsLoads S.Store conn.old loads → HoldsLoads S.Store conn.new loads }
     ensures was_open { IsClean S.Store conn.new → IsOpen S.Store conn.new → IsOpen S.Store conn.old }
     ensures still_open { IsClean S.Store conn.new → OnOk result (IsOpen S.Store conn.new) }
