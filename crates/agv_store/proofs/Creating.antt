@@ -1,10 +1,9 @@
 -- The text that makes the table makes it, with no row.
-use Rattle.std.proofs.Common.{◌≡◌, ◌⊎◌, ℕ, false, [], ◌∷◌, List, None, Ok, Err, Result, OnOk, IsTrue, inl, inr, refl, sym, ap, subst, ◌∙◌}
+use Rattle.std.proofs.Common.{◌≡◌, ℕ, false, [], None, Ok, Err, Result, OnOk, refl, sym, ap, subst, ◌∙◌}
 use Rattle.std.specs.FinSet as set
 use Rattle.std.proofs.lemmas.List.Sorted.{IsPermutation-refl}
 use Rattle.sqlite_trees.specs.Tree.{Trees}
 use Rattle.sqlite_trees.specs.declared.store.Store.{Ghosts}
-use Rattle.sqlite_schema.specs.declared.schema.Schema.{Schema}
 use Rattle.sqlite_schema.specs.declared.command.Command.TheVariants.{CreateTable}
 use Rattle.sqlite_catalog.specs.Change.{created, next_tree}
 use Rattle.sqlite.specs.declared.error.Error.{Error}
@@ -18,15 +17,7 @@ use Rattle.agv_store.specs.Registered.{no_loads}
 use Rattle.agv_store.specs.LoadTable.{no_tables, load_table, load_schema, HasRows, AreLoads}
 use Rattle.agv_store.specs.HeldLoads.{HoldsLoads}
 use Rattle.agv_store.proofs.Texts.{create_text, create_is, create_plain}
-use Rattle.agv_store.proofs.Running.{commits_as}
-
--- a part of a statement that gave a value wasn't stopped on the way
-went : {B E R : Type 0} {b : B} {Stops : E → Type 0} → ((stop : E) × Stops stop × (Ok b ≡ Err stop)) ⊎ R → R
-went (inl stopped) = absurd (let e = stopped.2 in cc)
-went (inr on) = on
-
-same_value : {B E : Type 0} {a b : B} → ◌≡◌ {A = Result B E} (Ok a) (Ok b) → a ≡ b
-same_value e = cc
+use Rattle.agv_store.proofs.Running.{went, same_value, commits_as}
 
 -- a table with no row has no load
 pub none_yet : (trees : Trees) → trees load_table.tree ≡ [] → AreLoads trees no_loads
@@ -56,7 +47,7 @@ module _ {S : Type 0} (g : Ghosts S) (old new : Held S) (idle : old.in_transacti
   creates (Err e) ran = tt
   creates (Ok count) ran =
       let w = subst (λ t. Writes (state g old) (state g new) None CreateTable t [] count) create_is.1
-        (runs_as create_text [] (state g old) (state g new) no_tables blank CreateTable create_is.0 create_plain count ran) in
+      (runs_as create_text [] (state g old) (state g new) no_tables blank CreateTable create_is.0 create_plain count ran) in
       let table = made (state g old) w.tally (state g new).now blank w.changed in
       record {
         is_open = w.shown.is_open;
@@ -65,7 +56,6 @@ module _ {S : Type 0} (g : Ghosts S) (old new : Held S) (idle : old.in_transacti
         committed = rw idle at w.shown.committed_is;
         rows = table.1;
       }
-
 
 -- and so do the trees that a crash may leave of it
 pub create_commits : {S : Type 0} (g : Ghosts S) (old : Held S) → old.schema ≡ no_tables → (trees : Trees) → CommitsBy create_text [] (state g old) trees → AreLoads trees no_loads

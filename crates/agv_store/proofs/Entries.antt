@@ -1,5 +1,5 @@
 -- A row that is put into a table under a free number.
-use Rattle.std.proofs.Common.{◌≡◌, false, true, Bool, List, [], ◌∷◌, map, drop, Ordering, Less, Equal, Greater, IsPermutation}
+use Rattle.std.proofs.Common.{◌≡◌, false, true, List, [], ◌∷◌, drop, Ordering, Less, Equal, Greater, IsPermutation}
 use Rattle.std.specs.Ordering.{is_eq, match_ordering}
 use Rattle.std.proofs.lemmas.Bool.{or_parts}
 use Rattle.std.proofs.lemmas.List.Sorted.{IsPermutation-refl, IsPermutation-cons, IsPermutation-middle, IsPermutation-trans, IsPermutation-map, IsPermutation-sym}

@@ -1,21 +1,17 @@
 -- The text that looks a load up shows a row exactly where the load is registered.
-use Rattle.std.proofs.Common.{◌≡◌, ℕ, zero, suc, Bool, true, false, not, ◌&&◌, ◌||◌, cond, ◌==◌, vec_len, List, [], ◌∷◌, ◌++◌, length, map, drop, flat_map, Some, Ok, Err, Result, IfOk, IfErr, OnOk, Vec, Global, inl, refl, sym, ap, ap₂, subst, ◌∙◌, arith}
+use Rattle.std.proofs.Common.{◌≡◌, ℕ, suc, Bool, true, false, not, ◌&&◌, ◌||◌, cond, ◌==◌, vec_len, List, [], ◌∷◌, ◌++◌, length, drop, flat_map, Ok, Err, Result, IfOk, IfErr, OnOk, Vec, Global, inl, refl, sym, ap, subst, ◌∙◌, arith}
 use Rattle.std.specs.FinSet as set
 use Rattle.std.proofs.lemmas.Bool.Decides.{nat_tests}
-use Rattle.std.specs.List.{list_any, list_all}
-use Rattle.std.specs.Ordering.{is_eq, eq_by_cmp, nat_cmp}
-use Rattle.std.specs.Cmp.{IsEquivalence}
-use Rattle.std.proofs.lemmas.Cmp.{nat_list_cmp_total, eq_by_cmp_equiv}
+use Rattle.std.specs.List.{list_any}
 use Rattle.std.proofs.lemmas.List.{length-map}
-use Rattle.std.proofs.lemmas.List.Sorted.{length_permutation, list_any-IsPermutation}
+use Rattle.std.proofs.lemmas.List.Sorted.{length_permutation}
 use Rattle.sqlite_value.specs.declared.value.Value.TheVariants.{Null, Text}
 use Rattle.sqlite_value.specs.declared.keys.Collation.TheVariants.{Binary}
-use Rattle.sqlite_value.specs.Order.{Row, column, value_cmp}
-use Rattle.sqlite_value.proofs.OrderLemmas.{value_cmp-Text}
+use Rattle.sqlite_value.specs.Order.{Row, column}
 use Rattle.sqlite_trees.specs.Tree.{Trees}
 use Rattle.sqlite_sql.specs.declared.ops.BinaryOp.TheVariants.{Compare}
 use Rattle.sqlite_sql.specs.declared.ops.CompareOp.TheVariants.{Eq}
-use Rattle.sqlite_sql.specs.Ops.{binary, is_true, from_truth}
+use Rattle.sqlite_sql.specs.Ops.{binary, is_true}
 use Rattle.sqlite_sql.specs.Term.{Env}
 use Rattle.sqlite_sql.specs.Program.{overlay}
 use Rattle.sqlite_sql.specs.Query.{IsAnswer, Output, output}
@@ -25,46 +21,19 @@ use Rattle.sqlite.specs.Held.{Held, state}
 use Rattle.sqlite.specs.Listing.{understood}
 use Rattle.sqlite.specs.State.{State, Shown, FailsToQuery, CommitsShowing}
 use Rattle.sqlite.proofs.Callers.{IsPlain, reads_as, never_commits}
-use Rattle.agv_header.specs.Name.{name_cmp}
 use Rattle.agv_store.specs.Registered.{Registered}
-use Rattle.agv_store.specs.LoadTable.{load_table, load_schema, load_row, AreLoads}
+use Rattle.agv_store.specs.LoadTable.{load_table, load_schema, AreLoads}
 use Rattle.agv_store.specs.HeldLoads.{IsOpen, HoldsLoads, HoldsNothing}
 use Rattle.agv_store.proofs.Holding.{stays}
+use Rattle.agv_store.proofs.Rows.{names_it, list_any-map, list_any-alike, row_of_load}
 use Rattle.agv_store.proofs.Running.{query_fails, shown_open, shown_same, was_open}
 use Rattle.agv_store.proofs.Texts.{find_text, find_query, find_command, find_is, find_plain}
 
--- ---- the test of a row
-
-truth_of : (b : Bool) → is_true (from_truth (Some b)) ≡ b
-truth_of true = refl
-truth_of false = refl
-
--- the first column of the row is the name
-abbrev names_it : List ℕ → Row → Bool
-names_it name row = is_true (binary (Compare Eq Binary) (column row 0) (Text name)) && true
+-- ---- whether some row passes
 
 past_number : (entry : Row) → column entry 1 ≡ column (drop 1 entry) 0
 past_number [] = refl
 past_number (v ∷ entry) = refl
-
-and_true : (b : Bool) → (b && true) ≡ b
-and_true true = refl
-and_true false = refl
-
-names_load : (name other : List ℕ) → names_it name (load_row other) ≡ eq_by_cmp name_cmp name other
-unfolding binary
-names_load name other =
-    and_true _ ∙ truth_of (is_eq (value_cmp (Text other) (Text name))) ∙ ap is_eq (value_cmp-Text other name) ∙ IsEquivalence.symm (eq_by_cmp_equiv nat_list_cmp_total) other name
-
--- ---- whether some row passes
-
-any_mapped : {X Y : Type 0} (p : Y → Bool) (f : X → Y) (xs : List X) → list_any p (map f xs) ≡ list_any (λ x. p (f x)) xs
-any_mapped p f [] = refl
-any_mapped p f (x ∷ xs) = ap (λ b. p (f x) || b) (any_mapped p f xs)
-
-any_alike : {X : Type 0} (p q : X → Bool) (xs : List X) → ((x : X) → p x ≡ q x) → list_any p xs ≡ list_any q xs
-any_alike p q [] same = refl
-any_alike p q (x ∷ xs) same = ap₂ ◌||◌ (same x) (any_alike p q xs same)
 
 some_row : (n : ℕ) → (suc n == 0) ≡ false
 some_row n = grind (arith, nat_tests)
@@ -90,16 +59,13 @@ module _ (name : List ℕ) (db : Trees) (rows : List Row) (a : IsAnswer find_que
   shown_if_named =
       let staged = a.grouped in
       ap (λ n. n == 0) (as_many ∙ ap length staged) ∙ none_passes (λ e. names_it name (column e 1 ∷ [])) (λ e. (Text name ∷ []) ∷ e ∷ []) (db load_table.tree)
-      ∙ ap not (any_alike _ _ (db load_table.tree) (λ e. ap (λ v. is_true (binary (Compare Eq Binary) v (Text name)) && true) (past_number e)))
+      ∙ ap not (list_any-alike _ _ (db load_table.tree) (λ e. ap (λ v. is_true (binary (Compare Eq Binary) v (Text name)) && true) (past_number e)))
 
 pub found : (name : List ℕ) (old new : State) (rows : List Row) (loads : Registered) → old.now.schema ≡ load_schema → AreLoads old.now.trees loads
     → Shown find_text (Text name ∷ []) old new rows → (length rows == 0) ≡ not (set.contains loads name)
 found name old new rows loads has h shown =
     let got = reads_as find_text (Text name ∷ []) old new load_schema has find_command find_is.0 find_plain find_is.1 rows shown in
-    let entries = old.now.trees load_table.tree in
-    let there : list_any (λ e. names_it name (drop 1 e)) entries ≡ set.contains loads name =
-      sym (any_mapped (names_it name) (drop 1) entries) ∙ sym (list_any-IsPermutation (names_it name) _ _ h.rows.1) ∙ any_mapped (names_it name) load_row h.names
-      ∙ any_alike _ _ h.names (names_load name) ∙ sym (set.contains-from_list nat_list_cmp_total h.names name) ∙ ap (λ (all : Registered). set.contains all name) (sym h.named) in
+    let there = sym (list_any-map (names_it name) (drop 1) (old.now.trees load_table.tree)) ∙ row_of_load old.now.trees loads h name in
     shown_if_named name old.now.trees rows (got.answer Null) ∙ ap not there
 
 -- ---- the call

@@ -1,15 +1,13 @@
--- The loads that a connection holds: they stay where nothing changes, and no two sets of them fit.
-use Rattle.std.proofs.Common.{◌≡◌, ◌⊎◌, ℕ, false, List, map, length, IsTrue, inl, inr, sym, ap, subst, ◌∙◌, arith}
-use Rattle.std.specs.FinSet as set
-use Rattle.std.proofs.lemmas.List.{length-map}
-use Rattle.std.proofs.lemmas.List.Sorted.{length_permutation}
+-- The loads that a connection holds: they stay where nothing changes, and are one set alone.
+use Rattle.std.proofs.Common.{◌≡◌, ◌⊎◌, false, inl, inr, sym, ap, subst, ◌∙◌}
 use Rattle.sqlite_trees.specs.declared.store.Store.{Ghosts}
 use Rattle.sqlite.specs.Effect.{Database}
 use Rattle.sqlite.specs.State.{IsUnchanged, IsRolledBack}
 use Rattle.sqlite.specs.Held.{Held, state}
 use Rattle.agv_store.specs.Registered.{Registered}
-use Rattle.agv_store.specs.LoadTable.{load_row, AreLoads}
+use Rattle.agv_store.specs.LoadTable.{AreLoads}
 use Rattle.agv_store.specs.HeldLoads.{IsOpen, HoldsLoads}
+use Rattle.agv_store.proofs.Rows.{one_set}
 
 module _ {S : Type 0} (g : Ghosts S) where
   -- what was shown is shown again, and is committed
@@ -30,9 +28,6 @@ module _ {S : Type 0} (g : Ghosts S) where
   stays old new (inr back) still loads h =
       let undone = back.undone still in shows_again old new loads h still back.autocommit (undone.0 ∙ h.committed) (undone.1 ∙ h.committed)
 
-  -- a table has as many rows as there are loads, so only one number of loads fits it
-  pub one_number : (held : Held S) (a b : Registered) → HoldsLoads g held a → HoldsLoads g held b → set.len a ≡ set.len b
-  one_number held a b p q =
-      let first = length_permutation _ _ p.rows.rows.1 ∙ length-map p.rows.names load_row in
-      let second = length_permutation _ _ q.rows.rows.1 ∙ length-map q.rows.names load_row in
-      p.rows.once ∙ sym first ∙ second ∙ sym q.rows.once
+-- a connection holds one set of loads at most
+pub holds_one_set : {S : Type 0} (g : Ghosts S) (held : Held S) (a b : Registered) → HoldsLoads g held a → HoldsLoads g held b → a ≡ b
+holds_one_set g held a b p q = one_set (state g held).now.trees a b p.rows q.rows

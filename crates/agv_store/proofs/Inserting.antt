@@ -1,5 +1,5 @@
 -- The text that adds a load adds its row, and nothing else.
-use Rattle.std.proofs.Common.{◌≡◌, ◌≢◌, ◌⊎◌, ℕ, ℤ, ◌/◌, Bool, true, false, cond, MatchBool, ◌+◌, suc, arith, List, [], ◌∷◌, length, map, slice_get, Option, Some, None, Ok, Err, Result, OnOk, OnErr, inl, inr, refl, sym, ap, subst, ◌∙◌}
+use Rattle.std.proofs.Common.{◌≡◌, ℕ, Bool, true, false, cond, ◌+◌, suc, arith, List, [], ◌∷◌, map, slice_get, Option, None, Ok, Err, Result, OnOk, OnErr, refl, sym, ap, subst, ◌∙◌}
 use Rattle.std.specs.FinSet as set
 use Rattle.std.proofs.lemmas.Cmp.{nat_list_cmp_total}
 use Rattle.sqlite_value.specs.declared.value.Value.{Value}
@@ -18,28 +18,20 @@ use Rattle.sqlite_rules.specs.Action.{works}
 use Rattle.sqlite_rules.specs.declared.error.Rowids.TheVariants.{Chosen}
 use Rattle.sqlite_rules.proofs.PlaceLemmas.{next_is_free}
 use Rattle.sqlite.specs.declared.error.Error.{Error}
-use Rattle.sqlite.specs.Rows.{Written, Task, Edited, stamped}
-use Rattle.sqlite.specs.Does.{Tally, OnRows, Concludes, AtPlace, Does}
-use Rattle.sqlite.specs.Effect.{Database, value_rows}
+use Rattle.sqlite.specs.Rows.{Written, Task, Edited}
+use Rattle.sqlite.specs.Does.{Tally, OnRows, AtPlace, Does}
+use Rattle.sqlite.specs.Effect.{Database}
 use Rattle.sqlite.specs.Held.{Held, state}
 use Rattle.sqlite.specs.State.{State, mode_of, Executes, CommitsBy}
 use Rattle.sqlite.proofs.Callers.{runs_as, one_step, statement_of}
 use Rattle.sqlite.specs.Listing.{understood}
-use Rattle.agv_header.specs.Name.{name_cmp}
 use Rattle.agv_store.specs.Registered.{Registered}
 use Rattle.agv_store.specs.LoadTable.{load_table, load_schema, load_row, HasRows, AreLoads}
 use Rattle.agv_store.specs.HeldLoads.{IsOpen, HoldsLoads}
-use Rattle.agv_store.proofs.Texts.{insert_text, insert_terms, insert_command, insert_is, insert_plain}
+use Rattle.agv_store.proofs.Texts.{insert_text, insert_command, insert_is, insert_plain}
 use Rattle.agv_store.proofs.Entries.{HasRows-put_row}
-use Rattle.agv_store.proofs.Running.{write_fails, commits_as}
+use Rattle.agv_store.proofs.Running.{went, same_value, write_fails, commits_as}
 use Rattle.agv_store.proofs.Holding.{stays}
-
-went : {B E R : Type 0} {b : B} {Stops : E → Type 0} → ((stop : E) × Stops stop × (Ok b ≡ Err stop)) ⊎ R → R
-went (inl stopped) = absurd (let e = stopped.2 in cc)
-went (inr on) = on
-
-same_value : {B E : Type 0} {a b : B} → ◌≡◌ {A = Result B E} (Ok a) (Ok b) → a ≡ b
-same_value e = cc
 
 abbrev insert_statement : List ℕ
 insert_statement = statement_of insert_text (understood load_schema insert_text)
@@ -73,7 +65,7 @@ module _ (s : State) (name : List ℕ) (has : s.now.schema ≡ load_schema) wher
   inserted tally after does rows h =
       let db = s.now.trees in
       let on_load : OnRows (task_on load_table) (mode_of s) None insert_command db (Ok (tally, after)) =
-        subst (λ (o : Option Table). AtPlace (λ t. OnRows (task_on t) (mode_of s) None insert_command db) o (Ok (tally, after))) (ap (λ (schema : Schema). slice_get schema.tables 0) has) does in
+      subst (λ (o : Option Table). AtPlace (λ t. OnRows (task_on t) (mode_of s) None insert_command db) o (Ok (tally, after))) (ap (λ (schema : Schema). slice_get schema.tables 0) has) does in
       let done = went on_load in
       let given = went done.1 in
       let counter = went given.2 in
@@ -87,7 +79,7 @@ module _ (s : State) (name : List ℕ) (has : s.now.schema ≡ load_schema) wher
       let tested = went done.2 in
       let returned = went tested.2 in
       let now : after ≡ record { schema = s.now.schema; trees = mid } =
-        ap (λ (p : Tally × Database). p.1) (same_value returned.2) ∙ ap (λ (t : Trees). let d : Database = record { schema = s.now.schema; trees = t } in d) trees in
+      ap (λ (p : Tally × Database). p.1) (same_value returned.2) ∙ ap (λ (t : Trees). let d : Database = record { schema = s.now.schema; trees = t } in d) trees in
       let entry = Int (next_rowid (db load_table.tree)) ∷ load_row name in
       let news : edit.news ≡ entry ∷ [] = rw (no_number, fits name) refl in
       let put = HasRows-put_row entry (db load_table.tree) rows (next_is_free Chosen (db load_table.tree) (load_row name) h.0.0 h.0.1) refl h in
@@ -98,13 +90,15 @@ module _ (s : State) (name : List ℕ) (has : s.now.schema ≡ load_schema) wher
       → (loads : Registered) → AreLoads s.now.trees loads → set.contains loads name ≡ false → (after.schema ≡ load_schema) × AreLoads after.trees (set.insert loads name)
   joins tally after does loads h new =
       let put = inserted tally after does (map load_row h.names) h.rows in
-      let more : set.len (set.insert loads name) ≡ suc (set.len loads) = set.len-insert nat_list_cmp_total loads name ∙ ap (λ b. cond b (set.len loads) (set.len loads + 1)) new ∙ omega arith in
-      (put.0, record {
-        names = name ∷ h.names;
-        named = ap (λ (all : Registered). set.insert all name) h.named;
-        once = more ∙ ap suc h.once;
-        rows = put.1;
-      })
+      let more : set.len (set.insert loads name) ≡ suc (set.len loads) = set.len-insert nat_list_cmp_total loads name ∙ ap (λ b. cond b (set.len loads) (set.len loads + 1)) new ∙ omega arith in (
+        put.0,
+        record {
+          names = name ∷ h.names;
+          named = ap (λ (all : Registered). set.insert all name) h.named;
+          once = more ∙ ap suc h.once;
+          rows = put.1;
+        },
+      )
 
 -- where the call succeeds, the connection holds one load more
 module _ {S : Type 0} (g : Ghosts S) (old new : Held S) (name : List ℕ) where
@@ -121,7 +115,6 @@ module _ {S : Type 0} (g : Ghosts S) (old new : Held S) (name : List ℕ) where
         committed = rw h.idle at w.shown.committed_is;
         rows = more.1;
       }
-
 
 -- an insertion that fails keeps the loads
 pub insert_fails : {S : Type 0} (g : Ghosts S) (old new : Held S) (params : Row) (r : Result ℕ Error) → Executes insert_text params (state g old) (state g new) r → IsOpen g new

@@ -5,5 +5,6 @@ pub mod Holding
 pub mod Inserting
 pub mod Memory
 pub mod Registering
+pub mod Rows
 pub mod Running
 pub mod Texts

@@ -1,5 +1,5 @@
 -- A store in memory: it is always clean, and no call of this crate shuts it.
-use Rattle.std.proofs.Common.{◌≡◌, false, [], IsTrue, inl, inr, arith}
+use Rattle.std.proofs.Common.{◌≡◌, false, inl, inr, arith}
 use Rattle.sqlite_trees.specs.declared.memory.MemStore.{MemStore}
 use Rattle.sqlite_trees.specs.Tree.{Trees}
 use Rattle.sqlite.specs.Held.{Held, state}

@@ -1,5 +1,5 @@
 -- What the calls of the registered loads owe: the kept number, the answer, and the rows after a crash.
-use Rattle.std.proofs.Common.{◌≡◌, ◌<◌, ◌≤◌, ◌+◌, ℕ, suc, Bool, true, false, not, cond, List, nat_lt, Ok, Err, Result, OnErr, refl, sym, ap, subst, ◌∙◌, arith}
+use Rattle.std.proofs.Common.{◌≡◌, ◌<◌, ◌≤◌, ◌+◌, ℕ, Bool, true, false, not, cond, List, nat_lt, Ok, Err, Result, OnErr, refl, sym, ap, subst, ◌∙◌, arith}
 use Rattle.std.specs.FinSet as set
 use Rattle.std.proofs.lemmas.Bool.Decides.{nat_tests}
 use Rattle.std.proofs.lemmas.Cmp.{nat_list_cmp_total}
@@ -13,7 +13,7 @@ use Rattle.agv_header.specs.declared.refusal.Refusal.TheVariants as refusal
 use Rattle.agv_store.specs.Registered.{Registered, no_loads, most_loads, registration, registered}
 use Rattle.agv_store.specs.LoadTable.{AreLoads}
 use Rattle.agv_store.specs.HeldLoads.{IsClean, IsOpen, HoldsLoads, HoldsNothing, AreRegistered, IsCounted}
-use Rattle.agv_store.proofs.Holding.{one_number}
+use Rattle.agv_store.proofs.Holding.{holds_one_set}
 
 -- ---- the answer to a registration
 
@@ -51,7 +51,7 @@ module _ {S : Type 0} (g : Ghosts S) where
       let it = counted (earlier clean) (was clean still) in (it.0, kept clean still it.0 it.1, it.2)
 
   pub number_is : (held : Held S) (count : ℕ) → IsCounted g held count → IsClean g held → (loads : Registered) → HoldsLoads g held loads → set.len loads ≡ count
-  number_is held count counted clean loads h = let it = counted clean h.is_open in one_number g held loads it.0 h it.1 ∙ it.2
+  number_is held count counted clean loads h = let it = counted clean h.is_open in ap set.len (holds_one_set g held loads it.0 h it.1) ∙ it.2
 
 -- ---- a registration of a name that the look-up did not find
 
@@ -65,13 +65,13 @@ module _ {S : Type 0} (g : Ghosts S) (old mid : Held S) (name : List ℕ) (count
   -- the field `conn`, once it is opened after the look-up, is what that left
   pub finds_none : (conn : Held S) → conn ≡ mid → IsCounted g conn count → (answer : Bool) → answer ≡ false
       → (IsClean g mid → (loads : Registered) → HoldsLoads g old loads → (answer ≡ set.contains loads name) × HoldsLoads g mid loads)
-      → (IsClean g mid → (loads : Registered) × HoldsLoads g mid loads × (answer ≡ set.contains loads name))
+      → (IsClean g mid → (loads : Registered) × HoldsLoads g old loads)
       → Survives (state g old) (state g mid) (λ _. HoldsNothing g old) → FindsNone g old conn name count
-  finds_none conn is counted answer none answers shows survives =
+  finds_none conn is counted answer none answers held survives =
       let number = number_is g mid count (subst (λ held. IsCounted g held count) is counted) in
       let at_mid : FindsNone g old mid name count = record {
         kept = λ clean loads h. let it = answers clean loads h in (it.1, sym it.0 ∙ none, number clean loads it.1);
-        shown = λ clean. let it = shows clean in (it.0, it.1, sym it.2 ∙ none, number clean it.0 it.1);
+        shown = λ clean. let was = held clean in let it = answers clean was.0 was.1 in (was.0, it.1, sym it.0 ∙ none, number clean was.0 it.1);
         survives = survives;
       } in
       subst (λ held. FindsNone g old held name count) (sym is) at_mid

@@ -1,5 +1,5 @@
 -- What a statement that fails leaves, what one commits, and what shows that a connection is open.
-use Rattle.std.proofs.Common.{◌≡◌, ◌⊎◌, ℕ, false, List, [], ◌∷◌, Option, Some, None, Ok, Err, Result, IsTrue, inl, inr, sym, ap, subst, subst₂, ◌∙◌, append-nil}
+use Rattle.std.proofs.Common.{◌≡◌, ◌⊎◌, ℕ, false, List, Option, Some, None, Ok, Err, Result, IsTrue, inl, inr, sym, ap, subst, subst₂, ◌∙◌, append-nil}
 use Rattle.std.proofs.lemmas.Bool.{cases_Bool}
 use Rattle.sqlite_value.specs.Order.{Row}
 use Rattle.sqlite_trees.specs.Tree.{Trees}
@@ -12,8 +12,16 @@ use Rattle.sqlite.specs.Clock.{timed}
 use Rattle.sqlite.specs.Does.{Tally, Does}
 use Rattle.sqlite.specs.Effect.{Database}
 use Rattle.sqlite.specs.Listing.{understood}
-use Rattle.sqlite.specs.State.{State, mode_of, text_of, shows_rows, IsUnchanged, IsRolledBack, IsNotRun, RunsCommand, ExecutesIn, Executes, CommitsBy, MayCommit, Shown, ShowsRows, FailsToQuery, FailsToShow}
+use Rattle.sqlite.specs.State.{State, mode_of, shows_rows, IsUnchanged, IsRolledBack, IsNotRun, RunsCommand, ExecutesIn, Executes, CommitsBy, MayCommit, Shown, ShowsRows, FailsToQuery, FailsToShow}
 use Rattle.sqlite.proofs.Callers.{IsPlain, command_of, statement_of}
+
+-- a part of a statement that gave a value was not stopped on the way
+pub went : {B E R : Type 0} {b : B} {Stops : E → Type 0} → ((stop : E) × Stops stop × (Ok b ≡ Err stop)) ⊎ R → R
+went (inl stopped) = absurd (let e = stopped.2 in cc)
+went (inr on) = on
+
+pub same_value : {B E : Type 0} {a b : B} → ◌≡◌ {A = Result B E} (Ok a) (Ok b) → a ≡ b
+same_value e = cc
 
 module _ (sql : List ℕ) (params : Row) (old new : State) where
   -- a write that fails changes nothing, or has ended the transaction
@@ -40,6 +48,7 @@ module _ (sql : List ℕ) (params : Row) (old new : State) where
       ran : RunsCommand old new sql it.0 (timed params it.0.formats it.1.now) (Err e) → IsUnchanged old new ⊎ IsRolledBack old new
       ran (inl same) = inl same.1
       ran (inr fails) = inr fails.3
+
       go : (o : Option Returning) → FailsToShow old new sql it.0 (timed params it.0.formats it.1.now) e o → IsUnchanged old new ⊎ IsRolledBack old new
       go None h = inl h.3
       go (Some what) h = ran h
@@ -71,7 +80,7 @@ commits_as sql params old schema has command is plain no_commit no_release trees
     let known = sym h.1.is ∙ ap (λ s. understood s sql) has in
     let bare = subst IsPlain (sym known) plain in
     let may : MayCommit old None command (statement_of sql (understood schema sql)) params trees =
-      subst₂ (λ k t. MayCommit old None k t params trees) (ap command_of known ∙ is) (ap (statement_of sql) known) (rw (bare.0, bare.1, append-nil params) at h.2) in
+    subst₂ (λ k t. MayCommit old None k t params trees) (ap command_of known ∙ is) (ap (statement_of sql) known) (rw (bare.0, bare.1, append-nil params) at h.2) in
     elim may [
       | inl ends ↦ absurd (elim ends.0 [ inl e ↦ no_commit e | inr r ↦ no_release r.0 r.2 ])
       | inr writes ↦ (writes.1, writes.2, writes.3, writes.5)

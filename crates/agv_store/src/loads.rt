@@ -1,5 +1,5 @@
 //! The registered loads, over a connection to the database.
-ghost use Rattle.std.specs.Prelude.{◌≡◌, false, IfOk, OnErr};
+ghost use Rattle.std.specs.Prelude.{◌≡◌, false, IfOk, OnOk, OnErr};
 ghost use Rattle.std.specs.FinSet as set;
 ghost use Rattle.sqlite.specs.State.{Survives};
 ghost use Rattle.sqlite.specs.Held.{state};
@@ -63,6 +63,7 @@ impl<S: Alter + Drop> Loads<S> {
         ensures clean { IsClean S.Store self.new → IsClean S.Store self.old }
         ensures registers { IsClean S.Store self.new → IfOk result (λ answer. (loads : Registered) → HoldsLoads S.Store self.old loads
             → (answer ≡ registration loads name) × HoldsLoads S.Store self.new (registered loads name)) }
+        ensures held { IsClean S.Store self.new → OnOk result ((loads : Registered) × HoldsLoads S.Store self.old loads) }
         ensures failed { IsClean S.Store self.new → IsOpen S.Store self.new → OnErr result ((loads : Registered) → HoldsLoads S.Store self.old loads → HoldsLoads S.Store self.new loads) }
         ensures survives { Survives (state S.Store self.old) (state S.Store self.new) (AreRegistered S.Store self.old name) }
     {
@@ -82,7 +83,7 @@ impl<S: Alter + Drop> Loads<S> {
         ensures clean { IsClean S.Store self.new → IsClean S.Store self.old }
         ensures answers { IsClean S.Store self.new → IfOk result (λ yes. (loads : Registered) → HoldsLoads S.Store self.old loads
             → (yes ≡ set.contains loads name) × HoldsLoads S.Store self.new loads) }
-        ensures shows { IsClean S.Store self.new → IfOk result (λ yes. (loads : Registered) × HoldsLoads S.Store self.new loads × (yes ≡ set.contains loads name)) }
+        ensures held { IsClean S.Store self.new → OnOk result ((loads : Registered) × HoldsLoads S.Store self.old loads) }
         ensures failed { IsClean S.Store self.new → IsOpen S.Store self.new → OnErr result ((loads : Registered) → HoldsLoads S.Store self.old loads → HoldsLoads S.Store self.new loads) }
         ensures survives { Survives (state S.Store self.old) (state S.Store self.new) (λ _. HoldsNothing S.Store self.old) }
     {

@@ -38,10 +38,7 @@ pub(crate) fn insert_load<S: Alter>(conn: &mut Connection<S>, name: &str) -> Res
 }
 
 /// The row of the load of that name, or no row.
-pub(crate) fn find_load<S: Alter>(
-    conn: &mut Connection<S>,
-    name: &str,
-) -> Result<Vec<Row>, Error>
+pub(crate) fn find_load<S: Alter>(conn: &mut Connection<S>, name: &str) -> Result<Vec<Row>, Error>
     ensures found { IsClean S.Store conn.new → IfOk result (λ rows. (loads : Registered) → HoldsLoads S.Store conn.old loads
         → (vec_len rows == 0) ≡ not (set.contains loads name.now)) }
     ensures kept { IsClean S.Store conn.new → IsOpen S.Store conn.new → (loads : Registered) → HoldsLoads S.Store conn.old loads → HoldsLoads S.Store conn.new loads }

@@ -1,6 +1,6 @@
-use Rattle.std.proofs.Common.{◌≡◌, ℕ, not, sym, ap, subst, ◌∙◌}
+use Rattle.std.proofs.Common.{not, sym, ap, subst, ◌∙◌}
 use Rattle.std.specs.FinSet as set
-use Rattle.sqlite.specs.Held.{Held, state}
+use Rattle.sqlite.specs.Held.{state}
 use Rattle.sqlite.specs.State.{Survives}
 use Rattle.agv_store.specs.HeldLoads.{HoldsLoads, HoldsNothing}
 use Rattle.agv_store.proofs.Registering.{earlier_clean, still_counted, on_err, not_not}
@@ -31,14 +31,11 @@ returns-clause-answers g c clean loads h =
       c.find_load.ensures.kept clean (c.in_ok-rows.ensures.still_open clean) loads was,
     )
 
-pub returns-clause-shows : goal.returns-clause-shows
-returns-clause-shows g c clean =
-    let still = c.in_ok-rows.ensures.still_open clean in
-    let it = c.self.invariant (earlier_clean g.S.Store c.self.inside.conn c.find_load.new.conn _ c.find_load.ensures.survives clean) (c.find_load.ensures.was_open clean still) in (
-      it.0,
-      c.find_load.ensures.kept clean still it.0 it.1,
-      ap not (c.is_empty.ensures ∙ c.in_ok-rows.ensures.found clean it.0 it.1) ∙ not_not _ ∙ ap (set.contains it.0) c.as_str.ensures.text,
-    )
+pub returns-clause-held : goal.returns-clause-held
+returns-clause-held g c clean =
+    let it = c.self.invariant (earlier_clean g.S.Store c.self.inside.conn c.find_load.new.conn _ c.find_load.ensures.survives clean)
+    (c.find_load.ensures.was_open clean (c.in_ok-rows.ensures.still_open clean)) in
+    (it.0, subst (λ held. HoldsLoads g.S.Store held it.0) c.self.view_is it.1)
 
 pub returns-clause-survives : goal.returns-clause-survives
 returns-clause-survives g c =
