@@ -1,0 +1,10 @@
+pub mod Creating
+pub mod Entries
+pub mod Finding
+pub mod Holding
+pub mod Inserting
+pub mod Memory
+pub mod Registering
+pub mod Rows
+pub mod Running
+pub mod Texts

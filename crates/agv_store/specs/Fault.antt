@@ -1,0 +1,11 @@
+-- Which fault of the machine an error of the database is.
+use Rattle.sqlite.specs.declared.error.Error.{Error}
+use Rattle.sqlite.specs.declared.error.Error.TheVariants.{SqliteFailure}
+use Rattle.sqlite.specs.declared.error.ErrorCode.TheVariants.{OutOfMemory}
+use Rattle.agv_store.specs.declared.fault.Fault.{Fault}
+use Rattle.agv_store.specs.declared.fault.Fault.TheVariants as fault
+
+-- want of memory, and all else is the store's
+abbrev pub fault_of : Error → Fault
+fault_of (SqliteFailure OutOfMemory) = fault.Memory
+fault_of _ = fault.Storage

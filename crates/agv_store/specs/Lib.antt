@@ -1,0 +1,4 @@
+pub mod Fault
+pub mod HeldLoads
+pub mod LoadTable
+pub mod Registered

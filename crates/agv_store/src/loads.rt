@@ -1,0 +1,93 @@
+//! The registered loads, over a connection to the database.
+ghost use Rattle.std.specs.Prelude.{◌≡◌, false, IfOk, OnOk, OnErr};
+ghost use Rattle.std.specs.FinSet as set;
+ghost use Rattle.sqlite.specs.State.{Survives};
+ghost use Rattle.sqlite.specs.Held.{state};
+ghost use Rattle.agv_store.specs.Registered.{Registered, no_loads, registration, registered};
+ghost use Rattle.agv_store.specs.LoadTable.{no_tables, AreLoads};
+ghost use Rattle.agv_store.specs.HeldLoads.{IsClean, IsOpen, HoldsLoads, HoldsNothing, AreRegistered};
+
+use crate::Fault;
+use crate::statements::{create_table, find_load, insert_load};
+use agv_header::{Name, Refusal};
+use sqlite::{Alter, Connection};
+use std::marker::Model;
+
+/// The most loads that a desk keeps.
+const MOST_LOADS: u64 = 1_000_000;
+
+/// The registered loads. In a clause they are what their connection holds, of which
+/// `HoldsLoads` says the set of names.
+///
+/// How many they are is kept beside the connection, so that no call counts the rows.
+#[derive(Drop)]
+pub struct Loads<S: Alter> {
+    conn: Connection<S>,
+    count: u64,
+}
+
+impl<S: Alter> Model for Loads<S> {
+    ghost use Rattle.sqlite.specs.Held.{Held, held_code};
+    ghost use Rattle.agv_store.specs.HeldLoads.{IsCounted};
+
+    ghost Value = { Held S };
+
+    ghost coded = { held_code S.code };
+
+    ghost view = { λ loads. loads.conn };
+
+    ghost invariant = { λ loads. IsCounted S.Store loads.conn loads.count };
+}
+
+impl<S: Alter + Drop> Loads<S> {
+    /// Makes the table `load` in a database without tables, with no load in it.
+    ///
+    /// After a `Fault` the connection is closed, and the database has the table or not.
+    pub fn create(mut conn: Connection<S>) -> Result<Loads<S>, Fault>
+        requires idle { conn.in_transaction ≡ false }
+        requires blank { conn.schema ≡ no_tables }
+        ensures created { IfOk result (λ loads. IsClean S.Store loads → HoldsLoads S.Store loads no_loads) }
+        ensures survives { IfOk result (λ loads. Survives (state S.Store conn) (state S.Store loads) (λ trees. AreLoads trees no_loads)) }
+    {
+        create_table(&mut conn)?;
+        Ok(Loads { conn, count: 0 })
+    }
+
+    /// Registers a load of that name, at the checking place.
+    ///
+    /// It is refused with `Exists` where the name is known, and else with `Limit` where 1,000,000
+    /// loads are registered; nothing changes then, nor does it after a `Fault` that leaves the
+    /// store open. A crash leaves the rows before the call or those after it. The time of a call
+    /// doesn't grow with the number of loads but for the depth of the table's tree.
+    pub fn register(&mut self, name: Name) -> Result<Result<(), Refusal>, Fault>
+        ensures clean { IsClean S.Store self.new → IsClean S.Store self.old }
+        ensures registers { IsClean S.Store self.new → IfOk result (λ answer. (loads : Registered) → HoldsLoads S.Store self.old loads
+            → (answer ≡ registration loads name) × HoldsLoads S.Store self.new (registered loads name)) }
+        ensures held { IsClean S.Store self.new → OnOk result ((loads : Registered) × HoldsLoads S.Store self.old loads) }
+        ensures failed { IsClean S.Store self.new → IsOpen S.Store self.new → OnErr result ((loads : Registered) → HoldsLoads S.Store self.old loads → HoldsLoads S.Store self.new loads) }
+        ensures survives { Survives (state S.Store self.old) (state S.Store self.new) (AreRegistered S.Store self.old name) }
+    {
+        if self.known(name)? {
+            return Ok(Err(Refusal::Exists));
+        }
+        if self.count >= MOST_LOADS {
+            return Ok(Err(Refusal::Limit));
+        }
+        insert_load(&mut self.conn, name.as_str())?;
+        self.count += 1;
+        Ok(Ok(()))
+    }
+
+    /// Whether a load of that name is registered. Nothing changes.
+    pub fn known(&mut self, name: Name) -> Result<bool, Fault>
+        ensures clean { IsClean S.Store self.new → IsClean S.Store self.old }
+        ensures answers { IsClean S.Store self.new → IfOk result (λ yes. (loads : Registered) → HoldsLoads S.Store self.old loads
+            → (yes ≡ set.contains loads name) × HoldsLoads S.Store self.new loads) }
+        ensures held { IsClean S.Store self.new → OnOk result ((loads : Registered) × HoldsLoads S.Store self.old loads) }
+        ensures failed { IsClean S.Store self.new → IsOpen S.Store self.new → OnErr result ((loads : Registered) → HoldsLoads S.Store self.old loads → HoldsLoads S.Store self.new loads) }
+        ensures survives { Survives (state S.Store self.old) (state S.Store self.new) (λ _. HoldsNothing S.Store self.old) }
+    {
+        let rows = find_load(&mut self.conn, name.as_str())?;
+        Ok(!rows.is_empty())
+    }
+}
