@@ -1,10 +1,9 @@
 -- A name's bytes at the front of zeros.
-use Rattle.std.proofs.Common.{arith, ℕ, ◌≡◌, ◌<◌, ◌≤◌, ◌++◌, ◌-◌, ◌&&◌, ◌||◌, Bool, true, false, List, [], ◌∷◌, length, take, drop, replicate, sym, ap, subst, ◌∙◌, length-append, slice_index, IsTrue}
+use Rattle.std.proofs.Common.{arith, ℕ, ◌≡◌, ◌≤◌, ◌++◌, ◌-◌, true, List, length, drop, replicate, sym, ap, subst, ◌∙◌, length-append}
 use Rattle.std.proofs.lemmas.List.{drop-replicate, length-replicate}
 use Rattle.std.proofs.lemmas.Bool.Decides.{nat_tests}
-use Rattle.std.proofs.lemmas.Grind.{common_steps}
 use Rattle.std.proofs.Math.Seq.{take-append_seam, drop-append_seam}
-use Rattle.agv_header.specs.Name.{is_name_byte, is_name, IsName}
+use Rattle.agv_header.specs.Name.{is_name, IsName}
 use Rattle.agv_header.specs.Padded.{IsPadded}
 
 -- a name copied to the front of 32 zeros is kept as a name is

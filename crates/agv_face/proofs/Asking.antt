@@ -1,0 +1,118 @@
+-- What an input asks, one request after another.
+use Rattle.std.proofs.Common.{◌≡◌, ◌||◌, ◌==◌, ℕ, Bool, cond, List, [], ◌∷◌, ◌++◌, true, false, not, map, Option, Some, None, refl, sym, ap, ap₂, ◌∙◌, subst, arith, append_assoc, append-nil, codes}
+use Rattle.std.specs.List.{list_any}
+use Rattle.std.proofs.lemmas.Bool.{and_parts}
+use Rattle.std.proofs.lemmas.Bool.Decides.{nat_tests}
+use Rattle.std.proofs.lemmas.List.{map-append}
+use Rattle.agv_header.specs.declared.refusal.Refusal.{Refusal}
+use Rattle.agv_face.specs.declared.call.Call.{Call}
+use Rattle.agv_face.specs.Lines.{same_word, values_of, has_line}
+use Rattle.agv_face.specs.Requests.{Request, IsRequest, IsFault, is_last, elements_of}
+use Rattle.agv_face.specs.Cut.{Cut, at_end, faulty, no_more, a_fault, one_more}
+use Rattle.agv_face.specs.Heard.{is_plain}
+use Rattle.agv_face.specs.Calls.{call_of, call_at, path_of}
+use Rattle.agv_face.specs.Asked.{Asks}
+use Rattle.agv_face.proofs.Values.{values_of-absent}
+use Rattle.agv_face.proofs.Cuts.{one_request, not_empty, one_cut}
+
+-- ---- a call is no last request
+
+same_some : (c d : Call) → ◌≡◌ {A = Option Call} (Some c) (Some d) → c ≡ d
+same_some c d e = cc
+
+not_none : (c : Call) → ◌≡◌ {A = Option Call} None (Some c) → ⊥
+not_none c e = cc
+
+plain_call : (r : Request) (c : Call) (b : Bool) → is_plain r ≡ b → call_of r ≡ Some c → b ≡ true
+plain_call r c true is said = refl
+plain_call r c false is said =
+    let F : Bool → Option Call = λ b. cond b (call_at r.method (path_of r.target) r.body) None in
+    absurd (not_none c (sym (ap F is) ∙ said))
+
+unnamed : (b : Bool) → not b ≡ true → b ≡ false
+unnamed true h = absurd (cc)
+unnamed false h = refl
+
+newer : (n : ℕ) → (n == 1) ≡ true → (n == 0) ≡ false
+newer n h = grind (arith, nat_tests)
+
+not_last : (a b : Bool) → a ≡ false → b ≡ false → (a || b) ≡ false
+not_last a b p q = cc
+
+pub call_goes_on : (r : Request) (c : Call) → call_of r ≡ Some c → is_last r ≡ false
+call_goes_on r c said =
+    let plain : is_plain r ≡ true = plain_call r c (is_plain r) refl said in
+    let parts = and_parts (r.minor == 1) (not (has_line (codes "connection") r.lines)) plain in
+    let absent : values_of (codes "connection") r.lines ≡ [] = values_of-absent (codes "connection") r.lines (unnamed (has_line (codes "connection") r.lines) parts.1) in
+    not_last (r.minor == 0) (list_any (λ value. list_any (same_word (codes "close")) (elements_of value)) (values_of (codes "connection") r.lines))
+    (newer r.minor parts.0) (ap (list_any (λ value. list_any (same_word (codes "close")) (elements_of value))) absent)
+
+-- ---- more at the end
+
+cut-append : (front part : List ℕ) (rs : List Request) (r : Request) → Cut front rs at_end → IsRequest part r → is_last r ≡ false → Cut (front ++ part) (rs ++ r ∷ []) at_end
+cut-append front part rs r (no_more _ nil) one more =
+    one_more (front ++ part) part [] r [] at_end (ap (λ (l : List ℕ). l ++ part) nil ∙ sym (append-nil part)) one more (no_more [] refl)
+cut-append front part rs r (one_more _ p rest x xs e is first goes later) one more =
+    one_more (front ++ part) p (rest ++ part) x (xs ++ r ∷ []) at_end (ap (λ (l : List ℕ). l ++ part) is ∙ append_assoc p rest part) first goes (cut-append rest part xs r later one more)
+
+pub asks-nil : Asks [] []
+asks-nil = ([], no_more [] refl, refl)
+
+pub asks-append : (front part : List ℕ) (calls : List Call) (r : Request) (c : Call) → Asks front calls → IsRequest part r → call_of r ≡ Some c → Asks (front ++ part) (calls ++ c ∷ [])
+asks-append front part calls r c asks one said = (
+  asks.0 ++ r ∷ [],
+  cut-append front part asks.0 r asks.1 one (call_goes_on r c said),
+  map-append call_of asks.0 (r ∷ []) ∙ ap₂ ◌++◌ asks.2 (ap (λ (o : Option Call). o ∷ []) said) ∙ sym (map-append Some calls (c ∷ [])),
+)
+
+-- ---- what follows the front
+
+-- an input that is whole to its end is so after each front that is
+cut-rest : (front tail : List ℕ) (rs all : List Request) (calls : List Call) → Cut front rs at_end → Cut (front ++ tail) all at_end → map call_of all ≡ map Some calls → (more : List Call) × Asks tail more
+cut-rest front tail rs all calls (no_more _ nil) whole said =
+    let P : List ℕ → Type 0 = λ l. Cut (l ++ tail) all at_end in (calls, (all, subst P nil whole, said))
+cut-rest front tail rs all calls (one_more _ p rest x xs e is first goes later) (no_more _ nil) said =
+    absurd (not_empty (front ++ tail) p (rest ++ tail) x (ap (λ (l : List ℕ). l ++ tail) is ∙ append_assoc p rest tail) first nil)
+cut-rest front tail rs all [] (one_more _ p rest x xs e is first goes later) (one_more _ q s y ys d is' first' goes' later') said = absurd (cc)
+cut-rest front tail rs all (c ∷ calls) (one_more _ p rest x xs e is first goes later) (one_more _ q s y ys d is' first' goes' later') said =
+    let here : p ++ (rest ++ tail) ≡ q ++ s = sym (append_assoc p rest tail) ∙ ap (λ (l : List ℕ). l ++ tail) (sym is) ∙ is' in
+    let same = one_request p q (rest ++ tail) s x y here first first' in
+    let P : List ℕ → Type 0 = λ l. Cut l ys at_end in
+    let tails : map call_of ys ≡ map Some calls = cc in
+    cut-rest rest tail xs ys calls later (subst P (sym same.2) later') tails
+
+-- what the input asks after a front that is whole
+pub asks-rest : (front tail : List ℕ) (calls all : List Call) → Asks front calls → Asks (front ++ tail) all → (more : List Call) × Asks tail more
+asks-rest front tail calls all asked whole = cut-rest front tail asked.0 whole.0 all asked.1 whole.1 whole.2
+
+-- an input that begins with a fault asks nothing
+pub asks-fault : (bytes : List ℕ) (fault : Refusal) (calls : List Call) → IsFault bytes fault → Asks bytes calls → ⊥
+asks-fault bytes fault calls is asks = let same = one_cut bytes asks.0 [] at_end (faulty fault) asks.1 (a_fault bytes fault is) in absurd (cc)
+
+-- nor does one whose first request is no call
+other_cut : (bytes part rest : List ℕ) (r : Request) (rs : List Request) (calls : List Call) → bytes ≡ part ++ rest → IsRequest part r → call_of r ≡ None → Cut bytes rs at_end → map call_of rs ≡ map Some calls → ⊥
+other_cut bytes part rest r rs calls is one none (no_more _ nil) said = not_empty bytes part rest r is one nil
+other_cut bytes part rest r rs [] is one none (one_more _ q s y ys d is' first goes later) said = absurd (cc)
+other_cut bytes part rest r rs (c ∷ calls) is one none (one_more _ q s y ys d is' first goes later) said =
+    let same = one_request part q rest s r y (sym is ∙ is') one first in
+    let heads : call_of y ≡ Some c = cc in
+    not_none c (sym none ∙ ap call_of same.0 ∙ heads)
+
+pub asks-other : (bytes part rest : List ℕ) (r : Request) (calls : List Call) → bytes ≡ part ++ rest → IsRequest part r → call_of r ≡ None → Asks bytes calls → ⊥
+asks-other bytes part rest r calls is one none asks = other_cut bytes part rest r asks.0 calls is one none asks.1 asks.2
+
+-- ---- one list of calls
+
+same_calls : (calls others : List Call) → map Some calls ≡ map Some others → calls ≡ others
+same_calls [] [] e = refl
+same_calls [] (d ∷ others) e = absurd (cc)
+same_calls (c ∷ calls) [] e = absurd (cc)
+same_calls (c ∷ calls) (d ∷ others) e =
+    let first : ◌≡◌ {A = Option Call} (Some c) (Some d) = cc in
+    let rest : map Some calls ≡ map Some others = cc in
+    ap₂ ◌∷◌ (same_some c d first) (same_calls calls others rest)
+
+pub asks_once : (input : List ℕ) (calls others : List Call) → Asks input calls → Asks input others → calls ≡ others
+asks_once input calls others one other =
+    let same = one_cut input one.0 other.0 at_end at_end one.1 other.1 in
+    same_calls calls others (sym one.2 ∙ ap (map call_of) same.0 ∙ other.2)

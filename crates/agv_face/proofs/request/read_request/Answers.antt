@@ -1,0 +1,16 @@
+use Rattle.agv_face.proofs.Heads.{too_many_lines, no_end_in_front, cut_head, some_left}
+use Rattle.agv_face.proofs.request.read_request.Goals as goal
+
+pub returns-in-Ok-Partial : goal.returns-in-Ok-Partial
+returns-in-Ok-Partial c more follows =
+    let none = rw c.in-Ok-Partial.field-0-is at c.in-Ok-Partial.ensures.partial in
+    cut_head c.args.buf.now c.front_of-front.result.now more c.front_of-front.ensures.front (some_left _ _ c.is_empty.ensures c.if-is_empty.false) none (follows c.if-ended-2.true)
+
+pub returns-in-Ok-Partial-2 : goal.returns-in-Ok-Partial-2
+returns-in-Ok-Partial-2 c more follows =
+    let none = rw c.in-Ok-Partial.field-0-is at c.in-Ok-Partial.ensures.partial in
+    no_end_in_front c.args.buf.now c.front_of-front.result.now more c.front_of-front.ensures.front c.if-buf-ge-MOST_HEAD.true none
+
+pub returns-in-Err : goal.returns-in-Err
+returns-in-Err c more follows =
+    too_many_lines c.args.buf.now c.front_of-front.result.now more c.front_of-front.ensures.front (some_left _ _ c.is_empty.ensures c.if-is_empty.false) c.in-Err.ensures.no_room

@@ -1,0 +1,18 @@
+use Rattle.std.proofs.Common.{◌≡◌, ◌≤◌, ◌+◌, ◌-◌, ◌*◌, List, length, vec_len, vec_capacity}
+use Rattle.agv_store.specs.HeldLoads.{IsClean, HoldsLoads}
+use Rattle.agv_face.specs.declared.call.Call.{Call}
+use Rattle.agv_face.specs.Served.{IsAnswered}
+use Rattle.agv_face.proofs.Streaming.{HasCome}
+use Rattle.agv_face.proofs.stream.answer_calls.Given as goal
+
+-- the calls so far are answered, and what is left of the input is in the buffer and in the reader
+abbrev pub invariant-loop-buf : goal.invariant-loop-buf
+invariant-loop-buf g l =
+    (calls : List Call) × (l.answers ≡ length calls)
+    × HasCome (g.R.Read.remaining l.initial.reader) (g.R.Read.remaining l.reader) l.ended l.buf.items calls
+    × (IsClean g.S.Store l.loads → IsClean g.S.Store l.initial.loads)
+    × (IsClean g.S.Store l.loads → IsAnswered (HoldsLoads g.S.Store l.initial.loads) (HoldsLoads g.S.Store l.loads) (g.W.Write.contents l.initial.writer) (g.W.Write.contents l.writer) calls)
+    × (77824 ≤ vec_capacity l.buf) × (l.reads ≤ 16777216) × (l.answers + vec_len l.buf ≤ l.reads * 4096)
+
+abbrev pub decreases-loop-buf : goal.decreases-loop-buf
+decreases-loop-buf g l = (16777216 - l.reads) * 4097 + vec_len l.buf

@@ -1,0 +1,10 @@
+pub mod Lines
+pub mod Requests
+pub mod Cut
+pub mod Calls
+pub mod Asked
+pub mod Answers
+pub mod Served
+pub mod Stepped
+pub mod Found
+pub mod Heard

@@ -1,0 +1,109 @@
+//! From a request to the call that it is.
+ghost use Rattle.std.specs.Prelude.{◌≡◌, ◌==◌, None, IfOk, if◌then◌else◌, option_and_then, position, codes};
+ghost use Rattle.serde_json.specs.Find.{get, as_str};
+ghost use Rattle.serde_json.specs.View.{view};
+ghost use Rattle.agv_face.specs.Calls.{path_of, as_name, member_count, only_load, load_in_body, load_in_path, call_at};
+
+use crate::request::Lent;
+use agv_header::Name;
+use serde_json::Value;
+use std::alloc::{AllocError, Global};
+use std::str;
+
+/// A call of the desk.
+#[derive(Clone, Copy, Debug)]
+pub enum Call {
+    /// Registers a load, at the checking place.
+    Register(Name),
+    /// Asks where a load stands.
+    Show(Name),
+}
+
+/// Where the first question mark is.
+fn question_mark_in(target: &[u8]) -> Option<usize>
+    ensures { result ≡ position (λ b. b == 63) target.now }
+{
+    target.iter().position(|byte| *byte == b'?')
+}
+
+/// The target up to the first question mark.
+fn path_of(target: &[u8]) -> &[u8]
+    ensures { result.now ≡ path_of target.now }
+{
+    match question_mark_in(target) {
+        Some(end) => &target[..end],
+        None => target,
+    }
+}
+
+/// The name that the bytes spell, if they do.
+fn name_of(bytes: &[u8]) -> Option<Name>
+    ensures { result ≡ as_name bytes.now }
+{
+    match str::from_utf8(bytes) {
+        Ok(text) => Name::read(text).ok(),
+        Err(_) => None,
+    }
+}
+
+fn count_members(value: &Value) -> usize
+    ensures { result ≡ member_count (view value.now) }
+{
+    match value.as_object() {
+        Some(members) => members.len(),
+        None => 0,
+    }
+}
+
+/// The name that the member `load` is.
+fn load_member(value: &Value) -> Option<Name>
+    ensures { result ≡ option_and_then as_name (option_and_then as_str (get (codes "load") (view value.now))) }
+{
+    name_of(value.get("load")?.as_str()?.as_bytes())
+}
+
+/// The load that the object names by its only member.
+fn only_load(value: &Value) -> Option<Name>
+    ensures { result ≡ only_load (view value.now) }
+{
+    if count_members(value) == 1 {
+        load_member(value)
+    } else {
+        None
+    }
+}
+
+/// The load that the body names so.
+fn load_in_body(alloc: Global, body: &[u8]) -> Result<Option<Name>, AllocError>
+    ensures { IfOk result (λ load. load ≡ load_in_body body.now) }
+{
+    match Value::from_slice(alloc, body) {
+        Ok(value) => Ok(only_load(&value)),
+        Err(error) if error.is_memory() => Err(AllocError),
+        Err(_) => Ok(None),
+    }
+}
+
+/// The load that the path names after `/loads/`.
+fn load_in_path(path: &[u8]) -> Option<Name>
+    ensures { result ≡ load_in_path path.now }
+{
+    name_of(path.strip_prefix(b"/loads/".as_slice())?)
+}
+
+/// The call that the request is, or none where it is of another form.
+pub(crate) fn call_of(alloc: Global, request: &Lent<'_>) -> Result<Option<Call>, AllocError>
+    ensures { IfOk result (λ call. call ≡ (if request.now.is_plain then call_at request.now.method.now (path_of request.now.target.now) request.now.body.now else None)) }
+{
+    let path = path_of(request.target);
+    if !request.is_plain {
+        return Ok(None);
+    }
+    if request.method == b"POST".as_slice() && path == b"/loads".as_slice() {
+        return Ok(load_in_body(alloc, request.body)?.map(Call::Register));
+    }
+    if request.method == b"GET".as_slice() {
+        return Ok(load_in_path(path).map(Call::Show));
+    }
+    Ok(None)
+}

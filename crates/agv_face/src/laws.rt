@@ -1,0 +1,18 @@
+//! What holds of the definitions that the contracts of this crate cite, whatever the code does.
+//! Each function does nothing: its clause is the law.
+ghost use Rattle.std.specs.Prelude.{◌≡◌, ℕ, List};
+ghost use Rattle.agv_face.specs.declared.call.Call.{Call};
+ghost use Rattle.agv_face.specs.Requests.{Request};
+ghost use Rattle.agv_face.specs.Cut.{Cut, Ending};
+ghost use Rattle.agv_face.specs.Asked.{Asks};
+
+/// An input is cut into requests in one way, and ends in one way.
+pub fn is_cut_one_way()
+    ensures { (input : List ℕ) (requests others : List Request) (ending other : Ending)
+        → Cut input requests ending → Cut input others other → (requests ≡ others) × (ending ≡ other) }
+{}
+
+/// An input asks one list of calls, or is no list of calls.
+pub fn asks_one_list()
+    ensures { (input : List ℕ) (calls others : List Call) → Asks input calls → Asks input others → calls ≡ others }
+{}

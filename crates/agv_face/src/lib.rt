@@ -1,0 +1,26 @@
+//! The face of the desk: from the bytes of a stream to calls, and from answers back to bytes.
+//!
+//! A reader gives bytes, cut as it likes. [`read_request`] finds the next request in what has come
+//! so far; it is a [`Call`] or none; the store carries the call out, which gives an [`Answer`]; and
+//! the answer's bytes are written before the next request is looked at. [`answer_calls`] does so up
+//! to the end of the input, and [`serve_loads`] is what the program calls.
+//!
+//! What the contracts mean is in `specs/`: `Lines` and `Requests` say what one request is, `Cut` how
+//! an input is cut into requests, `Calls` which call a request is, `Asked` which calls an input asks,
+//! `Answers` the bytes of an answer, and `Served` what is written for some calls and what they make
+//! of the registered loads. The module [`laws`] has what holds of these definitions by themselves.
+#![tactic(auto)]
+
+mod answer;
+mod call;
+pub mod laws;
+mod lines;
+mod request;
+mod serve;
+mod stream;
+
+pub use answer::Answer;
+pub use call::Call;
+pub use request::{Heard, Lent, read_request};
+pub use serve::{LoadsFault, serve_loads};
+pub use stream::{Stop, answer_calls};

@@ -1,0 +1,139 @@
+//! The next request of a stream: its head, by httparse, and its body.
+ghost use Rattle.std.specs.Prelude.{◌≡◌, ◌≤◌, ◌<◌, ℕ, List, All, Bool, length, take, map, IfOk, min};
+ghost use Rattle.httparse.specs.Spans.{IsHeaderWithin, header_bytes, IsRequestWithin, IsRequestOf};
+ghost use Rattle.agv_face.specs.Lines.{Length};
+ghost use Rattle.agv_face.specs.Requests.{sends_body, length_needed, body_length};
+ghost use Rattle.agv_face.specs.Found.{said_as};
+ghost use Rattle.agv_face.specs.Heard.{IsHeard, is_plain_head};
+
+use crate::lines::{Said, is_there, said_length};
+use agv_header::Refusal;
+use httparse::Status;
+use httparse::spans::{EMPTY_HEADER_SPAN, HeaderSpan, RequestSpans, parse_request};
+
+/// The most bytes of a head.
+const MOST_HEAD: usize = 8192;
+
+/// The most bytes of a body.
+const MOST_BODY: u32 = 65536;
+
+/// A request, lent from the bytes that it came in.
+#[derive(Clone, Copy)]
+pub struct Lent<'b> {
+    pub method: &'b [u8],
+    pub target: &'b [u8],
+    pub body: &'b [u8],
+    /// HTTP/1.1, with no Connection line.
+    pub is_plain: bool,
+    /// How many bytes it takes.
+    pub len: usize,
+}
+
+/// What comes next on a stream.
+#[derive(Clone, Copy)]
+pub enum Heard<'b> {
+    /// More bytes have to come first.
+    Need,
+    /// The stream has ended, and no byte is left.
+    End,
+    Request(Lent<'b>),
+    /// What is left begins with no request. Nothing after it is looked at.
+    Refused(Refusal),
+}
+
+/// Whether a request of that method has to say the length of its body.
+fn wants_length(method: &[u8]) -> bool
+    ensures { result ≡ sends_body method.now }
+{
+    method == b"PUT".as_slice() || method == b"POST".as_slice()
+}
+
+/// How many bytes the body has, from what is said of it.
+fn needed(is_coded: bool, method: &[u8], said: Said) -> Result<usize, Refusal>
+    ensures needed { (length : Length) → said ≡ said_as length → result ≡ length_needed is_coded method.now length }
+    ensures fits { IfOk result (λ n. n ≤ 65536) }
+{
+    match said {
+        Said::Wrong => Err(Refusal::BadHead),
+        _ if is_coded => Err(Refusal::Coding),
+        Said::Nothing if wants_length(method) => Err(Refusal::NoLength),
+        Said::Nothing => Ok(0),
+        Said::Bytes(n) if n > MOST_BODY => Err(Refusal::TooLarge),
+        Said::Bytes(n) => Ok(n as usize),
+    }
+}
+
+/// How many bytes the body has, as the header lines say it.
+fn needed_by(buf: &[u8], headers: &[HeaderSpan], method: &[u8]) -> Result<usize, Refusal>
+    requires { All (IsHeaderWithin (length buf.now)) headers.now }
+    ensures needed { result ≡ body_length method.now (map (header_bytes buf.now) headers.now) }
+    ensures fits { IfOk result (λ n. n ≤ 65536) }
+{
+    let is_coded = is_there(buf, headers, b"transfer-encoding");
+    needed(is_coded, method, said_length(buf, headers))
+}
+
+/// Whether the head is of HTTP/1.1 and has no Connection line.
+fn is_plain(buf: &[u8], headers: &[HeaderSpan], minor: u8) -> bool
+    requires { All (IsHeaderWithin (length buf.now)) headers.now }
+    ensures { result ≡ is_plain_head minor (map (header_bytes buf.now) headers.now) }
+{
+    minor == 1 && !is_there(buf, headers, b"connection")
+}
+
+/// The bytes in which a head has to lie.
+fn front_of(buf: &[u8]) -> &[u8]
+    ensures front { result.now ≡ take 8192 buf.now }
+    ensures len { length result.now ≤ 8192 }
+{
+    &buf[..buf.len().min(MOST_HEAD)]
+}
+
+/// What comes next where the head has come whole.
+fn with_head<'b>(
+    buf: &'b [u8],
+    front: &'b [u8],
+    headers: &[HeaderSpan],
+    head: RequestSpans,
+    ended: bool,
+) -> Heard<'b>
+    requires front { front.now ≡ take 8192 buf.now }
+    requires room { length headers.now ≤ 32 }
+    requires within { IsRequestWithin front.now headers.now head }
+    requires reads { IsRequestOf front.now headers.now head }
+    ensures { IsHeard buf.now ended result }
+{
+    let method = head.method.of(front);
+    let lines = &headers[..head.headers];
+    let (_, rest) = buf.split_at(head.len);
+    match needed_by(front, lines, method) {
+        Err(refusal) => Heard::Refused(refusal),
+        Ok(n) if n <= rest.len() => Heard::Request(Lent {
+            method,
+            target: head.path.of(front),
+            body: &rest[..n],
+            is_plain: is_plain(front, lines, head.version),
+            len: head.len + n,
+        }),
+        Ok(_) if ended => Heard::Refused(Refusal::BadHead),
+        Ok(_) => Heard::Need,
+    }
+}
+
+/// The next request that the bytes begin with, or why there is none. `ended` says that no byte follows.
+pub fn read_request(buf: &[u8], ended: bool) -> Heard<'_>
+    ensures { IsHeard buf.now ended result }
+{
+    if buf.is_empty() {
+        return if ended { Heard::End } else { Heard::Need };
+    }
+    let front = front_of(buf);
+    let mut headers = [EMPTY_HEADER_SPAN; 32];
+    match parse_request(front, &mut headers) {
+        Ok(Status::Complete(head)) => with_head(buf, front, &headers, head, ended),
+        Ok(Status::Partial) if ended => Heard::Refused(Refusal::BadHead),
+        Ok(Status::Partial) if buf.len() >= MOST_HEAD => Heard::Refused(Refusal::BadHead),
+        Ok(Status::Partial) => Heard::Need,
+        Err(_) => Heard::Refused(Refusal::BadHead),
+    }
+}

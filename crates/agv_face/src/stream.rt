@@ -1,0 +1,229 @@
+//! A stream of requests, answered one after another.
+ghost use Rattle.std.specs.Prelude.{◌≡◌, ◌≢◌, ◌≤◌, ◌⊎◌, ◌+◌, ℕ, List, [], ◌∷◌, ◌++◌, length, take, drop, vec_len, vec_capacity, false, IfOk, IfErr, OnOk, OnErr};
+ghost use Rattle.std.specs.Io.KnownBytes.{Appends, Consumes, IsAtEnd, Keeps};
+ghost use Rattle.agv_store.specs.HeldLoads.{IsClean, HoldsLoads};
+ghost use Rattle.agv_store.specs.Registered.{Registered};
+ghost use Rattle.agv_face.specs.declared.call.Call.{Call};
+ghost use Rattle.agv_face.specs.Served.{said, after, registration_answer, place_answer, IsAnswered, AsksAll, AsksFirst, AsksOtherwise};
+ghost use Rattle.agv_face.specs.Stepped.{IsStep, IsOther};
+
+use crate::answer::{Answer, answer_bytes};
+use crate::call::{Call, call_of};
+use crate::request::{Heard, read_request};
+use agv_header::{Name, Refusal};
+use agv_store::{Fault, Loads};
+use sqlite::Alter;
+use std::alloc::{AllocError, Global};
+use std::io::{Read, Write};
+
+/// Why a stream was left before its end.
+#[derive(Clone, Copy, Debug, PartialEq, Eq)]
+pub enum Stop {
+    /// What comes next is no call: a fault of HTTP, or a request of another form.
+    Other,
+    /// The reader failed, or needed more than 16,777,216 reads.
+    Read,
+    /// The writer failed, or took no byte.
+    Write,
+    /// Want of memory.
+    Memory,
+    /// A fault of the store.
+    Storage,
+}
+
+impl From<AllocError> for Stop {
+    ghost use Rattle.agv_face.specs.declared.stream.Stop.TheVariants as Stop;
+
+    ghost from_gives = { λ _ stop. stop ≡ Stop.Memory };
+
+    fn from(_: AllocError) -> Stop {
+        Stop::Memory
+    }
+}
+
+impl From<Fault> for Stop {
+    ghost use Rattle.agv_face.specs.declared.stream.Stop.TheVariants as Stop;
+
+    ghost from_gives = { λ _ stop. (stop ≢ Stop.Other) × (stop ≢ Stop.Read) };
+
+    fn from(fault: Fault) -> Stop {
+        match fault {
+            Fault::Memory => Stop::Memory,
+            Fault::Storage => Stop::Storage,
+        }
+    }
+}
+
+/// What one step of a stream came to.
+#[derive(Clone, Copy)]
+pub(crate) enum Step {
+    /// More bytes have to come first.
+    Need,
+    /// The input is at its end.
+    End,
+    /// A call is answered; its request took so many bytes.
+    Next(usize),
+}
+
+/// The most reads of one stream.
+const MOST_READS: u64 = 16_777_216;
+
+/// Room for the longest request, and for one read behind it.
+const ROOM: usize = 77_824;
+
+/// Drops the first bytes.
+fn drop_front(buf: &mut Vec<u8>, n: usize)
+    requires { n ≤ vec_len buf.old }
+    ensures items { buf.new.items ≡ drop n buf.old.items }
+    ensures room { vec_capacity buf.new ≡ vec_capacity buf.old }
+{
+    buf.rotate_left(n);
+    buf.truncate(buf.len() - n);
+}
+
+/// One read, whose bytes go to the end of the buffer. `false` at the end of the input.
+fn read_some<R: Read>(reader: &mut R, buf: &mut Vec<u8>) -> Result<bool, Stop>
+    requires { vec_len buf.old + 4096 ≤ vec_capacity buf.old }
+    ensures got { IfOk result (λ more. (bytes : List ℕ) × (buf.new.items ≡ buf.old.items ++ bytes) × (length bytes ≤ 4096)
+        × Consumes (R.remaining reader.old) (R.remaining reader.new) bytes × (more ≡ false → (bytes ≡ []) × IsAtEnd (R.remaining reader.new))) }
+    ensures room { OnOk result (vec_capacity buf.old ≤ vec_capacity buf.new) }
+    ensures failed { IfErr result (λ stop. (stop ≡ Stop.Read) ⊎ (stop ≡ Stop.Memory)) }
+{
+    let mut chunk = [0; 4096];
+    match reader.read(&mut chunk) {
+        Ok(n) => {
+            buf.extend_from_slice(&chunk[..n])?;
+            Ok(n > 0)
+        }
+        Err(_) => Err(Stop::Read),
+    }
+}
+
+/// Writes all the bytes. A write that takes none is a fault, and so is any error.
+fn write_whole<W: Write>(writer: &mut W, bytes: &[u8]) -> Result<(), Stop>
+    ensures written { OnOk result (Appends (W.contents writer.old) (W.contents writer.new) bytes.now) }
+    ensures failed { IfErr result (λ stop. stop ≡ Stop.Write) }
+{
+    let mut done = 0;
+    while done < bytes.len() {
+        match writer.write(&bytes[done..]) {
+            Ok(0) => return Err(Stop::Write),
+            Ok(n) => done += n,
+            Err(_) => return Err(Stop::Write),
+        }
+    }
+    Ok(())
+}
+
+/// A registration, as an answer.
+fn registration_answer(registration: Result<(), Refusal>) -> Answer
+    ensures { result ≡ registration_answer registration }
+{
+    match registration {
+        Ok(()) => Answer::Done,
+        Err(refusal) => Answer::Refused(refusal),
+    }
+}
+
+/// Where a load stands, if it is known.
+fn place_answer(known: bool, load: Name) -> Answer
+    ensures { result ≡ place_answer known load }
+{
+    if known {
+        Answer::AtChecking(load)
+    } else {
+        Answer::Refused(Refusal::NoLoad)
+    }
+}
+
+/// Carries a call out, and gives its answer.
+fn carry_out<S: Alter + Drop>(loads: &mut Loads<S>, call: Call) -> Result<Answer, Fault>
+    ensures clean { IsClean S.Store loads.new → IsClean S.Store loads.old }
+    ensures carried { IsClean S.Store loads.new → IfOk result (λ answer. (known : Registered) → HoldsLoads S.Store loads.old known
+        → (answer ≡ said known call) × HoldsLoads S.Store loads.new (after known call)) }
+{
+    match call {
+        Call::Register(load) => Ok(registration_answer(loads.register(load)?)),
+        Call::Show(load) => Ok(place_answer(loads.known(load)?, load)),
+    }
+}
+
+/// Carries a call out, and writes its answer.
+fn answer_call<S: Alter + Drop, W: Write>(
+    alloc: Global,
+    loads: &mut Loads<S>,
+    call: Call,
+    writer: &mut W,
+) -> Result<(), Stop>
+    ensures clean { IsClean S.Store loads.new → IsClean S.Store loads.old }
+    ensures answered { IsClean S.Store loads.new → OnOk result (IsAnswered (HoldsLoads S.Store loads.old) (HoldsLoads S.Store loads.new) (W.contents writer.old) (W.contents writer.new) (call ∷ [])) }
+    ensures failed { IfErr result (λ stop. (stop ≢ Stop.Other) × (stop ≢ Stop.Read)) }
+{
+    let answer = carry_out(loads, call)?;
+    let bytes = answer_bytes(alloc, &answer)?;
+    write_whole(writer, &bytes)
+}
+
+/// Answers the next request of the buffer, where it has come whole.
+fn answer_next<S: Alter + Drop, W: Write>(
+    alloc: Global,
+    loads: &mut Loads<S>,
+    buf: &[u8],
+    ended: bool,
+    writer: &mut W,
+) -> Result<Step, Stop>
+    ensures clean { IsClean S.Store loads.new → IsClean S.Store loads.old }
+    ensures answered { IfOk result (λ step. (calls : List Call) × IsStep buf.now ended step calls
+        × (IsClean S.Store loads.new → IsAnswered (HoldsLoads S.Store loads.old) (HoldsLoads S.Store loads.new) (W.contents writer.old) (W.contents writer.new) calls)) }
+    ensures other { IfErr result (λ stop. stop ≡ Stop.Other → IsOther buf.now ended × IsAnswered (HoldsLoads S.Store loads.old) (HoldsLoads S.Store loads.new) (W.contents writer.old) (W.contents writer.new) []) }
+    ensures not_read { IfErr result (λ stop. stop ≢ Stop.Read) }
+{
+    match read_request(buf, ended) {
+        Heard::Need => Ok(Step::Need),
+        Heard::End => Ok(Step::End),
+        Heard::Refused(_) => Err(Stop::Other),
+        Heard::Request(request) => {
+            let Some(call) = call_of(alloc, &request)? else {
+                return Err(Stop::Other);
+            };
+            answer_call(alloc, loads, call, writer)?;
+            Ok(Step::Next(request.len))
+        }
+    }
+}
+
+/// Answers a stream of calls up to its end, and gives the number of answers that were written.
+pub fn answer_calls<S: Alter + Drop, R: Read, W: Write>(
+    alloc: Global,
+    loads: &mut Loads<S>,
+    reader: &mut R,
+    writer: &mut W,
+) -> Result<u64, Stop>
+    ensures clean { IsClean S.Store loads.new → IsClean S.Store loads.old }
+    ensures answered { IfOk result (λ n. (calls : List Call) × (n ≡ length calls) × AsksAll (R.remaining reader.old) calls
+        × (IsClean S.Store loads.new → IsAnswered (HoldsLoads S.Store loads.old) (HoldsLoads S.Store loads.new) (W.contents writer.old) (W.contents writer.new) calls)) }
+    ensures other { IfErr result (λ stop. stop ≡ Stop.Other → AsksOtherwise (R.remaining reader.old)) }
+    ensures so_far { IfErr result (λ stop. (stop ≡ Stop.Other) ⊎ (stop ≡ Stop.Read) → (calls : List Call) × AsksFirst (R.remaining reader.old) calls
+        × (IsClean S.Store loads.new → IsAnswered (HoldsLoads S.Store loads.old) (HoldsLoads S.Store loads.new) (W.contents writer.old) (W.contents writer.new) calls)) }
+{
+    let mut buf = Vec::with_capacity(alloc, ROOM)?;
+    let mut ended = false;
+    let mut reads = 0;
+    let mut answers = 0;
+    loop {
+        match answer_next(alloc, loads, &buf, ended, writer)? {
+            Step::End => return Ok(answers),
+            Step::Next(len) => {
+                drop_front(&mut buf, len);
+                answers += 1;
+            }
+            Step::Need => {
+                if reads >= MOST_READS {
+                    return Err(Stop::Read);
+                }
+                reads += 1;
+                ended = !read_some(reader, &mut buf)?;
+            }
+        }
+    }
+}
