@@ -1,0 +1,49 @@
+//! A reader and a writer that take their time, and fail when they are told to.
+
+use std::io::{self, ErrorKind, Read, Write};
+
+/// Gives at most `step` bytes at a read, and fails at the read after `reads`.
+#[derive(Drop)]
+pub(crate) struct Drip {
+    pub(crate) bytes: &'static [u8],
+    pub(crate) step: usize,
+    pub(crate) reads: u32,
+}
+
+impl Read for Drip {
+    fn read(&mut self, buf: &mut [u8]) -> io::Result<usize> {
+        if self.reads == 0 {
+            return Err(io::Error::from(ErrorKind::ConnectionReset));
+        }
+        self.reads -= 1;
+        let n = self.step.min(buf.len()).min(self.bytes.len());
+        let (now, later) = self.bytes.split_at(n);
+        buf[..n].copy_from_slice(now);
+        self.bytes = later;
+        Ok(n)
+    }
+}
+
+/// Takes at most `step` bytes at a write, and fails at the write after `writes`.
+#[derive(Drop)]
+pub(crate) struct Trickle {
+    pub(crate) taken: Vec<u8>,
+    pub(crate) step: usize,
+    pub(crate) writes: u32,
+}
+
+impl Write for Trickle {
+    fn write(&mut self, buf: &[u8]) -> io::Result<usize> {
+        if self.writes == 0 {
+            return Err(io::Error::from(ErrorKind::BrokenPipe));
+        }
+        self.writes -= 1;
+        let n = self.step.min(buf.len());
+        self.taken.extend_from_slice(&buf[..n])?;
+        Ok(n)
+    }
+
+    fn flush(&mut self) -> io::Result<()> {
+        Ok(())
+    }
+}

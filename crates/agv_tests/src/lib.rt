@@ -1,0 +1,14 @@
+//! The tests that need the store or cross crates. They stand in one crate, since each crate with
+//! tests over the store costs the gate minutes. The expected bytes are written out by hand.
+//!
+//! - `loads` calls each public call of the store once, with ample memory.
+//! - `streams` serves the worked examples as bytes: whole, in pieces, and with a reader or a writer
+//!   that fails.
+#![tactic(auto)]
+
+#[cfg(test)]
+mod fakes;
+#[cfg(test)]
+mod loads;
+#[cfg(test)]
+mod streams;

@@ -1,0 +1,146 @@
+//! Streams of requests, as bytes in and bytes out.
+
+use crate::fakes::{Drip, Trickle};
+use agv_face::{Heard, LoadsFault, Stop, answer_calls, read_request, serve_loads};
+use agv_header::Refusal;
+use agv_store::Loads;
+use sqlite::{Connection, MemStore};
+use std::test::Fail;
+
+/// Registers L1, then asks where it stands.
+const FIRST: &[u8] = b"POST /loads HTTP/1.1\r\nContent-Length: 13\r\n\r\n{\"load\":\"L1\"}GET /loads/L1 HTTP/1.1\r\n\r\n";
+
+const DONE: &[u8] = b"HTTP/1.1 200 OK\r\nContent-Length: 2\r\nContent-Type: application/json\r\n\r\n{}";
+
+/// The answers to `FIRST`.
+const FIRST_ANSWERS: &[u8] = b"HTTP/1.1 200 OK\r\nContent-Length: 2\r\nContent-Type: application/json\r\n\r\n{}HTTP/1.1 200 OK\r\nContent-Length: 43\r\nContent-Type: application/json\r\n\r\n{\"job\":null,\"load\":\"L1\",\"place\":\"checking\"}";
+
+/// Registers L1 again, asks where it stands, and asks for a load that isn't there.
+const AGAIN: &[u8] = b"POST /loads HTTP/1.1\r\nContent-Length: 13\r\n\r\n{\"load\":\"L1\"}GET /loads/L1?x=1 HTTP/1.1\r\nHost: desk\r\n\r\nGET /loads/L9 HTTP/1.1\r\n\r\n";
+
+const AGAIN_ANSWERS: &[u8] = b"HTTP/1.1 409 Conflict\r\nContent-Length: 30\r\nContent-Type: application/json\r\n\r\n{\"name\":\"Exists\",\"refusal\":30}HTTP/1.1 200 OK\r\nContent-Length: 43\r\nContent-Type: application/json\r\n\r\n{\"job\":null,\"load\":\"L1\",\"place\":\"checking\"}HTTP/1.1 404 Not Found\r\nContent-Length: 30\r\nContent-Type: application/json\r\n\r\n{\"name\":\"NoLoad\",\"refusal\":23}";
+
+fn no_loads(rt: &HostRuntime) -> Result<Loads<MemStore>, Fail> {
+    Ok(Loads::create(Connection::open_in_memory(rt.alloc())?)?)
+}
+
+/// The worked examples, whole, on one store.
+#[test]
+fn worked_examples(rt: HostRuntime) -> Result<(), Fail> {
+    let mut loads = no_loads(&rt)?;
+    for (input, answers, count) in [(FIRST, FIRST_ANSWERS, 2), (AGAIN, AGAIN_ANSWERS, 3)] {
+        let mut reader = input;
+        let mut out = Vec::new(rt.alloc());
+        assert!(rt; serve_loads(rt.alloc(), &mut loads, &mut reader, &mut out) == Ok(count));
+        assert!(rt; out.as_slice() == answers);
+    }
+    Ok(())
+}
+
+/// The first example in pieces of these sizes.
+#[test]
+fn in_pieces(rt: HostRuntime) -> Result<(), Fail> {
+    for (read, write) in [(1, 1), (7, 5), (4096, 1)] {
+        let mut loads = no_loads(&rt)?;
+        let mut reader = Drip {
+            bytes: FIRST,
+            step: read,
+            reads: 1000,
+        };
+        let mut writer = Trickle {
+            taken: Vec::new(rt.alloc()),
+            step: write,
+            writes: 1000,
+        };
+        assert!(rt; serve_loads(rt.alloc(), &mut loads, &mut reader, &mut writer) == Ok(2));
+        assert!(rt; writer.taken.as_slice() == FIRST_ANSWERS);
+    }
+    Ok(())
+}
+
+/// A reader that fails at its first, its second and a later read leaves the answers so far; the
+/// reads give 20 bytes each, so the fourth completes the first request.
+#[test]
+fn failing_reader(rt: HostRuntime) -> Result<(), Fail> {
+    for (reads, answers) in [(0, b"".as_slice()), (1, b""), (3, DONE)] {
+        let mut loads = no_loads(&rt)?;
+        let mut reader = Drip {
+            bytes: FIRST,
+            step: 20,
+            reads,
+        };
+        let mut out = Vec::new(rt.alloc());
+        assert!(rt; answer_calls(rt.alloc(), &mut loads, &mut reader, &mut out) == Err(Stop::Read));
+        assert!(rt; out.as_slice() == answers);
+    }
+    Ok(())
+}
+
+/// A writer that fails at its first, its second and a later write.
+#[test]
+fn failing_writer(rt: HostRuntime) -> Result<(), Fail> {
+    for (writes, taken) in [(0, 0), (1, 40), (3, 112)] {
+        let mut loads = no_loads(&rt)?;
+        let mut reader = FIRST;
+        let mut writer = Trickle {
+            taken: Vec::new(rt.alloc()),
+            step: 40,
+            writes,
+        };
+        let served = serve_loads(rt.alloc(), &mut loads, &mut reader, &mut writer);
+        assert!(rt; served == Err(LoadsFault::Write));
+        assert!(rt; writer.taken.len() == taken);
+        assert!(rt; writer.taken.as_slice() == &FIRST_ANSWERS[..taken]);
+    }
+    Ok(())
+}
+
+/// Inputs of other forms: what stands before them is answered, and nothing else.
+#[test]
+fn other_forms(rt: HostRuntime) -> Result<(), Fail> {
+    let others: [&[u8]; 9] = [
+        b"GET /loads/L1 HTTP/1.0\r\n\r\n",
+        b"GET /loads/L1 HTTP/1.1\r\nConnection: keep-alive\r\n\r\n",
+        b"GET /loads/a%20b HTTP/1.1\r\n\r\n",
+        b"POST /loads HTTP/1.1\r\n\r\n",
+        b"POST /loads HTTP/1.1\r\nContent-Length: 13\r\n\r\n{\"loa",
+        b"POST /loads HTTP/1.1\r\nContent-Length: 23\r\n\r\n{\"load\":\"L1\",\"at\":null}",
+        b"POST /loads HTTP/1.1\r\nContent-Length: 15\r\n\r\n{\"load\":\"a b\"} ",
+        b"PUT /loads HTTP/1.1\r\nContent-Length: 0\r\n\r\n",
+        b"\r\nGET /loads",
+    ];
+    for other in others {
+        let mut loads = no_loads(&rt)?;
+        let mut input = Vec::from_slice(rt.alloc(), FIRST)?;
+        input.extend_from_slice(other)?;
+        let mut reader = input.as_slice();
+        let mut out = Vec::new(rt.alloc());
+        assert!(rt; answer_calls(rt.alloc(), &mut loads, &mut reader, &mut out) == Err(Stop::Other));
+        assert!(rt; out.as_slice() == FIRST_ANSWERS);
+        let mut reader = other;
+        assert!(rt; serve_loads(rt.alloc(), &mut loads, &mut reader, &mut out) == Err(LoadsFault::Read));
+        assert!(rt; out.as_slice() == FIRST_ANSWERS);
+    }
+    Ok(())
+}
+
+/// The next request of a buffer, at the edges of what one may be.
+#[test]
+fn next_requests(rt: HostRuntime) -> Result<(), Fail> {
+    assert!(rt; matches!(read_request(b"POST /load", false), Heard::Need));
+    assert!(rt; matches!(read_request(b"POST /load", true), Heard::Refused(Refusal::BadHead)));
+    assert!(rt; matches!(read_request(b"", false), Heard::Need));
+    assert!(rt; matches!(read_request(b"", true), Heard::End));
+    let refused: [(&[u8], u8); 6] = [
+        (b"POST /jobs HTTP/1.1\r\n\r\n", 2),
+        (b"POST /jobs HTTP/1.1\r\nContent-Length: 65537\r\n\r\n", 3),
+        (b"POST /jobs HTTP/1.1\r\nTransfer-Encoding: chunked\r\n\r\n", 4),
+        (b"GET / HTTP/1.1\r\ncontent-length: 1\r\nContent-Length: 1\r\n\r\na", 1),
+        (b"GET / HTTP/1.1\r\nContent-Length: +1\r\n\r\na", 1),
+        (b"GET / HTTP/1.1\r\nContent-Length: 2\r\nTransfer-Encoding: x\r\n\r\na", 4),
+    ];
+    for (bytes, number) in refused {
+        assert!(rt; matches!(read_request(bytes, true), Heard::Refused(refusal) if refusal.number() == number));
+    }
+    Ok(())
+}
