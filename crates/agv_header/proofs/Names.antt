@@ -1,5 +1,5 @@
 -- Names: their bytes at the front of zeros, and their bytes as text.
-use Rattle.std.proofs.Common.{arith, ℕ, ◌≡◌, ◌<◌, ◌≤◌, ◌++◌, ◌-◌, ◌&&◌, ◌||◌, Bool, true, false, List, [], ◌∷◌, length, take, drop, replicate, sym, ap, subst, ◌∙◌, length-append, slice_index, IsTrue}
+use Rattle.std.proofs.Common.{arith, ℕ, ◌≡◌, ◌<◌, ◌≤◌, ◌++◌, ◌-◌, true, List, [], ◌∷◌, length, drop, replicate, sym, ap, subst, ◌∙◌, length-append}
 use Rattle.std.specs.List.{list_all}
 use Rattle.std.specs.Str.{IsUtf8, IsAscii}
 use Rattle.std.proofs.lemmas.List.{drop-replicate, length-replicate}
@@ -7,7 +7,6 @@ use Rattle.std.proofs.lemmas.Str.{IsUtf8-from_ascii}
 use Rattle.std.proofs.lemmas.Str.Ascii.{IsAscii-nil, IsAscii-cons}
 use Rattle.std.proofs.lemmas.Bool.{and_parts}
 use Rattle.std.proofs.lemmas.Bool.Decides.{nat_tests}
-use Rattle.std.proofs.lemmas.Grind.{common_steps}
 use Rattle.std.proofs.Math.Seq.{take-append_seam, drop-append_seam}
 use Rattle.agv_header.specs.Name.{is_name_byte, is_name, IsName}
 use Rattle.agv_header.specs.Padded.{IsPadded}

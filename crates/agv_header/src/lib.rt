@@ -8,10 +8,16 @@
 //! Nothing here takes memory.
 #![tactic(auto)]
 
+mod count;
 mod key;
+mod memory;
+mod moment;
 mod name;
 mod refusal;
 
+pub use count::{is_fresh, next_number};
 pub use key::{Thing, VehicleKey};
+pub use memory::Memory;
+pub use moment::Moment;
 pub use name::{Name, NotName};
 pub use refusal::{Refusal, Verb};
