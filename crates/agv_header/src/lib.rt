@@ -14,6 +14,7 @@ mod memory;
 mod moment;
 mod name;
 mod refusal;
+mod stamp;
 
 pub use count::{is_fresh, next_number};
 pub use key::{Thing, VehicleKey};
@@ -21,3 +22,4 @@ pub use memory::Memory;
 pub use moment::Moment;
 pub use name::{Name, NotName};
 pub use refusal::{Refusal, Verb};
+pub use stamp::{StampFault, read_stamp, stamp_text};
