@@ -15,6 +15,7 @@ mod moment;
 mod name;
 mod refusal;
 mod stamp;
+mod topic;
 
 pub use count::{is_fresh, next_number};
 pub use key::{Thing, VehicleKey};
@@ -23,3 +24,7 @@ pub use moment::Moment;
 pub use name::{Name, NotName};
 pub use refusal::{Refusal, Verb};
 pub use stamp::{StampFault, read_stamp, stamp_text};
+pub use topic::{NotTopic, Topic, read_topic, topic_text};
+
+#[cfg(test)]
+mod tests;
