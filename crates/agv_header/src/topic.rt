@@ -42,12 +42,14 @@ fn topic_named(name: &str) -> Option<Topic>
     }
 }
 
-/// The manufacturer, the serial number and the topic name, as far as slashes tell.
+/// The manufacturer, the serial number and the topic name, as far as the slashes tell.
 fn levels(text: &str) -> Option<(&str, &str, &str)>
-    ensures reads { IfSome result (λ parts. text.now ≡ with_levels parts.0.now parts.1.now parts.2.now) }
+    ensures reads { IfSome result
+        (λ parts. text.now ≡ with_levels parts.0.now parts.1.now parts.2.now) }
     ensures all { (manufacturer serial name : List ℕ) → IsName manufacturer → IsName serial
         → text.now ≡ with_levels manufacturer serial name
-        → IsSomeAnd result (λ parts. (parts.0.now ≡ manufacturer) × (parts.1.now ≡ serial) × (parts.2.now ≡ name)) }
+        → IsSomeAnd result
+        (λ parts. (parts.0.now ≡ manufacturer) × (parts.1.now ≡ serial) × (parts.2.now ≡ name)) }
 {
     let rest = text.strip_prefix("uagv/v2/")?;
     let (manufacturer, rest) = rest.split_once('/')?;
@@ -57,7 +59,8 @@ fn levels(text: &str) -> Option<(&str, &str, &str)>
 
 fn named(text: &str) -> Option<(VehicleKey, Topic)>
     ensures reads { IfSome result (λ found. IsTopicText text.now found.0 found.1) }
-    ensures all { (key : Key) (topic : Kind) → IsTopicText text.now key topic → result ≡ Some (key, topic) }
+    ensures all { (key : Key) (topic : Kind) → IsTopicText text.now key topic
+        → result ≡ Some (key, topic) }
 {
     let (manufacturer, serial, name) = levels(text)?;
     let key = VehicleKey {
@@ -72,7 +75,8 @@ fn named(text: &str) -> Option<(VehicleKey, Topic)>
 /// `NotTopic` where the text is `topic_text` of no vehicle and topic.
 pub fn read_topic(text: &str) -> Result<(VehicleKey, Topic), NotTopic>
     ensures reads { IfOk result (λ found. IsTopicText text.now found.0 found.1) }
-    ensures all { (key : Key) (topic : Kind) → IsTopicText text.now key topic → result ≡ Ok (key, topic) }
+    ensures all { (key : Key) (topic : Kind) → IsTopicText text.now key topic
+        → result ≡ Ok (key, topic) }
 {
     named(text).ok_or(NotTopic)
 }
