@@ -8,31 +8,39 @@ use Rattle.sqlite.specs.Held.{Held, state}
 use Rattle.agv_store.specs.Registered.{Registered, registered}
 use Rattle.agv_store.specs.LoadTable.{load_schema, AreLoads}
 
-module _ {S : Type 0} (g : Ghosts S) (held : Held S) where
-  -- no wrong answer of the disk was taken as true so far
-  abbrev pub IsClean : Type 0
-  IsClean = HasCleanDisk (state g held)
+module _ {S : Type 0} (g : Ghosts S) where
+  -- no wrong answer of the disk was taken for a right one so far
+  abbrev pub IsClean : Held S → Type 0
+  IsClean held = HasCleanDisk (state g held)
 
   -- no fault has shut the connection
-  abbrev pub IsOpen : Type 0
-  IsOpen = IsTrue (state g held).is_open
+  abbrev pub IsOpen : Held S → Type 0
+  IsOpen held = IsTrue (state g held).is_open
 
   -- the connection is open and in no transaction, and shows exactly these loads, all of them committed
-  pub record HoldsLoads (loads : Registered) : Type 0 where
-    pub is_open : IsOpen
+  pub record HoldsLoads (held : Held S) (loads : Registered) : Type 0 where
+    pub is_open : IsOpen held
     pub idle : held.in_transaction ≡ false
     pub schema : held.schema ≡ load_schema
     pub committed : (state g held).committed ≡ (state g held).now
     pub rows : AreLoads (state g held).now.trees loads
 
-  -- it shows no loads at all, not even none: a fault has shut it
-  abbrev pub HoldsNothing : Type 0
-  HoldsNothing = (loads : Registered) → ¬ HoldsLoads loads
+  -- it shows some loads, and so it is open
+  abbrev pub HoldsSome : Held S → Type 0
+  HoldsSome held = (loads : Registered) × HoldsLoads held loads
 
-  -- the trees have the loads after the registration of this name
-  abbrev pub AreRegistered : List ℕ → Trees → Type 0
-  AreRegistered name trees = (loads : Registered) → HoldsLoads loads → AreLoads trees (registered loads name)
+  -- no loads are what it shows, as when a fault has shut it
+  abbrev pub HoldsNothing : Held S → Type 0
+  HoldsNothing held = (loads : Registered) → ¬ HoldsLoads held loads
 
-  -- while the connection is open it shows some loads, and this many
-  abbrev pub IsCounted : ℕ → Type 0
-  IsCounted count = IsClean → IsOpen → (loads : Registered) × HoldsLoads loads × (set.len loads ≡ count)
+  -- the loads that it showed are shown still
+  abbrev pub KeepsLoads : Held S → Held S → Type 0
+  KeepsLoads old new = (loads : Registered) → HoldsLoads old loads → HoldsLoads new loads
+
+  -- the trees have the loads that it shows after the registration of this name
+  abbrev pub AreRegistered : Held S → List ℕ → Trees → Type 0
+  AreRegistered held name trees = (loads : Registered) → HoldsLoads held loads → AreLoads trees (registered loads name)
+
+  -- while it is open it shows some loads, and this many
+  abbrev pub IsCounted : Held S → ℕ → Type 0
+  IsCounted held count = IsClean held → IsOpen held → (loads : Registered) × HoldsLoads held loads × (set.len loads ≡ count)

@@ -9,6 +9,7 @@ use Rattle.agv_header.specs.declared.refusal.Refusal.TheVariants as refusal
 abbrev pub Registered : Type 0
 Registered = set.FinSet name_cmp
 
+-- none yet
 abbrev pub no_loads : Registered
 no_loads = set.empty
 
@@ -18,7 +19,8 @@ most_loads = 1000000
 
 -- the answer to a registration: a known name is refused first, then a load too many
 abbrev pub registration : Registered → List ℕ → Result (Unit {0}) Refusal
-registration loads name = if set.contains loads name then Err refusal.Exists else (if nat_lt (set.len loads) most_loads then Ok tt else Err refusal.Limit)
+registration loads name =
+    if set.contains loads name then Err refusal.Exists else (if nat_lt (set.len loads) most_loads then Ok tt else Err refusal.Limit)
 
 -- the loads after it
 abbrev pub registered : Registered → List ℕ → Registered

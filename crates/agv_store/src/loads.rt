@@ -5,7 +5,7 @@ ghost use Rattle.sqlite.specs.State.{Survives};
 ghost use Rattle.sqlite.specs.Held.{state};
 ghost use Rattle.agv_store.specs.Registered.{Registered, no_loads, registration, registered};
 ghost use Rattle.agv_store.specs.LoadTable.{no_tables, AreLoads};
-ghost use Rattle.agv_store.specs.HeldLoads.{IsClean, IsOpen, HoldsLoads, HoldsNothing, AreRegistered};
+ghost use Rattle.agv_store.specs.HeldLoads.{IsClean, IsOpen, HoldsLoads, HoldsSome, HoldsNothing, KeepsLoads, AreRegistered};
 
 use crate::Fault;
 use crate::statements::{create_table, find_load, insert_load};
@@ -46,8 +46,10 @@ impl<S: Alter + Drop> Loads<S> {
     pub fn create(mut conn: Connection<S>) -> Result<Loads<S>, Fault>
         requires idle { conn.in_transaction ≡ false }
         requires blank { conn.schema ≡ no_tables }
-        ensures created { IfOk result (λ loads. IsClean S.Store loads → HoldsLoads S.Store loads no_loads) }
-        ensures survives { IfOk result (λ loads. Survives (state S.Store conn) (state S.Store loads) (λ trees. AreLoads trees no_loads)) }
+        ensures created { IfOk result (λ loads.
+            IsClean S.Store loads → HoldsLoads S.Store loads no_loads) }
+        ensures survives { IfOk result (λ loads.
+            Survives (state S.Store conn) (state S.Store loads) (λ trees. AreLoads trees no_loads)) }
     {
         create_table(&mut conn)?;
         Ok(Loads { conn, count: 0 })
@@ -56,16 +58,24 @@ impl<S: Alter + Drop> Loads<S> {
     /// Registers a load of that name, at the checking place.
     ///
     /// It is refused with `Exists` where the name is known, and else with `Limit` where 1,000,000
-    /// loads are registered; nothing changes then, nor does it after a `Fault` that leaves the
-    /// store open. A crash leaves the rows before the call or those after it. The time of a call
-    /// doesn't grow with the number of loads but for the depth of the table's tree.
+    /// loads are registered; then nothing changes. Nor does anything after a `Fault` that leaves
+    /// the store open. A crash leaves the rows before the call or those after it.
+    ///
+    /// The look-up and the insertion go by the table's key, so their time grows only with the
+    /// depth of its tree.
     pub fn register(&mut self, name: Name) -> Result<Result<(), Refusal>, Fault>
         ensures clean { IsClean S.Store self.new → IsClean S.Store self.old }
-        ensures registers { IsClean S.Store self.new → IfOk result (λ answer. (loads : Registered) → HoldsLoads S.Store self.old loads
-            → (answer ≡ registration loads name) × HoldsLoads S.Store self.new (registered loads name)) }
-        ensures held { IsClean S.Store self.new → OnOk result ((loads : Registered) × HoldsLoads S.Store self.old loads) }
-        ensures failed { IsClean S.Store self.new → IsOpen S.Store self.new → OnErr result ((loads : Registered) → HoldsLoads S.Store self.old loads → HoldsLoads S.Store self.new loads) }
-        ensures survives { Survives (state S.Store self.old) (state S.Store self.new) (AreRegistered S.Store self.old name) }
+        ensures registers { IsClean S.Store self.new → IfOk result (λ answer.
+            (loads : Registered) → HoldsLoads S.Store self.old loads
+            → (answer ≡ registration loads name)
+            × HoldsLoads S.Store self.new (registered loads name)) }
+
+        // An answer comes only from an open store.
+        ensures held { IsClean S.Store self.new → OnOk result (HoldsSome S.Store self.old) }
+        ensures failed { IsClean S.Store self.new → IsOpen S.Store self.new
+            → OnErr result (KeepsLoads S.Store self.old self.new) }
+        ensures survives { Survives (state S.Store self.old) (state S.Store self.new)
+            (AreRegistered S.Store self.old name) }
     {
         if self.known(name)? {
             return Ok(Err(Refusal::Exists));
@@ -81,11 +91,16 @@ impl<S: Alter + Drop> Loads<S> {
     /// Whether a load of that name is registered. Nothing changes.
     pub fn known(&mut self, name: Name) -> Result<bool, Fault>
         ensures clean { IsClean S.Store self.new → IsClean S.Store self.old }
-        ensures answers { IsClean S.Store self.new → IfOk result (λ yes. (loads : Registered) → HoldsLoads S.Store self.old loads
+        ensures answers { IsClean S.Store self.new → IfOk result (λ yes.
+            (loads : Registered) → HoldsLoads S.Store self.old loads
             → (yes ≡ set.contains loads name) × HoldsLoads S.Store self.new loads) }
-        ensures held { IsClean S.Store self.new → OnOk result ((loads : Registered) × HoldsLoads S.Store self.old loads) }
-        ensures failed { IsClean S.Store self.new → IsOpen S.Store self.new → OnErr result ((loads : Registered) → HoldsLoads S.Store self.old loads → HoldsLoads S.Store self.new loads) }
-        ensures survives { Survives (state S.Store self.old) (state S.Store self.new) (λ _. HoldsNothing S.Store self.old) }
+
+        // An answer comes only from an open store.
+        ensures held { IsClean S.Store self.new → OnOk result (HoldsSome S.Store self.old) }
+        ensures failed { IsClean S.Store self.new → IsOpen S.Store self.new
+            → OnErr result (KeepsLoads S.Store self.old self.new) }
+        ensures survives { Survives (state S.Store self.old) (state S.Store self.new)
+            (λ _. HoldsNothing S.Store self.old) }
     {
         let rows = find_load(&mut self.conn, name.as_str())?;
         Ok(!rows.is_empty())

@@ -5,9 +5,8 @@ ghost use Rattle.sqlite.specs.State.{Survives};
 ghost use Rattle.sqlite.specs.Held.{state};
 ghost use Rattle.agv_store.specs.Registered.{Registered, no_loads};
 ghost use Rattle.agv_store.specs.LoadTable.{no_tables, AreLoads};
-ghost use Rattle.agv_store.specs.HeldLoads.{IsClean, IsOpen, HoldsLoads, HoldsNothing};
+ghost use Rattle.agv_store.specs.HeldLoads.{IsClean, IsOpen, HoldsLoads, HoldsNothing, KeepsLoads};
 
-use agv_header::Name;
 use sqlite::{Alter, Connection, Error, Row, params};
 
 /// Makes the table.
@@ -15,7 +14,8 @@ pub(crate) fn create_table<S: Alter>(conn: &mut Connection<S>) -> Result<usize, 
     requires idle { conn.old.in_transaction ≡ false }
     requires blank { conn.old.schema ≡ no_tables }
     ensures created { IsClean S.Store conn.new → OnOk result (HoldsLoads S.Store conn.new no_loads) }
-    ensures survives { Survives (state S.Store conn.old) (state S.Store conn.new) (λ trees. AreLoads trees no_loads) }
+    ensures survives { Survives (state S.Store conn.old) (state S.Store conn.new)
+        (λ trees. AreLoads trees no_loads) }
 {
     conn.execute(
         "CREATE TABLE load (id TEXT PRIMARY KEY, kind TEXT NOT NULL, station TEXT, manufacturer TEXT, serial TEXT) STRICT",
@@ -26,9 +26,12 @@ pub(crate) fn create_table<S: Alter>(conn: &mut Connection<S>) -> Result<usize, 
 /// Adds the row of a load at the checking place.
 pub(crate) fn insert_load<S: Alter>(conn: &mut Connection<S>, name: &str) -> Result<usize, Error>
     ensures added { IsClean S.Store conn.new → OnOk result ((loads : Registered) → HoldsLoads S.Store conn.old loads
-        → set.contains loads name.now ≡ false → HoldsLoads S.Store conn.new (set.insert loads name.now)) }
-    ensures failed { IsClean S.Store conn.new → IsOpen S.Store conn.new → OnErr result ((loads : Registered) → HoldsLoads S.Store conn.old loads → HoldsLoads S.Store conn.new loads) }
-    ensures survives { Survives (state S.Store conn.old) (state S.Store conn.new) (λ trees. (loads : Registered) → HoldsLoads S.Store conn.old loads
+        → set.contains loads name.now ≡ false
+        → HoldsLoads S.Store conn.new (set.insert loads name.now)) }
+    ensures failed { IsClean S.Store conn.new → IsOpen S.Store conn.new
+        → OnErr result (KeepsLoads S.Store conn.old conn.new) }
+    ensures survives { Survives (state S.Store conn.old) (state S.Store conn.new)
+        (λ trees. (loads : Registered) → HoldsLoads S.Store conn.old loads
         → set.contains loads name.now ≡ false → AreLoads trees (set.insert loads name.now)) }
 {
     conn.execute(
@@ -39,12 +42,15 @@ pub(crate) fn insert_load<S: Alter>(conn: &mut Connection<S>, name: &str) -> Res
 
 /// The row of the load of that name, or no row.
 pub(crate) fn find_load<S: Alter>(conn: &mut Connection<S>, name: &str) -> Result<Vec<Row>, Error>
-    ensures found { IsClean S.Store conn.new → IfOk result (λ rows. (loads : Registered) → HoldsLoads S.Store conn.old loads
+    ensures found { IsClean S.Store conn.new → IfOk result (λ rows.
+        (loads : Registered) → HoldsLoads S.Store conn.old loads
         → (vec_len rows == 0) ≡ not (set.contains loads name.now)) }
-    ensures kept { IsClean S.Store conn.new → IsOpen S.Store conn.new → (loads : Registered) → HoldsLoads S.Store conn.old loads → HoldsLoads S.Store conn.new loads }
+    ensures kept { IsClean S.Store conn.new → IsOpen S.Store conn.new
+        → KeepsLoads S.Store conn.old conn.new }
     ensures was_open { IsClean S.Store conn.new → IsOpen S.Store conn.new → IsOpen S.Store conn.old }
     ensures still_open { IsClean S.Store conn.new → OnOk result (IsOpen S.Store conn.new) }
-    ensures survives { Survives (state S.Store conn.old) (state S.Store conn.new) (λ _. HoldsNothing S.Store conn.old) }
+    ensures survives { Survives (state S.Store conn.old) (state S.Store conn.new)
+        (λ _. HoldsNothing S.Store conn.old) }
 {
     conn.query_all("SELECT id FROM load WHERE id = ?1", params![name])
 }

@@ -1,4 +1,4 @@
-use Rattle.std.proofs.Common.{subst, refl}
+use Rattle.std.proofs.Common.{subst, refl, arith}
 use Rattle.agv_store.specs.HeldLoads.{IsClean, IsCounted}
 use Rattle.agv_store.proofs.Registering.{earlier_clean, finds_none, full, fails_counted, fails_kept, adds_counted, registers, survives_both, on_err}
 use Rattle.agv_store.proofs.loads.Loads.register.Goals as goal
@@ -8,46 +8,46 @@ pub returns-then-self-ge-MOST_LOADS-clause-registers : goal.returns-then-self-ge
 returns-then-self-ge-MOST_LOADS-clause-registers g c =
     let counted = subst (λ held. IsCounted g.S.Store held c.self.inside.count) c.self.view_is c.self.invariant in
     let found = finds_none g.S.Store c.args.self.now c.known.new.self c.args.name c.self.inside.count c.known.new.self refl counted
-    c.in_ok-known.field-0 c.if-branch.false c.in_ok-known.ensures.answers c.in_ok-known.ensures.held c.known.ensures.survives in
-    full g.S.Store c.args.self.now c.known.new.self c.args.name c.self.inside.count found c.if-self-ge-MOST_LOADS.true
+    c.in_ok-known.field-0 (cc) c.in_ok-known.ensures.answers c.in_ok-known.ensures.held c.known.ensures.survives in
+    full g.S.Store c.args.self.now c.known.new.self c.args.name c.self.inside.count found (omega arith)
 
 -- the insertion fails
 pub invariant_of-self : goal.invariant_of-self
 invariant_of-self g c =
     let found = finds_none g.S.Store c.args.self.now c.known.new.self c.args.name c.self.inside.count c.self.inside.conn c.self.view_is c.self.invariant
-    c.in_ok-known.field-0 c.if-branch.false c.in_ok-known.ensures.answers c.in_ok-known.ensures.held c.known.ensures.survives in
+    c.in_ok-known.field-0 (cc) c.in_ok-known.ensures.answers c.in_ok-known.ensures.held c.known.ensures.survives in
     fails_counted g.S.Store c.args.self.now c.self.inside.conn c.insert_load.new.conn c.args.name c.self.inside.count found c.as_str.result.now c.as_str.ensures.text c.insert_load.ensures.survives c.in_err-insert_load.ensures.failed
 
 pub returns-in_err-insert_load-clause-failed : goal.returns-in_err-insert_load-clause-failed
 returns-in_err-insert_load-clause-failed g c clean still =
     let found = finds_none g.S.Store c.args.self.now c.known.new.self c.args.name c.self.inside.count c.self.inside.conn c.self.view_is c.self.invariant
-    c.in_ok-known.field-0 c.if-branch.false c.in_ok-known.ensures.answers c.in_ok-known.ensures.held c.known.ensures.survives in
+    c.in_ok-known.field-0 (cc) c.in_ok-known.ensures.answers c.in_ok-known.ensures.held c.known.ensures.survives in
     on_err c.from_residual-in_err-insert_load.result (fails_kept g.S.Store c.args.self.now c.self.inside.conn c.insert_load.new.conn c.args.name c.self.inside.count found c.as_str.result.now c.as_str.ensures.text c.insert_load.ensures.survives c.in_err-insert_load.ensures.failed clean still)
 
 pub returns-in_err-insert_load-clause-survives : goal.returns-in_err-insert_load-clause-survives
 returns-in_err-insert_load-clause-survives g c =
     let found = finds_none g.S.Store c.args.self.now c.known.new.self c.args.name c.self.inside.count c.self.inside.conn c.self.view_is c.self.invariant
-    c.in_ok-known.field-0 c.if-branch.false c.in_ok-known.ensures.answers c.in_ok-known.ensures.held c.known.ensures.survives in
-    survives_both g.S.Store c.args.self.now c.self.inside.conn c.insert_load.new.conn c.args.name c.self.inside.count found c.as_str.result.now c.as_str.ensures.text c.insert_load.ensures.survives c.if-self-ge-MOST_LOADS.false
+    c.in_ok-known.field-0 (cc) c.in_ok-known.ensures.answers c.in_ok-known.ensures.held c.known.ensures.survives in
+    survives_both g.S.Store c.args.self.now c.self.inside.conn c.insert_load.new.conn c.args.name c.self.inside.count found c.as_str.result.now c.as_str.ensures.text c.insert_load.ensures.survives (omega arith)
 
 -- the load is added
 pub invariant_of-self-2 : goal.invariant_of-self-2
 invariant_of-self-2 g c =
     let found = finds_none g.S.Store c.args.self.now c.known.new.self c.args.name c.self.inside.count c.self.inside.conn c.self.view_is c.self.invariant
-    c.in_ok-known.field-0 c.if-branch.false c.in_ok-known.ensures.answers c.in_ok-known.ensures.held c.known.ensures.survives in
+    c.in_ok-known.field-0 (cc) c.in_ok-known.ensures.answers c.in_ok-known.ensures.held c.known.ensures.survives in
     adds_counted g.S.Store c.args.self.now c.self.inside.conn c.insert_load.new.conn c.args.name c.self.inside.count found c.as_str.result.now c.as_str.ensures.text c.insert_load.ensures.survives c.in_ok-insert_load.ensures.added
 
 pub returns-clause-registers : goal.returns-clause-registers
 returns-clause-registers g c =
     let found = finds_none g.S.Store c.args.self.now c.known.new.self c.args.name c.self.inside.count c.self.inside.conn c.self.view_is c.self.invariant
-    c.in_ok-known.field-0 c.if-branch.false c.in_ok-known.ensures.answers c.in_ok-known.ensures.held c.known.ensures.survives in
-    registers g.S.Store c.args.self.now c.self.inside.conn c.insert_load.new.conn c.args.name c.self.inside.count found c.as_str.result.now c.as_str.ensures.text c.insert_load.ensures.survives c.in_ok-insert_load.ensures.added c.if-self-ge-MOST_LOADS.false
+    c.in_ok-known.field-0 (cc) c.in_ok-known.ensures.answers c.in_ok-known.ensures.held c.known.ensures.survives in
+    registers g.S.Store c.args.self.now c.self.inside.conn c.insert_load.new.conn c.args.name c.self.inside.count found c.as_str.result.now c.as_str.ensures.text c.insert_load.ensures.survives c.in_ok-insert_load.ensures.added (omega arith)
 
 pub returns-clause-survives : goal.returns-clause-survives
 returns-clause-survives g c =
     let found = finds_none g.S.Store c.args.self.now c.known.new.self c.args.name c.self.inside.count c.self.inside.conn c.self.view_is c.self.invariant
-    c.in_ok-known.field-0 c.if-branch.false c.in_ok-known.ensures.answers c.in_ok-known.ensures.held c.known.ensures.survives in
-    survives_both g.S.Store c.args.self.now c.self.inside.conn c.insert_load.new.conn c.args.name c.self.inside.count found c.as_str.result.now c.as_str.ensures.text c.insert_load.ensures.survives c.if-self-ge-MOST_LOADS.false
+    c.in_ok-known.field-0 (cc) c.in_ok-known.ensures.answers c.in_ok-known.ensures.held c.known.ensures.survives in
+    survives_both g.S.Store c.args.self.now c.self.inside.conn c.insert_load.new.conn c.args.name c.self.inside.count found c.as_str.result.now c.as_str.ensures.text c.insert_load.ensures.survives (omega arith)
 
 pub returns-clause-held : goal.returns-clause-held
 returns-clause-held g c clean =
