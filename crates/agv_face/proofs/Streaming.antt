@@ -105,12 +105,12 @@ answered-none holds mid then old now new calls first next loads held =
 
 -- ---- the call that lent parts are
 
-pub lent_call : (r : Request) (lent : Lent) → IsLent r lent → cond lent.is_plain (call_at lent.method.now (path_of lent.target.now) lent.body.now) None ≡ call_of r
-lent_call r lent is =
-    ap (λ (b : Bool). cond b (call_at lent.method.now (path_of lent.target.now) lent.body.now) None) is.plain
-    ∙ ap (λ (m : List ℕ). cond (is_plain r) (call_at m (path_of lent.target.now) lent.body.now) None) is.method
-    ∙ ap (λ (t : List ℕ). cond (is_plain r) (call_at r.method (path_of t) lent.body.now) None) is.target
-    ∙ ap (λ (b : List ℕ). cond (is_plain r) (call_at r.method (path_of r.target) b) None) is.body
+pub lent_call : (r : Request) (lent : Lent) (said : Option Call) → IsLent r lent → said ≡ cond lent.is_plain (call_at lent.method.now (path_of lent.target.now) lent.body.now) None → call_of r ≡ said
+lent_call r lent said is e = sym (
+  e ∙ ap (λ (b : Bool). cond b (call_at lent.method.now (path_of lent.target.now) lent.body.now) None) is.plain
+  ∙ ap (λ (m : List ℕ). cond (is_plain r) (call_at m (path_of lent.target.now) lent.body.now) None) is.method
+  ∙ ap (λ (t : List ℕ). cond (is_plain r) (call_at r.method (path_of t) lent.body.now) None) is.target
+  ∙ ap (λ (b : List ℕ). cond (is_plain r) (call_at r.method (path_of r.target) b) None) is.body)
 
 -- ---- results
 

@@ -24,7 +24,7 @@ abbrev pub load_columns : List Column
 load_columns =
     text_column true (codes "id") ∷ text_column true (codes "kind") ∷ text_column false (codes "station") ∷ text_column false (codes "manufacturer") ∷ text_column false (codes "serial") ∷ []
 
--- the table, whose primary key is the column id
+-- the table, whose primary key is the column id: the first, as columns are counted from 1 (0 is the row's number)
 abbrev pub load_table : Table
 load_table = record {
   name = codes "load";
@@ -45,7 +45,7 @@ load_table = record {
 abbrev pub no_tables : Schema
 no_tables = record { tables = []; indexes = []; views = [] }
 
--- a database with this one table
+-- a database with this one table and the index of its key
 abbrev pub load_schema : Schema
 load_schema = created no_tables load_table
 

@@ -2,7 +2,6 @@
 
 use crate::fakes::{Drip, Trickle};
 use agv_face::{Heard, LoadsFault, Stop, answer_calls, read_request, serve_loads};
-use agv_header::Refusal;
 use agv_store::Loads;
 use sqlite::{Connection, MemStore};
 use std::test::Fail;
@@ -124,23 +123,33 @@ fn other_forms(rt: HostRuntime) -> Result<(), Fail> {
     Ok(())
 }
 
+/// What a buffer shows: nothing yet, the end, a request, or the number of a refusal.
+fn shown(bytes: &[u8], ended: bool) -> Result<&'static str, u8> {
+    match read_request(bytes, ended) {
+        Heard::Need => Ok("need"),
+        Heard::End => Ok("end"),
+        Heard::Request(_) => Ok("request"),
+        Heard::Refused(refusal) => Err(refusal.number()),
+    }
+}
+
 /// The next request of a buffer, at the edges of what one may be.
 #[test]
-fn next_requests(rt: HostRuntime) -> Result<(), Fail> {
-    assert!(rt; matches!(read_request(b"POST /load", false), Heard::Need));
-    assert!(rt; matches!(read_request(b"POST /load", true), Heard::Refused(Refusal::BadHead)));
-    assert!(rt; matches!(read_request(b"", false), Heard::Need));
-    assert!(rt; matches!(read_request(b"", true), Heard::End));
-    let refused: [(&[u8], u8); 6] = [
-        (b"POST /jobs HTTP/1.1\r\n\r\n", 2),
-        (b"POST /jobs HTTP/1.1\r\nContent-Length: 65537\r\n\r\n", 3),
-        (b"POST /jobs HTTP/1.1\r\nTransfer-Encoding: chunked\r\n\r\n", 4),
-        (b"GET / HTTP/1.1\r\ncontent-length: 1\r\nContent-Length: 1\r\n\r\na", 1),
-        (b"GET / HTTP/1.1\r\nContent-Length: +1\r\n\r\na", 1),
-        (b"GET / HTTP/1.1\r\nContent-Length: 2\r\nTransfer-Encoding: x\r\n\r\na", 4),
+fn next_requests(rt: HostRuntime) {
+    let rows: [(&[u8], bool, Result<&'static str, u8>); 11] = [
+        (b"POST /load", false, Ok("need")),
+        (b"POST /load", true, Err(1)),
+        (b"", false, Ok("need")),
+        (b"", true, Ok("end")),
+        (FIRST, false, Ok("request")),
+        (b"POST /jobs HTTP/1.1\r\n\r\n", false, Err(2)),
+        (b"POST /jobs HTTP/1.1\r\nContent-Length: 65537\r\n\r\n", false, Err(3)),
+        (b"POST /jobs HTTP/1.1\r\nTransfer-Encoding: chunked\r\n\r\n", false, Err(4)),
+        (b"GET / HTTP/1.1\r\ncontent-length: 1\r\nContent-Length: 1\r\n\r\na", false, Err(1)),
+        (b"GET / HTTP/1.1\r\nContent-Length: +1\r\n\r\na", false, Err(1)),
+        (b"GET / HTTP/1.1\r\nContent-Length: 1\r\nTransfer-Encoding: x\r\n\r\na", false, Err(4)),
     ];
-    for (bytes, number) in refused {
-        assert!(rt; matches!(read_request(bytes, true), Heard::Refused(refusal) if refusal.number() == number));
+    for (bytes, ended, want) in rows {
+        assert!(rt; shown(bytes, ended) == want);
     }
-    Ok(())
 }

@@ -16,7 +16,7 @@ returns-in_default-clause-other g c is =
     let heard = c.in-Request.ensures in
     let len = c.in-Request.request.len in
     let part : c.args.buf.now ≡ take len c.args.buf.now ++ drop len c.args.buf.now = sym (take-append-drop len c.args.buf.now) in
-    let none = sym (lent_call heard.2 c.in-Request.request heard.4) ∙ sym c.in_ok-call-in-Request.ensures ∙ c.in_default.is in (
+    let none = lent_call heard.2 c.in-Request.request c.in_ok-call-in-Request.field-0 heard.4 c.in_ok-call-in-Request.ensures ∙ c.in_default.is in (
       λ more follows. inr (
         take len c.args.buf.now,
         drop len c.args.buf.now ++ more,
@@ -32,5 +32,5 @@ pub returns-in_ok-answer_call-in-Request-clause-answered :
     goal.returns-in_ok-answer_call-in-Request-clause-answered
 returns-in_ok-answer_call-in-Request-clause-answered g c =
     let heard = c.in-Request.ensures in
-    let call = sym (lent_call heard.2 c.in-Request.request heard.4) ∙ sym c.in_ok-call-in-Request.ensures ∙ c.in-Some.is in
+    let call = lent_call heard.2 c.in-Request.request c.in_ok-call-in-Request.field-0 heard.4 c.in_ok-call-in-Request.ensures ∙ c.in-Some.is in
     (c.in-Some.call ∷ [], (c.in-Some.call, refl, (heard.0, heard.1, heard.2, heard.3, call)), λ clean. c.in_ok-answer_call-in-Request.ensures.answered clean)
