@@ -10,6 +10,7 @@
 #![tactic(auto)]
 
 mod fault;
+pub mod laws;
 mod loads;
 mod statements;
 

@@ -7,17 +7,22 @@ use sqlite::{Connection, MemStore};
 use std::test::Fail;
 
 /// Registers L1, then asks where it stands.
-const FIRST: &[u8] = b"POST /loads HTTP/1.1\r\nContent-Length: 13\r\n\r\n{\"load\":\"L1\"}GET /loads/L1 HTTP/1.1\r\n\r\n";
+const FIRST: &[u8] =
+    b"POST /loads HTTP/1.1\r\nContent-Length: 13\r\n\r\n{\"load\":\"L1\"}GET /loads/L1 HTTP/1.1\r\n\r\n";
 
-const DONE: &[u8] = b"HTTP/1.1 200 OK\r\nContent-Length: 2\r\nContent-Type: application/json\r\n\r\n{}";
+const DONE: &[u8] =
+    b"HTTP/1.1 200 OK\r\nContent-Length: 2\r\nContent-Type: application/json\r\n\r\n{}";
 
 /// The answers to `FIRST`.
-const FIRST_ANSWERS: &[u8] = b"HTTP/1.1 200 OK\r\nContent-Length: 2\r\nContent-Type: application/json\r\n\r\n{}HTTP/1.1 200 OK\r\nContent-Length: 43\r\nContent-Type: application/json\r\n\r\n{\"job\":null,\"load\":\"L1\",\"place\":\"checking\"}";
+const FIRST_ANSWERS: &[u8] =
+    b"HTTP/1.1 200 OK\r\nContent-Length: 2\r\nContent-Type: application/json\r\n\r\n{}HTTP/1.1 200 OK\r\nContent-Length: 43\r\nContent-Type: application/json\r\n\r\n{\"job\":null,\"load\":\"L1\",\"place\":\"checking\"}";
 
 /// Registers L1 again, asks where it stands, and asks for a load that isn't there.
-const AGAIN: &[u8] = b"POST /loads HTTP/1.1\r\nContent-Length: 13\r\n\r\n{\"load\":\"L1\"}GET /loads/L1?x=1 HTTP/1.1\r\nHost: desk\r\n\r\nGET /loads/L9 HTTP/1.1\r\n\r\n";
+const AGAIN: &[u8] =
+    b"POST /loads HTTP/1.1\r\nContent-Length: 13\r\n\r\n{\"load\":\"L1\"}GET /loads/L1?x=1 HTTP/1.1\r\nHost: desk\r\n\r\nGET /loads/L9 HTTP/1.1\r\n\r\n";
 
-const AGAIN_ANSWERS: &[u8] = b"HTTP/1.1 409 Conflict\r\nContent-Length: 30\r\nContent-Type: application/json\r\n\r\n{\"name\":\"Exists\",\"refusal\":30}HTTP/1.1 200 OK\r\nContent-Length: 43\r\nContent-Type: application/json\r\n\r\n{\"job\":null,\"load\":\"L1\",\"place\":\"checking\"}HTTP/1.1 404 Not Found\r\nContent-Length: 30\r\nContent-Type: application/json\r\n\r\n{\"name\":\"NoLoad\",\"refusal\":23}";
+const AGAIN_ANSWERS: &[u8] =
+    b"HTTP/1.1 409 Conflict\r\nContent-Length: 30\r\nContent-Type: application/json\r\n\r\n{\"name\":\"Exists\",\"refusal\":30}HTTP/1.1 200 OK\r\nContent-Length: 43\r\nContent-Type: application/json\r\n\r\n{\"job\":null,\"load\":\"L1\",\"place\":\"checking\"}HTTP/1.1 404 Not Found\r\nContent-Length: 30\r\nContent-Type: application/json\r\n\r\n{\"name\":\"NoLoad\",\"refusal\":23}";
 
 fn no_loads(rt: &HostRuntime) -> Result<Loads<MemStore>, Fail> {
     Ok(Loads::create(Connection::open_in_memory(rt.alloc())?)?)
@@ -114,10 +119,14 @@ fn other_forms(rt: HostRuntime) -> Result<(), Fail> {
         input.extend_from_slice(other)?;
         let mut reader = input.as_slice();
         let mut out = Vec::new(rt.alloc());
-        assert!(rt; answer_calls(rt.alloc(), &mut loads, &mut reader, &mut out) == Err(Stop::Other));
+        assert!(rt;
+            answer_calls(rt.alloc(), &mut loads, &mut reader, &mut out) == Err(Stop::Other)
+        );
         assert!(rt; out.as_slice() == FIRST_ANSWERS);
         let mut reader = other;
-        assert!(rt; serve_loads(rt.alloc(), &mut loads, &mut reader, &mut out) == Err(LoadsFault::Read));
+        assert!(rt;
+            serve_loads(rt.alloc(), &mut loads, &mut reader, &mut out) == Err(LoadsFault::Read)
+        );
         assert!(rt; out.as_slice() == FIRST_ANSWERS);
     }
     Ok(())
@@ -143,11 +152,31 @@ fn next_requests(rt: HostRuntime) {
         (b"", true, Ok("end")),
         (FIRST, false, Ok("request")),
         (b"POST /jobs HTTP/1.1\r\n\r\n", false, Err(2)),
-        (b"POST /jobs HTTP/1.1\r\nContent-Length: 65537\r\n\r\n", false, Err(3)),
-        (b"POST /jobs HTTP/1.1\r\nTransfer-Encoding: chunked\r\n\r\n", false, Err(4)),
-        (b"GET / HTTP/1.1\r\ncontent-length: 1\r\nContent-Length: 1\r\n\r\na", false, Err(1)),
-        (b"GET / HTTP/1.1\r\nContent-Length: +1\r\n\r\na", false, Err(1)),
-        (b"GET / HTTP/1.1\r\nContent-Length: 1\r\nTransfer-Encoding: x\r\n\r\na", false, Err(4)),
+        (
+            b"POST /jobs HTTP/1.1\r\nContent-Length: 65537\r\n\r\n",
+            false,
+            Err(3),
+        ),
+        (
+            b"POST /jobs HTTP/1.1\r\nTransfer-Encoding: chunked\r\n\r\n",
+            false,
+            Err(4),
+        ),
+        (
+            b"GET / HTTP/1.1\r\ncontent-length: 1\r\nContent-Length: 1\r\n\r\na",
+            false,
+            Err(1),
+        ),
+        (
+            b"GET / HTTP/1.1\r\nContent-Length: +1\r\n\r\na",
+            false,
+            Err(1),
+        ),
+        (
+            b"GET / HTTP/1.1\r\nContent-Length: 1\r\nTransfer-Encoding: x\r\n\r\na",
+            false,
+            Err(4),
+        ),
     ];
     for (bytes, ended, want) in rows {
         assert!(rt; shown(bytes, ended) == want);
