@@ -7,9 +7,8 @@ use Rattle.std.proofs.lemmas.List.{map-append}
 use Rattle.agv_header.specs.declared.refusal.Refusal.{Refusal}
 use Rattle.agv_face.specs.declared.call.Call.{Call}
 use Rattle.agv_face.specs.Lines.{same_word, values_of, has_line}
-use Rattle.agv_face.specs.Requests.{Request, IsRequest, IsFault, is_last, elements_of}
+use Rattle.agv_face.specs.Requests.{Request, IsRequest, IsFault, is_last, is_plain, elements_of}
 use Rattle.agv_face.specs.Cut.{Cut, at_end, faulty, no_more, a_fault, one_more}
-use Rattle.agv_face.specs.Heard.{is_plain}
 use Rattle.agv_face.specs.Calls.{call_of, call_at, path_of}
 use Rattle.agv_face.specs.Asked.{Asks}
 use Rattle.agv_face.proofs.Values.{values_of-absent}

@@ -1,11 +1,11 @@
 -- An input is cut in one way.
-use Rattle.std.proofs.Common.{◌≡◌, ◌<◌, ◌+◌, ℕ, List, [], ◌∷◌, ◌++◌, true, false, length, take, Result, Ok, Err, refl, sym, ap, ap₂, ◌∙◌, subst, arith, inl, inr, append_assoc, length-append}
+use Rattle.std.proofs.Common.{◌≡◌, ◌<◌, ◌+◌, ℕ, List, [], ◌∷◌, ◌++◌, true, false, length, take, Result, Ok, Err, refl, sym, ap, ap₂, ◌∙◌, subst, arith, inl, inr, append_assoc, append-nil, length-append}
 use Rattle.std.proofs.lemmas.List.{append_cancel_left}
 use Rattle.std.proofs.Math.Seq.{take-append_seam}
 use Rattle.httparse.specs.Grammar.{RequestHead, print_request}
 use Rattle.httparse.proofs.GrammarLemmas.{request_unique}
 use Rattle.agv_header.specs.declared.refusal.Refusal.{Refusal}
-use Rattle.agv_face.specs.Requests.{Request, BeginsWith, IsRequest, IsFault, request_of, lines_of, body_length, is_last}
+use Rattle.agv_face.specs.Requests.{Request, BeginsWith, IsRequest, IsFault, request_of, lines_of, body_length, is_last, BeginsWithNoRequest}
 use Rattle.agv_face.specs.Cut.{Cut, Ending, faulty, no_more, a_fault, the_last, one_more}
 
 -- ---- heads
@@ -82,6 +82,13 @@ no_fault bytes p r x f is one fault =
           let short : length cut.1 < cut.2 = cut.5 in
           omega arith
     ]
+
+-- where the bytes are a fault even if none follow, no request is whole
+pub no_request_yet : (buf : List ℕ) (f : Refusal) → IsFault (buf ++ []) f → BeginsWithNoRequest buf
+no_request_yet buf f fault part rest x is one = no_fault (buf ++ []) part rest x f (append-nil buf ∙ is) one fault
+
+pub no_request_in_none : (buf : List ℕ) → buf ≡ [] → BeginsWithNoRequest buf
+no_request_in_none buf nil part rest x is one = not_empty buf part rest x is one nil
 
 -- ---- one fault
 

@@ -1,5 +1,5 @@
 -- A head at the front of a buffer, and no head there, whatever bytes follow.
-use Rattle.std.proofs.Common.{◌≡◌, ◌≤◌, ◌<◌, ℕ, ◌+◌, min, List, [], ◌++◌, length, take, drop, map, nat_eq, Bool, false, refl, sym, ap, ap₂, ◌∙◌, subst, arith, inl, inr, append_assoc, append-nil, take-append-drop, length-append, Ok, Err}
+use Rattle.std.proofs.Common.{◌≡◌, ◌≤◌, ◌<◌, ℕ, ◌+◌, min, List, [], ◌∷◌, ◌++◌, true, length, take, drop, map, nat_eq, Bool, false, refl, sym, ap, ap₂, ◌∙◌, subst, arith, inl, inr, append_assoc, append-nil, take-append-drop, length-append, Ok, Err}
 use Rattle.std.proofs.lemmas.List.{take-append-le, length-take, length-map}
 use Rattle.std.proofs.Math.Seq.{take-append_seam, take-add}
 use Rattle.std.proofs.lemmas.Bool.Decides.{nat_tests}
@@ -127,3 +127,10 @@ some_left b l is none = grind (arith, nat_tests)
 
 pub len_fits : (buf front : List ℕ) (n : ℕ) → front ≡ take 8192 buf → n ≤ length front → (n ≤ length buf) × (n ≤ 8192)
 len_fits buf front n is fits = let size : length front ≡ min 8192 (length buf) = ap length is ∙ length-take 8192 buf in (omega arith, omega arith)
+
+pub none_left : (b : Bool) (l : List ℕ) → b ≡ nat_eq (length l) 0 → b ≡ true → length l ≡ 0
+none_left b l is none = grind (arith, nat_tests)
+
+pub no_bytes : (l : List ℕ) → length l ≡ 0 → l ≡ []
+no_bytes [] none = refl
+no_bytes (b ∷ l) none = absurd (omega arith)

@@ -1,17 +1,17 @@
 -- A stream, one step after another.
-use Rattle.std.proofs.Common.{◌≡◌, ℕ, List, [], ◌∷◌, ◌++◌, true, false, Bool, not, cond, take, drop, Option, Some, None, IfErr, IsErrAnd, Result, Ok, Err, refl, sym, ap, ap₂, ◌∙◌, subst, inl, inr, append_assoc, append-nil, take-append-drop}
+use Rattle.std.proofs.Common.{◌≡◌, ℕ, List, [], ◌∷◌, ◌++◌, true, false, Bool, not, cond, take, drop, Option, Some, None, IfSome, IfErr, IsErrAnd, Result, Ok, Err, refl, sym, ap, ap₂, ◌∙◌, subst, inl, inr, append_assoc, append-nil, take-append-drop}
 use Rattle.std.specs.Io.KnownBytes.{Appends, Consumes, IsAtEnd}
 use Rattle.std.proofs.KnownBytes.{Appends-trans, Appends-nil}
 use Rattle.agv_store.specs.Registered.{Registered}
 use Rattle.agv_face.specs.declared.call.Call.{Call}
-use Rattle.agv_face.specs.Requests.{Request}
+use Rattle.agv_face.specs.Requests.{Request, is_plain}
 use Rattle.agv_face.specs.Calls.{call_of, call_at, path_of}
 use Rattle.agv_face.specs.declared.request.Lent.{Lent}
-use Rattle.agv_face.specs.Asked.{Asks}
+use Rattle.agv_face.specs.Asked.{Asks, AsksFirst, AsksUpToOther, BeginsWithNoCall}
 use Rattle.agv_face.specs.Answers.{answer_bytes}
-use Rattle.agv_face.specs.Served.{said, after, after_all, output, IsAnswered, AsksAll, AsksFirst, AsksOtherwise}
-use Rattle.agv_face.specs.Heard.{Follows, IsLent, is_plain}
-use Rattle.agv_face.specs.Stepped.{IsNextCall, IsOther, BeginsOtherwise}
+use Rattle.agv_face.specs.Served.{said, after, after_all, output, IsAnswered, IsOneCallOn, IsCutShort}
+use Rattle.agv_face.specs.Heard.{Follows, IsLent}
+use Rattle.agv_face.specs.Stepped.{IsNextCall, IsOther}
 use Rattle.agv_face.proofs.Asking.{asks-nil, asks-append, asks-rest, asks-fault, asks-other}
 
 -- the input is a front that asks these calls, the buffer, and what the reader has left
@@ -48,7 +48,7 @@ after_call (Some input) (Some left) ended buf len calls c come next =
     (come.0 ++ take len buf, come.1 ∙ here, asks-append come.0 (take len buf) calls next.2 c come.2 next.3 next.4, come.3)
 
 -- the end of the input
-pub at_the_end : (input left : Option (List ℕ)) (ended : Bool) (buf : List ℕ) (calls : List Call) → HasCome input left ended buf calls → ended ≡ true → buf ≡ [] → AsksAll input calls
+pub at_the_end : (input left : Option (List ℕ)) (ended : Bool) (buf : List ℕ) (calls : List Call) → HasCome input left ended buf calls → ended ≡ true → buf ≡ [] → IfSome input (λ bytes. Asks bytes calls)
 at_the_end None left ended buf calls come is nil = tt
 at_the_end (Some input) None ended buf calls come is nil = absurd come
 at_the_end (Some input) (Some left) ended buf calls come is nil =
@@ -56,23 +56,26 @@ at_the_end (Some input) (Some left) ended buf calls come is nil =
     subst P (sym (come.1 ∙ ap₂ (λ (a b : List ℕ). come.0 ++ (a ++ b)) nil (come.3 is) ∙ append-nil come.0)) come.2
 
 -- the input so far
-pub so_far : (input left : Option (List ℕ)) (ended : Bool) (buf : List ℕ) (calls : List Call) → HasCome input left ended buf calls → AsksFirst input calls
+pub so_far : (input left : Option (List ℕ)) (ended : Bool) (buf : List ℕ) (calls : List Call) → HasCome input left ended buf calls → IfSome input (λ bytes. AsksFirst bytes calls)
 so_far None left ended buf calls come = tt
 so_far (Some input) None ended buf calls come = absurd come
 so_far (Some input) (Some left) ended buf calls come = (come.0, buf ++ left, come.1, come.2)
 
 -- no call is next
-asks_none : (bytes : List ℕ) (calls : List Call) → BeginsOtherwise bytes → Asks bytes calls → ⊥
+asks_none : (bytes : List ℕ) (calls : List Call) → BeginsWithNoCall bytes → Asks bytes calls → ⊥
 asks_none bytes calls (inl fault) asks = asks-fault bytes fault.0 calls fault.1 asks
 asks_none bytes calls (inr other) asks = asks-other bytes other.0 other.1 other.2 calls other.3 other.4 other.5 asks
 
-pub otherwise : (input left : Option (List ℕ)) (ended : Bool) (buf : List ℕ) (calls : List Call) → HasCome input left ended buf calls → IsOther buf ended → AsksOtherwise input
-otherwise None left ended buf calls come other = tt
-otherwise (Some input) None ended buf calls come other = absurd come
-otherwise (Some input) (Some left) ended buf calls come other = λ all asks.
-    let P : List ℕ → Type 0 = λ l. Asks l all in
-    let more = asks-rest come.0 (buf ++ left) calls all come.2 (subst P come.1 asks) in
-    asks_none (buf ++ left) more.0 (other left come.3) more.1
+pub no_list_before_other : (input : List ℕ) (calls others : List Call) → AsksUpToOther input calls → Asks input others → ⊥
+no_list_before_other input calls others up_to asks =
+    let P : List ℕ → Type 0 = λ l. Asks l others in
+    let more = asks-rest up_to.0 up_to.1 calls others up_to.3 (subst P up_to.2 asks) in
+    asks_none up_to.1 more.0 up_to.4 more.1
+
+pub at_other : (input left : Option (List ℕ)) (ended : Bool) (buf : List ℕ) (calls : List Call) → HasCome input left ended buf calls → IsOther buf ended → IfSome input (λ bytes. AsksUpToOther bytes calls)
+at_other None left ended buf calls come other = tt
+at_other (Some input) None ended buf calls come other = absurd come
+at_other (Some input) (Some left) ended buf calls come other = (come.0, buf ++ left, come.1, come.2, other left come.3)
 
 -- ---- answers
 
@@ -103,14 +106,25 @@ answered-none holds mid then old now new calls first next loads held =
     let Wrote : List ℕ → Type 0 = λ l. Appends old new l in
     (subst Wrote (append-nil (output loads calls)) (Appends-trans old now new _ _ before.0 after_none.0), after_none.1)
 
+-- a fault behind calls
+pub cut_short : (holds mid then : Registered → Type 0) (old now new : Option (List ℕ)) (calls : List Call) → IsAnswered holds mid old now calls → new ≡ now → IsOneCallOn mid then → IsCutShort holds then old new calls
+cut_short holds mid then old now new calls first same next loads held =
+    let before = first loads held in
+    let Wrote : Option (List ℕ) → Type 0 = λ o. Appends old o (output loads calls) in
+    (subst Wrote (sym same) before.0, next (after_all loads calls) before.1)
+
+-- a fault that leaves the loads
+pub no_call_on : (holds : Registered → Type 0) → IsOneCallOn holds holds
+no_call_on holds loads held = inl held
+
 -- ---- the call that lent parts are
 
-pub lent_call : (r : Request) (lent : Lent) (said : Option Call) → IsLent r lent → said ≡ cond lent.is_plain (call_at lent.method.now (path_of lent.target.now) lent.body.now) None → call_of r ≡ said
-lent_call r lent said is e = sym (
-  e ∙ ap (λ (b : Bool). cond b (call_at lent.method.now (path_of lent.target.now) lent.body.now) None) is.plain
-  ∙ ap (λ (m : List ℕ). cond (is_plain r) (call_at m (path_of lent.target.now) lent.body.now) None) is.method
-  ∙ ap (λ (t : List ℕ). cond (is_plain r) (call_at r.method (path_of t) lent.body.now) None) is.target
-  ∙ ap (λ (b : List ℕ). cond (is_plain r) (call_at r.method (path_of r.target) b) None) is.body)
+pub lent_call : (r : Request) (lent : Lent) (found : Option Call) → IsLent r lent → found ≡ cond lent.is_plain (call_at lent.method.now (path_of lent.target.now) lent.body.now) None → call_of r ≡ found
+lent_call r lent found is e = sym (
+    e ∙ ap (λ (b : Bool). cond b (call_at lent.method.now (path_of lent.target.now) lent.body.now) None) is.plain
+    ∙ ap (λ (m : List ℕ). cond (is_plain r) (call_at m (path_of lent.target.now) lent.body.now) None) is.method
+    ∙ ap (λ (t : List ℕ). cond (is_plain r) (call_at r.method (path_of t) lent.body.now) None) is.target
+    ∙ ap (λ (b : List ℕ). cond (is_plain r) (call_at r.method (path_of r.target) b) None) is.body)
 
 -- ---- results
 
@@ -118,3 +132,8 @@ lent_call r lent said is e = sym (
 pub of_err : {T E : Type 0} (result : Result T E) (stop : E) (P : E → Type 0) → IsErrAnd result (λ e. e ≡ stop) → P stop → IfErr result P
 of_err (Ok value) stop P is holds = absurd is
 of_err (Err e) stop P is holds = subst P (sym is) holds
+
+-- what holds of every error holds of the result
+pub of_any : {T E : Type 0} (result : Result T E) (P : E → Type 0) → ((e : E) → P e) → IfErr result P
+of_any (Ok value) P holds = tt
+of_any (Err e) P holds = holds e

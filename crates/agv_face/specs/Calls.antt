@@ -1,5 +1,5 @@
 -- Which call of the desk a request is.
-use Rattle.std.specs.Prelude.{ℕ, suc, ◌==◌, ◌&&◌, List, nat_eq, if◌then◌else◌, codes, drop, Option, Some, None, option_and_then, nat_eq}
+use Rattle.std.specs.Prelude.{ℕ, suc, ◌==◌, ◌&&◌, List, nat_eq, if◌then◌else◌, codes, drop, Option, Some, None, option_and_then}
 use Rattle.std.specs.List.{before_first, starts_with}
 use Rattle.std.specs.Str.{bytes_eq, is_utf8}
 use Rattle.serde_json.specs.Data.{Data, null, boolean, number, string, array, object, Members, no_members, member}
@@ -8,8 +8,7 @@ use Rattle.serde_json.specs.Find.{get, as_str}
 use Rattle.agv_header.specs.Name.{is_name}
 use Rattle.agv_face.specs.declared.call.Call.{Call}
 use Rattle.agv_face.specs.declared.call.Call.TheVariants as call
-use Rattle.agv_face.specs.Requests.{Request}
-use Rattle.agv_face.specs.Heard.{is_plain}
+use Rattle.agv_face.specs.Requests.{Request, is_plain}
 
 abbrev pub question_mark : ℕ
 question_mark = 63

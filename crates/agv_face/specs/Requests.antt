@@ -1,5 +1,5 @@
 -- A request, and how its head says where it ends (RFC 9112, sections 2, 3 and 6, with this project's limits).
-use Rattle.std.specs.Prelude.{◌≡◌, ◌==◌, ℕ, ◌<◌, ◌≤◌, ◌||◌, ◌⊎◌, Bool, List, length, map, nat_lt, if◌then◌else◌, codes, Result, Ok, Err}
+use Rattle.std.specs.Prelude.{◌≡◌, ◌++◌, ◌==◌, ℕ, ◌<◌, ◌≤◌, ◌||◌, ◌&&◌, ◌⊎◌, not, Bool, List, length, map, nat_lt, if◌then◌else◌, codes, Result, Ok, Err}
 use Rattle.std.specs.List.{list_any, slice_split}
 use Rattle.std.specs.Str.{bytes_eq}
 use Rattle.httparse.specs.Grammar.{RequestHead, ReadsRequest, print_request, trim_ows}
@@ -39,7 +39,7 @@ lines_of head = map name_and_value head.fields
 abbrev pub sends_body : List ℕ → Bool
 sends_body method = bytes_eq method (codes "PUT") || bytes_eq method (codes "POST")
 
--- what is said of the length, as a length: a wrong one is met first, then a transfer coding, then a missing or too large one
+-- the length of the body, from what the lines say: a wrong one is met first, then a transfer coding, then a missing or too large one
 abbrev pub length_needed : Bool → List ℕ → Length → Result ℕ Refusal
 length_needed coded method wrong = Err refusal.BadHead
 length_needed coded method unsaid = if coded then Err refusal.Coding else (if sends_body method then Err refusal.NoLength else Ok 0)
@@ -71,6 +71,17 @@ comma = 44
 abbrev pub elements_of : List ℕ → List (List ℕ)
 elements_of value = map trim_ows (slice_split (λ b. b == comma) value)
 
--- the request is the last of its stream: HTTP/1.0, or an element `close` of a Connection line
+-- the request is the last of its stream: HTTP/1.0, or an element `close` of a Connection line (RFC 9112, section 9.6; RFC 9110, section 7.6.1)
 abbrev pub is_last : Request → Bool
 is_last request = request.minor == 0 || list_any (λ value. list_any (same_word (codes "close")) (elements_of value)) (values_of (codes "connection") request.lines)
+
+-- HTTP/1.1, with no Connection line
+abbrev pub is_plain_head : ℕ → List Line → Bool
+is_plain_head minor lines = minor == 1 && not (has_line (codes "connection") lines)
+
+abbrev pub is_plain : Request → Bool
+is_plain request = is_plain_head request.minor request.lines
+
+-- no request, head and body, stands at the front of the bytes
+abbrev pub BeginsWithNoRequest : List ℕ → Type 0
+BeginsWithNoRequest bytes = (part : List ℕ) (rest : List ℕ) (request : Request) → bytes ≡ part ++ rest → IsRequest part request → ⊥

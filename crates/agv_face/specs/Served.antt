@@ -1,5 +1,5 @@
 -- What the desk answers to calls, and what they make of the registered loads.
-use Rattle.std.specs.Prelude.{◌≡◌, ℕ, ◌++◌, Bool, List, [], ◌∷◌, Option, IfSome, Result, Ok, Err, if◌then◌else◌}
+use Rattle.std.specs.Prelude.{ℕ, ◌++◌, ◌⊎◌, Bool, List, [], ◌∷◌, Option, Result, Ok, Err, if◌then◌else◌}
 use Rattle.std.specs.FinSet as set
 use Rattle.std.specs.Io.KnownBytes.{Appends}
 use Rattle.agv_header.specs.declared.refusal.Refusal.{Refusal}
@@ -10,7 +10,6 @@ use Rattle.agv_face.specs.declared.answer.Answer.TheVariants as answer
 use Rattle.agv_face.specs.declared.call.Call.{Call}
 use Rattle.agv_face.specs.declared.call.Call.TheVariants as call
 use Rattle.agv_face.specs.Answers.{answer_bytes}
-use Rattle.agv_face.specs.Asked.{Asks}
 
 -- a registration, as an answer
 abbrev pub registration_answer : Result (Unit {0}) Refusal → Answer
@@ -45,14 +44,11 @@ output loads (c ∷ calls) = answer_bytes (said loads c) ++ output (after loads 
 abbrev pub IsAnswered : (Registered → Type 0) → (Registered → Type 0) → Option (List ℕ) → Option (List ℕ) → List Call → Type 0
 IsAnswered holds holds_then old new calls = (loads : Registered) → holds loads → Appends old new (output loads calls) × holds_then (after_all loads calls)
 
--- the input, where it is known, asks just these calls
-abbrev pub AsksAll : Option (List ℕ) → List Call → Type 0
-AsksAll input calls = IfSome input (λ bytes. Asks bytes calls)
+-- the loads are as they were, or those after one call
+abbrev pub IsOneCallOn : (Registered → Type 0) → (Registered → Type 0) → Type 0
+IsOneCallOn holds holds_then = (loads : Registered) → holds loads → holds_then loads ⊎ ((call : Call) × holds_then (after loads call))
 
--- the input, where it is known, begins with requests that are these calls
-abbrev pub AsksFirst : Option (List ℕ) → List Call → Type 0
-AsksFirst input calls = IfSome input (λ bytes. (front : List ℕ) × (rest : List ℕ) × (bytes ≡ front ++ rest) × Asks front calls)
-
--- the input, where it is known, is no list of calls
-abbrev pub AsksOtherwise : Option (List ℕ) → Type 0
-AsksOtherwise input = IfSome input (λ bytes. (calls : List Call) → Asks bytes calls → ⊥)
+-- the answers to the calls are written, and nothing else; the loads are those after the calls, or after one call more, whose answer isn't written
+abbrev pub IsCutShort : (Registered → Type 0) → (Registered → Type 0) → Option (List ℕ) → Option (List ℕ) → List Call → Type 0
+IsCutShort holds holds_then old new calls =
+    (loads : Registered) → holds loads → Appends old new (output loads calls) × (holds_then (after_all loads calls) ⊎ ((call : Call) × holds_then (after (after_all loads calls) call)))

@@ -4,7 +4,7 @@ ghost use Rattle.std.specs.Prelude.{◌≡◌, ℕ, List};
 ghost use Rattle.agv_face.specs.declared.call.Call.{Call};
 ghost use Rattle.agv_face.specs.Requests.{Request};
 ghost use Rattle.agv_face.specs.Cut.{Cut, Ending};
-ghost use Rattle.agv_face.specs.Asked.{Asks};
+ghost use Rattle.agv_face.specs.Asked.{Asks, AsksUpToOther};
 
 /// An input is cut into requests in one way, and ends in one way.
 pub fn is_cut_one_way()
@@ -15,4 +15,9 @@ pub fn is_cut_one_way()
 /// An input asks one list of calls, or is no list of calls.
 pub fn asks_one_list()
     ensures { (input : List ℕ) (calls others : List Call) → Asks input calls → Asks input others → calls ≡ others }
+{}
+
+/// An input with what is no call behind some calls is no list of calls.
+pub fn asks_no_list_before_other()
+    ensures { (input : List ℕ) (calls others : List Call) → AsksUpToOther input calls → Asks input others → ⊥ }
 {}

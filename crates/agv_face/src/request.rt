@@ -2,9 +2,9 @@
 ghost use Rattle.std.specs.Prelude.{◌≡◌, ◌≤◌, ◌<◌, ℕ, List, All, Bool, length, take, map, IfOk, min};
 ghost use Rattle.httparse.specs.Spans.{IsHeaderWithin, header_bytes, IsRequestWithin, IsRequestOf};
 ghost use Rattle.agv_face.specs.Lines.{Length};
-ghost use Rattle.agv_face.specs.Requests.{sends_body, length_needed, body_length};
+ghost use Rattle.agv_face.specs.Requests.{sends_body, length_needed, body_length, is_plain_head};
 ghost use Rattle.agv_face.specs.Found.{said_as};
-ghost use Rattle.agv_face.specs.Heard.{IsHeard, is_plain_head};
+ghost use Rattle.agv_face.specs.Heard.{IsHeard};
 
 use crate::lines::{Said, is_there, said_length};
 use agv_header::Refusal;

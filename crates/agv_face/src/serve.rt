@@ -1,8 +1,9 @@
 //! The stream of the registered loads.
-ghost use Rattle.std.specs.Prelude.{◌≡◌, ℕ, List, length, IfOk, IfErr};
-ghost use Rattle.agv_store.specs.HeldLoads.{IsClean, HoldsLoads};
+ghost use Rattle.std.specs.Prelude.{◌≡◌, ◌⊎◌, List, length, IfOk, IfErr, IfSome};
+ghost use Rattle.agv_store.specs.HeldLoads.{IsClean, IsOpen, HoldsLoads};
 ghost use Rattle.agv_face.specs.declared.call.Call.{Call};
-ghost use Rattle.agv_face.specs.Served.{IsAnswered, AsksAll, AsksFirst};
+ghost use Rattle.agv_face.specs.Asked.{Asks, AsksFirst};
+ghost use Rattle.agv_face.specs.Served.{IsAnswered, IsCutShort};
 
 use crate::stream::{Stop, answer_calls};
 use agv_store::Loads;
@@ -13,7 +14,7 @@ use std::io::{Read, Write};
 /// Why a stream was left before its end.
 #[derive(Clone, Copy, Debug, PartialEq, Eq)]
 pub enum LoadsFault {
-    /// The reader failed, or gave what is no call.
+    /// The reader failed, gave what is no call, or needed more than 16,777,216 reads.
     Read,
     /// The writer failed, or took no byte.
     Write,
@@ -38,13 +39,18 @@ pub fn serve_loads<S: Alter + Drop, R: Read, W: Write>(
 ) -> Result<u64, LoadsFault>
     ensures clean { IsClean S.Store loads.new → IsClean S.Store loads.old }
 
-    // The input is a list of calls, and the answers to these calls are written.
-    ensures answered { IfOk result (λ n. (calls : List Call) × (n ≡ length calls) × AsksAll (R.remaining reader.old) calls
+    // The input is some calls and no byte more, and they are answered.
+    ensures answered { IfOk result (λ n. (calls : List Call) × (n ≡ length calls) × IfSome (R.remaining reader.old) (λ input. Asks input calls)
         × (IsClean S.Store loads.new → IsAnswered (HoldsLoads S.Store loads.old) (HoldsLoads S.Store loads.new) (W.contents writer.old) (W.contents writer.new) calls)) }
 
-    // The input begins with some calls, and the answers to these are written, and no more.
-    ensures so_far { IfErr result (λ fault. fault ≡ LoadsFault.Read → (calls : List Call) × AsksFirst (R.remaining reader.old) calls
+    // The input begins with some calls; those are answered, and nothing more is written.
+    ensures so_far { IfErr result (λ fault. fault ≡ LoadsFault.Read → (calls : List Call) × IfSome (R.remaining reader.old) (λ input. AsksFirst input calls)
         × (IsClean S.Store loads.new → IsAnswered (HoldsLoads S.Store loads.old) (HoldsLoads S.Store loads.new) (W.contents writer.old) (W.contents writer.new) calls)) }
+
+    // The same, but one call more may be carried out.
+    ensures faulted { IfErr result (λ fault. (fault ≡ LoadsFault.Memory) ⊎ (fault ≡ LoadsFault.Storage) → (calls : List Call) × IfSome (R.remaining reader.old) (λ input. AsksFirst input calls)
+        × (IsClean S.Store loads.new → IsOpen S.Store loads.new
+        → IsCutShort (HoldsLoads S.Store loads.old) (HoldsLoads S.Store loads.new) (W.contents writer.old) (W.contents writer.new) calls)) }
 {
     match answer_calls(alloc, loads, reader, writer) {
         Ok(answers) => Ok(answers),

@@ -1,10 +1,11 @@
 //! A stream of requests, answered one after another.
-ghost use Rattle.std.specs.Prelude.{◌≡◌, ◌≢◌, ◌≤◌, ◌⊎◌, ◌+◌, ℕ, List, [], ◌∷◌, ◌++◌, length, take, drop, vec_len, vec_capacity, false, IfOk, IfErr, OnOk, OnErr};
+ghost use Rattle.std.specs.Prelude.{◌≡◌, ◌≢◌, ◌≤◌, ◌⊎◌, ◌+◌, ℕ, List, [], ◌∷◌, ◌++◌, length, take, drop, vec_len, vec_capacity, false, IfOk, IfErr, IfSome, OnOk, OnErr};
 ghost use Rattle.std.specs.Io.KnownBytes.{Appends, Consumes, IsAtEnd, Keeps};
-ghost use Rattle.agv_store.specs.HeldLoads.{IsClean, HoldsLoads};
+ghost use Rattle.agv_store.specs.HeldLoads.{IsClean, IsOpen, HoldsLoads, KeepsLoads};
 ghost use Rattle.agv_store.specs.Registered.{Registered};
 ghost use Rattle.agv_face.specs.declared.call.Call.{Call};
-ghost use Rattle.agv_face.specs.Served.{said, after, registration_answer, place_answer, IsAnswered, AsksAll, AsksFirst, AsksOtherwise};
+ghost use Rattle.agv_face.specs.Asked.{Asks, AsksFirst, AsksUpToOther};
+ghost use Rattle.agv_face.specs.Served.{said, after, registration_answer, place_answer, IsAnswered, IsOneCallOn, IsCutShort};
 ghost use Rattle.agv_face.specs.Stepped.{IsStep, IsOther};
 
 use crate::answer::{Answer, answer_bytes};
@@ -141,6 +142,7 @@ fn carry_out<S: Alter + Drop>(loads: &mut Loads<S>, call: Call) -> Result<Answer
     ensures clean { IsClean S.Store loads.new → IsClean S.Store loads.old }
     ensures carried { IsClean S.Store loads.new → IfOk result (λ answer. (known : Registered) → HoldsLoads S.Store loads.old known
         → (answer ≡ said known call) × HoldsLoads S.Store loads.new (after known call)) }
+    ensures failed { IsClean S.Store loads.new → IsOpen S.Store loads.new → OnErr result (KeepsLoads S.Store loads.old loads.new) }
 {
     match call {
         Call::Register(load) => Ok(registration_answer(loads.register(load)?)),
@@ -158,6 +160,8 @@ fn answer_call<S: Alter + Drop, W: Write>(
     ensures clean { IsClean S.Store loads.new → IsClean S.Store loads.old }
     ensures answered { IsClean S.Store loads.new → OnOk result (IsAnswered (HoldsLoads S.Store loads.old) (HoldsLoads S.Store loads.new) (W.contents writer.old) (W.contents writer.new) (call ∷ [])) }
     ensures failed { IfErr result (λ stop. (stop ≢ Stop.Other) × (stop ≢ Stop.Read)) }
+    ensures faulted { IfErr result (λ stop. stop ≢ Stop.Write → (writer.new ≡ writer.old)
+        × (IsClean S.Store loads.new → IsOpen S.Store loads.new → IsOneCallOn (HoldsLoads S.Store loads.old) (HoldsLoads S.Store loads.new))) }
 {
     let answer = carry_out(loads, call)?;
     let bytes = answer_bytes(alloc, &answer)?;
@@ -177,6 +181,8 @@ fn answer_next<S: Alter + Drop, W: Write>(
         × (IsClean S.Store loads.new → IsAnswered (HoldsLoads S.Store loads.old) (HoldsLoads S.Store loads.new) (W.contents writer.old) (W.contents writer.new) calls)) }
     ensures other { IfErr result (λ stop. stop ≡ Stop.Other → IsOther buf.now ended × IsAnswered (HoldsLoads S.Store loads.old) (HoldsLoads S.Store loads.new) (W.contents writer.old) (W.contents writer.new) []) }
     ensures not_read { IfErr result (λ stop. stop ≢ Stop.Read) }
+    ensures faulted { IfErr result (λ stop. stop ≢ Stop.Write → (writer.new ≡ writer.old)
+        × (IsClean S.Store loads.new → IsOpen S.Store loads.new → IsOneCallOn (HoldsLoads S.Store loads.old) (HoldsLoads S.Store loads.new))) }
 {
     match read_request(buf, ended) {
         Heard::Need => Ok(Step::Need),
@@ -200,11 +206,23 @@ pub fn answer_calls<S: Alter + Drop, R: Read, W: Write>(
     writer: &mut W,
 ) -> Result<u64, Stop>
     ensures clean { IsClean S.Store loads.new → IsClean S.Store loads.old }
-    ensures answered { IfOk result (λ n. (calls : List Call) × (n ≡ length calls) × AsksAll (R.remaining reader.old) calls
+
+    // The input is some calls and no byte more, and they are answered.
+    ensures answered { IfOk result (λ n. (calls : List Call) × (n ≡ length calls) × IfSome (R.remaining reader.old) (λ input. Asks input calls)
         × (IsClean S.Store loads.new → IsAnswered (HoldsLoads S.Store loads.old) (HoldsLoads S.Store loads.new) (W.contents writer.old) (W.contents writer.new) calls)) }
-    ensures other { IfErr result (λ stop. stop ≡ Stop.Other → AsksOtherwise (R.remaining reader.old)) }
-    ensures so_far { IfErr result (λ stop. (stop ≡ Stop.Other) ⊎ (stop ≡ Stop.Read) → (calls : List Call) × AsksFirst (R.remaining reader.old) calls
+
+    // The input is some calls and then no call; those are answered, and nothing more is written.
+    ensures other { IfErr result (λ stop. stop ≡ Stop.Other → (calls : List Call) × IfSome (R.remaining reader.old) (λ input. AsksUpToOther input calls)
         × (IsClean S.Store loads.new → IsAnswered (HoldsLoads S.Store loads.old) (HoldsLoads S.Store loads.new) (W.contents writer.old) (W.contents writer.new) calls)) }
+
+    // The input begins with some calls; those are answered, and nothing more is written.
+    ensures so_far { IfErr result (λ stop. stop ≡ Stop.Read → (calls : List Call) × IfSome (R.remaining reader.old) (λ input. AsksFirst input calls)
+        × (IsClean S.Store loads.new → IsAnswered (HoldsLoads S.Store loads.old) (HoldsLoads S.Store loads.new) (W.contents writer.old) (W.contents writer.new) calls)) }
+
+    // The same, but one call more may be carried out.
+    ensures faulted { IfErr result (λ stop. (stop ≡ Stop.Memory) ⊎ (stop ≡ Stop.Storage) → (calls : List Call) × IfSome (R.remaining reader.old) (λ input. AsksFirst input calls)
+        × (IsClean S.Store loads.new → IsOpen S.Store loads.new
+        → IsCutShort (HoldsLoads S.Store loads.old) (HoldsLoads S.Store loads.new) (W.contents writer.old) (W.contents writer.new) calls)) }
 {
     let mut buf = Vec::with_capacity(alloc, ROOM)?;
     let mut ended = false;

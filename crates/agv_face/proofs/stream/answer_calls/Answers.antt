@@ -1,12 +1,17 @@
-use Rattle.std.proofs.Common.{◌≡◌, ◌≤◌, ◌<◌, ◌⊎◌, ◌+◌, ◌-◌, ◌*◌, ◌++◌, ◌∷◌, [], ℕ, List, Bool, length, false, not, refl, sym, ap, ◌∙◌, subst, inl, inr, arith, length-append, vec_len}
+use Rattle.std.proofs.Common.{◌≡◌, ◌≤◌, ◌<◌, ◌⊎◌, ◌+◌, ◌-◌, ◌*◌, ◌++◌, ◌∷◌, [], ℕ, List, Bool, IfSome, length, false, not, refl, sym, ap, ◌∙◌, subst, inl, inr, arith, length-append, vec_len}
 use Rattle.std.proofs.Math.ListN.{length-drop}
-use Rattle.agv_store.specs.HeldLoads.{IsClean, HoldsLoads}
+use Rattle.agv_store.specs.HeldLoads.{IsClean, IsOpen, HoldsLoads}
 use Rattle.agv_face.specs.declared.call.Call.{Call}
 use Rattle.agv_face.specs.declared.stream.Stop.{Stop}
 use Rattle.agv_face.specs.declared.stream.Stop.TheVariants as stop
-use Rattle.agv_face.specs.Served.{AsksFirst, AsksOtherwise, IsAnswered}
-use Rattle.agv_face.proofs.Streaming.{HasCome, at_start, after_read, after_call, at_the_end, so_far, otherwise, none_answered, answered-push, answered-none, of_err}
+use Rattle.agv_face.specs.Asked.{AsksFirst, AsksUpToOther}
+use Rattle.agv_face.specs.Served.{IsAnswered, IsCutShort}
+use Rattle.agv_face.proofs.Streaming.{HasCome, at_start, after_read, after_call, at_the_end, so_far, at_other, none_answered, no_call_on, cut_short, answered-push, answered-none, of_err, of_any}
 use Rattle.agv_face.proofs.stream.answer_calls.Goals as goal
+
+machine_not_write : (s : Stop) → (s ≡ stop.Memory) ⊎ (s ≡ stop.Storage) → s ≡ stop.Write → ⊥
+machine_not_write s (inl memory) write = let both = sym memory ∙ write in cc
+machine_not_write s (inr storage) write = let both = sym storage ∙ write in cc
 
 -- each answer took a byte at least of what the reads gave
 below : (answers before left reads items len : ℕ) → answers + before ≤ reads * 4096 → before ≡ items → left ≡ items - len → 0 < len → len ≤ items → answers + 1 + left ≤ reads * 4096
@@ -28,27 +33,45 @@ loop-buf-init g c =
       omega (arith, c.in_ok-buf.ensures.len),
     )
 
+pub returns-in_err-buf-clause-faulted : goal.returns-in_err-buf-clause-faulted
+returns-in_err-buf-clause-faulted g c =
+    let holds = HoldsLoads g.S.Store c.args.loads.now in
+    let old = g.W.Write.contents c.args.writer.now in
+    let Faulted : Stop → Type 0 = λ s. (s ≡ stop.Memory) ⊎ (s ≡ stop.Storage) → (calls : List Call) × IfSome (g.R.Read.remaining c.args.reader.now) (λ input. AsksFirst input calls) × (IsClean g.S.Store c.args.loads.now → IsOpen g.S.Store c.args.loads.now → IsCutShort holds holds old old calls) in
+    of_any _ Faulted (λ _ _. ([], so_far _ _ _ _ [] (at_start (g.R.Read.remaining c.args.reader.now)), λ _ _. cut_short holds holds holds old old old [] (none_answered holds old) refl (no_call_on holds)))
+
 pub returns-in_err-answer_next-clause-other : goal.returns-in_err-answer_next-clause-other
 returns-in_err-answer_next-clause-other g c =
-    let now = c.loop-buf.invariant in
-    let P : Stop → Type 0 = λ s. s ≡ stop.Other → AsksOtherwise (g.R.Read.remaining c.args.reader.now) in
-    of_err _ c.in_err-answer_next.field-0.0 P c.from_residual-in_err-answer_next.ensures.1
-    (λ is. otherwise _ _ _ _ now.0 now.2 (rw c.deref.ensures.value at (c.in_err-answer_next.ensures.other is).0))
-
-pub returns-in_err-answer_next-clause-so_far : goal.returns-in_err-answer_next-clause-so_far
-returns-in_err-answer_next-clause-so_far g c =
     let now = c.loop-buf.invariant in
     let holds = HoldsLoads g.S.Store c.args.loads.now in
     let mid = HoldsLoads g.S.Store c.loop-buf.loads in
     let then = HoldsLoads g.S.Store c.answer_next.new.loads in
     let old = g.W.Write.contents c.args.writer.now in
     let new = g.W.Write.contents c.answer_next.new.writer in
-    let P : Stop → Type 0 = λ s. (s ≡ stop.Other) ⊎ (s ≡ stop.Read) → (calls : List Call) × AsksFirst (g.R.Read.remaining c.args.reader.now) calls × (IsClean g.S.Store c.answer_next.new.loads → IsAnswered holds then old new calls) in
-    of_err _ c.in_err-answer_next.field-0.0 P c.from_residual-in_err-answer_next.ensures.1
-    (λ which. elim which [
-      | inl other ↦ (now.0, so_far _ _ _ _ now.0 now.2, λ clean. answered-none holds mid then old (g.W.Write.contents c.loop-buf.writer) new now.0 (now.4 (c.in_err-answer_next.ensures.clean clean)) (c.in_err-answer_next.ensures.other other).1)
-      | inr read ↦ absurd (c.in_err-answer_next.ensures.not_read read)
-    ])
+    let Other : Stop → Type 0 = λ s. s ≡ stop.Other → (calls : List Call) × IfSome (g.R.Read.remaining c.args.reader.now) (λ input. AsksUpToOther input calls) × (IsClean g.S.Store c.answer_next.new.loads → IsAnswered holds then old new calls) in
+    of_err _ c.in_err-answer_next.field-0.0 Other c.from_residual-in_err-answer_next.ensures.1 (λ is.
+    let other = c.in_err-answer_next.ensures.other is in
+    (now.0, at_other _ _ _ _ now.0 now.2 (rw c.deref.ensures.value at other.0), λ clean. answered-none holds mid then old (g.W.Write.contents c.loop-buf.writer) new now.0 (now.4 (c.in_err-answer_next.ensures.clean clean)) other.1))
+
+pub returns-in_err-answer_next-clause-so_far : goal.returns-in_err-answer_next-clause-so_far
+returns-in_err-answer_next-clause-so_far g c =
+    let Read : Stop → Type 0 = λ s. s ≡ stop.Read → (calls : List Call) × IfSome (g.R.Read.remaining c.args.reader.now) (λ input. AsksFirst input calls)
+    × (IsClean g.S.Store c.answer_next.new.loads → IsAnswered (HoldsLoads g.S.Store c.args.loads.now) (HoldsLoads g.S.Store c.answer_next.new.loads) (g.W.Write.contents c.args.writer.now) (g.W.Write.contents c.answer_next.new.writer) calls) in
+    of_err _ c.in_err-answer_next.field-0.0 Read c.from_residual-in_err-answer_next.ensures.1 (λ is. absurd (c.in_err-answer_next.ensures.not_read is))
+
+pub returns-in_err-answer_next-clause-faulted : goal.returns-in_err-answer_next-clause-faulted
+returns-in_err-answer_next-clause-faulted g c =
+    let now = c.loop-buf.invariant in
+    let holds = HoldsLoads g.S.Store c.args.loads.now in
+    let mid = HoldsLoads g.S.Store c.loop-buf.loads in
+    let then = HoldsLoads g.S.Store c.answer_next.new.loads in
+    let old = g.W.Write.contents c.args.writer.now in
+    let new = g.W.Write.contents c.answer_next.new.writer in
+    let Faulted : Stop → Type 0 = λ s. (s ≡ stop.Memory) ⊎ (s ≡ stop.Storage) → (calls : List Call) × IfSome (g.R.Read.remaining c.args.reader.now) (λ input. AsksFirst input calls)
+    × (IsClean g.S.Store c.answer_next.new.loads → IsOpen g.S.Store c.answer_next.new.loads → IsCutShort holds then old new calls) in
+    of_err _ c.in_err-answer_next.field-0.0 Faulted c.from_residual-in_err-answer_next.ensures.1 (λ which.
+    let at = c.in_err-answer_next.ensures.faulted (machine_not_write _ which) in
+    (now.0, so_far _ _ _ _ now.0 now.2, λ clean still. cut_short holds mid then old (g.W.Write.contents c.loop-buf.writer) new now.0 (now.4 (c.in_err-answer_next.ensures.clean clean)) (ap g.W.Write.contents at.0) (at.1 clean still)))
 
 pub returns-in-End-clause-answered : goal.returns-in-End-clause-answered
 returns-in-End-clause-answered g c =
@@ -99,9 +122,23 @@ returns-in_err-ended-in-Need-clause-so_far g c =
     let then = HoldsLoads g.S.Store c.answer_next.new.loads in
     let old = g.W.Write.contents c.args.writer.now in
     let new = g.W.Write.contents c.answer_next.new.writer in
-    let P : Stop → Type 0 = λ s. (s ≡ stop.Other) ⊎ (s ≡ stop.Read) → (calls : List Call) × AsksFirst (g.R.Read.remaining c.args.reader.now) calls × (IsClean g.S.Store c.answer_next.new.loads → IsAnswered holds then old new calls) in
-    of_err _ c.in_err-ended-in-Need.field-0.0 P c.from_residual-in_err-ended-in-Need.ensures.1
+    let Read : Stop → Type 0 = λ s. s ≡ stop.Read → (calls : List Call) × IfSome (g.R.Read.remaining c.args.reader.now) (λ input. AsksFirst input calls) × (IsClean g.S.Store c.answer_next.new.loads → IsAnswered holds then old new calls) in
+    of_err _ c.in_err-ended-in-Need.field-0.0 Read c.from_residual-in_err-ended-in-Need.ensures.1
     (λ _. (now.0, so_far _ _ _ _ now.0 now.2, λ clean. answered-none holds mid then old (g.W.Write.contents c.loop-buf.writer) new now.0 (now.4 (c.in_ok-answer_next.ensures.clean clean)) (rw step.1.0 at (step.2 clean))))
+
+pub returns-in_err-ended-in-Need-clause-faulted : goal.returns-in_err-ended-in-Need-clause-faulted
+returns-in_err-ended-in-Need-clause-faulted g c =
+    let now = c.loop-buf.invariant in
+    let step = rw (c.in-Need.is, c.deref.ensures.value) at c.in_ok-answer_next.ensures.answered in
+    let holds = HoldsLoads g.S.Store c.args.loads.now in
+    let mid = HoldsLoads g.S.Store c.loop-buf.loads in
+    let then = HoldsLoads g.S.Store c.answer_next.new.loads in
+    let old = g.W.Write.contents c.args.writer.now in
+    let new = g.W.Write.contents c.answer_next.new.writer in
+    let Faulted : Stop → Type 0 = λ s. (s ≡ stop.Memory) ⊎ (s ≡ stop.Storage) → (calls : List Call) × IfSome (g.R.Read.remaining c.args.reader.now) (λ input. AsksFirst input calls)
+    × (IsClean g.S.Store c.answer_next.new.loads → IsOpen g.S.Store c.answer_next.new.loads → IsCutShort holds then old new calls) in
+    of_err _ c.in_err-ended-in-Need.field-0.0 Faulted c.from_residual-in_err-ended-in-Need.ensures.1
+    (λ _. (now.0, so_far _ _ _ _ now.0 now.2, λ clean still. cut_short holds then then old new new now.0 (answered-none holds mid then old (g.W.Write.contents c.loop-buf.writer) new now.0 (now.4 (c.in_ok-answer_next.ensures.clean clean)) (rw step.1.0 at (step.2 clean))) refl (no_call_on then)))
 
 pub loop-buf-preserved : goal.loop-buf-preserved
 loop-buf-preserved g c =
