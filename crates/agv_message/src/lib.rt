@@ -32,6 +32,8 @@ mod read;
 mod sequence;
 mod state;
 mod status;
+#[cfg(test)]
+mod tests;
 mod text;
 
 pub use body::{BodyFault, read_body};
