@@ -1,6 +1,9 @@
 pub mod Calendar
+pub mod Key
+pub mod KeyOrder
 pub mod Moment
 pub mod Name
 pub mod Padded
 pub mod Refusal
 pub mod Stamp
+pub mod Topic

@@ -1,13 +1,59 @@
 //! What names a vehicle, and what names a stretch of track.
+ghost use Rattle.std.specs.Cmp.{IsTotalOrder};
+ghost use Rattle.std.specs.FinMap.{IsAntisymmetric};
 
 use crate::Name;
+use std::cmp::Ordering;
 
 /// A vehicle: its manufacturer, then its serial number. Keys are ordered by the manufacturer's
 /// bytes, then by the serial number's.
-#[derive(Clone, Copy, Debug, PartialEq, Eq, PartialOrd, Ord)]
+#[derive(Clone, Copy, Debug, PartialEq, Eq)]
 pub struct VehicleKey {
     pub manufacturer: Name,
     pub serial: Name,
+}
+
+impl PartialOrd for VehicleKey {
+    ghost use Rattle.std.specs.Prelude.{Some};
+    ghost use Rattle.agv_header.specs.Key.{key_cmp};
+    ghost use Rattle.agv_header.specs.KeyOrder.{key_cmp-partial};
+
+    ghost partial_cmp = { λ a b. Some (key_cmp a b) };
+
+    ghost laws = { key_cmp-partial };
+
+    fn partial_cmp(&self, other: &Self) -> Option<Ordering> {
+        Some(self.cmp(other))
+    }
+}
+
+impl Ord for VehicleKey {
+    ghost use Rattle.std.specs.Prelude.{refl};
+    ghost use Rattle.agv_header.specs.Key.{key_cmp};
+    ghost use Rattle.agv_header.specs.KeyOrder.{key_cmp-total, key_cmp-ties};
+
+    ghost cmp = { key_cmp };
+
+    ghost total = { key_cmp-total };
+
+    ghost matches_partial_cmp = { λ a b. refl };
+
+    ghost matches_eq = { key_cmp-ties };
+
+    fn cmp(&self, other: &Self) -> Ordering {
+        let first = self.manufacturer.cmp(&other.manufacturer);
+        first.then(self.serial.cmp(&other.serial))
+    }
+}
+
+impl VehicleKey {
+    ghost use Rattle.agv_header.specs.Key.{key_cmp};
+
+    /// The order of keys is total, and only equal keys tie: a finite map can be kept by it.
+    pub fn are_ordered()
+        ensures total { IsTotalOrder key_cmp }
+        ensures apart { IsAntisymmetric key_cmp }
+    {}
 }
 
 /// A stretch of track that at most one vehicle holds: a node or an edge of the layout.

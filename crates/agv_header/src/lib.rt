@@ -1,11 +1,17 @@
-//! What every layer of the desk speaks of: names, vehicles, stretches of track, and refusals.
+//! What every layer of the desk speaks of: names, vehicles, topics, moments and refusals.
 //!
 //! - [`Name`] is the name of a load, node, edge, station, job, order, reference, manufacturer or
 //!   vehicle. [`Name::read`] accepts exactly the texts of 1 to 32 bytes of `A-Z a-z 0-9 _ . : -`.
-//! - [`VehicleKey`] names a vehicle, and [`Thing`] a node or an edge of the layout.
+//! - [`VehicleKey`] names a vehicle, and [`Thing`] a node or an edge of the layout. The order of
+//!   vehicles can keep a map: it is total, and only equal vehicles tie.
+//! - [`topic_text`] writes where a vehicle's messages of a kind belong, as
+//!   `uagv/v2/KIT/0001/order`, and [`read_topic`] accepts exactly the texts that it writes.
+//! - [`Moment`] is a time in milliseconds, from 1970 to the end of 2099. [`stamp_text`] is its date
+//!   and time in UTC to the hundredth of a second, and [`read_stamp`] what `jiff` reads.
+//! - [`is_fresh`] and [`next_number`] are the rules of header numbers.
 //! - [`Refusal`] lists every refusal of the desk, each with its number, name and HTTP status.
-//!
-//! Nothing here takes memory.
+//! - [`Memory`] is the error of a call that fails for want of memory alone. Only [`topic_text`] and
+//!   [`stamp_text`] take memory.
 #![tactic(auto)]
 
 mod count;
@@ -15,6 +21,7 @@ mod moment;
 mod name;
 mod refusal;
 mod stamp;
+mod topic;
 
 pub use count::{is_fresh, next_number};
 pub use key::{Thing, VehicleKey};
@@ -23,3 +30,7 @@ pub use moment::Moment;
 pub use name::{Name, NotName};
 pub use refusal::{Refusal, Verb};
 pub use stamp::{StampFault, read_stamp, stamp_text};
+pub use topic::{NotTopic, Topic, read_topic, topic_text};
+
+#[cfg(test)]
+mod tests;

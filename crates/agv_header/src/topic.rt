@@ -1,0 +1,95 @@
+//! Topics: where a message belongs, by vehicle and kind.
+ghost use Rattle.std.specs.Prelude.{◌≡◌, ◌++◌, ℕ, List, codes, Some, Ok, IfOk, IfSome, IsSomeAnd, string_bytes};
+ghost use Rattle.agv_header.specs.Name.{IsName};
+ghost use Rattle.agv_header.specs.declared.key.VehicleKey.{VehicleKey as Key};
+ghost use Rattle.agv_header.specs.declared.topic.Topic.{Topic as Kind};
+ghost use Rattle.agv_header.specs.Topic.{topic_name, with_levels, topic_of, IsTopicText};
+
+use crate::{Memory, Name, VehicleKey};
+use std::alloc::Global;
+
+/// The topics that the desk and a vehicle's gateway exchange.
+#[derive(Clone, Copy, Debug, PartialEq, Eq)]
+pub enum Topic {
+    Order,
+    InstantActions,
+    State,
+}
+
+/// The text is no topic of the desk.
+#[derive(Clone, Copy, Debug, PartialEq, Eq)]
+pub struct NotTopic;
+
+fn name_of(topic: Topic) -> &'static str
+    ensures { result.now ≡ topic_name topic }
+{
+    match topic {
+        Topic::Order => "order",
+        Topic::InstantActions => "instantActions",
+        Topic::State => "state",
+    }
+}
+
+fn topic_named(name: &str) -> Option<Topic>
+    ensures reads { IfSome result (λ topic. name.now ≡ topic_name topic) }
+    ensures all { (topic : Kind) → name.now ≡ topic_name topic → result ≡ Some topic }
+{
+    match name {
+        "order" => Some(Topic::Order),
+        "instantActions" => Some(Topic::InstantActions),
+        "state" => Some(Topic::State),
+        _ => None,
+    }
+}
+
+/// The manufacturer, the serial number and the topic name, as far as the slashes tell.
+fn levels(text: &str) -> Option<(&str, &str, &str)>
+    ensures reads { IfSome result
+        (λ parts. text.now ≡ with_levels parts.0.now parts.1.now parts.2.now) }
+    ensures all { (manufacturer serial name : List ℕ) → IsName manufacturer → IsName serial
+        → text.now ≡ with_levels manufacturer serial name
+        → IsSomeAnd result
+        (λ parts. (parts.0.now ≡ manufacturer) × (parts.1.now ≡ serial) × (parts.2.now ≡ name)) }
+{
+    let rest = text.strip_prefix("uagv/v2/")?;
+    let (manufacturer, rest) = rest.split_once('/')?;
+    let (serial, name) = rest.split_once('/')?;
+    Some((manufacturer, serial, name))
+}
+
+fn named(text: &str) -> Option<(VehicleKey, Topic)>
+    ensures reads { IfSome result (λ found. IsTopicText text.now found.0 found.1) }
+    ensures all { (key : Key) (topic : Kind) → IsTopicText text.now key topic
+        → result ≡ Some (key, topic) }
+{
+    let (manufacturer, serial, name) = levels(text)?;
+    let key = VehicleKey {
+        manufacturer: Name::read(manufacturer).ok()?,
+        serial: Name::read(serial).ok()?,
+    };
+    Some((key, topic_named(name)?))
+}
+
+/// The vehicle and the topic that a text names, as `uagv/v2/KIT/0001/order`. It takes no memory.
+///
+/// `NotTopic` where the text is `topic_text` of no vehicle and topic.
+pub fn read_topic(text: &str) -> Result<(VehicleKey, Topic), NotTopic>
+    ensures reads { IfOk result (λ found. IsTopicText text.now found.0 found.1) }
+    ensures all { (key : Key) (topic : Kind) → IsTopicText text.now key topic
+        → result ≡ Ok (key, topic) }
+{
+    named(text).ok_or(NotTopic)
+}
+
+/// The text of a vehicle's topic: `uagv/v2/MANUFACTURER/SERIAL/` and `order`, `instantActions` or
+/// `state`.
+pub fn topic_text(alloc: Global, key: &VehicleKey, topic: Topic) -> Result<String, Memory>
+    ensures { IfOk result (λ text. string_bytes text ≡ topic_of key.now topic) }
+{
+    Ok(format!(in alloc;
+        "uagv/v2/{}/{}/{}",
+        key.manufacturer,
+        key.serial,
+        name_of(topic)
+    )?)
+}
