@@ -55,3 +55,9 @@ truth_at name d = truth_of (member_at name d)
 abbrev pub each : {A : Type 0} → (Data → Option A) → List Data → Option (List A)
 each f [] = Some []
 each f (d ∷ ds) = option_and_then (λ x. option_map (λ xs. x ∷ xs) (each f ds)) (f d)
+
+-- two readings, if both can be made
+abbrev pub both : {A B : Type 0} → Option A → Option B → Option (A × B)
+both None other = None
+both (Some x) None = None
+both (Some x) (Some y) = Some (x, y)

@@ -1,12 +1,12 @@
 -- What a state message says, and which refusal it earns (VDA 5050 2.0, state; this project's profile).
-use Rattle.std.specs.Prelude.{ℕ, ◌&&◌, ◌||◌, List, [], Bool, false, not, if◌then◌else◌, Option, Some, None, Result, Ok, Err, is_some, unwrap_or, option_map, option_and_then, codes, nat_eq}
+use Rattle.std.specs.Prelude.{ℕ, ◌&&◌, ◌||◌, List, [], Bool, false, not, if◌then◌else◌, Option, Some, None, Result, Ok, Err, is_some, unwrap_or, option_and_then, codes, nat_eq}
 use Rattle.std.specs.List.{list_any, starts_with}
 use Rattle.std.specs.Str.{bytes_eq}
 use Rattle.serde_json.specs.Data.{Data}
 use Rattle.agv_header.specs.Stamp.{moment_said}
 use Rattle.agv_header.specs.declared.refusal.Refusal.{Refusal}
 use Rattle.agv_header.specs.declared.refusal.Refusal.TheVariants as refusal
-use Rattle.agv_message.specs.Member.{member_at, whole_at, text_at, items_at, truth_at, each}
+use Rattle.agv_message.specs.Member.{member_at, whole_at, text_at, items_at, truth_at, both, each}
 use Rattle.agv_message.specs.Position.{has_position}
 use Rattle.agv_message.specs.Status.{status_of}
 use Rattle.agv_message.specs.declared.state.StateMessage.{StateMessage}
@@ -16,10 +16,13 @@ use Rattle.agv_message.specs.declared.status.Status.{Status}
 unfoldable pub node_seqs_at : Data → Option (List ℕ)
 node_seqs_at d = option_and_then (each (whole_at (codes "sequenceId"))) (items_at (codes "nodeStates") d)
 
--- an action's id and status
+-- how far an action is
+unfoldable pub status_at : Data → Option Status
+status_at d = option_and_then status_of (text_at (codes "actionStatus") d)
+
+-- an action: its id and its status
 unfoldable pub action_at : Data → Option (List ℕ × Status)
-action_at d =
-    option_and_then (λ id. option_map (λ status. (id, status)) (option_and_then status_of (text_at (codes "actionStatus") d))) (text_at (codes "actionId") d)
+action_at d = both (text_at (codes "actionId") d) (status_at d)
 
 -- the actions that are reported, in the order of the message
 unfoldable pub actions_at : Data → Option (List (List ℕ × Status))
@@ -57,10 +60,11 @@ unfoldable pub is_bad : Data → Bool
 is_bad d =
     not (has_opening d && has_progress d && has_condition d && is_some (node_seqs_at d) && is_some (actions_at d))
 
--- a text and a number of a state in which they aren't absent
+-- a text of a state that isn't bad
 abbrev pub text : List ℕ → Data → List ℕ
 text name d = unwrap_or (text_at name d) []
 
+-- a number of such a state
 abbrev pub whole : List ℕ → Data → ℕ
 whole name d = unwrap_or (whole_at name d) 0
 
@@ -72,6 +76,7 @@ is_other_version d = not (starts_with nat_eq (text (codes "version") d) (codes "
 abbrev pub is_automatic : List ℕ → Bool
 is_automatic mode = bytes_eq mode (codes "AUTOMATIC") || bytes_eq mode (codes "SEMIAUTOMATIC")
 
+-- an error of this level stops the vehicle
 abbrev pub is_fatal : List ℕ → Bool
 is_fatal level = bytes_eq level (codes "FATAL")
 
@@ -97,12 +102,12 @@ message_of at d = record {
   paused = unwrap_or (truth_at (codes "paused") d) false;
 }
 
--- the message, at the moment that its timestamp says
+-- the message at that moment, if its timestamp says one
 abbrev pub stamped : Option ℕ → Data → Result StateMessage Refusal
 stamped None d = Err refusal.BadTimestamp
 stamped (Some at) d = Ok (message_of at d)
 
--- the same of a state without a position
+-- what becomes of a state that has no position
 abbrev pub judged : Data → Result StateMessage Refusal
 judged d =
     if is_bad d then Err refusal.BadBody

@@ -32,8 +32,6 @@ mod read;
 mod sequence;
 mod state;
 mod status;
-#[cfg(test)]
-mod tests;
 mod text;
 
 pub use body::{BodyFault, read_body};
@@ -47,3 +45,6 @@ pub use sequence::Sequence;
 pub use state::StateMessage;
 pub use status::Status;
 pub use text::Text;
+
+#[cfg(test)]
+mod tests;

@@ -1,9 +1,8 @@
 //! The lists of a state: the nodes still to be traversed, and the actions.
-ghost use Rattle.std.specs.Prelude.{◌≡◌, IfOk, codes, map, option_and_then};
+ghost use Rattle.std.specs.Prelude.{◌≡◌, IfOk, codes, map};
 ghost use Rattle.serde_json.specs.View.{view};
-ghost use Rattle.agv_message.specs.Member.{each, text_at, whole_at};
-ghost use Rattle.agv_message.specs.Status.{status_of};
-ghost use Rattle.agv_message.specs.State.{action_at, actions_at, node_seqs_at};
+ghost use Rattle.agv_message.specs.Member.{each, whole_at};
+ghost use Rattle.agv_message.specs.State.{action_at, actions_at, node_seqs_at, status_at};
 
 use crate::member::{items, text, whole};
 use crate::{Sequence, Status, Text};
@@ -36,8 +35,9 @@ pub fn node_seqs(alloc: Global, state: &Value) -> Result<Option<Sequence<u32>>, 
     }
 }
 
+#[tactic(auto, unfolding(crate::specs::State::status_at))]
 fn status(action: &Value) -> Option<Status>
-    ensures { result ≡ option_and_then status_of (text_at (codes "actionStatus") (view action.now)) }
+    ensures { result ≡ status_at (view action.now) }
 {
     Status::of(text(action, "actionStatus")?)
 }
