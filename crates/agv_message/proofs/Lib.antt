@@ -1,0 +1,4 @@
+pub mod Bodies
+pub mod Arrays
+pub mod States
+pub mod Written

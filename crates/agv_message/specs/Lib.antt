@@ -1,0 +1,10 @@
+pub mod Action
+pub mod Body
+pub mod Instant
+pub mod Json
+pub mod Member
+pub mod Order
+pub mod Parts
+pub mod Position
+pub mod State
+pub mod Status

@@ -1,0 +1,81 @@
+//! Bodies: JSON values whose numbers are all whole.
+ghost use Rattle.std.specs.Prelude.{◌≡◌, Ok, IfOk, IfErr};
+ghost use Rattle.serde_json.specs.View.{view, items_view, members_view};
+ghost use Rattle.serde_json.specs.Written.{has_float, items_have_float, members_have_float};
+ghost use Rattle.agv_message.specs.Body.{body_of, IsFaultOf};
+
+use agv_header::{Memory, Refusal};
+use serde_json::{Map, Value};
+use std::alloc::Global;
+
+/// Why a body isn't read.
+#[derive(Clone, Copy, Debug)]
+pub enum BodyFault {
+    /// The body is refused.
+    Refused(Refusal),
+    /// An allocation was refused; the body may be good.
+    Memory,
+}
+
+impl From<Memory> for BodyFault {
+    ghost use Rattle.agv_message.specs.declared.body.BodyFault.TheVariants as fault;
+
+    ghost from_gives = { λ _ made. made ≡ fault.Memory };
+
+    fn from(_memory: Memory) -> BodyFault {
+        BodyFault::Memory
+    }
+}
+
+#[cycle(fraction)]
+fn has_fraction(value: &Value) -> bool
+    ensures { result ≡ has_float (view value.now) }
+{
+    match value {
+        Value::Number(number) => number.is_f64(),
+        Value::Array(items) => items_have_fraction(items),
+        Value::Object(members) => members_have_fraction(members),
+        Value::Null | Value::Bool(_) | Value::String(_) => false,
+    }
+}
+
+#[cycle(fraction)]
+fn items_have_fraction(items: &Vec<Value>) -> bool
+    ensures { result ≡ items_have_float (items_view items.now.items) }
+{
+    for item in items {
+        if has_fraction(item) {
+            return true;
+        }
+    }
+    false
+}
+
+#[cycle(fraction)]
+fn members_have_fraction(members: &Map<String, Value>) -> bool
+    ensures { result ≡ members_have_float (members_view members.now.entries) }
+{
+    for (_, member) in members.iter() {
+        if has_fraction(member) {
+            return true;
+        }
+    }
+    false
+}
+
+/// The JSON value that the bytes are.
+///
+/// `Refused` with `BadJson` where they are no JSON text (not UTF-8, empty, or nested deeper than
+/// 127), and else with `Fraction` where some number, wherever it stands, has a fraction or an
+/// exponent or lies beyond 64 bits; `Memory` where an allocation was refused.
+pub fn read_body(alloc: Global, bytes: &[u8]) -> Result<Value, BodyFault>
+    ensures ok { IfOk result (λ value. body_of bytes.now ≡ Ok (view value)) }
+    ensures err { IfErr result (λ fault. IsFaultOf fault (body_of bytes.now)) }
+{
+    match Value::from_slice(alloc, bytes) {
+        Ok(value) if has_fraction(&value) => Err(BodyFault::Refused(Refusal::Fraction)),
+        Ok(value) => Ok(value),
+        Err(error) if error.is_memory() => Err(BodyFault::Memory),
+        Err(_) => Err(BodyFault::Refused(Refusal::BadJson)),
+    }
+}

@@ -1,0 +1,71 @@
+//! Whether a vehicle is ready, and whether it is paused.
+ghost use Rattle.std.specs.Prelude.{◌≡◌, [], false, true, IfNone, IfSome, codes, map, option_map, unwrap_or};
+ghost use Rattle.std.specs.List.{list_any};
+ghost use Rattle.serde_json.specs.View.{view};
+ghost use Rattle.agv_message.specs.Member.{each, text_at, truth_at};
+ghost use Rattle.agv_message.specs.State.{has_condition, is_automatic, is_fatal, is_ready, levels_at, stop_at, text as text_of};
+
+use crate::member::{items, member, text, truth};
+use serde_json::Value;
+
+/// What a state says of the vehicle's condition.
+#[derive(Clone, Copy)]
+pub struct Condition {
+    pub ready: bool,
+    pub paused: bool,
+}
+
+fn is_automatic(mode: &str) -> bool
+    ensures { result ≡ is_automatic mode.now }
+{
+    mode == "AUTOMATIC" || mode == "SEMIAUTOMATIC"
+}
+
+#[tactic(auto, unfolding(crate::specs::State::stop_at))]
+fn stop(state: &Value) -> Option<&str>
+    ensures { option_map (λ stop. stop.now) result ≡ stop_at (view state.now) }
+{
+    text(member(state, "safetyState")?, "eStop")
+}
+
+fn some_is_fatal(errors: &[Value]) -> Option<bool>
+    ensures { result
+        ≡ option_map (list_any is_fatal) (each (text_at (codes "errorLevel")) (map view errors.now)) }
+{
+    let mut fatal = false;
+    for error in errors {
+        let level = text(error, "errorLevel")?;
+        fatal = fatal || level == "FATAL";
+    }
+    Some(fatal)
+}
+
+#[tactic(auto, unfolding(crate::specs::State::levels_at))]
+fn has_fatal(state: &Value) -> Option<bool>
+    ensures { result ≡ option_map (list_any is_fatal) (levels_at (view state.now)) }
+{
+    some_is_fatal(items(state, "errors")?)
+}
+
+impl Condition {
+    /// The condition that a state tells; `None` where a member for it is missing or of the wrong kind.
+    #[tactic(auto, unfolding(crate::specs::State::has_condition))]
+    pub fn of(state: &Value) -> Option<Condition>
+        ensures missing { IfNone result (has_condition (view state.now) ≡ false) }
+        ensures present { IfSome result (λ _. has_condition (view state.now) ≡ true) }
+        ensures ready { IfSome result (λ condition. condition.ready
+            ≡ is_ready (text_of (codes "operatingMode") (view state.now))
+            (unwrap_or (stop_at (view state.now)) []) (unwrap_or (levels_at (view state.now)) [])) }
+        ensures paused { IfSome result (λ condition. condition.paused
+            ≡ unwrap_or (truth_at (codes "paused") (view state.now)) false) }
+    {
+        let mode = text(state, "operatingMode")?;
+        let stop = stop(state)?;
+        let fatal = has_fatal(state)?;
+        let paused = truth(state, "paused")?;
+        Some(Condition {
+            ready: is_automatic(mode) && stop == "NONE" && !fatal,
+            paused,
+        })
+    }
+}

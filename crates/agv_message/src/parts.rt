@@ -1,0 +1,80 @@
+//! The members of a state that the desk looks at.
+ghost use Rattle.std.specs.Prelude.{◌≡◌, ℕ, true, false, IfNone, IfOk, IfSome, codes};
+ghost use Rattle.serde_json.specs.View.{view};
+ghost use Rattle.agv_message.specs.Parts.{message_from};
+ghost use Rattle.agv_message.specs.State.{is_bad, message_of, text};
+
+use crate::condition::Condition;
+use crate::opening::{Opening, Progress};
+use crate::{Sequence, StateMessage, Status, Text, lists};
+use agv_header::{Memory, Moment};
+use serde_json::Value;
+use std::alloc::Global;
+
+/// A state, read but for its moment.
+#[derive(Drop)]
+pub struct Parts<'a> {
+    pub opening: Opening<'a>,
+    pub progress: Progress<'a>,
+    pub condition: Condition,
+    pub node_seqs: Sequence<u32>,
+    pub actions: Sequence<(Text, Status)>,
+}
+
+impl<'a> Parts<'a> {
+    /// The parts of the state; `None` where a member is missing or of the wrong kind.
+    #[tactic(auto, unfolding(crate::specs::State::is_bad))]
+    pub fn of(alloc: Global, state: &'a Value) -> Result<Option<Parts<'a>>, Memory>
+        ensures bad { IfOk result (λ parts. IfNone parts (is_bad (view state.now) ≡ true)) }
+        ensures good { IfOk result (λ parts. IfSome parts (λ _. is_bad (view state.now) ≡ false)) }
+        ensures timestamp { IfOk result (λ parts. IfSome parts
+            (λ p. p.opening.timestamp.now ≡ text (codes "timestamp") (view state.now))) }
+        ensures version { IfOk result (λ parts. IfSome parts
+            (λ p. p.opening.version.now ≡ text (codes "version") (view state.now))) }
+        ensures message { IfOk result (λ parts. IfSome parts
+            (λ p. (at : ℕ) → message_of at (view state.now) ≡ message_from at p)) }
+    {
+        let Some(opening) = Opening::of(state) else {
+            return Ok(None);
+        };
+        let Some(progress) = Progress::of(state) else {
+            return Ok(None);
+        };
+        let Some(condition) = Condition::of(state) else {
+            return Ok(None);
+        };
+        let Some(node_seqs) = lists::node_seqs(alloc, state)? else {
+            return Ok(None);
+        };
+        let Some(actions) = lists::actions(alloc, state)? else {
+            return Ok(None);
+        };
+        Ok(Some(Parts {
+            opening,
+            progress,
+            condition,
+            node_seqs,
+            actions,
+        }))
+    }
+
+    /// The message that they make.
+    pub fn message(self, alloc: Global, at: Moment) -> Result<StateMessage, Memory>
+        ensures { IfOk result (λ message. message ≡ message_from at self.entry) }
+    {
+        Ok(StateMessage {
+            header_id: self.opening.number,
+            at,
+            manufacturer: Text::copy_of(alloc, self.opening.manufacturer)?,
+            serial: Text::copy_of(alloc, self.opening.serial)?,
+            order_id: Text::copy_of(alloc, self.progress.order)?,
+            update: self.progress.update,
+            last_node: Text::copy_of(alloc, self.progress.last_node)?,
+            last_seq: self.progress.last_seq,
+            node_seqs: self.node_seqs,
+            actions: self.actions,
+            ready: self.condition.ready,
+            paused: self.condition.paused,
+        })
+    }
+}

@@ -1,0 +1,51 @@
+//! Reading a state message.
+ghost use Rattle.std.specs.Prelude.{◌≡◌, Ok, IfErr, IfOk, codes, nat_eq};
+ghost use Rattle.std.specs.List.{starts_with};
+ghost use Rattle.serde_json.specs.View.{view};
+ghost use Rattle.agv_message.specs.Body.{IsFaultOf};
+ghost use Rattle.agv_message.specs.State.{judged, state_of};
+
+use crate::parts::Parts;
+use crate::position::has_position;
+use crate::{BodyFault, StateMessage};
+use agv_header::{Refusal, read_stamp};
+use serde_json::Value;
+use std::alloc::Global;
+
+fn is_served(version: &str) -> bool
+    ensures { result ≡ starts_with nat_eq version.now (codes "2.") }
+{
+    version.as_bytes().starts_with(b"2.")
+}
+
+fn read_located(alloc: Global, state: &Value) -> Result<StateMessage, BodyFault>
+    ensures ok { IfOk result (λ message. judged (view state.now) ≡ Ok message) }
+    ensures err { IfErr result (λ fault. IsFaultOf fault (judged (view state.now))) }
+{
+    let Some(parts) = Parts::of(alloc, state)? else {
+        return Err(BodyFault::Refused(Refusal::BadBody));
+    };
+    if !is_served(parts.opening.version) {
+        return Err(BodyFault::Refused(Refusal::Version));
+    }
+    let Ok(at) = read_stamp(parts.opening.timestamp) else {
+        return Err(BodyFault::Refused(Refusal::BadTimestamp));
+    };
+    Ok(parts.message(alloc, at)?)
+}
+
+/// What a state message says.
+///
+/// `Refused`, with the first of these that holds: `Position` where the state has `agvPosition`,
+/// `velocity`, a `nodePosition` or a `trajectory`; `BadBody` where a member that the desk needs is
+/// absent or of the wrong kind; `Version` where `version` doesn't begin with `2.`; `BadTimestamp`
+/// where `timestamp` is no moment from 1970 to 2099. `Memory` where an allocation was refused.
+pub fn read_state(alloc: Global, body: &Value) -> Result<StateMessage, BodyFault>
+    ensures ok { IfOk result (λ message. state_of (view body.now) ≡ Ok message) }
+    ensures err { IfErr result (λ fault. IsFaultOf fault (state_of (view body.now))) }
+{
+    if has_position(body) {
+        return Err(BodyFault::Refused(Refusal::Position));
+    }
+    read_located(alloc, body)
+}

@@ -1,0 +1,34 @@
+//! The statuses of an action.
+ghost use Rattle.std.specs.Prelude.{◌≡◌};
+
+/// How far an action is. Waiting comes first; the vehicle may go between the three active ones in
+/// any order; Finished and Failed are final.
+#[derive(Clone, Copy, Debug, PartialEq, Eq)]
+pub enum Status {
+    Waiting,
+    Initializing,
+    Running,
+    Paused,
+    Finished,
+    Failed,
+}
+
+impl Status {
+    ghost use Rattle.agv_message.specs.Status.{status_of, status_name};
+
+    /// The status that is written so, in capitals; `None` where the text is no status.
+    #[tactic(auto, unfolding(crate::specs::Status::status_of))]
+    pub fn of(text: &str) -> Option<Status>
+        ensures { result ≡ status_of text.now }
+    {
+        match text {
+            "WAITING" => Some(Status::Waiting),
+            "INITIALIZING" => Some(Status::Initializing),
+            "RUNNING" => Some(Status::Running),
+            "PAUSED" => Some(Status::Paused),
+            "FINISHED" => Some(Status::Finished),
+            "FAILED" => Some(Status::Failed),
+            _ => None,
+        }
+    }
+}
