@@ -7,13 +7,14 @@
 
 mod line;
 
-use crate::line::{LineFault, line_of};
+use crate::line::{Line, LineFault, line_of};
 use agv_face::{LoadsFault, serve_loads};
 use agv_store::{Fault, Loads};
 use sqlite::Connection;
 use std::alloc::{AllocError, Global};
 use std::env::{self, Env};
-use std::io;
+use std::fmt;
+use std::io::{self, ErrorKind};
 use std::process::ExitCode;
 
 /// The words after the program's name.
@@ -50,19 +51,26 @@ fn fails(rt: &impl Eprint, fault: LoadsFault) -> ExitCode {
     ExitCode::FAILURE
 }
 
+/// The line is refused, with this text on standard error.
+fn refuses(rt: &impl Eprint, text: impl fmt::Display + Drop) -> ExitCode {
+    let _ = rt.eprint(text);
+    ExitCode::from(2)
+}
+
 fn main(rt: HostRuntime) -> ExitCode {
-    let Ok(words) = words_of(&rt) else {
-        return fails(&rt, LoadsFault::Memory);
+    let words = match words_of(&rt) {
+        Ok(words) => words,
+        Err(error) if error.kind() == ErrorKind::InvalidData => {
+            return refuses(&rt, "error: a word of the line is not UTF-8\n");
+        }
+        Err(_) => return fails(&rt, LoadsFault::Memory),
     };
     match line_of(rt.alloc(), &words) {
-        Ok(_) => match replay(&rt) {
+        Ok(Line::Replay { at: _ }) => match replay(&rt) {
             Ok(()) => ExitCode::SUCCESS,
             Err(fault) => fails(&rt, fault),
         },
         Err(LineFault::Memory) => fails(&rt, LoadsFault::Memory),
-        Err(LineFault::Refused(error)) => {
-            let _ = rt.eprint(&error);
-            ExitCode::from(2)
-        }
+        Err(LineFault::Refused(error)) => refuses(&rt, &error),
     }
 }

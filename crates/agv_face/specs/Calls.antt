@@ -38,7 +38,7 @@ member_count (array items) = 0
 abbrev pub only_load : Data → Option (List ℕ)
 only_load d = if nat_eq (member_count d) 1 then option_and_then as_name (option_and_then as_str (get (codes "load") d)) else None
 
--- the load that a body names so (RFC 8259)
+-- the load that the object of a body names by its only member (RFC 8259)
 abbrev pub load_in_body : List ℕ → Option (List ℕ)
 load_in_body body = if is_utf8 body then option_and_then only_load (read body) else None
 

@@ -6,7 +6,7 @@ use Rattle.agv_face.specs.declared.lines.Values.TheVariants as values
 use Rattle.agv_face.specs.declared.lines.Said.{Said}
 use Rattle.agv_face.specs.declared.lines.Said.TheVariants as said
 
--- they are the values
+-- what was found stands for these values
 abbrev pub AreFound : List (List ℕ) → Values → Type 0
 AreFound found values.Absent = found ≡ []
 AreFound found (values.One value) = found ≡ value.now ∷ []

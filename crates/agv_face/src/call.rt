@@ -73,7 +73,7 @@ fn only_load(value: &Value) -> Option<Name>
     }
 }
 
-/// The load that the body names so.
+/// The load that the body's object names by its only member.
 fn load_in_body(alloc: Global, body: &[u8]) -> Result<Option<Name>, AllocError>
     ensures { IfOk result (λ load. load ≡ load_in_body body.now) }
 {

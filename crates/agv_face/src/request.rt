@@ -1,5 +1,5 @@
 //! The next request of a stream: its head, by httparse, and its body.
-ghost use Rattle.std.specs.Prelude.{◌≡◌, ◌≤◌, ◌<◌, ℕ, List, All, Bool, length, take, map, IfOk, min};
+ghost use Rattle.std.specs.Prelude.{◌≡◌, ◌≤◌, ◌<◌, All, length, take, map, IfOk, min};
 ghost use Rattle.httparse.specs.Spans.{IsHeaderWithin, header_bytes, IsRequestWithin, IsRequestOf};
 ghost use Rattle.agv_face.specs.Lines.{Length};
 ghost use Rattle.agv_face.specs.Requests.{sends_body, length_needed, body_length, is_plain_head};

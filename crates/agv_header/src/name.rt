@@ -56,7 +56,7 @@ fn spells_name(bytes: &[u8]) -> bool
 }
 
 impl Name {
-    /// The name that the text is. It takes no memory.
+    /// Reads a name. It takes no memory.
     ///
     /// `NotName` where the text is empty, has more than 32 bytes, or has a byte that is no letter,
     /// digit, `_`, `.`, `:` or `-` of ASCII.

@@ -29,7 +29,7 @@ module _ {S : Type 0} (g : Ghosts S) where
   abbrev pub HoldsSome : Held S → Type 0
   HoldsSome held = (loads : Registered) × HoldsLoads held loads
 
-  -- no loads are what it shows, as when a fault has shut it
+  -- it shows no set of loads, not even the empty one, as when a fault has shut it
   abbrev pub HoldsNothing : Held S → Type 0
   HoldsNothing held = (loads : Registered) → ¬ HoldsLoads held loads
 

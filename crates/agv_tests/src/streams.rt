@@ -62,8 +62,8 @@ fn in_pieces(rt: HostRuntime) -> Result<(), Fail> {
     Ok(())
 }
 
-/// A reader that fails at its first, its second and a later read leaves the answers so far; the
-/// reads give 20 bytes each, so the fourth completes the first request.
+/// A reader that fails at its first, its second and a later read leaves the answers so far. The
+/// reads give 20 bytes each, so the third completes the first request, of 57 bytes.
 #[test]
 fn failing_reader(rt: HostRuntime) -> Result<(), Fail> {
     for (reads, answers) in [(0, b"".as_slice()), (1, b""), (3, DONE)] {
@@ -76,19 +76,23 @@ fn failing_reader(rt: HostRuntime) -> Result<(), Fail> {
         let mut out = Vec::new(rt.alloc());
         assert!(rt; answer_calls(rt.alloc(), &mut loads, &mut reader, &mut out) == Err(Stop::Read));
         assert!(rt; out.as_slice() == answers);
+        assert!(rt;
+            serve_loads(rt.alloc(), &mut loads, &mut reader, &mut out) == Err(LoadsFault::Read)
+        );
+        assert!(rt; out.as_slice() == answers);
     }
     Ok(())
 }
 
-/// A writer that fails at its first, its second and a later write.
+/// A writer that fails at its first, its second and a later write, and one that takes no byte.
 #[test]
 fn failing_writer(rt: HostRuntime) -> Result<(), Fail> {
-    for (writes, taken) in [(0, 0), (1, 40), (3, 112)] {
+    for (step, writes, taken) in [(40, 0, 0), (40, 1, 40), (40, 3, 112), (0, 9, 0)] {
         let mut loads = no_loads(&rt)?;
         let mut reader = FIRST;
         let mut writer = Trickle {
             taken: Vec::new(rt.alloc()),
-            step: 40,
+            step,
             writes,
         };
         let served = serve_loads(rt.alloc(), &mut loads, &mut reader, &mut writer);
