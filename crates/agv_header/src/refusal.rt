@@ -32,7 +32,7 @@ pub enum Refusal {
     // The body.
     /// The body is no JSON text.
     BadJson,
-    /// A number with a fraction or an exponent.
+    /// A number with a fraction or an exponent, or beyond 64 bits.
     Fraction,
     /// A state with a position, a velocity or a trajectory.
     Position,

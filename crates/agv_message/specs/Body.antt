@@ -9,7 +9,7 @@ use Rattle.agv_header.specs.declared.refusal.Refusal.TheVariants as refusal
 use Rattle.agv_message.specs.declared.body.BodyFault.{BodyFault}
 use Rattle.agv_message.specs.declared.body.BodyFault.TheVariants as fault
 
--- a JSON value in which no number has a fraction or an exponent, or is beyond 64 bits
+-- a JSON value whose numbers are all whole numbers of 64 bits, as the reader of JSON takes them
 abbrev pub whole_only : Option Data → Result Data Refusal
 whole_only None = Err refusal.BadJson
 whole_only (Some d) = if has_float d then Err refusal.Fraction else Ok d

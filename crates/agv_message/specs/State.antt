@@ -114,6 +114,6 @@ judged d =
     else (if is_other_version d then Err refusal.Version
     else stamped (moment_said (text (codes "timestamp") d)) d)
 
--- the message, or the first refusal of these that it earns: Position, BadBody, Version, BadTimestamp
+-- the message, or the first of these refusals that holds: Position, BadBody, Version, BadTimestamp
 abbrev pub state_of : Data → Result StateMessage Refusal
 state_of d = if has_position d then Err refusal.Position else judged d

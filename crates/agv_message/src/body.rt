@@ -66,8 +66,9 @@ fn members_have_fraction(members: &Map<String, Value>) -> bool
 /// The JSON value that the bytes are.
 ///
 /// `Refused` with `BadJson` where they are no JSON text (not UTF-8, empty, or nested deeper than
-/// 127), and else with `Fraction` where some number, wherever it stands, has a fraction or an
-/// exponent or lies beyond 64 bits; `Memory` where an allocation was refused.
+/// 127), and else with `Fraction` where some number of the value, wherever it stands, is no whole
+/// number of 64 bits as `serde_json` reads it (also `1e0` and `-0`); `Memory` where an allocation
+/// was refused.
 pub fn read_body(alloc: Global, bytes: &[u8]) -> Result<Value, BodyFault>
     ensures ok { IfOk result (λ value. body_of bytes.now ≡ Ok (view value)) }
     ensures err { IfErr result (λ fault. IsFaultOf fault (body_of bytes.now)) }
