@@ -8,7 +8,7 @@
 mod line;
 
 use crate::line::{Line, LineFault, line_of};
-use agv_face::{LoadsFault, serve_loads};
+use agv_face::{LoadsFault, Watched, serve_loads};
 use agv_store::{Fault, Loads};
 use sqlite::Connection;
 use std::alloc::{AllocError, Global};
@@ -39,8 +39,8 @@ fn replay(rt: &HostRuntime) -> Result<(), LoadsFault> {
     serve_loads(
         rt.alloc(),
         &mut loads,
-        &mut rt.reader(),
-        &mut io::writer(rt),
+        &mut Watched::new(rt.reader()),
+        &mut Watched::new(io::writer(rt)),
     )?;
     Ok(())
 }

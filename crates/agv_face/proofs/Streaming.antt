@@ -1,15 +1,18 @@
 -- A stream, one step after another.
-use Rattle.std.proofs.Common.{◌≡◌, ℕ, List, [], ◌∷◌, ◌++◌, true, false, Bool, not, cond, take, drop, Option, Some, None, IfSome, IfErr, IsErrAnd, Result, Ok, Err, refl, sym, ap, ap₂, ◌∙◌, subst, inl, inr, append_assoc, append-nil, take-append-drop}
-use Rattle.std.specs.Io.KnownBytes.{Appends, Consumes, IsAtEnd}
-use Rattle.std.proofs.KnownBytes.{Appends-trans, Appends-nil}
+use Rattle.std.proofs.Common.{◌≡◌, ◌<◌, ◌-◌, length, arith, ℕ, List, [], ◌∷◌, ◌++◌, true, false, Bool, not, cond, take, drop, Option, Some, None, IfSome, IfErr, IsErrAnd, Result, Ok, Err, refl, sym, ap, ap₂, ◌∙◌, subst, inl, inr, append_assoc, append-nil, take-append-drop}
+use Rattle.std.specs.Io.KnownBytes.{Appends, Consumes, IsAtEnd, Keeps}
+use Rattle.std.proofs.KnownBytes.{Appends-trans, Appends-nil, Appends-kept}
+use Rattle.std.proofs.Math.ListN.{length-drop}
 use Rattle.agv_store.specs.Registered.{Registered}
 use Rattle.agv_face.specs.declared.call.Call.{Call}
+use Rattle.agv_face.specs.declared.watched.Watched.{Watched}
 use Rattle.agv_face.specs.Requests.{Request, is_plain}
 use Rattle.agv_face.specs.Calls.{call_of, call_at, path_of}
 use Rattle.agv_face.specs.declared.request.Lent.{Lent}
-use Rattle.agv_face.specs.Asked.{Asks, AsksFirst, AsksUpToOther, BeginsWithNoCall}
+use Rattle.agv_face.specs.Asked.{Asks, AsksFirst, AsksNext, AsksUpToOther, BeginsWithNoCall}
+use Rattle.agv_face.specs.declared.answer.Answer.{Answer}
 use Rattle.agv_face.specs.Answers.{answer_bytes}
-use Rattle.agv_face.specs.Served.{said, after, after_all, output, IsAnswered, IsOneCallOn, IsCutShort}
+use Rattle.agv_face.specs.Served.{said, after, after_all, output, AreKept, AreAfter, IsAnswered, IsUnsaid, IsCutIn, IsCutOff}
 use Rattle.agv_face.specs.Heard.{Follows, IsLent}
 use Rattle.agv_face.specs.Stepped.{IsNextCall, IsOther}
 use Rattle.agv_face.proofs.Asking.{asks-nil, asks-append, asks-rest, asks-fault, asks-other}
@@ -106,16 +109,59 @@ answered-none holds mid then old now new calls first next loads held =
     let Wrote : List ℕ → Type 0 = λ l. Appends old new l in
     (subst Wrote (append-nil (output loads calls)) (Appends-trans old now new _ _ before.0 after_none.0), after_none.1)
 
--- a fault behind calls
-pub cut_short : (holds mid then : Registered → Type 0) (old now new : Option (List ℕ)) (calls : List Call) → IsAnswered holds mid old now calls → new ≡ now → IsOneCallOn mid then → IsCutShort holds then old new calls
-cut_short holds mid then old now new calls first same next loads held =
+-- calls, and less is known of the loads
+pub answered-less : (holds then less : Registered → Type 0) (old new : Option (List ℕ)) (calls : List Call) → ((loads : Registered) → then loads → less loads) → IsAnswered holds then old new calls → IsAnswered holds less old new calls
+answered-less holds then less old new calls follows answered loads held =
+    let all = answered loads held in
+    (all.0, follows (after_all loads calls) all.1)
+
+-- a fault behind calls, which leaves the loads
+pub kept_on : (holds mid then : Registered → Type 0) (old now new : Option (List ℕ)) (calls : List Call) → IsAnswered holds mid old now calls → new ≡ now → AreKept mid then → IsAnswered holds then old new calls
+kept_on holds mid then old now new calls first same kept loads held =
     let before = first loads held in
     let Wrote : Option (List ℕ) → Type 0 = λ o. Appends old o (output loads calls) in
-    (subst Wrote (sym same) before.0, next (after_all loads calls) before.1)
+    (subst Wrote (sym same) before.0, kept (after_all loads calls) before.1)
 
--- a fault that leaves the loads
-pub no_call_on : (holds : Registered → Type 0) → IsOneCallOn holds holds
-no_call_on holds loads held = inl held
+-- a fault behind a call that is carried out
+pub unsaid_on : (holds mid then : Registered → Type 0) (old now new : Option (List ℕ)) (calls : List Call) (c : Call) → IsAnswered holds mid old now calls → new ≡ now → AreAfter mid then c → IsUnsaid holds then old new calls c
+unsaid_on holds mid then old now new calls c first same carried loads held =
+    let before = first loads held in
+    let Wrote : Option (List ℕ) → Type 0 = λ o. Appends old o (output loads calls) in
+    (subst Wrote (sym same) before.0, carried (after_all loads calls) before.1)
+
+-- an answer that is cut behind answers
+pub cut_on : (holds mid then : Registered → Type 0) (old now new : Option (List ℕ)) (calls : List Call) (c : Call) → IsAnswered holds mid old now calls → IsCutOff mid then now new [] c → IsCutOff holds then old new calls c
+cut_on holds mid then old now new calls c first next loads held =
+    let before = first loads held in
+    let last = next (after_all loads calls) before.1 in
+    let cut = last.0 in
+    ((cut.0, cut.1, cut.2, cut.3, Appends-trans old now new _ _ before.0 cut.4), last.1)
+
+-- the answer to a call that is carried out is cut
+pub cut_first : (holds then : Registered → Type 0) (old new : Option (List ℕ)) (answer : Answer) (c : Call)
+    → ((loads : Registered) → holds loads → (answer ≡ said loads c) × then (after loads c)) → IsCutIn old new [] (answer_bytes answer) → IsCutOff holds then old new [] c
+cut_first holds then old new answer c carried cut loads held =
+    let done = carried loads held in
+    let Cut : Answer → Type 0 = λ a. IsCutIn old new [] (answer_bytes a) in
+    (subst Cut done.0 cut, done.1)
+
+-- the call behind those that have come
+pub asks_next : (input left : Option (List ℕ)) (ended : Bool) (buf : List ℕ) (len : ℕ) (calls : List Call) (c : Call) → HasCome input left ended buf calls → IsNextCall buf len c → IfSome input (λ bytes. AsksNext bytes calls c)
+asks_next input left ended buf len calls c come next = so_far input left ended (drop len buf) (calls ++ c ∷ []) (after_call input left ended buf len calls c come next)
+
+-- ---- bytes that are cut
+
+pub cut_at : (old now new : Option (List ℕ)) (bytes : List ℕ) (done : ℕ) → Appends old now (take done bytes) → Keeps now new → done < length bytes → IsCutIn old new [] bytes
+cut_at old now new bytes done wrote kept more =
+    let size : length (drop done bytes) ≡ length bytes - done = length-drop done bytes in
+    let left : 0 < length (drop done bytes) = omega arith in
+    (take done bytes, drop done bytes, sym (take-append-drop done bytes), left, Appends-kept old now new (take done bytes) wrote kept)
+
+-- what took no byte keeps what was there
+pub keeps-nil : (now new : Option (List ℕ)) → Appends now new [] → Keeps now new
+keeps-nil None new took = tt
+keeps-nil (Some xs) None took = absurd took
+keeps-nil (Some xs) (Some ys) took = took ∙ append-nil xs
 
 -- ---- the call that lent parts are
 
@@ -125,6 +171,11 @@ lent_call r lent found is e = sym (
     ∙ ap (λ (m : List ℕ). cond (is_plain r) (call_at m (path_of lent.target.now) lent.body.now) None) is.method
     ∙ ap (λ (t : List ℕ). cond (is_plain r) (call_at r.method (path_of t) lent.body.now) None) is.target
     ∙ ap (λ (b : List ℕ). cond (is_plain r) (call_at r.method (path_of r.target) b) None) is.body)
+
+-- ---- a writer that is left alone
+
+pub same_contents : {T : Type 0} (contents : T → Option (List ℕ)) (now new : Watched T) → new ≡ now → contents new.inner ≡ contents now.inner
+same_contents contents now new same = rw same refl
 
 -- ---- results
 
@@ -137,3 +188,8 @@ of_err (Err e) stop P is holds = subst P (sym is) holds
 pub of_any : {T E : Type 0} (result : Result T E) (P : E → Type 0) → ((e : E) → P e) → IfErr result P
 of_any (Ok value) P holds = tt
 of_any (Err e) P holds = holds e
+
+-- what follows for every error follows for the result
+pub of_each : {T E : Type 0} (result : Result T E) (P Q : E → Type 0) → ((e : E) → P e → Q e) → IfErr result P → IfErr result Q
+of_each (Ok value) P Q follows holds = tt
+of_each (Err e) P Q follows holds = follows e holds

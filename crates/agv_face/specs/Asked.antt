@@ -1,5 +1,5 @@
 -- What an input asks of the desk.
-use Rattle.std.specs.Prelude.{◌≡◌, ◌⊎◌, ℕ, List, ◌++◌, map, None, Some}
+use Rattle.std.specs.Prelude.{◌≡◌, ◌⊎◌, ℕ, List, [], ◌∷◌, ◌++◌, map, None, Some}
 use Rattle.agv_header.specs.declared.refusal.Refusal.{Refusal}
 use Rattle.agv_face.specs.declared.call.Call.{Call}
 use Rattle.agv_face.specs.Requests.{Request, IsRequest, IsFault}
@@ -19,6 +19,10 @@ BeginsWithNoCall bytes =
 -- the input begins with whole requests that are these calls
 abbrev pub AsksFirst : List ℕ → List Call → Type 0
 AsksFirst input calls = (front : List ℕ) × (rest : List ℕ) × (input ≡ front ++ rest) × Asks front calls
+
+-- the input begins with whole requests that are these calls, and then this one
+abbrev pub AsksNext : List ℕ → List Call → Call → Type 0
+AsksNext input calls call = AsksFirst input (calls ++ call ∷ [])
 
 -- the input is whole requests that are these calls, and then no call
 abbrev pub AsksUpToOther : List ℕ → List Call → Type 0

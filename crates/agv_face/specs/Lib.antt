@@ -8,3 +8,6 @@ pub mod Served
 pub mod Stepped
 pub mod Found
 pub mod Heard
+pub mod Stops
+pub mod Watched
+pub mod Open

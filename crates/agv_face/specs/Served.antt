@@ -1,5 +1,5 @@
 -- What the desk answers to calls, and what they make of the registered loads.
-use Rattle.std.specs.Prelude.{ℕ, ◌++◌, ◌⊎◌, Bool, List, [], ◌∷◌, Option, Result, Ok, Err, if◌then◌else◌}
+use Rattle.std.specs.Prelude.{◌≡◌, ℕ, ◌<◌, ◌++◌, Bool, List, [], ◌∷◌, length, Option, Result, Ok, Err, if◌then◌else◌}
 use Rattle.std.specs.FinSet as set
 use Rattle.std.specs.Io.KnownBytes.{Appends}
 use Rattle.agv_header.specs.declared.refusal.Refusal.{Refusal}
@@ -44,11 +44,23 @@ output loads (c ∷ calls) = answer_bytes (said loads c) ++ output (after loads 
 abbrev pub IsAnswered : (Registered → Type 0) → (Registered → Type 0) → Option (List ℕ) → Option (List ℕ) → List Call → Type 0
 IsAnswered holds holds_then old new calls = (loads : Registered) → holds loads → Appends old new (output loads calls) × holds_then (after_all loads calls)
 
--- the loads are as they were, or those after one call
-abbrev pub IsOneCallOn : (Registered → Type 0) → (Registered → Type 0) → Type 0
-IsOneCallOn holds holds_then = (loads : Registered) → holds loads → holds_then loads ⊎ ((call : Call) × holds_then (after loads call))
+-- the loads are as they were
+abbrev pub AreKept : (Registered → Type 0) → (Registered → Type 0) → Type 0
+AreKept holds holds_then = (loads : Registered) → holds loads → holds_then loads
 
--- the answers to the calls are written, and nothing else; the loads are those after the calls, or after one call more, whose answer isn't written
-abbrev pub IsCutShort : (Registered → Type 0) → (Registered → Type 0) → Option (List ℕ) → Option (List ℕ) → List Call → Type 0
-IsCutShort holds holds_then old new calls =
-    (loads : Registered) → holds loads → Appends old new (output loads calls) × (holds_then (after_all loads calls) ⊎ ((call : Call) × holds_then (after (after_all loads calls) call)))
+-- the loads are those after the call
+abbrev pub AreAfter : (Registered → Type 0) → (Registered → Type 0) → Call → Type 0
+AreAfter holds holds_then call = (loads : Registered) → holds loads → holds_then (after loads call)
+
+-- the calls are answered, and one call more is carried out, of whose answer nothing is written
+abbrev pub IsUnsaid : (Registered → Type 0) → (Registered → Type 0) → Option (List ℕ) → Option (List ℕ) → List Call → Call → Type 0
+IsUnsaid holds holds_then old new calls call = (loads : Registered) → holds loads → Appends old new (output loads calls) × holds_then (after (after_all loads calls) call)
+
+-- behind other bytes just a front of these is written, and not all
+abbrev pub IsCutIn : Option (List ℕ) → Option (List ℕ) → List ℕ → List ℕ → Type 0
+IsCutIn old new others bytes = (front : List ℕ) × (rest : List ℕ) × (bytes ≡ front ++ rest) × (0 < length rest) × Appends old new (others ++ front)
+
+-- the calls are answered, and one call more is carried out, whose answer is cut as it is written
+abbrev pub IsCutOff : (Registered → Type 0) → (Registered → Type 0) → Option (List ℕ) → Option (List ℕ) → List Call → Call → Type 0
+IsCutOff holds holds_then old new calls call =
+    (loads : Registered) → holds loads → IsCutIn old new (output loads calls) (answer_bytes (said (after_all loads calls) call)) × holds_then (after (after_all loads calls) call)

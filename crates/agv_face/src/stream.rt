@@ -4,13 +4,17 @@ ghost use Rattle.std.specs.Io.KnownBytes.{Appends, Consumes, IsAtEnd};
 ghost use Rattle.agv_store.specs.HeldLoads.{IsClean, IsOpen, HoldsLoads, KeepsLoads};
 ghost use Rattle.agv_store.specs.Registered.{Registered};
 ghost use Rattle.agv_face.specs.declared.call.Call.{Call};
-ghost use Rattle.agv_face.specs.Asked.{Asks, AsksFirst, AsksUpToOther};
-ghost use Rattle.agv_face.specs.Served.{said, after, registration_answer, place_answer, IsAnswered, IsOneCallOn, IsCutShort};
-ghost use Rattle.agv_face.specs.Stepped.{IsStep, IsOther};
+ghost use Rattle.agv_face.specs.Answers.{answer_bytes};
+ghost use Rattle.agv_face.specs.Asked.{Asks, AsksFirst, AsksNext, AsksUpToOther};
+ghost use Rattle.agv_face.specs.Open.{HoldsIfOpen};
+ghost use Rattle.agv_face.specs.Served.{said, after, registration_answer, place_answer, AreKept, AreAfter, IsAnswered, IsUnsaid, IsCutIn, IsCutOff};
+ghost use Rattle.agv_face.specs.Stepped.{IsStep, IsNextCall, IsOther};
+ghost use Rattle.agv_face.specs.Watched.{inner_of, HadCalls, FailedOnce, FailedNever, RanOut};
 
 use crate::answer::{Answer, answer_bytes};
 use crate::call::{Call, call_of};
 use crate::request::{Heard, read_request};
+use crate::watched::Watched;
 use agv_header::{Name, Refusal};
 use agv_store::{Fault, Loads};
 use sqlite::Alter;
@@ -43,9 +47,9 @@ impl From<AllocError> for Stop {
 }
 
 impl From<Fault> for Stop {
-    ghost use Rattle.agv_face.specs.declared.stream.Stop.TheVariants as Stop;
+    ghost use Rattle.agv_face.specs.Stops.{stop_of};
 
-    ghost from_gives = { λ _ stop. (stop ≢ Stop.Other) × (stop ≢ Stop.Read) };
+    ghost from_gives = { λ fault stop. stop ≡ stop_of fault };
 
     fn from(fault: Fault) -> Stop {
         match fault {
@@ -83,12 +87,14 @@ fn drop_front(buf: &mut Vec<u8>, n: usize)
 }
 
 /// One read, whose bytes go to the end of the buffer. `false` at the end of the input.
-fn read_some<R: Read>(reader: &mut R, buf: &mut Vec<u8>) -> Result<bool, Stop>
+fn read_some<R: Read>(reader: &mut Watched<R>, buf: &mut Vec<u8>) -> Result<bool, Stop>
     requires { vec_len buf.old + 4096 ≤ vec_capacity buf.old }
     ensures got { IfOk result (λ more. (bytes : List ℕ) × (buf.new.items ≡ buf.old.items ++ bytes) × (length bytes ≤ 4096)
-        × Consumes (R.remaining reader.old) (R.remaining reader.new) bytes × (more ≡ false → (bytes ≡ []) × IsAtEnd (R.remaining reader.new))) }
+        × Consumes (R.remaining (inner_of reader.old)) (R.remaining (inner_of reader.new)) bytes × (more ≡ false → (bytes ≡ []) × IsAtEnd (R.remaining (inner_of reader.new)))) }
     ensures room { OnOk result (vec_capacity buf.old ≤ vec_capacity buf.new) }
-    ensures failed { IfErr result (λ stop. (stop ≡ Stop.Read) ⊎ (stop ≡ Stop.Memory)) }
+    ensures calls { HadCalls 1 reader.old reader.new }
+    ensures unfailed { OnOk result (FailedNever reader.old reader.new) }
+    ensures failed { IfErr result (λ stop. ((stop ≡ Stop.Read) × FailedOnce reader.old reader.new) ⊎ ((stop ≡ Stop.Memory) × FailedNever reader.old reader.new)) }
 {
     let mut chunk = [0; 4096];
     match reader.read(&mut chunk) {
@@ -101,9 +107,11 @@ fn read_some<R: Read>(reader: &mut R, buf: &mut Vec<u8>) -> Result<bool, Stop>
 }
 
 /// Writes all the bytes. A write that takes none is a fault, and so is any error.
-fn write_whole<W: Write>(writer: &mut W, bytes: &[u8]) -> Result<(), Stop>
-    ensures written { OnOk result (Appends (W.contents writer.old) (W.contents writer.new) bytes.now) }
-    ensures failed { IfErr result (λ stop. stop ≡ Stop.Write) }
+fn write_whole<W: Write>(writer: &mut Watched<W>, bytes: &[u8]) -> Result<(), Stop>
+    ensures written { OnOk result (Appends (W.contents (inner_of writer.old)) (W.contents (inner_of writer.new)) bytes.now) }
+    ensures unfailed { OnOk result (FailedNever writer.old writer.new) }
+    ensures failed { IfErr result (λ stop. (stop ≡ Stop.Write) × FailedOnce writer.old writer.new) }
+    ensures cut { OnErr result (IsCutIn (W.contents (inner_of writer.old)) (W.contents (inner_of writer.new)) [] bytes.now) }
 {
     let mut done = 0;
     while done < bytes.len() {
@@ -150,22 +158,42 @@ fn carry_out<S: Alter + Drop>(loads: &mut Loads<S>, call: Call) -> Result<Answer
     }
 }
 
+/// Writes an answer.
+fn write_answer<W: Write>(
+    alloc: Global,
+    answer: &Answer,
+    writer: &mut Watched<W>,
+) -> Result<(), Stop>
+    ensures written { OnOk result (Appends (W.contents (inner_of writer.old)) (W.contents (inner_of writer.new)) (answer_bytes answer.now)) }
+    ensures unfailed { OnOk result (FailedNever writer.old writer.new) }
+    ensures failed { IfErr result (λ stop. (stop ≡ Stop.Write) ⊎ (stop ≡ Stop.Memory)) }
+    ensures unwritten { IfErr result (λ stop. stop ≡ Stop.Write → FailedOnce writer.old writer.new) }
+    ensures cut { IfErr result (λ stop. stop ≡ Stop.Write → IsCutIn (W.contents (inner_of writer.old)) (W.contents (inner_of writer.new)) [] (answer_bytes answer.now)) }
+    ensures untouched { IfErr result (λ stop. stop ≢ Stop.Write → writer.new ≡ writer.old) }
+{
+    let bytes = answer_bytes(alloc, answer)?;
+    write_whole(writer, &bytes)
+}
+
 /// Carries a call out, and writes its answer.
 fn answer_call<S: Alter + Drop, W: Write>(
     alloc: Global,
     loads: &mut Loads<S>,
     call: Call,
-    writer: &mut W,
+    writer: &mut Watched<W>,
 ) -> Result<(), Stop>
     ensures clean { IsClean S.Store loads.new → IsClean S.Store loads.old }
-    ensures answered { IsClean S.Store loads.new → OnOk result (IsAnswered (HoldsLoads S.Store loads.old) (HoldsLoads S.Store loads.new) (W.contents writer.old) (W.contents writer.new) (call ∷ [])) }
+    ensures answered { IsClean S.Store loads.new → OnOk result (IsAnswered (HoldsLoads S.Store loads.old) (HoldsLoads S.Store loads.new) (W.contents (inner_of writer.old)) (W.contents (inner_of writer.new)) (call ∷ [])) }
+    ensures unfailed { OnOk result (FailedNever writer.old writer.new) }
     ensures failed { IfErr result (λ stop. (stop ≢ Stop.Other) × (stop ≢ Stop.Read)) }
+    ensures unwritten { IfErr result (λ stop. stop ≡ Stop.Write → FailedOnce writer.old writer.new) }
     ensures faulted { IfErr result (λ stop. stop ≢ Stop.Write → (writer.new ≡ writer.old)
-        × (IsClean S.Store loads.new → IsOpen S.Store loads.new → IsOneCallOn (HoldsLoads S.Store loads.old) (HoldsLoads S.Store loads.new))) }
+        × ((IsClean S.Store loads.new → AreKept (HoldsLoads S.Store loads.old) (HoldsIfOpen S.Store loads.new))
+        ⊎ (IsClean S.Store loads.new → AreAfter (HoldsLoads S.Store loads.old) (HoldsLoads S.Store loads.new) call))) }
+    ensures cut_off { IsClean S.Store loads.new → IfErr result (λ stop. stop ≡ Stop.Write → IsCutOff (HoldsLoads S.Store loads.old) (HoldsLoads S.Store loads.new) (W.contents (inner_of writer.old)) (W.contents (inner_of writer.new)) [] call) }
 {
     let answer = carry_out(loads, call)?;
-    let bytes = answer_bytes(alloc, &answer)?;
-    write_whole(writer, &bytes)
+    write_answer(alloc, &answer, writer)
 }
 
 /// Answers the next request of the buffer, where it has come whole.
@@ -174,15 +202,20 @@ fn answer_next<S: Alter + Drop, W: Write>(
     loads: &mut Loads<S>,
     buf: &[u8],
     ended: bool,
-    writer: &mut W,
+    writer: &mut Watched<W>,
 ) -> Result<Step, Stop>
     ensures clean { IsClean S.Store loads.new → IsClean S.Store loads.old }
     ensures answered { IfOk result (λ step. (calls : List Call) × IsStep buf.now ended step calls
-        × (IsClean S.Store loads.new → IsAnswered (HoldsLoads S.Store loads.old) (HoldsLoads S.Store loads.new) (W.contents writer.old) (W.contents writer.new) calls)) }
-    ensures other { IfErr result (λ stop. stop ≡ Stop.Other → IsOther buf.now ended × IsAnswered (HoldsLoads S.Store loads.old) (HoldsLoads S.Store loads.new) (W.contents writer.old) (W.contents writer.new) []) }
+        × (IsClean S.Store loads.new → IsAnswered (HoldsLoads S.Store loads.old) (HoldsLoads S.Store loads.new) (W.contents (inner_of writer.old)) (W.contents (inner_of writer.new)) calls)) }
+    ensures other { IfErr result (λ stop. stop ≡ Stop.Other → IsOther buf.now ended × IsAnswered (HoldsLoads S.Store loads.old) (HoldsLoads S.Store loads.new) (W.contents (inner_of writer.old)) (W.contents (inner_of writer.new)) []) }
+    ensures unfailed { OnOk result (FailedNever writer.old writer.new) }
     ensures not_read { IfErr result (λ stop. stop ≢ Stop.Read) }
+    ensures unwritten { IfErr result (λ stop. stop ≡ Stop.Write → FailedOnce writer.old writer.new) }
     ensures faulted { IfErr result (λ stop. stop ≢ Stop.Write → (writer.new ≡ writer.old)
-        × (IsClean S.Store loads.new → IsOpen S.Store loads.new → IsOneCallOn (HoldsLoads S.Store loads.old) (HoldsLoads S.Store loads.new))) }
+        × ((IsClean S.Store loads.new → AreKept (HoldsLoads S.Store loads.old) (HoldsIfOpen S.Store loads.new))
+        ⊎ ((len : ℕ) × (call : Call) × IsNextCall buf.now len call × (IsClean S.Store loads.new → AreAfter (HoldsLoads S.Store loads.old) (HoldsLoads S.Store loads.new) call)))) }
+    ensures cut_off { IfErr result (λ stop. stop ≡ Stop.Write → (len : ℕ) × (call : Call) × IsNextCall buf.now len call
+        × (IsClean S.Store loads.new → IsCutOff (HoldsLoads S.Store loads.old) (HoldsLoads S.Store loads.new) (W.contents (inner_of writer.old)) (W.contents (inner_of writer.new)) [] call)) }
 {
     match read_request(buf, ended) {
         Heard::Need => Ok(Step::Need),
@@ -202,27 +235,44 @@ fn answer_next<S: Alter + Drop, W: Write>(
 pub fn answer_calls<S: Alter + Drop, R: Read, W: Write>(
     alloc: Global,
     loads: &mut Loads<S>,
-    reader: &mut R,
-    writer: &mut W,
+    reader: &mut Watched<R>,
+    writer: &mut Watched<W>,
 ) -> Result<u64, Stop>
     ensures clean { IsClean S.Store loads.new → IsClean S.Store loads.old }
 
     // The input is some calls and no byte more, and they are answered.
-    ensures answered { IfOk result (λ n. (calls : List Call) × (n ≡ length calls) × IfSome (R.remaining reader.old) (λ input. Asks input calls)
-        × (IsClean S.Store loads.new → IsAnswered (HoldsLoads S.Store loads.old) (HoldsLoads S.Store loads.new) (W.contents writer.old) (W.contents writer.new) calls)) }
+    ensures answered { IfOk result (λ n. (calls : List Call) × (n ≡ length calls) × IfSome (R.remaining (inner_of reader.old)) (λ input. Asks input calls)
+        × (IsClean S.Store loads.new → IsAnswered (HoldsLoads S.Store loads.old) (HoldsLoads S.Store loads.new) (W.contents (inner_of writer.old)) (W.contents (inner_of writer.new)) calls)) }
 
     // The input is some calls and then no call; those are answered, and nothing more is written.
-    ensures other { IfErr result (λ stop. stop ≡ Stop.Other → (calls : List Call) × IfSome (R.remaining reader.old) (λ input. AsksUpToOther input calls)
-        × (IsClean S.Store loads.new → IsAnswered (HoldsLoads S.Store loads.old) (HoldsLoads S.Store loads.new) (W.contents writer.old) (W.contents writer.new) calls)) }
+    ensures other { IfErr result (λ stop. stop ≡ Stop.Other → (calls : List Call) × IfSome (R.remaining (inner_of reader.old)) (λ input. AsksUpToOther input calls)
+        × (IsClean S.Store loads.new → IsAnswered (HoldsLoads S.Store loads.old) (HoldsLoads S.Store loads.new) (W.contents (inner_of writer.old)) (W.contents (inner_of writer.new)) calls)) }
 
     // The input begins with some calls; those are answered, and nothing more is written.
-    ensures so_far { IfErr result (λ stop. stop ≡ Stop.Read → (calls : List Call) × IfSome (R.remaining reader.old) (λ input. AsksFirst input calls)
-        × (IsClean S.Store loads.new → IsAnswered (HoldsLoads S.Store loads.old) (HoldsLoads S.Store loads.new) (W.contents writer.old) (W.contents writer.new) calls)) }
+    ensures so_far { IfErr result (λ stop. stop ≡ Stop.Read → (calls : List Call) × IfSome (R.remaining (inner_of reader.old)) (λ input. AsksFirst input calls)
+        × (IsClean S.Store loads.new → IsAnswered (HoldsLoads S.Store loads.old) (HoldsLoads S.Store loads.new) (W.contents (inner_of writer.old)) (W.contents (inner_of writer.new)) calls)) }
 
-    // The same, but one call more may be carried out.
-    ensures faulted { IfErr result (λ stop. (stop ≡ Stop.Memory) ⊎ (stop ≡ Stop.Storage) → (calls : List Call) × IfSome (R.remaining reader.old) (λ input. AsksFirst input calls)
-        × (IsClean S.Store loads.new → IsOpen S.Store loads.new
-        → IsCutShort (HoldsLoads S.Store loads.old) (HoldsLoads S.Store loads.new) (W.contents writer.old) (W.contents writer.new) calls)) }
+    // Those are answered and nothing more is written, and it may be that the next call is carried out.
+    ensures faulted { IfErr result (λ stop. (stop ≡ Stop.Memory) ⊎ (stop ≡ Stop.Storage)
+        → ((calls : List Call) × IfSome (R.remaining (inner_of reader.old)) (λ input. AsksFirst input calls)
+        × (IsClean S.Store loads.new → IsAnswered (HoldsLoads S.Store loads.old) (HoldsIfOpen S.Store loads.new) (W.contents (inner_of writer.old)) (W.contents (inner_of writer.new)) calls))
+        ⊎ ((calls : List Call) × (call : Call) × IfSome (R.remaining (inner_of reader.old)) (λ input. AsksNext input calls call)
+        × (IsClean S.Store loads.new → IsUnsaid (HoldsLoads S.Store loads.old) (HoldsLoads S.Store loads.new) (W.contents (inner_of writer.old)) (W.contents (inner_of writer.new)) calls call))) }
+
+    // Those are answered, and the next call is carried out; just a front of its answer is written.
+    ensures cut_off { IfErr result (λ stop. stop ≡ Stop.Write → (calls : List Call) × (call : Call) × IfSome (R.remaining (inner_of reader.old)) (λ input. AsksNext input calls call)
+        × (IsClean S.Store loads.new → IsCutOff (HoldsLoads S.Store loads.old) (HoldsLoads S.Store loads.new) (W.contents (inner_of writer.old)) (W.contents (inner_of writer.new)) calls call)) }
+
+    // At the end neither the reader nor the writer has failed.
+    ensures unfailed { OnOk result (FailedNever reader.old reader.new × FailedNever writer.old writer.new) }
+
+    // It is `Read` where the reader failed, or had too many reads; else the reader didn't fail.
+    ensures read { IfErr result (λ stop. stop ≡ Stop.Read → RanOut reader.old reader.new) }
+    ensures unread { IfErr result (λ stop. stop ≢ Stop.Read → FailedNever reader.old reader.new) }
+
+    // It is `Write` where the writer failed, or took no byte; else the writer didn't.
+    ensures write { IfErr result (λ stop. stop ≡ Stop.Write → FailedOnce writer.old writer.new) }
+    ensures unwritten { IfErr result (λ stop. stop ≢ Stop.Write → FailedNever writer.old writer.new) }
 {
     let mut buf = Vec::with_capacity(alloc, ROOM)?;
     let mut ended = false;

@@ -1,8 +1,8 @@
-//! A reader and a writer that take their time, and fail when they are told to.
+//! A reader and a writer that take their time, and fail once, when they are told to.
 
 use std::io::{self, ErrorKind, Read, Write};
 
-/// Gives at most `step` bytes at a read, and fails at the read after `reads`.
+/// Gives at most `step` bytes at a read. The read after `reads` fails, and those after it work again.
 #[derive(Drop)]
 pub(crate) struct Drip {
     pub(crate) bytes: &'static [u8],
@@ -13,6 +13,7 @@ pub(crate) struct Drip {
 impl Read for Drip {
     fn read(&mut self, buf: &mut [u8]) -> io::Result<usize> {
         if self.reads == 0 {
+            self.reads = u32::MAX;
             return Err(io::Error::from(ErrorKind::ConnectionReset));
         }
         self.reads -= 1;
@@ -24,7 +25,7 @@ impl Read for Drip {
     }
 }
 
-/// Takes at most `step` bytes at a write, and fails at the write after `writes`.
+/// Takes at most `step` bytes at a write. The write after `writes` fails, and those after it work again.
 #[derive(Drop)]
 pub(crate) struct Trickle {
     pub(crate) taken: Vec<u8>,
@@ -35,6 +36,7 @@ pub(crate) struct Trickle {
 impl Write for Trickle {
     fn write(&mut self, buf: &[u8]) -> io::Result<usize> {
         if self.writes == 0 {
+            self.writes = u32::MAX;
             return Err(io::Error::from(ErrorKind::BrokenPipe));
         }
         self.writes -= 1;

@@ -2,6 +2,7 @@ use Rattle.std.proofs.Common.{◌≡◌, ◌≤◌, ◌+◌, ◌-◌, ◌*◌, L
 use Rattle.agv_store.specs.HeldLoads.{IsClean, HoldsLoads}
 use Rattle.agv_face.specs.declared.call.Call.{Call}
 use Rattle.agv_face.specs.Served.{IsAnswered}
+use Rattle.agv_face.specs.Watched.{HadCalls, FailedNever}
 use Rattle.agv_face.proofs.Streaming.{HasCome}
 use Rattle.agv_face.proofs.stream.answer_calls.Given as goal
 
@@ -9,10 +10,11 @@ use Rattle.agv_face.proofs.stream.answer_calls.Given as goal
 abbrev pub invariant-loop-buf : goal.invariant-loop-buf
 invariant-loop-buf g l =
     (calls : List Call) × (l.answers ≡ length calls)
-    × HasCome (g.R.Read.remaining l.initial.reader) (g.R.Read.remaining l.reader) l.ended l.buf.items calls
+    × HasCome (g.R.Read.remaining l.initial.reader.inner) (g.R.Read.remaining l.reader.inner) l.ended l.buf.items calls
     × (IsClean g.S.Store l.loads → IsClean g.S.Store l.initial.loads)
-    × (IsClean g.S.Store l.loads → IsAnswered (HoldsLoads g.S.Store l.initial.loads) (HoldsLoads g.S.Store l.loads) (g.W.Write.contents l.initial.writer) (g.W.Write.contents l.writer) calls)
+    × (IsClean g.S.Store l.loads → IsAnswered (HoldsLoads g.S.Store l.initial.loads) (HoldsLoads g.S.Store l.loads) (g.W.Write.contents l.initial.writer.inner) (g.W.Write.contents l.writer.inner) calls)
     × (77824 ≤ vec_capacity l.buf) × (l.reads ≤ 16777216) × (l.answers + vec_len l.buf ≤ l.reads * 4096)
+    × HadCalls l.reads l.initial.reader l.reader × FailedNever l.initial.reader l.reader × FailedNever l.initial.writer l.writer
 
 abbrev pub decreases-loop-buf : goal.decreases-loop-buf
 decreases-loop-buf g l = (16777216 - l.reads) * 4097 + vec_len l.buf

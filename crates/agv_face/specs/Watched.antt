@@ -1,0 +1,39 @@
+-- What a clause reads of a watched reader or writer.
+use Rattle.std.specs.Prelude.{◌≡◌, ℕ, ◌≤◌, ◌⊎◌, ◌+◌, ◌-◌, ◌^◌, min}
+use Rattle.agv_face.specs.declared.watched.Watched.{Watched}
+
+-- the reader or the writer
+abbrev pub inner_of : {T : Type 0} → Watched T → T
+inner_of watched = watched.inner
+
+-- how many calls it had
+abbrev pub calls_of : {T : Type 0} → Watched T → ℕ
+calls_of watched = watched.calls
+
+-- how many of them failed
+abbrev pub failures_of : {T : Type 0} → Watched T → ℕ
+failures_of watched = watched.failures
+
+-- a count and so many more, up to 2^64 - 1, where it stays
+abbrev pub counted : ℕ → ℕ → ℕ
+counted count more = min (count + more) (2 ^ 64 - 1)
+
+-- it had one call
+abbrev pub HadCall : {T : Type 0} → Watched T → Watched T → Type 0
+HadCall old new = calls_of new ≡ counted (calls_of old) 1
+
+-- it had so many calls, at least
+abbrev pub HadCalls : {T : Type 0} → ℕ → Watched T → Watched T → Type 0
+HadCalls n old new = counted (calls_of old) n ≤ calls_of new
+
+-- one call failed
+abbrev pub FailedOnce : {T : Type 0} → Watched T → Watched T → Type 0
+FailedOnce old new = failures_of new ≡ counted (failures_of old) 1
+
+-- no call failed
+abbrev pub FailedNever : {T : Type 0} → Watched T → Watched T → Type 0
+FailedNever old new = failures_of new ≡ failures_of old
+
+-- one call failed, or none of 16,777,216 calls did
+abbrev pub RanOut : {T : Type 0} → Watched T → Watched T → Type 0
+RanOut old new = FailedOnce old new ⊎ (HadCalls 16777216 old new × FailedNever old new)

@@ -1,0 +1,120 @@
+//! A reader or a writer whose failures are counted.
+ghost use Rattle.std.specs.Prelude.{◌≡◌, ◌<◌, ◌⊎◌, length, IfOk, OnOk, OnErr, if◌then◌else◌};
+ghost use Rattle.std.specs.Io.{ReadsAtMost, WritesAtMost};
+ghost use Rattle.std.specs.Io.KnownBytes.{Keeps, ReadConsumes, WriteAppends};
+
+use std::io::{self, Read, Write};
+
+/// A reader or a writer, with the number of its calls so far and of those that failed.
+///
+/// A call fails where it answers an error, and a write also where it takes no byte of some. So a
+/// clause can say that a stream ended with a fault of its reader because the reader failed. Both
+/// numbers stay at `u64::MAX` once they are there.
+#[derive(Drop)]
+pub struct Watched<T> {
+    inner: T,
+    calls: u64,
+    failures: u64,
+}
+
+impl<T> Watched<T> {
+    ghost use Rattle.agv_face.specs.Watched.{inner_of, calls_of, failures_of, counted};
+
+    /// The reader or the writer, before its first call.
+    pub fn new(inner: T) -> Watched<T>
+        ensures inner { inner_of result ≡ inner }
+        ensures calls { calls_of result ≡ 0 }
+        ensures failures { failures_of result ≡ 0 }
+    {
+        Watched {
+            inner,
+            calls: 0,
+            failures: 0,
+        }
+    }
+
+    /// The reader or the writer.
+    pub fn inner(&self) -> &T
+        ensures { result.now ≡ inner_of self.now }
+    {
+        &self.inner
+    }
+
+    /// How many calls it had.
+    pub fn calls(&self) -> u64
+        ensures { result ≡ calls_of self.now }
+    {
+        self.calls
+    }
+
+    /// How many of its calls failed.
+    pub fn failures(&self) -> u64
+        ensures { result ≡ failures_of self.now }
+    {
+        self.failures
+    }
+
+    /// Counts a call.
+    fn count(&mut self, failed: bool)
+        ensures inner { inner_of self.new ≡ inner_of self.old }
+        ensures calls { calls_of self.new ≡ counted (calls_of self.old) 1 }
+        ensures failures { failures_of self.new ≡ (if failed then counted (failures_of self.old) 1 else failures_of self.old) }
+    {
+        self.calls = self.calls.saturating_add(1);
+        if failed {
+            self.failures = self.failures.saturating_add(1);
+        }
+    }
+}
+
+impl<R: Read> Read for Watched<R> {
+    ghost use Rattle.agv_face.specs.Watched.{inner_of, HadCall, FailedOnce, FailedNever};
+
+    ghost remaining = { λ watched. R.remaining (inner_of watched) };
+
+    fn read(&mut self, buf: &mut [u8]) -> io::Result<usize>
+        ensures bound { ReadsAtMost result buf.new }
+        ensures bytes { ReadConsumes (R.remaining (inner_of self.old)) (R.remaining (inner_of self.new)) result buf.new }
+        ensures calls { HadCall self.old self.new }
+        ensures gave { OnOk result (FailedNever self.old self.new) }
+        ensures failed { OnErr result (FailedOnce self.old self.new) }
+    {
+        let result = self.inner.read(buf);
+        self.count(result.is_err());
+        result
+    }
+}
+
+impl<W: Write> Write for Watched<W> {
+    ghost use Rattle.agv_face.specs.Watched.{inner_of, HadCall, FailedOnce, FailedNever};
+
+    ghost contents = { λ watched. W.contents (inner_of watched) };
+
+    fn write(&mut self, buf: &[u8]) -> io::Result<usize>
+        ensures bound { WritesAtMost result buf.now }
+        ensures bytes { WriteAppends (W.contents (inner_of self.old)) (W.contents (inner_of self.new)) result buf.now }
+        ensures calls { HadCall self.old self.new }
+        ensures took { IfOk result (λ n. (0 < n) ⊎ (length buf.now ≡ 0) → FailedNever self.old self.new) }
+        ensures took_none { IfOk result (λ n. n ≡ 0 → 0 < length buf.now → FailedOnce self.old self.new) }
+        ensures failed { OnErr result (FailedOnce self.old self.new) }
+    {
+        let result = self.inner.write(buf);
+        let failed = match &result {
+            Ok(n) => *n == 0 && !buf.is_empty(),
+            Err(_) => true,
+        };
+        self.count(failed);
+        result
+    }
+
+    fn flush(&mut self) -> io::Result<()>
+        ensures bytes { Keeps (W.contents (inner_of self.old)) (W.contents (inner_of self.new)) }
+        ensures calls { HadCall self.old self.new }
+        ensures passed { OnOk result (FailedNever self.old self.new) }
+        ensures failed { OnErr result (FailedOnce self.old self.new) }
+    {
+        let result = self.inner.flush();
+        self.count(result.is_err());
+        result
+    }
+}
