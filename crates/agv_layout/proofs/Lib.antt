@@ -1,0 +1,14 @@
+mod Among
+mod Drafts
+mod Followed
+mod Joined
+mod Levels
+mod Listed
+mod Maps
+mod Nearest
+mod Noted
+mod Order
+mod Routes
+mod Rows
+mod Sound
+mod Uniques

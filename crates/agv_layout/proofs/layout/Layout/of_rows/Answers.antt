@@ -1,0 +1,30 @@
+use Rattle.std.proofs.Common.{sym, subst}
+use Rattle.std.proofs.lemmas.Bool.{iff_false}
+use Rattle.agv_layout.specs.Draft.{IsWhole}
+use Rattle.agv_layout.specs.Layout.{KeepsRules}
+use Rattle.agv_layout.specs.Rows.{IsLayoutOf}
+use Rattle.agv_layout.proofs.Sound.{layout_of, sound_from, whole_from, plan_from}
+use Rattle.agv_layout.proofs.layout.Layout.of_rows.Goals as goal
+
+pub returns-then-not-is_whole-clause-bad : goal.returns-then-not-is_whole-clause-bad
+returns-then-not-is_whole-clause-bad c _ =
+    let drawn = c.in_ok-draft.ensures.drawn in (
+      iff_false c.are_over_limit.ensures c.if-are_over_limit.false,
+      λ sound. iff_false c.is_whole.ensures c.if-not-is_whole.true (subst IsWhole (sym drawn) (whole_from c.args.rows.now sound)),
+    )
+
+pub invariant_of-result : goal.invariant_of-result
+invariant_of-result c =
+    let drawn = c.in_ok-draft.ensures.drawn in
+    let whole = subst IsWhole drawn (c.is_whole.ensures.0 c.if-not-is_whole.false) in
+    subst KeepsRules (sym drawn) (plan_from c.args.rows.now (iff_false c.are_over_limit.ensures c.if-are_over_limit.false) c.in_ok-draft.ensures.once whole)
+
+pub returns-clause-ok : goal.returns-clause-ok
+returns-clause-ok c =
+    let rows = c.args.rows.now in
+    let drawn = c.in_ok-draft.ensures.drawn in
+    let whole = subst IsWhole drawn (c.is_whole.ensures.0 c.if-not-is_whole.false) in (
+      iff_false c.are_over_limit.ensures c.if-are_over_limit.false,
+      sound_from rows c.in_ok-draft.ensures.once whole,
+      subst (IsLayoutOf rows) (sym drawn) (layout_of rows c.in_ok-draft.ensures.once),
+    )

@@ -1,0 +1,76 @@
+-- What is read of rows so far, as a layout's parts.
+use Rattle.std.specs.Prelude.{◌≤◌, Bool, ◌&&◌, not, nat_eq, nat_le, List, is_some}
+use Rattle.std.specs.BTreeSet.{contains}
+use Rattle.std.specs.Cmp.Lexicographic.{pointwise}
+use Rattle.std.specs.FinMap as map
+use Rattle.std.specs.FinSet as set
+use Rattle.agv_header.specs.Name.{name_cmp}
+use Rattle.agv_layout.specs.declared.draft.Draft.{Draft}
+use Rattle.agv_layout.specs.declared.edge.Ends.{Ends}
+use Rattle.agv_layout.specs.declared.row.LayoutRow.{LayoutRow}
+use Rattle.agv_layout.specs.declared.row.LayoutRow.TheVariants as row
+use Rattle.agv_layout.specs.declared.station.Spot.{Spot}
+use Rattle.agv_layout.specs.Layout.{Name, Layout, IsEdge, IsStation, Leads, Stands}
+use Rattle.agv_layout.specs.Rows.{nodes_in, edges_in, stations_in}
+
+-- the parts of a draft
+abbrev pub drawn : Draft → Layout
+drawn draft = record {
+  nodes = set.from_list draft.nodes.keys;
+  edges = map.from_entries draft.edges.entries;
+  stations = map.from_entries draft.stations.entries;
+}
+
+-- the parts that rows give, where no id is twice in its kind
+abbrev pub plan_of : List LayoutRow → Layout
+plan_of rows = record {
+  nodes = set.from_list (nodes_in rows);
+  edges = map.from_entries (edges_in rows);
+  stations = map.from_entries (stations_in rows);
+}
+
+-- whether something of the row's kind has its id already
+abbrev pub has_id : Layout → LayoutRow → Bool
+has_id plan (row.Node id) = set.contains plan.nodes id
+has_id plan (row.Edge id start finish) = is_some (map.get plan.edges id)
+has_id plan (row.Station id node capacity) = is_some (map.get plan.stations id)
+
+-- with what one more row says
+abbrev pub with_row : Layout → LayoutRow → Layout
+with_row plan (row.Node id) = record { nodes = set.insert plan.nodes id; edges = plan.edges; stations = plan.stations }
+with_row plan (row.Edge id start finish) = record {
+  nodes = plan.nodes;
+  edges = map.insert plan.edges id (record { start = start; finish = finish });
+  stations = plan.stations;
+}
+with_row plan (row.Station id node capacity) = record {
+  nodes = plan.nodes;
+  edges = plan.edges;
+  stations = map.insert plan.stations id (record { node = node; capacity = capacity });
+}
+
+-- as the tests of the code compute `Leads` and `Stands`
+abbrev pub leads : Draft → Ends → Bool
+leads draft ends =
+    contains name_cmp draft.nodes ends.start && (contains name_cmp draft.nodes ends.finish && not (pointwise nat_eq ends.start ends.finish))
+
+abbrev pub stands : Draft → Spot → Bool
+stands draft spot = contains name_cmp draft.nodes spot.node && (nat_le 1 spot.capacity && nat_le spot.capacity 999)
+
+-- there is a node
+abbrev pub HasNode : Layout → Type 0
+HasNode plan = 1 ≤ set.len plan.nodes
+
+-- each edge leads from a node to another node
+abbrev pub AllLead : Layout → Type 0
+AllLead plan = (id : Name) (ends : Ends) → IsEdge plan id ends → Leads plan ends
+
+-- each station is at a node, and has room for 1 to 999 loads
+abbrev pub AllStand : Layout → Type 0
+AllStand plan = (id : Name) (spot : Spot) → IsStation plan id spot → Stands plan spot
+
+-- there is a node, and edges and stations are at nodes
+pub record IsWhole (plan : Layout) : Type 0 where
+  pub some : HasNode plan
+  pub leads : AllLead plan
+  pub stands : AllStand plan

@@ -1,0 +1,54 @@
+-- The layout of a warehouse: its nodes, its edges and its stations (VDA 5050: nodes and edges; stations are this project's).
+use Rattle.std.specs.Prelude.{◌≡◌, ◌≢◌, ℕ, ◌≤◌, List, Some, IsTrue}
+use Rattle.std.specs.FinMap as map
+use Rattle.std.specs.FinSet as set
+use Rattle.agv_header.specs.Name.{name_cmp}
+use Rattle.agv_layout.specs.declared.edge.Ends.{Ends}
+use Rattle.agv_layout.specs.declared.edge.Edge.{Edge}
+use Rattle.agv_layout.specs.declared.station.Spot.{Spot}
+use Rattle.agv_layout.specs.declared.station.Station.{Station}
+
+-- a name, as the list of its bytes
+abbrev pub Name : Type 0
+Name = List ℕ
+
+-- the set of the nodes, what each edge leads from and to, and where each station is and how much room it has
+pub record Layout : Type 0 where
+  pub nodes : set.FinSet name_cmp
+  pub edges : map.FinMap name_cmp Ends
+  pub stations : map.FinMap name_cmp Spot
+
+-- it is a node of the layout
+abbrev pub IsNode : Layout → Name → Type 0
+IsNode layout id = IsTrue (set.contains layout.nodes id)
+
+-- the edge of this name leads so
+abbrev pub IsEdge : Layout → Name → Ends → Type 0
+IsEdge layout id ends = map.get layout.edges id ≡ Some ends
+
+-- the station of this name is there
+abbrev pub IsStation : Layout → Name → Spot → Type 0
+IsStation layout id spot = map.get layout.stations id ≡ Some spot
+
+-- an edge leads from a node to another node
+abbrev pub Leads : Layout → Ends → Type 0
+Leads layout ends = IsNode layout ends.start × IsNode layout ends.finish × (ends.start ≢ ends.finish)
+
+-- a station is at a node, and has room for 1 to 999 loads
+abbrev pub Stands : Layout → Spot → Type 0
+Stands layout spot = IsNode layout spot.node × (1 ≤ spot.capacity) × (spot.capacity ≤ 999)
+
+-- what holds of every layout: there is a node, and there are at most 500 nodes, 1,500 edges and 500 stations
+pub record KeepsRules (layout : Layout) : Type 0 where
+  pub some : 1 ≤ set.len layout.nodes
+  pub few_nodes : set.len layout.nodes ≤ 500
+  pub few_edges : map.len layout.edges ≤ 1500
+  pub few_stations : map.len layout.stations ≤ 500
+  pub leads : (id : Name) (ends : Ends) → IsEdge layout id ends → Leads layout ends
+  pub stands : (id : Name) (spot : Spot) → IsStation layout id spot → Stands layout spot
+
+abbrev pub edge_of : Name → Ends → Edge
+edge_of id ends = record { id = id; start = ends.start; finish = ends.finish }
+
+abbrev pub station_of : Name → Spot → Station
+station_of id spot = record { id = id; node = spot.node; capacity = spot.capacity }

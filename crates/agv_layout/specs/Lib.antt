@@ -1,0 +1,10 @@
+pub mod Arrivals
+pub mod Code
+pub mod Draft
+pub mod Layout
+pub mod Levels
+pub mod Listing
+pub mod Rows
+pub mod Shown
+pub mod Walk
+pub mod Ways

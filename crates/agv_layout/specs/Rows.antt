@@ -1,0 +1,80 @@
+-- The rows of a layout, in any order: when they give one, and which (this project's profile).
+use Rattle.std.specs.Prelude.{◌≢◌, ◌⊎◌, ◌↔◌, ◌<◌, ◌≤◌, List, length, Option, None, Some, All, AllPairs, Contains}
+use Rattle.std.specs.List.{filter_map}
+use Rattle.std.specs.Map.{keys_of, values_of}
+use Rattle.agv_layout.specs.declared.edge.Ends.{Ends}
+use Rattle.agv_layout.specs.declared.row.LayoutRow.{LayoutRow}
+use Rattle.agv_layout.specs.declared.row.LayoutRow.TheVariants as row
+use Rattle.agv_layout.specs.declared.station.Spot.{Spot}
+use Rattle.agv_layout.specs.Layout.{Name, Layout, IsNode, IsEdge, IsStation}
+
+-- what a row says of a node: its id
+abbrev pub node_in : LayoutRow → Option Name
+node_in (row.Node id) = Some id
+node_in (row.Edge id start finish) = None
+node_in (row.Station id node capacity) = None
+
+-- what a row says of an edge: its id, and where it leads
+abbrev pub edge_in : LayoutRow → Option (Name × Ends)
+edge_in (row.Node id) = None
+edge_in (row.Edge id start finish) = Some (id, record { start = start; finish = finish })
+edge_in (row.Station id node capacity) = None
+
+-- what a row says of a station: its id, and where it is with how much room
+abbrev pub station_in : LayoutRow → Option (Name × Spot)
+station_in (row.Node id) = None
+station_in (row.Edge id start finish) = None
+station_in (row.Station id node capacity) = Some (id, record { node = node; capacity = capacity })
+
+-- the nodes among rows
+abbrev pub nodes_in : List LayoutRow → List Name
+nodes_in rows = filter_map node_in rows
+
+-- the edges among rows
+abbrev pub edges_in : List LayoutRow → List (Name × Ends)
+edges_in rows = filter_map edge_in rows
+
+-- the stations among rows
+abbrev pub stations_in : List LayoutRow → List (Name × Spot)
+stations_in rows = filter_map station_in rows
+
+-- there are more than 500 nodes, 1,500 edges or 500 stations
+abbrev pub IsOverLimit : List LayoutRow → Type 0
+IsOverLimit rows = (500 < length (nodes_in rows)) ⊎ ((1500 < length (edges_in rows)) ⊎ (500 < length (stations_in rows)))
+
+-- no two are the same
+abbrev pub Differ : List Name → Type 0
+Differ ids = AllPairs (λ a b. a ≢ b) ids
+
+-- no two nodes have the same id, no two edges, and no two stations
+pub record IsEachOnce (rows : List LayoutRow) : Type 0 where
+  pub nodes : Differ (nodes_in rows)
+  pub edges : Differ (keys_of (edges_in rows))
+  pub stations : Differ (keys_of (stations_in rows))
+
+-- it leads from one of these nodes to another of them
+abbrev pub LeadsAmong : List Name → Ends → Type 0
+LeadsAmong nodes ends = Contains nodes ends.start × Contains nodes ends.finish × (ends.start ≢ ends.finish)
+
+-- it is at one of these nodes, and has room for 1 to 999 loads
+abbrev pub StandsAmong : List Name → Spot → Type 0
+StandsAmong nodes spot = Contains nodes spot.node × (1 ≤ spot.capacity) × (spot.capacity ≤ 999)
+
+-- a layout can be made of the rows: there is a node, each id is once in its kind, and edges and stations are at listed nodes
+pub record IsSound (rows : List LayoutRow) : Type 0 where
+  pub some : 1 ≤ length (nodes_in rows)
+  pub once : IsEachOnce rows
+  pub leads : All (LeadsAmong (nodes_in rows)) (values_of (edges_in rows))
+  pub stands : All (StandsAmong (nodes_in rows)) (values_of (stations_in rows))
+
+-- the layout has the nodes, edges and stations that stand among the rows, and no others
+pub record IsLayoutOf (rows : List LayoutRow) (layout : Layout) : Type 0 where
+  pub nodes : (id : Name) → IsNode layout id ↔ Contains rows (row.Node id)
+  pub edges : (id : Name) (ends : Ends) → IsEdge layout id ends ↔ Contains rows (row.Edge id ends.start ends.finish)
+  pub stations : (id : Name) (spot : Spot) → IsStation layout id spot ↔ Contains rows (row.Station id spot.node spot.capacity)
+
+-- both are over the limit or neither, both give a layout or neither, and both give the same
+pub record IsReadAlike (rows others : List LayoutRow) : Type 0 where
+  pub limit : IsOverLimit rows ↔ IsOverLimit others
+  pub sound : IsSound rows ↔ IsSound others
+  pub layout : (layout : Layout) → IsLayoutOf rows layout ↔ IsLayoutOf others layout

@@ -1,0 +1,103 @@
+//! What is read of a layout's rows before it is known whether they give a layout.
+ghost use Rattle.std.specs.Prelude.{◌≡◌, ◌↔◌, not, [], Err, IsTrue, IfOk, IfErr, OnOk};
+ghost use Rattle.agv_layout.specs.declared.fault.LayoutFault.TheVariants as fault;
+ghost use Rattle.agv_layout.specs.Draft.{drawn, plan_of, has_id, with_row, leads, stands, HasNode, AllLead, AllStand, IsWhole};
+ghost use Rattle.agv_layout.specs.Rows.{IsEachOnce};
+
+use crate::{Ends, LayoutFault, LayoutRow, Spot};
+use agv_header::Name;
+use std::alloc::Global;
+use std::collections::{BTreeMap, BTreeSet};
+
+/// The nodes, edges and stations of rows, each id once in its kind.
+#[derive(Drop)]
+pub(crate) struct Draft {
+    pub(crate) nodes: BTreeSet<Name>,
+    pub(crate) edges: BTreeMap<Name, Ends>,
+    pub(crate) stations: BTreeMap<Name, Spot>,
+}
+
+impl Draft {
+    fn new(alloc: Global) -> Draft
+        ensures { drawn result ≡ plan_of [] }
+    {
+        Draft {
+            nodes: BTreeSet::new(alloc),
+            edges: BTreeMap::new(alloc),
+            stations: BTreeMap::new(alloc),
+        }
+    }
+
+    // Whether the id is new to its kind; the row is added then.
+    fn put(&mut self, row: LayoutRow) -> Result<bool, LayoutFault>
+        ensures added { IfOk result (λ added. IsTrue added → drawn self.new ≡ with_row (drawn self.old) row) }
+        ensures new { IfOk result (λ added. added ≡ not (has_id (drawn self.old) row)) }
+        ensures err { IfErr result (λ error. error ≡ fault.Memory) }
+    {
+        match row {
+            LayoutRow::Node { id } => Ok(self.nodes.insert(id)?),
+            LayoutRow::Edge { id, start, finish } => {
+                Ok(self.edges.insert(id, Ends { start, finish })?.is_none())
+            }
+            LayoutRow::Station { id, node, capacity } => {
+                Ok(self.stations.insert(id, Spot { node, capacity })?.is_none())
+            }
+        }
+    }
+
+    // `Bad` where an id is twice in its kind.
+    pub(crate) fn of_rows(alloc: Global, rows: &[LayoutRow]) -> Result<Draft, LayoutFault>
+        ensures once { OnOk result (IsEachOnce rows.now) }
+        ensures drawn { IfOk result (λ draft. drawn draft ≡ plan_of rows.now) }
+        ensures bad { result ≡ Err fault.Bad → ¬ (IsEachOnce rows.now) }
+        ensures limit { result ≡ Err fault.Limit → ⊥ }
+    {
+        let mut draft = Draft::new(alloc);
+        for row in rows {
+            if !draft.put(*row)? {
+                return Err(LayoutFault::Bad);
+            }
+        }
+        Ok(draft)
+    }
+
+    #[tactic(auto, using(crate::proofs::Drafts::some_decides))]
+    fn has_node(&self) -> bool
+        ensures { IsTrue result ↔ HasNode (drawn self.now) }
+    {
+        !self.nodes.is_empty()
+    }
+
+    fn leads(&self, ends: Ends) -> bool
+        ensures { result ≡ leads self.now ends }
+    {
+        self.nodes.contains(&ends.start)
+            && self.nodes.contains(&ends.finish)
+            && ends.start != ends.finish
+    }
+
+    fn stands(&self, spot: Spot) -> bool
+        ensures { result ≡ stands self.now spot }
+    {
+        self.nodes.contains(&spot.node) && (1..=999).contains(&spot.capacity)
+    }
+
+    fn edges_lead(&self) -> bool
+        ensures { IsTrue result ↔ AllLead (drawn self.now) }
+    {
+        self.edges.values().all(|ends| self.leads(*ends))
+    }
+
+    fn stations_stand(&self) -> bool
+        ensures { IsTrue result ↔ AllStand (drawn self.now) }
+    {
+        self.stations.values().all(|spot| self.stands(*spot))
+    }
+
+    // Whether these are the parts of a layout, save for their numbers.
+    pub(crate) fn is_whole(&self) -> bool
+        ensures { IsTrue result ↔ IsWhole (drawn self.now) }
+    {
+        self.has_node() && self.edges_lead() && self.stations_stand()
+    }
+}

@@ -1,0 +1,37 @@
+//! What holds of the definitions that the contracts of this crate cite, whatever the code does.
+//! Each function does nothing: its clause is the law.
+ghost use Rattle.std.specs.Prelude.{◌≡◌, ◌≤◌, ℕ, List, Option, Some, length, option_map};
+ghost use Rattle.agv_layout.specs.declared.row.LayoutRow.{LayoutRow};
+ghost use Rattle.agv_layout.specs.Layout.{Layout as Plan, Name as NameOf, IsNode, KeepsRules};
+ghost use Rattle.agv_layout.specs.Rows.{IsLayoutOf, IsReadAlike};
+ghost use Rattle.std.specs.List.Sorted.{IsPermutation};
+ghost use Rattle.agv_layout.specs.Walk.{IsWalk, IsHops, IsWayTo};
+
+/// The order of rows does not count: rows in another order are too many, bad or a layout where these are,
+/// and then the same layout.
+pub fn ignores_order()
+    ensures { (rows others : List LayoutRow) → IsPermutation rows others → IsReadAlike rows others }
+{}
+
+/// Rows give one layout at most.
+pub fn is_one_layout()
+    ensures { (rows : List LayoutRow) (one other : Plan) → IsLayoutOf rows one → IsLayoutOf rows other → one ≡ other }
+{}
+
+/// There is one way from a node to another, or none.
+pub fn is_one_way()
+    ensures { (layout : Plan) (from to : NameOf) (one other : Option (List NameOf))
+        → IsWayTo layout from to one → IsWayTo layout from to other → one ≡ other }
+{}
+
+/// The way has as many edges as it takes hops.
+pub fn has_as_many_hops()
+    ensures { (layout : Plan) (from to : NameOf) (way : Option (List NameOf))
+        → IsWayTo layout from to way → IsHops layout from to (option_map length way) }
+{}
+
+/// A walk leads from a node of the layout to a node of the layout, so no walk has an unknown name at an end.
+pub fn joins_nodes()
+    ensures { (layout : Plan) → KeepsRules layout → (from to : NameOf) (ids : List NameOf)
+        → IsWalk layout from ids to → IsNode layout from × IsNode layout to }
+{}

@@ -1,0 +1,120 @@
+//! Layouts, and what they say of a name.
+ghost use Rattle.std.specs.Prelude.{◌≡◌, ◌↔◌, Err, IfOk, option_map};
+ghost use Rattle.std.specs.FinMap as map;
+ghost use Rattle.std.specs.FinSet as set;
+ghost use Rattle.agv_layout.specs.declared.fault.LayoutFault.TheVariants as fault;
+ghost use Rattle.agv_layout.specs.Layout.{Layout as Plan, edge_of, station_of, KeepsRules};
+ghost use Rattle.agv_layout.specs.Rows.{IsOverLimit, IsSound, IsLayoutOf};
+
+use crate::draft::Draft;
+use crate::row::are_over_limit;
+use crate::{Edge, Ends, LayoutFault, LayoutRow, Spot, Station};
+use agv_header::{Memory, Name};
+use std::alloc::Global;
+use std::collections::{BTreeMap, BTreeSet};
+use std::marker::Model;
+
+/// The nodes, edges and stations of one warehouse, as rows that are a layout give them.
+#[derive(Drop)]
+pub struct Layout {
+    pub(crate) nodes: BTreeSet<Name>,
+    pub(crate) edges: BTreeMap<Name, Ends>,
+    pub(crate) stations: BTreeMap<Name, Spot>,
+}
+
+impl Model for Layout {
+    ghost use Rattle.agv_layout.specs.Layout.{Layout as Plan, KeepsRules};
+    ghost use Rattle.agv_layout.specs.Code.{layout_code};
+    ghost use Rattle.agv_layout.specs.Shown.{shown};
+
+    ghost Value = { Plan };
+
+    ghost coded = { layout_code };
+
+    ghost view = { shown };
+
+    ghost invariant = { λ layout. KeepsRules (shown layout) };
+}
+
+impl Layout {
+    /// The layout that the rows give, in whatever order they are.
+    ///
+    /// - `Limit` where there are more than 500 nodes, 1,500 edges or 500 stations.
+    /// - `Bad`, else, where there is no node, where an id is twice within a kind (a node and a
+    ///   station may have the same), where an edge or a station has a node that is not listed, where
+    ///   an edge leads from a node to itself, or where a capacity is not 1 to 999.
+    /// - `Memory` for want of memory alone.
+    ///
+    /// It takes time in proportion to the rows, times the logarithm of their number.
+    pub fn of_rows(alloc: Global, rows: &[LayoutRow]) -> Result<Layout, LayoutFault>
+        ensures ok { IfOk result (λ layout. (¬ (IsOverLimit rows.now)) × IsSound rows.now × IsLayoutOf rows.now layout) }
+        ensures limit { (result ≡ Err fault.Limit) ↔ IsOverLimit rows.now }
+        ensures bad { result ≡ Err fault.Bad → (¬ (IsOverLimit rows.now)) × (¬ (IsSound rows.now)) }
+    {
+        if are_over_limit(rows) {
+            return Err(LayoutFault::Limit);
+        }
+        let draft = Draft::of_rows(alloc, rows)?;
+        if !draft.is_whole() {
+            return Err(LayoutFault::Bad);
+        }
+        Ok(Layout {
+            nodes: draft.nodes,
+            edges: draft.edges,
+            stations: draft.stations,
+        })
+    }
+
+    /// What holds of every layout: it has a node, edges lead from a node to another, stations are
+    /// at nodes, and there are at most 500 nodes, 1,500 edges and 500 stations. It does nothing: a
+    /// proof calls it for its clause, which the type's invariant gives where a field is looked at.
+    pub fn keeps_rules(&self)
+        ensures { KeepsRules self.now }
+    {
+        let _ = &self.nodes;
+    }
+
+    /// A layout equal to this one.
+    ///
+    /// `Memory` for want of memory alone.
+    pub fn copy(&self) -> Result<Layout, Memory>
+        ensures copied { IfOk result (λ copy. copy ≡ self.now) }
+    {
+        Ok(Layout {
+            nodes: self.nodes.clone()?,
+            edges: self.edges.clone()?,
+            stations: self.stations.clone()?,
+        })
+    }
+
+    /// Whether this is a node of the layout.
+    pub fn node(&self, id: Name) -> bool
+        ensures { result ≡ set.contains self.now.nodes id }
+    {
+        self.nodes.contains(&id)
+    }
+
+    /// The edge of this name.
+    pub fn edge(&self, id: Name) -> Option<Edge>
+        ensures { result ≡ option_map (edge_of id) (map.get self.now.edges id) }
+    {
+        let ends = self.edges.get(&id)?;
+        Some(Edge {
+            id,
+            start: ends.start,
+            finish: ends.finish,
+        })
+    }
+
+    /// The station of this name.
+    pub fn station(&self, id: Name) -> Option<Station>
+        ensures { result ≡ option_map (station_of id) (map.get self.now.stations id) }
+    {
+        let spot = self.stations.get(&id)?;
+        Some(Station {
+            id,
+            node: spot.node,
+            capacity: spot.capacity,
+        })
+    }
+}

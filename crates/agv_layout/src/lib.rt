@@ -1,0 +1,34 @@
+//! The layout of one warehouse, and the routes on it.
+//!
+//! - A [`Layout`] has nodes, edges from node to node, and stations at nodes. [`Layout::of_rows`]
+//!   makes one of its rows, in any order, and refuses rows that are no layout.
+//! - [`Layout::node`], [`Layout::edge`] and [`Layout::station`] look a name up, without memory.
+//! - [`Layout::hops`] is the least number of edges from one node to another, and [`Layout::route`]
+//!   the way to go: of all walks of so many edges the first by the names of its edges.
+//! - [`laws`] says that the definitions behind these contracts say one thing.
+#![tactic(auto)]
+
+mod distances;
+mod draft;
+mod edge;
+mod fault;
+pub mod laws;
+mod layout;
+mod route;
+mod row;
+mod station;
+
+pub use edge::{Edge, Ends};
+pub use fault::LayoutFault;
+pub use layout::Layout;
+pub use row::LayoutRow;
+pub use station::{Spot, Station};
+
+#[cfg(test)]
+mod listing;
+#[cfg(test)]
+mod route_tests;
+#[cfg(test)]
+mod test_rows;
+#[cfg(test)]
+mod tests;
