@@ -1,0 +1,10 @@
+use Rattle.std.proofs.Common.{◌≡◌, drop, map}
+use Rattle.csv.specs.Records.{fields_of}
+use Rattle.agv_count.specs.LayoutFile.{row_in}
+use Rattle.agv_count.specs.Records.{each}
+use Rattle.agv_count.proofs.EachRow.{after}
+use Rattle.agv_count.proofs.layout_file.rows.Given as goal
+
+abbrev pub invariant-loop-record : goal.invariant-loop-record
+invariant-loop-record l =
+    each row_in (map fields_of l.records) ≡ after l.rows.items (each row_in (map fields_of (drop l.record-index l.records)))

@@ -1,0 +1,3 @@
+pub mod Fault
+pub mod LayoutFile
+pub mod Records

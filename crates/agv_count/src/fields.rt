@@ -1,0 +1,70 @@
+//! The fields of a record.
+ghost use Rattle.std.specs.Prelude.{◌≡◌, ◌≢◌, ◌∷◌, [], IfNone, IfSome, None, Some, if◌then◌else◌, length};
+ghost use Rattle.std.specs.Char.{is_ascii_digit};
+ghost use Rattle.std.specs.List.{list_all};
+ghost use Rattle.std.specs.Str.Parse.{digits_value};
+ghost use Rattle.csv.specs.Records.{fields_of};
+ghost use Rattle.agv_header.specs.Name.{is_name};
+ghost use Rattle.agv_count.specs.LayoutFile.{is_capacity};
+
+use agv_header::Name;
+use csv::ByteRecord;
+use std::str;
+
+/// The four fields of a record of a layout file.
+#[derive(Clone, Copy)]
+pub struct Fields<'a> {
+    pub kind: &'a [u8],
+    pub id: &'a [u8],
+    pub from: &'a [u8],
+    pub to: &'a [u8],
+}
+
+impl<'a> Fields<'a> {
+    /// The fields of a record that has four.
+    pub fn of(raw: &'a ByteRecord) -> Option<Fields<'a>>
+        ensures some { IfSome result (λ f. fields_of raw.now
+            ≡ f.kind.now ∷ f.id.now ∷ f.from.now ∷ f.to.now ∷ []) }
+        ensures none { IfNone result (length (fields_of raw.now) ≢ 4) }
+    {
+        if raw.len() != 4 {
+            return None;
+        }
+        Some(Fields {
+            kind: raw.get(0)?,
+            id: raw.get(1)?,
+            from: raw.get(2)?,
+            to: raw.get(3)?,
+        })
+    }
+}
+
+/// The name that a field is.
+pub fn name(field: &[u8]) -> Option<Name>
+    ensures { result ≡ (if is_name field.now then Some field.now else None) }
+{
+    let text = str::from_utf8(field).ok()?;
+    Name::read(text).ok()
+}
+
+fn are_digits(field: &[u8]) -> bool
+    ensures { result ≡ list_all is_ascii_digit field.now }
+{
+    field.iter().all(|byte| byte.is_ascii_digit())
+}
+
+fn writes_capacity(field: &[u8]) -> bool
+    ensures { result ≡ is_capacity field.now }
+{
+    !field.is_empty() && field.len() <= 3 && are_digits(field)
+}
+
+/// The capacity that a field writes.
+pub fn capacity(field: &[u8]) -> Option<u32>
+    ensures { result ≡ (if is_capacity field.now then Some (digits_value 10 field.now) else None) }
+{
+    if !writes_capacity(field) {
+        return None;
+    }
+    str::from_utf8(field).ok()?.parse().ok()
+}
