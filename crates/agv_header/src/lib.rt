@@ -31,6 +31,3 @@ pub use name::{Name, NotName};
 pub use refusal::{Refusal, Verb};
 pub use stamp::{StampFault, read_stamp, stamp_text};
 pub use topic::{NotTopic, Topic, read_topic, topic_text};
-
-#[cfg(test)]
-mod tests;

@@ -45,6 +45,3 @@ pub use sequence::Sequence;
 pub use state::StateMessage;
 pub use status::Status;
 pub use text::Text;
-
-#[cfg(test)]
-mod tests;

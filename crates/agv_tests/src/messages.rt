@@ -3,15 +3,15 @@ mod changes;
 mod orders;
 mod states;
 
-use crate::tests::changes::CHANGES;
-use crate::tests::orders::ORDERS;
-use crate::tests::states::{STATES, Sample};
-use crate::{
+use crate::messages::changes::CHANGES;
+use crate::messages::orders::ORDERS;
+use crate::messages::states::{STATES, Sample};
+use agv_header::{Moment, Name, VehicleKey};
+use agv_message::{
     ActKind, BodyFault, Header, InstantKind, InstantMessage, OrderAct, OrderEdge, OrderMessage,
     OrderNode, Sequence, StateMessage, Status, Text, instant_text, order_text, read_body,
     read_state,
 };
-use agv_header::{Moment, Name, VehicleKey};
 use std::alloc::Global;
 use std::process::Abort;
 use std::test::Fail;

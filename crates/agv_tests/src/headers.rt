@@ -1,6 +1,6 @@
 //! Examples, with values worked out by hand or taken from other programs (`date -u`).
 
-use crate::{
+use agv_header::{
     Moment, Name, NotName, NotTopic, Refusal, StampFault, Topic, VehicleKey, Verb, is_fresh,
     next_number, read_stamp, read_topic, stamp_text, topic_text,
 };

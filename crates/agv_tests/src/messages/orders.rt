@@ -1,5 +1,5 @@
 //! Order messages written by hand after the field lists of VDA 5050 2.0 ("order").
-use crate::tests::states::Sample;
+use crate::messages::states::Sample;
 
 /// Bodies that are orders: JSON of whole numbers, but no states.
 pub const ORDERS: [Sample; 3] = [
