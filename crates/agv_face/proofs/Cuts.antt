@@ -1,11 +1,12 @@
 -- An input is cut in one way.
-use Rattle.std.proofs.Common.{◌≡◌, ◌<◌, ◌+◌, ℕ, List, [], ◌∷◌, ◌++◌, true, false, length, take, Result, Ok, Err, refl, sym, ap, ap₂, ◌∙◌, subst, arith, inl, inr, append_assoc, append-nil, length-append}
+use Rattle.std.proofs.Common.{◌≡◌, ◌<◌, ◌+◌, ℕ, List, [], ◌∷◌, ◌++◌, true, false, length, take, Result, Ok, Err, refl, sym, ap, ap₂, ◌∙◌, subst, arith, inl, inr, append_assoc, length-append}
 use Rattle.std.proofs.lemmas.List.{append_cancel_left}
 use Rattle.std.proofs.Math.Seq.{take-append_seam}
 use Rattle.httparse.specs.Grammar.{RequestHead, print_request}
 use Rattle.httparse.proofs.GrammarLemmas.{request_unique}
 use Rattle.agv_header.specs.declared.refusal.Refusal.{Refusal}
-use Rattle.agv_face.specs.Requests.{Request, BeginsWith, IsRequest, IsFault, request_of, lines_of, body_length, is_last, BeginsWithNoRequest}
+use Rattle.agv_header.specs.declared.refusal.Refusal.TheVariants as refusal
+use Rattle.agv_face.specs.Requests.{Request, BeginsWith, IsRequest, IsFault, request_of, lines_of, body_length, is_last, NeedsMore}
 use Rattle.agv_face.specs.Cut.{Cut, Ending, faulty, no_more, a_fault, the_last, one_more}
 
 -- ---- heads
@@ -83,12 +84,28 @@ no_fault bytes p r x f is one fault =
           omega arith
     ]
 
--- where the bytes are a fault even if none follow, no request is whole
-pub no_request_yet : (buf : List ℕ) (f : Refusal) → IsFault (buf ++ []) f → BeginsWithNoRequest buf
-no_request_yet buf f fault part rest x is one = no_fault (buf ++ []) part rest x f (append-nil buf ∙ is) one fault
+-- ---- bytes that need more
 
-pub no_request_in_none : (buf : List ℕ) → buf ≡ [] → BeginsWithNoRequest buf
-no_request_in_none buf nil part rest x is one = not_empty buf part rest x is one nil
+-- they begin with no whole request
+pub waits_for_no_request : (bytes part rest : List ℕ) (x : Request) → NeedsMore bytes → bytes ≡ part ++ rest → IsRequest part x → ⊥
+waits_for_no_request bytes part rest x (inl nil) is one = not_empty bytes part rest x is one nil
+waits_for_no_request bytes part rest x (inr (inl partial)) is one =
+    let P : List ℕ → Type 0 = λ l. BeginsWith l one.0 (one.1 ++ rest) in
+    let here = subst P (sym is) (followed part rest one.0 one.1 one.2) in
+    partial.0 one.0 (one.1 ++ rest) here.reads
+waits_for_no_request bytes part rest x (inr (inr lacking)) is one =
+    no_fault bytes part rest x refusal.BadHead is one (inr (inr (lacking.0, lacking.1, lacking.2, lacking.3, lacking.4, lacking.5, refl)))
+
+-- nor with a head whose length is refused
+pub waits_for_no_refusal : (bytes : List ℕ) (head : RequestHead) (rest : List ℕ) (f : Refusal) → NeedsMore bytes → BeginsWith bytes head rest → body_length head.method (lines_of head) ≡ Err f → ⊥
+waits_for_no_refusal bytes head rest f (inl nil) begins refused =
+    let some : 0 < length bytes = some_head bytes head rest begins in
+    let none : length bytes ≡ 0 = ap length nil in
+    omega arith
+waits_for_no_refusal bytes head rest f (inr (inl partial)) begins refused = partial.0 head rest begins.reads
+waits_for_no_refusal bytes head rest f (inr (inr lacking)) begins refused =
+    let heads = one_head bytes lacking.0 head lacking.1 rest lacking.3 begins in
+    not_both lacking.2 f (said_of lacking.0 head heads.0 _ _ lacking.4 refused)
 
 -- ---- one fault
 

@@ -1,15 +1,15 @@
 -- A head at the front of a buffer, and no head there, whatever bytes follow.
 use Rattle.std.proofs.Common.{◌≡◌, ◌≤◌, ◌<◌, ℕ, ◌+◌, min, List, [], ◌∷◌, ◌++◌, true, length, take, drop, map, nat_eq, Bool, false, refl, sym, ap, ap₂, ◌∙◌, subst, arith, inl, inr, append_assoc, append-nil, take-append-drop, length-append, Ok, Err}
-use Rattle.std.proofs.lemmas.List.{take-append-le, length-take, length-map}
+use Rattle.std.proofs.lemmas.List.{take-append-le, length-take, length-map, take_all}
 use Rattle.std.proofs.Math.Seq.{take-append_seam, take-add}
 use Rattle.std.proofs.lemmas.Bool.Decides.{nat_tests}
-use Rattle.httparse.specs.Grammar.{RequestHead, ReadsRequest, print_request, HasNoRequest}
+use Rattle.httparse.specs.Grammar.{RequestHead, ReadsRequest, print_request, HasNoRequest, MayBecomeRequest}
 use Rattle.httparse.specs.Spans.{IsRequestAt, RequestOverflows, header_bytes, name_and_value, span_bytes}
 use Rattle.httparse.specs.declared.spans.HeaderSpan.{HeaderSpan}
 use Rattle.httparse.specs.declared.spans.RequestSpans.{RequestSpans}
 use Rattle.agv_header.specs.declared.refusal.Refusal.{Refusal}
 use Rattle.agv_header.specs.declared.refusal.Refusal.TheVariants as refusal
-use Rattle.agv_face.specs.Requests.{BeginsWith, IsFault, lines_of, body_length}
+use Rattle.agv_face.specs.Requests.{BeginsWith, IsFault, NeedsMore, lines_of, body_length}
 
 -- ---- no head
 
@@ -56,6 +56,12 @@ cut_head buf front more is some none nil =
     let all : length (buf ++ more) ≡ length (print_request head) + length rest = ap length begins.reads.1 ∙ length-append (print_request head) rest in
     let same : length (buf ++ more) ≡ length buf = ap length (ap (λ (l : List ℕ). buf ++ l) nil ∙ append-nil buf) in
     headless buf front more is none head rest begins (omega arith))
+
+-- a head that may yet come
+pub open_head : (buf front : List ℕ) → front ≡ take 8192 buf → length buf < 8192 → HasNoRequest front → MayBecomeRequest front → NeedsMore buf
+open_head buf front is short none partial =
+    let same : front ≡ buf = is ∙ take_all 8192 buf (omega arith) in
+    inr (inl (subst HasNoRequest same none, subst MayBecomeRequest same partial))
 
 -- ---- a head
 
@@ -113,6 +119,12 @@ module _ (buf front : List ℕ) (headers : List HeaderSpan) (spans : RequestSpan
       let none : length more ≡ 0 = ap length nil in
       let size : length (drop spans.len buf ++ more) < n = omega (arith, length-append (drop spans.len buf) more) in
       inr (inr (head, drop spans.len buf ++ more, n, begins more, e, size, refl))
+
+  pub open_body : (n : ℕ) → body_length head.method (lines_of head) ≡ Ok n → length (drop spans.len buf) < n → NeedsMore buf
+  open_body n e short =
+      let P : List ℕ → Type 0 = λ l. BeginsWith l head (drop spans.len buf) in
+      let Q : List ℕ → Type 0 = λ l. BeginsWith (buf ++ []) head l in
+      inr (inr (head, drop spans.len buf, n, subst P (append-nil buf) (subst Q (append-nil (drop spans.len buf)) (begins [])), e, short))
 
   pub some_bytes : 0 < spans.len
   unfolding print_request

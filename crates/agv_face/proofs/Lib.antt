@@ -5,3 +5,4 @@ pub mod Bodies
 pub mod Cuts
 pub mod Asking
 pub mod Streaming
+pub mod Steps

@@ -1,68 +1,65 @@
 -- A stream, one step after another.
-use Rattle.std.proofs.Common.{◌≡◌, ◌<◌, ◌-◌, length, arith, ℕ, List, [], ◌∷◌, ◌++◌, true, false, Bool, not, cond, take, drop, Option, Some, None, IfSome, IfErr, IsErrAnd, Result, Ok, Err, refl, sym, ap, ap₂, ◌∙◌, subst, inl, inr, append_assoc, append-nil, take-append-drop}
+use Rattle.std.proofs.Common.{◌≡◌, ◌<◌, ◌-◌, length, arith, ℕ, List, [], ◌∷◌, ◌++◌, true, false, Bool, not, cond, take, drop, Option, Some, None, IfSome, refl, sym, ap, ap₂, ◌∙◌, subst, inl, inr, append_assoc, append-nil, take-append-drop}
 use Rattle.std.specs.Io.KnownBytes.{Appends, Consumes, IsAtEnd, Keeps}
-use Rattle.std.proofs.KnownBytes.{Appends-trans, Appends-nil, Appends-kept}
+use Rattle.std.proofs.KnownBytes.{Appends-trans, Appends-nil, Appends-kept, Consumes-nil, Consumes-trans, Consumes-kept}
 use Rattle.std.proofs.Math.ListN.{length-drop}
 use Rattle.agv_store.specs.Registered.{Registered}
 use Rattle.agv_face.specs.declared.call.Call.{Call}
-use Rattle.agv_face.specs.declared.watched.Watched.{Watched}
-use Rattle.agv_face.specs.Requests.{Request, is_plain}
+use Rattle.agv_face.specs.Requests.{Request, NeedsMore, is_plain}
 use Rattle.agv_face.specs.Calls.{call_of, call_at, path_of}
 use Rattle.agv_face.specs.declared.request.Lent.{Lent}
-use Rattle.agv_face.specs.Asked.{Asks, AsksFirst, AsksNext, AsksUpToOther, BeginsWithNoCall}
+use Rattle.agv_face.specs.Asked.{Asks, AsksFirst, AsksNext, AsksSoFar, AsksUpToOther, BeginsWithNoCall}
 use Rattle.agv_face.specs.declared.answer.Answer.{Answer}
 use Rattle.agv_face.specs.Answers.{answer_bytes}
 use Rattle.agv_face.specs.Served.{said, after, after_all, output, AreKept, AreAfter, IsAnswered, IsUnsaid, IsCutIn, IsCutOff}
-use Rattle.agv_face.specs.Heard.{Follows, IsLent}
+use Rattle.agv_face.specs.Heard.{IsLent}
 use Rattle.agv_face.specs.Stepped.{IsNextCall, IsOther}
 use Rattle.agv_face.proofs.Asking.{asks-nil, asks-append, asks-rest, asks-fault, asks-other}
 
--- the input is a front that asks these calls, the buffer, and what the reader has left
+-- what has come of the input is a front that asks these calls, and the buffer
 abbrev pub HasCome : Option (List ℕ) → Option (List ℕ) → Bool → List ℕ → List Call → Type 0
-HasCome None left ended buf calls = Unit {0}
-HasCome (Some input) None ended buf calls = ⊥
-HasCome (Some input) (Some left) ended buf calls = (front : List ℕ) × (input ≡ front ++ (buf ++ left)) × Asks front calls × Follows ended left
+HasCome input left ended buf calls = (front : List ℕ) × Consumes input left (front ++ buf) × Asks front calls × (ended ≡ true → IsAtEnd left)
 
 pub at_start : (input : Option (List ℕ)) → HasCome input input false [] []
-at_start None = tt
-at_start (Some input) = ([], refl, asks-nil, λ e. let absurdly : false ≡ true = e in cc)
+at_start input = ([], Consumes-nil input, asks-nil, λ e. let absurdly : false ≡ true = e in cc)
 
 -- a read
 pub after_read : (input old new : Option (List ℕ)) (more : Bool) (buf bytes : List ℕ) (calls : List Call) → HasCome input old false buf calls → Consumes old new bytes → (more ≡ false → (bytes ≡ []) × IsAtEnd new)
     → HasCome input new (not more) (buf ++ bytes) calls
-after_read None old new more buf bytes calls come took ends = tt
-after_read (Some input) None new more buf bytes calls come took ends = absurd come
-after_read (Some input) (Some xs) None more buf bytes calls come took ends = absurd took
-after_read (Some input) (Some xs) (Some ys) more buf bytes calls come took ends = (
-  come.0,
-  come.1 ∙ ap (λ (l : List ℕ). come.0 ++ l) (ap (λ (l : List ℕ). buf ++ l) took ∙ sym (append_assoc buf bytes ys)),
-  come.2,
-  elim more as (λ m. (m ≡ false → (bytes ≡ []) × (ys ≡ [])) → not m ≡ true → ys ≡ []) [ true ↦ λ f t. cc | false ↦ λ f t. (f refl).1 ] ends,
-)
+after_read input old new more buf bytes calls come took ends =
+    let P : List ℕ → Type 0 = λ l. Consumes input new l in (
+      come.0,
+      subst P (append_assoc come.0 buf bytes) (Consumes-trans input old new (come.0 ++ buf) bytes come.1 took),
+      come.2,
+      elim more as (λ m. (m ≡ false → (bytes ≡ []) × IsAtEnd new) → not m ≡ true → IsAtEnd new) [ true ↦ λ f t. cc | false ↦ λ f t. (f refl).1 ] ends,
+    )
 
 -- a request, which is a call
 pub after_call : (input left : Option (List ℕ)) (ended : Bool) (buf : List ℕ) (len : ℕ) (calls : List Call) (c : Call) → HasCome input left ended buf calls → IsNextCall buf len c → HasCome input left ended (drop len buf) (calls ++ c ∷ [])
-after_call None left ended buf len calls c come next = tt
-after_call (Some input) None ended buf len calls c come next = absurd come
-after_call (Some input) (Some left) ended buf len calls c come next =
-    let part : buf ≡ take len buf ++ drop len buf = sym (take-append-drop len buf) in
-    let here : come.0 ++ (buf ++ left) ≡ (come.0 ++ take len buf) ++ (drop len buf ++ left) =
-    ap (λ (l : List ℕ). come.0 ++ l) (ap (λ (l : List ℕ). l ++ left) part ∙ append_assoc (take len buf) (drop len buf) left) ∙ sym (append_assoc come.0 (take len buf) (drop len buf ++ left)) in
-    (come.0 ++ take len buf, come.1 ∙ here, asks-append come.0 (take len buf) calls next.2 c come.2 next.3 next.4, come.3)
+after_call input left ended buf len calls c come next =
+    let P : List ℕ → Type 0 = λ l. Consumes input left l in
+    let here : come.0 ++ buf ≡ (come.0 ++ take len buf) ++ drop len buf = ap (λ (l : List ℕ). come.0 ++ l) (sym (take-append-drop len buf)) ∙ sym (append_assoc come.0 (take len buf) (drop len buf)) in
+    (come.0 ++ take len buf, subst P here come.1, asks-append come.0 (take len buf) calls next.2 c come.2 next.3 next.4, come.3)
 
 -- the end of the input
 pub at_the_end : (input left : Option (List ℕ)) (ended : Bool) (buf : List ℕ) (calls : List Call) → HasCome input left ended buf calls → ended ≡ true → buf ≡ [] → IfSome input (λ bytes. Asks bytes calls)
 at_the_end None left ended buf calls come is nil = tt
-at_the_end (Some input) None ended buf calls come is nil = absurd come
+at_the_end (Some input) None ended buf calls come is nil = absurd come.1
 at_the_end (Some input) (Some left) ended buf calls come is nil =
     let P : List ℕ → Type 0 = λ l. Asks l calls in
-    subst P (sym (come.1 ∙ ap₂ (λ (a b : List ℕ). come.0 ++ (a ++ b)) nil (come.3 is) ∙ append-nil come.0)) come.2
+    let all : input ≡ (come.0 ++ buf) ++ left = come.1 in
+    subst P (sym (all ∙ ap₂ (λ (a b : List ℕ). (come.0 ++ a) ++ b) nil (come.3 is) ∙ append-nil (come.0 ++ []) ∙ append-nil come.0)) come.2
 
 -- the input so far
 pub so_far : (input left : Option (List ℕ)) (ended : Bool) (buf : List ℕ) (calls : List Call) → HasCome input left ended buf calls → IfSome input (λ bytes. AsksFirst bytes calls)
 so_far None left ended buf calls come = tt
-so_far (Some input) None ended buf calls come = absurd come
-so_far (Some input) (Some left) ended buf calls come = (come.0, buf ++ left, come.1, come.2)
+so_far (Some input) None ended buf calls come = absurd come.1
+so_far (Some input) (Some left) ended buf calls come = (come.0, buf ++ left, come.1 ∙ append_assoc come.0 buf left, come.2)
+
+-- no call is whole yet in what has come behind these
+pub all_so_far : (input left then : Option (List ℕ)) (ended : Bool) (buf : List ℕ) (calls : List Call) → HasCome input left ended buf calls → NeedsMore buf → Keeps left then
+    → (bytes : List ℕ) × Consumes input then bytes × AsksSoFar bytes calls
+all_so_far input left then ended buf calls come needs kept = (come.0 ++ buf, Consumes-kept input left then (come.0 ++ buf) come.1 kept, (come.0, buf, refl, come.2, needs))
 
 -- no call is next
 asks_none : (bytes : List ℕ) (calls : List Call) → BeginsWithNoCall bytes → Asks bytes calls → ⊥
@@ -77,8 +74,8 @@ no_list_before_other input calls others up_to asks =
 
 pub at_other : (input left : Option (List ℕ)) (ended : Bool) (buf : List ℕ) (calls : List Call) → HasCome input left ended buf calls → IsOther buf ended → IfSome input (λ bytes. AsksUpToOther bytes calls)
 at_other None left ended buf calls come other = tt
-at_other (Some input) None ended buf calls come other = absurd come
-at_other (Some input) (Some left) ended buf calls come other = (come.0, buf ++ left, come.1, come.2, other left come.3)
+at_other (Some input) None ended buf calls come other = absurd come.1
+at_other (Some input) (Some left) ended buf calls come other = (come.0, buf ++ left, come.1 ∙ append_assoc come.0 buf left, come.2, other left come.3)
 
 -- ---- answers
 
@@ -171,25 +168,3 @@ lent_call r lent found is e = sym (
     ∙ ap (λ (m : List ℕ). cond (is_plain r) (call_at m (path_of lent.target.now) lent.body.now) None) is.method
     ∙ ap (λ (t : List ℕ). cond (is_plain r) (call_at r.method (path_of t) lent.body.now) None) is.target
     ∙ ap (λ (b : List ℕ). cond (is_plain r) (call_at r.method (path_of r.target) b) None) is.body)
-
--- ---- a writer that is left alone
-
-pub same_contents : {T : Type 0} (contents : T → Option (List ℕ)) (now new : Watched T) → new ≡ now → contents new.inner ≡ contents now.inner
-same_contents contents now new same = rw same refl
-
--- ---- results
-
--- what holds of the error holds of the result
-pub of_err : {T E : Type 0} (result : Result T E) (stop : E) (P : E → Type 0) → IsErrAnd result (λ e. e ≡ stop) → P stop → IfErr result P
-of_err (Ok value) stop P is holds = absurd is
-of_err (Err e) stop P is holds = subst P (sym is) holds
-
--- what holds of every error holds of the result
-pub of_any : {T E : Type 0} (result : Result T E) (P : E → Type 0) → ((e : E) → P e) → IfErr result P
-of_any (Ok value) P holds = tt
-of_any (Err e) P holds = holds e
-
--- what follows for every error follows for the result
-pub of_each : {T E : Type 0} (result : Result T E) (P Q : E → Type 0) → ((e : E) → P e → Q e) → IfErr result P → IfErr result Q
-of_each (Ok value) P Q follows holds = tt
-of_each (Err e) P Q follows holds = follows e holds

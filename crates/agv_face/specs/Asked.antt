@@ -2,7 +2,7 @@
 use Rattle.std.specs.Prelude.{◌≡◌, ◌⊎◌, ℕ, List, [], ◌∷◌, ◌++◌, map, None, Some}
 use Rattle.agv_header.specs.declared.refusal.Refusal.{Refusal}
 use Rattle.agv_face.specs.declared.call.Call.{Call}
-use Rattle.agv_face.specs.Requests.{Request, IsRequest, IsFault}
+use Rattle.agv_face.specs.Requests.{Request, IsRequest, IsFault, NeedsMore}
 use Rattle.agv_face.specs.Cut.{Cut, at_end}
 use Rattle.agv_face.specs.Calls.{call_of}
 
@@ -23,6 +23,10 @@ AsksFirst input calls = (front : List ℕ) × (rest : List ℕ) × (input ≡ fr
 -- the input begins with whole requests that are these calls, and then this one
 abbrev pub AsksNext : List ℕ → List Call → Call → Type 0
 AsksNext input calls call = AsksFirst input (calls ++ call ∷ [])
+
+-- the bytes are whole requests that are these calls, and then no whole request as yet
+abbrev pub AsksSoFar : List ℕ → List Call → Type 0
+AsksSoFar bytes calls = (front : List ℕ) × (rest : List ℕ) × (bytes ≡ front ++ rest) × Asks front calls × NeedsMore rest
 
 -- the input is whole requests that are these calls, and then no call
 abbrev pub AsksUpToOther : List ℕ → List Call → Type 0

@@ -1,6 +1,6 @@
 -- What a buffer shows of the input that it begins.
 use Rattle.std.specs.Prelude.{◌≡◌, ℕ, ◌+◌, ◌<◌, ◌≤◌, Bool, true, false, List, [], ◌++◌, length, take}
-use Rattle.agv_face.specs.Requests.{Request, IsRequest, IsFault, BeginsWithNoRequest, is_plain, most_head, most_body}
+use Rattle.agv_face.specs.Requests.{Request, IsRequest, IsFault, NeedsMore, is_plain, most_head, most_body}
 use Rattle.agv_face.specs.declared.request.Heard.{Heard}
 use Rattle.agv_face.specs.declared.request.Heard.TheVariants as heard
 use Rattle.agv_face.specs.declared.request.Lent.{Lent}
@@ -17,7 +17,7 @@ pub record IsLent (request : Request) (lent : Lent) : Type 0 where
   pub plain : lent.is_plain ≡ is_plain request
 
 abbrev pub IsHeard : List ℕ → Bool → Heard → Type 0
-IsHeard buf ended heard.Need = (ended ≡ false) × (length buf < most_head + most_body) × BeginsWithNoRequest buf
+IsHeard buf ended heard.Need = (ended ≡ false) × (length buf < most_head + most_body) × NeedsMore buf
 IsHeard buf ended heard.End = (ended ≡ true) × (buf ≡ [])
 IsHeard buf ended (heard.Refused fault) = (more : List ℕ) → Follows ended more → IsFault (buf ++ more) fault
 IsHeard buf ended (heard.Request lent) = (0 < lent.len) × (lent.len ≤ length buf) × (request : Request) × IsRequest (take lent.len buf) request × IsLent request lent

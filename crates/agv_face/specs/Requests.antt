@@ -1,8 +1,8 @@
 -- A request, and how its head says where it ends (RFC 9112, sections 2, 3 and 6, with this project's limits).
-use Rattle.std.specs.Prelude.{◌≡◌, ◌++◌, ◌==◌, ℕ, ◌<◌, ◌≤◌, ◌||◌, ◌&&◌, ◌⊎◌, not, Bool, List, length, map, nat_lt, if◌then◌else◌, codes, Result, Ok, Err}
+use Rattle.std.specs.Prelude.{◌≡◌, ◌==◌, ℕ, ◌<◌, ◌≤◌, ◌||◌, ◌&&◌, ◌⊎◌, not, Bool, List, [], length, map, nat_lt, if◌then◌else◌, codes, Result, Ok, Err}
 use Rattle.std.specs.List.{list_any, slice_split}
 use Rattle.std.specs.Str.{bytes_eq}
-use Rattle.httparse.specs.Grammar.{RequestHead, ReadsRequest, print_request, trim_ows}
+use Rattle.httparse.specs.Grammar.{RequestHead, ReadsRequest, HasNoRequest, MayBecomeRequest, print_request, trim_ows}
 use Rattle.httparse.specs.Spans.{name_and_value}
 use Rattle.agv_header.specs.declared.refusal.Refusal.{Refusal}
 use Rattle.agv_header.specs.declared.refusal.Refusal.TheVariants as refusal
@@ -82,6 +82,9 @@ is_plain_head minor lines = minor == 1 && not (has_line (codes "connection") lin
 abbrev pub is_plain : Request → Bool
 is_plain request = is_plain_head request.minor request.lines
 
--- no request, head and body, stands at the front of the bytes
-abbrev pub BeginsWithNoRequest : List ℕ → Type 0
-BeginsWithNoRequest bytes = (part : List ℕ) (rest : List ℕ) (request : Request) → bytes ≡ part ++ rest → IsRequest part request → ⊥
+-- more bytes have to come before these show a request, and can make one: none has come, the head is still being read, or part of the body is lacking
+abbrev pub NeedsMore : List ℕ → Type 0
+NeedsMore bytes =
+    (bytes ≡ [])
+    ⊎ (HasNoRequest bytes × MayBecomeRequest bytes)
+    ⊎ ((head : RequestHead) × (rest : List ℕ) × (n : ℕ) × BeginsWith bytes head rest × (body_length head.method (lines_of head) ≡ Ok n) × (length rest < n))

@@ -1,12 +1,22 @@
 -- What one step of the stream comes to.
-use Rattle.std.specs.Prelude.{◌≡◌, ◌≤◌, ◌<◌, ◌+◌, ℕ, ◌++◌, Bool, true, false, List, [], ◌∷◌, length, take, Some}
+use Rattle.std.specs.Prelude.{◌≡◌, ◌≤◌, ◌<◌, ◌+◌, ◌⊎◌, ℕ, ◌++◌, Bool, true, false, List, [], ◌∷◌, length, take, Option, Some, Result, Ok, Err}
+use Rattle.std.specs.Io.KnownBytes.{Appends, Consumes, Keeps, IsAtEnd}
+use Rattle.sqlite_trees.specs.declared.store.Store.{Ghosts}
+use Rattle.sqlite.specs.Held.{Held}
+use Rattle.agv_store.specs.HeldLoads.{IsClean, HoldsLoads}
 use Rattle.agv_face.specs.declared.call.Call.{Call}
+use Rattle.agv_face.specs.declared.stream.Stop.{Stop}
+use Rattle.agv_face.specs.declared.stream.Stop.TheVariants as stop
 use Rattle.agv_face.specs.declared.stream.Step.{Step}
 use Rattle.agv_face.specs.declared.stream.Step.TheVariants as step
-use Rattle.agv_face.specs.Requests.{Request, IsRequest, most_head, most_body}
+use Rattle.agv_face.specs.declared.watched.Watched.{Watched}
+use Rattle.agv_face.specs.Requests.{Request, IsRequest, NeedsMore, most_head, most_body}
 use Rattle.agv_face.specs.Calls.{call_of}
 use Rattle.agv_face.specs.Asked.{BeginsWithNoCall}
 use Rattle.agv_face.specs.Heard.{Follows}
+use Rattle.agv_face.specs.Open.{HoldsIfOpen}
+use Rattle.agv_face.specs.Served.{AreKept, AreAfter, IsAnswered, IsCutIn, IsCutOff}
+use Rattle.agv_face.specs.Watched.{inner_of, FailedOnce, FailedNever}
 
 -- the buffer begins with a request that is this call, and takes so many bytes
 abbrev pub IsNextCall : List ℕ → ℕ → Call → Type 0
@@ -14,10 +24,72 @@ IsNextCall buf len call = (0 < len) × (len ≤ length buf) × (request : Reques
 
 -- what the step has found in the buffer, and the calls that it has answered: none, or the one that is next
 abbrev pub IsStep : List ℕ → Bool → Step → List Call → Type 0
-IsStep buf ended step.Need calls = (calls ≡ []) × (ended ≡ false) × (length buf < most_head + most_body)
+IsStep buf ended step.Need calls = (calls ≡ []) × (ended ≡ false) × (length buf < most_head + most_body) × NeedsMore buf
 IsStep buf ended step.End calls = (calls ≡ []) × (ended ≡ true) × (buf ≡ [])
 IsStep buf ended (step.Next len) calls = (call : Call) × (calls ≡ call ∷ []) × IsNextCall buf len call
 
 -- the buffer, whatever follows it, begins with no call
 abbrev pub IsOther : List ℕ → Bool → Type 0
 IsOther buf ended = (more : List ℕ) → Follows ended more → BeginsWithNoCall (buf ++ more)
+
+-- what became of one read, whose bytes go to the end of the buffer
+module _ {R : Type 0} (remaining : R → Option (List ℕ)) (reader reader_then : Watched R) (buf buf_then : List ℕ) where
+  abbrev pub ReadEnds : Result Bool Stop → Type 0
+  ReadEnds (Ok more) =
+      (bytes : List ℕ) × (buf_then ≡ buf ++ bytes) × (length bytes ≤ 4096) × Consumes (remaining (inner_of reader)) (remaining (inner_of reader_then)) bytes
+      × (more ≡ false → (bytes ≡ []) × IsAtEnd (remaining (inner_of reader_then))) × FailedNever reader reader_then
+  ReadEnds (Err stop.Read) = Keeps (remaining (inner_of reader)) (remaining (inner_of reader_then)) × FailedOnce reader reader_then
+  ReadEnds (Err stop.Memory) = FailedNever reader reader_then
+  ReadEnds (Err stop.Other) = ⊥
+  ReadEnds (Err stop.Write) = ⊥
+  ReadEnds (Err stop.Storage) = ⊥
+
+-- what became of bytes that were to be written
+module _ {W : Type 0} (contents : W → Option (List ℕ)) (writer writer_then : Watched W) (bytes : List ℕ) where
+  abbrev pub WriteEnds : Result (Unit {0}) Stop → Type 0
+  WriteEnds (Ok done) = Appends (contents (inner_of writer)) (contents (inner_of writer_then)) bytes × FailedNever writer writer_then
+  WriteEnds (Err stop.Write) = IsCutIn (contents (inner_of writer)) (contents (inner_of writer_then)) [] bytes × FailedOnce writer writer_then
+  WriteEnds (Err stop.Memory) = writer_then ≡ writer
+  WriteEnds (Err stop.Other) = ⊥
+  WriteEnds (Err stop.Read) = ⊥
+  WriteEnds (Err stop.Storage) = ⊥
+
+module _ {S : Type 0} (g : Ghosts S) (loads loads_then : Held S) where
+  -- the loads are as before, if the store is still open
+  abbrev pub Kept : Type 0
+  Kept = IsClean g loads_then → AreKept (HoldsLoads g loads) (HoldsIfOpen g loads_then)
+
+  -- the loads are those after the call
+  abbrev pub After : Call → Type 0
+  After call = IsClean g loads_then → AreAfter (HoldsLoads g loads) (HoldsLoads g loads_then) call
+
+  -- the loads are as before, or those after the next call of the buffer
+  abbrev pub NextKept : List ℕ → Type 0
+  NextKept buf = Kept ⊎ ((len : ℕ) × (call : Call) × IsNextCall buf len call × After call)
+
+module _ {S W : Type 0} (g : Ghosts S) (contents : W → Option (List ℕ)) (loads loads_then : Held S) (writer writer_then : Watched W) where
+  -- just these calls are answered
+  abbrev pub Answers : List Call → Type 0
+  Answers calls = IsClean g loads_then → IsAnswered (HoldsLoads g loads) (HoldsLoads g loads_then) (contents (inner_of writer)) (contents (inner_of writer_then)) calls
+
+  -- the call is carried out, and its answer is cut
+  abbrev pub Cuts : Call → Type 0
+  Cuts call = IsClean g loads_then → IsCutOff (HoldsLoads g loads) (HoldsLoads g loads_then) (contents (inner_of writer)) (contents (inner_of writer_then)) [] call
+
+  -- what became of one call
+  abbrev pub CallEnds : Call → Result (Unit {0}) Stop → Type 0
+  CallEnds call (Ok done) = Answers (call ∷ []) × FailedNever writer writer_then
+  CallEnds call (Err stop.Other) = ⊥
+  CallEnds call (Err stop.Read) = ⊥
+  CallEnds call (Err stop.Write) = Cuts call × FailedOnce writer writer_then
+  CallEnds call (Err stop.Memory) = (writer_then ≡ writer) × (Kept g loads loads_then ⊎ After g loads loads_then call)
+  CallEnds call (Err stop.Storage) = (writer_then ≡ writer) × (Kept g loads loads_then ⊎ After g loads loads_then call)
+
+  -- what became of the next request of the buffer
+  abbrev pub NextEnds : List ℕ → Bool → Result Step Stop → Type 0
+  NextEnds buf ended (Ok done) = (calls : List Call) × IsStep buf ended done calls × Answers calls × FailedNever writer writer_then
+  NextEnds buf ended (Err stop.Other) = IsOther buf ended × Answers [] × FailedNever writer writer_then
+  NextEnds buf ended (Err stop.Read) = ⊥
+  NextEnds buf ended (Err stop.Write) = (len : ℕ) × (call : Call) × IsNextCall buf len call × Cuts call × FailedOnce writer writer_then
+  NextEnds buf ended (Err stop.Memory) = (writer_then ≡ writer) × NextKept g loads loads_then buf
+  NextEnds buf ended (Err stop.Storage) = (writer_then ≡ writer) × NextKept g loads loads_then buf

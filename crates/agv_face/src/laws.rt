@@ -1,8 +1,10 @@
 //! What holds of the definitions that the contracts of this crate cite, whatever the code does.
 //! Each function does nothing: its clause is the law.
-ghost use Rattle.std.specs.Prelude.{◌≡◌, ℕ, List};
+ghost use Rattle.std.specs.Prelude.{◌≡◌, ◌++◌, ℕ, List, Err};
+ghost use Rattle.httparse.specs.Grammar.{RequestHead};
+ghost use Rattle.agv_header.specs.declared.refusal.Refusal.{Refusal};
 ghost use Rattle.agv_face.specs.declared.call.Call.{Call};
-ghost use Rattle.agv_face.specs.Requests.{Request};
+ghost use Rattle.agv_face.specs.Requests.{Request, IsRequest, BeginsWith, NeedsMore, body_length, lines_of};
 ghost use Rattle.agv_face.specs.Cut.{Cut, Ending};
 ghost use Rattle.agv_face.specs.Asked.{Asks, AsksUpToOther};
 
@@ -20,4 +22,12 @@ pub fn asks_one_list()
 /// An input with what is no call behind some calls is no list of calls.
 pub fn asks_no_list_before_other()
     ensures { (input : List ℕ) (calls others : List Call) → AsksUpToOther input calls → Asks input others → ⊥ }
+{}
+
+/// Bytes that need more begin with no whole request, and with no head whose length is refused.
+pub fn waits_for_what_is_lacking()
+    ensures request { (bytes part rest : List ℕ) (request : Request)
+        → NeedsMore bytes → bytes ≡ part ++ rest → IsRequest part request → ⊥ }
+    ensures refusal { (bytes : List ℕ) (head : RequestHead) (rest : List ℕ) (fault : Refusal)
+        → NeedsMore bytes → BeginsWith bytes head rest → body_length head.method (lines_of head) ≡ Err fault → ⊥ }
 {}

@@ -1,15 +1,12 @@
 //! A stream of requests, answered one after another.
-ghost use Rattle.std.specs.Prelude.{◌≡◌, ◌≢◌, ◌≤◌, ◌⊎◌, ◌+◌, ℕ, List, [], ◌∷◌, ◌++◌, length, drop, vec_len, vec_capacity, false, IfOk, IfErr, IfSome, OnOk, OnErr};
-ghost use Rattle.std.specs.Io.KnownBytes.{Appends, Consumes, IsAtEnd};
+ghost use Rattle.std.specs.Prelude.{◌≡◌, ◌≤◌, ◌+◌, drop, vec_len, vec_capacity, IfOk, OnOk, OnErr};
 ghost use Rattle.agv_store.specs.HeldLoads.{IsClean, IsOpen, HoldsLoads, KeepsLoads};
 ghost use Rattle.agv_store.specs.Registered.{Registered};
-ghost use Rattle.agv_face.specs.declared.call.Call.{Call};
 ghost use Rattle.agv_face.specs.Answers.{answer_bytes};
-ghost use Rattle.agv_face.specs.Asked.{Asks, AsksFirst, AsksNext, AsksUpToOther};
-ghost use Rattle.agv_face.specs.Open.{HoldsIfOpen};
-ghost use Rattle.agv_face.specs.Served.{said, after, registration_answer, place_answer, AreKept, AreAfter, IsAnswered, IsUnsaid, IsCutIn, IsCutOff};
-ghost use Rattle.agv_face.specs.Stepped.{IsStep, IsNextCall, IsOther};
-ghost use Rattle.agv_face.specs.Watched.{inner_of, HadCalls, FailedOnce, FailedNever, RanOut};
+ghost use Rattle.agv_face.specs.Ends.{Ends};
+ghost use Rattle.agv_face.specs.Served.{said, after, registration_answer, place_answer};
+ghost use Rattle.agv_face.specs.Stepped.{ReadEnds, WriteEnds, CallEnds, NextEnds};
+ghost use Rattle.agv_face.specs.Watched.{HadCalls};
 
 use crate::answer::{Answer, answer_bytes};
 use crate::call::{Call, call_of};
@@ -89,12 +86,9 @@ fn drop_front(buf: &mut Vec<u8>, n: usize)
 /// One read, whose bytes go to the end of the buffer. `false` at the end of the input.
 fn read_some<R: Read>(reader: &mut Watched<R>, buf: &mut Vec<u8>) -> Result<bool, Stop>
     requires { vec_len buf.old + 4096 ≤ vec_capacity buf.old }
-    ensures got { IfOk result (λ more. (bytes : List ℕ) × (buf.new.items ≡ buf.old.items ++ bytes) × (length bytes ≤ 4096)
-        × Consumes (R.remaining (inner_of reader.old)) (R.remaining (inner_of reader.new)) bytes × (more ≡ false → (bytes ≡ []) × IsAtEnd (R.remaining (inner_of reader.new)))) }
+    ensures ends { ReadEnds R.remaining reader.old reader.new buf.old.items buf.new.items result }
     ensures room { OnOk result (vec_capacity buf.old ≤ vec_capacity buf.new) }
     ensures calls { HadCalls 1 reader.old reader.new }
-    ensures unfailed { OnOk result (FailedNever reader.old reader.new) }
-    ensures failed { IfErr result (λ stop. ((stop ≡ Stop.Read) × FailedOnce reader.old reader.new) ⊎ ((stop ≡ Stop.Memory) × FailedNever reader.old reader.new)) }
 {
     let mut chunk = [0; 4096];
     match reader.read(&mut chunk) {
@@ -108,10 +102,7 @@ fn read_some<R: Read>(reader: &mut Watched<R>, buf: &mut Vec<u8>) -> Result<bool
 
 /// Writes all the bytes. A write that takes none is a fault, and so is any error.
 fn write_whole<W: Write>(writer: &mut Watched<W>, bytes: &[u8]) -> Result<(), Stop>
-    ensures written { OnOk result (Appends (W.contents (inner_of writer.old)) (W.contents (inner_of writer.new)) bytes.now) }
-    ensures unfailed { OnOk result (FailedNever writer.old writer.new) }
-    ensures failed { IfErr result (λ stop. (stop ≡ Stop.Write) × FailedOnce writer.old writer.new) }
-    ensures cut { OnErr result (IsCutIn (W.contents (inner_of writer.old)) (W.contents (inner_of writer.new)) [] bytes.now) }
+    ensures ends { WriteEnds W.contents writer.old writer.new bytes.now result }
 {
     let mut done = 0;
     while done < bytes.len() {
@@ -164,12 +155,7 @@ fn write_answer<W: Write>(
     answer: &Answer,
     writer: &mut Watched<W>,
 ) -> Result<(), Stop>
-    ensures written { OnOk result (Appends (W.contents (inner_of writer.old)) (W.contents (inner_of writer.new)) (answer_bytes answer.now)) }
-    ensures unfailed { OnOk result (FailedNever writer.old writer.new) }
-    ensures failed { IfErr result (λ stop. (stop ≡ Stop.Write) ⊎ (stop ≡ Stop.Memory)) }
-    ensures unwritten { IfErr result (λ stop. stop ≡ Stop.Write → FailedOnce writer.old writer.new) }
-    ensures cut { IfErr result (λ stop. stop ≡ Stop.Write → IsCutIn (W.contents (inner_of writer.old)) (W.contents (inner_of writer.new)) [] (answer_bytes answer.now)) }
-    ensures untouched { IfErr result (λ stop. stop ≢ Stop.Write → writer.new ≡ writer.old) }
+    ensures ends { WriteEnds W.contents writer.old writer.new (answer_bytes answer.now) result }
 {
     let bytes = answer_bytes(alloc, answer)?;
     write_whole(writer, &bytes)
@@ -183,14 +169,7 @@ fn answer_call<S: Alter + Drop, W: Write>(
     writer: &mut Watched<W>,
 ) -> Result<(), Stop>
     ensures clean { IsClean S.Store loads.new → IsClean S.Store loads.old }
-    ensures answered { IsClean S.Store loads.new → OnOk result (IsAnswered (HoldsLoads S.Store loads.old) (HoldsLoads S.Store loads.new) (W.contents (inner_of writer.old)) (W.contents (inner_of writer.new)) (call ∷ [])) }
-    ensures unfailed { OnOk result (FailedNever writer.old writer.new) }
-    ensures failed { IfErr result (λ stop. (stop ≢ Stop.Other) × (stop ≢ Stop.Read)) }
-    ensures unwritten { IfErr result (λ stop. stop ≡ Stop.Write → FailedOnce writer.old writer.new) }
-    ensures faulted { IfErr result (λ stop. stop ≢ Stop.Write → (writer.new ≡ writer.old)
-        × ((IsClean S.Store loads.new → AreKept (HoldsLoads S.Store loads.old) (HoldsIfOpen S.Store loads.new))
-        ⊎ (IsClean S.Store loads.new → AreAfter (HoldsLoads S.Store loads.old) (HoldsLoads S.Store loads.new) call))) }
-    ensures cut_off { IsClean S.Store loads.new → IfErr result (λ stop. stop ≡ Stop.Write → IsCutOff (HoldsLoads S.Store loads.old) (HoldsLoads S.Store loads.new) (W.contents (inner_of writer.old)) (W.contents (inner_of writer.new)) [] call) }
+    ensures ends { CallEnds S.Store W.contents loads.old loads.new writer.old writer.new call result }
 {
     let answer = carry_out(loads, call)?;
     write_answer(alloc, &answer, writer)
@@ -205,17 +184,7 @@ fn answer_next<S: Alter + Drop, W: Write>(
     writer: &mut Watched<W>,
 ) -> Result<Step, Stop>
     ensures clean { IsClean S.Store loads.new → IsClean S.Store loads.old }
-    ensures answered { IfOk result (λ step. (calls : List Call) × IsStep buf.now ended step calls
-        × (IsClean S.Store loads.new → IsAnswered (HoldsLoads S.Store loads.old) (HoldsLoads S.Store loads.new) (W.contents (inner_of writer.old)) (W.contents (inner_of writer.new)) calls)) }
-    ensures other { IfErr result (λ stop. stop ≡ Stop.Other → IsOther buf.now ended × IsAnswered (HoldsLoads S.Store loads.old) (HoldsLoads S.Store loads.new) (W.contents (inner_of writer.old)) (W.contents (inner_of writer.new)) []) }
-    ensures unfailed { OnOk result (FailedNever writer.old writer.new) }
-    ensures not_read { IfErr result (λ stop. stop ≢ Stop.Read) }
-    ensures unwritten { IfErr result (λ stop. stop ≡ Stop.Write → FailedOnce writer.old writer.new) }
-    ensures faulted { IfErr result (λ stop. stop ≢ Stop.Write → (writer.new ≡ writer.old)
-        × ((IsClean S.Store loads.new → AreKept (HoldsLoads S.Store loads.old) (HoldsIfOpen S.Store loads.new))
-        ⊎ ((len : ℕ) × (call : Call) × IsNextCall buf.now len call × (IsClean S.Store loads.new → AreAfter (HoldsLoads S.Store loads.old) (HoldsLoads S.Store loads.new) call)))) }
-    ensures cut_off { IfErr result (λ stop. stop ≡ Stop.Write → (len : ℕ) × (call : Call) × IsNextCall buf.now len call
-        × (IsClean S.Store loads.new → IsCutOff (HoldsLoads S.Store loads.old) (HoldsLoads S.Store loads.new) (W.contents (inner_of writer.old)) (W.contents (inner_of writer.new)) [] call)) }
+    ensures ends { NextEnds S.Store W.contents loads.old loads.new writer.old writer.new buf.now ended result }
 {
     match read_request(buf, ended) {
         Heard::Need => Ok(Step::Need),
@@ -232,6 +201,9 @@ fn answer_next<S: Alter + Drop, W: Write>(
 }
 
 /// Answers a stream of calls up to its end, and gives the number of answers that were written.
+///
+/// `Ends` says of each end which calls the input is or begins with, that just those are answered,
+/// what the loads are then, and whether the reader or the writer failed.
 pub fn answer_calls<S: Alter + Drop, R: Read, W: Write>(
     alloc: Global,
     loads: &mut Loads<S>,
@@ -239,40 +211,7 @@ pub fn answer_calls<S: Alter + Drop, R: Read, W: Write>(
     writer: &mut Watched<W>,
 ) -> Result<u64, Stop>
     ensures clean { IsClean S.Store loads.new → IsClean S.Store loads.old }
-
-    // The input is some calls and no byte more, and they are answered.
-    ensures answered { IfOk result (λ n. (calls : List Call) × (n ≡ length calls) × IfSome (R.remaining (inner_of reader.old)) (λ input. Asks input calls)
-        × (IsClean S.Store loads.new → IsAnswered (HoldsLoads S.Store loads.old) (HoldsLoads S.Store loads.new) (W.contents (inner_of writer.old)) (W.contents (inner_of writer.new)) calls)) }
-
-    // The input is some calls and then no call; those are answered, and nothing more is written.
-    ensures other { IfErr result (λ stop. stop ≡ Stop.Other → (calls : List Call) × IfSome (R.remaining (inner_of reader.old)) (λ input. AsksUpToOther input calls)
-        × (IsClean S.Store loads.new → IsAnswered (HoldsLoads S.Store loads.old) (HoldsLoads S.Store loads.new) (W.contents (inner_of writer.old)) (W.contents (inner_of writer.new)) calls)) }
-
-    // The input begins with some calls; those are answered, and nothing more is written.
-    ensures so_far { IfErr result (λ stop. stop ≡ Stop.Read → (calls : List Call) × IfSome (R.remaining (inner_of reader.old)) (λ input. AsksFirst input calls)
-        × (IsClean S.Store loads.new → IsAnswered (HoldsLoads S.Store loads.old) (HoldsLoads S.Store loads.new) (W.contents (inner_of writer.old)) (W.contents (inner_of writer.new)) calls)) }
-
-    // Those are answered and nothing more is written, and it may be that the next call is carried out.
-    ensures faulted { IfErr result (λ stop. (stop ≡ Stop.Memory) ⊎ (stop ≡ Stop.Storage)
-        → ((calls : List Call) × IfSome (R.remaining (inner_of reader.old)) (λ input. AsksFirst input calls)
-        × (IsClean S.Store loads.new → IsAnswered (HoldsLoads S.Store loads.old) (HoldsIfOpen S.Store loads.new) (W.contents (inner_of writer.old)) (W.contents (inner_of writer.new)) calls))
-        ⊎ ((calls : List Call) × (call : Call) × IfSome (R.remaining (inner_of reader.old)) (λ input. AsksNext input calls call)
-        × (IsClean S.Store loads.new → IsUnsaid (HoldsLoads S.Store loads.old) (HoldsLoads S.Store loads.new) (W.contents (inner_of writer.old)) (W.contents (inner_of writer.new)) calls call))) }
-
-    // Those are answered, and the next call is carried out; just a front of its answer is written.
-    ensures cut_off { IfErr result (λ stop. stop ≡ Stop.Write → (calls : List Call) × (call : Call) × IfSome (R.remaining (inner_of reader.old)) (λ input. AsksNext input calls call)
-        × (IsClean S.Store loads.new → IsCutOff (HoldsLoads S.Store loads.old) (HoldsLoads S.Store loads.new) (W.contents (inner_of writer.old)) (W.contents (inner_of writer.new)) calls call)) }
-
-    // At the end neither the reader nor the writer has failed.
-    ensures unfailed { OnOk result (FailedNever reader.old reader.new × FailedNever writer.old writer.new) }
-
-    // It is `Read` where the reader failed, or had too many reads; else the reader didn't fail.
-    ensures read { IfErr result (λ stop. stop ≡ Stop.Read → RanOut reader.old reader.new) }
-    ensures unread { IfErr result (λ stop. stop ≢ Stop.Read → FailedNever reader.old reader.new) }
-
-    // It is `Write` where the writer failed, or took no byte; else the writer didn't.
-    ensures write { IfErr result (λ stop. stop ≡ Stop.Write → FailedOnce writer.old writer.new) }
-    ensures unwritten { IfErr result (λ stop. stop ≢ Stop.Write → FailedNever writer.old writer.new) }
+    ensures ends { Ends S.Store R.remaining W.contents loads.old loads.new reader.old reader.new writer.old writer.new result }
 {
     let mut buf = Vec::with_capacity(alloc, ROOM)?;
     let mut ended = false;

@@ -1,7 +1,5 @@
-use Rattle.std.proofs.Common.{◌≡◌, ◌<◌, [], length, refl, arith}
-use Rattle.agv_header.specs.declared.refusal.Refusal.TheVariants as refusal
-use Rattle.agv_face.proofs.Cuts.{no_request_yet, no_request_in_none}
-use Rattle.agv_face.proofs.Heads.{too_many_lines, no_end_in_front, cut_head, some_left, none_left, no_bytes}
+use Rattle.std.proofs.Common.{◌≡◌, ◌<◌, length, inl, arith}
+use Rattle.agv_face.proofs.Heads.{too_many_lines, no_end_in_front, cut_head, some_left, none_left, no_bytes, open_head}
 use Rattle.agv_face.proofs.request.read_request.Goals as goal
 
 pub returns-in-Ok-Partial : goal.returns-in-Ok-Partial
@@ -21,11 +19,11 @@ returns-in-Err c more follows =
 pub returns-else-ended : goal.returns-else-ended
 returns-else-ended c =
     let none : length c.args.buf.now ≡ 0 = none_left _ _ c.is_empty.ensures c.if-is_empty.true in
-    (c.if-ended.false, omega arith, no_request_in_none c.args.buf.now (no_bytes c.args.buf.now none))
+    (c.if-ended.false, omega arith, inl (no_bytes c.args.buf.now none))
 
 pub returns-in-Ok-Partial-3 : goal.returns-in-Ok-Partial-3
 returns-in-Ok-Partial-3 c =
     let none = rw c.in-Ok-Partial.field-0-is at c.in-Ok-Partial.ensures.partial in
-    let cut = cut_head c.args.buf.now c.front_of-front.result.now [] c.front_of-front.ensures.front (some_left _ _ c.is_empty.ensures c.if-is_empty.false) none refl in
+    let partial = rw c.in-Ok-Partial.field-0-is at c.in-Ok-Partial.ensures.unfinished in
     let short : length c.args.buf.now < 8192 = c.if-buf-ge-MOST_HEAD.false in
-    (c.if-ended-2.false, omega arith, no_request_yet c.args.buf.now refusal.BadHead cut)
+    (c.if-ended-2.false, omega arith, open_head c.args.buf.now c.front_of-front.result.now c.front_of-front.ensures.front short none partial)

@@ -1,10 +1,8 @@
-use Rattle.std.proofs.Common.{[], ◌≡◌, ◌≤◌, ◌<◌, ◌+◌, ◌-◌, length, take, drop, sym, ap, ap₂, ◌∙◌, arith, refl, Ok}
+use Rattle.std.proofs.Common.{◌≡◌, ◌≤◌, ◌<◌, ◌+◌, ◌-◌, length, take, drop, sym, ap, ap₂, ◌∙◌, arith, refl, Ok}
 use Rattle.std.proofs.Math.ListN.{length-drop}
 use Rattle.std.proofs.lemmas.List.{length-take}
 use Rattle.agv_face.specs.Requests.{request_of, is_plain_head}
-use Rattle.agv_header.specs.declared.refusal.Refusal.TheVariants as refusal
-use Rattle.agv_face.proofs.Cuts.{no_request_yet}
-use Rattle.agv_face.proofs.Heads.{whole, same_length, refused, cut_body, some_bytes, len_fits}
+use Rattle.agv_face.proofs.Heads.{whole, same_length, refused, cut_body, open_body, some_bytes, len_fits}
 use Rattle.agv_face.proofs.request.with_head.Goals as goal
 
 pub split_at-requires : goal.split_at-requires
@@ -73,6 +71,6 @@ returns-in-Ok-3 c =
     let size : length c.split_at.result.1.now ≡ length c.args.buf.now - c.args.head.len = ap length c.split_at.ensures.back ∙ length-drop c.args.head.len c.args.buf.now in
     let same = same_length c.args.buf.now c.args.front.now c.args.headers.now c.args.head head c.requires.front c.requires.room within at c.of-method.result.now c.of-method.ensures in
     let short : length (drop c.args.head.len c.args.buf.now) < c.in-Ok.n = omega (arith, c.if-n-rest.false, ap length c.split_at.ensures.back) in
-    let cut = cut_body c.args.buf.now c.args.front.now c.args.headers.now c.args.head head c.requires.front c.requires.room within at [] c.in-Ok.n
-    (sym same ∙ sym c.needed_by.ensures.needed ∙ c.in-Ok.is) refl short in
-    (c.if-ended.false, omega arith, no_request_yet c.args.buf.now refusal.BadHead cut)
+    let lacking = open_body c.args.buf.now c.args.front.now c.args.headers.now c.args.head head c.requires.front c.requires.room within at c.in-Ok.n
+    (sym same ∙ sym c.needed_by.ensures.needed ∙ c.in-Ok.is) short in
+    (c.if-ended.false, omega arith, lacking)

@@ -1,8 +1,8 @@
 use Rattle.std.proofs.Common.{◌≡◌, ◌≤◌, ◌+◌, ◌-◌, ◌*◌, List, length, vec_len, vec_capacity}
-use Rattle.agv_store.specs.HeldLoads.{IsClean, HoldsLoads}
+use Rattle.agv_store.specs.HeldLoads.{IsClean}
 use Rattle.agv_face.specs.declared.call.Call.{Call}
-use Rattle.agv_face.specs.Served.{IsAnswered}
-use Rattle.agv_face.specs.Watched.{HadCalls, FailedNever}
+use Rattle.agv_face.proofs.Steps.{Answering}
+use Rattle.agv_face.specs.Watched.{HadCalls}
 use Rattle.agv_face.proofs.Streaming.{HasCome}
 use Rattle.agv_face.proofs.stream.answer_calls.Given as goal
 
@@ -11,10 +11,9 @@ abbrev pub invariant-loop-buf : goal.invariant-loop-buf
 invariant-loop-buf g l =
     (calls : List Call) × (l.answers ≡ length calls)
     × HasCome (g.R.Read.remaining l.initial.reader.inner) (g.R.Read.remaining l.reader.inner) l.ended l.buf.items calls
+    × Answering g.S.Store g.W.Write.contents l.initial.loads l.loads l.initial.reader l.reader l.initial.writer l.writer calls
     × (IsClean g.S.Store l.loads → IsClean g.S.Store l.initial.loads)
-    × (IsClean g.S.Store l.loads → IsAnswered (HoldsLoads g.S.Store l.initial.loads) (HoldsLoads g.S.Store l.loads) (g.W.Write.contents l.initial.writer.inner) (g.W.Write.contents l.writer.inner) calls)
-    × (77824 ≤ vec_capacity l.buf) × (l.reads ≤ 16777216) × (l.answers + vec_len l.buf ≤ l.reads * 4096)
-    × HadCalls l.reads l.initial.reader l.reader × FailedNever l.initial.reader l.reader × FailedNever l.initial.writer l.writer
+    × (77824 ≤ vec_capacity l.buf) × (l.reads ≤ 16777216) × (l.answers + vec_len l.buf ≤ l.reads * 4096) × HadCalls l.reads l.initial.reader l.reader
 
 abbrev pub decreases-loop-buf : goal.decreases-loop-buf
 decreases-loop-buf g l = (16777216 - l.reads) * 4097 + vec_len l.buf
