@@ -1,5 +1,5 @@
 -- An input is cut in one way.
-use Rattle.std.proofs.Common.{◌≡◌, ◌<◌, ◌+◌, ℕ, List, [], ◌∷◌, ◌++◌, true, false, length, take, Result, Ok, Err, refl, sym, ap, ap₂, ◌∙◌, subst, arith, inl, inr, append_assoc, length-append}
+use Rattle.std.proofs.Common.{◌≡◌, ◌<◌, ◌+◌, ℕ, List, [], ◌∷◌, ◌++◌, true, false, Bool, length, take, drop, take-append-drop, Result, Ok, Err, refl, sym, ap, ap₂, ◌∙◌, subst, arith, inl, inr, append_assoc, append-nil, length-append}
 use Rattle.std.proofs.lemmas.List.{append_cancel_left}
 use Rattle.std.proofs.Math.Seq.{take-append_seam}
 use Rattle.httparse.specs.Grammar.{RequestHead, print_request}
@@ -7,7 +7,7 @@ use Rattle.httparse.proofs.GrammarLemmas.{request_unique}
 use Rattle.agv_header.specs.declared.refusal.Refusal.{Refusal}
 use Rattle.agv_header.specs.declared.refusal.Refusal.TheVariants as refusal
 use Rattle.agv_face.specs.Requests.{Request, BeginsWith, IsRequest, IsFault, request_of, lines_of, body_length, is_last, NeedsMore}
-use Rattle.agv_face.specs.Cut.{Cut, Ending, faulty, no_more, a_fault, the_last, one_more}
+use Rattle.agv_face.specs.Cut.{Cut, Ending, at_end, closed, faulty, no_more, a_fault, the_last, one_more}
 
 -- ---- heads
 
@@ -158,3 +158,24 @@ one_cut bytes xs ys e d (one_more _ p r x ws b is one more rest) (one_more _ q s
     let P : List ℕ → Type 0 = λ l. Cut l zs c in
     let later = one_cut r ws zs b c rest (subst P (sym same.2) rest') in
     (ap₂ ◌∷◌ same.0 later.0, later.1)
+
+-- ---- a cut of every input
+
+abbrev pub HasCut : List ℕ → Type 0
+HasCut bytes = (requests : List Request) × (ending : Ending) × Cut bytes requests ending
+
+cut_from : (bytes part rest : List ℕ) (x : Request) (last : Bool) → bytes ≡ part ++ rest → IsRequest part x → is_last x ≡ last → HasCut rest → HasCut bytes
+cut_from bytes part rest x true is one ends cut = (x ∷ [], closed, the_last bytes part rest x is one ends)
+cut_from bytes part rest x false is one goes cut = (x ∷ cut.0, cut.1, one_more bytes part rest x cut.0 cut.1 is one goes cut.2)
+
+-- a request, and a cut of what follows it
+pub cut_on : (bytes : List ℕ) (len : ℕ) (x : Request) → IsRequest (take len bytes) x → HasCut (drop len bytes) → HasCut bytes
+cut_on bytes len x one cut = cut_from bytes (take len bytes) (drop len bytes) x (is_last x) (sym (take-append-drop len bytes)) one refl cut
+
+-- no byte is left
+pub cut_at_end : (bytes : List ℕ) → bytes ≡ [] → HasCut bytes
+cut_at_end bytes nil = ([], at_end, no_more bytes nil)
+
+-- what is left begins with no request
+pub cut_at_fault : (bytes : List ℕ) (f : Refusal) → IsFault (bytes ++ []) f → HasCut bytes
+cut_at_fault bytes f fault = let P : List ℕ → Type 0 = λ l. IsFault l f in ([], faulty f, a_fault bytes f (subst P (append-nil bytes) fault))

@@ -1,5 +1,5 @@
 //! What holds of the definitions that the contracts of this crate cite, whatever the code does.
-//! Each function does nothing: its clause is the law.
+//! Each function does nothing, but for [`has_a_cut`]: its clause is the law.
 ghost use Rattle.std.specs.Prelude.{◌≡◌, ◌++◌, ℕ, List, Err};
 ghost use Rattle.httparse.specs.Grammar.{RequestHead};
 ghost use Rattle.agv_header.specs.declared.refusal.Refusal.{Refusal};
@@ -7,6 +7,19 @@ ghost use Rattle.agv_face.specs.declared.call.Call.{Call};
 ghost use Rattle.agv_face.specs.Requests.{Request, IsRequest, BeginsWith, NeedsMore, body_length, lines_of};
 ghost use Rattle.agv_face.specs.Cut.{Cut, Ending};
 ghost use Rattle.agv_face.specs.Asked.{Asks, AsksUpToOther};
+
+use crate::request::{Heard, read_request};
+
+/// Each input that memory can hold is cut into requests: the body goes from one to the next.
+pub fn has_a_cut(input: &[u8])
+    ensures { (requests : List Request) × (ending : Ending) × Cut input.now requests ending }
+{
+    let mut rest = input;
+    while let Heard::Request(request) = read_request(rest, true) {
+        let (_, behind) = rest.split_at(request.len);
+        rest = behind;
+    }
+}
 
 /// An input is cut into requests in one way, and ends in one way.
 pub fn is_cut_one_way()
