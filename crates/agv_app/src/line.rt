@@ -17,6 +17,8 @@ pub enum Line {
 pub enum LineFault {
     /// The words are refused, or ask for help; the error is the text to show.
     Refused(Error),
+    /// The line has no `--at`. The parser refuses such a line by itself.
+    NoMoment,
     /// Want of memory.
     Memory,
 }
@@ -66,5 +68,5 @@ pub fn line_of<'a>(alloc: Global, words: &'a [String]) -> Result<Line, LineFault
     let at = matches
         .subcommand()
         .and_then(|(_, replay)| replay.get_one::<u64>("at"));
-    at.map(|at| Line::Replay { at }).ok_or(LineFault::Memory)
+    at.map(|at| Line::Replay { at }).ok_or(LineFault::NoMoment)
 }

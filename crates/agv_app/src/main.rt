@@ -5,11 +5,14 @@
 //! are refused, also at `--help`, with the text on standard error.
 #![tactic(auto)]
 
+ghost use Rattle.std.specs.Prelude.{◌≡◌};
+ghost use Rattle.std.specs.Process.{exit_status};
+
 mod line;
 
 use crate::line::{Line, LineFault, line_of};
-use agv_face::{LoadsFault, Watched, serve_loads};
-use agv_store::{Fault, Loads};
+use agv_face::{LoadsFault, Stop, Watched, serve_loads};
+use agv_store::Loads;
 use sqlite::Connection;
 use std::alloc::{AllocError, Global};
 use std::env::{self, Env};
@@ -31,11 +34,7 @@ fn replay(rt: &HostRuntime) -> Result<(), LoadsFault> {
     let Ok(conn) = Connection::open_in_memory(rt.alloc()) else {
         return Err(LoadsFault::Memory);
     };
-    let mut loads = match Loads::create(conn) {
-        Ok(loads) => loads,
-        Err(Fault::Memory) => return Err(LoadsFault::Memory),
-        Err(Fault::Storage) => return Err(LoadsFault::Storage),
-    };
+    let mut loads = Loads::create(conn).map_err(Stop::from)?;
     serve_loads(
         rt.alloc(),
         &mut loads,
@@ -46,13 +45,17 @@ fn replay(rt: &HostRuntime) -> Result<(), LoadsFault> {
 }
 
 /// One line on standard error.
-fn fails(rt: &impl Eprint, fault: LoadsFault) -> ExitCode {
-    let _ = eprintln!(rt; "fault: {fault:?}");
+fn fails(rt: &impl Eprint, fault: LoadsFault) -> ExitCode
+    ensures { exit_status result ≡ 1 }
+{
+    let _ = rt.eprintln(fault.line());
     ExitCode::FAILURE
 }
 
 /// The line is refused, with this text on standard error.
-fn refuses(rt: &impl Eprint, text: impl fmt::Display + Drop) -> ExitCode {
+fn refuses(rt: &impl Eprint, text: impl fmt::Display + Drop) -> ExitCode
+    ensures { exit_status result ≡ 2 }
+{
     let _ = rt.eprint(text);
     ExitCode::from(2)
 }
@@ -70,6 +73,7 @@ fn main(rt: HostRuntime) -> ExitCode {
             Ok(()) => ExitCode::SUCCESS,
             Err(fault) => fails(&rt, fault),
         },
+        Err(LineFault::NoMoment) => refuses(&rt, "error: --at is missing\n"),
         Err(LineFault::Memory) => fails(&rt, LoadsFault::Memory),
         Err(LineFault::Refused(error)) => refuses(&rt, &error),
     }

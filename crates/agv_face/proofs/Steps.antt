@@ -15,11 +15,11 @@ use Rattle.agv_face.specs.declared.watched.Watched.{Watched}
 use Rattle.agv_face.specs.Answers.{answer_bytes}
 use Rattle.agv_face.specs.Served.{said, after, IsAnswered}
 use Rattle.agv_face.specs.Stops.{stop_of}
-use Rattle.agv_face.specs.Stepped.{ReadEnds, WriteEnds, CallEnds, NextEnds, IsNextCall, Kept, After, NextKept}
+use Rattle.agv_face.specs.Stepped.{IsReadEnd, IsWriteEnd, IsCallEnd, IsNextEnd, IsNextCall, Kept, After, NextKept}
 use Rattle.agv_face.specs.Watched.{inner_of, failures_of, counted, FailedOnce, FailedNever}
 use Rattle.agv_face.specs.Requests.{NeedsMore}
 use Rattle.agv_face.specs.Open.{HoldsIfOpen}
-use Rattle.agv_face.specs.Ends.{Ends, Faulted}
+use Rattle.agv_face.specs.StreamEnds.{IsStreamEnd, Faulted}
 use Rattle.agv_face.proofs.Streaming.{HasCome, so_far, all_so_far, at_other, asks_next, kept_on, unsaid_on, cut_on, cut_first, answered-none, answered-less}
 
 -- ---- results
@@ -40,7 +40,7 @@ module _ {S W : Type 0} (g : Ghosts S) (contents : W → Option (List ℕ)) (loa
   -- the call is carried out, and its answer is written or not
   pub call_written : (call : Call) (answer : Answer) (result : Result (Unit {0}) Stop)
       → (IsClean g loads_then → (known : Registered) → HoldsLoads g loads known → (answer ≡ said known call) × HoldsLoads g loads_then (after known call))
-      → WriteEnds contents writer writer_then (answer_bytes answer) result → CallEnds g contents loads loads_then writer writer_then call result
+      → IsWriteEnd contents writer writer_then (answer_bytes answer) result → IsCallEnd g contents loads loads_then writer writer_then call result
   call_written call answer (Ok done) carried wrote = (
     λ clean known held.
         let now = carried clean known held in
@@ -60,7 +60,7 @@ module _ {S W : Type 0} (g : Ghosts S) (contents : W → Option (List ℕ)) (loa
 
   -- the next request is that call
   pub next_called : (buf : List ℕ) (ended : Bool) (len : ℕ) (call : Call) (s : Stop) → IsNextCall buf len call
-      → CallEnds g contents loads loads_then writer writer_then call (Err s) → NextEnds g contents loads loads_then writer writer_then buf ended (Err s)
+      → IsCallEnd g contents loads loads_then writer writer_then call (Err s) → IsNextEnd g contents loads loads_then writer writer_then buf ended (Err s)
   next_called buf ended len call stop.Other next came = absurd came
   next_called buf ended len call stop.Read next came = absurd came
   next_called buf ended len call stop.Write next came = (len, call, next, came.0, came.1)
@@ -92,8 +92,8 @@ module _ {S R W : Type 0} (g : Ghosts S) (remaining : R → Option (List ℕ)) (
 
   -- the next request of the buffer ends the stream
   pub next_stopped : (ended : Bool) (buf : List ℕ) (calls : List Call) (s : Stop) → HasCome (remaining (inner_of reader)) (remaining (inner_of reader_mid)) ended buf calls → Answering g contents loads loads_mid reader reader_mid writer writer_mid calls
-      → (IsClean g loads_then → IsClean g loads_mid) → NextEnds g contents loads_mid loads_then writer_mid writer_then buf ended (Err s)
-      → Ends g remaining contents loads loads_then reader reader_mid writer writer_then (Err s)
+      → (IsClean g loads_then → IsClean g loads_mid) → IsNextEnd g contents loads_mid loads_then writer_mid writer_then buf ended (Err s)
+      → IsStreamEnd g remaining contents loads loads_then reader reader_mid writer writer_then (Err s)
   next_stopped ended buf calls stop.Other come now clean ends =
       (calls, at_other _ _ _ _ calls come ends.0, (λ is. answered-none (HoldsLoads g loads) (HoldsLoads g loads_mid) (HoldsLoads g loads_then) _ _ _ calls (now.0 (clean is)) (ends.1 is)), (now.1, ends.2 ∙ now.2))
   next_stopped ended buf calls stop.Read come now clean ends = absurd ends
@@ -104,7 +104,7 @@ module _ {S R W : Type 0} (g : Ghosts S) (remaining : R → Option (List ℕ)) (
 
   -- a read ends the stream
   pub read_stopped : (buf buf_then : List ℕ) (calls : List Call) (s : Stop) → HasCome (remaining (inner_of reader)) (remaining (inner_of reader_mid)) false buf calls → NeedsMore buf → Answering g contents loads loads_mid reader reader_mid writer writer_mid calls
-      → ReadEnds remaining reader_mid reader_then buf buf_then (Err s) → Ends g remaining contents loads loads_mid reader reader_then writer writer_mid (Err s)
+      → IsReadEnd remaining reader_mid reader_then buf buf_then (Err s) → IsStreamEnd g remaining contents loads loads_mid reader reader_then writer writer_mid (Err s)
   read_stopped buf buf_then calls stop.Other come needs now ends = absurd ends
   read_stopped buf buf_then calls stop.Read come needs now ends = (calls, all_so_far _ _ _ _ buf calls come needs ends.0, now.0, inl (failed_then reader reader_mid reader_then now.1 ends.1), now.2)
   read_stopped buf buf_then calls stop.Write come needs now ends = absurd ends

@@ -11,4 +11,4 @@ pub mod Heard
 pub mod Stops
 pub mod Watched
 pub mod Open
-pub mod Ends
+pub mod StreamEnds

@@ -34,25 +34,25 @@ IsOther buf ended = (more : List ℕ) → Follows ended more → BeginsWithNoCal
 
 -- what became of one read, whose bytes go to the end of the buffer
 module _ {R : Type 0} (remaining : R → Option (List ℕ)) (reader reader_then : Watched R) (buf buf_then : List ℕ) where
-  abbrev pub ReadEnds : Result Bool Stop → Type 0
-  ReadEnds (Ok more) =
+  abbrev pub IsReadEnd : Result Bool Stop → Type 0
+  IsReadEnd (Ok more) =
       (bytes : List ℕ) × (buf_then ≡ buf ++ bytes) × (length bytes ≤ 4096) × Consumes (remaining (inner_of reader)) (remaining (inner_of reader_then)) bytes
       × (more ≡ false → (bytes ≡ []) × IsAtEnd (remaining (inner_of reader_then))) × FailedNever reader reader_then
-  ReadEnds (Err stop.Read) = Keeps (remaining (inner_of reader)) (remaining (inner_of reader_then)) × FailedOnce reader reader_then
-  ReadEnds (Err stop.Memory) = FailedNever reader reader_then
-  ReadEnds (Err stop.Other) = ⊥
-  ReadEnds (Err stop.Write) = ⊥
-  ReadEnds (Err stop.Storage) = ⊥
+  IsReadEnd (Err stop.Read) = Keeps (remaining (inner_of reader)) (remaining (inner_of reader_then)) × FailedOnce reader reader_then
+  IsReadEnd (Err stop.Memory) = FailedNever reader reader_then
+  IsReadEnd (Err stop.Other) = ⊥
+  IsReadEnd (Err stop.Write) = ⊥
+  IsReadEnd (Err stop.Storage) = ⊥
 
 -- what became of bytes that were to be written
 module _ {W : Type 0} (contents : W → Option (List ℕ)) (writer writer_then : Watched W) (bytes : List ℕ) where
-  abbrev pub WriteEnds : Result (Unit {0}) Stop → Type 0
-  WriteEnds (Ok done) = Appends (contents (inner_of writer)) (contents (inner_of writer_then)) bytes × FailedNever writer writer_then
-  WriteEnds (Err stop.Write) = IsCutIn (contents (inner_of writer)) (contents (inner_of writer_then)) [] bytes × FailedOnce writer writer_then
-  WriteEnds (Err stop.Memory) = writer_then ≡ writer
-  WriteEnds (Err stop.Other) = ⊥
-  WriteEnds (Err stop.Read) = ⊥
-  WriteEnds (Err stop.Storage) = ⊥
+  abbrev pub IsWriteEnd : Result (Unit {0}) Stop → Type 0
+  IsWriteEnd (Ok done) = Appends (contents (inner_of writer)) (contents (inner_of writer_then)) bytes × FailedNever writer writer_then
+  IsWriteEnd (Err stop.Write) = IsCutIn (contents (inner_of writer)) (contents (inner_of writer_then)) [] bytes × FailedOnce writer writer_then
+  IsWriteEnd (Err stop.Memory) = writer_then ≡ writer
+  IsWriteEnd (Err stop.Other) = ⊥
+  IsWriteEnd (Err stop.Read) = ⊥
+  IsWriteEnd (Err stop.Storage) = ⊥
 
 module _ {S : Type 0} (g : Ghosts S) (loads loads_then : Held S) where
   -- the loads are as before, if the store is still open
@@ -77,19 +77,19 @@ module _ {S W : Type 0} (g : Ghosts S) (contents : W → Option (List ℕ)) (loa
   Cuts call = IsClean g loads_then → IsCutOff (HoldsLoads g loads) (HoldsLoads g loads_then) (contents (inner_of writer)) (contents (inner_of writer_then)) [] call
 
   -- what became of one call
-  abbrev pub CallEnds : Call → Result (Unit {0}) Stop → Type 0
-  CallEnds call (Ok done) = Answers (call ∷ []) × FailedNever writer writer_then
-  CallEnds call (Err stop.Other) = ⊥
-  CallEnds call (Err stop.Read) = ⊥
-  CallEnds call (Err stop.Write) = Cuts call × FailedOnce writer writer_then
-  CallEnds call (Err stop.Memory) = (writer_then ≡ writer) × (Kept g loads loads_then ⊎ After g loads loads_then call)
-  CallEnds call (Err stop.Storage) = (writer_then ≡ writer) × (Kept g loads loads_then ⊎ After g loads loads_then call)
+  abbrev pub IsCallEnd : Call → Result (Unit {0}) Stop → Type 0
+  IsCallEnd call (Ok done) = Answers (call ∷ []) × FailedNever writer writer_then
+  IsCallEnd call (Err stop.Other) = ⊥
+  IsCallEnd call (Err stop.Read) = ⊥
+  IsCallEnd call (Err stop.Write) = Cuts call × FailedOnce writer writer_then
+  IsCallEnd call (Err stop.Memory) = (writer_then ≡ writer) × (Kept g loads loads_then ⊎ After g loads loads_then call)
+  IsCallEnd call (Err stop.Storage) = (writer_then ≡ writer) × (Kept g loads loads_then ⊎ After g loads loads_then call)
 
   -- what became of the next request of the buffer
-  abbrev pub NextEnds : List ℕ → Bool → Result Step Stop → Type 0
-  NextEnds buf ended (Ok done) = (calls : List Call) × IsStep buf ended done calls × Answers calls × FailedNever writer writer_then
-  NextEnds buf ended (Err stop.Other) = IsOther buf ended × Answers [] × FailedNever writer writer_then
-  NextEnds buf ended (Err stop.Read) = ⊥
-  NextEnds buf ended (Err stop.Write) = (len : ℕ) × (call : Call) × IsNextCall buf len call × Cuts call × FailedOnce writer writer_then
-  NextEnds buf ended (Err stop.Memory) = (writer_then ≡ writer) × NextKept g loads loads_then buf
-  NextEnds buf ended (Err stop.Storage) = (writer_then ≡ writer) × NextKept g loads loads_then buf
+  abbrev pub IsNextEnd : List ℕ → Bool → Result Step Stop → Type 0
+  IsNextEnd buf ended (Ok done) = (calls : List Call) × IsStep buf ended done calls × Answers calls × FailedNever writer writer_then
+  IsNextEnd buf ended (Err stop.Other) = IsOther buf ended × Answers [] × FailedNever writer writer_then
+  IsNextEnd buf ended (Err stop.Read) = ⊥
+  IsNextEnd buf ended (Err stop.Write) = (len : ℕ) × (call : Call) × IsNextCall buf len call × Cuts call × FailedOnce writer writer_then
+  IsNextEnd buf ended (Err stop.Memory) = (writer_then ≡ writer) × NextKept g loads loads_then buf
+  IsNextEnd buf ended (Err stop.Storage) = (writer_then ≡ writer) × NextKept g loads loads_then buf

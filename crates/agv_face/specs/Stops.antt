@@ -1,4 +1,5 @@
 -- Which end of a stream a fault is, and which fault the end of a stream is.
+use Rattle.std.specs.Prelude.{ℕ, List, ◌++◌, codes}
 use Rattle.agv_store.specs.declared.fault.Fault.{Fault}
 use Rattle.agv_store.specs.declared.fault.Fault.TheVariants as fault
 use Rattle.agv_face.specs.declared.stream.Stop.{Stop}
@@ -18,3 +19,13 @@ loads_fault_of stop.Read = loads.Read
 loads_fault_of stop.Write = loads.Write
 loads_fault_of stop.Memory = loads.Memory
 loads_fault_of stop.Storage = loads.Storage
+
+-- what a program says of a fault
+abbrev pub fault_name : LoadsFault → List ℕ
+fault_name loads.Read = codes "Read"
+fault_name loads.Write = codes "Write"
+fault_name loads.Memory = codes "Memory"
+fault_name loads.Storage = codes "Storage"
+
+abbrev pub fault_line : LoadsFault → List ℕ
+fault_line fault = codes "fault: " ++ fault_name fault

@@ -1,6 +1,6 @@
 //! The stream of the registered loads.
 ghost use Rattle.agv_store.specs.HeldLoads.{IsClean};
-ghost use Rattle.agv_face.specs.Ends.{LoadsEnd};
+ghost use Rattle.agv_face.specs.StreamEnds.{IsLoadsEnd};
 
 use crate::stream::{Stop, answer_calls};
 use crate::watched::Watched;
@@ -20,6 +20,23 @@ pub enum LoadsFault {
     Memory,
     /// A fault of the store.
     Storage,
+}
+
+impl LoadsFault {
+    ghost use Rattle.std.specs.Prelude.{◌≡◌};
+    ghost use Rattle.agv_face.specs.Stops.{fault_line};
+
+    /// The line that a program says it in, with no line end: `fault: ` and its name.
+    pub fn line(self) -> &'static str
+        ensures { result.now ≡ fault_line self }
+    {
+        match self {
+            LoadsFault::Read => "fault: Read",
+            LoadsFault::Write => "fault: Write",
+            LoadsFault::Memory => "fault: Memory",
+            LoadsFault::Storage => "fault: Storage",
+        }
+    }
 }
 
 impl From<Stop> for LoadsFault {
@@ -52,7 +69,7 @@ pub fn serve_loads<S: Alter + Drop, R: Read, W: Write>(
     writer: &mut Watched<W>,
 ) -> Result<u64, LoadsFault>
     ensures clean { IsClean S.Store loads.new → IsClean S.Store loads.old }
-    ensures ends { LoadsEnd S.Store R.remaining W.contents loads.old loads.new reader.old reader.new writer.old writer.new result }
+    ensures ends { IsLoadsEnd S.Store R.remaining W.contents loads.old loads.new reader.old reader.new writer.old writer.new result }
 {
     match answer_calls(alloc, loads, reader, writer) {
         Ok(answers) => Ok(answers),

@@ -3,9 +3,9 @@ ghost use Rattle.std.specs.Prelude.{◌≡◌, ◌≤◌, ◌+◌, drop, vec_len
 ghost use Rattle.agv_store.specs.HeldLoads.{IsClean, IsOpen, HoldsLoads, KeepsLoads};
 ghost use Rattle.agv_store.specs.Registered.{Registered};
 ghost use Rattle.agv_face.specs.Answers.{answer_bytes};
-ghost use Rattle.agv_face.specs.Ends.{Ends};
+ghost use Rattle.agv_face.specs.StreamEnds.{IsStreamEnd};
 ghost use Rattle.agv_face.specs.Served.{said, after, registration_answer, place_answer};
-ghost use Rattle.agv_face.specs.Stepped.{ReadEnds, WriteEnds, CallEnds, NextEnds};
+ghost use Rattle.agv_face.specs.Stepped.{IsReadEnd, IsWriteEnd, IsCallEnd, IsNextEnd};
 ghost use Rattle.agv_face.specs.Watched.{HadCalls};
 
 use crate::answer::{Answer, answer_bytes};
@@ -86,7 +86,7 @@ fn drop_front(buf: &mut Vec<u8>, n: usize)
 /// One read, whose bytes go to the end of the buffer. `false` at the end of the input.
 fn read_some<R: Read>(reader: &mut Watched<R>, buf: &mut Vec<u8>) -> Result<bool, Stop>
     requires { vec_len buf.old + 4096 ≤ vec_capacity buf.old }
-    ensures ends { ReadEnds R.remaining reader.old reader.new buf.old.items buf.new.items result }
+    ensures ends { IsReadEnd R.remaining reader.old reader.new buf.old.items buf.new.items result }
     ensures room { OnOk result (vec_capacity buf.old ≤ vec_capacity buf.new) }
     ensures calls { HadCalls 1 reader.old reader.new }
 {
@@ -102,7 +102,7 @@ fn read_some<R: Read>(reader: &mut Watched<R>, buf: &mut Vec<u8>) -> Result<bool
 
 /// Writes all the bytes. A write that takes none is a fault, and so is any error.
 fn write_whole<W: Write>(writer: &mut Watched<W>, bytes: &[u8]) -> Result<(), Stop>
-    ensures ends { WriteEnds W.contents writer.old writer.new bytes.now result }
+    ensures ends { IsWriteEnd W.contents writer.old writer.new bytes.now result }
 {
     let mut done = 0;
     while done < bytes.len() {
@@ -155,7 +155,7 @@ fn write_answer<W: Write>(
     answer: &Answer,
     writer: &mut Watched<W>,
 ) -> Result<(), Stop>
-    ensures ends { WriteEnds W.contents writer.old writer.new (answer_bytes answer.now) result }
+    ensures ends { IsWriteEnd W.contents writer.old writer.new (answer_bytes answer.now) result }
 {
     let bytes = answer_bytes(alloc, answer)?;
     write_whole(writer, &bytes)
@@ -169,7 +169,7 @@ fn answer_call<S: Alter + Drop, W: Write>(
     writer: &mut Watched<W>,
 ) -> Result<(), Stop>
     ensures clean { IsClean S.Store loads.new → IsClean S.Store loads.old }
-    ensures ends { CallEnds S.Store W.contents loads.old loads.new writer.old writer.new call result }
+    ensures ends { IsCallEnd S.Store W.contents loads.old loads.new writer.old writer.new call result }
 {
     let answer = carry_out(loads, call)?;
     write_answer(alloc, &answer, writer)
@@ -184,7 +184,7 @@ fn answer_next<S: Alter + Drop, W: Write>(
     writer: &mut Watched<W>,
 ) -> Result<Step, Stop>
     ensures clean { IsClean S.Store loads.new → IsClean S.Store loads.old }
-    ensures ends { NextEnds S.Store W.contents loads.old loads.new writer.old writer.new buf.now ended result }
+    ensures ends { IsNextEnd S.Store W.contents loads.old loads.new writer.old writer.new buf.now ended result }
 {
     match read_request(buf, ended) {
         Heard::Need => Ok(Step::Need),
@@ -202,7 +202,7 @@ fn answer_next<S: Alter + Drop, W: Write>(
 
 /// Answers a stream of calls up to its end, and gives the number of answers that were written.
 ///
-/// `Ends` says of each end which calls the input is or begins with, that just those are answered,
+/// `IsStreamEnd` says of each end which calls the input is or begins with, that just those are answered,
 /// what the loads are then, and whether the reader or the writer failed.
 pub fn answer_calls<S: Alter + Drop, R: Read, W: Write>(
     alloc: Global,
@@ -211,7 +211,7 @@ pub fn answer_calls<S: Alter + Drop, R: Read, W: Write>(
     writer: &mut Watched<W>,
 ) -> Result<u64, Stop>
     ensures clean { IsClean S.Store loads.new → IsClean S.Store loads.old }
-    ensures ends { Ends S.Store R.remaining W.contents loads.old loads.new reader.old reader.new writer.old writer.new result }
+    ensures ends { IsStreamEnd S.Store R.remaining W.contents loads.old loads.new reader.old reader.new writer.old writer.new result }
 {
     let mut buf = Vec::with_capacity(alloc, ROOM)?;
     let mut ended = false;

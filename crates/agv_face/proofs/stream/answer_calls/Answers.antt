@@ -3,9 +3,9 @@ use Rattle.std.proofs.Math.ListN.{length-drop}
 use Rattle.std.proofs.KnownBytes.{Keeps-refl}
 use Rattle.agv_store.specs.HeldLoads.{HoldsLoads}
 use Rattle.agv_face.specs.declared.stream.Stop.{Stop}
-use Rattle.agv_face.specs.Ends.{Ends}
+use Rattle.agv_face.specs.StreamEnds.{IsStreamEnd}
 use Rattle.agv_face.specs.Open.{HoldsIfOpen}
-use Rattle.agv_face.specs.Stepped.{NextEnds}
+use Rattle.agv_face.specs.Stepped.{IsNextEnd}
 use Rattle.agv_face.proofs.Streaming.{HasCome, at_start, after_read, after_call, at_the_end, so_far, all_so_far, none_answered, answered-push, answered-none, answered-less}
 use Rattle.agv_face.proofs.Steps.{of_same_err, next_stopped, read_stopped}
 use Rattle.agv_face.proofs.stream.answer_calls.Goals as goal
@@ -36,15 +36,15 @@ pub returns-in_err-buf-clause-ends : goal.returns-in_err-buf-clause-ends
 returns-in_err-buf-clause-ends g c =
     let holds = HoldsLoads g.S.Store c.args.loads.now in
     let old = g.W.Write.contents c.args.writer.now.inner in
-    let Ended : Result ℕ Stop → Type 0 = λ result. Ends g.S.Store g.R.Read.remaining g.W.Write.contents c.args.loads.now c.args.loads.now c.args.reader.now c.args.reader.now c.args.writer.now c.args.writer.now result in
+    let Ended : Result ℕ Stop → Type 0 = λ result. IsStreamEnd g.S.Store g.R.Read.remaining g.W.Write.contents c.args.loads.now c.args.loads.now c.args.reader.now c.args.reader.now c.args.writer.now c.args.writer.now result in
     of_same_err c.from_residual.result _ Ended c.from_residual.ensures.1
     (inl ([], so_far _ _ _ _ [] (at_start (g.R.Read.remaining c.args.reader.now.inner)), λ _. answered-less holds holds (HoldsIfOpen g.S.Store c.args.loads.now) old old [] (λ _ held _. held) (none_answered holds old)), (refl, refl))
 
 pub returns-in_err-answer_next-clause-ends : goal.returns-in_err-answer_next-clause-ends
 returns-in_err-answer_next-clause-ends g c =
     let now = c.loop-buf.invariant in
-    let Ended : Result ℕ Stop → Type 0 = λ result. Ends g.S.Store g.R.Read.remaining g.W.Write.contents c.args.loads.now c.answer_next.new.loads c.args.reader.now c.loop-buf.reader c.args.writer.now c.answer_next.new.writer result in
-    let Next : List ℕ → Type 0 = λ l. NextEnds g.S.Store g.W.Write.contents c.loop-buf.loads c.answer_next.new.loads c.loop-buf.writer c.answer_next.new.writer l c.loop-buf.ended (Err c.in_err-answer_next.field-0.0) in
+    let Ended : Result ℕ Stop → Type 0 = λ result. IsStreamEnd g.S.Store g.R.Read.remaining g.W.Write.contents c.args.loads.now c.answer_next.new.loads c.args.reader.now c.loop-buf.reader c.args.writer.now c.answer_next.new.writer result in
+    let Next : List ℕ → Type 0 = λ l. IsNextEnd g.S.Store g.W.Write.contents c.loop-buf.loads c.answer_next.new.loads c.loop-buf.writer c.answer_next.new.writer l c.loop-buf.ended (Err c.in_err-answer_next.field-0.0) in
     of_same_err _ _ Ended c.from_residual-in_err-answer_next.ensures.1
     (next_stopped g.S.Store g.R.Read.remaining g.W.Write.contents c.args.loads.now c.loop-buf.loads c.answer_next.new.loads c.args.reader.now c.loop-buf.reader c.loop-buf.reader c.args.writer.now c.loop-buf.writer c.answer_next.new.writer
     c.loop-buf.ended c.loop-buf.buf.items now.0 _ now.2 now.3 c.in_err-answer_next.ensures.clean (subst Next c.deref.ensures.value c.in_err-answer_next.ensures.ends))
@@ -106,7 +106,7 @@ pub returns-in_err-ended-in-Need-clause-ends : goal.returns-in_err-ended-in-Need
 returns-in_err-ended-in-Need-clause-ends g c =
     let now = c.loop-buf.invariant in
     let step = rw (c.in-Need.is, c.deref.ensures.value) at c.in_ok-answer_next.ensures.ends in
-    let Ended : Result ℕ Stop → Type 0 = λ result. Ends g.S.Store g.R.Read.remaining g.W.Write.contents c.args.loads.now c.answer_next.new.loads c.args.reader.now c.read_some.new.reader c.args.writer.now c.answer_next.new.writer result in
+    let Ended : Result ℕ Stop → Type 0 = λ result. IsStreamEnd g.S.Store g.R.Read.remaining g.W.Write.contents c.args.loads.now c.answer_next.new.loads c.args.reader.now c.read_some.new.reader c.args.writer.now c.answer_next.new.writer result in
     let Open : Bool → Type 0 = λ b. HasCome (g.R.Read.remaining c.args.reader.now.inner) (g.R.Read.remaining c.loop-buf.reader.inner) b c.loop-buf.buf.items now.0 in
     of_same_err _ _ Ended c.from_residual-in_err-ended-in-Need.ensures.1
     (read_stopped g.S.Store g.R.Read.remaining g.W.Write.contents c.args.loads.now c.answer_next.new.loads c.answer_next.new.loads c.args.reader.now c.loop-buf.reader c.read_some.new.reader c.args.writer.now c.answer_next.new.writer c.answer_next.new.writer

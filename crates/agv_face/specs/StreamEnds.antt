@@ -52,19 +52,19 @@ module _ {S R W : Type 0} (g : Ghosts S) (remaining : R → Option (List ℕ)) (
   NoneFailed = FailedNever reader reader_then × FailedNever writer writer_then
 
   -- the end of a stream, by what is answered: the number of the calls, or why it was left
-  abbrev pub Ends : Result ℕ Stop → Type 0
+  abbrev pub IsStreamEnd : Result ℕ Stop → Type 0
   -- the input is some calls and no byte more, and they are answered
-  Ends (Ok n) = (calls : List Call) × (n ≡ length calls) × Input (λ input. Asks input calls) × Answered calls × NoneFailed
+  IsStreamEnd (Ok n) = (calls : List Call) × (n ≡ length calls) × Input (λ input. Asks input calls) × Answered calls × NoneFailed
   -- the input is some calls and then no call, and they are answered
-  Ends (Err stop.Other) = (calls : List Call) × Input (λ input. AsksUpToOther input calls) × Answered calls × NoneFailed
+  IsStreamEnd (Err stop.Other) = (calls : List Call) × Input (λ input. AsksUpToOther input calls) × Answered calls × NoneFailed
   -- the reader failed or had too many reads; all calls that have come whole are answered
-  Ends (Err stop.Read) = (calls : List Call) × Came (λ bytes. AsksSoFar bytes calls) × Answered calls × RanOut reader reader_then × FailedNever writer writer_then
+  IsStreamEnd (Err stop.Read) = (calls : List Call) × Came (λ bytes. AsksSoFar bytes calls) × Answered calls × RanOut reader reader_then × FailedNever writer writer_then
   -- the writer failed, or took no byte
-  Ends (Err stop.Write) = (calls : List Call) × (call : Call) × Input (λ input. AsksNext input calls call) × CutOff calls call × FailedNever reader reader_then × FailedOnce writer writer_then
-  Ends (Err stop.Memory) = Faulted × NoneFailed
-  Ends (Err stop.Storage) = Faulted × NoneFailed
+  IsStreamEnd (Err stop.Write) = (calls : List Call) × (call : Call) × Input (λ input. AsksNext input calls call) × CutOff calls call × FailedNever reader reader_then × FailedOnce writer writer_then
+  IsStreamEnd (Err stop.Memory) = Faulted × NoneFailed
+  IsStreamEnd (Err stop.Storage) = Faulted × NoneFailed
 
   -- the same, told by the fault that stands for that end
-  abbrev pub LoadsEnd : Result ℕ LoadsFault → Type 0
-  LoadsEnd (Ok n) = Ends (Ok n)
-  LoadsEnd (Err fault) = (end : Stop) × (fault ≡ loads_fault_of end) × Ends (Err end)
+  abbrev pub IsLoadsEnd : Result ℕ LoadsFault → Type 0
+  IsLoadsEnd (Ok n) = IsStreamEnd (Ok n)
+  IsLoadsEnd (Err fault) = (end : Stop) × (fault ≡ loads_fault_of end) × IsStreamEnd (Err end)
