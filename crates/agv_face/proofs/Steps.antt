@@ -16,11 +16,11 @@ use Rattle.agv_face.specs.Answers.{answer_bytes}
 use Rattle.agv_face.specs.Served.{said, after, IsAnswered}
 use Rattle.agv_face.specs.Stops.{stop_of}
 use Rattle.agv_face.specs.Stepped.{IsReadEnd, IsWriteEnd, IsCallEnd, IsNextEnd, IsNextCall, Kept, After, NextKept}
-use Rattle.agv_face.specs.Watched.{inner_of, failures_of, counted, FailedOnce, FailedNever}
+use Rattle.agv_face.specs.Watched.{inner_of, failures_of, FailedOnce, FailedNever}
 use Rattle.agv_face.specs.Requests.{NeedsMore}
 use Rattle.agv_face.specs.Open.{HoldsIfOpen}
 use Rattle.agv_face.specs.StreamEnds.{IsStreamEnd, Faulted}
-use Rattle.agv_face.proofs.Streaming.{HasCome, so_far, all_so_far, at_other, asks_next, kept_on, unsaid_on, cut_on, cut_first, answered-none, answered-less}
+use Rattle.agv_face.proofs.Streaming.{HasCome, so_far, all_so_far, at_other, asks_next, kept_on, unsaid_on, cut_on, cut_first, answered-none, answered-less, failed_then}
 
 -- ---- results
 
@@ -68,10 +68,6 @@ module _ {S W : Type 0} (g : Ghosts S) (contents : W → Option (List ℕ)) (loa
   next_called buf ended len call stop.Storage next came = (came.0, lost_next buf len call next came.1)
 
 -- ---- a stream
-
--- a failure behind none
-failed_then : {T : Type 0} (old mid new : Watched T) → FailedNever old mid → FailedOnce mid new → FailedOnce old new
-failed_then old mid new never once = once ∙ ap (λ (n : ℕ). counted n 1) never
 
 -- the calls so far are answered, and nothing has failed
 abbrev pub Answering : {S R W : Type 0} → Ghosts S → (W → Option (List ℕ)) → Held S → Held S → Watched R → Watched R → Watched W → Watched W → List Call → Type 0

@@ -14,6 +14,8 @@ use Rattle.agv_face.specs.Answers.{answer_bytes}
 use Rattle.agv_face.specs.Served.{said, after, after_all, output, AreKept, AreAfter, IsAnswered, IsUnsaid, IsCutIn, IsCutOff}
 use Rattle.agv_face.specs.Heard.{IsLent}
 use Rattle.agv_face.specs.Stepped.{IsNextCall, IsOther}
+use Rattle.agv_face.specs.declared.watched.Watched.{Watched}
+use Rattle.agv_face.specs.Watched.{counted, FailedOnce, FailedNever}
 use Rattle.agv_face.proofs.Asking.{asks-nil, asks-append, asks-rest, asks-fault, asks-other}
 
 -- what has come of the input is a front that asks these calls, and the buffer
@@ -168,3 +170,9 @@ lent_call r lent found is e = sym (
     ∙ ap (λ (m : List ℕ). cond (is_plain r) (call_at m (path_of lent.target.now) lent.body.now) None) is.method
     ∙ ap (λ (t : List ℕ). cond (is_plain r) (call_at r.method (path_of t) lent.body.now) None) is.target
     ∙ ap (λ (b : List ℕ). cond (is_plain r) (call_at r.method (path_of r.target) b) None) is.body)
+
+-- ---- a writer or a reader that fails
+
+-- a failure behind none
+pub failed_then : {T : Type 0} (old mid new : Watched T) → FailedNever old mid → FailedOnce mid new → FailedOnce old new
+failed_then old mid new never once = once ∙ ap (λ (n : ℕ). counted n 1) never
