@@ -1,9 +1,10 @@
 //! Whether a vehicle is ready, and whether it is paused.
-ghost use Rattle.std.specs.Prelude.{◌≡◌, [], false, true, IfNone, IfSome, codes, map, option_map, unwrap_or};
+ghost use Rattle.std.specs.Prelude.{◌≡◌, false, true, IfNone, IfSome, codes, map, option_map};
 ghost use Rattle.std.specs.List.{list_any};
 ghost use Rattle.serde_json.specs.View.{view};
-ghost use Rattle.agv_message.specs.Member.{each, text_at, truth_at};
-ghost use Rattle.agv_message.specs.State.{has_condition, is_automatic, is_fatal, is_ready, levels_at, stop_at, text as text_of};
+ghost use Rattle.agv_message.specs.Member.{each, text_at};
+ghost use Rattle.agv_message.specs.Parts.{IsCondition};
+ghost use Rattle.agv_message.specs.State.{has_condition, is_automatic, is_fatal, levels_at, stop_at};
 
 use crate::member::{items, member, text, truth};
 use serde_json::Value;
@@ -28,6 +29,12 @@ fn stop(state: &Value) -> Option<&str>
     text(member(state, "safetyState")?, "eStop")
 }
 
+fn is_fatal(level: &str) -> bool
+    ensures { result ≡ is_fatal level.now }
+{
+    level == "FATAL"
+}
+
 fn some_is_fatal(errors: &[Value]) -> Option<bool>
     ensures { result
         ≡ option_map (list_any is_fatal) (each (text_at (codes "errorLevel")) (map view errors.now)) }
@@ -35,7 +42,7 @@ fn some_is_fatal(errors: &[Value]) -> Option<bool>
     let mut fatal = false;
     for error in errors {
         let level = text(error, "errorLevel")?;
-        fatal = fatal || level == "FATAL";
+        fatal = fatal || is_fatal(level);
     }
     Some(fatal)
 }
@@ -44,7 +51,10 @@ fn some_is_fatal(errors: &[Value]) -> Option<bool>
 fn has_fatal(state: &Value) -> Option<bool>
     ensures { result ≡ option_map (list_any is_fatal) (levels_at (view state.now)) }
 {
-    some_is_fatal(items(state, "errors")?)
+    match items(state, "errors") {
+        Some(errors) => some_is_fatal(errors),
+        None => None,
+    }
 }
 
 impl Condition {
@@ -53,11 +63,7 @@ impl Condition {
     pub fn of(state: &Value) -> Option<Condition>
         ensures missing { IfNone result (has_condition (view state.now) ≡ false) }
         ensures present { IfSome result (λ _. has_condition (view state.now) ≡ true) }
-        ensures ready { IfSome result (λ condition. condition.ready
-            ≡ is_ready (text_of (codes "operatingMode") (view state.now))
-            (unwrap_or (stop_at (view state.now)) []) (unwrap_or (levels_at (view state.now)) [])) }
-        ensures paused { IfSome result (λ condition. condition.paused
-            ≡ unwrap_or (truth_at (codes "paused") (view state.now)) false) }
+        ensures read { IfSome result (IsCondition (view state.now)) }
     {
         let mode = text(state, "operatingMode")?;
         let stop = stop(state)?;
