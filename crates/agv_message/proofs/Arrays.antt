@@ -1,5 +1,7 @@
 -- The items of a JSON array as a list, and a test or a reader over them.
-use Rattle.std.proofs.Common.{◌≡◌, ℕ, suc, ◌+◌, ◌<◌, List, [], ◌∷◌, ◌++◌, length, get_or, drop, Bool, ◌||◌, map, Option, Some, None, option_map, option_and_then, refl, ap, sym, ◌∙◌, append_assoc, add-one, drop-cons}
+use Rattle.std.proofs.Common.{◌≡◌, ℕ, suc, ◌+◌, ◌<◌, ◌≤◌, List, [], ◌∷◌, ◌++◌, length, get_or, drop, Bool, ◌||◌, map, Option, Some, None, option_map, option_and_then, refl, ap, sym, ◌∙◌, append_assoc, add-one, drop-cons}
+use Rattle.std.proofs.Math.ListN.{drop_of_length-le}
+use Rattle.std.proofs.lemmas.List.{append-nil}
 use Rattle.std.specs.List.{list_any}
 use Rattle.serde_json.specs.Data.{Data}
 use Rattle.serde_json.specs.Find.{as_array}
@@ -49,3 +51,13 @@ after-unread {A} f vs i v found all below is unread so_far =
     so_far
     ∙ ap (λ (ws : List Value). after found (each f (map view ws))) (from_item vs i v below is)
     ∙ ap (λ (o : Option A). after found (option_and_then (λ y. option_map (λ ys. y ∷ ys) rest) o)) (sym unread)
+
+-- before the first item nothing is found
+pub after-none : {A : Type 0} (found : List A) (all : Option (List A)) → found ≡ [] → all ≡ after found all
+after-none found None e = refl
+after-none {A} found (Some more) e = ap (λ (xs : List A). Some (xs ++ more)) (sym e)
+
+-- after the last item all is found
+pub after-all : {A : Type 0} (f : Data → Option A) (vs : List Value) (i : ℕ) (found : List A) (all : Option (List A)) → length vs ≤ i → all ≡ after found (each f (map view (drop i vs))) → Some found ≡ all
+after-all {A} f vs i found all above so_far =
+    sym (so_far ∙ ap (λ (ws : List Value). after found (each f (map view ws))) (drop_of_length-le vs above) ∙ ap Some (append-nil found))

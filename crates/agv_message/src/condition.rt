@@ -65,10 +65,18 @@ impl Condition {
         ensures present { IfSome result (λ _. has_condition (view state.now) ≡ true) }
         ensures read { IfSome result (IsCondition (view state.now)) }
     {
-        let mode = text(state, "operatingMode")?;
-        let stop = stop(state)?;
-        let fatal = has_fatal(state)?;
-        let paused = truth(state, "paused")?;
+        let Some(mode) = text(state, "operatingMode") else {
+            return None;
+        };
+        let Some(stop) = stop(state) else {
+            return None;
+        };
+        let Some(fatal) = has_fatal(state) else {
+            return None;
+        };
+        let Some(paused) = truth(state, "paused") else {
+            return None;
+        };
         Some(Condition {
             ready: is_automatic(mode) && stop == "NONE" && !fatal,
             paused,

@@ -34,12 +34,27 @@ impl<'a> Opening<'a> {
         ensures present { IfSome result (λ _. has_opening (view state.now) ≡ true) }
         ensures read { IfSome result (IsOpening (view state.now)) }
     {
+        let Some(number) = whole(state, "headerId") else {
+            return None;
+        };
+        let Some(timestamp) = text(state, "timestamp") else {
+            return None;
+        };
+        let Some(version) = text(state, "version") else {
+            return None;
+        };
+        let Some(manufacturer) = text(state, "manufacturer") else {
+            return None;
+        };
+        let Some(serial) = text(state, "serialNumber") else {
+            return None;
+        };
         Some(Opening {
-            number: whole(state, "headerId")?,
-            timestamp: text(state, "timestamp")?,
-            version: text(state, "version")?,
-            manufacturer: text(state, "manufacturer")?,
-            serial: text(state, "serialNumber")?,
+            number,
+            timestamp,
+            version,
+            manufacturer,
+            serial,
         })
     }
 }
@@ -52,11 +67,23 @@ impl<'a> Progress<'a> {
         ensures present { IfSome result (λ _. has_progress (view state.now) ≡ true) }
         ensures read { IfSome result (IsProgress (view state.now)) }
     {
+        let Some(order) = text(state, "orderId") else {
+            return None;
+        };
+        let Some(update) = whole(state, "orderUpdateId") else {
+            return None;
+        };
+        let Some(last_node) = text(state, "lastNodeId") else {
+            return None;
+        };
+        let Some(last_seq) = whole(state, "lastNodeSequenceId") else {
+            return None;
+        };
         Some(Progress {
-            order: text(state, "orderId")?,
-            update: whole(state, "orderUpdateId")?,
-            last_node: text(state, "lastNodeId")?,
-            last_seq: whole(state, "lastNodeSequenceId")?,
+            order,
+            update,
+            last_node,
+            last_seq,
         })
     }
 }
