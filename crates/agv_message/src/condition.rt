@@ -1,6 +1,7 @@
 //! Whether a vehicle is ready, and whether it is paused.
-ghost use Rattle.std.specs.Prelude.{◌≡◌, false, true, IfNone, IfSome, codes, map, option_map};
+ghost use Rattle.std.specs.Prelude.{◌≡◌, ◌&&◌, false, not, true, IfNone, IfSome, codes, map, option_map};
 ghost use Rattle.std.specs.List.{list_any};
+ghost use Rattle.std.specs.Str.{bytes_eq};
 ghost use Rattle.serde_json.specs.View.{view};
 ghost use Rattle.agv_message.specs.Member.{each, text_at};
 ghost use Rattle.agv_message.specs.Parts.{IsCondition};
@@ -57,6 +58,12 @@ fn has_fatal(state: &Value) -> Option<bool>
     }
 }
 
+fn is_ready(mode: &str, stop: &str, fatal: bool) -> bool
+    ensures { result ≡ is_automatic mode.now && bytes_eq stop.now (codes "NONE") && not fatal }
+{
+    is_automatic(mode) && stop == "NONE" && !fatal
+}
+
 impl Condition {
     /// The condition that a state tells; `None` where a member for it is missing or of the wrong kind.
     #[tactic(auto, unfolding(crate::specs::State::has_condition))]
@@ -78,7 +85,7 @@ impl Condition {
             return None;
         };
         Some(Condition {
-            ready: is_automatic(mode) && stop == "NONE" && !fatal,
+            ready: is_ready(mode, stop, fatal),
             paused,
         })
     }
