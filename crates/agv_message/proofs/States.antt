@@ -5,10 +5,11 @@ use Rattle.std.specs.Option.{ok_or}
 use Rattle.serde_json.specs.Data.{Data}
 use Rattle.agv_header.specs.Stamp.{moment_said}
 use Rattle.agv_header.specs.declared.refusal.Refusal.{Refusal}
-use Rattle.agv_header.specs.declared.refusal.Refusal.TheVariants.{BadBody, Version}
+use Rattle.agv_header.specs.declared.refusal.Refusal.TheVariants.{BadBody, Position, Version}
 use Rattle.agv_header.specs.declared.stamp.StampFault.{StampFault}
 use Rattle.agv_header.specs.declared.stamp.StampFault.TheVariants.{Bad}
-use Rattle.agv_message.specs.State.{is_bad, is_other_version, judged, stamped, text}
+use Rattle.agv_message.specs.Position.{has_position}
+use Rattle.agv_message.specs.State.{is_bad, is_other_version, judged, stamped, state_of, text}
 use Rattle.agv_message.specs.declared.state.StateMessage.{StateMessage}
 
 judged_by : (d : Data) (bad other : Bool) (moment : Option ℕ) → is_bad d ≡ bad → is_other_version d ≡ other → moment_said (text (codes "timestamp") d) ≡ moment → judged d ≡ cond bad (Err BadBody) (cond other (Err Version) (stamped moment d))
@@ -30,6 +31,11 @@ judged-other_version d version good is s =
 pub judged-stamped : (d : Data) (version timestamp : List ℕ) (moment : Option ℕ) → is_bad d ≡ false → version ≡ text (codes "version") d → true ≡ starts_with nat_eq version (codes "2.") → timestamp ≡ text (codes "timestamp") d → moment_said timestamp ≡ moment → judged d ≡ stamped moment d
 judged-stamped d version timestamp moment good is s t m =
     judged_by d false false moment good (other_version d version true is s) (ap moment_said (sym t) ∙ m)
+
+-- a state that has no position
+pub state_of-not_located : (d : Data) → has_position d ≡ false → state_of d ≡ judged d
+state_of-not_located d none =
+    let F : Bool → Result StateMessage Refusal = λ b. cond b (Err Position) (judged d) in ap F none
 
 -- what reading a stamp answered
 pub no_moment : (said : Option ℕ) (fault : StampFault) → Err fault ≡ ok_or said Bad → said ≡ None

@@ -11,7 +11,7 @@ Field = List ℕ × Data
 abbrev pub field : String → Data → Field
 field name d = (codes name, d)
 
-abbrev in_order : List Field → Members
+abbrev pub in_order : List Field → Members
 in_order [] = no_members
 in_order (f ∷ fs) = member f.0 f.1 (in_order fs)
 

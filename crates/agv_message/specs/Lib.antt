@@ -8,3 +8,4 @@ pub mod Parts
 pub mod Position
 pub mod State
 pub mod Status
+pub mod Writing

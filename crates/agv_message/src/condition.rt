@@ -1,9 +1,11 @@
 //! Whether a vehicle is ready, and whether it is paused.
-ghost use Rattle.std.specs.Prelude.{◌≡◌, [], false, true, IfNone, IfSome, codes, map, option_map, unwrap_or};
+ghost use Rattle.std.specs.Prelude.{◌≡◌, ◌&&◌, false, not, true, IfNone, IfSome, codes, map, option_map};
 ghost use Rattle.std.specs.List.{list_any};
+ghost use Rattle.std.specs.Str.{bytes_eq};
 ghost use Rattle.serde_json.specs.View.{view};
-ghost use Rattle.agv_message.specs.Member.{each, text_at, truth_at};
-ghost use Rattle.agv_message.specs.State.{has_condition, is_automatic, is_fatal, is_ready, levels_at, stop_at, text as text_of};
+ghost use Rattle.agv_message.specs.Member.{each, text_at};
+ghost use Rattle.agv_message.specs.Parts.{IsCondition};
+ghost use Rattle.agv_message.specs.State.{has_condition, is_automatic, is_fatal, levels_at, stop_at};
 
 use crate::member::{items, member, text, truth};
 use serde_json::Value;
@@ -28,6 +30,12 @@ fn stop(state: &Value) -> Option<&str>
     text(member(state, "safetyState")?, "eStop")
 }
 
+fn is_fatal(level: &str) -> bool
+    ensures { result ≡ is_fatal level.now }
+{
+    level == "FATAL"
+}
+
 fn some_is_fatal(errors: &[Value]) -> Option<bool>
     ensures { result
         ≡ option_map (list_any is_fatal) (each (text_at (codes "errorLevel")) (map view errors.now)) }
@@ -35,7 +43,7 @@ fn some_is_fatal(errors: &[Value]) -> Option<bool>
     let mut fatal = false;
     for error in errors {
         let level = text(error, "errorLevel")?;
-        fatal = fatal || level == "FATAL";
+        fatal = fatal || is_fatal(level);
     }
     Some(fatal)
 }
@@ -44,7 +52,16 @@ fn some_is_fatal(errors: &[Value]) -> Option<bool>
 fn has_fatal(state: &Value) -> Option<bool>
     ensures { result ≡ option_map (list_any is_fatal) (levels_at (view state.now)) }
 {
-    some_is_fatal(items(state, "errors")?)
+    match items(state, "errors") {
+        Some(errors) => some_is_fatal(errors),
+        None => None,
+    }
+}
+
+fn is_ready(mode: &str, stop: &str, fatal: bool) -> bool
+    ensures { result ≡ is_automatic mode.now && bytes_eq stop.now (codes "NONE") && not fatal }
+{
+    is_automatic(mode) && stop == "NONE" && !fatal
 }
 
 impl Condition {
@@ -53,18 +70,22 @@ impl Condition {
     pub fn of(state: &Value) -> Option<Condition>
         ensures missing { IfNone result (has_condition (view state.now) ≡ false) }
         ensures present { IfSome result (λ _. has_condition (view state.now) ≡ true) }
-        ensures ready { IfSome result (λ condition. condition.ready
-            ≡ is_ready (text_of (codes "operatingMode") (view state.now))
-            (unwrap_or (stop_at (view state.now)) []) (unwrap_or (levels_at (view state.now)) [])) }
-        ensures paused { IfSome result (λ condition. condition.paused
-            ≡ unwrap_or (truth_at (codes "paused") (view state.now)) false) }
+        ensures read { IfSome result (IsCondition (view state.now)) }
     {
-        let mode = text(state, "operatingMode")?;
-        let stop = stop(state)?;
-        let fatal = has_fatal(state)?;
-        let paused = truth(state, "paused")?;
+        let Some(mode) = text(state, "operatingMode") else {
+            return None;
+        };
+        let Some(stop) = stop(state) else {
+            return None;
+        };
+        let Some(fatal) = has_fatal(state) else {
+            return None;
+        };
+        let Some(paused) = truth(state, "paused") else {
+            return None;
+        };
         Some(Condition {
-            ready: is_automatic(mode) && stop == "NONE" && !fatal,
+            ready: is_ready(mode, stop, fatal),
             paused,
         })
     }

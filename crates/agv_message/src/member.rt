@@ -2,7 +2,7 @@
 //! there, isn't null, and has the right kind.
 ghost use Rattle.std.specs.Prelude.{◌≡◌, Some, None, option_map, if◌then◌else◌, map};
 ghost use Rattle.serde_json.specs.View.{view};
-ghost use Rattle.agv_message.specs.Member.{unless_null, member_at, has as has_member, whole_at, text_at, items_at, truth_at};
+ghost use Rattle.agv_message.specs.Member.{unless_null, member_at, has as has_member, below_2_32, whole_at, text_at, items_at, truth_at};
 
 use serde_json::Value;
 
@@ -28,13 +28,18 @@ pub fn has(object: &Value, name: &str) -> bool
     member(object, name).is_some()
 }
 
+fn below_2_32(number: u64) -> Option<u32>
+    ensures { result ≡ below_2_32 number }
+{
+    u32::try_from(number).ok()
+}
+
 /// The member as a whole number from 0 to 4294967295.
 #[tactic(auto, unfolding(crate::specs::Member::whole_at))]
 pub fn whole(object: &Value, name: &str) -> Option<u32>
     ensures { result ≡ whole_at name.now (view object.now) }
 {
-    let number = member(object, name)?.as_u64()?;
-    u32::try_from(number).ok()
+    below_2_32(member(object, name)?.as_u64()?)
 }
 
 /// The member as a text.

@@ -1,7 +1,8 @@
 //! The members with which every message begins, and those that say how far an order has come.
-ghost use Rattle.std.specs.Prelude.{◌≡◌, false, true, IfNone, IfSome, codes};
+ghost use Rattle.std.specs.Prelude.{◌≡◌, false, true, IfNone, IfSome};
 ghost use Rattle.serde_json.specs.View.{view};
-ghost use Rattle.agv_message.specs.State.{has_opening, has_progress, text as text_of, whole as whole_of};
+ghost use Rattle.agv_message.specs.Parts.{IsOpening, IsProgress};
+ghost use Rattle.agv_message.specs.State.{has_opening, has_progress};
 
 use crate::member::{text, whole};
 use serde_json::Value;
@@ -31,22 +32,29 @@ impl<'a> Opening<'a> {
     pub fn of(state: &'a Value) -> Option<Opening<'a>>
         ensures missing { IfNone result (has_opening (view state.now) ≡ false) }
         ensures present { IfSome result (λ _. has_opening (view state.now) ≡ true) }
-        ensures number { IfSome result (λ o. o.number ≡ whole_of (codes "headerId") (view state.now)) }
-        ensures timestamp { IfSome result (λ o. o.timestamp.now
-            ≡ text_of (codes "timestamp") (view state.now)) }
-        ensures version { IfSome result (λ o. o.version.now
-            ≡ text_of (codes "version") (view state.now)) }
-        ensures manufacturer { IfSome result (λ o. o.manufacturer.now
-            ≡ text_of (codes "manufacturer") (view state.now)) }
-        ensures serial { IfSome result (λ o. o.serial.now
-            ≡ text_of (codes "serialNumber") (view state.now)) }
+        ensures read { IfSome result (IsOpening (view state.now)) }
     {
+        let Some(number) = whole(state, "headerId") else {
+            return None;
+        };
+        let Some(timestamp) = text(state, "timestamp") else {
+            return None;
+        };
+        let Some(version) = text(state, "version") else {
+            return None;
+        };
+        let Some(manufacturer) = text(state, "manufacturer") else {
+            return None;
+        };
+        let Some(serial) = text(state, "serialNumber") else {
+            return None;
+        };
         Some(Opening {
-            number: whole(state, "headerId")?,
-            timestamp: text(state, "timestamp")?,
-            version: text(state, "version")?,
-            manufacturer: text(state, "manufacturer")?,
-            serial: text(state, "serialNumber")?,
+            number,
+            timestamp,
+            version,
+            manufacturer,
+            serial,
         })
     }
 }
@@ -57,20 +65,25 @@ impl<'a> Progress<'a> {
     pub fn of(state: &'a Value) -> Option<Progress<'a>>
         ensures missing { IfNone result (has_progress (view state.now) ≡ false) }
         ensures present { IfSome result (λ _. has_progress (view state.now) ≡ true) }
-        ensures order { IfSome result (λ p. p.order.now
-            ≡ text_of (codes "orderId") (view state.now)) }
-        ensures update { IfSome result (λ p. p.update
-            ≡ whole_of (codes "orderUpdateId") (view state.now)) }
-        ensures last_node { IfSome result (λ p. p.last_node.now
-            ≡ text_of (codes "lastNodeId") (view state.now)) }
-        ensures last_seq { IfSome result (λ p. p.last_seq
-            ≡ whole_of (codes "lastNodeSequenceId") (view state.now)) }
+        ensures read { IfSome result (IsProgress (view state.now)) }
     {
+        let Some(order) = text(state, "orderId") else {
+            return None;
+        };
+        let Some(update) = whole(state, "orderUpdateId") else {
+            return None;
+        };
+        let Some(last_node) = text(state, "lastNodeId") else {
+            return None;
+        };
+        let Some(last_seq) = whole(state, "lastNodeSequenceId") else {
+            return None;
+        };
         Some(Progress {
-            order: text(state, "orderId")?,
-            update: whole(state, "orderUpdateId")?,
-            last_node: text(state, "lastNodeId")?,
-            last_seq: whole(state, "lastNodeSequenceId")?,
+            order,
+            update,
+            last_node,
+            last_seq,
         })
     }
 }

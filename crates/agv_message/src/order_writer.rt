@@ -1,35 +1,52 @@
 //! Writing an order message.
-ghost use Rattle.std.specs.Prelude.{◌≡◌, IfOk, Ok, map};
+ghost use Rattle.std.specs.Prelude.{◌≡◌, [], ◌∷◌, ◌++◌, IfOk, Ok, map, string_bytes};
 ghost use Rattle.serde_json.specs.View.{view};
 ghost use Rattle.serde_json.specs.Written.{compact_text};
-ghost use Rattle.agv_header.specs.Stamp.{stamp_of};
 ghost use Rattle.agv_message.specs.Body.{body_of};
-ghost use Rattle.agv_message.specs.Order.{act_data, edge_data, node_data, order_data, parameters};
+ghost use Rattle.agv_message.specs.Order.{act_data, act_id, edge_data, node_data, order_data, parameters};
 
-use crate::action_writer::{action_value, parameter_value};
+use crate::action_writer::{action_value, with_parameter};
+use crate::object::Object;
+use crate::opening_writer::header_object;
 use crate::{Header, OrderAct, OrderEdge, OrderMessage, OrderNode};
-use agv_header::{Memory, Name, stamp_text};
-use serde_json::{Value, json};
-use std::alloc::{AllocError, Global};
+use agv_header::{Memory, Name};
+use serde_json::Value;
+use std::alloc::Global;
 
 fn parameter_values(alloc: Global, act: &OrderAct) -> Result<Vec<Value>, Memory>
     ensures { IfOk result (λ written. map view written.items ≡ parameters act.now) }
 {
-    let mut values = Vec::with_capacity(alloc, 4)?;
-    values.push(parameter_value(alloc, "stationType", "station")?)?;
-    values.push(parameter_value(alloc, "stationName", act.station.as_str())?)?;
-    values.push(parameter_value(alloc, "loadType", "load")?)?;
-    values.push(parameter_value(alloc, "loadId", act.load.as_str())?)?;
-    Ok(values)
+    let values = with_parameter(Vec::new(alloc), alloc, "stationType", "station")?;
+    let values = with_parameter(values, alloc, "stationName", act.station.as_str())?;
+    let values = with_parameter(values, alloc, "loadType", "load")?;
+    with_parameter(values, alloc, "loadId", act.load.as_str())
+}
+
+fn act_id(alloc: Global, order: Name, n: u32) -> Result<String, Memory>
+    ensures { IfOk result (λ id. string_bytes id ≡ act_id order n) }
+{
+    Ok(format!(in alloc; "{order}.{n}")?)
 }
 
 fn act_value(alloc: Global, order: Name, act: &OrderAct) -> Result<Value, Memory>
     ensures { IfOk result (λ written. view written ≡ act_data order act.now) }
 {
-    let n = act.n;
-    let id = format!(in alloc; "{order}.{n}")?;
+    let id = act_id(alloc, order, act.n)?;
     let parameters = parameter_values(alloc, act)?;
     Ok(action_value(alloc, id.as_str(), act.kind.name(), parameters)?)
+}
+
+fn with_act(
+    acts: Vec<Value>,
+    alloc: Global,
+    order: Name,
+    act: &OrderAct,
+) -> Result<Vec<Value>, Memory>
+    ensures { IfOk result (λ more. map view more.items ≡ map view acts.items ++ act_data order act.now ∷ []) }
+{
+    let mut acts = acts;
+    acts.push(act_value(alloc, order, act)?)?;
+    Ok(acts)
 }
 
 fn act_values(alloc: Global, order: Name, acts: &[OrderAct]) -> Result<Vec<Value>, Memory>
@@ -37,7 +54,7 @@ fn act_values(alloc: Global, order: Name, acts: &[OrderAct]) -> Result<Vec<Value
 {
     let mut values = Vec::new(alloc);
     for act in acts {
-        values.push(act_value(alloc, order, act)?)?;
+        values = with_act(values, alloc, order, act)?;
     }
     Ok(values)
 }
@@ -47,26 +64,26 @@ fn node_value(alloc: Global, order: Name, node: &OrderNode) -> Result<Value, Mem
     ensures { IfOk result (λ written. view written ≡ node_data order node.now) }
 {
     let acts = act_values(alloc, order, node.acts.as_slice())?;
-    Ok(json!(in alloc; {
-        "actions": acts,
-        "nodeId": node.id.as_str(),
-        "released": node.released,
-        "sequenceId": node.seq
-    })?)
+    let object = Object::new(alloc)
+        .with_list(alloc, "actions", acts)?
+        .with_text(alloc, "nodeId", node.id.as_str())?
+        .with_truth(alloc, "released", node.released)?
+        .with_whole(alloc, "sequenceId", node.seq)?;
+    Ok(object.done())
 }
 
 #[tactic(auto, unfolding(crate::specs::Order::edge_data))]
-fn edge_value(alloc: Global, edge: &OrderEdge) -> Result<Value, AllocError>
+fn edge_value(alloc: Global, edge: &OrderEdge) -> Result<Value, Memory>
     ensures { IfOk result (λ written. view written ≡ edge_data edge.now) }
 {
-    json!(in alloc; {
-        "actions": [],
-        "edgeId": edge.id.as_str(),
-        "endNodeId": edge.finish.as_str(),
-        "released": edge.released,
-        "sequenceId": edge.seq,
-        "startNodeId": edge.start.as_str()
-    })
+    let object = Object::new(alloc)
+        .with_list(alloc, "actions", Vec::new(alloc))?
+        .with_text(alloc, "edgeId", edge.id.as_str())?
+        .with_text(alloc, "endNodeId", edge.finish.as_str())?
+        .with_truth(alloc, "released", edge.released)?
+        .with_whole(alloc, "sequenceId", edge.seq)?
+        .with_text(alloc, "startNodeId", edge.start.as_str())?;
+    Ok(object.done())
 }
 
 fn node_values(alloc: Global, order: Name, nodes: &[OrderNode]) -> Result<Vec<Value>, Memory>
@@ -90,39 +107,17 @@ fn edge_values(alloc: Global, edges: &[OrderEdge]) -> Result<Vec<Value>, Memory>
 }
 
 #[tactic(auto, unfolding(crate::specs::Order::order_data))]
-fn message_value(
-    alloc: Global,
-    header: &Header,
-    order: &OrderMessage,
-    stamp: &str,
-    edges: Vec<Value>,
-    nodes: Vec<Value>,
-) -> Result<Value, AllocError>
-    requires stamp { stamp.now ≡ stamp_of header.now.at }
-    requires edges { map view edges.items ≡ map edge_data order.now.edges }
-    requires nodes { map view nodes.items ≡ map (node_data order.now.order) order.now.nodes }
-    ensures { IfOk result (λ written. view written ≡ order_data header.now order.now) }
-{
-    json!(in alloc; {
-        "edges": edges,
-        "headerId": header.number,
-        "manufacturer": header.key.manufacturer.as_str(),
-        "nodes": nodes,
-        "orderId": order.order.as_str(),
-        "orderUpdateId": order.update,
-        "serialNumber": header.key.serial.as_str(),
-        "timestamp": stamp,
-        "version": "2.0.0"
-    })
-}
-
 fn order_value(alloc: Global, header: &Header, order: &OrderMessage) -> Result<Value, Memory>
     ensures { IfOk result (λ written. view written ≡ order_data header.now order.now) }
 {
     let edges = edge_values(alloc, order.edges.as_slice())?;
+    let object = header_object(alloc, header)?.with_list(alloc, "edges", edges)?;
     let nodes = node_values(alloc, order.order, order.nodes.as_slice())?;
-    let stamp = stamp_text(alloc, header.at)?;
-    Ok(message_value(alloc, header, order, stamp.as_str(), edges, nodes)?)
+    let object = object
+        .with_list(alloc, "nodes", nodes)?
+        .with_text(alloc, "orderId", order.order.as_str())?
+        .with_whole(alloc, "orderUpdateId", order.update)?;
+    Ok(object.done())
 }
 
 /// The text of an order message: JSON without blanks, members in the order of their names' bytes.

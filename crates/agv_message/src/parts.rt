@@ -1,7 +1,7 @@
 //! The members of a state that the desk looks at.
 ghost use Rattle.std.specs.Prelude.{◌≡◌, ℕ, true, false, IfNone, IfOk, IfSome, codes};
 ghost use Rattle.serde_json.specs.View.{view};
-ghost use Rattle.agv_message.specs.Parts.{message_from};
+ghost use Rattle.agv_message.specs.Parts.{message_from, message_with, texts_of};
 ghost use Rattle.agv_message.specs.State.{is_bad, message_of, text};
 
 use crate::condition::Condition;
@@ -19,6 +19,23 @@ pub struct Parts<'a> {
     pub condition: Condition,
     pub node_seqs: Sequence<u32>,
     pub actions: Sequence<(Text, Status)>,
+}
+
+/// The texts of a state's parts, copied.
+#[derive(Drop)]
+struct Texts {
+    manufacturer: Text,
+    serial: Text,
+    order_id: Text,
+    last_node: Text,
+}
+
+fn copies(alloc: Global, first: &str, second: &str) -> Result<(Text, Text), Memory>
+    ensures { IfOk result (λ copies. copies ≡ (first.now, second.now)) }
+{
+    let first = Text::copy_of(alloc, first)?;
+    let second = Text::copy_of(alloc, second)?;
+    Ok((first, second))
 }
 
 impl<'a> Parts<'a> {
@@ -58,23 +75,43 @@ impl<'a> Parts<'a> {
         }))
     }
 
-    /// The message that they make.
-    pub fn message(self, alloc: Global, at: Moment) -> Result<StateMessage, Memory>
-        ensures { IfOk result (λ message. message ≡ message_from at self.entry) }
+    fn texts(&self, alloc: Global) -> Result<Texts, Memory>
+        ensures { IfOk result (λ texts. texts ≡ texts_of self.now) }
     {
-        Ok(StateMessage {
+        let (manufacturer, serial) = copies(alloc, self.opening.manufacturer, self.opening.serial)?;
+        let (order_id, last_node) = copies(alloc, self.progress.order, self.progress.last_node)?;
+        Ok(Texts {
+            manufacturer,
+            serial,
+            order_id,
+            last_node,
+        })
+    }
+
+    fn with_texts(self, texts: Texts, at: Moment) -> StateMessage
+        ensures { result ≡ message_with at self.entry texts }
+    {
+        StateMessage {
             header_id: self.opening.number,
             at,
-            manufacturer: Text::copy_of(alloc, self.opening.manufacturer)?,
-            serial: Text::copy_of(alloc, self.opening.serial)?,
-            order_id: Text::copy_of(alloc, self.progress.order)?,
+            manufacturer: texts.manufacturer,
+            serial: texts.serial,
+            order_id: texts.order_id,
             update: self.progress.update,
-            last_node: Text::copy_of(alloc, self.progress.last_node)?,
+            last_node: texts.last_node,
             last_seq: self.progress.last_seq,
             node_seqs: self.node_seqs,
             actions: self.actions,
             ready: self.condition.ready,
             paused: self.condition.paused,
-        })
+        }
+    }
+
+    /// The message that they make.
+    pub fn message(self, alloc: Global, at: Moment) -> Result<StateMessage, Memory>
+        ensures { IfOk result (λ message. message ≡ message_from at self.entry) }
+    {
+        let texts = self.texts(alloc)?;
+        Ok(self.with_texts(texts, at))
     }
 }

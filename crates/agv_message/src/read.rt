@@ -44,7 +44,8 @@ pub fn read_state(alloc: Global, body: &Value) -> Result<StateMessage, BodyFault
     ensures ok { IfOk result (λ message. state_of (view body.now) ≡ Ok message) }
     ensures err { IfErr result (λ fault. IsFaultOf fault (state_of (view body.now))) }
 {
-    if has_position(body) {
+    let is_located = has_position(body);
+    if is_located {
         return Err(BodyFault::Refused(Refusal::Position));
     }
     read_located(alloc, body)

@@ -10,16 +10,16 @@ returns-clause-message c =
     let node_seqs = ap (λ (o : Option (List ℕ)). unwrap_or o []) (sym c.in_ok-node_seqs.ensures ∙ c.in-Some-2.is) in
     let actions = ap (λ (o : Option (List (List ℕ × Status))). unwrap_or o []) (sym c.in_ok-actions.ensures ∙ c.in-Some-3.is) in
     λ at i. record {
-      header_id = sym c.in-Some.ensures.number i;
+      header_id = sym c.in-Some.ensures.read.number i;
       at = at;
-      manufacturer = sym c.in-Some.ensures.manufacturer i;
-      serial = sym c.in-Some.ensures.serial i;
-      order_id = sym c.in-Some-of.ensures.order i;
-      update = sym c.in-Some-of.ensures.update i;
-      last_node = sym c.in-Some-of.ensures.last_node i;
-      last_seq = sym c.in-Some-of.ensures.last_seq i;
+      manufacturer = sym c.in-Some.ensures.read.manufacturer i;
+      serial = sym c.in-Some.ensures.read.serial i;
+      order_id = sym c.in-Some-of.ensures.read.order i;
+      update = sym c.in-Some-of.ensures.read.update i;
+      last_node = sym c.in-Some-of.ensures.read.last_node i;
+      last_seq = sym c.in-Some-of.ensures.read.last_seq i;
       node_seqs = node_seqs i;
       actions = actions i;
-      ready = sym c.in-Some-of-2.ensures.ready i;
-      paused = sym c.in-Some-of-2.ensures.paused i;
+      ready = sym c.in-Some-of-2.ensures.read.ready i;
+      paused = sym c.in-Some-of-2.ensures.read.paused i;
     }
