@@ -1,6 +1,7 @@
 //! Streams of requests, as bytes in and bytes out.
 
 use crate::fakes::{Drip, Trickle};
+use agv_face::laws::has_a_cut;
 use agv_face::{Heard, LoadsFault, Stop, Watched, answer_calls, read_request, serve_loads};
 use agv_store::Loads;
 use sqlite::{Connection, MemStore};
@@ -120,7 +121,7 @@ fn failing_writer(rt: HostRuntime) -> Result<(), Fail> {
     Ok(())
 }
 
-/// Inputs of other forms: what stands before them is answered, and nothing else.
+/// Inputs of other forms: what stands before them is answered, and nothing else. And the line of each fault.
 #[test]
 fn other_forms(rt: HostRuntime) -> Result<(), Fail> {
     let others: [&[u8]; 9] = [
@@ -149,6 +150,15 @@ fn other_forms(rt: HostRuntime) -> Result<(), Fail> {
             serve_loads(rt.alloc(), &mut loads, &mut reader, &mut out) == Err(LoadsFault::Read)
         );
         assert!(rt; out.inner().as_slice() == FIRST_ANSWERS);
+        has_a_cut(other);
+    }
+    for (fault, line) in [
+        (LoadsFault::Read, "fault: Read"),
+        (LoadsFault::Write, "fault: Write"),
+        (LoadsFault::Memory, "fault: Memory"),
+        (LoadsFault::Storage, "fault: Storage"),
+    ] {
+        assert!(rt; fault.line() == line);
     }
     Ok(())
 }
