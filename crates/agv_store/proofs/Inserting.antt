@@ -28,7 +28,8 @@ use Rattle.sqlite.specs.Listing.{understood}
 use Rattle.agv_store.specs.Registered.{Registered}
 use Rattle.agv_store.specs.LoadTable.{load_table, load_schema, load_row, HasRows, AreLoads}
 use Rattle.agv_store.specs.HeldLoads.{IsOpen, HoldsLoads}
-use Rattle.agv_store.proofs.Texts.{insert_text, insert_command, insert_is, insert_plain}
+use Rattle.agv_store.proofs.Texts.{insert_text, insert_is, insert_plain}
+use Rattle.agv_store.specs.NewRow.{insert_command}
 use Rattle.agv_store.proofs.Entries.{HasRows-put_row}
 use Rattle.agv_store.proofs.Running.{went, same_value, write_fails, commits_as}
 use Rattle.agv_store.proofs.Holding.{stays}

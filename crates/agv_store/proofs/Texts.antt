@@ -1,18 +1,18 @@
 -- The three texts of SQL, and the command that each of them is.
 use Rattle.std.proofs.Common.{◌≡◌, ℕ, false, List, [], ◌∷◌, codes, Ok, refl, pos, negsuc, None}
-use Rattle.sqlite_value.specs.declared.value.Value.TheVariants.{Null, Text, Int}
+use Rattle.sqlite_value.specs.declared.value.Value.TheVariants.{Int}
 use Rattle.sqlite_sql.specs.declared.ops.BinaryOp.TheVariants.{Compare}
 use Rattle.sqlite_sql.specs.declared.ops.CompareOp.TheVariants.{Eq}
 use Rattle.sqlite_sql.specs.Term.{Term, lit, col, op2}
 use Rattle.sqlite_sql.specs.Query.{Query, inner, end}
 use Rattle.sqlite_value.specs.declared.keys.Collation.TheVariants.{Binary}
-use Rattle.sqlite_schema.specs.declared.command.Source.TheVariants.{Values}
 use Rattle.sqlite_schema.specs.declared.command.Command.{Command}
-use Rattle.sqlite_schema.specs.declared.command.Command.TheVariants.{CreateTable, Insert, Select}
+use Rattle.sqlite_schema.specs.declared.command.Command.TheVariants.{CreateTable, Select}
 use Rattle.sqlite_resolve.specs.Compile.{table_defined_by}
 use Rattle.sqlite_tied.specs.Compute.{everything}
 use Rattle.sqlite.specs.Listing.{understood, reads_listing}
 use Rattle.sqlite.proofs.Callers.{IsPlain, command_of, statement_of}
+use Rattle.agv_store.specs.NewRow.{insert_command}
 use Rattle.agv_store.specs.LoadTable.{load_table, no_tables, load_schema}
 
 abbrev pub create_text : List ℕ
@@ -23,13 +23,6 @@ insert_text = codes "INSERT INTO load (id, kind, station, manufacturer, serial) 
 
 abbrev pub find_text : List ℕ
 find_text = codes "SELECT id FROM load WHERE id = ?1"
-
--- the number of the row, which the database chooses, then the five columns
-abbrev pub insert_terms : List Term
-insert_terms = lit Null ∷ col 0 0 ∷ lit (Text (codes "checking")) ∷ lit Null ∷ lit Null ∷ lit Null ∷ []
-
-abbrev pub insert_command : Command
-insert_command = Insert 0 (Values insert_terms 6)
 
 -- the column id is the parameter
 abbrev pub is_named : Term

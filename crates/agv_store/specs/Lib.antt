@@ -1,4 +1,5 @@
 pub mod Fault
 pub mod HeldLoads
 pub mod LoadTable
+pub mod NewRow
 pub mod Registered

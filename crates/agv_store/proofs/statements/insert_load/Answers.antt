@@ -6,6 +6,7 @@ use Rattle.sqlite.specs.Values.{bound, bound_value}
 use Rattle.sqlite.proofs.StateLemmas.{survives_weaker}
 use Rattle.agv_store.proofs.Texts.{insert_text}
 use Rattle.agv_store.proofs.Inserting.{adds, insert_fails, insert_commits}
+use Rattle.agv_store.proofs.Failing.{inserting_caused}
 use Rattle.agv_store.proofs.statements.insert_load.Goals as goal
 
 pub returns-clause-added : goal.returns-clause-added
@@ -25,3 +26,9 @@ returns-clause-survives g c =
     let given : bound (c.params-to_sql.result ∷ []) ≡ Text name ∷ [] = ap (λ v. bound_value v ∷ []) c.params-to_sql.ensures in
     survives_weaker _ _ _ _ (λ _ trees commits. insert_commits g.S.Store c.args.conn.now name trees
     (subst (λ params. CommitsBy insert_text params (state g.S.Store c.args.conn.now) trees) given commits)) c.execute.ensures.survives
+
+pub returns-clause-caused : goal.returns-clause-caused
+returns-clause-caused g c clean =
+    let name = c.args.name.now in
+    let given : bound (c.params-to_sql.result ∷ []) ≡ Text name ∷ [] = ap (λ v. bound_value v ∷ []) c.params-to_sql.ensures in
+    inserting_caused g.S.Store c.args.conn.now c.execute.new.self name _ given c.execute.result c.execute.ensures.survives clean (c.execute.ensures.runs clean)
