@@ -1,13 +1,11 @@
 -- Why a statement fails, where its error is a fault of the store.
-use Rattle.std.proofs.Common.{arith, IsErrAnd, Vec, Global, ◌≡◌, ◌≤◌, ◌⊎◌, ℕ, Bool, true, false, List, [], ◌∷◌, length, Option, Some, None, Ok, Err, Result, IsTrue, IsSome, IfErr, inl, inr, sym, ap, subst, subst₂, refl, lit≤, ◌∙◌, append-nil}
+use Rattle.std.proofs.Common.{arith, IsErrAnd, Vec, Global, ◌≡◌, ◌⊎◌, ℕ, false, List, [], ◌∷◌, length, Option, Some, None, Ok, Err, Result, IsTrue, IsSome, IfErr, inl, inr, sym, ap, subst, subst₂, refl, lit≤, ◌∙◌, append-nil}
 use Rattle.sqlite_disk.specs.Disk.{MoreFaults}
 use Rattle.sqlite_value.specs.declared.value.Value.TheVariants.{Text}
 use Rattle.sqlite_value.specs.Order.{Row}
 use Rattle.sqlite_trees.specs.declared.error.StoreError.{StoreError}
 use Rattle.sqlite_trees.specs.declared.error.StoreError.TheVariants.{OutOfMemory, Io, Corrupt, Full, Broken, Unstorable}
 use Rattle.sqlite_trees.specs.Tree.{Trees}
-use Rattle.sqlite_resolve.specs.declared.compiled.Compiled.{Compiled}
-use Rattle.sqlite_resolve.specs.declared.error.CompileError.{CompileError}
 use Rattle.sqlite_tied.specs.Compute.{everything}
 use Rattle.sqlite.specs.declared.error.Error.{Error}
 use Rattle.sqlite.specs.Clock.{timed}
@@ -22,20 +20,15 @@ use Rattle.agv_store.specs.declared.fault.Fault.TheVariants as fault
 use Rattle.agv_store.specs.Fault.{fault_of, IsOfStore}
 use Rattle.agv_store.specs.Registered.{Registered}
 use Rattle.agv_store.specs.LoadTable.{load_schema}
-use Rattle.agv_store.specs.NewRow.{insert_command, RefusesRow}
+use Rattle.agv_store.specs.NewRow.{IsWhole, is_shown, IsInsertion, insert_command, RefusesRow}
 use Rattle.agv_store.specs.HeldLoads.{IsStorageFault, HoldsLoads, IsCounted, IsClean}
 use Rattle.sqlite_trees.specs.declared.store.Store.{Ghosts}
 use Rattle.sqlite.specs.Held.{Held, state}
-use Rattle.agv_store.proofs.Texts.{insert_text, insert_is, insert_plain, find_text, find_command, find_is, find_plain}
+use Rattle.agv_store.proofs.Texts.{find_text, find_command, find_is, find_plain}
 
 -- the store failed meanwhile, or had been shut, or the steps of a query are limited
 abbrev pub IsCaused : State → State → Type 0
 IsCaused old new = MoreFaults old.faults new.faults ⊎ ((old.is_open ≡ false) ⊎ IsSome old.step_limit)
-
--- the text is one statement with so many parameters, and does not read the time
-abbrev pub IsWhole : List ℕ → ℕ → Result Compiled CompileError → Type 0
-IsWhole sql count (Ok c) = (length sql ≤ c.tail) × (length c.names ≡ count) × (c.formats ≡ [])
-IsWhole sql count (Err e) = ⊥
 
 module _ (old new : State) (e : Error) (stored : IsOfStore e) where
   of_store : (why : StoreError) → e ≡ store_error why → HasCause old new ⊥ why → IsCaused old new
@@ -103,19 +96,7 @@ counted_caused g old new count counted clean why = elim (cases_Bool (state g old
 
 -- ---- the insertion
 
-is_shown : Result Compiled CompileError → Bool
-is_shown (Ok c) = shows_rows false c
-is_shown (Err e) = true
-
-insert_whole : IsWhole insert_text 1 (understood load_schema insert_text)
-unfolding understood everything
-insert_whole = (lit≤ tt, refl, refl)
-
-insert_unshown : is_shown (understood load_schema insert_text) ≡ false
-unfolding understood everything is_shown
-insert_unshown = refl
-
-module _ (name : List ℕ) (old new : State) (e : Error) (has : old.now.schema ≡ load_schema) (settled : old.committed ≡ old.now) (limit : new.step_limit ≡ old.step_limit)
+module _ (name sql : List ℕ) (means : IsInsertion sql) (old new : State) (e : Error) (has : old.now.schema ≡ load_schema) (settled : old.committed ≡ old.now) (limit : new.step_limit ≡ old.step_limit)
     (closes : IsTrue new.is_open ⊎ MoreFaults old.faults new.faults) where
   abbrev IsRefused : State → Option Error → Type 0
   IsRefused s stop = Does s.step_limit (mode_of s) (Text name ∷ []) s.now [] None insert_command (Err stop)
@@ -140,29 +121,29 @@ module _ (name : List ℕ) (old new : State) (e : Error) (has : old.now.schema �
   not_misplaced (inr it) = elim it.2 [ inl is ↦ cc | inr is ↦ cc ]
 
   -- an insertion that fails as the store does
-  pub insert_caused : IsOfStore e → Executes insert_text (Text name ∷ []) old new (Err e) → IsCaused old new ⊎ ((stop : Option Error) × IsRefused new stop)
-  unfolding ExecutesIn IsNotRun is_shown
-  insert_caused stored (inl (inl unread)) = absurd (is_statement old insert_text (Text name ∷ []) e (subst (λ s. IsWhole insert_text 1 (understood s insert_text)) (sym has) insert_whole) unread.0)
+  pub insert_caused : IsOfStore e → Executes sql (Text name ∷ []) old new (Err e) → IsCaused old new ⊎ ((stop : Option Error) × IsRefused new stop)
+  unfolding ExecutesIn IsNotRun
+  insert_caused stored (inl (inl unread)) = absurd (is_statement old sql (Text name ∷ []) e (subst (λ s. IsWhole sql 1 (understood s sql)) (sym has) means.whole) unread.0)
   insert_caused stored (inl (inr fails)) = inl (caused old new e stored fails)
   insert_caused stored (inr it) =
-      let known = sym it.1.is ∙ ap (λ s. understood s insert_text) has in
-      let bare = subst IsPlain (sym known) insert_plain in
-      let runs : shows_rows false it.0 ≡ false = ap is_shown known ∙ insert_unshown in
-      let command : it.0.command ≡ insert_command = ap command_of known ∙ insert_is in
-      let moved : (stop : Option Error) → Does old.step_limit (mode_of old) (timed (Text name ∷ []) it.0.formats it.1.now) old.now (text_of insert_text it.0) it.0.returning it.0.command (Err stop) → IsRefused old stop =
-      λ stop does. subst (λ k. Does old.step_limit (mode_of old) (Text name ∷ []) old.now (text_of insert_text it.0) None k (Err stop)) command (rw (bare.0, bare.1, append-nil (Text name ∷ [])) at does) in
-      let ran : RunsCommand old new insert_text it.0 (timed (Text name ∷ []) it.0.formats it.1.now) (Err e) = rw runs at it.2 in
+      let known = sym it.1.is ∙ ap (λ s. understood s sql) has in
+      let bare = subst IsPlain (sym known) means.plain in
+      let runs : shows_rows false it.0 ≡ false = ap is_shown known ∙ means.unshown in
+      let command : it.0.command ≡ insert_command = ap command_of known ∙ means.command in
+      let moved : (stop : Option Error) → Does old.step_limit (mode_of old) (timed (Text name ∷ []) it.0.formats it.1.now) old.now (text_of sql it.0) it.0.returning it.0.command (Err stop) → IsRefused old stop =
+      λ stop does. subst (λ k. Does old.step_limit (mode_of old) (Text name ∷ []) old.now (text_of sql it.0) None k (Err stop)) command (rw (bare.0, bare.1, append-nil (Text name ∷ [])) at does) in
+      let ran : RunsCommand old new sql it.0 (timed (Text name ∷ []) it.0.formats it.1.now) (Err e) = rw runs at it.2 in
       elim ran [
         | inl same ↦ elim same.0 [ inl misplaced ↦ absurd (not_misplaced (subst (λ k. IsMisplaced old k e) command misplaced)) | inr does ↦ inr (Some e, still (Some e) (moved (Some e) does.1) same.1.0.now_is) ]
         | inr fails ↦ of_insertion stored _ (moved None) fails.0 fails.1 fails.2 fails.3
       ]
 
-module _ {S : Type 0} (g : Ghosts S) (old new : Held S) (name : List ℕ) where
-  pub inserting_caused : (params : Row) → params ≡ Text name ∷ [] → (r : Result ℕ Error) → {Commits : Trees → Type 0} → Survives (state g old) (state g new) Commits → IsClean g new → Executes insert_text params (state g old) (state g new) r
+module _ {S : Type 0} (g : Ghosts S) (old new : Held S) (name sql : List ℕ) (means : IsInsertion sql) where
+  pub inserting_caused : (params : Row) → params ≡ Text name ∷ [] → (r : Result ℕ Error) → {Commits : Trees → Type 0} → Survives (state g old) (state g new) Commits → IsClean g new → Executes sql params (state g old) (state g new) r
       → IfErr r (λ e. IsOfStore e → (loads : Registered) → HoldsLoads g old loads → IsStorageFault g old new ⊎ RefusesRow g new name)
   inserting_caused params given (Ok count) saved clean ran = tt
   inserting_caused params given (Err e) saved clean ran = λ stored loads h.
-      insert_caused name (state g old) (state g new) e h.schema h.committed saved.limit (saved.closes clean h.is_open) stored (subst (λ p. Executes insert_text p (state g old) (state g new) (Err e)) given ran)
+      insert_caused name sql means (state g old) (state g new) e h.schema h.committed saved.limit (saved.closes clean h.is_open) stored (subst (λ p. Executes sql p (state g old) (state g new) (Err e)) given ran)
 
 -- a fault of the store after the look-up is one of the call
 pub later_caused : {S : Type 0} (g : Ghosts S) (old mid new : Held S) {Commits : Trees → Type 0} → Survives (state g old) (state g mid) Commits → (loads : Registered) → HoldsLoads g mid loads → {Room Why : Type 0}

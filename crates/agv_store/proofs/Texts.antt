@@ -1,5 +1,5 @@
--- The three texts of SQL, and the command that each of them is.
-use Rattle.std.proofs.Common.{◌≡◌, ℕ, false, List, [], ◌∷◌, codes, Ok, refl, pos, negsuc, None}
+-- The text that looks a load up, and the command that it is.
+use Rattle.std.proofs.Common.{◌≡◌, ℕ, false, List, [], ◌∷◌, codes, refl, pos, negsuc, None}
 use Rattle.sqlite_value.specs.declared.value.Value.TheVariants.{Int}
 use Rattle.sqlite_sql.specs.declared.ops.BinaryOp.TheVariants.{Compare}
 use Rattle.sqlite_sql.specs.declared.ops.CompareOp.TheVariants.{Eq}
@@ -7,19 +7,11 @@ use Rattle.sqlite_sql.specs.Term.{Term, lit, col, op2}
 use Rattle.sqlite_sql.specs.Query.{Query, inner, end}
 use Rattle.sqlite_value.specs.declared.keys.Collation.TheVariants.{Binary}
 use Rattle.sqlite_schema.specs.declared.command.Command.{Command}
-use Rattle.sqlite_schema.specs.declared.command.Command.TheVariants.{CreateTable, Select}
-use Rattle.sqlite_resolve.specs.Compile.{table_defined_by}
+use Rattle.sqlite_schema.specs.declared.command.Command.TheVariants.{Select}
 use Rattle.sqlite_tied.specs.Compute.{everything}
 use Rattle.sqlite.specs.Listing.{understood, reads_listing}
-use Rattle.sqlite.proofs.Callers.{IsPlain, command_of, statement_of}
-use Rattle.agv_store.specs.NewRow.{insert_command}
-use Rattle.agv_store.specs.LoadTable.{load_table, no_tables, load_schema}
-
-abbrev pub create_text : List ℕ
-create_text = codes "CREATE TABLE load (id TEXT PRIMARY KEY, kind TEXT NOT NULL, station TEXT, manufacturer TEXT, serial TEXT) STRICT"
-
-abbrev pub insert_text : List ℕ
-insert_text = codes "INSERT INTO load (id, kind, station, manufacturer, serial) VALUES (?1, 'checking', NULL, NULL, NULL)"
+use Rattle.sqlite.proofs.Callers.{IsPlain, command_of}
+use Rattle.agv_store.specs.LoadTable.{load_table, load_schema}
 
 abbrev pub find_text : List ℕ
 find_text = codes "SELECT id FROM load WHERE id = ?1"
@@ -43,22 +35,6 @@ find_query = record {
 
 abbrev pub find_command : Command
 find_command = Select (record { lets = []; body = find_query }) (codes "id" ∷ [])
-
-pub create_is : (command_of (understood no_tables create_text) ≡ CreateTable) × (statement_of create_text (understood no_tables create_text) ≡ create_text) × (table_defined_by create_text ≡ Ok load_table)
-unfolding understood everything
-create_is = (refl, refl, refl)
-
-pub create_plain : IsPlain (understood no_tables create_text)
-unfolding understood everything
-create_plain = (refl, refl)
-
-pub insert_is : command_of (understood load_schema insert_text) ≡ insert_command
-unfolding understood everything
-insert_is = refl
-
-pub insert_plain : IsPlain (understood load_schema insert_text)
-unfolding understood everything
-insert_plain = (refl, refl)
 
 pub find_is : (command_of (understood load_schema find_text) ≡ find_command) × (reads_listing load_schema find_text ≡ false)
 unfolding understood everything

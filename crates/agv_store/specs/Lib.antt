@@ -1,3 +1,4 @@
+pub mod Creation
 pub mod Fault
 pub mod HeldLoads
 pub mod LoadTable
