@@ -8,7 +8,7 @@ pub record Row : Type 0 where
   pub name : List ℕ
   pub status : ℕ
 
-abbrev row : ℕ → List ℕ → ℕ → Row
+abbrev pub row : ℕ → List ℕ → ℕ → Row
 row n name status = record { number = n; name = name; status = status }
 
 -- the table of refusals

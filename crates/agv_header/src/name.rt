@@ -10,6 +10,9 @@ use std::cmp::Ordering;
 use std::marker::Model;
 use std::{fmt, str};
 
+/// The most bytes that a name has.
+const LONGEST: usize = 32;
+
 /// A name: 1 to 32 bytes of `A-Z a-z 0-9 _ . : -`. In a clause it is the list of its bytes.
 #[derive(Clone, Copy)]
 pub struct Name {
@@ -40,7 +43,7 @@ pub struct NotName;
 fn is_allowed(byte: u8) -> bool
     ensures { result ≡ is_name_byte byte }
 {
-    byte.is_ascii_alphanumeric() || byte == b'_' || byte == b'.' || byte == b':' || byte == b'-'
+    byte.is_ascii_alphanumeric() || b"_.:-".contains(&byte)
 }
 
 fn are_allowed(bytes: &[u8]) -> bool
@@ -52,7 +55,7 @@ fn are_allowed(bytes: &[u8]) -> bool
 fn spells_name(bytes: &[u8]) -> bool
     ensures { result ≡ is_name bytes.now }
 {
-    !bytes.is_empty() && bytes.len() <= 32 && are_allowed(bytes)
+    !bytes.is_empty() && bytes.len() <= LONGEST && are_allowed(bytes)
 }
 
 impl Name {

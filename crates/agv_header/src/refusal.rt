@@ -144,13 +144,11 @@ pub enum Refusal {
 }
 
 impl Refusal {
-    ghost use Rattle.agv_header.specs.Refusal.{number_of, name_of, status_of};
+    ghost use Rattle.agv_header.specs.Refusal.{row, row_of, number_of, name_of, status_of};
 
     /// Its number, its name and its HTTP status.
     fn row(&self) -> (u8, &'static str, u16)
-        ensures number { result.0 ≡ number_of self.now }
-        ensures name { result.1.now ≡ name_of self.now }
-        ensures status { result.2 ≡ status_of self.now }
+        ensures { row result.0 result.1.now result.2 ≡ row_of self.now }
     {
         match self {
             Refusal::BadHead => (1, "BadHead", 400),

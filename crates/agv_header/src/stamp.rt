@@ -1,6 +1,6 @@
 //! Stamps: the texts of moments in messages.
 ghost use Rattle.std.specs.Prelude.{◌≡◌, IfOk, ok_or, string_bytes};
-ghost use Rattle.agv_header.specs.Stamp.{moment_said, stamp_of};
+ghost use Rattle.agv_header.specs.Stamp.{moment_of_nanos, moment_said, stamp_of};
 
 use crate::{Memory, Moment};
 use jiff::Timestamp;
@@ -14,6 +14,16 @@ pub enum StampFault {
     Bad,
 }
 
+fn moment_of(stamp: Timestamp) -> Option<Moment>
+    ensures { result ≡ moment_of_nanos stamp.nanosecond }
+{
+    // `as_millisecond` rounds toward 1970, so the instants just before it need a test of their own.
+    if stamp.as_nanosecond() < 0 {
+        return None;
+    }
+    Moment::of(stamp.as_millisecond())
+}
+
 /// The moment that a text says, as `jiff` reads a timestamp, rounded down to milliseconds. It takes
 /// no memory.
 ///
@@ -25,11 +35,7 @@ pub fn read_stamp(text: &str) -> Result<Moment, StampFault>
     let Ok(stamp) = text.parse::<Timestamp>() else {
         return Err(StampFault::Bad);
     };
-    // `as_millisecond` rounds toward 1970, so the instants just before it need a test of their own.
-    if stamp.as_nanosecond() < 0 {
-        return Err(StampFault::Bad);
-    }
-    Moment::of(stamp.as_millisecond()).ok_or(StampFault::Bad)
+    moment_of(stamp).ok_or(StampFault::Bad)
 }
 
 /// The text of a moment, as `1991-03-11T11:40:03.12Z`: its civil date and time in UTC, with what is

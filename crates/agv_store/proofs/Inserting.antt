@@ -23,18 +23,14 @@ use Rattle.sqlite.specs.Does.{Tally, OnRows, AtPlace, Does}
 use Rattle.sqlite.specs.Effect.{Database}
 use Rattle.sqlite.specs.Held.{Held, state}
 use Rattle.sqlite.specs.State.{State, mode_of, Executes, CommitsBy}
-use Rattle.sqlite.proofs.Callers.{runs_as, one_step, statement_of}
-use Rattle.sqlite.specs.Listing.{understood}
+use Rattle.sqlite.proofs.Callers.{runs_as, one_step}
 use Rattle.agv_store.specs.Registered.{Registered}
 use Rattle.agv_store.specs.LoadTable.{load_table, load_schema, load_row, HasRows, AreLoads}
 use Rattle.agv_store.specs.HeldLoads.{IsOpen, HoldsLoads}
-use Rattle.agv_store.proofs.Texts.{insert_text, insert_command, insert_is, insert_plain}
+use Rattle.agv_store.specs.NewRow.{insert_command, IsInsertion}
 use Rattle.agv_store.proofs.Entries.{HasRows-put_row}
 use Rattle.agv_store.proofs.Running.{went, same_value, write_fails, commits_as}
 use Rattle.agv_store.proofs.Holding.{stays}
-
-abbrev insert_statement : List ℕ
-insert_statement = statement_of insert_text (understood load_schema insert_text)
 
 -- the values of the row are of their columns' types
 fits : (name : List ℕ) → cast_all load_table.columns (load_row name) ≡ load_row name
@@ -60,7 +56,7 @@ module _ (s : State) (name : List ℕ) (has : s.now.schema ≡ load_schema) wher
       (subst (λ (t : Table). works s.now.schema Enforced 0 t.tree (taken_by s.now.trees edit) edit.news ≡ []) (sym is)
       (subst (λ schema. works schema Enforced 0 load_table.tree (taken_by s.now.trees edit) edit.news ≡ []) (sym has) refl)) h
 
-  pub inserted : (tally : Tally) (after : Database) → Does s.step_limit (mode_of s) (Text name ∷ []) s.now insert_statement None insert_command (Ok (tally, after))
+  pub inserted : (tally : Tally) (after : Database) → Does s.step_limit (mode_of s) (Text name ∷ []) s.now [] None insert_command (Ok (tally, after))
       → (rows : List Row) → HasRows (s.now.trees load_table.tree) rows → (after.schema ≡ load_schema) × HasRows (after.trees load_table.tree) (load_row name ∷ rows)
   inserted tally after does rows h =
       let db = s.now.trees in
@@ -86,7 +82,7 @@ module _ (s : State) (name : List ℕ) (has : s.now.schema ≡ load_schema) wher
       rw now (has, subst (λ entries. HasRows entries (load_row name ∷ rows)) (sym (a.rows ∙ ap (put_all (db load_table.tree)) news)) put)
 
   -- a load that isn't there yet is added to the loads
-  pub joins : (tally : Tally) (after : Database) → Does s.step_limit (mode_of s) (Text name ∷ []) s.now insert_statement None insert_command (Ok (tally, after))
+  pub joins : (tally : Tally) (after : Database) → Does s.step_limit (mode_of s) (Text name ∷ []) s.now [] None insert_command (Ok (tally, after))
       → (loads : Registered) → AreLoads s.now.trees loads → set.contains loads name ≡ false → (after.schema ≡ load_schema) × AreLoads after.trees (set.insert loads name)
   joins tally after does loads h new =
       let put = inserted tally after does (map load_row h.names) h.rows in
@@ -101,12 +97,12 @@ module _ (s : State) (name : List ℕ) (has : s.now.schema ≡ load_schema) wher
       )
 
 -- where the call succeeds, the connection holds one load more
-module _ {S : Type 0} (g : Ghosts S) (old new : Held S) (name : List ℕ) where
-  pub adds : (r : Result ℕ Error) → Executes insert_text (Text name ∷ []) (state g old) (state g new) r
+module _ {S : Type 0} (g : Ghosts S) (old new : Held S) (name sql : List ℕ) (means : IsInsertion sql) where
+  pub adds : (r : Result ℕ Error) → Executes sql (Text name ∷ []) (state g old) (state g new) r
       → OnOk r ((loads : Registered) → HoldsLoads g old loads → set.contains loads name ≡ false → HoldsLoads g new (set.insert loads name))
   adds (Err e) ran = tt
   adds (Ok count) ran = λ loads h new_name.
-      let w = runs_as insert_text (Text name ∷ []) (state g old) (state g new) load_schema h.schema insert_command insert_is insert_plain count ran in
+      let w = runs_as sql (Text name ∷ []) (state g old) (state g new) load_schema h.schema insert_command means.command means.plain count ran in
       let more = joins (state g old) name h.schema w.tally (state g new).now w.changed loads h.rows new_name in
       record {
         is_open = w.shown.is_open;
@@ -117,14 +113,14 @@ module _ {S : Type 0} (g : Ghosts S) (old new : Held S) (name : List ℕ) where
       }
 
 -- an insertion that fails keeps the loads
-pub insert_fails : {S : Type 0} (g : Ghosts S) (old new : Held S) (params : Row) (r : Result ℕ Error) → Executes insert_text params (state g old) (state g new) r → IsOpen g new
+pub insert_fails : {S : Type 0} (g : Ghosts S) (old new : Held S) (sql : List ℕ) (params : Row) (r : Result ℕ Error) → Executes sql params (state g old) (state g new) r → IsOpen g new
     → OnErr r ((loads : Registered) → HoldsLoads g old loads → HoldsLoads g new loads)
-insert_fails g old new params (Ok count) ran still = tt
-insert_fails g old new params (Err e) ran still = stays g old new (write_fails insert_text params (state g old) (state g new) e ran) still
+insert_fails g old new sql params (Ok count) ran still = tt
+insert_fails g old new sql params (Err e) ran still = stays g old new (write_fails sql params (state g old) (state g new) e ran) still
 
 -- what a crash may leave of it has the new row
-pub insert_commits : {S : Type 0} (g : Ghosts S) (old : Held S) (name : List ℕ) (trees : Trees) → CommitsBy insert_text (Text name ∷ []) (state g old) trees
+pub insert_commits : {S : Type 0} (g : Ghosts S) (old : Held S) (name sql : List ℕ) (means : IsInsertion sql) (trees : Trees) → CommitsBy sql (Text name ∷ []) (state g old) trees
     → (loads : Registered) → HoldsLoads g old loads → set.contains loads name ≡ false → AreLoads trees (set.insert loads name)
-insert_commits g old name trees commits loads h new_name =
-    let it = commits_as insert_text (Text name ∷ []) (state g old) load_schema h.schema insert_command insert_is insert_plain (λ e. cc) (λ n e. cc) trees commits in
+insert_commits g old name sql means trees commits loads h new_name =
+    let it = commits_as sql (Text name ∷ []) (state g old) load_schema h.schema insert_command means.command means.plain (λ e. cc) (λ n e. cc) trees commits in
     subst (λ t. AreLoads t (set.insert loads name)) (sym it.3) (joins (state g old) name h.schema it.0 it.1 it.2 loads h.rows new_name).1

@@ -1,5 +1,6 @@
 pub mod Creating
 pub mod Entries
+pub mod Failing
 pub mod Finding
 pub mod Holding
 pub mod Inserting

@@ -88,6 +88,10 @@ module _ {S : Type 0} (g : Ghosts S) (old mid new : Held S) (name : List ℕ) (c
   abbrev was_clean : IsClean g new → IsClean g mid
   was_clean = earlier_clean g mid new _ saved
 
+  -- the load was to be added
+  pub was_to_add : count < most_loads → IsClean g new → (loads : Registered) → HoldsLoads g old loads → registration loads name ≡ Ok tt
+  was_to_add room clean loads h = let it = found.kept (was_clean clean) loads h in sym (taken loads name it.1 (omega (arith, it.2))).0
+
   -- where the insertion fails, the number stays, and so do the loads
   module _ (failed : IsClean g new → IsOpen g new → (loads : Registered) → HoldsLoads g mid loads → HoldsLoads g new loads) where
     pub fails_counted : IsCounted g new count

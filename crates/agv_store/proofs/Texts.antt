@@ -1,35 +1,20 @@
--- The three texts of SQL, and the command that each of them is.
-use Rattle.std.proofs.Common.{◌≡◌, ℕ, false, List, [], ◌∷◌, codes, Ok, refl, pos, negsuc, None}
-use Rattle.sqlite_value.specs.declared.value.Value.TheVariants.{Null, Text, Int}
+-- The text that looks a load up, and the command that it is.
+use Rattle.std.proofs.Common.{◌≡◌, ℕ, false, List, [], ◌∷◌, codes, refl, pos, negsuc, None}
+use Rattle.sqlite_value.specs.declared.value.Value.TheVariants.{Int}
 use Rattle.sqlite_sql.specs.declared.ops.BinaryOp.TheVariants.{Compare}
 use Rattle.sqlite_sql.specs.declared.ops.CompareOp.TheVariants.{Eq}
 use Rattle.sqlite_sql.specs.Term.{Term, lit, col, op2}
 use Rattle.sqlite_sql.specs.Query.{Query, inner, end}
 use Rattle.sqlite_value.specs.declared.keys.Collation.TheVariants.{Binary}
-use Rattle.sqlite_schema.specs.declared.command.Source.TheVariants.{Values}
 use Rattle.sqlite_schema.specs.declared.command.Command.{Command}
-use Rattle.sqlite_schema.specs.declared.command.Command.TheVariants.{CreateTable, Insert, Select}
-use Rattle.sqlite_resolve.specs.Compile.{table_defined_by}
+use Rattle.sqlite_schema.specs.declared.command.Command.TheVariants.{Select}
 use Rattle.sqlite_tied.specs.Compute.{everything}
 use Rattle.sqlite.specs.Listing.{understood, reads_listing}
-use Rattle.sqlite.proofs.Callers.{IsPlain, command_of, statement_of}
-use Rattle.agv_store.specs.LoadTable.{load_table, no_tables, load_schema}
-
-abbrev pub create_text : List ℕ
-create_text = codes "CREATE TABLE load (id TEXT PRIMARY KEY, kind TEXT NOT NULL, station TEXT, manufacturer TEXT, serial TEXT) STRICT"
-
-abbrev pub insert_text : List ℕ
-insert_text = codes "INSERT INTO load (id, kind, station, manufacturer, serial) VALUES (?1, 'checking', NULL, NULL, NULL)"
+use Rattle.sqlite.proofs.Callers.{IsPlain, command_of}
+use Rattle.agv_store.specs.LoadTable.{load_table, load_schema}
 
 abbrev pub find_text : List ℕ
 find_text = codes "SELECT id FROM load WHERE id = ?1"
-
--- the number of the row, which the database chooses, then the five columns
-abbrev pub insert_terms : List Term
-insert_terms = lit Null ∷ col 0 0 ∷ lit (Text (codes "checking")) ∷ lit Null ∷ lit Null ∷ lit Null ∷ []
-
-abbrev pub insert_command : Command
-insert_command = Insert 0 (Values insert_terms 6)
 
 -- the column id is the parameter
 abbrev pub is_named : Term
@@ -50,22 +35,6 @@ find_query = record {
 
 abbrev pub find_command : Command
 find_command = Select (record { lets = []; body = find_query }) (codes "id" ∷ [])
-
-pub create_is : (command_of (understood no_tables create_text) ≡ CreateTable) × (statement_of create_text (understood no_tables create_text) ≡ create_text) × (table_defined_by create_text ≡ Ok load_table)
-unfolding understood everything
-create_is = (refl, refl, refl)
-
-pub create_plain : IsPlain (understood no_tables create_text)
-unfolding understood everything
-create_plain = (refl, refl)
-
-pub insert_is : command_of (understood load_schema insert_text) ≡ insert_command
-unfolding understood everything
-insert_is = refl
-
-pub insert_plain : IsPlain (understood load_schema insert_text)
-unfolding understood everything
-insert_plain = (refl, refl)
 
 pub find_is : (command_of (understood load_schema find_text) ≡ find_command) × (reads_listing load_schema find_text ≡ false)
 unfolding understood everything

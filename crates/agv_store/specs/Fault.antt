@@ -1,4 +1,5 @@
 -- Which fault of the machine an error of the database is.
+use Rattle.std.specs.Prelude.{◌≡◌}
 use Rattle.sqlite.specs.declared.error.Error.{Error}
 use Rattle.sqlite.specs.declared.error.Error.TheVariants.{SqliteFailure}
 use Rattle.sqlite.specs.declared.error.ErrorCode.TheVariants.{OutOfMemory}
@@ -9,3 +10,7 @@ use Rattle.agv_store.specs.declared.fault.Fault.TheVariants as fault
 abbrev pub fault_of : Error → Fault
 fault_of (SqliteFailure OutOfMemory) = fault.Memory
 fault_of _ = fault.Storage
+
+-- it is a fault of the store
+abbrev pub IsOfStore : Error → Type 0
+IsOfStore error = fault_of error ≡ fault.Storage

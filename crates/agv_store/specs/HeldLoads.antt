@@ -1,5 +1,6 @@
 -- What a connection holds of the registered loads.
-use Rattle.std.specs.Prelude.{◌≡◌, ℕ, false, List, IsTrue}
+use Rattle.std.specs.Prelude.{◌≡◌, ◌⊎◌, ℕ, false, List, IsTrue, IsSome}
+use Rattle.sqlite_disk.specs.Disk.{MoreFaults}
 use Rattle.std.specs.FinSet as set
 use Rattle.sqlite_trees.specs.declared.store.Store.{Ghosts}
 use Rattle.sqlite_trees.specs.Tree.{Trees}
@@ -16,6 +17,10 @@ module _ {S : Type 0} (g : Ghosts S) where
   -- no fault has shut the connection
   abbrev pub IsOpen : Held S → Type 0
   IsOpen held = IsTrue (state g held).is_open
+
+  -- the store failed during the call, a failure before it had shut the connection, or the steps of its queries are limited
+  abbrev pub IsStorageFault : Held S → Held S → Type 0
+  IsStorageFault old new = MoreFaults (state g old).faults (state g new).faults ⊎ (((state g old).is_open ≡ false) ⊎ IsSome (state g old).step_limit)
 
   -- the connection is open and in no transaction, and shows exactly these loads, all of them committed
   pub record HoldsLoads (held : Held S) (loads : Registered) : Type 0 where

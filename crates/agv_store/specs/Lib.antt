@@ -1,4 +1,6 @@
+pub mod Creation
 pub mod Fault
 pub mod HeldLoads
 pub mod LoadTable
+pub mod NewRow
 pub mod Registered

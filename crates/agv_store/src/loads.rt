@@ -1,11 +1,12 @@
 //! The registered loads, over a connection to the database.
-ghost use Rattle.std.specs.Prelude.{◌≡◌, false, IfOk, OnOk, OnErr};
+ghost use Rattle.std.specs.Prelude.{◌≡◌, ◌⊎◌, false, IfOk, IfErr, OnOk, OnErr};
 ghost use Rattle.std.specs.FinSet as set;
 ghost use Rattle.sqlite.specs.State.{Survives};
 ghost use Rattle.sqlite.specs.Held.{state};
 ghost use Rattle.agv_store.specs.Registered.{Registered, no_loads, registration, registered};
 ghost use Rattle.agv_store.specs.LoadTable.{no_tables, AreLoads};
-ghost use Rattle.agv_store.specs.HeldLoads.{IsClean, IsOpen, HoldsLoads, HoldsSome, HoldsNothing, KeepsLoads, AreRegistered};
+ghost use Rattle.agv_store.specs.NewRow.{IsRowRefused};
+ghost use Rattle.agv_store.specs.HeldLoads.{IsClean, IsOpen, IsStorageFault, HoldsLoads, HoldsSome, HoldsNothing, KeepsLoads, AreRegistered};
 
 use crate::Fault;
 use crate::statements::{create_table, find_load, insert_load};
@@ -61,6 +62,10 @@ impl<S: Alter + Drop> Loads<S> {
     /// loads are registered; then nothing changes. Nor does anything after a `Fault` that leaves
     /// the store open. A crash leaves the rows before the call or those after it.
     ///
+    /// `Fault::Storage` comes only where the store failed during the call, a failure before it had
+    /// shut the connection, the connection limits the steps of its queries, or SQL itself refuses
+    /// the row of a load that is to be added, as where no number is left for it.
+    ///
     /// The look-up and the insertion go by the table's key, so their time grows only with the
     /// depth of its tree.
     pub fn register(&mut self, name: Name) -> Result<Result<(), Refusal>, Fault>
@@ -74,6 +79,8 @@ impl<S: Alter + Drop> Loads<S> {
         ensures held { IsClean S.Store self.new → OnOk result (HoldsSome S.Store self.old) }
         ensures failed { IsClean S.Store self.new → IsOpen S.Store self.new
             → OnErr result (KeepsLoads S.Store self.old self.new) }
+        ensures caused { IsClean S.Store self.new → IfErr result (λ fault. fault ≡ Fault.Storage
+            → IsStorageFault S.Store self.old self.new ⊎ IsRowRefused S.Store self.old self.new name) }
         ensures survives { Survives (state S.Store self.old) (state S.Store self.new)
             (AreRegistered S.Store self.old name) }
     {
@@ -89,6 +96,9 @@ impl<S: Alter + Drop> Loads<S> {
     }
 
     /// Whether a load of that name is registered. Nothing changes.
+    ///
+    /// `Fault::Storage` comes only where the store failed during the call, a failure before it had
+    /// shut the connection, or the connection limits the steps of its queries.
     pub fn known(&mut self, name: Name) -> Result<bool, Fault>
         ensures clean { IsClean S.Store self.new → IsClean S.Store self.old }
         ensures answers { IsClean S.Store self.new → IfOk result (λ yes.
@@ -99,6 +109,8 @@ impl<S: Alter + Drop> Loads<S> {
         ensures held { IsClean S.Store self.new → OnOk result (HoldsSome S.Store self.old) }
         ensures failed { IsClean S.Store self.new → IsOpen S.Store self.new
             → OnErr result (KeepsLoads S.Store self.old self.new) }
+        ensures caused { IsClean S.Store self.new → IfErr result (λ fault. fault ≡ Fault.Storage
+            → IsStorageFault S.Store self.old self.new) }
         ensures survives { Survives (state S.Store self.old) (state S.Store self.new)
             (λ _. HoldsNothing S.Store self.old) }
     {

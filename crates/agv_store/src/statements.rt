@@ -1,13 +1,22 @@
 //! The statements of SQL on the table `load`, each in one call of the database.
-ghost use Rattle.std.specs.Prelude.{◌≡◌, ◌==◌, false, not, vec_len, IfOk, OnOk, OnErr};
+ghost use Rattle.std.specs.Prelude.{◌≡◌, ◌⊎◌, ◌==◌, false, not, vec_len, IfOk, OnOk, OnErr, IfErr};
 ghost use Rattle.std.specs.FinSet as set;
 ghost use Rattle.sqlite.specs.State.{Survives};
 ghost use Rattle.sqlite.specs.Held.{state};
 ghost use Rattle.agv_store.specs.Registered.{Registered, no_loads};
 ghost use Rattle.agv_store.specs.LoadTable.{no_tables, AreLoads};
-ghost use Rattle.agv_store.specs.HeldLoads.{IsClean, IsOpen, HoldsLoads, HoldsNothing, KeepsLoads};
+ghost use Rattle.agv_store.specs.Fault.{IsOfStore};
+ghost use Rattle.agv_store.specs.Creation.{IsCreation};
+ghost use Rattle.agv_store.specs.NewRow.{IsInsertion, RefusesRow};
+ghost use Rattle.agv_store.specs.HeldLoads.{IsClean, IsOpen, IsStorageFault, HoldsLoads, HoldsNothing, KeepsLoads};
 
 use sqlite::{Alter, Connection, Error, Row, params};
+
+fn creation() -> &'static str
+    ensures { IsCreation result.now }
+{
+    "CREATE TABLE load (id TEXT PRIMARY KEY, kind TEXT NOT NULL, station TEXT, manufacturer TEXT, serial TEXT) STRICT"
+}
 
 /// Makes the table.
 pub(crate) fn create_table<S: Alter>(conn: &mut Connection<S>) -> Result<usize, Error>
@@ -17,10 +26,13 @@ pub(crate) fn create_table<S: Alter>(conn: &mut Connection<S>) -> Result<usize, 
     ensures survives { Survives (state S.Store conn.old) (state S.Store conn.new)
         (λ trees. AreLoads trees no_loads) }
 {
-    conn.execute(
-        "CREATE TABLE load (id TEXT PRIMARY KEY, kind TEXT NOT NULL, station TEXT, manufacturer TEXT, serial TEXT) STRICT",
-        &[],
-    )
+    conn.execute(creation(), &[])
+}
+
+fn insertion() -> &'static str
+    ensures { IsInsertion result.now }
+{
+    "INSERT INTO load (id, kind, station, manufacturer, serial) VALUES (?1, 'checking', NULL, NULL, NULL)"
 }
 
 /// Adds the row of a load at the checking place.
@@ -30,14 +42,14 @@ pub(crate) fn insert_load<S: Alter>(conn: &mut Connection<S>, name: &str) -> Res
         → HoldsLoads S.Store conn.new (set.insert loads name.now)) }
     ensures failed { IsClean S.Store conn.new → IsOpen S.Store conn.new
         → OnErr result (KeepsLoads S.Store conn.old conn.new) }
+    ensures caused { IsClean S.Store conn.new → IfErr result (λ e. IsOfStore e
+        → (loads : Registered) → HoldsLoads S.Store conn.old loads
+        → IsStorageFault S.Store conn.old conn.new ⊎ RefusesRow S.Store conn.new name.now) }
     ensures survives { Survives (state S.Store conn.old) (state S.Store conn.new)
         (λ trees. (loads : Registered) → HoldsLoads S.Store conn.old loads
         → set.contains loads name.now ≡ false → AreLoads trees (set.insert loads name.now)) }
 {
-    conn.execute(
-        "INSERT INTO load (id, kind, station, manufacturer, serial) VALUES (?1, 'checking', NULL, NULL, NULL)",
-        params![name],
-    )
+    conn.execute(insertion(), params![name])
 }
 
 /// The row of the load of that name, or no row.
@@ -47,6 +59,9 @@ pub(crate) fn find_load<S: Alter>(conn: &mut Connection<S>, name: &str) -> Resul
         → (vec_len rows == 0) ≡ not (set.contains loads name.now)) }
     ensures kept { IsClean S.Store conn.new → IsOpen S.Store conn.new
         → KeepsLoads S.Store conn.old conn.new }
+    ensures caused { IsClean S.Store conn.new → IfErr result (λ e. IsOfStore e
+        → (loads : Registered) → HoldsLoads S.Store conn.old loads
+        → IsStorageFault S.Store conn.old conn.new) }
     ensures was_open { IsClean S.Store conn.new → IsOpen S.Store conn.new → IsOpen S.Store conn.old }
     ensures still_open { IsClean S.Store conn.new → OnOk result (IsOpen S.Store conn.new) }
     ensures survives { Survives (state S.Store conn.old) (state S.Store conn.new)

@@ -4,8 +4,8 @@ use Rattle.agv_store.proofs.statements.create_table.Goals as goal
 
 pub returns-clause-created : goal.returns-clause-created
 returns-clause-created g c clean =
-    creates g.S.Store c.args.conn.now c.execute.new.self c.requires.idle c.requires.blank c.execute.result (c.execute.ensures.runs clean)
+    creates g.S.Store _ c.creation.ensures c.args.conn.now c.execute.new.self c.requires.idle c.requires.blank c.execute.result (c.execute.ensures.runs clean)
 
 pub returns-clause-survives : goal.returns-clause-survives
 returns-clause-survives g c =
-    survives_weaker _ _ _ _ (λ _ trees. create_commits g.S.Store c.args.conn.now c.requires.blank trees) c.execute.ensures.survives
+    survives_weaker _ _ _ _ (λ _ trees. create_commits g.S.Store _ c.creation.ensures c.args.conn.now c.requires.blank trees) c.execute.ensures.survives

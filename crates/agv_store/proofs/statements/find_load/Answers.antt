@@ -3,6 +3,7 @@ use Rattle.sqlite_value.specs.declared.value.Value.TheVariants.{Text}
 use Rattle.sqlite.specs.Values.{bound, bound_value}
 use Rattle.sqlite.proofs.StateLemmas.{survives_weaker}
 use Rattle.agv_store.proofs.Finding.{finds, find_keeps, find_was_open, find_still_open, find_commits}
+use Rattle.agv_store.proofs.Failing.{finding_caused}
 use Rattle.agv_store.proofs.statements.find_load.Goals as goal
 
 pub returns-clause-found : goal.returns-clause-found
@@ -22,3 +23,9 @@ returns-clause-still_open g c clean = find_still_open g.S.Store c.args.conn.now 
 
 pub returns-clause-survives : goal.returns-clause-survives
 returns-clause-survives g c = survives_weaker _ _ _ _ (λ _ trees. find_commits g.S.Store c.args.conn.now _ trees) c.query_all.ensures.survives
+
+pub returns-clause-caused : goal.returns-clause-caused
+returns-clause-caused g c clean =
+    let name = c.args.name.now in
+    let given : bound (c.params-to_sql.result ∷ []) ≡ Text name ∷ [] = ap (λ v. bound_value v ∷ []) c.params-to_sql.ensures in
+    finding_caused g.S.Store c.args.conn.now c.query_all.new.self name _ given c.query_all.result (c.query_all.ensures.err clean)

@@ -2,8 +2,9 @@ use Rattle.std.proofs.Common.{not, sym, ap, subst, ◌∙◌}
 use Rattle.std.specs.FinSet as set
 use Rattle.sqlite.specs.Held.{state}
 use Rattle.sqlite.specs.State.{Survives}
-use Rattle.agv_store.specs.HeldLoads.{HoldsLoads, HoldsNothing}
+use Rattle.agv_store.specs.HeldLoads.{IsStorageFault, HoldsLoads, HoldsNothing}
 use Rattle.agv_store.proofs.Registering.{earlier_clean, still_counted, on_err, not_not}
+use Rattle.agv_store.proofs.Failing.{fault_caused, counted_caused}
 use Rattle.agv_store.proofs.loads.Loads.known.Goals as goal
 
 pub invariant_of-self : goal.invariant_of-self
@@ -40,3 +41,9 @@ returns-clause-held g c clean =
 pub returns-clause-survives : goal.returns-clause-survives
 returns-clause-survives g c =
     subst (λ held. Survives (state g.S.Store held) (state g.S.Store c.find_load.new.conn) (λ _. HoldsNothing g.S.Store held)) c.self.view_is c.find_load.ensures.survives
+
+pub returns-in_err-rows-clause-caused : goal.returns-in_err-rows-clause-caused
+returns-in_err-rows-clause-caused g c clean =
+    let was = earlier_clean g.S.Store c.self.inside.conn c.find_load.new.conn _ c.find_load.ensures.survives clean in
+    fault_caused c.from_residual.result c.in_err-rows.field-0.0 c.from_residual.ensures.1 (λ stored. subst (λ held. IsStorageFault g.S.Store held c.find_load.new.conn) c.self.view_is
+    (counted_caused g.S.Store c.self.inside.conn c.find_load.new.conn c.self.inside.count c.self.invariant was (c.in_err-rows.ensures.caused clean stored)))
