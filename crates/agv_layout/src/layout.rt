@@ -40,7 +40,8 @@ impl Model for Layout {
 fn copy_edges(edges: &BTreeMap<Name, Ends>) -> Result<BTreeMap<Name, Ends>, Memory>
     ensures { IfOk result (λ copy. copy.entries ≡ edges.now.entries) }
 {
-    Ok(edges.clone()?)
+    let copy = edges.clone()?;
+    Ok(copy)
 }
 
 impl Layout {
