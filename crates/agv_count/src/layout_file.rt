@@ -1,5 +1,6 @@
 //! The layout file.
-ghost use Rattle.std.specs.Prelude.{◌≡◌, ◌∷◌, [], Err, IfOk, None, Some, map};
+ghost use Rattle.std.specs.Prelude.{◌≡◌, ◌∷◌, ◌++◌, [], ◌&&◌, ◌==◌, Err, IfOk, OnOk, None, Some, codes, length, map, option_map};
+ghost use Rattle.std.specs.Str.{bytes_eq};
 ghost use Rattle.csv.specs.Records.{fields_of};
 ghost use Rattle.agv_count.specs.LayoutFile.{edge_in, is_header, layout_in, node_in, row_in, rows_in, station_in};
 ghost use Rattle.agv_count.specs.Records.{each};
@@ -11,11 +12,18 @@ use agv_layout::LayoutRow;
 use csv::ByteRecord;
 use std::alloc::Global;
 
+/// Whether a record has nothing after its id.
+fn are_empty(from: &[u8], to: &[u8]) -> bool
+    ensures { result ≡ (length from.now == 0 && length to.now == 0) }
+{
+    from.is_empty() && to.is_empty()
+}
+
 #[tactic(auto, unfolding(crate::specs::LayoutFile::node_in))]
 fn node(fields: Fields<'_>) -> Option<LayoutRow>
     ensures { result ≡ node_in fields.entry.id.now fields.entry.from.now fields.entry.to.now }
 {
-    if !fields.from.is_empty() || !fields.to.is_empty() {
+    if !are_empty(fields.from, fields.to) {
         return None;
     }
     Some(LayoutRow::Node {
@@ -45,13 +53,19 @@ fn station(fields: Fields<'_>) -> Option<LayoutRow>
     })
 }
 
+fn is_node(kind: &[u8]) -> bool
+    ensures { result ≡ bytes_eq kind.now (codes "node") }
+{
+    kind == b"node".as_slice()
+}
+
 /// The row that a record says.
 #[tactic(auto, unfolding(crate::specs::LayoutFile::row_in))]
 fn row(raw: &ByteRecord) -> Option<LayoutRow>
     ensures { result ≡ row_in (fields_of raw.now) }
 {
     let fields = Fields::of(raw)?;
-    if fields.kind == b"node".as_slice() {
+    if is_node(fields.kind) {
         node(fields)
     } else if fields.kind == b"edge".as_slice() {
         edge(fields)
@@ -73,6 +87,15 @@ fn is_header(raw: &ByteRecord) -> bool
     })
 }
 
+/// Adds the row that a record says.
+fn add_row(rows: &mut Vec<LayoutRow>, raw: &ByteRecord) -> Result<(), CsvFault>
+    ensures ok { OnOk result (option_map (λ row. rows.old.items ++ row ∷ []) (row_in (fields_of raw.now)) ≡ Some rows.new.items) }
+    ensures bad { result ≡ Err CsvFault.BadCsv → row_in (fields_of raw.now) ≡ None }
+{
+    rows.push(row(raw).ok_or(CsvFault::BadCsv)?)?;
+    Ok(())
+}
+
 /// The rows that the records say, in order.
 fn rows(alloc: Global, records: &[ByteRecord]) -> Result<Vec<LayoutRow>, CsvFault>
     ensures ok { IfOk result (λ rows. each row_in (map fields_of records.now) ≡ Some rows.items) }
@@ -80,7 +103,7 @@ fn rows(alloc: Global, records: &[ByteRecord]) -> Result<Vec<LayoutRow>, CsvFaul
 {
     let mut rows = Vec::new(alloc);
     for record in records {
-        rows.push(row(record).ok_or(CsvFault::BadCsv)?)?;
+        add_row(&mut rows, record)?;
     }
     Ok(rows)
 }

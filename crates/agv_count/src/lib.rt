@@ -16,6 +16,3 @@ mod records;
 
 pub use fault::CsvFault;
 pub use layout_file::read_layout;
-
-#[cfg(test)]
-mod tests;

@@ -3,7 +3,6 @@ mod Drafts
 mod Followed
 mod Joined
 mod Levels
-mod Listed
 mod Maps
 mod Nearest
 mod Noted

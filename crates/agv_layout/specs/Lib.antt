@@ -3,7 +3,6 @@ pub mod Code
 pub mod Draft
 pub mod Layout
 pub mod Levels
-pub mod Listing
 pub mod Rows
 pub mod Shown
 pub mod Walk

@@ -28,9 +28,10 @@ fn add_arrival(alloc: Global, arrivals: &mut Arrivals, ends: Ends) -> Result<(),
     ensures { OnOk result ((start finish : NameOf) → leads arrivals.new start finish
         ≡ (leads arrivals.old start finish || (tree.is_at (name_cmp ends.finish) finish && tree.is_at (name_cmp ends.start) start))) }
 {
-    let mut starts = arrivals.remove(&ends.finish).unwrap_or(Vec::new(alloc));
-    starts.push(ends.start)?;
-    arrivals.insert(ends.finish, starts)?;
+    let Ends { start, finish } = ends;
+    let mut starts = arrivals.remove(&finish).unwrap_or(Vec::new(alloc));
+    starts.push(start)?;
+    arrivals.insert(finish, starts)?;
     Ok(())
 }
 

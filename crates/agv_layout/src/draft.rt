@@ -1,5 +1,6 @@
 //! What is read of a layout's rows before it is known whether they give a layout.
-ghost use Rattle.std.specs.Prelude.{◌≡◌, ◌↔◌, not, [], Err, IsTrue, IfOk, IfErr, OnOk};
+ghost use Rattle.std.specs.Prelude.{◌≡◌, ◌↔◌, ◌&&◌, not, nat_eq, nat_le, [], Err, IsTrue, IfOk, IfErr, OnOk};
+ghost use Rattle.std.specs.Cmp.Lexicographic.{pointwise};
 ghost use Rattle.agv_layout.specs.declared.fault.LayoutFault.TheVariants as fault;
 ghost use Rattle.agv_layout.specs.Draft.{drawn, plan_of, has_id, with_row, leads, stands, HasNode, AllLead, AllStand, IsWhole};
 ghost use Rattle.agv_layout.specs.Rows.{IsEachOnce};
@@ -8,6 +9,20 @@ use crate::{Ends, LayoutFault, LayoutRow, Spot};
 use agv_header::Name;
 use std::alloc::Global;
 use std::collections::{BTreeMap, BTreeSet};
+
+/// Whether an edge finishes elsewhere than it starts.
+fn is_no_loop(ends: Ends) -> bool
+    ensures { result ≡ not (pointwise nat_eq ends.start ends.finish) }
+{
+    ends.start != ends.finish
+}
+
+/// Whether a station may have room for so many loads.
+fn is_capacity(capacity: u32) -> bool
+    ensures { result ≡ (nat_le 1 capacity && nat_le capacity 999) }
+{
+    (1..=999).contains(&capacity)
+}
 
 /// The nodes, edges and stations of rows, each id once in its kind.
 #[derive(Drop)]
@@ -61,7 +76,6 @@ impl Draft {
         Ok(draft)
     }
 
-    #[tactic(auto, using(crate::proofs::Drafts::some_decides))]
     fn has_node(&self) -> bool
         ensures { IsTrue result ↔ HasNode (drawn self.now) }
     {
@@ -71,15 +85,13 @@ impl Draft {
     fn leads(&self, ends: Ends) -> bool
         ensures { result ≡ leads self.now ends }
     {
-        self.nodes.contains(&ends.start)
-            && self.nodes.contains(&ends.finish)
-            && ends.start != ends.finish
+        self.nodes.contains(&ends.start) && self.nodes.contains(&ends.finish) && is_no_loop(ends)
     }
 
     fn stands(&self, spot: Spot) -> bool
         ensures { result ≡ stands self.now spot }
     {
-        self.nodes.contains(&spot.node) && (1..=999).contains(&spot.capacity)
+        self.nodes.contains(&spot.node) && is_capacity(spot.capacity)
     }
 
     fn edges_lead(&self) -> bool

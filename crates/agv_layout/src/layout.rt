@@ -36,6 +36,14 @@ impl Model for Layout {
     ghost invariant = { λ layout. KeepsRules (shown layout) };
 }
 
+/// The edges again.
+fn copy_edges(edges: &BTreeMap<Name, Ends>) -> Result<BTreeMap<Name, Ends>, Memory>
+    ensures { IfOk result (λ copy. copy.entries ≡ edges.now.entries) }
+{
+    let copy = edges.clone()?;
+    Ok(copy)
+}
+
 impl Layout {
     /// The layout that the rows give, in whatever order they are.
     ///
@@ -82,7 +90,7 @@ impl Layout {
     {
         Ok(Layout {
             nodes: self.nodes.clone()?,
-            edges: self.edges.clone()?,
+            edges: copy_edges(&self.edges)?,
             stations: self.stations.clone()?,
         })
     }

@@ -23,12 +23,3 @@ pub use fault::LayoutFault;
 pub use layout::Layout;
 pub use row::LayoutRow;
 pub use station::{Spot, Station};
-
-#[cfg(test)]
-mod listing;
-#[cfg(test)]
-mod route_tests;
-#[cfg(test)]
-mod test_rows;
-#[cfg(test)]
-mod tests;

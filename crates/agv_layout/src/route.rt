@@ -78,6 +78,13 @@ fn follow(alloc: Global, ways: &Ways, from: Name, hops: u32) -> Result<Vec<Name>
     Ok(ids)
 }
 
+/// How many edges it takes from a node.
+fn hops_from(distances: &Distances, from: Name) -> Option<u32>
+    ensures { result ≡ tree.get name_cmp distances.now from }
+{
+    distances.get(&from).copied()
+}
+
 impl Layout {
     /// The least number of edges of a walk from one node to another: none where no walk leads there,
     /// and so where one of the names is unknown; 0 from a node to itself.
@@ -91,7 +98,7 @@ impl Layout {
             return Ok(None);
         }
         let distances = distances_to(alloc, &self.nodes, &self.edges, to)?;
-        Ok(distances.get(&from).copied())
+        Ok(hops_from(&distances, from))
     }
 
     /// The way from one node to another, as the names of its edges: of all walks of least length the
@@ -107,7 +114,7 @@ impl Layout {
             return Ok(None);
         }
         let distances = distances_to(alloc, &self.nodes, &self.edges, to)?;
-        let Some(hops) = distances.get(&from).copied() else {
+        let Some(hops) = hops_from(&distances, from) else {
             return Ok(None);
         };
         let ways = first_ways(alloc, &self.edges, &distances)?;

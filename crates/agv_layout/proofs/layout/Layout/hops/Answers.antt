@@ -22,7 +22,7 @@ distances_to-requires-clause-starts c = λ id ends e. sym (contains-shown c.self
 pub returns : goal.returns
 returns c = record {
   hops =
-      subst (λ (l : Layout). IsHops l c.args.from c.args.to c.copied.result) c.self.view_is
-      (subst (IsHops _ c.args.from c.args.to) (sym (c.copied.ensures ∙ c.get.ensures.value))
+      subst (λ (l : Layout). IsHops l c.args.from c.args.to c.hops_from.result) c.self.view_is
+      (subst (IsHops _ c.args.from c.args.to) (sym c.hops_from.ensures)
       (IsHops-distances c.self.inside c.args.to (contains-shown c.self.inside.nodes.keys c.args.to ∙ sym c.if-not-contains.ensures) c.in_ok-distances.distances c.in_ok-distances.ensures c.args.from));
 }

@@ -1,10 +1,16 @@
-use Rattle.std.proofs.Common.{sym, subst}
+use Rattle.std.proofs.Common.{refl, sym, subst}
 use Rattle.std.proofs.lemmas.Bool.{iff_false}
 use Rattle.agv_layout.specs.Draft.{IsWhole}
 use Rattle.agv_layout.specs.Layout.{KeepsRules}
 use Rattle.agv_layout.specs.Rows.{IsLayoutOf}
 use Rattle.agv_layout.proofs.Sound.{layout_of, sound_from, whole_from, plan_from}
 use Rattle.agv_layout.proofs.layout.Layout.of_rows.Goals as goal
+
+pub returns-then-are_over_limit-clause-limit : goal.returns-then-are_over_limit-clause-limit
+returns-then-are_over_limit-clause-limit c = (λ _. c.are_over_limit.ensures.0 c.if-are_over_limit.true, λ _. refl)
+
+pub returns-then-are_over_limit-clause-bad : goal.returns-then-are_over_limit-clause-bad
+returns-then-are_over_limit-clause-bad c = λ e. absurd (cc e)
 
 pub returns-then-not-is_whole-clause-bad : goal.returns-then-not-is_whole-clause-bad
 returns-then-not-is_whole-clause-bad c _ =

@@ -24,7 +24,7 @@ distances_to-requires-clause-starts c = λ id ends e. sym (contains-shown c.self
 pub returns-in_default : goal.returns-in_default
 returns-in_default c =
     let known = contains-shown c.self.inside.nodes.keys c.args.to ∙ sym c.if-not-contains.ensures in
-    let none : get name_cmp c.in_ok-distances.distances c.args.from ≡ None = sym (c.copied.ensures ∙ c.get.ensures.value) ∙ c.in_default.is in
+    let none : get name_cmp c.in_ok-distances.distances c.args.from ≡ None = sym c.hops_from.ensures ∙ c.in_default.is in
     record {
       route =
           subst (λ (l : Layout). IsCutOff l c.args.from c.args.to) c.self.view_is
@@ -34,7 +34,7 @@ returns-in_default c =
 pub returns : goal.returns
 returns c =
     let known = contains-shown c.self.inside.nodes.keys c.args.to ∙ sym c.if-not-contains.ensures in
-    let far : get name_cmp c.in_ok-distances.distances c.args.from ≡ Some c.in-Some.hops = sym (c.copied.ensures ∙ c.get.ensures.value) ∙ c.in-Some.is in
+    let far : get name_cmp c.in_ok-distances.distances c.args.from ≡ Some c.in-Some.hops = sym c.hops_from.ensures ∙ c.in-Some.is in
     record {
       route =
           subst (λ (l : Layout). IsRoute l c.args.from c.args.to c.in_ok-follow.field-0.items) c.self.view_is

@@ -1,13 +1,14 @@
 -- The way to go, by the list of all walks: which walks there are, and which of them is the first.
 use Rattle.std.specs.Prelude.{◌≡◌, ◌⊎◌, ℕ, zero, suc, ◌<◌, Bool, cond, ◌&&◌, nat_eq, List, [], ◌∷◌, map, length, Contains, Option, None, Some}
+use Rattle.std.specs.FinSet as set
 use Rattle.std.specs.List.{flat_map}
 use Rattle.std.specs.Ordering.{is_lt}
 use Rattle.std.specs.Cmp.Lexicographic.{slice_cmp, pointwise}
-use Rattle.std.specs.BTreeMap.{BTreeMap}
-use Rattle.std.specs.BTreeSet.{BTreeSet, contains}
 use Rattle.std.specs.declared.vec.Vec.{Vec}
 use Rattle.agv_header.specs.Name.{name_cmp}
-use Rattle.agv_layout.specs.declared.edge.Ends.{Ends}
+use Rattle.agv_layout.specs.declared.edge.Edge.{Edge}
+use Rattle.agv_layout.specs.declared.row.LayoutRow.{LayoutRow}
+use Rattle.agv_layout.specs.declared.row.LayoutRow.TheVariants as row
 use Rattle.agv_layout.specs.Layout.{Layout, Name}
 use Rattle.agv_layout.specs.Walk.{IsWalk, IsBefore, IsRoute}
 
@@ -19,14 +20,25 @@ module _ {A : Type 0} where
   abbrev pub names_of : {B : Type 0} → Vec (Vec Name A) B → List (List Name)
   names_of walks = names_in walks.items
 
--- the rest of a walk with an edge before it, if the edge starts at the node
-abbrev pub onto : Name → (Name → List (List Name)) → Name × Ends → List (List Name)
-onto from rests edge = cond (pointwise nat_eq edge.1.start from) (map (λ ids. edge.0 ∷ ids) (rests edge.1.finish)) []
+-- the edge, if the row is one that starts at the node
+abbrev pub edge_from : Name → LayoutRow → Option Edge
+edge_from from (row.Node id) = None
+edge_from from (row.Edge id start finish) = cond (pointwise nat_eq start from) (Some (record { id = id; start = start; finish = finish })) None
+edge_from from (row.Station id node capacity) = None
+
+-- the rest of a walk with an edge before it
+abbrev pub before : (Name → List (List Name)) → Option Edge → List (List Name)
+before rests None = []
+before rests (Some edge) = map (λ ids. edge.id ∷ ids) (rests edge.finish)
+
+-- the rest of a walk with an edge before it, if the row is one that starts at the node
+abbrev pub onto : Name → (Name → List (List Name)) → LayoutRow → List (List Name)
+onto from rests row = before rests (edge_from from row)
 
 -- all walks of so many edges
-abbrev pub listed : BTreeSet Name → BTreeMap Name Ends → Name → ℕ → Name → List (List Name)
-listed nodes edges to zero from = cond (contains name_cmp nodes from && pointwise nat_eq from to) ([] ∷ []) []
-listed nodes edges to (suc n) from = flat_map (onto from (listed nodes edges to n)) edges.entries
+abbrev pub listed : Layout → List LayoutRow → Name → ℕ → Name → List (List Name)
+listed layout rows to zero from = cond (set.contains layout.nodes from && pointwise nat_eq from to) ([] ∷ []) []
+listed layout rows to (suc n) from = flat_map (onto from (listed layout rows to n)) rows
 
 abbrev pub is_before : List Name → List Name → Bool
 is_before ids others = is_lt (slice_cmp name_cmp ids others)

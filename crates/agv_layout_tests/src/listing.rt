@@ -1,16 +1,14 @@
 //! The way to go, found the plain way: all walks are listed, and of the shortest the first is taken.
-//! The tests compare `route` with it.
-ghost use Rattle.std.specs.Prelude.{◌≡◌, ◌↔◌, ◌<◌, ◌++◌, ◌∷◌, List, Contains, length, map, option_map, IfOk, OnOk};
-ghost use Rattle.std.specs.BTreeMap as tree;
-ghost use Rattle.agv_header.specs.Name.{name_cmp};
+//! The tests compare `Layout::route` with it.
+ghost use Rattle.std.specs.Prelude.{◌≡◌, ◌↔◌, ◌++◌, ◌∷◌, List, Contains, length, map, option_map, IfOk, OnOk};
 ghost use Rattle.agv_layout.specs.Layout.{Name as NameOf};
-ghost use Rattle.agv_layout.specs.Listing.{names_of, listed, is_before, sooner, IsFirstOf, IsWayWithin};
+ghost use Rattle.agv_layout.specs.Rows.{nodes_in, IsLayoutOf};
 ghost use Rattle.agv_layout.specs.Walk.{IsWalk, IsWayTo};
+ghost use Rattle.agv_layout_tests.specs.Listing.{names_of, edge_from, listed, is_before, sooner, IsFirstOf, IsWayWithin};
 
-use crate::{Ends, Layout};
 use agv_header::{Memory, Name};
+use agv_layout::{Edge, Layout, LayoutRow};
 use std::alloc::Global;
-use std::collections::{BTreeMap, BTreeSet};
 
 /// A walk, as the names of its edges.
 type Walk = Vec<Name>;
@@ -26,32 +24,44 @@ fn add_onto(all: &mut Vec<Walk>, id: Name, rests: Vec<Walk>) -> Result<(), Memor
     Ok(())
 }
 
+/// The edge that the row is, if it is one that starts here.
+fn edge_from(row: LayoutRow, from: Name) -> Option<Edge>
+    ensures { result ≡ edge_from from row }
+{
+    let LayoutRow::Edge { id, start, finish } = row else {
+        return None;
+    };
+    if start != from {
+        return None;
+    }
+    Some(Edge { id, start, finish })
+}
+
 /// All walks of so many edges: for each edge that starts here, all walks of one edge less from
 /// its finish.
 fn listed(
     alloc: Global,
-    nodes: &BTreeSet<Name>,
-    edges: &BTreeMap<Name, Ends>,
+    layout: &Layout,
+    rows: &[LayoutRow],
     from: Name,
     to: Name,
-    len: u32,
+    len: usize,
 ) -> Result<Vec<Walk>, Memory>
-    ensures listed { IfOk result (λ walks. names_of walks ≡ listed nodes.now edges.now to len from) }
-    ensures ordered { 0 < len → tree.IsOrdered name_cmp edges.now }
+    ensures { IfOk result (λ walks. names_of walks ≡ listed layout.now rows.now to len from) }
 {
     let mut all = Vec::new(alloc);
     if len == 0 {
-        if nodes.contains(&from) && from == to {
+        if layout.node(from) && from == to {
             all.push(Vec::new(alloc))?;
         }
         return Ok(all);
     }
-    for (id, ends) in edges {
-        if ends.start != from {
+    for row in rows {
+        let Some(edge) = edge_from(*row, from) else {
             continue;
-        }
-        let rests = listed(alloc, nodes, edges, ends.finish, to, len - 1)?;
-        add_onto(&mut all, *id, rests)?;
+        };
+        let rests = listed(alloc, layout, rows, edge.finish, to, len - 1)?;
+        add_onto(&mut all, edge.id, rests)?;
     }
     Ok(all)
 }
@@ -60,13 +70,15 @@ fn listed(
 fn walks(
     alloc: Global,
     layout: &Layout,
+    rows: &[LayoutRow],
     from: Name,
     to: Name,
-    len: u32,
+    len: usize,
 ) -> Result<Vec<Walk>, Memory>
-    ensures all { IfOk result (λ walks. (ids : List NameOf) → Contains (names_of walks) ids ↔ (IsWalk layout.now from ids to × (length ids ≡ len))) }
+    requires { IsLayoutOf rows.now layout.now }
+    ensures { IfOk result (λ walks. (ids : List NameOf) → Contains (names_of walks) ids ↔ (IsWalk layout.now from ids to × (length ids ≡ len))) }
 {
-    listed(alloc, &layout.nodes, &layout.edges, from, to, len)
+    listed(alloc, layout, rows, from, to, len)
 }
 
 /// Whether one list of names comes before another.
@@ -102,19 +114,36 @@ fn first_of(walks: Vec<Walk>) -> Option<Walk>
 fn way_within(
     alloc: Global,
     layout: &Layout,
+    rows: &[LayoutRow],
     from: Name,
     to: Name,
-    most: u32,
+    most: usize,
 ) -> Result<Option<Walk>, Memory>
+    requires { IsLayoutOf rows.now layout.now }
     ensures { IfOk result (λ way. IsWayWithin layout.now from to most (option_map (λ ids. ids.items) way)) }
 {
     for len in 0..=most {
-        let first = first_of(walks(alloc, layout, from, to, len)?);
+        let first = first_of(walks(alloc, layout, rows, from, to, len)?);
         if first.is_some() {
             return Ok(first);
         }
     }
     Ok(None)
+}
+
+/// How many of the rows are nodes.
+fn count_nodes(rows: &[LayoutRow]) -> usize
+    ensures { result ≡ length (nodes_in rows.now) }
+{
+    let mut nodes: usize = 0;
+    for row in rows {
+        match row {
+            LayoutRow::Node { .. } => nodes += 1,
+            LayoutRow::Edge { .. } => {}
+            LayoutRow::Station { .. } => {}
+        }
+    }
+    nodes
 }
 
 /// The way from one node to another: a walk that no walk is shorter than, and that is the first of
@@ -124,10 +153,13 @@ fn way_within(
 pub(crate) fn way(
     alloc: Global,
     layout: &Layout,
+    rows: &[LayoutRow],
     from: Name,
     to: Name,
 ) -> Result<Option<Walk>, Memory>
-    ensures way { IfOk result (λ way. IsWayTo layout.now from to (option_map (λ ids. ids.items) way)) }
+    requires { IsLayoutOf rows.now layout.now }
+    ensures { IfOk result (λ way. IsWayTo layout.now from to (option_map (λ ids. ids.items) way)) }
 {
-    way_within(alloc, layout, from, to, layout.nodes.len() as u32)
+    layout.keeps_rules();
+    way_within(alloc, layout, rows, from, to, count_nodes(rows))
 }
