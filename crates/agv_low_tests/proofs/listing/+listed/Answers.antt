@@ -1,8 +1,8 @@
 use Rattle.std.proofs.Common.{◌≡◌, ◌-◌, ◌++◌, ◌∷◌, List, map, ap, ◌∙◌, arith}
 use Rattle.agv_layout.specs.Layout.{Name}
-use Rattle.agv_layout_tests.specs.Listing.{names_of, before, onto, listed}
-use Rattle.agv_layout_tests.proofs.Listed.{gathers, IsAll-at_end}
-use Rattle.agv_layout_tests.proofs.listing.+listed.Goals as goal
+use Rattle.agv_low_tests.specs.Listing.{names_of, before, onto, listed}
+use Rattle.agv_low_tests.proofs.Listed.{gathers, IsAll-at_end}
+use Rattle.agv_low_tests.proofs.listing.+listed.Goals as goal
 
 pub loop-row-preserved : goal.loop-row-preserved
 loop-row-preserved t c =

@@ -1,7 +1,7 @@
 use Rattle.std.proofs.Common.{◌≡◌, ◌++◌, ◌∷◌, map}
 use Rattle.std.specs.Vec.Iter.{into_iter_items}
-use Rattle.agv_layout_tests.specs.Listing.{names_in, names_of}
-use Rattle.agv_layout_tests.proofs.listing.add_onto.Given as goal
+use Rattle.agv_low_tests.specs.Listing.{names_in, names_of}
+use Rattle.agv_low_tests.proofs.listing.add_onto.Given as goal
 
 abbrev pub invariant-loop-ids : goal.invariant-loop-ids
 invariant-loop-ids l =

@@ -4,7 +4,7 @@ ghost use Rattle.std.specs.Prelude.{◌≡◌, ◌↔◌, ◌++◌, ◌∷◌, L
 ghost use Rattle.agv_layout.specs.Layout.{Name as NameOf};
 ghost use Rattle.agv_layout.specs.Rows.{nodes_in, IsLayoutOf};
 ghost use Rattle.agv_layout.specs.Walk.{IsWalk, IsWayTo};
-ghost use Rattle.agv_layout_tests.specs.Listing.{names_of, edge_from, listed, is_before, sooner, IsFirstOf, IsWayWithin};
+ghost use Rattle.agv_low_tests.specs.Listing.{names_of, edge_from, listed, is_before, sooner, IsFirstOf, IsWayWithin};
 
 use agv_header::{Memory, Name};
 use agv_layout::{Edge, Layout, LayoutRow};

@@ -24,7 +24,7 @@ use Rattle.agv_layout.specs.declared.row.LayoutRow.TheVariants as row
 use Rattle.agv_layout.specs.Layout.{Layout, Name, IsEdge, KeepsRules}
 use Rattle.agv_layout.specs.Rows.{node_in, nodes_in, IsLayoutOf}
 use Rattle.agv_layout.specs.Walk.{IsWalk, IsBefore, IsWayTo}
-use Rattle.agv_layout_tests.specs.Listing.{edge_from, before, onto, listed, is_before, first_in, IsFirst, IsFirstOf, IsWayWithin}
+use Rattle.agv_low_tests.specs.Listing.{edge_from, before, onto, listed, is_before, first_in, IsFirst, IsFirstOf, IsWayWithin}
 
 -- ---- the order of names
 names_total : IsTotalOrder name_cmp

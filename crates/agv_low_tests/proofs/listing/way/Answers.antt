@@ -1,8 +1,8 @@
 use Rattle.std.proofs.Common.{option_map}
 use Rattle.std.proofs.lemmas.Result.{IfOk-weaker}
-use Rattle.agv_layout_tests.specs.Listing.{IsWayWithin}
-use Rattle.agv_layout_tests.proofs.Listed.{IsWayTo-within}
-use Rattle.agv_layout_tests.proofs.listing.way.Goals as goal
+use Rattle.agv_low_tests.specs.Listing.{IsWayWithin}
+use Rattle.agv_low_tests.proofs.Listed.{IsWayTo-within}
+use Rattle.agv_low_tests.proofs.listing.way.Goals as goal
 
 pub returns : goal.returns
 returns c =

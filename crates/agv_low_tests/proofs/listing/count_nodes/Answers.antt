@@ -1,8 +1,8 @@
 use Rattle.std.proofs.Common.{arith, ap}
 use Rattle.agv_layout.specs.Rows.{node_in}
-use Rattle.agv_layout_tests.proofs.Listed.{counted, passed_over}
-use Rattle.agv_layout_tests.proofs.listing.count_nodes.Goals as goal
-use Rattle.agv_layout_tests.proofs.listing.count_nodes.Goals.{in-Node, in-Edge, in-Station}
+use Rattle.agv_low_tests.proofs.Listed.{counted, passed_over}
+use Rattle.agv_low_tests.proofs.listing.count_nodes.Goals as goal
+use Rattle.agv_low_tests.proofs.listing.count_nodes.Goals.{in-Node, in-Edge, in-Station}
 
 pub loop-row-preserved : goal.loop-row-preserved
 loop-row-preserved c =

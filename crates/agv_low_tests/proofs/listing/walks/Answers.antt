@@ -2,9 +2,9 @@ use Rattle.std.proofs.Common.{◌≡◌, ◌↔◌, List, Contains, length, subs
 use Rattle.std.proofs.lemmas.Result.{IfOk-weaker}
 use Rattle.agv_layout.specs.Layout.{Name}
 use Rattle.agv_layout.specs.Walk.{IsWalk}
-use Rattle.agv_layout_tests.specs.Listing.{names_of, listed}
-use Rattle.agv_layout_tests.proofs.Listed.{all_walks}
-use Rattle.agv_layout_tests.proofs.listing.walks.Goals as goal
+use Rattle.agv_low_tests.specs.Listing.{names_of, listed}
+use Rattle.agv_low_tests.proofs.Listed.{all_walks}
+use Rattle.agv_low_tests.proofs.listing.walks.Goals as goal
 
 pub returns : goal.returns
 returns c =

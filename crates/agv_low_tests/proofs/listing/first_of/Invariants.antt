@@ -1,7 +1,7 @@
 use Rattle.std.proofs.Common.{◌≡◌, None, option_map}
 use Rattle.std.specs.Vec.Iter.{into_iter_items}
-use Rattle.agv_layout_tests.specs.Listing.{names_in, names_of, first_in}
-use Rattle.agv_layout_tests.proofs.listing.first_of.Given as goal
+use Rattle.agv_low_tests.specs.Listing.{names_in, names_of, first_in}
+use Rattle.agv_low_tests.proofs.listing.first_of.Given as goal
 
 abbrev pub invariant-loop-ids : goal.invariant-loop-ids
 invariant-loop-ids l =

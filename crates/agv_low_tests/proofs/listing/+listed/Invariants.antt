@@ -1,7 +1,7 @@
 use Rattle.std.proofs.Common.{◌≡◌, ◌-◌, take}
 use Rattle.std.specs.List.{flat_map}
-use Rattle.agv_layout_tests.specs.Listing.{names_of, onto, listed}
-use Rattle.agv_layout_tests.proofs.listing.+listed.Given as goal
+use Rattle.agv_low_tests.specs.Listing.{names_of, onto, listed}
+use Rattle.agv_low_tests.proofs.listing.+listed.Given as goal
 
 abbrev pub decreases-listed : goal.decreases-listed
 decreases-listed l = l.len

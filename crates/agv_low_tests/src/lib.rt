@@ -1,0 +1,23 @@
+//! The tests of the crates below the store. They stand in one crate, since a crate with tests is proved
+//! twice. The expected values are written out or worked out by hand, or come from another program.
+//!
+//! - `headers` has names, topics, stamps and header numbers, `messages` state messages and the texts of
+//!   orders and instant actions.
+//! - `layouts` has rows that give a layout and rows that give none, and what a layout says of a name.
+//! - `layout_files` has files, and the rows that they say.
+//! - `routes` has routes on small layouts, on random ones and on the largest; `listing` is the plain program
+//!   that lists all walks, with which the random ones are compared.
+#![tactic(auto)]
+
+#[cfg(test)]
+mod headers;
+#[cfg(test)]
+mod layout_files;
+#[cfg(test)]
+mod layouts;
+#[cfg(test)]
+mod listing;
+#[cfg(test)]
+mod messages;
+#[cfg(test)]
+mod routes;
