@@ -57,6 +57,7 @@ fn replay_command<'a>(alloc: Global) -> Result<Command<'a>, AllocError> {
 pub fn line_of<'a>(alloc: Global, words: &'a [String]) -> Result<Line, LineFault> {
     let command = Command::new(alloc, "desk")
         .about("A control desk for the vehicles of one warehouse")
+        .after_help("The command line: desk replay --db memory --at MILLIS < REQUESTS")
         .no_binary_name(true)
         .subcommand_required(true)
         .subcommand(replay_command(alloc)?)?;

@@ -61,7 +61,7 @@ cut_head buf front more is some none nil =
 pub open_head : (buf front : List ℕ) → front ≡ take 8192 buf → length buf < 8192 → HasNoRequest front → MayBecomeRequest front → NeedsMore buf
 open_head buf front is short none partial =
     let same : front ≡ buf = is ∙ take_all 8192 buf (omega arith) in
-    inr (inl (subst HasNoRequest same none, subst MayBecomeRequest same partial))
+    inr (inl (subst HasNoRequest same none, subst MayBecomeRequest same partial, short))
 
 -- ---- a head
 

@@ -82,9 +82,9 @@ is_plain_head minor lines = minor == 1 && not (has_line (codes "connection") lin
 abbrev pub is_plain : Request → Bool
 is_plain request = is_plain_head request.minor request.lines
 
--- more bytes have to come before these show a request, and can make one: none has come, the head is still being read, or part of the body is lacking
+-- more bytes have to come before these show a request: none has come, the head is still being read and more bytes can complete it, or part of the body is lacking
 abbrev pub NeedsMore : List ℕ → Type 0
 NeedsMore bytes =
     (bytes ≡ [])
-    ⊎ (HasNoRequest bytes × MayBecomeRequest bytes)
+    ⊎ (HasNoRequest bytes × MayBecomeRequest bytes × (length bytes < most_head))
     ⊎ ((head : RequestHead) × (rest : List ℕ) × (n : ℕ) × BeginsWith bytes head rest × (body_length head.method (lines_of head) ≡ Ok n) × (length rest < n))

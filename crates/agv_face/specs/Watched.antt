@@ -26,6 +26,10 @@ HadCall old new = calls_of new ≡ counted (calls_of old) 1
 abbrev pub HadCalls : {T : Type 0} → ℕ → Watched T → Watched T → Type 0
 HadCalls n old new = counted (calls_of old) n ≤ calls_of new
 
+-- it had so many calls, at most
+abbrev pub HadCallsAtMost : {T : Type 0} → ℕ → Watched T → Watched T → Type 0
+HadCallsAtMost n old new = calls_of new ≤ counted (calls_of old) n
+
 -- one call failed
 abbrev pub FailedOnce : {T : Type 0} → Watched T → Watched T → Type 0
 FailedOnce old new = failures_of new ≡ counted (failures_of old) 1

@@ -6,10 +6,12 @@
 //! to the end of the input, and [`serve_loads`] is what the program calls. Both take their reader and
 //! their writer as [`Watched`], so that a clause can say why a stream ended.
 //!
-//! What the contracts mean is in `specs/`: `Lines` and `Requests` say what one request is, `Cut` how
-//! an input is cut into requests, `Calls` which call a request is, `Asked` which calls an input asks,
-//! `Answers` the bytes of an answer, and `Served` what is written for some calls and what they make
-//! of the registered loads. The module [`laws`] has what holds of these definitions by themselves.
+//! What the contracts mean is in `specs/`: `Lines` and `Requests` say what one request is, `Heard` what a
+//! buffer shows of the next one, `Cut` how an input is cut into requests, `Calls` which call a request is,
+//! `Asked` which calls an input asks, `Answers` the bytes of an answer, `Served` what is written for some
+//! calls and what they make of the registered loads, and `StreamEnds` how a stream ends: the theorem of
+//! this crate. `Watched` and `Stops` have its words on failures. The module [`laws`] has what holds of these
+//! definitions by themselves.
 #![tactic(auto)]
 
 mod answer;

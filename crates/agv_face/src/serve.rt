@@ -1,6 +1,7 @@
 //! The stream of the registered loads.
 ghost use Rattle.agv_store.specs.HeldLoads.{IsClean};
 ghost use Rattle.agv_face.specs.StreamEnds.{IsLoadsEnd};
+ghost use Rattle.agv_face.specs.Watched.{HadCallsAtMost};
 
 use crate::stream::{Stop, answer_calls};
 use crate::watched::Watched;
@@ -9,7 +10,7 @@ use sqlite::Alter;
 use std::alloc::Global;
 use std::io::{Read, Write};
 
-/// Why a stream was left before its end.
+/// Why a stream was left before its end, as the program is told: what is no call counts as `Read`.
 #[derive(Clone, Copy, Debug, PartialEq, Eq)]
 pub enum LoadsFault {
     /// The reader failed, gave what is no call, or needed more than 16,777,216 reads.
@@ -70,6 +71,9 @@ pub fn serve_loads<S: Alter + Drop, R: Read, W: Write>(
 ) -> Result<u64, LoadsFault>
     ensures clean { IsClean S.Store loads.new → IsClean S.Store loads.old }
     ensures ends { IsLoadsEnd S.Store R.remaining W.contents loads.old loads.new reader.old reader.new writer.old writer.new result }
+
+    // It needs 16,777,216 reads at most.
+    ensures reads { HadCallsAtMost 16777216 reader.old reader.new }
 {
     match answer_calls(alloc, loads, reader, writer) {
         Ok(answers) => Ok(answers),

@@ -6,7 +6,7 @@ ghost use Rattle.agv_face.specs.Answers.{answer_bytes};
 ghost use Rattle.agv_face.specs.StreamEnds.{IsStreamEnd};
 ghost use Rattle.agv_face.specs.Served.{said, after, registration_answer, place_answer};
 ghost use Rattle.agv_face.specs.Stepped.{IsReadEnd, IsWriteEnd, IsCallEnd, IsNextEnd};
-ghost use Rattle.agv_face.specs.Watched.{HadCalls};
+ghost use Rattle.agv_face.specs.Watched.{HadCall, HadCallsAtMost};
 
 use crate::answer::{Answer, answer_bytes};
 use crate::call::{Call, call_of};
@@ -18,7 +18,7 @@ use sqlite::Alter;
 use std::alloc::{AllocError, Global};
 use std::io::{Read, Write};
 
-/// Why a stream was left before its end.
+/// Why a stream was left before its end, as [`answer_calls`] tells it.
 #[derive(Clone, Copy, Debug, PartialEq, Eq)]
 pub enum Stop {
     /// What comes next is no call: a fault of HTTP, or a request of another form.
@@ -88,7 +88,7 @@ fn read_some<R: Read>(reader: &mut Watched<R>, buf: &mut Vec<u8>) -> Result<bool
     requires { vec_len buf.old + 4096 ≤ vec_capacity buf.old }
     ensures ends { IsReadEnd R.remaining reader.old reader.new buf.old.items buf.new.items result }
     ensures room { OnOk result (vec_capacity buf.old ≤ vec_capacity buf.new) }
-    ensures calls { HadCalls 1 reader.old reader.new }
+    ensures calls { HadCall reader.old reader.new }
 {
     let mut chunk = [0; 4096];
     match reader.read(&mut chunk) {
@@ -212,6 +212,9 @@ pub fn answer_calls<S: Alter + Drop, R: Read, W: Write>(
 ) -> Result<u64, Stop>
     ensures clean { IsClean S.Store loads.new → IsClean S.Store loads.old }
     ensures ends { IsStreamEnd S.Store R.remaining W.contents loads.old loads.new reader.old reader.new writer.old writer.new result }
+
+    // It needs 16,777,216 reads at most.
+    ensures reads { HadCallsAtMost 16777216 reader.old reader.new }
 {
     let mut buf = Vec::with_capacity(alloc, ROOM)?;
     let mut ended = false;

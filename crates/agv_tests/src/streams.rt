@@ -5,6 +5,7 @@ use agv_face::laws::has_a_cut;
 use agv_face::{Heard, LoadsFault, Stop, Watched, answer_calls, read_request, serve_loads};
 use agv_store::Loads;
 use sqlite::{Connection, MemStore};
+use std::alloc::Global;
 use std::io::Write;
 use std::test::Fail;
 
@@ -97,6 +98,16 @@ fn failing_reader(rt: HostRuntime) -> Result<(), Fail> {
         assert!(rt; (out.inner().as_slice() == FIRST_ANSWERS) == next.is_ok());
         assert!(rt; reader.failures() == 1);
     }
+    let mut loads = no_loads(&rt)?;
+    let mut reader = Watched::new(Drip {
+        bytes: FIRST,
+        step: 57,
+        reads: 1,
+    });
+    let mut out = Watched::new(Vec::new(rt.alloc()));
+    let served = serve_loads(rt.alloc(), &mut loads, &mut reader, &mut out);
+    assert!(rt; served == Err(LoadsFault::Read));
+    assert!(rt; out.inner().as_slice() == DONE);
     Ok(())
 }
 
@@ -212,4 +223,31 @@ fn next_requests(rt: HostRuntime) {
     for (bytes, ended, want) in rows {
         assert!(rt; shown(bytes, ended) == want);
     }
+}
+
+/// A head of so many header lines, without the empty line behind them.
+fn head_of(alloc: Global, lines: u32) -> Result<Vec<u8>, Fail> {
+    let mut bytes = Vec::from_slice(alloc, b"GET / HTTP/1.1\r\n".as_slice())?;
+    for _ in 0..lines {
+        bytes.extend_from_slice(b"A: b\r\n")?;
+    }
+    Ok(bytes)
+}
+
+/// A head of 32 lines is read, and one of 33 isn't waited for; nor is one that is not at its end within
+/// 8,192 bytes.
+#[test]
+fn limits_of_a_head(rt: HostRuntime) -> Result<(), Fail> {
+    let mut most = head_of(rt.alloc(), 32)?;
+    assert!(rt; shown(&most, false) == Ok("need"));
+    most.extend_from_slice(b"\r\n")?;
+    assert!(rt; shown(&most, false) == Ok("request"));
+    assert!(rt; shown(&head_of(rt.alloc(), 33)?, false) == Err(1));
+    let mut long = Vec::from_slice(rt.alloc(), b"GET /".as_slice())?;
+    for _ in 5..8192 {
+        long.push(b'a')?;
+    }
+    assert!(rt; shown(&long[..8191], false) == Ok("need"));
+    assert!(rt; shown(&long, false) == Err(1));
+    Ok(())
 }

@@ -2,7 +2,7 @@ use Rattle.std.proofs.Common.{◌≡◌, ◌≤◌, ◌+◌, ◌-◌, ◌*◌, L
 use Rattle.agv_store.specs.HeldLoads.{IsClean}
 use Rattle.agv_face.specs.declared.call.Call.{Call}
 use Rattle.agv_face.proofs.Steps.{Answering}
-use Rattle.agv_face.specs.Watched.{HadCalls}
+use Rattle.agv_face.specs.Watched.{calls_of, counted}
 use Rattle.agv_face.proofs.Streaming.{HasCome}
 use Rattle.agv_face.proofs.stream.answer_calls.Given as goal
 
@@ -13,7 +13,7 @@ invariant-loop-buf g l =
     × HasCome (g.R.Read.remaining l.initial.reader.inner) (g.R.Read.remaining l.reader.inner) l.ended l.buf.items calls
     × Answering g.S.Store g.W.Write.contents l.initial.loads l.loads l.initial.reader l.reader l.initial.writer l.writer calls
     × (IsClean g.S.Store l.loads → IsClean g.S.Store l.initial.loads)
-    × (77824 ≤ vec_capacity l.buf) × (l.reads ≤ 16777216) × (l.answers + vec_len l.buf ≤ l.reads * 4096) × HadCalls l.reads l.initial.reader l.reader
+    × (77824 ≤ vec_capacity l.buf) × (l.reads ≤ 16777216) × (l.answers + vec_len l.buf ≤ l.reads * 4096) × (calls_of l.reader ≡ counted (calls_of l.initial.reader) l.reads)
 
 abbrev pub decreases-loop-buf : goal.decreases-loop-buf
 decreases-loop-buf g l = (16777216 - l.reads) * 4097 + vec_len l.buf
