@@ -16,7 +16,7 @@ use Rattle.agv_face.specs.Answers.{answer_bytes}
 use Rattle.agv_face.specs.Served.{said, after, IsAnswered}
 use Rattle.agv_face.specs.Stops.{stop_of}
 use Rattle.agv_face.specs.Stepped.{IsReadEnd, IsWriteEnd, IsCallEnd, IsNextEnd, IsNextCall, Kept, After, NextKept}
-use Rattle.agv_face.specs.Watched.{inner_of, failures_of, FailedOnce, FailedNever}
+use Rattle.agv_face.specs.Watched.{inner_of, failures_of, FailedNever}
 use Rattle.agv_face.specs.Requests.{NeedsMore}
 use Rattle.agv_face.specs.Open.{HoldsIfOpen}
 use Rattle.agv_face.specs.StreamEnds.{IsStreamEnd, Faulted}
