@@ -4,5 +4,6 @@ pub mod Heads
 pub mod Bodies
 pub mod Cuts
 pub mod Asking
+pub mod Later
 pub mod Streaming
 pub mod Steps

@@ -1,26 +1,29 @@
 -- What became of a call, of the next request of a buffer, and of a stream of them.
-use Rattle.std.proofs.Common.{◌≡◌, ◌⊎◌, ℕ, Bool, false, List, Option, Result, Ok, Err, IsErrAnd, sym, ap, ◌∙◌, subst, inl, inr, append-nil}
+use Rattle.std.proofs.Common.{◌≡◌, ◌⊎◌, ℕ, Bool, false, List, [], Option, IfSome, Result, Ok, Err, IsErrAnd, refl, sym, ap, ◌∙◌, subst, inl, inr, append-nil}
 use Rattle.std.specs.Io.KnownBytes.{Appends}
 use Rattle.sqlite_trees.specs.declared.store.Store.{Ghosts}
 use Rattle.sqlite.specs.Held.{Held}
-use Rattle.agv_store.specs.HeldLoads.{IsClean, HoldsLoads}
+use Rattle.agv_store.specs.HeldLoads.{IsClean, IsStorageFault, IsLater, HoldsLoads, HoldsIfOpen}
 use Rattle.agv_store.specs.Registered.{Registered}
 use Rattle.agv_store.specs.declared.fault.Fault.{Fault}
 use Rattle.agv_store.specs.declared.fault.Fault.TheVariants as fault
 use Rattle.agv_face.specs.declared.answer.Answer.{Answer}
 use Rattle.agv_face.specs.declared.call.Call.{Call}
+use Rattle.agv_face.specs.declared.call.Call.TheVariants as variant
 use Rattle.agv_face.specs.declared.stream.Stop.{Stop}
 use Rattle.agv_face.specs.declared.stream.Stop.TheVariants as stop
 use Rattle.agv_face.specs.declared.watched.Watched.{Watched}
 use Rattle.agv_face.specs.Answers.{answer_bytes}
-use Rattle.agv_face.specs.Served.{said, after, IsAnswered}
+use Rattle.agv_face.specs.Served.{answer_to, after, after_all, IsAnswered}
 use Rattle.agv_face.specs.Stops.{stop_of}
-use Rattle.agv_face.specs.Stepped.{IsReadEnd, IsWriteEnd, IsCallEnd, IsNextEnd, IsNextCall, Kept, After, NextKept}
+use Rattle.agv_face.specs.StoreFaults.{IsRefusedBehind}
+use Rattle.agv_face.specs.Stepped.{IsReadOutcome, IsWriteOutcome, IsCallOutcome, IsNextOutcome, IsNextCall, Kept, After, NextKept}
 use Rattle.agv_face.specs.Watched.{inner_of, failures_of, FailedNever}
+use Rattle.agv_face.specs.Asked.{AsksNext}
 use Rattle.agv_face.specs.Requests.{NeedsMore}
-use Rattle.agv_face.specs.Open.{HoldsIfOpen}
-use Rattle.agv_face.specs.StreamEnds.{IsStreamEnd, Faulted}
-use Rattle.agv_face.proofs.Streaming.{HasCome, so_far, all_so_far, at_other, asks_next, kept_on, unsaid_on, cut_on, cut_first, answered-none, answered-less, failed_then}
+use Rattle.agv_face.specs.StreamEnds.{IsStreamEnd, LackedMemory}
+use Rattle.agv_face.proofs.Later.{fault_later}
+use Rattle.agv_face.proofs.Streaming.{HasCome, so_far, all_so_far, at_other, asks_next, kept_on, unanswered_on, part_answered_on, part_answered_first, answered-none, answered-less, failed_then}
 
 -- ---- results
 
@@ -30,27 +33,27 @@ of_same_err (Ok value) e P is holds = absurd is
 of_same_err {E = E} (Err x) e P is holds = let Q : E → Type 0 = λ y. P (Err y) in subst Q (sym is) holds
 
 -- what holds of both faults of the machine
-pub of_fault : (f : Fault) (P : Stop → Type 0) → P stop.Memory → P stop.Storage → P (stop_of f)
+pub of_fault : (f : Fault) (P : Stop → Type 0) → P stop.Memory → (f ≡ fault.Storage → P stop.Storage) → P (stop_of f)
 of_fault fault.Memory P memory storage = memory
-of_fault fault.Storage P memory storage = storage
+of_fault fault.Storage P memory storage = storage refl
 
 -- ---- a call
 
 module _ {S W : Type 0} (g : Ghosts S) (contents : W → Option (List ℕ)) (loads loads_then : Held S) (writer writer_then : Watched W) where
   -- the call is carried out, and its answer is written or not
   pub call_written : (call : Call) (answer : Answer) (result : Result (Unit {0}) Stop)
-      → (IsClean g loads_then → (known : Registered) → HoldsLoads g loads known → (answer ≡ said known call) × HoldsLoads g loads_then (after known call))
-      → IsWriteEnd contents writer writer_then (answer_bytes answer) result → IsCallEnd g contents loads loads_then writer writer_then call result
+      → (IsClean g loads_then → (known : Registered) → HoldsLoads g loads known → (answer ≡ answer_to known call) × HoldsLoads g loads_then (after known call))
+      → IsWriteOutcome contents writer writer_then (answer_bytes answer) result → IsCallOutcome g contents loads loads_then writer writer_then call result
   call_written call answer (Ok done) carried wrote = (
     λ clean known held.
         let now = carried clean known held in
         let Wrote : List ℕ → Type 0 = λ l. Appends (contents (inner_of writer)) (contents (inner_of writer_then)) l in
-        (subst Wrote (ap answer_bytes now.0 ∙ sym (append-nil (answer_bytes (said known call)))) wrote.0, now.1),
+        (subst Wrote (ap answer_bytes now.0 ∙ sym (append-nil (answer_bytes (answer_to known call)))) wrote.0, now.1),
     wrote.1,
   )
   call_written call answer (Err stop.Other) carried wrote = absurd wrote
   call_written call answer (Err stop.Read) carried wrote = absurd wrote
-  call_written call answer (Err stop.Write) carried wrote = (λ clean. cut_first (HoldsLoads g loads) (HoldsLoads g loads_then) _ _ answer call (carried clean) wrote.0, wrote.1)
+  call_written call answer (Err stop.Write) carried wrote = (λ clean. part_answered_first (HoldsLoads g loads) (HoldsLoads g loads_then) _ _ answer call (carried clean) wrote.0, wrote.1)
   call_written call answer (Err stop.Memory) carried wrote = (wrote, inr (λ clean known held. (carried clean known held).1))
   call_written call answer (Err stop.Storage) carried wrote = absurd wrote
 
@@ -58,14 +61,21 @@ module _ {S W : Type 0} (g : Ghosts S) (contents : W → Option (List ℕ)) (loa
   lost_next buf len call next (inl kept) = inl kept
   lost_next buf len call next (inr carried) = inr (len, call, next, carried)
 
+  next_caused : (buf : List ℕ) (len : ℕ) (call : Call) → IsNextCall buf len call
+      → IsStorageFault g loads loads_then ⊎ ((next : Call) × (next ≡ call) × IsRefusedBehind g loads loads_then [] next)
+      → IsStorageFault g loads loads_then ⊎ ((next : Call) × ((len : ℕ) × IsNextCall buf len next) × IsRefusedBehind g loads loads_then [] next)
+  next_caused buf len call next (inl failed) = inl failed
+  next_caused buf len call next (inr refused) =
+      let Next : Call → Type 0 = λ c. IsNextCall buf len c in inr (refused.0, (len, subst Next (sym refused.1) next), refused.2)
+
   -- the next request is that call
   pub next_called : (buf : List ℕ) (ended : Bool) (len : ℕ) (call : Call) (s : Stop) → IsNextCall buf len call
-      → IsCallEnd g contents loads loads_then writer writer_then call (Err s) → IsNextEnd g contents loads loads_then writer writer_then buf ended (Err s)
+      → IsCallOutcome g contents loads loads_then writer writer_then call (Err s) → IsNextOutcome g contents loads loads_then writer writer_then buf ended (Err s)
   next_called buf ended len call stop.Other next came = absurd came
   next_called buf ended len call stop.Read next came = absurd came
   next_called buf ended len call stop.Write next came = (len, call, next, came.0, came.1)
   next_called buf ended len call stop.Memory next came = (came.0, lost_next buf len call next came.1)
-  next_called buf ended len call stop.Storage next came = (came.0, lost_next buf len call next came.1)
+  next_called buf ended len call stop.Storage next came = (came.0, came.1, λ is. next_caused buf len call next (came.2 is))
 
 -- ---- a stream
 
@@ -78,29 +88,49 @@ Answering g contents loads loads_now reader reader_now writer writer_now calls =
 -- the store and the writer before, in the middle and after, and the reader before, in the middle and after
 module _ {S R W : Type 0} (g : Ghosts S) (remaining : R → Option (List ℕ)) (contents : W → Option (List ℕ))
     (loads loads_mid loads_then : Held S) (reader reader_mid reader_then : Watched R) (writer writer_mid writer_then : Watched W) where
-  machine_stopped : (ended : Bool) (buf : List ℕ) (calls : List Call) → HasCome (remaining (inner_of reader)) (remaining (inner_of reader_mid)) ended buf calls → Answering g contents loads loads_mid reader reader_mid writer writer_mid calls
-      → (IsClean g loads_then → IsClean g loads_mid) → (writer_then ≡ writer_mid) → NextKept g loads_mid loads_then buf
-      → Faulted g remaining contents loads loads_then reader reader_mid writer writer_then
-  machine_stopped ended buf calls come now clean same (inl kept) =
-      inl (calls, so_far _ _ _ _ calls come, λ is. kept_on (HoldsLoads g loads) (HoldsLoads g loads_mid) (HoldsIfOpen g loads_then) _ _ _ calls (now.0 (clean is)) (ap (λ (w : Watched W). contents (inner_of w)) same) (kept is))
-  machine_stopped ended buf calls come now clean same (inr next) =
-      inr (calls, next.1, asks_next _ _ _ _ next.0 calls next.1 come next.2, λ is. unsaid_on (HoldsLoads g loads) (HoldsLoads g loads_mid) (HoldsLoads g loads_then) _ _ _ calls next.1 (now.0 (clean is)) (ap (λ (w : Watched W). contents (inner_of w)) same) (next.3 is))
+  memory_lacked : (ended : Bool) (buf : List ℕ) (calls : List Call) → HasCome (remaining (inner_of reader)) (remaining (inner_of reader_mid)) ended buf calls → Answering g contents loads loads_mid reader reader_mid writer writer_mid calls
+      → IsLater g loads_mid loads_then → (writer_then ≡ writer_mid) → NextKept g loads_mid loads_then buf
+      → LackedMemory g remaining contents loads loads_then reader reader_mid writer writer_then
+  memory_lacked ended buf calls come now later same (inl kept) =
+      inl (calls, so_far _ _ _ _ calls come, λ is. kept_on (HoldsLoads g loads) (HoldsLoads g loads_mid) (HoldsIfOpen g loads_then) _ _ _ calls (now.0 (later.clean is)) (ap (λ (w : Watched W). contents (inner_of w)) same) (kept is))
+  memory_lacked ended buf calls come now later same (inr next) =
+      inr (calls, next.1, asks_next _ _ _ _ next.0 calls next.1 come next.2, λ is. unanswered_on (HoldsLoads g loads) (HoldsLoads g loads_mid) (HoldsLoads g loads_then) _ _ _ calls next.1 (now.0 (later.clean is)) (ap (λ (w : Watched W). contents (inner_of w)) same) (next.3 is))
+
+  refused_behind : (calls : List Call) (call : Call) (old new : Option (List ℕ)) → IsAnswered (HoldsLoads g loads) (HoldsLoads g loads_mid) old new calls → IsRefusedBehind g loads_mid loads_then [] call → IsRefusedBehind g loads loads_then calls call
+  refused_behind calls (variant.Register load) old new answered refused = ((λ known held. refused.0 (after_all known calls) (answered known held).1), refused.1)
+  refused_behind calls (variant.Show load) old new answered refused = absurd refused
+
+  cause_behind : (ended : Bool) (buf : List ℕ) (calls : List Call) → HasCome (remaining (inner_of reader)) (remaining (inner_of reader_mid)) ended buf calls → Answering g contents loads loads_mid reader reader_mid writer writer_mid calls
+      → IsLater g loads loads_mid → IsLater g loads_mid loads_then → IsClean g loads_then
+      → IsStorageFault g loads_mid loads_then ⊎ ((next : Call) × ((len : ℕ) × IsNextCall buf len next) × IsRefusedBehind g loads_mid loads_then [] next)
+      → IsStorageFault g loads loads_then ⊎ ((next : Call) × IfSome (remaining (inner_of reader)) (λ input. AsksNext input calls next) × IsRefusedBehind g loads loads_then calls next)
+  cause_behind ended buf calls come now first later is (inl failed) = inl (fault_later g loads loads_mid loads_then first later is failed)
+  cause_behind ended buf calls come now first later is (inr refused) =
+      inr (refused.0, asks_next _ _ _ _ refused.1.0 calls refused.0 come refused.1.1, refused_behind calls refused.0 _ _ (now.0 (later.clean is)) refused.2)
 
   -- the next request of the buffer ends the stream
   pub next_stopped : (ended : Bool) (buf : List ℕ) (calls : List Call) (s : Stop) → HasCome (remaining (inner_of reader)) (remaining (inner_of reader_mid)) ended buf calls → Answering g contents loads loads_mid reader reader_mid writer writer_mid calls
-      → (IsClean g loads_then → IsClean g loads_mid) → IsNextEnd g contents loads_mid loads_then writer_mid writer_then buf ended (Err s)
+      → IsLater g loads loads_mid → IsLater g loads_mid loads_then → IsNextOutcome g contents loads_mid loads_then writer_mid writer_then buf ended (Err s)
       → IsStreamEnd g remaining contents loads loads_then reader reader_mid writer writer_then (Err s)
-  next_stopped ended buf calls stop.Other come now clean ends =
-      (calls, at_other _ _ _ _ calls come ends.0, (λ is. answered-none (HoldsLoads g loads) (HoldsLoads g loads_mid) (HoldsLoads g loads_then) _ _ _ calls (now.0 (clean is)) (ends.1 is)), (now.1, ends.2 ∙ now.2))
-  next_stopped ended buf calls stop.Read come now clean ends = absurd ends
-  next_stopped ended buf calls stop.Write come now clean ends =
-      (calls, ends.1, asks_next _ _ _ _ ends.0 calls ends.1 come ends.2, (λ is. cut_on (HoldsLoads g loads) (HoldsLoads g loads_mid) (HoldsLoads g loads_then) _ _ _ calls ends.1 (now.0 (clean is)) (ends.3 is)), now.1, failed_then writer writer_mid writer_then now.2 ends.4)
-  next_stopped ended buf calls stop.Memory come now clean ends = (machine_stopped ended buf calls come now clean ends.0 ends.1, (now.1, ap (λ (w : Watched W). failures_of w) ends.0 ∙ now.2))
-  next_stopped ended buf calls stop.Storage come now clean ends = (machine_stopped ended buf calls come now clean ends.0 ends.1, (now.1, ap (λ (w : Watched W). failures_of w) ends.0 ∙ now.2))
+  next_stopped ended buf calls stop.Other come now first later ends =
+      (calls, at_other _ _ _ _ calls come ends.0, (λ is. answered-none (HoldsLoads g loads) (HoldsLoads g loads_mid) (HoldsLoads g loads_then) _ _ _ calls (now.0 (later.clean is)) (ends.1 is)), (now.1, ends.2 ∙ now.2))
+  next_stopped ended buf calls stop.Read come now first later ends = absurd ends
+  next_stopped ended buf calls stop.Write come now first later ends =
+      (calls, ends.1, asks_next _ _ _ _ ends.0 calls ends.1 come ends.2, (λ is. part_answered_on (HoldsLoads g loads) (HoldsLoads g loads_mid) (HoldsLoads g loads_then) _ _ _ calls ends.1 (now.0 (later.clean is)) (ends.3 is)), now.1, failed_then writer writer_mid writer_then now.2 ends.4)
+  next_stopped ended buf calls stop.Memory come now first later ends = (memory_lacked ended buf calls come now later ends.0 ends.1, (now.1, ap (λ (w : Watched W). failures_of w) ends.0 ∙ now.2))
+  next_stopped ended buf calls stop.Storage come now first later ends = (
+    (
+      calls,
+      so_far _ _ _ _ calls come,
+      (λ is. kept_on (HoldsLoads g loads) (HoldsLoads g loads_mid) (HoldsIfOpen g loads_then) _ _ _ calls (now.0 (later.clean is)) (ap (λ (w : Watched W). contents (inner_of w)) ends.0) (ends.1 is)),
+      (λ is. cause_behind ended buf calls come now first later is (ends.2 is)),
+    ),
+    (now.1, ap (λ (w : Watched W). failures_of w) ends.0 ∙ now.2),
+  )
 
   -- a read ends the stream
   pub read_stopped : (buf buf_then : List ℕ) (calls : List Call) (s : Stop) → HasCome (remaining (inner_of reader)) (remaining (inner_of reader_mid)) false buf calls → NeedsMore buf → Answering g contents loads loads_mid reader reader_mid writer writer_mid calls
-      → IsReadEnd remaining reader_mid reader_then buf buf_then (Err s) → IsStreamEnd g remaining contents loads loads_mid reader reader_then writer writer_mid (Err s)
+      → IsReadOutcome remaining reader_mid reader_then buf buf_then (Err s) → IsStreamEnd g remaining contents loads loads_mid reader reader_then writer writer_mid (Err s)
   read_stopped buf buf_then calls stop.Other come needs now ends = absurd ends
   read_stopped buf buf_then calls stop.Read come needs now ends = (calls, all_so_far _ _ _ _ buf calls come needs ends.0, now.0, inl (failed_then reader reader_mid reader_then now.1 ends.1), now.2)
   read_stopped buf buf_then calls stop.Write come needs now ends = absurd ends

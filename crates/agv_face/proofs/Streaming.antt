@@ -11,7 +11,7 @@ use Rattle.agv_face.specs.declared.request.Lent.{Lent}
 use Rattle.agv_face.specs.Asked.{Asks, AsksFirst, AsksNext, AsksSoFar, AsksUpToOther, BeginsWithNoCall}
 use Rattle.agv_face.specs.declared.answer.Answer.{Answer}
 use Rattle.agv_face.specs.Answers.{answer_bytes}
-use Rattle.agv_face.specs.Served.{said, after, after_all, output, AreKept, AreAfter, IsAnswered, IsUnsaid, IsCutIn, IsCutOff}
+use Rattle.agv_face.specs.Served.{answer_to, after, after_all, output, AreKept, AreAfter, IsAnswered, IsUnanswered, IsPartWritten, IsPartAnswered}
 use Rattle.agv_face.specs.Heard.{IsLent}
 use Rattle.agv_face.specs.Stepped.{IsNextCall, IsOther}
 use Rattle.agv_face.specs.declared.watched.Watched.{Watched}
@@ -87,7 +87,7 @@ after_all-push loads (d ∷ calls) c = after_all-push (after loads d) calls c
 
 output-push : (loads : Registered) (calls : List Call) (c : Call) → output loads (calls ++ c ∷ []) ≡ output loads calls ++ output (after_all loads calls) (c ∷ [])
 output-push loads [] c = refl
-output-push loads (d ∷ calls) c = ap (λ (l : List ℕ). answer_bytes (said loads d) ++ l) (output-push (after loads d) calls c) ∙ sym (append_assoc (answer_bytes (said loads d)) (output (after loads d) calls) (output (after_all (after loads d) calls) (c ∷ [])))
+output-push loads (d ∷ calls) c = ap (λ (l : List ℕ). answer_bytes (answer_to loads d) ++ l) (output-push (after loads d) calls c) ∙ sym (append_assoc (answer_bytes (answer_to loads d)) (output (after loads d) calls) (output (after_all (after loads d) calls) (c ∷ [])))
 
 pub none_answered : (holds : Registered → Type 0) (contents : Option (List ℕ)) → IsAnswered holds holds contents contents []
 none_answered holds contents loads held = (Appends-nil contents, held)
@@ -122,26 +122,26 @@ kept_on holds mid then old now new calls first same kept loads held =
     (subst Wrote (sym same) before.0, kept (after_all loads calls) before.1)
 
 -- a fault behind a call that is carried out
-pub unsaid_on : (holds mid then : Registered → Type 0) (old now new : Option (List ℕ)) (calls : List Call) (c : Call) → IsAnswered holds mid old now calls → new ≡ now → AreAfter mid then c → IsUnsaid holds then old new calls c
-unsaid_on holds mid then old now new calls c first same carried loads held =
+pub unanswered_on : (holds mid then : Registered → Type 0) (old now new : Option (List ℕ)) (calls : List Call) (c : Call) → IsAnswered holds mid old now calls → new ≡ now → AreAfter mid then c → IsUnanswered holds then old new calls c
+unanswered_on holds mid then old now new calls c first same carried loads held =
     let before = first loads held in
     let Wrote : Option (List ℕ) → Type 0 = λ o. Appends old o (output loads calls) in
     (subst Wrote (sym same) before.0, carried (after_all loads calls) before.1)
 
 -- an answer that is cut behind answers
-pub cut_on : (holds mid then : Registered → Type 0) (old now new : Option (List ℕ)) (calls : List Call) (c : Call) → IsAnswered holds mid old now calls → IsCutOff mid then now new [] c → IsCutOff holds then old new calls c
-cut_on holds mid then old now new calls c first next loads held =
+pub part_answered_on : (holds mid then : Registered → Type 0) (old now new : Option (List ℕ)) (calls : List Call) (c : Call) → IsAnswered holds mid old now calls → IsPartAnswered mid then now new [] c → IsPartAnswered holds then old new calls c
+part_answered_on holds mid then old now new calls c first next loads held =
     let before = first loads held in
     let last = next (after_all loads calls) before.1 in
     let cut = last.0 in
     ((cut.0, cut.1, cut.2, cut.3, Appends-trans old now new _ _ before.0 cut.4), last.1)
 
 -- the answer to a call that is carried out is cut
-pub cut_first : (holds then : Registered → Type 0) (old new : Option (List ℕ)) (answer : Answer) (c : Call)
-    → ((loads : Registered) → holds loads → (answer ≡ said loads c) × then (after loads c)) → IsCutIn old new [] (answer_bytes answer) → IsCutOff holds then old new [] c
-cut_first holds then old new answer c carried cut loads held =
+pub part_answered_first : (holds then : Registered → Type 0) (old new : Option (List ℕ)) (answer : Answer) (c : Call)
+    → ((loads : Registered) → holds loads → (answer ≡ answer_to loads c) × then (after loads c)) → IsPartWritten old new [] (answer_bytes answer) → IsPartAnswered holds then old new [] c
+part_answered_first holds then old new answer c carried cut loads held =
     let done = carried loads held in
-    let Cut : Answer → Type 0 = λ a. IsCutIn old new [] (answer_bytes a) in
+    let Cut : Answer → Type 0 = λ a. IsPartWritten old new [] (answer_bytes a) in
     (subst Cut done.0 cut, done.1)
 
 -- the call behind those that have come
@@ -150,8 +150,8 @@ asks_next input left ended buf len calls c come next = so_far input left ended (
 
 -- ---- bytes that are cut
 
-pub cut_at : (old now new : Option (List ℕ)) (bytes : List ℕ) (done : ℕ) → Appends old now (take done bytes) → Keeps now new → done < length bytes → IsCutIn old new [] bytes
-cut_at old now new bytes done wrote kept more =
+pub part_written_at : (old now new : Option (List ℕ)) (bytes : List ℕ) (done : ℕ) → Appends old now (take done bytes) → Keeps now new → done < length bytes → IsPartWritten old new [] bytes
+part_written_at old now new bytes done wrote kept more =
     let size : length (drop done bytes) ≡ length bytes - done = length-drop done bytes in
     let left : 0 < length (drop done bytes) = omega arith in
     (take done bytes, drop done bytes, sym (take-append-drop done bytes), left, Appends-kept old now new (take done bytes) wrote kept)

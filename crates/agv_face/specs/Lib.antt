@@ -10,5 +10,5 @@ pub mod Found
 pub mod Heard
 pub mod Stops
 pub mod Watched
-pub mod Open
+pub mod StoreFaults
 pub mod StreamEnds

@@ -23,8 +23,8 @@ has_line name lines = list_any (λ (l : Line). same_word l.0 name) lines
 
 -- what the lines say of the length of the body: nothing, a number, or something else
 pub data Length : Type 0 where
-  unsaid : Length
-  says : ℕ → Length
+  absent : Length
+  given : ℕ → Length
   wrong : Length
 
 -- one or more digits
@@ -32,10 +32,10 @@ abbrev pub is_number : List ℕ → Bool
 is_number value = nat_lt 0 (length value) && list_all is_ascii_digit value
 
 -- two lines are wrong, also where they agree
-abbrev pub length_said : List (List ℕ) → Length
-length_said [] = unsaid
-length_said (value ∷ []) = if is_number value then says (digits_value 10 value) else wrong
-length_said (value ∷ next ∷ more) = wrong
+abbrev pub length_given : List (List ℕ) → Length
+length_given [] = absent
+length_given (value ∷ []) = if is_number value then given (digits_value 10 value) else wrong
+length_given (value ∷ next ∷ more) = wrong
 
 abbrev pub content_length : List Line → Length
-content_length lines = length_said (values_of (codes "content-length") lines)
+content_length lines = length_given (values_of (codes "content-length") lines)

@@ -6,7 +6,7 @@ use Rattle.httparse.specs.Grammar.{RequestHead, ReadsRequest, HasNoRequest, MayB
 use Rattle.httparse.specs.Spans.{name_and_value}
 use Rattle.agv_header.specs.declared.refusal.Refusal.{Refusal}
 use Rattle.agv_header.specs.declared.refusal.Refusal.TheVariants as refusal
-use Rattle.agv_face.specs.Lines.{Line, same_word, values_of, has_line, Length, unsaid, says, wrong, content_length}
+use Rattle.agv_face.specs.Lines.{Line, same_word, values_of, has_line, Length, absent, given, wrong, content_length}
 
 -- the most bytes of a head, the most header lines, the most bytes of a body
 abbrev pub most_head : ℕ
@@ -42,8 +42,8 @@ sends_body method = bytes_eq method (codes "PUT") || bytes_eq method (codes "POS
 -- the length of the body, from what the lines say: a wrong one is met first, then a transfer coding, then a missing or too large one
 abbrev pub length_needed : Bool → List ℕ → Length → Result ℕ Refusal
 length_needed coded method wrong = Err refusal.BadHead
-length_needed coded method unsaid = if coded then Err refusal.Coding else (if sends_body method then Err refusal.NoLength else Ok 0)
-length_needed coded method (says n) = if coded then Err refusal.Coding else (if nat_lt most_body n then Err refusal.TooLarge else Ok n)
+length_needed coded method absent = if coded then Err refusal.Coding else (if sends_body method then Err refusal.NoLength else Ok 0)
+length_needed coded method (given n) = if coded then Err refusal.Coding else (if nat_lt most_body n then Err refusal.TooLarge else Ok n)
 
 -- how many bytes the body has, or the refusal
 abbrev pub body_length : List ℕ → List Line → Result ℕ Refusal

@@ -4,7 +4,7 @@ use Rattle.std.specs.FinSet as set
 use Rattle.std.specs.Io.KnownBytes.{Appends}
 use Rattle.agv_header.specs.declared.refusal.Refusal.{Refusal}
 use Rattle.agv_header.specs.declared.refusal.Refusal.TheVariants as refusal
-use Rattle.agv_store.specs.Registered.{Registered, registration, registered}
+use Rattle.agv_store.specs.Registered.{Registered, registration_result, after_registration}
 use Rattle.agv_face.specs.declared.answer.Answer.{Answer}
 use Rattle.agv_face.specs.declared.answer.Answer.TheVariants as answer
 use Rattle.agv_face.specs.declared.call.Call.{Call}
@@ -21,13 +21,13 @@ abbrev pub place_answer : Bool → List ℕ → Answer
 place_answer known load = if known then answer.AtChecking load else answer.Refused refusal.NoLoad
 
 -- what the desk says to a call
-abbrev pub said : Registered → Call → Answer
-said loads (call.Register load) = registration_answer (registration loads load)
-said loads (call.Show load) = place_answer (set.contains loads load) load
+abbrev pub answer_to : Registered → Call → Answer
+answer_to loads (call.Register load) = registration_answer (registration_result loads load)
+answer_to loads (call.Show load) = place_answer (set.contains loads load) load
 
 -- the registered loads after a call
 abbrev pub after : Registered → Call → Registered
-after loads (call.Register load) = registered loads load
+after loads (call.Register load) = after_registration loads load
 after loads (call.Show load) = loads
 
 -- the registered loads after some calls
@@ -38,7 +38,7 @@ after_all loads (c ∷ calls) = after_all (after loads c) calls
 -- the answers to some calls, one after another
 abbrev pub output : Registered → List Call → List ℕ
 output loads [] = []
-output loads (c ∷ calls) = answer_bytes (said loads c) ++ output (after loads c) calls
+output loads (c ∷ calls) = answer_bytes (answer_to loads c) ++ output (after loads c) calls
 
 -- the calls are answered: the answers are written behind what the writer held, and the loads are those after the calls
 abbrev pub IsAnswered : (Registered → Type 0) → (Registered → Type 0) → Option (List ℕ) → Option (List ℕ) → List Call → Type 0
@@ -53,14 +53,14 @@ abbrev pub AreAfter : (Registered → Type 0) → (Registered → Type 0) → Ca
 AreAfter holds holds_then call = (loads : Registered) → holds loads → holds_then (after loads call)
 
 -- the calls are answered, and one call more is carried out, of whose answer nothing is written
-abbrev pub IsUnsaid : (Registered → Type 0) → (Registered → Type 0) → Option (List ℕ) → Option (List ℕ) → List Call → Call → Type 0
-IsUnsaid holds holds_then old new calls call = (loads : Registered) → holds loads → Appends old new (output loads calls) × holds_then (after (after_all loads calls) call)
+abbrev pub IsUnanswered : (Registered → Type 0) → (Registered → Type 0) → Option (List ℕ) → Option (List ℕ) → List Call → Call → Type 0
+IsUnanswered holds holds_then old new calls call = (loads : Registered) → holds loads → Appends old new (output loads calls) × holds_then (after (after_all loads calls) call)
 
 -- behind other bytes just a front of these is written, and not all
-abbrev pub IsCutIn : Option (List ℕ) → Option (List ℕ) → List ℕ → List ℕ → Type 0
-IsCutIn old new others bytes = (front : List ℕ) × (rest : List ℕ) × (bytes ≡ front ++ rest) × (0 < length rest) × Appends old new (others ++ front)
+abbrev pub IsPartWritten : Option (List ℕ) → Option (List ℕ) → List ℕ → List ℕ → Type 0
+IsPartWritten old new others bytes = (front : List ℕ) × (rest : List ℕ) × (bytes ≡ front ++ rest) × (0 < length rest) × Appends old new (others ++ front)
 
 -- the calls are answered, and one call more is carried out, whose answer is cut as it is written
-abbrev pub IsCutOff : (Registered → Type 0) → (Registered → Type 0) → Option (List ℕ) → Option (List ℕ) → List Call → Call → Type 0
-IsCutOff holds holds_then old new calls call =
-    (loads : Registered) → holds loads → IsCutIn old new (output loads calls) (answer_bytes (said (after_all loads calls) call)) × holds_then (after (after_all loads calls) call)
+abbrev pub IsPartAnswered : (Registered → Type 0) → (Registered → Type 0) → Option (List ℕ) → Option (List ℕ) → List Call → Call → Type 0
+IsPartAnswered holds holds_then old new calls call =
+    (loads : Registered) → holds loads → IsPartWritten old new (output loads calls) (answer_bytes (answer_to (after_all loads calls) call)) × holds_then (after (after_all loads calls) call)

@@ -3,7 +3,7 @@ use Rattle.std.specs.Prelude.{◌≡◌, ◌≤◌, ◌<◌, ◌+◌, ◌⊎◌,
 use Rattle.std.specs.Io.KnownBytes.{Appends, Consumes, Keeps, IsAtEnd}
 use Rattle.sqlite_trees.specs.declared.store.Store.{Ghosts}
 use Rattle.sqlite.specs.Held.{Held}
-use Rattle.agv_store.specs.HeldLoads.{IsClean, HoldsLoads}
+use Rattle.agv_store.specs.HeldLoads.{IsClean, HoldsLoads, HoldsIfOpen}
 use Rattle.agv_face.specs.declared.call.Call.{Call}
 use Rattle.agv_face.specs.declared.stream.Stop.{Stop}
 use Rattle.agv_face.specs.declared.stream.Stop.TheVariants as stop
@@ -14,8 +14,8 @@ use Rattle.agv_face.specs.Requests.{Request, IsRequest, NeedsMore, most_head, mo
 use Rattle.agv_face.specs.Calls.{call_of}
 use Rattle.agv_face.specs.Asked.{BeginsWithNoCall}
 use Rattle.agv_face.specs.Heard.{Follows}
-use Rattle.agv_face.specs.Open.{HoldsIfOpen}
-use Rattle.agv_face.specs.Served.{AreKept, AreAfter, IsAnswered, IsCutIn, IsCutOff}
+use Rattle.agv_face.specs.Served.{AreKept, AreAfter, IsAnswered, IsPartWritten, IsPartAnswered}
+use Rattle.agv_face.specs.StoreFaults.{HasStoreCause}
 use Rattle.agv_face.specs.Watched.{inner_of, FailedOnce, FailedNever}
 
 -- the buffer begins with a request that is this call, and takes so many bytes
@@ -26,7 +26,7 @@ IsNextCall buf len call = (0 < len) × (len ≤ length buf) × (request : Reques
 abbrev pub IsStep : List ℕ → Bool → Step → List Call → Type 0
 IsStep buf ended step.Need calls = (calls ≡ []) × (ended ≡ false) × (length buf < most_head + most_body) × NeedsMore buf
 IsStep buf ended step.End calls = (calls ≡ []) × (ended ≡ true) × (buf ≡ [])
-IsStep buf ended (step.Next len) calls = (call : Call) × (calls ≡ call ∷ []) × IsNextCall buf len call
+IsStep buf ended (step.Answered len) calls = (call : Call) × (calls ≡ call ∷ []) × IsNextCall buf len call
 
 -- the buffer, whatever follows it, begins with no call
 abbrev pub IsOther : List ℕ → Bool → Type 0
@@ -34,25 +34,25 @@ IsOther buf ended = (more : List ℕ) → Follows ended more → BeginsWithNoCal
 
 -- what became of one read, whose bytes go to the end of the buffer
 module _ {R : Type 0} (remaining : R → Option (List ℕ)) (reader reader_then : Watched R) (buf buf_then : List ℕ) where
-  abbrev pub IsReadEnd : Result Bool Stop → Type 0
-  IsReadEnd (Ok more) =
+  abbrev pub IsReadOutcome : Result Bool Stop → Type 0
+  IsReadOutcome (Ok more) =
       (bytes : List ℕ) × (buf_then ≡ buf ++ bytes) × (length bytes ≤ 4096) × Consumes (remaining (inner_of reader)) (remaining (inner_of reader_then)) bytes
       × (more ≡ false → (bytes ≡ []) × IsAtEnd (remaining (inner_of reader_then))) × FailedNever reader reader_then
-  IsReadEnd (Err stop.Read) = Keeps (remaining (inner_of reader)) (remaining (inner_of reader_then)) × FailedOnce reader reader_then
-  IsReadEnd (Err stop.Memory) = FailedNever reader reader_then
-  IsReadEnd (Err stop.Other) = ⊥
-  IsReadEnd (Err stop.Write) = ⊥
-  IsReadEnd (Err stop.Storage) = ⊥
+  IsReadOutcome (Err stop.Read) = Keeps (remaining (inner_of reader)) (remaining (inner_of reader_then)) × FailedOnce reader reader_then
+  IsReadOutcome (Err stop.Memory) = FailedNever reader reader_then
+  IsReadOutcome (Err stop.Other) = ⊥
+  IsReadOutcome (Err stop.Write) = ⊥
+  IsReadOutcome (Err stop.Storage) = ⊥
 
 -- what became of bytes that were to be written
 module _ {W : Type 0} (contents : W → Option (List ℕ)) (writer writer_then : Watched W) (bytes : List ℕ) where
-  abbrev pub IsWriteEnd : Result (Unit {0}) Stop → Type 0
-  IsWriteEnd (Ok done) = Appends (contents (inner_of writer)) (contents (inner_of writer_then)) bytes × FailedNever writer writer_then
-  IsWriteEnd (Err stop.Write) = IsCutIn (contents (inner_of writer)) (contents (inner_of writer_then)) [] bytes × FailedOnce writer writer_then
-  IsWriteEnd (Err stop.Memory) = writer_then ≡ writer
-  IsWriteEnd (Err stop.Other) = ⊥
-  IsWriteEnd (Err stop.Read) = ⊥
-  IsWriteEnd (Err stop.Storage) = ⊥
+  abbrev pub IsWriteOutcome : Result (Unit {0}) Stop → Type 0
+  IsWriteOutcome (Ok done) = Appends (contents (inner_of writer)) (contents (inner_of writer_then)) bytes × FailedNever writer writer_then
+  IsWriteOutcome (Err stop.Write) = IsPartWritten (contents (inner_of writer)) (contents (inner_of writer_then)) [] bytes × FailedOnce writer writer_then
+  IsWriteOutcome (Err stop.Memory) = writer_then ≡ writer
+  IsWriteOutcome (Err stop.Other) = ⊥
+  IsWriteOutcome (Err stop.Read) = ⊥
+  IsWriteOutcome (Err stop.Storage) = ⊥
 
 module _ {S : Type 0} (g : Ghosts S) (loads loads_then : Held S) where
   -- the loads are as before, if the store is still open
@@ -74,22 +74,22 @@ module _ {S W : Type 0} (g : Ghosts S) (contents : W → Option (List ℕ)) (loa
 
   -- the call is carried out, and its answer is cut
   abbrev pub Cuts : Call → Type 0
-  Cuts call = IsClean g loads_then → IsCutOff (HoldsLoads g loads) (HoldsLoads g loads_then) (contents (inner_of writer)) (contents (inner_of writer_then)) [] call
+  Cuts call = IsClean g loads_then → IsPartAnswered (HoldsLoads g loads) (HoldsLoads g loads_then) (contents (inner_of writer)) (contents (inner_of writer_then)) [] call
 
   -- what became of one call
-  abbrev pub IsCallEnd : Call → Result (Unit {0}) Stop → Type 0
-  IsCallEnd call (Ok done) = Answers (call ∷ []) × FailedNever writer writer_then
-  IsCallEnd call (Err stop.Other) = ⊥
-  IsCallEnd call (Err stop.Read) = ⊥
-  IsCallEnd call (Err stop.Write) = Cuts call × FailedOnce writer writer_then
-  IsCallEnd call (Err stop.Memory) = (writer_then ≡ writer) × (Kept g loads loads_then ⊎ After g loads loads_then call)
-  IsCallEnd call (Err stop.Storage) = (writer_then ≡ writer) × (Kept g loads loads_then ⊎ After g loads loads_then call)
+  abbrev pub IsCallOutcome : Call → Result (Unit {0}) Stop → Type 0
+  IsCallOutcome call (Ok done) = Answers (call ∷ []) × FailedNever writer writer_then
+  IsCallOutcome call (Err stop.Other) = ⊥
+  IsCallOutcome call (Err stop.Read) = ⊥
+  IsCallOutcome call (Err stop.Write) = Cuts call × FailedOnce writer writer_then
+  IsCallOutcome call (Err stop.Memory) = (writer_then ≡ writer) × (Kept g loads loads_then ⊎ After g loads loads_then call)
+  IsCallOutcome call (Err stop.Storage) = (writer_then ≡ writer) × Kept g loads loads_then × HasStoreCause g loads loads_then [] (λ next. next ≡ call)
 
   -- what became of the next request of the buffer
-  abbrev pub IsNextEnd : List ℕ → Bool → Result Step Stop → Type 0
-  IsNextEnd buf ended (Ok done) = (calls : List Call) × IsStep buf ended done calls × Answers calls × FailedNever writer writer_then
-  IsNextEnd buf ended (Err stop.Other) = IsOther buf ended × Answers [] × FailedNever writer writer_then
-  IsNextEnd buf ended (Err stop.Read) = ⊥
-  IsNextEnd buf ended (Err stop.Write) = (len : ℕ) × (call : Call) × IsNextCall buf len call × Cuts call × FailedOnce writer writer_then
-  IsNextEnd buf ended (Err stop.Memory) = (writer_then ≡ writer) × NextKept g loads loads_then buf
-  IsNextEnd buf ended (Err stop.Storage) = (writer_then ≡ writer) × NextKept g loads loads_then buf
+  abbrev pub IsNextOutcome : List ℕ → Bool → Result Step Stop → Type 0
+  IsNextOutcome buf ended (Ok done) = (calls : List Call) × IsStep buf ended done calls × Answers calls × FailedNever writer writer_then
+  IsNextOutcome buf ended (Err stop.Other) = IsOther buf ended × Answers [] × FailedNever writer writer_then
+  IsNextOutcome buf ended (Err stop.Read) = ⊥
+  IsNextOutcome buf ended (Err stop.Write) = (len : ℕ) × (call : Call) × IsNextCall buf len call × Cuts call × FailedOnce writer writer_then
+  IsNextOutcome buf ended (Err stop.Memory) = (writer_then ≡ writer) × NextKept g loads loads_then buf
+  IsNextOutcome buf ended (Err stop.Storage) = (writer_then ≡ writer) × Kept g loads loads_then × HasStoreCause g loads loads_then [] (λ next. (len : ℕ) × IsNextCall buf len next)

@@ -3,15 +3,15 @@ use Rattle.std.specs.Prelude.{◌≡◌, ◌⊎◌, ℕ, List, length, Option, I
 use Rattle.std.specs.Io.KnownBytes.{Consumes}
 use Rattle.sqlite_trees.specs.declared.store.Store.{Ghosts}
 use Rattle.sqlite.specs.Held.{Held}
-use Rattle.agv_store.specs.HeldLoads.{IsClean, HoldsLoads}
+use Rattle.agv_store.specs.HeldLoads.{IsClean, HoldsLoads, HoldsIfOpen}
 use Rattle.agv_face.specs.declared.call.Call.{Call}
 use Rattle.agv_face.specs.declared.stream.Stop.{Stop}
 use Rattle.agv_face.specs.declared.stream.Stop.TheVariants as stop
 use Rattle.agv_face.specs.declared.serve.LoadsFault.{LoadsFault}
 use Rattle.agv_face.specs.declared.watched.Watched.{Watched}
 use Rattle.agv_face.specs.Asked.{Asks, AsksFirst, AsksNext, AsksSoFar, AsksUpToOther}
-use Rattle.agv_face.specs.Open.{HoldsIfOpen}
-use Rattle.agv_face.specs.Served.{IsAnswered, IsUnsaid, IsCutOff}
+use Rattle.agv_face.specs.Served.{IsAnswered, IsUnanswered, IsPartAnswered}
+use Rattle.agv_face.specs.StoreFaults.{HasStoreCause}
 use Rattle.agv_face.specs.Stops.{loads_fault_of}
 use Rattle.agv_face.specs.Watched.{inner_of, FailedOnce, FailedNever, RanOut}
 
@@ -35,18 +35,22 @@ module _ {S R W : Type 0} (g : Ghosts S) (remaining : R → Option (List ℕ)) (
   AnsweredIfOpen calls = IsClean g loads_then → IsAnswered (HoldsLoads g loads) (HoldsIfOpen g loads_then) (contents (inner_of writer)) (contents (inner_of writer_then)) calls
 
   -- just these calls are answered; the next one is carried out, and nothing of its answer is written
-  abbrev pub Unsaid : List Call → Call → Type 0
-  Unsaid calls call = IsClean g loads_then → IsUnsaid (HoldsLoads g loads) (HoldsLoads g loads_then) (contents (inner_of writer)) (contents (inner_of writer_then)) calls call
+  abbrev pub Unanswered : List Call → Call → Type 0
+  Unanswered calls call = IsClean g loads_then → IsUnanswered (HoldsLoads g loads) (HoldsLoads g loads_then) (contents (inner_of writer)) (contents (inner_of writer_then)) calls call
 
   -- just these calls are answered; the next one is carried out, and a front of its answer is written, but not all
-  abbrev pub CutOff : List Call → Call → Type 0
-  CutOff calls call = IsClean g loads_then → IsCutOff (HoldsLoads g loads) (HoldsLoads g loads_then) (contents (inner_of writer)) (contents (inner_of writer_then)) calls call
+  abbrev pub PartAnswered : List Call → Call → Type 0
+  PartAnswered calls call = IsClean g loads_then → IsPartAnswered (HoldsLoads g loads) (HoldsLoads g loads_then) (contents (inner_of writer)) (contents (inner_of writer_then)) calls call
 
-  -- the machine failed behind calls that are answered, or between the next call and its answer
-  abbrev pub Faulted : Type 0
-  Faulted =
+  -- want of memory came behind calls that are answered, or between the next call and its answer
+  abbrev pub LackedMemory : Type 0
+  LackedMemory =
       ((calls : List Call) × Input (λ input. AsksFirst input calls) × AnsweredIfOpen calls)
-      ⊎ ((calls : List Call) × (call : Call) × Input (λ input. AsksNext input calls call) × Unsaid calls call)
+      ⊎ ((calls : List Call) × (call : Call) × Input (λ input. AsksNext input calls call) × Unanswered calls call)
+
+  -- the store failed behind calls that are answered, and the next one is not carried out
+  abbrev pub StoreFailed : Type 0
+  StoreFailed = (calls : List Call) × Input (λ input. AsksFirst input calls) × AnsweredIfOpen calls × HasStoreCause g loads loads_then calls (λ call. Input (λ input. AsksNext input calls call))
 
   abbrev pub NoneFailed : Type 0
   NoneFailed = FailedNever reader reader_then × FailedNever writer writer_then
@@ -60,9 +64,9 @@ module _ {S R W : Type 0} (g : Ghosts S) (remaining : R → Option (List ℕ)) (
   -- the reader failed or had too many reads; all calls that have come whole are answered
   IsStreamEnd (Err stop.Read) = (calls : List Call) × Came (λ bytes. AsksSoFar bytes calls) × Answered calls × RanOut reader reader_then × FailedNever writer writer_then
   -- the writer failed, or took no byte
-  IsStreamEnd (Err stop.Write) = (calls : List Call) × (call : Call) × Input (λ input. AsksNext input calls call) × CutOff calls call × FailedNever reader reader_then × FailedOnce writer writer_then
-  IsStreamEnd (Err stop.Memory) = Faulted × NoneFailed
-  IsStreamEnd (Err stop.Storage) = Faulted × NoneFailed
+  IsStreamEnd (Err stop.Write) = (calls : List Call) × (call : Call) × Input (λ input. AsksNext input calls call) × PartAnswered calls call × FailedNever reader reader_then × FailedOnce writer writer_then
+  IsStreamEnd (Err stop.Memory) = LackedMemory × NoneFailed
+  IsStreamEnd (Err stop.Storage) = StoreFailed × NoneFailed
 
   -- the same, told by the fault that stands for that end
   abbrev pub IsLoadsEnd : Result ℕ LoadsFault → Type 0

@@ -10,7 +10,7 @@
 //! buffer shows of the next one, `Cut` how an input is cut into requests, `Calls` which call a request is,
 //! `Asked` which calls an input asks, `Answers` the bytes of an answer, `Served` what is written for some
 //! calls and what they make of the registered loads, and `StreamEnds` how a stream ends: the theorem of
-//! this crate. `Watched` and `Stops` have its words on failures. The module [`laws`] has what holds of these
+//! this crate. `Watched`, `Stops` and `StoreFaults` have its words on failures. The module [`laws`] has what holds of these
 //! definitions by themselves.
 #![tactic(auto)]
 

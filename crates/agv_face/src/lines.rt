@@ -4,8 +4,8 @@ ghost use Rattle.std.specs.List.{list_all};
 ghost use Rattle.std.specs.Char.{is_ascii_digit};
 ghost use Rattle.std.specs.Str.Parse.{digits_value};
 ghost use Rattle.httparse.specs.Spans.{IsHeaderWithin, header_bytes};
-ghost use Rattle.agv_face.specs.Lines.{same_word, values_of, has_line, is_number, length_said, content_length};
-ghost use Rattle.agv_face.specs.Found.{AreFound, said_as};
+ghost use Rattle.agv_face.specs.Lines.{same_word, values_of, has_line, is_number, length_given, content_length};
+ghost use Rattle.agv_face.specs.Found.{AreFound, found_length};
 
 use httparse::spans::HeaderSpan;
 
@@ -19,8 +19,8 @@ pub(crate) enum Values<'b> {
 
 /// What the header lines say of the length of the body, in bytes. More than 65,537 stands as that.
 #[derive(Clone, Copy)]
-pub(crate) enum Said {
-    Nothing,
+pub(crate) enum FoundLength {
+    Absent,
     Bytes(u32),
     Wrong,
 }
@@ -87,26 +87,26 @@ fn spells_number(bytes: &[u8]) -> bool
     !bytes.is_empty() && are_all_digits(bytes)
 }
 
-fn length_of(values: Values<'_>) -> Said
-    ensures { (found : List (List ℕ)) → AreFound found values.entry → result ≡ said_as (length_said found) }
+fn length_of(values: Values<'_>) -> FoundLength
+    ensures { (found : List (List ℕ)) → AreFound found values.entry → result ≡ found_length (length_given found) }
 {
     match values {
-        Values::Absent => Said::Nothing,
+        Values::Absent => FoundLength::Absent,
         Values::One(value) => {
             if spells_number(value) {
-                Said::Bytes(capped(value))
+                FoundLength::Bytes(capped(value))
             } else {
-                Said::Wrong
+                FoundLength::Wrong
             }
         }
-        Values::Several => Said::Wrong,
+        Values::Several => FoundLength::Wrong,
     }
 }
 
 /// What the header lines say of the length of the body.
-pub(crate) fn said_length(buf: &[u8], headers: &[HeaderSpan]) -> Said
+pub(crate) fn read_length(buf: &[u8], headers: &[HeaderSpan]) -> FoundLength
     requires { All (IsHeaderWithin (length buf.now)) headers.now }
-    ensures { result ≡ said_as (content_length (map (header_bytes buf.now) headers.now)) }
+    ensures { result ≡ found_length (content_length (map (header_bytes buf.now) headers.now)) }
 {
     length_of(values_named(buf, headers, b"content-length"))
 }

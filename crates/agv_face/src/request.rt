@@ -3,10 +3,10 @@ ghost use Rattle.std.specs.Prelude.{◌≡◌, ◌≤◌, ◌<◌, All, length, 
 ghost use Rattle.httparse.specs.Spans.{IsHeaderWithin, header_bytes, IsRequestWithin, IsRequestOf};
 ghost use Rattle.agv_face.specs.Lines.{Length};
 ghost use Rattle.agv_face.specs.Requests.{sends_body, length_needed, body_length, is_plain_head};
-ghost use Rattle.agv_face.specs.Found.{said_as};
+ghost use Rattle.agv_face.specs.Found.{found_length};
 ghost use Rattle.agv_face.specs.Heard.{IsHeard};
 
-use crate::lines::{Said, is_there, said_length};
+use crate::lines::{FoundLength, is_there, read_length};
 use agv_header::Refusal;
 use httparse::Status;
 use httparse::spans::{EMPTY_HEADER_SPAN, HeaderSpan, RequestSpans, parse_request};
@@ -48,18 +48,18 @@ fn wants_length(method: &[u8]) -> bool
     method == b"PUT".as_slice() || method == b"POST".as_slice()
 }
 
-/// How many bytes the body has, from what is said of it.
-fn needed(is_coded: bool, method: &[u8], said: Said) -> Result<usize, Refusal>
-    ensures needed { (length : Length) → said ≡ said_as length → result ≡ length_needed is_coded method.now length }
+/// How many bytes the body has, from what the header lines say of it.
+fn needed(is_coded: bool, method: &[u8], found: FoundLength) -> Result<usize, Refusal>
+    ensures needed { (length : Length) → found ≡ found_length length → result ≡ length_needed is_coded method.now length }
     ensures fits { IfOk result (λ n. n ≤ 65536) }
 {
-    match said {
-        Said::Wrong => Err(Refusal::BadHead),
+    match found {
+        FoundLength::Wrong => Err(Refusal::BadHead),
         _ if is_coded => Err(Refusal::Coding),
-        Said::Nothing if wants_length(method) => Err(Refusal::NoLength),
-        Said::Nothing => Ok(0),
-        Said::Bytes(n) if n > MOST_BODY => Err(Refusal::TooLarge),
-        Said::Bytes(n) => Ok(n as usize),
+        FoundLength::Absent if wants_length(method) => Err(Refusal::NoLength),
+        FoundLength::Absent => Ok(0),
+        FoundLength::Bytes(n) if n > MOST_BODY => Err(Refusal::TooLarge),
+        FoundLength::Bytes(n) => Ok(n as usize),
     }
 }
 
@@ -70,7 +70,7 @@ fn needed_by(buf: &[u8], headers: &[HeaderSpan], method: &[u8]) -> Result<usize,
     ensures fits { IfOk result (λ n. n ≤ 65536) }
 {
     let is_coded = is_there(buf, headers, b"transfer-encoding");
-    needed(is_coded, method, said_length(buf, headers))
+    needed(is_coded, method, read_length(buf, headers))
 }
 
 /// Whether the head is of HTTP/1.1 and has no Connection line.

@@ -1,5 +1,5 @@
 //! The stream of the registered loads.
-ghost use Rattle.agv_store.specs.HeldLoads.{IsClean};
+ghost use Rattle.agv_store.specs.HeldLoads.{IsLater};
 ghost use Rattle.agv_face.specs.StreamEnds.{IsLoadsEnd};
 ghost use Rattle.agv_face.specs.Watched.{HadCallsAtMost};
 
@@ -69,7 +69,7 @@ pub fn serve_loads<S: Alter + Drop, R: Read, W: Write>(
     reader: &mut Watched<R>,
     writer: &mut Watched<W>,
 ) -> Result<u64, LoadsFault>
-    ensures clean { IsClean S.Store loads.new → IsClean S.Store loads.old }
+    ensures later { IsLater S.Store loads.old loads.new }
     ensures ends { IsLoadsEnd S.Store R.remaining W.contents loads.old loads.new reader.old reader.new writer.old writer.new result }
 
     // It needs 16,777,216 reads at most.

@@ -1,11 +1,12 @@
 //! A stream of requests, answered one after another.
-ghost use Rattle.std.specs.Prelude.{◌≡◌, ◌≤◌, ◌+◌, drop, vec_len, vec_capacity, IfOk, OnOk, OnErr};
-ghost use Rattle.agv_store.specs.HeldLoads.{IsClean, IsOpen, HoldsLoads, KeepsLoads};
+ghost use Rattle.std.specs.Prelude.{◌≡◌, ◌≤◌, ◌+◌, drop, vec_len, vec_capacity, [], IfOk, IfErr, OnOk, OnErr};
+ghost use Rattle.agv_store.specs.HeldLoads.{IsClean, IsOpen, IsLater, HoldsLoads, KeepsLoads};
 ghost use Rattle.agv_store.specs.Registered.{Registered};
 ghost use Rattle.agv_face.specs.Answers.{answer_bytes};
 ghost use Rattle.agv_face.specs.StreamEnds.{IsStreamEnd};
-ghost use Rattle.agv_face.specs.Served.{said, after, registration_answer, place_answer};
-ghost use Rattle.agv_face.specs.Stepped.{IsReadEnd, IsWriteEnd, IsCallEnd, IsNextEnd};
+ghost use Rattle.agv_face.specs.Served.{answer_to, after, registration_answer, place_answer};
+ghost use Rattle.agv_face.specs.Stepped.{IsReadOutcome, IsWriteOutcome, IsCallOutcome, IsNextOutcome};
+ghost use Rattle.agv_face.specs.StoreFaults.{HasStoreCause};
 ghost use Rattle.agv_face.specs.Watched.{HadCall, HadCallsAtMost};
 
 use crate::answer::{Answer, answer_bytes};
@@ -64,7 +65,7 @@ pub(crate) enum Step {
     /// The input is at its end.
     End,
     /// A call is answered; its request took so many bytes.
-    Next(usize),
+    Answered(usize),
 }
 
 /// The most reads of one stream.
@@ -86,7 +87,7 @@ fn drop_front(buf: &mut Vec<u8>, n: usize)
 /// One read, whose bytes go to the end of the buffer. `false` at the end of the input.
 fn read_some<R: Read>(reader: &mut Watched<R>, buf: &mut Vec<u8>) -> Result<bool, Stop>
     requires { vec_len buf.old + 4096 ≤ vec_capacity buf.old }
-    ensures ends { IsReadEnd R.remaining reader.old reader.new buf.old.items buf.new.items result }
+    ensures ends { IsReadOutcome R.remaining reader.old reader.new buf.old.items buf.new.items result }
     ensures room { OnOk result (vec_capacity buf.old ≤ vec_capacity buf.new) }
     ensures calls { HadCall reader.old reader.new }
 {
@@ -102,7 +103,7 @@ fn read_some<R: Read>(reader: &mut Watched<R>, buf: &mut Vec<u8>) -> Result<bool
 
 /// Writes all the bytes. A write that takes none is a fault, and so is any error.
 fn write_whole<W: Write>(writer: &mut Watched<W>, bytes: &[u8]) -> Result<(), Stop>
-    ensures ends { IsWriteEnd W.contents writer.old writer.new bytes.now result }
+    ensures ends { IsWriteOutcome W.contents writer.old writer.new bytes.now result }
 {
     let mut done = 0;
     while done < bytes.len() {
@@ -115,7 +116,7 @@ fn write_whole<W: Write>(writer: &mut Watched<W>, bytes: &[u8]) -> Result<(), St
     Ok(())
 }
 
-/// A registration, as an answer.
+/// A registration_result, as an answer.
 fn registration_answer(registration: Result<(), Refusal>) -> Answer
     ensures { result ≡ registration_answer registration }
 {
@@ -138,10 +139,11 @@ fn place_answer(known: bool, load: Name) -> Answer
 
 /// Carries a call out, and gives its answer.
 fn carry_out<S: Alter + Drop>(loads: &mut Loads<S>, call: Call) -> Result<Answer, Fault>
-    ensures clean { IsClean S.Store loads.new → IsClean S.Store loads.old }
+    ensures later { IsLater S.Store loads.old loads.new }
     ensures carried { IsClean S.Store loads.new → IfOk result (λ answer. (known : Registered) → HoldsLoads S.Store loads.old known
-        → (answer ≡ said known call) × HoldsLoads S.Store loads.new (after known call)) }
+        → (answer ≡ answer_to known call) × HoldsLoads S.Store loads.new (after known call)) }
     ensures failed { IsClean S.Store loads.new → IsOpen S.Store loads.new → OnErr result (KeepsLoads S.Store loads.old loads.new) }
+    ensures caused { IfErr result (λ fault. fault ≡ Fault.Storage → HasStoreCause S.Store loads.old loads.new [] (λ next. next ≡ call)) }
 {
     match call {
         Call::Register(load) => Ok(registration_answer(loads.register(load)?)),
@@ -155,7 +157,7 @@ fn write_answer<W: Write>(
     answer: &Answer,
     writer: &mut Watched<W>,
 ) -> Result<(), Stop>
-    ensures ends { IsWriteEnd W.contents writer.old writer.new (answer_bytes answer.now) result }
+    ensures ends { IsWriteOutcome W.contents writer.old writer.new (answer_bytes answer.now) result }
 {
     let bytes = answer_bytes(alloc, answer)?;
     write_whole(writer, &bytes)
@@ -168,8 +170,8 @@ fn answer_call<S: Alter + Drop, W: Write>(
     call: Call,
     writer: &mut Watched<W>,
 ) -> Result<(), Stop>
-    ensures clean { IsClean S.Store loads.new → IsClean S.Store loads.old }
-    ensures ends { IsCallEnd S.Store W.contents loads.old loads.new writer.old writer.new call result }
+    ensures later { IsLater S.Store loads.old loads.new }
+    ensures ends { IsCallOutcome S.Store W.contents loads.old loads.new writer.old writer.new call result }
 {
     let answer = carry_out(loads, call)?;
     write_answer(alloc, &answer, writer)
@@ -183,8 +185,8 @@ fn answer_next<S: Alter + Drop, W: Write>(
     ended: bool,
     writer: &mut Watched<W>,
 ) -> Result<Step, Stop>
-    ensures clean { IsClean S.Store loads.new → IsClean S.Store loads.old }
-    ensures ends { IsNextEnd S.Store W.contents loads.old loads.new writer.old writer.new buf.now ended result }
+    ensures later { IsLater S.Store loads.old loads.new }
+    ensures ends { IsNextOutcome S.Store W.contents loads.old loads.new writer.old writer.new buf.now ended result }
 {
     match read_request(buf, ended) {
         Heard::Need => Ok(Step::Need),
@@ -195,7 +197,7 @@ fn answer_next<S: Alter + Drop, W: Write>(
                 return Err(Stop::Other);
             };
             answer_call(alloc, loads, call, writer)?;
-            Ok(Step::Next(request.len))
+            Ok(Step::Answered(request.len))
         }
     }
 }
@@ -210,7 +212,7 @@ pub fn answer_calls<S: Alter + Drop, R: Read, W: Write>(
     reader: &mut Watched<R>,
     writer: &mut Watched<W>,
 ) -> Result<u64, Stop>
-    ensures clean { IsClean S.Store loads.new → IsClean S.Store loads.old }
+    ensures later { IsLater S.Store loads.old loads.new }
     ensures ends { IsStreamEnd S.Store R.remaining W.contents loads.old loads.new reader.old reader.new writer.old writer.new result }
 
     // It needs 16,777,216 reads at most.
@@ -223,7 +225,7 @@ pub fn answer_calls<S: Alter + Drop, R: Read, W: Write>(
     loop {
         match answer_next(alloc, loads, &buf, ended, writer)? {
             Step::End => return Ok(answers),
-            Step::Next(len) => {
+            Step::Answered(len) => {
                 drop_front(&mut buf, len);
                 answers += 1;
             }

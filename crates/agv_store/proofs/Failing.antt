@@ -20,7 +20,8 @@ use Rattle.agv_store.specs.declared.fault.Fault.TheVariants as fault
 use Rattle.agv_store.specs.Fault.{fault_of, IsOfStore}
 use Rattle.agv_store.specs.Registered.{Registered}
 use Rattle.agv_store.specs.LoadTable.{load_schema}
-use Rattle.agv_store.specs.NewRow.{IsWhole, is_shown, IsInsertion, insert_command, RefusesRow}
+use Rattle.agv_store.specs.NewRow.{IsWhole, is_shown, IsInsertion, insert_command}
+use Rattle.agv_store.specs.RefusedRow.{RefusesRow}
 use Rattle.agv_store.specs.HeldLoads.{IsStorageFault, HoldsLoads, IsCounted, IsClean}
 use Rattle.sqlite_trees.specs.declared.store.Store.{Ghosts}
 use Rattle.sqlite.specs.Held.{Held, state}

@@ -23,7 +23,7 @@ use Rattle.sqlite.specs.State.{State, Shown, FailsToQuery, CommitsShowing}
 use Rattle.sqlite.proofs.Callers.{IsPlain, reads_as, never_commits}
 use Rattle.agv_store.specs.Registered.{Registered}
 use Rattle.agv_store.specs.LoadTable.{load_table, load_schema, AreLoads}
-use Rattle.agv_store.specs.HeldLoads.{IsOpen, HoldsLoads, HoldsNothing}
+use Rattle.agv_store.specs.HeldLoads.{IsOpen, HoldsLoads, HoldsNoSet}
 use Rattle.agv_store.proofs.Holding.{stays}
 use Rattle.agv_store.proofs.Rows.{names_it, list_any-map, list_any-alike, row_of_load}
 use Rattle.agv_store.proofs.Running.{query_fails, shown_open, shown_same, was_open}
@@ -98,6 +98,6 @@ module _ {S : Type 0} (g : Ghosts S) (old new : Held S) where
       ] ok err
 
 -- a look-up commits nothing
-pub find_commits : {S : Type 0} (g : Ghosts S) (old : Held S) (params : Row) (trees : Trees) → CommitsShowing find_text params (state g old) trees → HoldsNothing g old
+pub find_commits : {S : Type 0} (g : Ghosts S) (old : Held S) (params : Row) (trees : Trees) → CommitsShowing find_text params (state g old) trees → HoldsNoSet g old
 find_commits g old params trees commits loads h =
     never_commits find_text params (state g old) trees (subst (λ s. IsPlain (understood s find_text)) (sym h.schema) find_plain) commits

@@ -10,18 +10,18 @@ use Rattle.sqlite.specs.State.{Survives}
 use Rattle.sqlite.proofs.StateLemmas.{survives_then}
 use Rattle.agv_header.specs.Name.{name_cmp}
 use Rattle.agv_header.specs.declared.refusal.Refusal.TheVariants as refusal
-use Rattle.agv_store.specs.Registered.{Registered, no_loads, most_loads, registration, registered}
+use Rattle.agv_store.specs.Registered.{Registered, no_loads, most_loads, registration_result, after_registration}
 use Rattle.agv_store.specs.LoadTable.{AreLoads}
-use Rattle.agv_store.specs.HeldLoads.{IsClean, IsOpen, HoldsLoads, HoldsNothing, AreRegistered, IsCounted}
+use Rattle.agv_store.specs.HeldLoads.{IsClean, IsOpen, HoldsLoads, HoldsNoSet, AreLoadsAfter, IsCounted}
 use Rattle.agv_store.proofs.Holding.{holds_one_set}
 
 -- ---- the answer to a registration
 
 module _ (loads : Registered) (name : List ℕ) (new : set.contains loads name ≡ false) where
-  pub refused : most_loads ≤ set.len loads → (Err refusal.Limit ≡ registration loads name) × (loads ≡ registered loads name)
+  pub refused : most_loads ≤ set.len loads → (Err refusal.Limit ≡ registration_result loads name) × (loads ≡ after_registration loads name)
   refused full = let many : nat_lt (set.len loads) most_loads ≡ false = grind (arith, nat_tests) in rw (new, many) (refl, refl)
 
-  pub taken : set.len loads < most_loads → (Ok tt ≡ registration loads name) × (set.insert loads name ≡ registered loads name)
+  pub taken : set.len loads < most_loads → (Ok tt ≡ registration_result loads name) × (set.insert loads name ≡ after_registration loads name)
   taken room = let few : nat_lt (set.len loads) most_loads ≡ true = grind (arith, nat_tests) in rw (new, few) (refl, refl)
 
   pub one_more : set.len (set.insert loads name) ≡ set.len loads + 1
@@ -59,14 +59,14 @@ module _ {S : Type 0} (g : Ghosts S) where
 pub record FindsNone {S : Type 0} (g : Ghosts S) (old mid : Held S) (name : List ℕ) (count : ℕ) : Type 0 where
   pub kept : IsClean g mid → (loads : Registered) → HoldsLoads g old loads → HoldsLoads g mid loads × (set.contains loads name ≡ false) × (set.len loads ≡ count)
   pub shown : IsClean g mid → (loads : Registered) × HoldsLoads g mid loads × (set.contains loads name ≡ false) × (set.len loads ≡ count)
-  pub survives : Survives (state g old) (state g mid) (λ _. HoldsNothing g old)
+  pub survives : Survives (state g old) (state g mid) (λ _. HoldsNoSet g old)
 
 module _ {S : Type 0} (g : Ghosts S) (old mid : Held S) (name : List ℕ) (count : ℕ) where
   -- the field `conn`, once it is opened after the look-up, is what that left
   pub finds_none : (conn : Held S) → conn ≡ mid → IsCounted g conn count → (answer : Bool) → answer ≡ false
       → (IsClean g mid → (loads : Registered) → HoldsLoads g old loads → (answer ≡ set.contains loads name) × HoldsLoads g mid loads)
       → (IsClean g mid → (loads : Registered) × HoldsLoads g old loads)
-      → Survives (state g old) (state g mid) (λ _. HoldsNothing g old) → FindsNone g old conn name count
+      → Survives (state g old) (state g mid) (λ _. HoldsNoSet g old) → FindsNone g old conn name count
   finds_none conn is counted answer none answers held survives =
       let number = number_is g mid count (subst (λ held. IsCounted g held count) is counted) in
       let at_mid : FindsNone g old mid name count = record {
@@ -77,7 +77,7 @@ module _ {S : Type 0} (g : Ghosts S) (old mid : Held S) (name : List ℕ) (count
       subst (λ held. FindsNone g old held name count) (sym is) at_mid
 
   pub full : FindsNone g old mid name count → most_loads ≤ count → IsClean g mid → (loads : Registered) → HoldsLoads g old loads
-      → (Err refusal.Limit ≡ registration loads name) × HoldsLoads g mid (registered loads name)
+      → (Err refusal.Limit ≡ registration_result loads name) × HoldsLoads g mid (after_registration loads name)
   full found many clean loads h =
       let it = found.kept clean loads h in
       let answer = refused loads name it.1 (omega (arith, it.2)) in
@@ -89,7 +89,7 @@ module _ {S : Type 0} (g : Ghosts S) (old mid new : Held S) (name : List ℕ) (c
   was_clean = earlier_clean g mid new _ saved
 
   -- the load was to be added
-  pub was_to_add : count < most_loads → IsClean g new → (loads : Registered) → HoldsLoads g old loads → registration loads name ≡ Ok tt
+  pub was_to_add : count < most_loads → IsClean g new → (loads : Registered) → HoldsLoads g old loads → registration_result loads name ≡ Ok tt
   was_to_add room clean loads h = let it = found.kept (was_clean clean) loads h in sym (taken loads name it.1 (omega (arith, it.2))).0
 
   -- where the insertion fails, the number stays, and so do the loads
@@ -110,16 +110,16 @@ module _ {S : Type 0} (g : Ghosts S) (old mid new : Held S) (name : List ℕ) (c
         let it = found.shown (was_clean clean) in
         (set.insert it.0 name, joined clean it.0 it.1 it.2, one_more it.0 name it.2 ∙ ap (λ n. n + 1) it.3)
 
-    pub registers : count < most_loads → IsClean g new → (loads : Registered) → HoldsLoads g old loads → (Ok tt ≡ registration loads name) × HoldsLoads g new (registered loads name)
+    pub registers : count < most_loads → IsClean g new → (loads : Registered) → HoldsLoads g old loads → (Ok tt ≡ registration_result loads name) × HoldsLoads g new (after_registration loads name)
     registers room clean loads h =
         let it = found.kept (was_clean clean) loads h in
         let answer = taken loads name it.1 (omega (arith, it.2)) in
         (answer.0, subst (HoldsLoads g new) answer.1 (joined clean loads it.0 it.1))
 
   -- a crash leaves the rows before the call, or those with the new load
-  pub survives_both : count < most_loads → Survives (state g old) (state g new) (AreRegistered g old name)
+  pub survives_both : count < most_loads → Survives (state g old) (state g new) (AreLoadsAfter g old name)
   survives_both room =
-      survives_then (state g old) (state g mid) (state g new) _ _ (AreRegistered g old name) (λ _ trees nothing loads h. absurd (nothing loads h))
+      survives_then (state g old) (state g mid) (state g new) _ _ (AreLoadsAfter g old name) (λ _ trees nothing loads h. absurd (nothing loads h))
       (λ clean trees made loads h.
       let it = found.kept (was_clean clean) loads h in
       let answer = taken loads name it.1 (omega (arith, it.2)) in

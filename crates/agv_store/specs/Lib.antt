@@ -3,4 +3,5 @@ pub mod Fault
 pub mod HeldLoads
 pub mod LoadTable
 pub mod NewRow
+pub mod RefusedRow
 pub mod Registered

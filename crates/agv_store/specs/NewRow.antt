@@ -1,22 +1,16 @@
--- The row of a new load, as SQL adds it, and what SQL itself may say to it.
-use Rattle.std.specs.Prelude.{◌≡◌, ◌≤◌, ℕ, Bool, true, false, List, [], ◌∷◌, length, codes, Option, None, Result, Ok, Err}
+-- The statement that adds the row of a new load, as SQL understands it.
+use Rattle.std.specs.Prelude.{◌≡◌, ◌≤◌, ℕ, Bool, true, false, List, [], ◌∷◌, length, codes, Result, Ok, Err}
 use Rattle.sqlite_resolve.specs.declared.compiled.Compiled.{Compiled}
 use Rattle.sqlite_resolve.specs.declared.error.CompileError.{CompileError}
 use Rattle.sqlite.specs.Listing.{understood}
 use Rattle.sqlite.proofs.Callers.{IsPlain, command_of}
-use Rattle.agv_store.specs.LoadTable.{load_schema}
 use Rattle.sqlite_value.specs.declared.value.Value.TheVariants.{Null, Text}
-use Rattle.sqlite_trees.specs.declared.store.Store.{Ghosts}
 use Rattle.sqlite_sql.specs.Term.{Term, lit, col}
 use Rattle.sqlite_schema.specs.declared.command.Source.TheVariants.{Values}
 use Rattle.sqlite_schema.specs.declared.command.Command.{Command}
 use Rattle.sqlite_schema.specs.declared.command.Command.TheVariants.{Insert}
-use Rattle.sqlite.specs.declared.error.Error.{Error}
-use Rattle.sqlite.specs.Does.{Does}
-use Rattle.sqlite.specs.State.{mode_of, shows_rows}
-use Rattle.sqlite.specs.Held.{Held, state}
-use Rattle.agv_store.specs.Registered.{Registered, registration}
-use Rattle.agv_store.specs.HeldLoads.{HoldsLoads}
+use Rattle.sqlite.specs.State.{shows_rows}
+use Rattle.agv_store.specs.LoadTable.{load_schema}
 
 -- the text is one statement with so many parameters, and does not read the time
 abbrev pub IsWhole : List ℕ → ℕ → Result Compiled CompileError → Type 0
@@ -41,11 +35,3 @@ pub record IsInsertion (sql : List ℕ) : Type 0 where
   pub plain : IsPlain (understood load_schema sql)
   pub whole : IsWhole sql 1 (understood load_schema sql)
   pub unshown : is_shown (understood load_schema sql) ≡ false
-
--- SQL refuses to add that row to what the connection shows, as where no number is left for it or it is too long to store
-abbrev pub RefusesRow : {S : Type 0} → Ghosts S → Held S → List ℕ → Type 0
-RefusesRow g held name = (stop : Option Error) × Does (state g held).step_limit (mode_of (state g held)) (Text name ∷ []) (state g held).now [] None insert_command (Err stop)
-
--- the load is to be added to those that it showed, and SQL refuses the row
-abbrev pub IsRowRefused : {S : Type 0} → Ghosts S → Held S → Held S → List ℕ → Type 0
-IsRowRefused g old new name = ((loads : Registered) → HoldsLoads g old loads → registration loads name ≡ Ok tt) × RefusesRow g new name

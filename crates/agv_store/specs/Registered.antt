@@ -18,10 +18,10 @@ abbrev pub most_loads : ℕ
 most_loads = 1000000
 
 -- the answer to a registration: a known name is refused first, then a load too many
-abbrev pub registration : Registered → List ℕ → Result (Unit {0}) Refusal
-registration loads name =
+abbrev pub registration_result : Registered → List ℕ → Result (Unit {0}) Refusal
+registration_result loads name =
     if set.contains loads name then Err refusal.Exists else (if nat_lt (set.len loads) most_loads then Ok tt else Err refusal.Limit)
 
 -- the loads after it
-abbrev pub registered : Registered → List ℕ → Registered
-registered loads name = if is_ok (registration loads name) then set.insert loads name else loads
+abbrev pub after_registration : Registered → List ℕ → Registered
+after_registration loads name = if is_ok (registration_result loads name) then set.insert loads name else loads

@@ -3,10 +3,10 @@ ghost use Rattle.std.specs.Prelude.{◌≡◌, ◌⊎◌, false, IfOk, IfErr, On
 ghost use Rattle.std.specs.FinSet as set;
 ghost use Rattle.sqlite.specs.State.{Survives};
 ghost use Rattle.sqlite.specs.Held.{state};
-ghost use Rattle.agv_store.specs.Registered.{Registered, no_loads, registration, registered};
+ghost use Rattle.agv_store.specs.Registered.{Registered, no_loads, registration_result, after_registration};
 ghost use Rattle.agv_store.specs.LoadTable.{no_tables, AreLoads};
-ghost use Rattle.agv_store.specs.NewRow.{IsRowRefused};
-ghost use Rattle.agv_store.specs.HeldLoads.{IsClean, IsOpen, IsStorageFault, HoldsLoads, HoldsSome, HoldsNothing, KeepsLoads, AreRegistered};
+ghost use Rattle.agv_store.specs.RefusedRow.{IsRowRefused};
+ghost use Rattle.agv_store.specs.HeldLoads.{IsClean, IsOpen, IsStorageFault, HoldsLoads, HoldsSome, HoldsNoSet, KeepsLoads, AreLoadsAfter};
 
 use crate::Fault;
 use crate::statements::{create_table, find_load, insert_load};
@@ -72,8 +72,8 @@ impl<S: Alter + Drop> Loads<S> {
         ensures clean { IsClean S.Store self.new → IsClean S.Store self.old }
         ensures registers { IsClean S.Store self.new → IfOk result (λ answer.
             (loads : Registered) → HoldsLoads S.Store self.old loads
-            → (answer ≡ registration loads name)
-            × HoldsLoads S.Store self.new (registered loads name)) }
+            → (answer ≡ registration_result loads name)
+            × HoldsLoads S.Store self.new (after_registration loads name)) }
 
         // An answer comes only from an open store.
         ensures held { IsClean S.Store self.new → OnOk result (HoldsSome S.Store self.old) }
@@ -82,7 +82,7 @@ impl<S: Alter + Drop> Loads<S> {
         ensures caused { IsClean S.Store self.new → IfErr result (λ fault. fault ≡ Fault.Storage
             → IsStorageFault S.Store self.old self.new ⊎ IsRowRefused S.Store self.old self.new name) }
         ensures survives { Survives (state S.Store self.old) (state S.Store self.new)
-            (AreRegistered S.Store self.old name) }
+            (AreLoadsAfter S.Store self.old name) }
     {
         if self.known(name)? {
             return Ok(Err(Refusal::Exists));
@@ -112,7 +112,7 @@ impl<S: Alter + Drop> Loads<S> {
         ensures caused { IsClean S.Store self.new → IfErr result (λ fault. fault ≡ Fault.Storage
             → IsStorageFault S.Store self.old self.new) }
         ensures survives { Survives (state S.Store self.old) (state S.Store self.new)
-            (λ _. HoldsNothing S.Store self.old) }
+            (λ _. HoldsNoSet S.Store self.old) }
     {
         let rows = find_load(&mut self.conn, name.as_str())?;
         Ok(!rows.is_empty())

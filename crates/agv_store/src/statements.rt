@@ -7,8 +7,9 @@ ghost use Rattle.agv_store.specs.Registered.{Registered, no_loads};
 ghost use Rattle.agv_store.specs.LoadTable.{no_tables, AreLoads};
 ghost use Rattle.agv_store.specs.Fault.{IsOfStore};
 ghost use Rattle.agv_store.specs.Creation.{IsCreation};
-ghost use Rattle.agv_store.specs.NewRow.{IsInsertion, RefusesRow};
-ghost use Rattle.agv_store.specs.HeldLoads.{IsClean, IsOpen, IsStorageFault, HoldsLoads, HoldsNothing, KeepsLoads};
+ghost use Rattle.agv_store.specs.NewRow.{IsInsertion};
+ghost use Rattle.agv_store.specs.RefusedRow.{RefusesRow};
+ghost use Rattle.agv_store.specs.HeldLoads.{IsClean, IsOpen, IsStorageFault, HoldsLoads, HoldsNoSet, KeepsLoads};
 
 use sqlite::{Alter, Connection, Error, Row, params};
 
@@ -65,7 +66,7 @@ pub(crate) fn find_load<S: Alter>(conn: &mut Connection<S>, name: &str) -> Resul
     ensures was_open { IsClean S.Store conn.new → IsOpen S.Store conn.new → IsOpen S.Store conn.old }
     ensures still_open { IsClean S.Store conn.new → OnOk result (IsOpen S.Store conn.new) }
     ensures survives { Survives (state S.Store conn.old) (state S.Store conn.new)
-        (λ _. HoldsNothing S.Store conn.old) }
+        (λ _. HoldsNoSet S.Store conn.old) }
 {
     conn.query_all("SELECT id FROM load WHERE id = ?1", params![name])
 }

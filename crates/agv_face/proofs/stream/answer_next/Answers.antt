@@ -1,7 +1,7 @@
 use Rattle.std.proofs.Common.{◌≡◌, ◌++◌, ◌∷◌, [], ℕ, List, take, drop, sym, ap, ◌∙◌, refl, inl, inr, take-append-drop, append_assoc, Result}
 use Rattle.agv_face.specs.declared.stream.Stop.{Stop}
 use Rattle.agv_face.specs.declared.stream.Step.{Step}
-use Rattle.agv_face.specs.Stepped.{IsNextEnd}
+use Rattle.agv_face.specs.Stepped.{IsNextOutcome}
 use Rattle.agv_face.proofs.Streaming.{none_answered, lent_call}
 use Rattle.agv_face.proofs.Steps.{of_same_err, next_called}
 use Rattle.agv_face.proofs.stream.answer_next.Goals as goal
@@ -47,6 +47,6 @@ pub returns-in_err-answer_call-in-Request-clause-ends :
 returns-in_err-answer_call-in-Request-clause-ends g c =
     let heard = c.in-Request.ensures in
     let call = lent_call heard.2 c.in-Request.request c.in_ok-call-in-Request.field-0 heard.4 c.in_ok-call-in-Request.ensures ∙ c.in-Some.is in
-    let Ended : Result Step Stop → Type 0 = λ result. IsNextEnd g.S.Store g.W.Write.contents c.args.loads.now c.answer_call.new.loads c.args.writer.now c.answer_call.new.writer c.args.buf.now c.args.ended result in
+    let Ended : Result Step Stop → Type 0 = λ result. IsNextOutcome g.S.Store g.W.Write.contents c.args.loads.now c.answer_call.new.loads c.args.writer.now c.answer_call.new.writer c.args.buf.now c.args.ended result in
     of_same_err c.from_residual-in_err-answer_call-in-Request.result _ Ended c.from_residual-in_err-answer_call-in-Request.ensures.1
     (next_called g.S.Store g.W.Write.contents _ _ _ _ c.args.buf.now c.args.ended c.in-Request.request.len c.in-Some.call _ (heard.0, heard.1, heard.2, heard.3, call) c.in_err-answer_call-in-Request.ensures.ends)

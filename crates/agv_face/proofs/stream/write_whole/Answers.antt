@@ -4,7 +4,7 @@ use Rattle.std.proofs.Math.ListN.{length-drop}
 use Rattle.std.proofs.Math.Seq.{take-add}
 use Rattle.std.proofs.KnownBytes.{Appends-trans}
 use Rattle.std.specs.Io.KnownBytes.{Appends}
-use Rattle.agv_face.proofs.Streaming.{cut_at, keeps-nil, failed_then}
+use Rattle.agv_face.proofs.Streaming.{part_written_at, keeps-nil, failed_then}
 use Rattle.agv_face.proofs.stream.write_whole.Goals as goal
 
 pub loop-done-preserved : goal.loop-done-preserved
@@ -34,7 +34,7 @@ returns-in-Ok-eq0 g c =
     let none = subst Took c.in-Ok-eq0.field-0-test c.in-Ok-eq0.ensures.bytes in
     record {
       ends = (
-        cut_at _ _ _ all done now.1 (keeps-nil _ _ none) c.loop-done-test.true,
+        part_written_at _ _ _ all done now.1 (keeps-nil _ _ none) c.loop-done-test.true,
         failed_then c.args.writer.now c.loop-done.writer c.write.new.self now.2 (c.in-Ok-eq0.ensures.took_none c.in-Ok-eq0.field-0-test some),
       );
     }
@@ -43,7 +43,7 @@ returns-in-Ok-eq0 g c =
 pub returns-in-Err : goal.returns-in-Err
 returns-in-Err g c =
     let now = c.loop-done.invariant in
-    record { ends = (cut_at _ _ _ c.args.bytes.now c.loop-done.done now.1 c.in-Err.ensures.bytes c.loop-done-test.true, failed_then c.args.writer.now c.loop-done.writer c.write.new.self now.2 c.in-Err.ensures.failed) }
+    record { ends = (part_written_at _ _ _ c.args.bytes.now c.loop-done.done now.1 c.in-Err.ensures.bytes c.loop-done-test.true, failed_then c.args.writer.now c.loop-done.writer c.write.new.self now.2 c.in-Err.ensures.failed) }
 
 -- all is written
 pub returns : goal.returns

@@ -2,7 +2,7 @@ use Rattle.std.proofs.Common.{not, sym, ap, subst, ◌∙◌}
 use Rattle.std.specs.FinSet as set
 use Rattle.sqlite.specs.Held.{state}
 use Rattle.sqlite.specs.State.{Survives}
-use Rattle.agv_store.specs.HeldLoads.{IsStorageFault, HoldsLoads, HoldsNothing}
+use Rattle.agv_store.specs.HeldLoads.{IsStorageFault, HoldsLoads, HoldsNoSet}
 use Rattle.agv_store.proofs.Registering.{earlier_clean, still_counted, on_err, not_not}
 use Rattle.agv_store.proofs.Failing.{fault_caused, counted_caused}
 use Rattle.agv_store.proofs.loads.Loads.known.Goals as goal
@@ -18,7 +18,7 @@ returns-in_err-rows-clause-failed g c clean still =
 
 pub returns-in_err-rows-clause-survives : goal.returns-in_err-rows-clause-survives
 returns-in_err-rows-clause-survives g c =
-    subst (λ held. Survives (state g.S.Store held) (state g.S.Store c.find_load.new.conn) (λ _. HoldsNothing g.S.Store held)) c.self.view_is c.find_load.ensures.survives
+    subst (λ held. Survives (state g.S.Store held) (state g.S.Store c.find_load.new.conn) (λ _. HoldsNoSet g.S.Store held)) c.self.view_is c.find_load.ensures.survives
 
 pub invariant_of-self-2 : goal.invariant_of-self-2
 invariant_of-self-2 g c =
@@ -40,7 +40,7 @@ returns-clause-held g c clean =
 
 pub returns-clause-survives : goal.returns-clause-survives
 returns-clause-survives g c =
-    subst (λ held. Survives (state g.S.Store held) (state g.S.Store c.find_load.new.conn) (λ _. HoldsNothing g.S.Store held)) c.self.view_is c.find_load.ensures.survives
+    subst (λ held. Survives (state g.S.Store held) (state g.S.Store c.find_load.new.conn) (λ _. HoldsNoSet g.S.Store held)) c.self.view_is c.find_load.ensures.survives
 
 pub returns-in_err-rows-clause-caused : goal.returns-in_err-rows-clause-caused
 returns-in_err-rows-clause-caused g c clean =

@@ -1,6 +1,6 @@
 use Rattle.std.proofs.Common.{◌⊎◌, inl, subst, refl, arith}
 use Rattle.agv_store.specs.HeldLoads.{IsClean, IsCounted, IsStorageFault}
-use Rattle.agv_store.specs.NewRow.{RefusesRow}
+use Rattle.agv_store.specs.RefusedRow.{RefusesRow}
 use Rattle.agv_store.proofs.Registering.{was_to_add, earlier_clean, finds_none, full, fails_counted, fails_kept, adds_counted, registers, survives_both, on_err}
 use Rattle.agv_store.proofs.Failing.{fault_caused, passed_on, later_caused}
 use Rattle.agv_store.proofs.loads.Loads.register.Goals as goal
