@@ -23,10 +23,10 @@ not_none : (c : Call) → ◌≡◌ {A = Option Call} None (Some c) → ⊥
 not_none c e = cc
 
 plain_call : (r : Request) (c : Call) (b : Bool) → is_plain r ≡ b → call_of r ≡ Some c → b ≡ true
-plain_call r c true is said = refl
-plain_call r c false is said =
+plain_call r c true is called = refl
+plain_call r c false is called =
     let F : Bool → Option Call = λ b. cond b (call_at r.method (path_of r.target) r.body) None in
-    absurd (not_none c (sym (ap F is) ∙ said))
+    absurd (not_none c (sym (ap F is) ∙ called))
 
 unnamed : (b : Bool) → not b ≡ true → b ≡ false
 unnamed true h = absurd (cc)
@@ -39,8 +39,8 @@ not_last : (a b : Bool) → a ≡ false → b ≡ false → (a || b) ≡ false
 not_last a b p q = cc
 
 pub call_goes_on : (r : Request) (c : Call) → call_of r ≡ Some c → is_last r ≡ false
-call_goes_on r c said =
-    let plain : is_plain r ≡ true = plain_call r c (is_plain r) refl said in
+call_goes_on r c called =
+    let plain : is_plain r ≡ true = plain_call r c (is_plain r) refl called in
     let parts = and_parts (r.minor == 1) (not (has_line (codes "connection") r.lines)) plain in
     let absent : values_of (codes "connection") r.lines ≡ [] = values_of-absent (codes "connection") r.lines (unnamed (has_line (codes "connection") r.lines) parts.1) in
     not_last (r.minor == 0) (list_any (λ value. list_any (same_word (codes "close")) (elements_of value)) (values_of (codes "connection") r.lines))
@@ -58,22 +58,22 @@ pub asks-nil : Asks [] []
 asks-nil = ([], no_more [] refl, refl)
 
 pub asks-append : (front part : List ℕ) (calls : List Call) (r : Request) (c : Call) → Asks front calls → IsRequest part r → call_of r ≡ Some c → Asks (front ++ part) (calls ++ c ∷ [])
-asks-append front part calls r c asks one said = (
+asks-append front part calls r c asks one called = (
   asks.0 ++ r ∷ [],
-  cut-append front part asks.0 r asks.1 one (call_goes_on r c said),
-  map-append call_of asks.0 (r ∷ []) ∙ ap₂ ◌++◌ asks.2 (ap (λ (o : Option Call). o ∷ []) said) ∙ sym (map-append Some calls (c ∷ [])),
+  cut-append front part asks.0 r asks.1 one (call_goes_on r c called),
+  map-append call_of asks.0 (r ∷ []) ∙ ap₂ ◌++◌ asks.2 (ap (λ (o : Option Call). o ∷ []) called) ∙ sym (map-append Some calls (c ∷ [])),
 )
 
 -- ---- what follows the front
 
 -- an input that is whole to its end is so after each front that is
 cut-rest : (front tail : List ℕ) (rs all : List Request) (calls : List Call) → Cut front rs at_end → Cut (front ++ tail) all at_end → map call_of all ≡ map Some calls → (more : List Call) × Asks tail more
-cut-rest front tail rs all calls (no_more _ nil) whole said =
-    let P : List ℕ → Type 0 = λ l. Cut (l ++ tail) all at_end in (calls, (all, subst P nil whole, said))
-cut-rest front tail rs all calls (one_more _ p rest x xs e is first goes later) (no_more _ nil) said =
+cut-rest front tail rs all calls (no_more _ nil) whole called =
+    let P : List ℕ → Type 0 = λ l. Cut (l ++ tail) all at_end in (calls, (all, subst P nil whole, called))
+cut-rest front tail rs all calls (one_more _ p rest x xs e is first goes later) (no_more _ nil) called =
     absurd (not_empty (front ++ tail) p (rest ++ tail) x (ap (λ (l : List ℕ). l ++ tail) is ∙ append_assoc p rest tail) first nil)
-cut-rest front tail rs all [] (one_more _ p rest x xs e is first goes later) (one_more _ q s y ys d is' first' goes' later') said = absurd (cc)
-cut-rest front tail rs all (c ∷ calls) (one_more _ p rest x xs e is first goes later) (one_more _ q s y ys d is' first' goes' later') said =
+cut-rest front tail rs all [] (one_more _ p rest x xs e is first goes later) (one_more _ q s y ys d is' first' goes' later') called = absurd (cc)
+cut-rest front tail rs all (c ∷ calls) (one_more _ p rest x xs e is first goes later) (one_more _ q s y ys d is' first' goes' later') called =
     let here : p ++ (rest ++ tail) ≡ q ++ s = sym (append_assoc p rest tail) ∙ ap (λ (l : List ℕ). l ++ tail) (sym is) ∙ is' in
     let same = one_request p q (rest ++ tail) s x y here first first' in
     let P : List ℕ → Type 0 = λ l. Cut l ys at_end in
@@ -90,9 +90,9 @@ asks-fault bytes fault calls is asks = let same = one_cut bytes asks.0 [] at_end
 
 -- nor does one whose first request is no call
 other_cut : (bytes part rest : List ℕ) (r : Request) (rs : List Request) (calls : List Call) → bytes ≡ part ++ rest → IsRequest part r → call_of r ≡ None → Cut bytes rs at_end → map call_of rs ≡ map Some calls → ⊥
-other_cut bytes part rest r rs calls is one none (no_more _ nil) said = not_empty bytes part rest r is one nil
-other_cut bytes part rest r rs [] is one none (one_more _ q s y ys d is' first goes later) said = absurd (cc)
-other_cut bytes part rest r rs (c ∷ calls) is one none (one_more _ q s y ys d is' first goes later) said =
+other_cut bytes part rest r rs calls is one none (no_more _ nil) called = not_empty bytes part rest r is one nil
+other_cut bytes part rest r rs [] is one none (one_more _ q s y ys d is' first goes later) called = absurd (cc)
+other_cut bytes part rest r rs (c ∷ calls) is one none (one_more _ q s y ys d is' first goes later) called =
     let same = one_request part q rest s r y (sym is ∙ is') one first in
     let heads : call_of y ≡ Some c = cc in
     not_none c (sym none ∙ ap call_of same.0 ∙ heads)

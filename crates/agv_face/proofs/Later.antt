@@ -1,10 +1,8 @@
 -- A connection at later and later moments, and the causes of its faults.
 use Rattle.std.proofs.Common.{◌≡◌, ◌≤◌, ◌⊎◌, ℕ, Bool, true, false, Option, IsTrue, IsSome, refl, sym, ◌∙◌, subst, inl, inr, arith}
 use Rattle.sqlite_trees.specs.declared.store.Store.{Ghosts}
-use Rattle.sqlite_trees.specs.Tree.{Trees}
-use Rattle.sqlite.specs.State.{Survives}
 use Rattle.sqlite.specs.Held.{Held, state}
-use Rattle.agv_store.specs.HeldLoads.{MoreFaults, IsClean, IsOpen, IsLater, IsStorageFault}
+use Rattle.agv_store.specs.HeldLoads.{MoreFaults, IsClean, IsOpen, IsLater, HasStorageCause}
 
 -- more faults than at one moment are more than at an earlier one
 more_than_earlier : (old mid new : ℕ) → old ≤ mid → MoreFaults mid new → MoreFaults old new
@@ -24,9 +22,6 @@ not_both b is not_so = let absurdly : true ≡ false = sym is ∙ not_so in cc
 module _ {S : Type 0} (g : Ghosts S) where
   pub later_refl : (held : Held S) → IsLater g held held
   later_refl held = record { clean = λ is. is; faults = omega arith; step_limit = refl; closes = λ is was_open. inl was_open }
-
-  pub later_by : (old new : Held S) (Commits : Trees → Type 0) → (IsClean g new → IsClean g old) → Survives (state g old) (state g new) Commits → IsLater g old new
-  later_by old new Commits clean survives = record { clean = clean; faults = survives.counts; step_limit = survives.limit; closes = survives.closes }
 
   module _ (old mid new : Held S) (first : IsLater g old mid) (next : IsLater g mid new) where
     more_first : MoreFaults (state g old).faults (state g mid).faults → MoreFaults (state g old).faults (state g new).faults
@@ -51,14 +46,14 @@ module _ {S : Type 0} (g : Ghosts S) where
       closes = λ is was_open. closed_by (first.closes (next.clean is) was_open) is;
     }
 
-    shut_by : (state g mid).is_open ≡ false → IsOpen g mid ⊎ MoreFaults (state g old).faults (state g mid).faults → IsStorageFault g old new
+    shut_by : (state g mid).is_open ≡ false → IsOpen g mid ⊎ MoreFaults (state g old).faults (state g mid).faults → HasStorageCause g old new
     shut_by shut (inl was_open) = absurd (not_both (state g mid).is_open was_open shut)
     shut_by shut (inr more) = inl (more_first more)
 
     -- a fault of the store after a later moment is one after an earlier one
-    pub fault_later : IsClean g new → IsStorageFault g mid new → IsStorageFault g old new
+    pub fault_later : IsClean g new → HasStorageCause g mid new → HasStorageCause g old new
     fault_later clean (inl more) = inl (more_next more)
     fault_later clean (inr (inl shut)) =
-        either (state g old).is_open (IsStorageFault g old new) (λ was_open. shut_by shut (first.closes (next.clean clean) was_open)) (λ was. inr (inl was))
+        either (state g old).is_open (HasStorageCause g old new) (λ was_open. shut_by shut (first.closes (next.clean clean) was_open)) (λ was. inr (inl was))
     fault_later clean (inr (inr limited)) =
         let Limited : Option ℕ → Type 0 = λ o. IsSome o in inr (inr (subst Limited first.step_limit limited))

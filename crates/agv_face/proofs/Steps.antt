@@ -3,7 +3,7 @@ use Rattle.std.proofs.Common.{◌≡◌, ◌⊎◌, ℕ, Bool, false, List, [], 
 use Rattle.std.specs.Io.KnownBytes.{Appends}
 use Rattle.sqlite_trees.specs.declared.store.Store.{Ghosts}
 use Rattle.sqlite.specs.Held.{Held}
-use Rattle.agv_store.specs.HeldLoads.{IsClean, IsStorageFault, IsLater, HoldsLoads, HoldsIfOpen}
+use Rattle.agv_store.specs.HeldLoads.{IsClean, HasStorageCause, IsLater, HoldsLoads, HoldsIfOpen}
 use Rattle.agv_store.specs.Registered.{Registered}
 use Rattle.agv_store.specs.declared.fault.Fault.{Fault}
 use Rattle.agv_store.specs.declared.fault.Fault.TheVariants as fault
@@ -16,8 +16,8 @@ use Rattle.agv_face.specs.declared.watched.Watched.{Watched}
 use Rattle.agv_face.specs.Answers.{answer_bytes}
 use Rattle.agv_face.specs.Served.{answer_to, after, after_all, IsAnswered}
 use Rattle.agv_face.specs.Stops.{stop_of}
-use Rattle.agv_face.specs.StoreFaults.{IsRefusedBehind}
-use Rattle.agv_face.specs.Stepped.{IsReadOutcome, IsWriteOutcome, IsCallOutcome, IsNextOutcome, IsNextCall, Kept, After, NextKept}
+use Rattle.agv_face.specs.StoreFaults.{IsRowRefusedBehind}
+use Rattle.agv_face.specs.Stepped.{IsReadOutcome, IsWriteOutcome, IsCallOutcome, IsNextOutcome, IsNextCall, KeptIfOpen, CarriedOut, KeptOrCarriedOut}
 use Rattle.agv_face.specs.Watched.{inner_of, failures_of, FailedNever}
 use Rattle.agv_face.specs.Asked.{AsksNext}
 use Rattle.agv_face.specs.Requests.{NeedsMore}
@@ -57,13 +57,13 @@ module _ {S W : Type 0} (g : Ghosts S) (contents : W → Option (List ℕ)) (loa
   call_written call answer (Err stop.Memory) carried wrote = (wrote, inr (λ clean known held. (carried clean known held).1))
   call_written call answer (Err stop.Storage) carried wrote = absurd wrote
 
-  lost_next : (buf : List ℕ) (len : ℕ) (call : Call) → IsNextCall buf len call → Kept g loads loads_then ⊎ After g loads loads_then call → NextKept g loads loads_then buf
+  lost_next : (buf : List ℕ) (len : ℕ) (call : Call) → IsNextCall buf len call → KeptIfOpen g loads loads_then ⊎ CarriedOut g loads loads_then call → KeptOrCarriedOut g loads loads_then buf
   lost_next buf len call next (inl kept) = inl kept
   lost_next buf len call next (inr carried) = inr (len, call, next, carried)
 
   next_caused : (buf : List ℕ) (len : ℕ) (call : Call) → IsNextCall buf len call
-      → IsStorageFault g loads loads_then ⊎ ((next : Call) × (next ≡ call) × IsRefusedBehind g loads loads_then [] next)
-      → IsStorageFault g loads loads_then ⊎ ((next : Call) × ((len : ℕ) × IsNextCall buf len next) × IsRefusedBehind g loads loads_then [] next)
+      → HasStorageCause g loads loads_then ⊎ ((next : Call) × (next ≡ call) × IsRowRefusedBehind g loads loads_then [] next)
+      → HasStorageCause g loads loads_then ⊎ ((next : Call) × ((len : ℕ) × IsNextCall buf len next) × IsRowRefusedBehind g loads loads_then [] next)
   next_caused buf len call next (inl failed) = inl failed
   next_caused buf len call next (inr refused) =
       let Next : Call → Type 0 = λ c. IsNextCall buf len c in inr (refused.0, (len, subst Next (sym refused.1) next), refused.2)
@@ -89,21 +89,21 @@ Answering g contents loads loads_now reader reader_now writer writer_now calls =
 module _ {S R W : Type 0} (g : Ghosts S) (remaining : R → Option (List ℕ)) (contents : W → Option (List ℕ))
     (loads loads_mid loads_then : Held S) (reader reader_mid reader_then : Watched R) (writer writer_mid writer_then : Watched W) where
   memory_lacked : (ended : Bool) (buf : List ℕ) (calls : List Call) → HasCome (remaining (inner_of reader)) (remaining (inner_of reader_mid)) ended buf calls → Answering g contents loads loads_mid reader reader_mid writer writer_mid calls
-      → IsLater g loads_mid loads_then → (writer_then ≡ writer_mid) → NextKept g loads_mid loads_then buf
+      → IsLater g loads_mid loads_then → (writer_then ≡ writer_mid) → KeptOrCarriedOut g loads_mid loads_then buf
       → LackedMemory g remaining contents loads loads_then reader reader_mid writer writer_then
   memory_lacked ended buf calls come now later same (inl kept) =
       inl (calls, so_far _ _ _ _ calls come, λ is. kept_on (HoldsLoads g loads) (HoldsLoads g loads_mid) (HoldsIfOpen g loads_then) _ _ _ calls (now.0 (later.clean is)) (ap (λ (w : Watched W). contents (inner_of w)) same) (kept is))
   memory_lacked ended buf calls come now later same (inr next) =
       inr (calls, next.1, asks_next _ _ _ _ next.0 calls next.1 come next.2, λ is. unanswered_on (HoldsLoads g loads) (HoldsLoads g loads_mid) (HoldsLoads g loads_then) _ _ _ calls next.1 (now.0 (later.clean is)) (ap (λ (w : Watched W). contents (inner_of w)) same) (next.3 is))
 
-  refused_behind : (calls : List Call) (call : Call) (old new : Option (List ℕ)) → IsAnswered (HoldsLoads g loads) (HoldsLoads g loads_mid) old new calls → IsRefusedBehind g loads_mid loads_then [] call → IsRefusedBehind g loads loads_then calls call
-  refused_behind calls (variant.Register load) old new answered refused = ((λ known held. refused.0 (after_all known calls) (answered known held).1), refused.1)
+  refused_behind : (calls : List Call) (call : Call) (old new : Option (List ℕ)) → IsAnswered (HoldsLoads g loads) (HoldsLoads g loads_mid) old new calls → IsRowRefusedBehind g loads_mid loads_then [] call → IsRowRefusedBehind g loads loads_then calls call
+  refused_behind calls (variant.Register load) old new answered refused = (refused.0, (λ known held. refused.1 (after_all known calls) (answered known held).1), refused.2)
   refused_behind calls (variant.Show load) old new answered refused = absurd refused
 
   cause_behind : (ended : Bool) (buf : List ℕ) (calls : List Call) → HasCome (remaining (inner_of reader)) (remaining (inner_of reader_mid)) ended buf calls → Answering g contents loads loads_mid reader reader_mid writer writer_mid calls
       → IsLater g loads loads_mid → IsLater g loads_mid loads_then → IsClean g loads_then
-      → IsStorageFault g loads_mid loads_then ⊎ ((next : Call) × ((len : ℕ) × IsNextCall buf len next) × IsRefusedBehind g loads_mid loads_then [] next)
-      → IsStorageFault g loads loads_then ⊎ ((next : Call) × IfSome (remaining (inner_of reader)) (λ input. AsksNext input calls next) × IsRefusedBehind g loads loads_then calls next)
+      → HasStorageCause g loads_mid loads_then ⊎ ((next : Call) × ((len : ℕ) × IsNextCall buf len next) × IsRowRefusedBehind g loads_mid loads_then [] next)
+      → HasStorageCause g loads loads_then ⊎ ((next : Call) × IfSome (remaining (inner_of reader)) (λ input. AsksNext input calls next) × IsRowRefusedBehind g loads loads_then calls next)
   cause_behind ended buf calls come now first later is (inl failed) = inl (fault_later g loads loads_mid loads_then first later is failed)
   cause_behind ended buf calls come now first later is (inr refused) =
       inr (refused.0, asks_next _ _ _ _ refused.1.0 calls refused.0 come refused.1.1, refused_behind calls refused.0 _ _ (now.0 (later.clean is)) refused.2)

@@ -7,7 +7,7 @@ use Rattle.agv_store.specs.Registered.{Registered}
 use Rattle.agv_face.specs.declared.call.Call.{Call}
 use Rattle.agv_face.specs.Requests.{Request, NeedsMore, is_plain}
 use Rattle.agv_face.specs.Calls.{call_of, call_at, path_of}
-use Rattle.agv_face.specs.declared.request.Lent.{Lent}
+use Rattle.agv_face.specs.declared.request.LentRequest.{LentRequest}
 use Rattle.agv_face.specs.Asked.{Asks, AsksFirst, AsksNext, AsksSoFar, AsksUpToOther, BeginsWithNoCall}
 use Rattle.agv_face.specs.declared.answer.Answer.{Answer}
 use Rattle.agv_face.specs.Answers.{answer_bytes}
@@ -164,7 +164,7 @@ keeps-nil (Some xs) (Some ys) took = took ∙ append-nil xs
 
 -- ---- the call that lent parts are
 
-pub lent_call : (r : Request) (lent : Lent) (found : Option Call) → IsLent r lent → found ≡ cond lent.is_plain (call_at lent.method.now (path_of lent.target.now) lent.body.now) None → call_of r ≡ found
+pub lent_call : (r : Request) (lent : LentRequest) (found : Option Call) → IsLent r lent → found ≡ cond lent.is_plain (call_at lent.method.now (path_of lent.target.now) lent.body.now) None → call_of r ≡ found
 lent_call r lent found is e = sym (
     e ∙ ap (λ (b : Bool). cond b (call_at lent.method.now (path_of lent.target.now) lent.body.now) None) is.plain
     ∙ ap (λ (m : List ℕ). cond (is_plain r) (call_at m (path_of lent.target.now) lent.body.now) None) is.method

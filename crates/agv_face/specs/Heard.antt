@@ -3,14 +3,14 @@ use Rattle.std.specs.Prelude.{◌≡◌, ℕ, ◌+◌, ◌<◌, ◌≤◌, Bool,
 use Rattle.agv_face.specs.Requests.{Request, IsRequest, IsFault, NeedsMore, is_plain, most_head, most_body}
 use Rattle.agv_face.specs.declared.request.Heard.{Heard}
 use Rattle.agv_face.specs.declared.request.Heard.TheVariants as heard
-use Rattle.agv_face.specs.declared.request.Lent.{Lent}
+use Rattle.agv_face.specs.declared.request.LentRequest.{LentRequest}
 
 -- what may follow the buffer: nothing where the input has ended
 abbrev pub Follows : Bool → List ℕ → Type 0
 Follows ended more = ended ≡ true → more ≡ []
 
 -- the lent parts are those of the request
-pub record IsLent (request : Request) (lent : Lent) : Type 0 where
+pub record IsLent (request : Request) (lent : LentRequest) : Type 0 where
   pub method : lent.method.now ≡ request.method
   pub target : lent.target.now ≡ request.target
   pub body : lent.body.now ≡ request.body

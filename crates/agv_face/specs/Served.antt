@@ -60,7 +60,7 @@ IsUnanswered holds holds_then old new calls call = (loads : Registered) → hold
 abbrev pub IsPartWritten : Option (List ℕ) → Option (List ℕ) → List ℕ → List ℕ → Type 0
 IsPartWritten old new others bytes = (front : List ℕ) × (rest : List ℕ) × (bytes ≡ front ++ rest) × (0 < length rest) × Appends old new (others ++ front)
 
--- the calls are answered, and one call more is carried out, whose answer is cut as it is written
+-- the calls are answered, and one call more is carried out, of whose answer just a front is written
 abbrev pub IsPartAnswered : (Registered → Type 0) → (Registered → Type 0) → Option (List ℕ) → Option (List ℕ) → List Call → Call → Type 0
 IsPartAnswered holds holds_then old new calls call =
     (loads : Registered) → holds loads → IsPartWritten old new (output loads calls) (answer_bytes (answer_to (after_all loads calls) call)) × holds_then (after (after_all loads calls) call)

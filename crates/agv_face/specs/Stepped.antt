@@ -15,7 +15,7 @@ use Rattle.agv_face.specs.Calls.{call_of}
 use Rattle.agv_face.specs.Asked.{BeginsWithNoCall}
 use Rattle.agv_face.specs.Heard.{Follows}
 use Rattle.agv_face.specs.Served.{AreKept, AreAfter, IsAnswered, IsPartWritten, IsPartAnswered}
-use Rattle.agv_face.specs.StoreFaults.{HasStoreCause}
+use Rattle.agv_face.specs.StoreFaults.{HasCauseBehind}
 use Rattle.agv_face.specs.Watched.{inner_of, FailedOnce, FailedNever}
 
 -- the buffer begins with a request that is this call, and takes so many bytes
@@ -56,40 +56,40 @@ module _ {W : Type 0} (contents : W → Option (List ℕ)) (writer writer_then :
 
 module _ {S : Type 0} (g : Ghosts S) (loads loads_then : Held S) where
   -- the loads are as before, if the store is still open
-  abbrev pub Kept : Type 0
-  Kept = IsClean g loads_then → AreKept (HoldsLoads g loads) (HoldsIfOpen g loads_then)
+  abbrev pub KeptIfOpen : Type 0
+  KeptIfOpen = IsClean g loads_then → AreKept (HoldsLoads g loads) (HoldsIfOpen g loads_then)
 
   -- the loads are those after the call
-  abbrev pub After : Call → Type 0
-  After call = IsClean g loads_then → AreAfter (HoldsLoads g loads) (HoldsLoads g loads_then) call
+  abbrev pub CarriedOut : Call → Type 0
+  CarriedOut call = IsClean g loads_then → AreAfter (HoldsLoads g loads) (HoldsLoads g loads_then) call
 
   -- the loads are as before, or those after the next call of the buffer
-  abbrev pub NextKept : List ℕ → Type 0
-  NextKept buf = Kept ⊎ ((len : ℕ) × (call : Call) × IsNextCall buf len call × After call)
+  abbrev pub KeptOrCarriedOut : List ℕ → Type 0
+  KeptOrCarriedOut buf = KeptIfOpen ⊎ ((len : ℕ) × (call : Call) × IsNextCall buf len call × CarriedOut call)
 
 module _ {S W : Type 0} (g : Ghosts S) (contents : W → Option (List ℕ)) (loads loads_then : Held S) (writer writer_then : Watched W) where
   -- just these calls are answered
-  abbrev pub Answers : List Call → Type 0
-  Answers calls = IsClean g loads_then → IsAnswered (HoldsLoads g loads) (HoldsLoads g loads_then) (contents (inner_of writer)) (contents (inner_of writer_then)) calls
+  abbrev pub Answered : List Call → Type 0
+  Answered calls = IsClean g loads_then → IsAnswered (HoldsLoads g loads) (HoldsLoads g loads_then) (contents (inner_of writer)) (contents (inner_of writer_then)) calls
 
-  -- the call is carried out, and its answer is cut
-  abbrev pub Cuts : Call → Type 0
-  Cuts call = IsClean g loads_then → IsPartAnswered (HoldsLoads g loads) (HoldsLoads g loads_then) (contents (inner_of writer)) (contents (inner_of writer_then)) [] call
+  -- the call is carried out, and just a front of its answer is written
+  abbrev pub PartAnswered : Call → Type 0
+  PartAnswered call = IsClean g loads_then → IsPartAnswered (HoldsLoads g loads) (HoldsLoads g loads_then) (contents (inner_of writer)) (contents (inner_of writer_then)) [] call
 
   -- what became of one call
   abbrev pub IsCallOutcome : Call → Result (Unit {0}) Stop → Type 0
-  IsCallOutcome call (Ok done) = Answers (call ∷ []) × FailedNever writer writer_then
+  IsCallOutcome call (Ok done) = Answered (call ∷ []) × FailedNever writer writer_then
   IsCallOutcome call (Err stop.Other) = ⊥
   IsCallOutcome call (Err stop.Read) = ⊥
-  IsCallOutcome call (Err stop.Write) = Cuts call × FailedOnce writer writer_then
-  IsCallOutcome call (Err stop.Memory) = (writer_then ≡ writer) × (Kept g loads loads_then ⊎ After g loads loads_then call)
-  IsCallOutcome call (Err stop.Storage) = (writer_then ≡ writer) × Kept g loads loads_then × HasStoreCause g loads loads_then [] (λ next. next ≡ call)
+  IsCallOutcome call (Err stop.Write) = PartAnswered call × FailedOnce writer writer_then
+  IsCallOutcome call (Err stop.Memory) = (writer_then ≡ writer) × (KeptIfOpen g loads loads_then ⊎ CarriedOut g loads loads_then call)
+  IsCallOutcome call (Err stop.Storage) = (writer_then ≡ writer) × KeptIfOpen g loads loads_then × HasCauseBehind g loads loads_then [] (λ next. next ≡ call)
 
   -- what became of the next request of the buffer
   abbrev pub IsNextOutcome : List ℕ → Bool → Result Step Stop → Type 0
-  IsNextOutcome buf ended (Ok done) = (calls : List Call) × IsStep buf ended done calls × Answers calls × FailedNever writer writer_then
-  IsNextOutcome buf ended (Err stop.Other) = IsOther buf ended × Answers [] × FailedNever writer writer_then
+  IsNextOutcome buf ended (Ok done) = (calls : List Call) × IsStep buf ended done calls × Answered calls × FailedNever writer writer_then
+  IsNextOutcome buf ended (Err stop.Other) = IsOther buf ended × Answered [] × FailedNever writer writer_then
   IsNextOutcome buf ended (Err stop.Read) = ⊥
-  IsNextOutcome buf ended (Err stop.Write) = (len : ℕ) × (call : Call) × IsNextCall buf len call × Cuts call × FailedOnce writer writer_then
-  IsNextOutcome buf ended (Err stop.Memory) = (writer_then ≡ writer) × NextKept g loads loads_then buf
-  IsNextOutcome buf ended (Err stop.Storage) = (writer_then ≡ writer) × Kept g loads loads_then × HasStoreCause g loads loads_then [] (λ next. (len : ℕ) × IsNextCall buf len next)
+  IsNextOutcome buf ended (Err stop.Write) = (len : ℕ) × (call : Call) × IsNextCall buf len call × PartAnswered call × FailedOnce writer writer_then
+  IsNextOutcome buf ended (Err stop.Memory) = (writer_then ≡ writer) × KeptOrCarriedOut g loads loads_then buf
+  IsNextOutcome buf ended (Err stop.Storage) = (writer_then ≡ writer) × KeptIfOpen g loads loads_then × HasCauseBehind g loads loads_then [] (λ next. (len : ℕ) × IsNextCall buf len next)

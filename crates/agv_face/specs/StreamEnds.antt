@@ -11,7 +11,7 @@ use Rattle.agv_face.specs.declared.serve.LoadsFault.{LoadsFault}
 use Rattle.agv_face.specs.declared.watched.Watched.{Watched}
 use Rattle.agv_face.specs.Asked.{Asks, AsksFirst, AsksNext, AsksSoFar, AsksUpToOther}
 use Rattle.agv_face.specs.Served.{IsAnswered, IsUnanswered, IsPartAnswered}
-use Rattle.agv_face.specs.StoreFaults.{HasStoreCause}
+use Rattle.agv_face.specs.StoreFaults.{HasCauseBehind}
 use Rattle.agv_face.specs.Stops.{loads_fault_of}
 use Rattle.agv_face.specs.Watched.{inner_of, FailedOnce, FailedNever, RanOut}
 
@@ -50,7 +50,7 @@ module _ {S R W : Type 0} (g : Ghosts S) (remaining : R → Option (List ℕ)) (
 
   -- the store failed behind calls that are answered, and the next one is not carried out
   abbrev pub StoreFailed : Type 0
-  StoreFailed = (calls : List Call) × Input (λ input. AsksFirst input calls) × AnsweredIfOpen calls × HasStoreCause g loads loads_then calls (λ call. Input (λ input. AsksNext input calls call))
+  StoreFailed = (calls : List Call) × Input (λ input. AsksFirst input calls) × AnsweredIfOpen calls × HasCauseBehind g loads loads_then calls (λ call. Input (λ input. AsksNext input calls call))
 
   abbrev pub NoneFailed : Type 0
   NoneFailed = FailedNever reader reader_then × FailedNever writer writer_then

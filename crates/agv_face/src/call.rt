@@ -4,7 +4,7 @@ ghost use Rattle.serde_json.specs.Find.{get, as_str};
 ghost use Rattle.serde_json.specs.View.{view};
 ghost use Rattle.agv_face.specs.Calls.{path_of, as_name, member_count, only_load, load_in_body, load_in_path, call_at};
 
-use crate::request::Lent;
+use crate::request::LentRequest;
 use agv_header::Name;
 use serde_json::Value;
 use std::alloc::{AllocError, Global};
@@ -92,7 +92,7 @@ fn load_in_path(path: &[u8]) -> Option<Name>
 }
 
 /// The call that the request is, or none where it is of another form.
-pub(crate) fn call_of(alloc: Global, request: &Lent<'_>) -> Result<Option<Call>, AllocError>
+pub(crate) fn call_of(alloc: Global, request: &LentRequest<'_>) -> Result<Option<Call>, AllocError>
     ensures { IfOk result (λ call. call ≡ (if request.now.is_plain then call_at request.now.method.now (path_of request.now.target.now) request.now.body.now else None)) }
 {
     let path = path_of(request.target);

@@ -25,7 +25,7 @@ mod watched;
 
 pub use answer::Answer;
 pub use call::Call;
-pub use request::{Heard, Lent, read_request};
+pub use request::{Heard, LentRequest, read_request};
 pub use serve::{LoadsFault, serve_loads};
 pub use stream::{Stop, answer_calls};
 pub use watched::Watched;

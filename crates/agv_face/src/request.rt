@@ -19,7 +19,7 @@ const MOST_BODY: u32 = 65536;
 
 /// A request, lent from the bytes that it came in.
 #[derive(Clone, Copy)]
-pub struct Lent<'b> {
+pub struct LentRequest<'b> {
     pub method: &'b [u8],
     pub target: &'b [u8],
     pub body: &'b [u8],
@@ -36,7 +36,7 @@ pub enum Heard<'b> {
     Need,
     /// The stream has ended, and no byte is left.
     End,
-    Request(Lent<'b>),
+    Request(LentRequest<'b>),
     /// What is left begins with no request. Nothing after it is looked at.
     Refused(Refusal),
 }
@@ -108,7 +108,7 @@ fn with_head<'b>(
     let (_, rest) = buf.split_at(head.len);
     match needed_by(front, lines, method) {
         Err(refusal) => Heard::Refused(refusal),
-        Ok(n) if n <= rest.len() => Heard::Request(Lent {
+        Ok(n) if n <= rest.len() => Heard::Request(LentRequest {
             method,
             target: head.path.of(front),
             body: &rest[..n],

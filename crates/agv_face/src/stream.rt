@@ -6,7 +6,7 @@ ghost use Rattle.agv_face.specs.Answers.{answer_bytes};
 ghost use Rattle.agv_face.specs.StreamEnds.{IsStreamEnd};
 ghost use Rattle.agv_face.specs.Served.{answer_to, after, registration_answer, place_answer};
 ghost use Rattle.agv_face.specs.Stepped.{IsReadOutcome, IsWriteOutcome, IsCallOutcome, IsNextOutcome};
-ghost use Rattle.agv_face.specs.StoreFaults.{HasStoreCause};
+ghost use Rattle.agv_face.specs.StoreFaults.{HasCauseBehind};
 ghost use Rattle.agv_face.specs.Watched.{HadCall, HadCallsAtMost};
 
 use crate::answer::{Answer, answer_bytes};
@@ -116,7 +116,7 @@ fn write_whole<W: Write>(writer: &mut Watched<W>, bytes: &[u8]) -> Result<(), St
     Ok(())
 }
 
-/// A registration_result, as an answer.
+/// A registration, as an answer.
 fn registration_answer(registration: Result<(), Refusal>) -> Answer
     ensures { result ≡ registration_answer registration }
 {
@@ -143,7 +143,7 @@ fn carry_out<S: Alter + Drop>(loads: &mut Loads<S>, call: Call) -> Result<Answer
     ensures carried { IsClean S.Store loads.new → IfOk result (λ answer. (known : Registered) → HoldsLoads S.Store loads.old known
         → (answer ≡ answer_to known call) × HoldsLoads S.Store loads.new (after known call)) }
     ensures failed { IsClean S.Store loads.new → IsOpen S.Store loads.new → OnErr result (KeepsLoads S.Store loads.old loads.new) }
-    ensures caused { IfErr result (λ fault. fault ≡ Fault.Storage → HasStoreCause S.Store loads.old loads.new [] (λ next. next ≡ call)) }
+    ensures caused { IfErr result (λ fault. fault ≡ Fault.Storage → HasCauseBehind S.Store loads.old loads.new [] (λ next. next ≡ call)) }
 {
     match call {
         Call::Register(load) => Ok(registration_answer(loads.register(load)?)),

@@ -20,9 +20,9 @@ use Rattle.agv_store.specs.declared.fault.Fault.TheVariants as fault
 use Rattle.agv_store.specs.Fault.{fault_of, IsOfStore}
 use Rattle.agv_store.specs.Registered.{Registered}
 use Rattle.agv_store.specs.LoadTable.{load_schema}
-use Rattle.agv_store.specs.NewRow.{IsWhole, is_shown, IsInsertion, insert_command}
+use Rattle.agv_store.specs.Insertion.{IsWhole, is_shown, IsInsertion, insert_command}
 use Rattle.agv_store.specs.RefusedRow.{RefusesRow}
-use Rattle.agv_store.specs.HeldLoads.{IsStorageFault, HoldsLoads, IsCounted, IsClean}
+use Rattle.agv_store.specs.HeldLoads.{HasStorageCause, HoldsLoads, IsCounted, IsClean}
 use Rattle.sqlite_trees.specs.declared.store.Store.{Ghosts}
 use Rattle.sqlite.specs.Held.{Held, state}
 use Rattle.agv_store.proofs.Texts.{find_text, find_command, find_is, find_plain}
@@ -76,7 +76,7 @@ module _ (name : List ℕ) (old new : State) (e : Error) (has : old.now.schema �
 -- where the call fails so
 module _ {S : Type 0} (g : Ghosts S) (old new : Held S) (name : List ℕ) where
   pub finding_caused : (params : Row) → params ≡ Text name ∷ [] → (r : Result (Vec Row Global) Error) → IfErr r (FailsToQuery find_text params (state g old) (state g new))
-      → IfErr r (λ e. IsOfStore e → (loads : Registered) → HoldsLoads g old loads → IsStorageFault g old new)
+      → IfErr r (λ e. IsOfStore e → (loads : Registered) → HoldsLoads g old loads → HasStorageCause g old new)
   finding_caused params given (Ok rows) fails = tt
   finding_caused params given (Err e) fails = λ stored loads h.
       find_caused name (state g old) (state g new) e h.schema stored (subst (λ p. FailsToQuery find_text p (state g old) (state g new) e) given fails)
@@ -92,7 +92,7 @@ passed_on (Ok a) f is why = absurd is
 passed_on (Err x) f is why = λ stored. why (sym is ∙ stored)
 
 -- a connection that is counted shows some loads, or had been shut
-pub counted_caused : {S : Type 0} (g : Ghosts S) (old new : Held S) (count : ℕ) → IsCounted g old count → IsClean g old → ((loads : Registered) → HoldsLoads g old loads → IsStorageFault g old new) → IsStorageFault g old new
+pub counted_caused : {S : Type 0} (g : Ghosts S) (old new : Held S) (count : ℕ) → IsCounted g old count → IsClean g old → ((loads : Registered) → HoldsLoads g old loads → HasStorageCause g old new) → HasStorageCause g old new
 counted_caused g old new count counted clean why = elim (cases_Bool (state g old).is_open) [ inl still ↦ let it = counted clean still in why it.0 it.1 | inr shut ↦ inr (inl shut) ]
 
 -- ---- the insertion
@@ -141,15 +141,15 @@ module _ (name sql : List ℕ) (means : IsInsertion sql) (old new : State) (e : 
 
 module _ {S : Type 0} (g : Ghosts S) (old new : Held S) (name sql : List ℕ) (means : IsInsertion sql) where
   pub inserting_caused : (params : Row) → params ≡ Text name ∷ [] → (r : Result ℕ Error) → {Commits : Trees → Type 0} → Survives (state g old) (state g new) Commits → IsClean g new → Executes sql params (state g old) (state g new) r
-      → IfErr r (λ e. IsOfStore e → (loads : Registered) → HoldsLoads g old loads → IsStorageFault g old new ⊎ RefusesRow g new name)
+      → IfErr r (λ e. IsOfStore e → (loads : Registered) → HoldsLoads g old loads → HasStorageCause g old new ⊎ RefusesRow g new name)
   inserting_caused params given (Ok count) saved clean ran = tt
   inserting_caused params given (Err e) saved clean ran = λ stored loads h.
       insert_caused name sql means (state g old) (state g new) e h.schema h.committed saved.limit (saved.closes clean h.is_open) stored (subst (λ p. Executes sql p (state g old) (state g new) (Err e)) given ran)
 
 -- a fault of the store after the look-up is one of the call
-pub later_caused : {S : Type 0} (g : Ghosts S) (old mid new : Held S) {Commits : Trees → Type 0} → Survives (state g old) (state g mid) Commits → (loads : Registered) → HoldsLoads g mid loads → {Room Why : Type 0}
-    → Room → IsStorageFault g mid new ⊎ Why → IsStorageFault g old new ⊎ (Room × Why)
-later_caused g old mid new saved loads h room (inl (inl more)) = let counts = saved.counts in inl (inl (omega arith))
-later_caused g old mid new saved loads h room (inl (inr (inl shut))) = absurd (let still = h.is_open in cc)
-later_caused g old mid new saved loads h room (inl (inr (inr limited))) = inl (inr (inr (subst (λ l. IsSome l) saved.limit limited)))
-later_caused g old mid new saved loads h room (inr why) = inr (room, why)
+pub later_caused : {S : Type 0} (g : Ghosts S) (old mid new : Held S) {Commits : Trees → Type 0} → Survives (state g old) (state g mid) Commits → (loads : Registered) → HoldsLoads g mid loads → {Named Room Why : Type 0}
+    → Named → Room → HasStorageCause g mid new ⊎ Why → HasStorageCause g old new ⊎ (Named × Room × Why)
+later_caused g old mid new saved loads h named room (inl (inl more)) = let counts = saved.counts in inl (inl (omega arith))
+later_caused g old mid new saved loads h named room (inl (inr (inl shut))) = absurd (let still = h.is_open in cc)
+later_caused g old mid new saved loads h named room (inl (inr (inr limited))) = inl (inr (inr (subst (λ l. IsSome l) saved.limit limited)))
+later_caused g old mid new saved loads h named room (inr why) = inr (named, room, why)

@@ -27,7 +27,7 @@ use Rattle.sqlite.proofs.Callers.{runs_as, one_step}
 use Rattle.agv_store.specs.Registered.{Registered}
 use Rattle.agv_store.specs.LoadTable.{load_table, load_schema, load_row, HasRows, AreLoads}
 use Rattle.agv_store.specs.HeldLoads.{IsOpen, HoldsLoads}
-use Rattle.agv_store.specs.NewRow.{insert_command, IsInsertion}
+use Rattle.agv_store.specs.Insertion.{insert_command, IsInsertion}
 use Rattle.agv_store.proofs.Entries.{HasRows-put_row}
 use Rattle.agv_store.proofs.Running.{went, same_value, write_fails, commits_as}
 use Rattle.agv_store.proofs.Holding.{stays}

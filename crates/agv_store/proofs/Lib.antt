@@ -4,6 +4,7 @@ pub mod Failing
 pub mod Finding
 pub mod Holding
 pub mod Inserting
+pub mod Later
 pub mod Memory
 pub mod Registering
 pub mod Rows

@@ -1,5 +1,6 @@
 -- What a connection holds of the registered loads.
 use Rattle.std.specs.Prelude.{◌≡◌, ◌≤◌, ◌⊎◌, ℕ, false, List, IsTrue, IsSome}
+-- named here for the crates above, too
 pub use Rattle.sqlite_disk.specs.Disk.{MoreFaults}
 use Rattle.std.specs.FinSet as set
 use Rattle.sqlite_trees.specs.declared.store.Store.{Ghosts}
@@ -18,11 +19,11 @@ module _ {S : Type 0} (g : Ghosts S) where
   abbrev pub IsOpen : Held S → Type 0
   IsOpen held = IsTrue (state g held).is_open
 
-  -- the store failed during the call, a failure before it had shut the connection, or the steps of its queries are limited
-  abbrev pub IsStorageFault : Held S → Held S → Type 0
-  IsStorageFault old new = MoreFaults (state g old).faults (state g new).faults ⊎ (((state g old).is_open ≡ false) ⊎ IsSome (state g old).step_limit)
+  -- why a call fails: the store failed during it, a failure before it had shut the connection, or the steps of its queries are limited
+  abbrev pub HasStorageCause : Held S → Held S → Type 0
+  HasStorageCause old new = MoreFaults (state g old).faults (state g new).faults ⊎ (((state g old).is_open ≡ false) ⊎ IsSome (state g old).step_limit)
 
-  -- a later moment of the same connection: no fault is forgotten, and only a fault has shut it
+  -- a later moment of the same connection: no fault is forgotten, the limit of steps is the same, and only a fault has shut it
   pub record IsLater (old new : Held S) : Type 0 where
     pub clean : IsClean new → IsClean old
     pub faults : (state g old).faults ≤ (state g new).faults

@@ -1,7 +1,7 @@
 pub mod Creation
 pub mod Fault
 pub mod HeldLoads
+pub mod Insertion
 pub mod LoadTable
-pub mod NewRow
 pub mod RefusedRow
 pub mod Registered

@@ -6,7 +6,8 @@ use Rattle.sqlite.specs.declared.error.Error.{Error}
 use Rattle.sqlite.specs.Does.{Does}
 use Rattle.sqlite.specs.State.{mode_of}
 use Rattle.sqlite.specs.Held.{Held, state}
-use Rattle.agv_store.specs.NewRow.{insert_command}
+use Rattle.agv_header.specs.Name.{IsName}
+use Rattle.agv_store.specs.Insertion.{insert_command}
 use Rattle.agv_store.specs.Registered.{Registered, registration_result}
 use Rattle.agv_store.specs.HeldLoads.{HoldsLoads}
 
@@ -14,6 +15,6 @@ use Rattle.agv_store.specs.HeldLoads.{HoldsLoads}
 abbrev pub RefusesRow : {S : Type 0} → Ghosts S → Held S → List ℕ → Type 0
 RefusesRow g held name = (stop : Option Error) × Does (state g held).step_limit (mode_of (state g held)) (Text name ∷ []) (state g held).now [] None insert_command (Err stop)
 
--- the load is to be added to those that it showed, and SQL refuses the row
+-- the load is to be added to those that it showed, and SQL refuses the row; a refusal changes nothing, so the connection shows the same as before
 abbrev pub IsRowRefused : {S : Type 0} → Ghosts S → Held S → Held S → List ℕ → Type 0
-IsRowRefused g old new name = ((loads : Registered) → HoldsLoads g old loads → registration_result loads name ≡ Ok tt) × RefusesRow g new name
+IsRowRefused g old new name = IsName name × ((loads : Registered) → HoldsLoads g old loads → registration_result loads name ≡ Ok tt) × RefusesRow g new name

@@ -6,7 +6,7 @@ ghost use Rattle.sqlite.specs.Held.{state};
 ghost use Rattle.agv_store.specs.Registered.{Registered, no_loads, registration_result, after_registration};
 ghost use Rattle.agv_store.specs.LoadTable.{no_tables, AreLoads};
 ghost use Rattle.agv_store.specs.RefusedRow.{IsRowRefused};
-ghost use Rattle.agv_store.specs.HeldLoads.{IsClean, IsOpen, IsStorageFault, HoldsLoads, HoldsSome, HoldsNoSet, KeepsLoads, AreLoadsAfter};
+ghost use Rattle.agv_store.specs.HeldLoads.{IsClean, IsOpen, IsLater, HasStorageCause, HoldsLoads, HoldsSome, HoldsNoSet, KeepsLoads, AreLoadsAfter};
 
 use crate::Fault;
 use crate::statements::{create_table, find_load, insert_load};
@@ -49,6 +49,7 @@ impl<S: Alter + Drop> Loads<S> {
         requires blank { conn.schema ≡ no_tables }
         ensures created { IfOk result (λ loads.
             IsClean S.Store loads → HoldsLoads S.Store loads no_loads) }
+        ensures later { IfOk result (λ loads. IsLater S.Store conn loads) }
         ensures survives { IfOk result (λ loads.
             Survives (state S.Store conn) (state S.Store loads) (λ trees. AreLoads trees no_loads)) }
     {
@@ -66,10 +67,10 @@ impl<S: Alter + Drop> Loads<S> {
     /// shut the connection, the connection limits the steps of its queries, or SQL itself refuses
     /// the row of a load that is to be added, as where no number is left for it.
     ///
-    /// The look-up and the insertion go by the table's key, so their time grows only with the
-    /// depth of its tree.
+    /// No row is counted: the name is looked up by the table's key, and one row is added. What that
+    /// takes is the store's part (docs/PERFORMANCE.md).
     pub fn register(&mut self, name: Name) -> Result<Result<(), Refusal>, Fault>
-        ensures clean { IsClean S.Store self.new → IsClean S.Store self.old }
+        ensures later { IsLater S.Store self.old self.new }
         ensures registers { IsClean S.Store self.new → IfOk result (λ answer.
             (loads : Registered) → HoldsLoads S.Store self.old loads
             → (answer ≡ registration_result loads name)
@@ -80,7 +81,7 @@ impl<S: Alter + Drop> Loads<S> {
         ensures failed { IsClean S.Store self.new → IsOpen S.Store self.new
             → OnErr result (KeepsLoads S.Store self.old self.new) }
         ensures caused { IsClean S.Store self.new → IfErr result (λ fault. fault ≡ Fault.Storage
-            → IsStorageFault S.Store self.old self.new ⊎ IsRowRefused S.Store self.old self.new name) }
+            → HasStorageCause S.Store self.old self.new ⊎ IsRowRefused S.Store self.old self.new name) }
         ensures survives { Survives (state S.Store self.old) (state S.Store self.new)
             (AreLoadsAfter S.Store self.old name) }
     {
@@ -100,7 +101,7 @@ impl<S: Alter + Drop> Loads<S> {
     /// `Fault::Storage` comes only where the store failed during the call, a failure before it had
     /// shut the connection, or the connection limits the steps of its queries.
     pub fn known(&mut self, name: Name) -> Result<bool, Fault>
-        ensures clean { IsClean S.Store self.new → IsClean S.Store self.old }
+        ensures later { IsLater S.Store self.old self.new }
         ensures answers { IsClean S.Store self.new → IfOk result (λ yes.
             (loads : Registered) → HoldsLoads S.Store self.old loads
             → (yes ≡ set.contains loads name) × HoldsLoads S.Store self.new loads) }
@@ -110,7 +111,7 @@ impl<S: Alter + Drop> Loads<S> {
         ensures failed { IsClean S.Store self.new → IsOpen S.Store self.new
             → OnErr result (KeepsLoads S.Store self.old self.new) }
         ensures caused { IsClean S.Store self.new → IfErr result (λ fault. fault ≡ Fault.Storage
-            → IsStorageFault S.Store self.old self.new) }
+            → HasStorageCause S.Store self.old self.new) }
         ensures survives { Survives (state S.Store self.old) (state S.Store self.new)
             (λ _. HoldsNoSet S.Store self.old) }
     {

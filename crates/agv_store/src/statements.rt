@@ -7,9 +7,9 @@ ghost use Rattle.agv_store.specs.Registered.{Registered, no_loads};
 ghost use Rattle.agv_store.specs.LoadTable.{no_tables, AreLoads};
 ghost use Rattle.agv_store.specs.Fault.{IsOfStore};
 ghost use Rattle.agv_store.specs.Creation.{IsCreation};
-ghost use Rattle.agv_store.specs.NewRow.{IsInsertion};
+ghost use Rattle.agv_store.specs.Insertion.{IsInsertion};
 ghost use Rattle.agv_store.specs.RefusedRow.{RefusesRow};
-ghost use Rattle.agv_store.specs.HeldLoads.{IsClean, IsOpen, IsStorageFault, HoldsLoads, HoldsNoSet, KeepsLoads};
+ghost use Rattle.agv_store.specs.HeldLoads.{IsClean, IsOpen, HasStorageCause, HoldsLoads, HoldsNoSet, KeepsLoads};
 
 use sqlite::{Alter, Connection, Error, Row, params};
 
@@ -45,7 +45,7 @@ pub(crate) fn insert_load<S: Alter>(conn: &mut Connection<S>, name: &str) -> Res
         → OnErr result (KeepsLoads S.Store conn.old conn.new) }
     ensures caused { IsClean S.Store conn.new → IfErr result (λ e. IsOfStore e
         → (loads : Registered) → HoldsLoads S.Store conn.old loads
-        → IsStorageFault S.Store conn.old conn.new ⊎ RefusesRow S.Store conn.new name.now) }
+        → HasStorageCause S.Store conn.old conn.new ⊎ RefusesRow S.Store conn.new name.now) }
     ensures survives { Survives (state S.Store conn.old) (state S.Store conn.new)
         (λ trees. (loads : Registered) → HoldsLoads S.Store conn.old loads
         → set.contains loads name.now ≡ false → AreLoads trees (set.insert loads name.now)) }
@@ -62,7 +62,7 @@ pub(crate) fn find_load<S: Alter>(conn: &mut Connection<S>, name: &str) -> Resul
         → KeepsLoads S.Store conn.old conn.new }
     ensures caused { IsClean S.Store conn.new → IfErr result (λ e. IsOfStore e
         → (loads : Registered) → HoldsLoads S.Store conn.old loads
-        → IsStorageFault S.Store conn.old conn.new) }
+        → HasStorageCause S.Store conn.old conn.new) }
     ensures was_open { IsClean S.Store conn.new → IsOpen S.Store conn.new → IsOpen S.Store conn.old }
     ensures still_open { IsClean S.Store conn.new → OnOk result (IsOpen S.Store conn.new) }
     ensures survives { Survives (state S.Store conn.old) (state S.Store conn.new)

@@ -1,5 +1,7 @@
-//! A reader and a writer that take their time, and fail once, when they are told to.
+//! A reader and a writer that take their time, and fail once, when they are told to; and a reader that waits
+//! for what a writer has taken.
 
+use std::cell::Cell;
 use std::io::{self, ErrorKind, Read, Write};
 
 /// Gives at most `step` bytes at a read. The read after `reads` fails, and those after it work again.
@@ -43,6 +45,48 @@ impl Write for Trickle {
         let n = self.step.min(buf.len());
         self.taken.extend_from_slice(&buf[..n])?;
         Ok(n)
+    }
+
+    fn flush(&mut self) -> io::Result<()> {
+        Ok(())
+    }
+}
+
+/// Gives a part of an input at each read, and fails where fewer bytes than that part waits for have been written.
+#[derive(Drop)]
+pub(crate) struct Patient<'c> {
+    /// The parts, each with the number of bytes that it waits for.
+    pub(crate) parts: [(&'static [u8], usize); 2],
+    pub(crate) given: usize,
+    pub(crate) written: &'c Cell<usize>,
+}
+
+impl Read for Patient<'_> {
+    fn read(&mut self, buf: &mut [u8]) -> io::Result<usize> {
+        let Some(&(part, awaited)) = self.parts.get(self.given) else {
+            return Ok(0);
+        };
+        if self.written.get() < awaited {
+            return Err(io::Error::from(ErrorKind::WouldBlock));
+        }
+        let n = part.len().min(buf.len());
+        buf[..n].copy_from_slice(&part[..n]);
+        self.given += 1;
+        Ok(n)
+    }
+}
+
+/// Counts the bytes that it takes.
+#[derive(Drop)]
+pub(crate) struct Tally<'c> {
+    pub(crate) written: &'c Cell<usize>,
+}
+
+impl Write for Tally<'_> {
+    fn write(&mut self, buf: &[u8]) -> io::Result<usize> {
+        self.written
+            .set(self.written.get().saturating_add(buf.len()));
+        Ok(buf.len())
     }
 
     fn flush(&mut self) -> io::Result<()> {

@@ -1,11 +1,12 @@
 //! Streams of requests, as bytes in and bytes out.
 
-use crate::fakes::{Drip, Trickle};
+use crate::fakes::{Drip, Patient, Tally, Trickle};
 use agv_face::laws::has_a_cut;
 use agv_face::{Heard, LoadsFault, Stop, Watched, answer_calls, read_request, serve_loads};
 use agv_store::Loads;
 use sqlite::{Connection, MemStore};
 use std::alloc::Global;
+use std::cell::Cell;
 use std::io::Write;
 use std::test::Fail;
 
@@ -70,6 +71,28 @@ fn in_pieces(rt: HostRuntime) -> Result<(), Fail> {
         assert!(rt; writer.flush().is_ok());
         assert!(rt; (reader.failures(), writer.failures()) == (0, 0));
     }
+    Ok(())
+}
+
+/// Gives the second request of `FIRST` once the answer to the first is written, and fails before.
+fn patient(written: &Cell<usize>) -> Watched<Patient<'_>> {
+    let (post, get) = FIRST.split_at(57);
+    Watched::new(Patient {
+        parts: [(post, 0), (get, DONE.len())],
+        given: 0,
+        written,
+    })
+}
+
+/// Each answer is written before the next request is read.
+#[test]
+fn answers_before_it_reads_on(rt: HostRuntime) -> Result<(), Fail> {
+    let written = Cell::new(0);
+    let mut loads = no_loads(&rt)?;
+    let mut reader = patient(&written);
+    let mut writer = Watched::new(Tally { written: &written });
+    assert!(rt; serve_loads(rt.alloc(), &mut loads, &mut reader, &mut writer) == Ok(2));
+    assert!(rt; written.get() == FIRST_ANSWERS.len());
     Ok(())
 }
 

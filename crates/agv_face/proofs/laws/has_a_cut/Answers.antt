@@ -2,13 +2,13 @@ use Rattle.std.proofs.Common.{◌≡◌, ◌-◌, ◌<◌, [], List, ℕ, true, 
 use Rattle.std.proofs.Math.ListN.{length-drop}
 use Rattle.agv_face.specs.declared.request.Heard.{Heard}
 use Rattle.agv_face.specs.declared.request.Heard.TheVariants as heard
-use Rattle.agv_face.specs.declared.request.Lent.{Lent}
+use Rattle.agv_face.specs.declared.request.LentRequest.{LentRequest}
 use Rattle.agv_face.specs.Heard.{IsHeard}
 use Rattle.agv_face.proofs.Cuts.{HasCut, cut_on, cut_at_end, cut_at_fault}
 use Rattle.agv_face.proofs.laws.has_a_cut.Goals as goal
 
 -- what comes next, where no request does
-cut_where : (bytes : List ℕ) (next : Heard) → IsHeard bytes true next → ((lent : Lent) → next ≡ heard.Request lent → ⊥) → HasCut bytes
+cut_where : (bytes : List ℕ) (next : Heard) → IsHeard bytes true next → ((lent : LentRequest) → next ≡ heard.Request lent → ⊥) → HasCut bytes
 cut_where bytes heard.Need told none = absurd (let ends : true ≡ false = told.0 in cc)
 cut_where bytes heard.End told none = cut_at_end bytes told.1
 cut_where bytes (heard.Refused fault) told none = cut_at_fault bytes fault (told [] (λ _. refl))

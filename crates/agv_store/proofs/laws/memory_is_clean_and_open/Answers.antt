@@ -1,7 +1,5 @@
-use Rattle.agv_store.specs.HeldLoads.{AreLoadsAfter}
-use Rattle.sqlite.specs.Steps.{over_memory}
 use Rattle.agv_store.proofs.Memory.{memory_is_clean, memory_stays_open}
 use Rattle.agv_store.proofs.laws.memory_is_clean_and_open.Goals as goal
 
 pub returns : goal.returns
-returns c = record { clean = memory_is_clean; stays_open = λ old new name. memory_stays_open old new (AreLoadsAfter over_memory old name) }
+returns c = record { clean = memory_is_clean; stays_open = memory_stays_open }

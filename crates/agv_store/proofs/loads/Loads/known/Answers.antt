@@ -2,7 +2,8 @@ use Rattle.std.proofs.Common.{not, sym, ap, subst, ◌∙◌}
 use Rattle.std.specs.FinSet as set
 use Rattle.sqlite.specs.Held.{state}
 use Rattle.sqlite.specs.State.{Survives}
-use Rattle.agv_store.specs.HeldLoads.{IsStorageFault, HoldsLoads, HoldsNoSet}
+use Rattle.agv_store.specs.HeldLoads.{HasStorageCause, HoldsLoads, HoldsNoSet}
+use Rattle.agv_store.proofs.Later.{later_by}
 use Rattle.agv_store.proofs.Registering.{earlier_clean, still_counted, on_err, not_not}
 use Rattle.agv_store.proofs.Failing.{fault_caused, counted_caused}
 use Rattle.agv_store.proofs.loads.Loads.known.Goals as goal
@@ -45,5 +46,12 @@ returns-clause-survives g c =
 pub returns-in_err-rows-clause-caused : goal.returns-in_err-rows-clause-caused
 returns-in_err-rows-clause-caused g c clean =
     let was = earlier_clean g.S.Store c.self.inside.conn c.find_load.new.conn _ c.find_load.ensures.survives clean in
-    fault_caused c.from_residual.result c.in_err-rows.field-0.0 c.from_residual.ensures.1 (λ stored. subst (λ held. IsStorageFault g.S.Store held c.find_load.new.conn) c.self.view_is
+    fault_caused c.from_residual.result c.in_err-rows.field-0.0 c.from_residual.ensures.1 (λ stored. subst (λ held. HasStorageCause g.S.Store held c.find_load.new.conn) c.self.view_is
     (counted_caused g.S.Store c.self.inside.conn c.find_load.new.conn c.self.inside.count c.self.invariant was (c.in_err-rows.ensures.caused clean stored)))
+
+-- the moment after the look-up
+pub returns-in_err-rows-clause-later : goal.returns-in_err-rows-clause-later
+returns-in_err-rows-clause-later g c = later_by g.S.Store _ _ (returns-in_err-rows-clause-survives g c)
+
+pub returns-clause-later : goal.returns-clause-later
+returns-clause-later g c = later_by g.S.Store _ _ (returns-clause-survives g c)

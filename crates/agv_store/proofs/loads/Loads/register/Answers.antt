@@ -1,6 +1,7 @@
 use Rattle.std.proofs.Common.{◌⊎◌, inl, subst, refl, arith}
-use Rattle.agv_store.specs.HeldLoads.{IsClean, IsCounted, IsStorageFault}
+use Rattle.agv_store.specs.HeldLoads.{IsClean, IsCounted, HasStorageCause}
 use Rattle.agv_store.specs.RefusedRow.{RefusesRow}
+use Rattle.agv_store.proofs.Later.{later_by}
 use Rattle.agv_store.proofs.Registering.{was_to_add, earlier_clean, finds_none, full, fails_counted, fails_kept, adds_counted, registers, survives_both, on_err}
 use Rattle.agv_store.proofs.Failing.{fault_caused, passed_on, later_caused}
 use Rattle.agv_store.proofs.loads.Loads.register.Goals as goal
@@ -65,10 +66,17 @@ returns-in_err-insert_load-clause-caused g c clean =
     c.in_ok-known.field-0 (cc) c.in_ok-known.ensures.answers c.in_ok-known.ensures.held c.known.ensures.survives in
     let it = found.shown (earlier_clean g.S.Store c.self.inside.conn c.insert_load.new.conn _ c.insert_load.ensures.survives clean) in
     let room = was_to_add g.S.Store c.args.self.now c.self.inside.conn c.insert_load.new.conn c.args.name c.self.inside.count found c.as_str.result.now c.as_str.ensures.text c.insert_load.ensures.survives (omega arith) clean in
-    let refused = subst (λ n. IsStorageFault g.S.Store c.self.inside.conn c.insert_load.new.conn ⊎ RefusesRow g.S.Store c.insert_load.new.conn n) c.as_str.ensures.text in
+    let refused = subst (λ n. HasStorageCause g.S.Store c.self.inside.conn c.insert_load.new.conn ⊎ RefusesRow g.S.Store c.insert_load.new.conn n) c.as_str.ensures.text in
     fault_caused c.from_residual-in_err-insert_load.result c.in_err-insert_load.field-0.0 c.from_residual-in_err-insert_load.ensures.1 (λ stored.
-    later_caused g.S.Store c.args.self.now c.self.inside.conn c.insert_load.new.conn found.survives it.0 it.1 room (refused (c.in_err-insert_load.ensures.caused clean stored it.0 it.1)))
+    later_caused g.S.Store c.args.self.now c.self.inside.conn c.insert_load.new.conn found.survives it.0 it.1 c.as_str.ensures.name room (refused (c.in_err-insert_load.ensures.caused clean stored it.0 it.1)))
 
 -- a known name is no fault
 pub returns-then-branch-clause-caused : goal.returns-then-branch-clause-caused
 returns-then-branch-clause-caused g c clean = tt
+
+-- the moment after the insertion
+pub returns-in_err-insert_load-clause-later : goal.returns-in_err-insert_load-clause-later
+returns-in_err-insert_load-clause-later g c = later_by g.S.Store _ _ (returns-in_err-insert_load-clause-survives g c)
+
+pub returns-clause-later : goal.returns-clause-later
+returns-clause-later g c = later_by g.S.Store _ _ (returns-clause-survives g c)
