@@ -5,6 +5,7 @@ use agv_header::{
     Moment, Name, NotName, NotTopic, Refusal, StampFault, Topic, VehicleKey, Verb, is_fresh,
     next_number, read_stamp, read_topic, stamp_text, topic_text,
 };
+use std::alloc::Global;
 use std::process::Abort;
 
 const LONGEST: &str = "aaaaaaaaaaaaaaaaaaaaaaaaaaaaaaaa";
@@ -13,13 +14,16 @@ const NAMES: [&str; 4] = [LONGEST, "KIT", "0001", "A-Z_a.z:0-9"];
 
 const NO_NAMES: [&str; 5] = ["", "a b", "a/b", "aaaaaaaaaaaaaaaaaaaaaaaaaaaaaaaaa", "ä"];
 
+/// Whether the name is of these bytes.
+fn spells(name: Name, text: &str) -> bool {
+    name.as_str() == text && name.as_bytes() == text.as_bytes()
+}
+
 #[test]
 fn names(rt: HostRuntime) {
     check(&rt, LONGEST.len() == 32, LONGEST);
     for text in &NAMES {
-        let read = name(&rt, text);
-        check(&rt, read.as_str() == *text, text);
-        check(&rt, read.as_bytes() == text.as_bytes(), text);
+        check(&rt, spells(name(&rt, text), text), text);
     }
     for text in &NO_NAMES {
         check(&rt, Name::read(text) == Err(NotName), text);
@@ -56,13 +60,17 @@ const NO_TOPICS: [&str; 8] = [
     "",
 ];
 
+fn check_topic(rt: &impl Abort, alloc: Global, text: &str, topic: Topic) {
+    let key = vehicle(rt, "KIT", "0001");
+    let printed = topic_text(alloc, &key, topic).expect(rt, text);
+    check_text(rt, printed.as_str(), text, "the text of a topic");
+    check(rt, read_topic(text) == Ok((key, topic)), text);
+}
+
 #[test]
 fn topics(rt: HostRuntime) {
-    let key = vehicle(&rt, "KIT", "0001");
     for (text, topic) in &TOPICS {
-        let printed = topic_text(rt.alloc(), &key, *topic).expect(&rt, text);
-        check_text(&rt, printed.as_str(), text, "the text of a topic");
-        check(&rt, read_topic(text) == Ok((key, *topic)), text);
+        check_topic(&rt, rt.alloc(), text, *topic);
     }
     for text in &NO_TOPICS {
         check(&rt, read_topic(text) == Err(NotTopic), text);

@@ -50,7 +50,7 @@ fn verdict(alloc: Global, text: &str) -> &'static str {
 }
 
 /// The name of the refusal that the bytes earn as a body, or `read`.
-fn body_verdict(alloc: Global, bytes: &[u8]) -> &'static str {
+pub(crate) fn body_verdict(alloc: Global, bytes: &[u8]) -> &'static str {
     let Err(fault) = read_body(alloc, bytes) else {
         return "read";
     };
@@ -219,20 +219,28 @@ fn messages_of_the_standard(rt: HostRuntime) {
     check_samples(&rt, rt.alloc(), &ORDERS);
 }
 
+fn is_text(text: Text, wanted: &str) -> bool {
+    text.as_str() == wanted
+}
+
 #[test]
 fn texts_are_kept(rt: HostRuntime) {
     let string = String::from_str(rt.alloc(), "größe").expect(&rt, "memory");
-    check(&rt, Text::from(string).as_str() == "größe", "größe");
+    check(&rt, is_text(Text::from(string), "größe"), "größe");
     let empty = Text::copy_of(rt.alloc(), "").expect(&rt, "memory");
-    check(&rt, empty.as_str() == "", "no text");
+    check(&rt, is_text(empty, ""), "no text");
+}
+
+fn has_items(sequence: Sequence<u32>, items: &[u32]) -> bool {
+    sequence.as_slice() == items
+        && sequence.len() == items.len()
+        && sequence.is_empty() == items.is_empty()
 }
 
 #[test]
 fn sequences_are_kept(rt: HostRuntime) {
-    let items = vec![in rt.alloc(); 8, 10].expect(&rt, "memory");
-    let items: Sequence<u32> = items.into();
-    check(&rt, items.as_slice() == [8, 10].as_slice(), "8 and 10");
-    check(&rt, items.len() == 2 && !items.is_empty(), "two items");
-    let none: Sequence<u32> = Vec::new(rt.alloc()).into();
-    check(&rt, none.len() == 0 && none.is_empty(), "no items");
+    let two = vec![in rt.alloc(); 8, 10].expect(&rt, "memory");
+    check(&rt, has_items(two.into(), &[8, 10]), "two items");
+    let none = Vec::new(rt.alloc());
+    check(&rt, has_items(none.into(), &[]), "no items");
 }

@@ -1,10 +1,11 @@
 //! Orders and instant actions, each with the text that is written of it.
 
-use crate::cases::{check, name, vehicle};
+use crate::cases::{check, check_text, name, vehicle};
+use crate::messages::body_verdict;
 use agv_header::Moment;
 use agv_message::{
     ActKind, Header, InstantKind, InstantMessage, OrderAct, OrderEdge, OrderMessage, OrderNode,
-    Sequence, instant_text, order_text, read_body,
+    Sequence, instant_text, order_text,
 };
 use std::alloc::Global;
 use std::process::Abort;
@@ -149,8 +150,8 @@ fn orders_are_written(rt: HostRuntime) {
     for order in &ORDERS {
         let text = written(&rt, rt.alloc(), order);
         check(&rt, text.as_slice() == order.text.as_bytes(), order.order);
-        let body = read_body(rt.alloc(), text.as_slice());
-        check(&rt, body.is_ok(), order.order);
+        let read = body_verdict(rt.alloc(), text.as_slice());
+        check_text(&rt, read, "read", order.order);
     }
 }
 
