@@ -98,13 +98,17 @@ const STAMPS: [(i64, &str, i64); 9] = [
     ),
 ];
 
+fn check_stamp(rt: &impl Abort, alloc: Global, ms: i64, text: &str) {
+    let moment = Moment::of(ms).expect(rt, text);
+    check(rt, moment.ms() == ms, text);
+    let printed = stamp_text(alloc, moment).expect(rt, text);
+    check_text(rt, printed.as_str(), text, "the stamp of a moment");
+}
+
 #[test]
 fn stamps(rt: HostRuntime) {
     for (ms, text, said) in &STAMPS {
-        let moment = Moment::of(*ms).expect(&rt, text);
-        check(&rt, moment.ms() == *ms, text);
-        let printed = stamp_text(rt.alloc(), moment).expect(&rt, text);
-        check_text(&rt, printed.as_str(), text, "the stamp of a moment");
+        check_stamp(&rt, rt.alloc(), *ms, text);
         check(&rt, said_by(&rt, text) == *said, text);
     }
 }
@@ -172,11 +176,15 @@ const REFUSALS: [(Refusal, u8, &str, u16); 6] = [
     (Refusal::Storage, 91, "Storage", 503),
 ];
 
+fn check_refusal(rt: &impl Abort, refusal: &Refusal, number: u8, name: &str, status: u16) {
+    check(rt, refusal.number() == number, name);
+    check_text(rt, refusal.name(), name, "the name of a refusal");
+    check(rt, refusal.status() == status, name);
+}
+
 #[test]
 fn refusals(rt: HostRuntime) {
     for (refusal, number, name, status) in &REFUSALS {
-        check(&rt, refusal.number() == *number, name);
-        check_text(&rt, refusal.name(), name, "the name of a refusal");
-        check(&rt, refusal.status() == *status, name);
+        check_refusal(&rt, refusal, *number, name, *status);
     }
 }

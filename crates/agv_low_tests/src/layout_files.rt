@@ -5,9 +5,10 @@ use agv_count::read_layout;
 use std::alloc::Global;
 use std::process::Abort;
 
-/// What becomes of a file: its rows in order, or the fault.
-fn said(rt: &impl Abort, alloc: Global, file: &[u8]) -> String {
-    format!(in alloc; "{:?}", read_layout(alloc, file)).expect(rt, "memory")
+/// Compares what becomes of a file, its rows in order or the fault, with what is wanted.
+fn check_file(rt: &impl Abort, alloc: Global, file: &[u8], wanted: &str, case: &str) {
+    let found = format!(in alloc; "{:?}", read_layout(alloc, file)).expect(rt, "memory");
+    check_text(rt, found.as_str(), wanted, case);
 }
 
 /// The rows of the warehouse of the examples.
@@ -44,8 +45,7 @@ const FILES: [(&str, &str); 5] = [
 #[test]
 fn says_rows(rt: HostRuntime) {
     for (file, wanted) in &FILES {
-        let found = said(&rt, rt.alloc(), file.as_bytes());
-        check_text(&rt, found.as_str(), wanted, file);
+        check_file(&rt, rt.alloc(), file.as_bytes(), wanted, file);
     }
 }
 
@@ -77,9 +77,8 @@ const REFUSED: [&str; 22] = [
 #[test]
 fn refused(rt: HostRuntime) {
     for file in &REFUSED {
-        let found = said(&rt, rt.alloc(), file.as_bytes());
-        check_text(&rt, found.as_str(), "Err(BadCsv)", file);
+        check_file(&rt, rt.alloc(), file.as_bytes(), "Err(BadCsv)", file);
     }
-    let found = said(&rt, rt.alloc(), b"kind,id,from,to\nnode,N\xff,,\n");
-    check_text(&rt, found.as_str(), "Err(BadCsv)", "a file that is no text");
+    let no_text = b"kind,id,from,to\nnode,N\xff,,\n";
+    check_file(&rt, rt.alloc(), no_text, "Err(BadCsv)", "no text");
 }

@@ -128,34 +128,32 @@ fn nested(rt: &impl Abort, alloc: Global, depth: u32) -> String {
     text
 }
 
+fn check_nested(rt: &impl Abort, alloc: Global, depth: u32, want: &str, case: &str) {
+    let text = nested(rt, alloc, depth);
+    check_text(rt, body_verdict(alloc, text.as_bytes()), want, case);
+}
+
 #[test]
 fn bodies(rt: HostRuntime) {
-    let alloc = rt.alloc();
     for (text, want) in &BODIES {
-        check_text(&rt, body_verdict(alloc, text.as_bytes()), want, text);
+        let found = body_verdict(rt.alloc(), text.as_bytes());
+        check_text(&rt, found, want, text);
     }
-    check_text(&rt, body_verdict(alloc, b"\"\xff\""), "BadJson", "no text");
-    let deepest = nested(&rt, alloc, 127);
-    check_text(
-        &rt,
-        body_verdict(alloc, deepest.as_bytes()),
-        "read",
-        "127 deep",
-    );
-    let deeper = nested(&rt, alloc, 128);
-    check_text(
-        &rt,
-        body_verdict(alloc, deeper.as_bytes()),
-        "BadJson",
-        "128 deep",
-    );
+    let found = body_verdict(rt.alloc(), b"\"\xff\"");
+    check_text(&rt, found, "BadJson", "no text");
+    check_nested(&rt, rt.alloc(), 127, "read", "127 deep");
+    check_nested(&rt, rt.alloc(), 128, "BadJson", "128 deep");
+}
+
+fn check_change(rt: &impl Abort, alloc: Global, old: &str, new: &str, want: &str) {
+    let text = changed(rt, alloc, old, new);
+    check_text(rt, verdict(alloc, text.as_str()), want, new);
 }
 
 #[test]
 fn refusals_of_states(rt: HostRuntime) {
     for (old, new, want) in &CHANGES {
-        let text = changed(&rt, rt.alloc(), old, new);
-        check_text(&rt, verdict(rt.alloc(), text.as_str()), want, new);
+        check_change(&rt, rt.alloc(), old, new, want);
     }
     for text in &["[]", "null", "7", "\"\""] {
         check_text(&rt, verdict(rt.alloc(), text), "BadBody", text);
@@ -194,12 +192,16 @@ const READINESS: [(&str, &str, &str); 12] = [
     (r#""driving":false"#, r#""paused":false"#, READY),
 ];
 
+fn check_end(rt: &impl Abort, alloc: Global, old: &str, new: &str, end: &str) {
+    let text = changed(rt, alloc, old, new);
+    let found = said(rt, alloc, text.as_str());
+    check(rt, found.as_str().ends_with(end), new);
+}
+
 #[test]
 fn readiness(rt: HostRuntime) {
     for (old, new, end) in &READINESS {
-        let text = changed(&rt, rt.alloc(), old, new);
-        let found = said(&rt, rt.alloc(), text.as_str());
-        check(&rt, found.as_str().ends_with(*end), new);
+        check_end(&rt, rt.alloc(), old, new, end);
     }
 }
 

@@ -177,6 +177,11 @@ fn compare(
     hops
 }
 
+fn note_way(met: &mut Met, far: Option<u32>) {
+    met.cut_off |= far.is_none();
+    met.far |= far > Some(2);
+}
+
 /// From and to each node, and a name that is none.
 fn compare_all(rt: &impl Abort, alloc: Global, met: &mut Met, rows: &[LayoutRow], nodes: u32) {
     let layout = Layout::of_rows(alloc, rows).expect(rt, "a layout");
@@ -184,9 +189,7 @@ fn compare_all(rt: &impl Abort, alloc: Global, met: &mut Met, rows: &[LayoutRow]
         for j in 0..=nodes {
             let from = numbered(rt, alloc, 'P', i);
             let to = numbered(rt, alloc, 'P', j);
-            let far = compare(rt, alloc, &layout, rows, from, to);
-            met.cut_off |= far.is_none();
-            met.far |= far > Some(2);
+            note_way(met, compare(rt, alloc, &layout, rows, from, to));
         }
     }
 }

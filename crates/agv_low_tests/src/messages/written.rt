@@ -145,13 +145,17 @@ fn written(rt: &impl Abort, alloc: Global, order: &Order) -> Vec<u8> {
     order_text(alloc, &header(rt, order.number), &message).expect(rt, "memory")
 }
 
+fn check_order(rt: &impl Abort, alloc: Global, order: &Order) {
+    let text = written(rt, alloc, order);
+    check(rt, text.as_slice() == order.text.as_bytes(), order.order);
+    let read = body_verdict(alloc, text.as_slice());
+    check_text(rt, read, "read", order.order);
+}
+
 #[test]
 fn orders_are_written(rt: HostRuntime) {
     for order in &ORDERS {
-        let text = written(&rt, rt.alloc(), order);
-        check(&rt, text.as_slice() == order.text.as_bytes(), order.order);
-        let read = body_verdict(rt.alloc(), text.as_slice());
-        check_text(&rt, read, "read", order.order);
+        check_order(&rt, rt.alloc(), order);
     }
 }
 
@@ -186,11 +190,15 @@ const INSTANTS: [(u32, InstantKind, &str); 3] = [
     ),
 ];
 
+fn check_instant(rt: &impl Abort, alloc: Global, number: u32, kind: InstantKind, want: &str) {
+    let text = instant_text(alloc, &header(rt, number), &InstantMessage { kind });
+    let text = text.expect(rt, "memory");
+    check(rt, text.as_slice() == want.as_bytes(), want);
+}
+
 #[test]
 fn instant_actions_are_written(rt: HostRuntime) {
     for (number, kind, want) in &INSTANTS {
-        let message = InstantMessage { kind: *kind };
-        let text = instant_text(rt.alloc(), &header(&rt, *number), &message).expect(&rt, want);
-        check(&rt, text.as_slice() == want.as_bytes(), want);
+        check_instant(&rt, rt.alloc(), *number, *kind, want);
     }
 }
