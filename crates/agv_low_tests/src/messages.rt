@@ -195,7 +195,7 @@ const READINESS: [(&str, &str, &str); 12] = [
 fn check_end(rt: &impl Abort, alloc: Global, old: &str, new: &str, end: &str) {
     let text = changed(rt, alloc, old, new);
     let found = said(rt, alloc, text.as_str());
-    check(rt, found.as_str().ends_with(end), new);
+    assert!(rt; found.as_str().ends_with(end), "{new}: {found}");
 }
 
 #[test]
