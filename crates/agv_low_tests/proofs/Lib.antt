@@ -1,1 +1,4 @@
+pub mod First
 pub mod Listed
+pub mod Members
+pub mod Plain

@@ -1,14 +1,14 @@
 //! Layouts: what they say of a name, and each reason why rows give none.
 
-use crate::layout_files::shown;
+use crate::cases::{check, check_text, name};
 use agv_count::read_layout;
-use agv_header::Name;
-use agv_layout::{Edge, Layout, LayoutFault, LayoutRow, Station};
+use agv_layout::{Layout, LayoutFault, LayoutRow};
 use std::alloc::Global;
-use std::test::Fail;
+use std::process::Abort;
 
-/// Three nodes in a row, with an edge each way between neighbours, and three stations.
-pub(crate) const WAREHOUSE: &str = "node,N1,,
+/// A layout file: three nodes in a row, with an edge each way between neighbours, and three stations.
+pub(crate) const WAREHOUSE: &str = "kind,id,from,to
+node,N1,,
 node,N2,,
 node,N3,,
 edge,E12,N1,N2
@@ -20,130 +20,174 @@ station,B,N3,1
 station,C,N3,2
 ";
 
-/// The rows of the lines of a layout file, without its header.
-pub(crate) fn rows(alloc: Global, lines: &str) -> Result<Vec<LayoutRow>, Fail> {
-    let mut file = String::new(alloc);
-    file.push_str("kind,id,from,to\n")?;
-    file.push_str(lines)?;
-    Ok(read_layout(alloc, file.as_bytes())?)
+/// The rows of a layout file.
+fn rows(rt: &impl Abort, alloc: Global, file: &str) -> Vec<LayoutRow> {
+    read_layout(alloc, file.as_bytes()).expect(rt, file)
 }
 
-/// What a layout says of a name, with a blank after each word.
-fn said(alloc: Global, layout: &Layout, id: &str) -> Result<String, Fail> {
-    let id = Name::read(id)?;
-    let mut text = String::new(alloc);
-    if layout.node(id) {
-        text.push_str("node ")?;
+pub(crate) fn layout_of(rt: &impl Abort, alloc: Global, rows: &[LayoutRow]) -> Layout {
+    Layout::of_rows(alloc, rows).expect(rt, "a layout")
+}
+
+/// The layout of a layout file.
+pub(crate) fn layout(rt: &impl Abort, alloc: Global, file: &str) -> Layout {
+    layout_of(rt, alloc, &rows(rt, alloc, file))
+}
+
+/// What a layout says of a name: whether it is a node, the edge and the station.
+fn said(rt: &impl Abort, alloc: Global, layout: &Layout, id: &str) -> String {
+    let id = name(rt, id);
+    let said = format!(in alloc;
+        "{} {:?} {:?}",
+        layout.node(id),
+        layout.edge(id),
+        layout.station(id)
+    );
+    said.expect(rt, "memory")
+}
+
+/// What the layout of the examples says of names.
+const SAID: [(&str, &str); 14] = [
+    ("N1", "true None None"),
+    ("N2", "true None None"),
+    ("N3", "true None None"),
+    (
+        "E12",
+        "false Some(Edge { id: E12, start: N1, finish: N2 }) None",
+    ),
+    (
+        "E21",
+        "false Some(Edge { id: E21, start: N2, finish: N1 }) None",
+    ),
+    (
+        "E23",
+        "false Some(Edge { id: E23, start: N2, finish: N3 }) None",
+    ),
+    (
+        "E32",
+        "false Some(Edge { id: E32, start: N3, finish: N2 }) None",
+    ),
+    (
+        "A",
+        "false None Some(Station { id: A, node: N1, capacity: 1 })",
+    ),
+    (
+        "B",
+        "false None Some(Station { id: B, node: N3, capacity: 1 })",
+    ),
+    (
+        "C",
+        "false None Some(Station { id: C, node: N3, capacity: 2 })",
+    ),
+    ("N4", "false None None"),
+    ("n1", "false None None"),
+    ("E13", "false None None"),
+    ("D", "false None None"),
+];
+
+fn check_said(rt: &impl Abort, alloc: Global, layout: &Layout, which: &str) {
+    for (id, wanted) in &SAID {
+        let found = said(rt, alloc, layout, id);
+        assert!(rt; found.as_str() == *wanted, "{id}, in {which}: {found}");
     }
-    if let Some(edge) = layout.edge(id) {
-        let Edge { id, start, finish } = edge;
-        text.push_str(shown(alloc, LayoutRow::Edge { id, start, finish })?.as_str())?;
-    }
-    if let Some(station) = layout.station(id) {
-        let Station { id, node, capacity } = station;
-        text.push_str(shown(alloc, LayoutRow::Station { id, node, capacity })?.as_str())?;
-    }
-    Ok(text)
+}
+
+/// Compares what the layout of the rows says, and what its copy says.
+fn check_layout(rt: &impl Abort, alloc: Global, rows: &[LayoutRow]) {
+    let layout = layout_of(rt, alloc, rows);
+    check_said(rt, alloc, &layout, "the layout");
+    let copy = layout.copy().expect(rt, "memory");
+    check_said(rt, alloc, &copy, "the copy");
 }
 
 /// The layout of the examples, its rows in order and in reverse, and a copy of each.
 #[test]
-fn in_any_order(rt: HostRuntime) -> Result<(), Fail> {
-    let names = [
-        ("N1", "node "),
-        ("N2", "node "),
-        ("N3", "node "),
-        ("E12", "edge E12 N1 N2 "),
-        ("E21", "edge E21 N2 N1 "),
-        ("E23", "edge E23 N2 N3 "),
-        ("E32", "edge E32 N3 N2 "),
-        ("A", "station A N1 1 "),
-        ("B", "station B N3 1 "),
-        ("C", "station C N3 2 "),
-        ("N4", ""),
-        ("n1", ""),
-        ("E13", ""),
-        ("D", ""),
-    ];
-    let mut listed = rows(rt.alloc(), WAREHOUSE)?;
-    for _ in 0..2 {
-        let layout = Layout::of_rows(rt.alloc(), &listed)?;
-        let copy = layout.copy()?;
-        for (name, wanted) in names {
-            assert!(rt;
-                said(rt.alloc(), &layout, name)?.as_str() == wanted,
-                "{name}"
-            );
-            assert!(rt;
-                said(rt.alloc(), &copy, name)?.as_str() == wanted,
-                "{name}, in the copy"
-            );
-        }
-        listed.reverse();
-    }
-    Ok(())
+fn in_any_order(rt: HostRuntime) {
+    let mut rows = rows(&rt, rt.alloc(), WAREHOUSE);
+    check_layout(&rt, rt.alloc(), &rows);
+    rows.reverse();
+    check_layout(&rt, rt.alloc(), &rows);
 }
 
 /// A node, an edge and a station of one name.
+const ONE_NAME: &str = "kind,id,from,to
+node,X,,
+node,Y,,
+edge,X,X,Y
+station,X,Y,999
+";
+
 #[test]
-fn one_id_in_three_kinds(rt: HostRuntime) -> Result<(), Fail> {
-    let listed = rows(
-        rt.alloc(),
-        "node,X,,\nnode,Y,,\nedge,X,X,Y\nstation,X,Y,999\n",
-    )?;
-    let layout = Layout::of_rows(rt.alloc(), &listed)?;
-    let found = said(rt.alloc(), &layout, "X")?;
-    assert!(rt; found.as_str() == "node edge X X Y station X Y 999 ");
-    Ok(())
+fn one_id_in_three_kinds(rt: HostRuntime) {
+    let layout = layout(&rt, rt.alloc(), ONE_NAME);
+    check_text(
+        &rt,
+        said(&rt, rt.alloc(), &layout, "X").as_str(),
+        "true Some(Edge { id: X, start: X, finish: Y }) Some(Station { id: X, node: Y, capacity: 999 })",
+        "X",
+    );
 }
 
-/// Rows that give none, and one row more than those of the examples.
-#[test]
-fn bad_rows(rt: HostRuntime) -> Result<(), Fail> {
-    let cases = [
-        ("", "", Some(LayoutFault::Bad)),
-        (WAREHOUSE, "node,N2,,\n", Some(LayoutFault::Bad)),
-        (WAREHOUSE, "edge,E12,N2,N3\n", Some(LayoutFault::Bad)),
-        (WAREHOUSE, "station,A,N2,1\n", Some(LayoutFault::Bad)),
-        (WAREHOUSE, "edge,E14,N1,N4\n", Some(LayoutFault::Bad)),
-        (WAREHOUSE, "edge,E41,N4,N1\n", Some(LayoutFault::Bad)),
-        (WAREHOUSE, "edge,E11,N1,N1\n", Some(LayoutFault::Bad)),
-        (WAREHOUSE, "station,D,N4,1\n", Some(LayoutFault::Bad)),
-        (WAREHOUSE, "station,D,N1,0\n", Some(LayoutFault::Bad)),
-        (WAREHOUSE, "node,N4,,\n", None),
-        (WAREHOUSE, "edge,F,N1,N2\n", None),
-        (WAREHOUSE, "station,D,N1,999\n", None),
-    ];
-    for (lines, more, wanted) in cases {
-        let all = format!(in rt.alloc(); "{lines}{more}")?;
-        let found = Layout::of_rows(rt.alloc(), &rows(rt.alloc(), all.as_str())?).err();
-        assert!(rt; found == wanted, "{all}");
+fn fault_of(alloc: Global, rows: &[LayoutRow]) -> Option<LayoutFault> {
+    Layout::of_rows(alloc, rows).err()
+}
+
+/// Why a layout file gives no layout if there are these lines after it.
+fn fault_with(rt: &impl Abort, alloc: Global, file: &str, more: &str) -> Option<LayoutFault> {
+    let all = format!(in alloc; "{file}{more}").expect(rt, "memory");
+    fault_of(alloc, &rows(rt, alloc, all.as_str()))
+}
+
+fn check_faults(rt: &impl Abort, alloc: Global, file: &str, cases: &[(&str, Option<LayoutFault>)]) {
+    for (more, wanted) in cases {
+        check(rt, fault_with(rt, alloc, file, more) == *wanted, more);
     }
+}
+
+/// One row more than those of the examples.
+const ONE_MORE: [(&str, Option<LayoutFault>); 11] = [
+    ("node,N2,,\n", Some(LayoutFault::Bad)),
+    ("edge,E12,N2,N3\n", Some(LayoutFault::Bad)),
+    ("station,A,N2,1\n", Some(LayoutFault::Bad)),
+    ("edge,E14,N1,N4\n", Some(LayoutFault::Bad)),
+    ("edge,E41,N4,N1\n", Some(LayoutFault::Bad)),
+    ("edge,E11,N1,N1\n", Some(LayoutFault::Bad)),
+    ("station,D,N4,1\n", Some(LayoutFault::Bad)),
+    ("station,D,N1,0\n", Some(LayoutFault::Bad)),
+    ("node,N4,,\n", None),
+    ("edge,F,N1,N2\n", None),
+    ("station,D,N1,999\n", None),
+];
+
+const NO_ROWS: [(&str, Option<LayoutFault>); 1] = [("", Some(LayoutFault::Bad))];
+
+#[test]
+fn bad_rows(rt: HostRuntime) {
+    check_faults(&rt, rt.alloc(), "kind,id,from,to\n", &NO_ROWS);
+    check_faults(&rt, rt.alloc(), WAREHOUSE, &ONE_MORE);
     // A layout file has no capacity of four digits.
-    let mut listed = rows(rt.alloc(), WAREHOUSE)?;
-    let id = Name::read("D")?;
-    let node = Name::read("N1")?;
+    let mut rows = rows(&rt, rt.alloc(), WAREHOUSE);
+    let id = name(&rt, "D");
+    let node = name(&rt, "N1");
     let capacity = 1000;
-    listed.push(LayoutRow::Station { id, node, capacity })?;
-    assert!(rt; Layout::of_rows(rt.alloc(), &listed).err() == Some(LayoutFault::Bad));
-    Ok(())
+    let station = LayoutRow::Station { id, node, capacity };
+    rows.push(station).expect(&rt, "memory");
+    let fault = fault_of(rt.alloc(), &rows);
+    check(&rt, fault == Some(LayoutFault::Bad), "a capacity of 1000");
 }
 
+/// Rows beside 500 nodes. `Limit` goes before `Bad`: the last of these repeats an id.
+const TOO_MANY: [(&str, Option<LayoutFault>); 3] = [
+    ("", None),
+    ("node,N500,,\n", Some(LayoutFault::Limit)),
+    ("node,N0,,\n", Some(LayoutFault::Limit)),
+];
+
 #[test]
-fn too_many_rows(rt: HostRuntime) -> Result<(), Fail> {
-    let mut lines = String::new(rt.alloc());
+fn too_many_rows(rt: HostRuntime) {
+    let mut file = String::from_str(rt.alloc(), "kind,id,from,to\n").expect(&rt, "memory");
     for k in 0..500 {
-        lines.push_str(format!(in rt.alloc(); "node,N{k},,\n")?.as_str())?;
+        write!(file, "node,N{k},,\n").expect(&rt, "memory");
     }
-    // `Limit` goes before `Bad`: the last of these repeats an id.
-    for (more, wanted) in [
-        ("", None),
-        ("node,N500,,\n", Some(LayoutFault::Limit)),
-        ("node,N0,,\n", Some(LayoutFault::Limit)),
-    ] {
-        let all = format!(in rt.alloc(); "{lines}{more}")?;
-        let found = Layout::of_rows(rt.alloc(), &rows(rt.alloc(), all.as_str())?).err();
-        assert!(rt; found == wanted, "with {more}");
-    }
-    Ok(())
+    check_faults(&rt, rt.alloc(), file.as_str(), &TOO_MANY);
 }

@@ -1,6 +1,7 @@
 //! The tests of the crates below the store. They stand in one crate, since a crate with tests is proved
 //! twice. The expected values are written out or worked out by hand, or come from another program.
 //!
+//! - `cases` compares what is found with what is wanted.
 //! - `headers` has names, topics, stamps and header numbers, `messages` state messages and the texts of
 //!   orders and instant actions.
 //! - `layouts` has rows that give a layout and rows that give none, and what a layout says of a name.
@@ -9,6 +10,8 @@
 //!   that lists all walks, with which the random ones are compared.
 #![tactic(auto)]
 
+#[cfg(test)]
+mod cases;
 #[cfg(test)]
 mod headers;
 #[cfg(test)]

@@ -2,27 +2,36 @@
 mod changes;
 mod orders;
 mod states;
+mod written;
 
+use crate::cases::{check, check_text};
 use crate::messages::changes::CHANGES;
 use crate::messages::orders::ORDERS;
-use crate::messages::states::{STATES, Sample};
-use agv_header::{Moment, Name, VehicleKey};
-use agv_message::{
-    ActKind, BodyFault, Header, InstantKind, InstantMessage, OrderAct, OrderEdge, OrderMessage,
-    OrderNode, Sequence, StateMessage, Status, Text, instant_text, order_text, read_body,
-    read_state,
-};
+use crate::messages::states::{EVERY_STATUS, ODD, OLD, ORDINARY, PLACED, Sample, UNDER_WAY};
+use agv_message::{BodyFault, Sequence, StateMessage, Text, read_body, read_state};
 use std::alloc::Global;
 use std::process::Abort;
-use std::test::Fail;
 
 /// A state of the vehicle KIT/0001 at rest on N1.
 const STATE: &str =
     r#"{"headerId":1,"timestamp":"2023-11-14T22:13:19.50Z","version":"2.0.0","manufacturer":"KIT","serialNumber":"0001","orderId":"","orderUpdateId":0,"lastNodeId":"N1","lastNodeSequenceId":0,"driving":false,"nodeStates":[],"edgeStates":[],"actionStates":[],"batteryState":{"batteryCharge":80,"charging":false},"operatingMode":"AUTOMATIC","errors":[],"safetyState":{"eStop":"NONE","fieldViolation":false}}"#;
 
+/// The same state as it is read.
+const AT_REST: &str = concat!(
+    r#"Ok(StateMessage { header_id: 1, at: Moment { ms: 1699999999500 }, "#,
+    r#"manufacturer: Text { text: "KIT" }, serial: Text { text: "0001" }, order_id: Text { text: "" }, "#,
+    r#"update: 0, last_node: Text { text: "N1" }, last_seq: 0, node_seqs: Sequence { kept: [] }, "#,
+    r#"actions: Sequence { kept: [] }, ready: true, paused: false })"#,
+);
+
 fn state_of(alloc: Global, text: &str) -> Result<StateMessage, BodyFault> {
     let body = read_body(alloc, text.as_bytes())?;
     read_state(alloc, &body)
+}
+
+/// The state that the text is, or why it is none.
+fn said(rt: &impl Abort, alloc: Global, text: &str) -> String {
+    format!(in alloc; "{:?}", state_of(alloc, text)).expect(rt, "memory")
 }
 
 fn fault_name(fault: BodyFault) -> &'static str {
@@ -41,7 +50,7 @@ fn verdict(alloc: Global, text: &str) -> &'static str {
 }
 
 /// The name of the refusal that the bytes earn as a body, or `read`.
-fn body_verdict(alloc: Global, bytes: &[u8]) -> &'static str {
+pub(crate) fn body_verdict(alloc: Global, bytes: &[u8]) -> &'static str {
     let Err(fault) = read_body(alloc, bytes) else {
         return "read";
     };
@@ -49,339 +58,191 @@ fn body_verdict(alloc: Global, bytes: &[u8]) -> &'static str {
 }
 
 /// The state with one part of its text replaced.
-fn changed(alloc: Global, old: &str, new: &str) -> Result<String, Fail> {
-    let (before, after) = STATE.split_once(old).ok_or("the part isn't there")?;
-    Ok(format!(in alloc; "{before}{new}{after}")?)
+fn changed(rt: &impl Abort, alloc: Global, old: &str, new: &str) -> String {
+    let (before, after) = STATE.split_once(old).expect(rt, "the part");
+    format!(in alloc; "{before}{new}{after}").expect(rt, "memory")
 }
 
-/// The text without its blanks and line breaks.
-fn joined(alloc: Global, text: &str) -> Result<String, Fail> {
-    Ok(
-        text.chars()
-            .filter(|c| *c != ' ' && *c != '\n')
-            .collect(alloc)?,
-    )
+/// The state UNDER_WAY as it is read.
+const DRIVING: &str = concat!(
+    r#"Ok(StateMessage { header_id: 1207, at: Moment { ms: 1709187247500 }, "#,
+    r#"manufacturer: Text { text: "ACME" }, serial: Text { text: "agv-17" }, "#,
+    r#"order_id: Text { text: "order-311" }, update: 2, last_node: Text { text: "n4" }, last_seq: 6, "#,
+    r#"node_seqs: Sequence { kept: [8, 10] }, actions: Sequence { kept: ["#,
+    r#"(Text { text: "order-311.0" }, Finished), (Text { text: "order-311.1" }, Waiting)] }, "#,
+    r#"ready: true, paused: false })"#,
+);
+
+/// The state EVERY_STATUS as it is read.
+const ACTING: &str = concat!(
+    r#"Ok(StateMessage { header_id: 10, at: Moment { ms: 1709187249000 }, "#,
+    r#"manufacturer: Text { text: "ACME" }, serial: Text { text: "agv-17" }, "#,
+    r#"order_id: Text { text: "o" }, update: 0, last_node: Text { text: "n1" }, last_seq: 0, "#,
+    r#"node_seqs: Sequence { kept: [] }, actions: Sequence { kept: ["#,
+    r#"(Text { text: "a" }, Waiting), (Text { text: "b" }, Initializing), "#,
+    r#"(Text { text: "c" }, Running), (Text { text: "d" }, Paused), "#,
+    r#"(Text { text: "e" }, Finished), (Text { text: "f" }, Failed)] }, ready: true, paused: false })"#,
+);
+
+fn check_state(rt: &impl Abort, alloc: Global, text: &str, wanted: &str) {
+    check_text(rt, said(rt, alloc, text).as_str(), wanted, text);
 }
 
-fn header(number: u32) -> Result<Header, Fail> {
-    Ok(Header {
-        number,
-        at: Moment::of(1_700_000_000_000).ok_or("no moment")?,
-        key: VehicleKey {
-            manufacturer: Name::read("KIT")?,
-            serial: Name::read("0001")?,
-        },
-    })
-}
-
+/// Each member of a state, the places of the nodes ahead, and the actions in the state's order.
 #[test]
-fn a_state_is_read(rt: HostRuntime) -> Result<(), Fail> {
-    let Ok(state) = state_of(rt.alloc(), STATE) else {
-        return Err("the state is refused")?;
-    };
-    assert_eq!(rt; state.header_id, 1);
-    assert_eq!(rt; state.at.ms(), 1_699_999_999_500);
-    assert!(rt; state.manufacturer.as_str() == "KIT");
-    assert!(rt; state.serial.as_str() == "0001");
-    assert!(rt; state.order_id.as_str() == "");
-    assert_eq!(rt; state.update, 0);
-    assert!(rt; state.last_node.as_str() == "N1");
-    assert_eq!(rt; state.last_seq, 0);
-    assert!(rt; state.node_seqs.is_empty());
-    assert_eq!(rt; state.actions.len(), 0);
-    assert!(rt; state.ready);
-    assert!(rt; !state.paused);
-    Ok(())
+fn states_are_read(rt: HostRuntime) {
+    check_state(&rt, rt.alloc(), STATE, AT_REST);
+    check_state(&rt, rt.alloc(), UNDER_WAY, DRIVING);
+    check_state(&rt, rt.alloc(), EVERY_STATUS, ACTING);
 }
 
-#[test]
-fn bodies(rt: HostRuntime) -> Result<(), Fail> {
-    let rows = [
-        (r#"{"a":1}"#, "read"),
-        ("-9223372036854775808", "read"),
-        ("18446744073709551615", "read"),
-        (r#"{"a":1.0}"#, "Fraction"),
-        (r#"{"a":1e0}"#, "Fraction"),
-        ("-0.0", "Fraction"),
-        ("-0", "Fraction"),
-        ("18446744073709551616", "Fraction"),
-        ("-9223372036854775809", "Fraction"),
-        (r#"{"x":[1,{"y":[[2,{"z":1e0}]]}]}"#, "Fraction"),
-        (r#"{"x":[1,{"y":[[2,{"z":-0.0}]]}]}"#, "Fraction"),
-        (r#"{"x":[1,{"y":[[2,18446744073709551616]]}]}"#, "Fraction"),
-        (r#"{"a":"#, "BadJson"),
-        ("", "BadJson"),
-        (r#"{"a":1.}"#, "BadJson"),
-        (r#"{"a":01}"#, "BadJson"),
-        ("1e400", "BadJson"),
-        (r#"{"a":1.5,"a":1}"#, "read"),
-        ("{} {}", "BadJson"),
-    ];
-    for (text, want) in rows {
-        assert_eq!(rt; body_verdict(rt.alloc(), text.as_bytes()), want, "{text}");
-    }
-    assert_eq!(rt; body_verdict(rt.alloc(), b"\"\xff\""), "BadJson");
-    Ok(())
-}
-
-#[test]
-fn bodies_nest_127_deep(rt: HostRuntime) -> Result<(), Fail> {
-    for (depth, want) in [(127, "read"), (128, "BadJson")] {
-        let mut text = String::new(rt.alloc());
-        for _ in 0..depth {
-            text.push_str("[")?;
-        }
-        for _ in 0..depth {
-            text.push_str("]")?;
-        }
-        assert_eq!(rt; body_verdict(rt.alloc(), text.as_bytes()), want, "{depth}");
-    }
-    Ok(())
-}
-
-fn check_changes(rt: &impl Abort, alloc: Global, rows: &[(&str, &str, &str)]) -> Result<(), Fail> {
-    for (old, new, want) in rows {
-        let text = changed(alloc, old, new)?;
-        assert_eq!(rt; verdict(alloc, text.as_str()), *want, "{new}");
-    }
-    Ok(())
-}
-
-#[test]
-fn refusals_of_states(rt: HostRuntime) -> Result<(), Fail> {
-    check_changes(&rt, rt.alloc(), &CHANGES)?;
-    for text in ["[]", "null", "7", "\"\""] {
-        assert_eq!(rt; verdict(rt.alloc(), text), "BadBody", "{text}");
-    }
-    Ok(())
-}
-
-#[test]
-fn readiness(rt: HostRuntime) -> Result<(), Fail> {
-    let rows = [
-        (r#""AUTOMATIC""#, r#""SEMIAUTOMATIC""#, true, false),
-        (r#""AUTOMATIC""#, r#""MANUAL""#, false, false),
-        (r#""AUTOMATIC""#, r#""SERVICE""#, false, false),
-        (r#""AUTOMATIC""#, r#""TEACHIN""#, false, false),
-        (r#""AUTOMATIC""#, r#""automatic""#, false, false),
-        (r#""NONE""#, r#""AUTOACK""#, false, false),
-        (r#""NONE""#, r#""MANUAL""#, false, false),
-        (r#""NONE""#, r#""REMOTE""#, false, false),
-        (
-            r#""errors":[]"#,
-            r#""errors":[{"errorLevel":"WARNING"}]"#,
-            true,
-            false,
-        ),
-        (
-            r#""errors":[]"#,
-            r#""errors":[{"errorLevel":"FATAL"},{"errorLevel":"WARNING"}]"#,
-            false,
-            false,
-        ),
-        (r#""driving":false"#, r#""paused":true"#, true, true),
-        (r#""driving":false"#, r#""paused":false"#, true, false),
-    ];
-    for (old, new, ready, paused) in rows {
-        let text = changed(rt.alloc(), old, new)?;
-        let Ok(state) = state_of(rt.alloc(), text.as_str()) else {
-            return Err("a state is refused")?;
-        };
-        assert_eq!(rt; state.ready, ready, "{new}");
-        assert_eq!(rt; state.paused, paused, "{new}");
-    }
-    Ok(())
-}
-
-fn check_samples(rt: &impl Abort, alloc: Global, samples: &[Sample]) -> Result<(), Fail> {
-    for sample in samples {
-        assert_eq!(rt;
-            verdict(alloc, sample.text),
-            sample.verdict,
-            "{}",
-            sample.why
-        );
-    }
-    Ok(())
-}
-
-#[test]
-fn messages_of_the_standard(rt: HostRuntime) -> Result<(), Fail> {
-    check_samples(&rt, rt.alloc(), &STATES)?;
-    check_samples(&rt, rt.alloc(), &ORDERS)
-}
-
-/// The actions of the fourth sample.
-const ACTIONS: [(&str, Status); 6] = [
-    ("a", Status::Waiting),
-    ("b", Status::Initializing),
-    ("c", Status::Running),
-    ("d", Status::Paused),
-    ("e", Status::Finished),
-    ("f", Status::Failed),
+/// Bodies, each with the name of the refusal that it earns, or `read`.
+const BODIES: [(&str, &str); 19] = [
+    (r#"{"a":1}"#, "read"),
+    ("-9223372036854775808", "read"),
+    ("18446744073709551615", "read"),
+    (r#"{"a":1.0}"#, "Fraction"),
+    (r#"{"a":1e0}"#, "Fraction"),
+    ("-0.0", "Fraction"),
+    ("-0", "Fraction"),
+    ("18446744073709551616", "Fraction"),
+    ("-9223372036854775809", "Fraction"),
+    (r#"{"x":[1,{"y":[[2,{"z":1e0}]]}]}"#, "Fraction"),
+    (r#"{"x":[1,{"y":[[2,{"z":-0.0}]]}]}"#, "Fraction"),
+    (r#"{"x":[1,{"y":[[2,18446744073709551616]]}]}"#, "Fraction"),
+    (r#"{"a":"#, "BadJson"),
+    ("", "BadJson"),
+    (r#"{"a":1.}"#, "BadJson"),
+    (r#"{"a":01}"#, "BadJson"),
+    ("1e400", "BadJson"),
+    (r#"{"a":1.5,"a":1}"#, "read"),
+    ("{} {}", "BadJson"),
 ];
 
-fn is_action(action: &(Text, Status), wanted: (&str, Status)) -> bool {
-    action.0.as_str() == wanted.0 && action.1 == wanted.1
-}
-
-/// Whether they are those of the fourth sample, in its order.
-fn are_actions(actions: &[(Text, Status)]) -> bool {
-    actions.len() == ACTIONS.len()
-        && actions
-            .iter()
-            .zip(ACTIONS)
-            .all(|(action, wanted)| is_action(action, wanted))
-}
-
-#[test]
-fn numbers_of_nodes(rt: HostRuntime) -> Result<(), Fail> {
-    let Ok(state) = state_of(rt.alloc(), STATES[1].text) else {
-        return Err("the state is refused")?;
-    };
-    assert!(rt; state.node_seqs.as_slice() == [8, 10].as_slice());
-    Ok(())
-}
-
-#[test]
-fn actions_of_a_state(rt: HostRuntime) -> Result<(), Fail> {
-    let Ok(state) = state_of(rt.alloc(), STATES[3].text) else {
-        return Err("the state is refused")?;
-    };
-    assert!(rt; are_actions(state.actions.as_slice()));
-    Ok(())
-}
-
-fn act(n: u32, kind: ActKind, station: &str) -> Result<OrderAct, Fail> {
-    Ok(OrderAct {
-        n,
-        kind,
-        station: Name::read(station)?,
-        load: Name::read("L1")?,
-    })
-}
-
-fn node(id: &str, seq: u32, released: bool, acts: Sequence<OrderAct>) -> Result<OrderNode, Fail> {
-    Ok(OrderNode {
-        id: Name::read(id)?,
-        seq,
-        released,
-        acts,
-    })
-}
-
-fn edge(id: &str, start: &str, finish: &str, seq: u32, released: bool) -> Result<OrderEdge, Fail> {
-    Ok(OrderEdge {
-        id: Name::read(id)?,
-        start: Name::read(start)?,
-        finish: Name::read(finish)?,
-        seq,
-        released,
-    })
-}
-
-#[test]
-fn an_order_is_written(rt: HostRuntime) -> Result<(), Fail> {
-    let alloc = rt.alloc();
-    let pick = vec![in alloc; act(0, ActKind::Pick, "A")?]?;
-    let drop = vec![in alloc; act(1, ActKind::Drop, "B")?]?;
-    let nodes = vec![in alloc;
-        node("N1", 0, true, pick.into())?,
-        node("N2", 2, true, Vec::new(alloc).into())?,
-        node("N3", 4, false, drop.into())?,
-    ]?;
-    let edges = vec![in alloc;
-        edge("E12", "N1", "N2", 1, true)?,
-        edge("E23", "N2", "N3", 3, false)?,
-    ]?;
-    let order = OrderMessage {
-        order: Name::read("O1")?,
-        update: 0,
-        nodes: nodes.into(),
-        edges: edges.into(),
-    };
-    let want = joined(
-        alloc,
-        r#"{"edges":[{"actions":[],"edgeId":"E12","endNodeId":"N2","released":true,"sequenceId":1,"startNodeId":"N1"},
-        {"actions":[],"edgeId":"E23","endNodeId":"N3","released":false,"sequenceId":3,"startNodeId":"N2"}],
-        "headerId":1,"manufacturer":"KIT","nodes":[{"actions":[{"actionId":"O1.0","actionParameters":[
-        {"key":"stationType","value":"station"},{"key":"stationName","value":"A"},
-        {"key":"loadType","value":"load"},{"key":"loadId","value":"L1"}],
-        "actionType":"pick","blockingType":"HARD"}],"nodeId":"N1","released":true,"sequenceId":0},
-        {"actions":[],"nodeId":"N2","released":true,"sequenceId":2},{"actions":[{"actionId":"O1.1",
-        "actionParameters":[{"key":"stationType","value":"station"},{"key":"stationName","value":"B"},
-        {"key":"loadType","value":"load"},{"key":"loadId","value":"L1"}],
-        "actionType":"drop","blockingType":"HARD"}],"nodeId":"N3","released":false,"sequenceId":4}],
-        "orderId":"O1","orderUpdateId":0,"serialNumber":"0001","timestamp":"2023-11-14T22:13:20.00Z","version":"2.0.0"}"#,
-    )?;
-    let text = order_text(alloc, &header(1)?, &order)?;
-    assert!(rt; text.as_slice() == want.as_bytes());
-    assert!(rt; read_body(alloc, text.as_slice()).is_ok());
-    Ok(())
-}
-
-#[test]
-fn an_order_on_one_node_is_written(rt: HostRuntime) -> Result<(), Fail> {
-    // A pick and a drop on the same node, in an update, the pick first; no edge.
-    let alloc = rt.alloc();
-    let acts = vec![in alloc; act(0, ActKind::Pick, "C")?, act(1, ActKind::Drop, "B")?]?;
-    let nodes = vec![in alloc; node("N3", 4, true, acts.into())?]?;
-    let order = OrderMessage {
-        order: Name::read("O-4.x:y_z")?,
-        update: 4_294_967_295,
-        nodes: nodes.into(),
-        edges: Vec::new(alloc).into(),
-    };
-    let want = joined(
-        alloc,
-        r#"{"edges":[],"headerId":4294967295,"manufacturer":"KIT","nodes":[{"actions":[
-        {"actionId":"O-4.x:y_z.0","actionParameters":[
-        {"key":"stationType","value":"station"},{"key":"stationName","value":"C"},
-        {"key":"loadType","value":"load"},{"key":"loadId","value":"L1"}],
-        "actionType":"pick","blockingType":"HARD"},
-        {"actionId":"O-4.x:y_z.1","actionParameters":[
-        {"key":"stationType","value":"station"},{"key":"stationName","value":"B"},
-        {"key":"loadType","value":"load"},{"key":"loadId","value":"L1"}],
-        "actionType":"drop","blockingType":"HARD"}],"nodeId":"N3","released":true,"sequenceId":4}],
-        "orderId":"O-4.x:y_z","orderUpdateId":4294967295,"serialNumber":"0001",
-        "timestamp":"2023-11-14T22:13:20.00Z","version":"2.0.0"}"#,
-    )?;
-    let text = order_text(alloc, &header(4_294_967_295)?, &order)?;
-    assert!(rt; text.as_slice() == want.as_bytes());
-    Ok(())
-}
-
-#[test]
-fn instant_actions_are_written(rt: HostRuntime) -> Result<(), Fail> {
-    let rows = [
-        (1, InstantKind::CancelOrder, "1", "cancelOrder"),
-        (2, InstantKind::StartPause, "2", "startPause"),
-        (
-            4_294_967_295,
-            InstantKind::StopPause,
-            "4294967295",
-            "stopPause",
-        ),
-    ];
-    let alloc = rt.alloc();
-    for (number, kind, digits, name) in rows {
-        let actions = format!(in alloc;
-            "{{\"actions\":[{{\"actionId\":\"instant-{digits}\",\"actionParameters\":[],\"actionType\":\"{name}\",\"blockingType\":\"HARD\"}}],"
-        )?;
-        let rest = format!(in alloc;
-            "\"headerId\":{digits},\"manufacturer\":\"KIT\",\"serialNumber\":\"0001\",\"timestamp\":\"2023-11-14T22:13:20.00Z\",\"version\":\"2.0.0\"}}"
-        )?;
-        let want = format!(in alloc; "{actions}{rest}")?;
-        let text = instant_text(alloc, &header(number)?, &InstantMessage { kind })?;
-        assert!(rt; text.as_slice() == want.as_bytes(), "{name}");
+/// So many lists, one in another.
+fn nested(rt: &impl Abort, alloc: Global, depth: u32) -> String {
+    let mut text = String::from_str(alloc, "[]").expect(rt, "memory");
+    for _ in 1..depth {
+        text = format!(in alloc; "[{text}]").expect(rt, "memory");
     }
-    Ok(())
+    text
+}
+
+fn check_nested(rt: &impl Abort, alloc: Global, depth: u32, want: &str, case: &str) {
+    let text = nested(rt, alloc, depth);
+    check_text(rt, body_verdict(alloc, text.as_bytes()), want, case);
 }
 
 #[test]
-fn texts_are_kept(rt: HostRuntime) -> Result<(), Fail> {
-    let text = Text::from(String::from_str(rt.alloc(), "größe")?);
-    assert!(rt; text.as_str() == "größe");
-    assert!(rt; Text::copy_of(rt.alloc(), "")?.as_str() == "");
-    Ok(())
+fn bodies(rt: HostRuntime) {
+    for (text, want) in &BODIES {
+        let found = body_verdict(rt.alloc(), text.as_bytes());
+        check_text(&rt, found, want, text);
+    }
+    let found = body_verdict(rt.alloc(), b"\"\xff\"");
+    check_text(&rt, found, "BadJson", "no text");
+    check_nested(&rt, rt.alloc(), 127, "read", "127 deep");
+    check_nested(&rt, rt.alloc(), 128, "BadJson", "128 deep");
+}
+
+fn check_change(rt: &impl Abort, alloc: Global, old: &str, new: &str, want: &str) {
+    let text = changed(rt, alloc, old, new);
+    check_text(rt, verdict(alloc, text.as_str()), want, new);
+}
+
+#[test]
+fn refusals_of_states(rt: HostRuntime) {
+    for (old, new, want) in &CHANGES {
+        check_change(&rt, rt.alloc(), old, new, want);
+    }
+    for text in &["[]", "null", "7", "\"\""] {
+        check_text(&rt, verdict(rt.alloc(), text), "BadBody", text);
+    }
+}
+
+const READY: &str = "ready: true, paused: false })";
+
+const NOT_READY: &str = "ready: false, paused: false })";
+
+/// A part of the text, what stands in its place, and how the state then ends.
+const READINESS: [(&str, &str, &str); 12] = [
+    (r#""AUTOMATIC""#, r#""SEMIAUTOMATIC""#, READY),
+    (r#""AUTOMATIC""#, r#""MANUAL""#, NOT_READY),
+    (r#""AUTOMATIC""#, r#""SERVICE""#, NOT_READY),
+    (r#""AUTOMATIC""#, r#""TEACHIN""#, NOT_READY),
+    (r#""AUTOMATIC""#, r#""automatic""#, NOT_READY),
+    (r#""NONE""#, r#""AUTOACK""#, NOT_READY),
+    (r#""NONE""#, r#""MANUAL""#, NOT_READY),
+    (r#""NONE""#, r#""REMOTE""#, NOT_READY),
+    (
+        r#""errors":[]"#,
+        r#""errors":[{"errorLevel":"WARNING"}]"#,
+        READY,
+    ),
+    (
+        r#""errors":[]"#,
+        r#""errors":[{"errorLevel":"FATAL"},{"errorLevel":"WARNING"}]"#,
+        NOT_READY,
+    ),
+    (
+        r#""driving":false"#,
+        r#""paused":true"#,
+        "ready: true, paused: true })",
+    ),
+    (r#""driving":false"#, r#""paused":false"#, READY),
+];
+
+fn check_end(rt: &impl Abort, alloc: Global, old: &str, new: &str, end: &str) {
+    let text = changed(rt, alloc, old, new);
+    let found = said(rt, alloc, text.as_str());
+    assert!(rt; found.as_str().ends_with(end), "{new}: {found}");
+}
+
+#[test]
+fn readiness(rt: HostRuntime) {
+    for (old, new, end) in &READINESS {
+        check_end(&rt, rt.alloc(), old, new, end);
+    }
+}
+
+fn check_samples(rt: &impl Abort, alloc: Global, samples: &[Sample]) {
+    for sample in samples {
+        let found = verdict(alloc, sample.text);
+        check_text(rt, found, sample.verdict, sample.why);
+    }
+}
+
+#[test]
+fn messages_of_the_standard(rt: HostRuntime) {
+    check_samples(&rt, rt.alloc(), &ORDINARY);
+    check_samples(&rt, rt.alloc(), &ODD);
+    check_samples(&rt, rt.alloc(), &PLACED);
+    check_samples(&rt, rt.alloc(), &OLD);
+    check_samples(&rt, rt.alloc(), &ORDERS);
+}
+
+fn is_text(text: Text, wanted: &str) -> bool {
+    text.as_str() == wanted
+}
+
+#[test]
+fn texts_are_kept(rt: HostRuntime) {
+    let string = String::from_str(rt.alloc(), "größe").expect(&rt, "memory");
+    check(&rt, is_text(Text::from(string), "größe"), "größe");
+    let empty = Text::copy_of(rt.alloc(), "").expect(&rt, "memory");
+    check(&rt, is_text(empty, ""), "no text");
+}
+
+fn has_items(sequence: Sequence<u32>, items: &[u32]) -> bool {
+    sequence.as_slice() == items
+        && sequence.len() == items.len()
+        && sequence.is_empty() == items.is_empty()
+}
+
+#[test]
+fn sequences_are_kept(rt: HostRuntime) {
+    let two = vec![in rt.alloc(); 8, 10].expect(&rt, "memory");
+    check(&rt, has_items(two.into(), &[8, 10]), "two items");
+    let none = Vec::new(rt.alloc());
+    check(&rt, has_items(none.into(), &[]), "no items");
 }

@@ -1,54 +1,69 @@
 //! Routes on small layouts with answers worked out by hand, on random ones against the list of all
 //! walks, and on the largest.
+ghost use Rattle.agv_layout.specs.Rows.{IsLayoutOf};
 
-use crate::layouts::{WAREHOUSE, rows};
+use crate::cases::{check, check_text, name};
+use crate::layouts::{WAREHOUSE, layout, layout_of};
 use crate::listing::way;
 use agv_header::Name;
 use agv_layout::{Layout, LayoutRow};
 use std::alloc::Global;
-use std::test::Fail;
+use std::process::Abort;
 
-/// The names of a route's edges with a blank after each, or `none`.
-fn shown(alloc: Global, route: Option<Vec<Name>>) -> Result<String, Fail> {
-    let mut text = String::new(alloc);
-    match route {
-        Some(ids) => {
-            for id in &ids {
-                text.push_str(id.as_str())?;
-                text.push_str(" ")?;
-            }
-        }
-        None => text.push_str("none")?,
-    }
-    Ok(text)
+/// Two ways of which the first edge decides.
+const SQUARE: &str = "kind,id,from,to
+node,P,,
+node,Q,,
+node,R,,
+node,S,,
+edge,a1,P,Q
+edge,a2,P,R
+edge,b1,Q,S
+edge,b0,R,S
+";
+
+/// Two parallel edges.
+const PARALLEL: &str = "kind,id,from,to
+node,P,,
+node,Q,,
+edge,x2,P,Q
+edge,x1,P,Q
+";
+
+/// An edge, of use one way only.
+const ONE_WAY: &str = "kind,id,from,to
+node,P,,
+node,Q,,
+edge,a1,P,Q
+";
+
+/// A layout file, from where, to where, and how many edges and which are the way.
+const WAYS: [(&str, &str, &str, &str); 7] = [
+    (SQUARE, "P", "S", "Some(2) Some([a1, b1])"),
+    (PARALLEL, "P", "Q", "Some(1) Some([x1])"),
+    (ONE_WAY, "Q", "P", "None None"),
+    (WAREHOUSE, "N1", "N3", "Some(2) Some([E12, E23])"),
+    (WAREHOUSE, "N2", "N2", "Some(0) Some([])"),
+    (WAREHOUSE, "N1", "N9", "None None"),
+    (WAREHOUSE, "N9", "N1", "None None"),
+];
+
+/// How many edges the way from one node to another has, and their names.
+fn said(rt: &impl Abort, alloc: Global, file: &str, from: &str, to: &str) -> String {
+    let layout = layout(rt, alloc, file);
+    let from = name(rt, from);
+    let to = name(rt, to);
+    let hops = layout.hops(alloc, from, to).expect(rt, "memory");
+    let route = layout.route(alloc, from, to).expect(rt, "memory");
+    format!(in alloc; "{hops:?} {route:?}").expect(rt, "memory")
 }
 
-/// Two ways of which the first edge decides, two parallel edges, an edge the wrong way, and the layout
-/// of the examples.
 #[test]
-fn on_small_layouts(rt: HostRuntime) -> Result<(), Fail> {
-    let square =
-        "node,P,,\nnode,Q,,\nnode,R,,\nnode,S,,\nedge,a1,P,Q\nedge,a2,P,R\nedge,b1,Q,S\nedge,b0,R,S\n";
-    let parallel = "node,P,,\nnode,Q,,\nedge,x2,P,Q\nedge,x1,P,Q\n";
-    let one_way = "node,P,,\nnode,Q,,\nedge,a1,P,Q\n";
-    let cases = [
-        (square, "P", "S", Some(2), "a1 b1 "),
-        (parallel, "P", "Q", Some(1), "x1 "),
-        (one_way, "Q", "P", None, "none"),
-        (WAREHOUSE, "N1", "N3", Some(2), "E12 E23 "),
-        (WAREHOUSE, "N2", "N2", Some(0), ""),
-        (WAREHOUSE, "N1", "N9", None, "none"),
-        (WAREHOUSE, "N9", "N1", None, "none"),
-    ];
-    for (lines, from, to, far, way) in cases {
-        let layout = Layout::of_rows(rt.alloc(), &rows(rt.alloc(), lines)?)?;
-        let start = Name::read(from)?;
-        let finish = Name::read(to)?;
-        assert_eq!(rt; layout.hops(rt.alloc(), start, finish)?, far);
-        let found = shown(rt.alloc(), layout.route(rt.alloc(), start, finish)?)?;
-        assert!(rt; found.as_str() == way, "{from} to {to}: {found}");
+fn on_small_layouts(rt: HostRuntime) {
+    for (file, from, to, wanted) in &WAYS {
+        let found = said(&rt, rt.alloc(), file, from, to);
+        check_text(&rt, found.as_str(), wanted, to);
     }
-    Ok(())
 }
 
 /// The next number of a fixed sequence that looks random, below a bound.
@@ -57,29 +72,38 @@ fn draw(state: &mut u32, bound: u32) -> u32 {
     (*state >> 16).checked_rem(bound).unwrap_or(0)
 }
 
-fn numbered(alloc: Global, letter: char, number: u32) -> Result<Name, Fail> {
-    let text = format!(in alloc; "{letter}{number:03}")?;
-    Ok(Name::read(text.as_str())?)
+/// A letter and a number, as P007.
+fn numbered(rt: &impl Abort, alloc: Global, letter: char, number: u32) -> Name {
+    let text = format!(in alloc; "{letter}{number:03}").expect(rt, "memory");
+    name(rt, text.as_str())
+}
+
+fn add_node(rt: &impl Abort, rows: &mut Vec<LayoutRow>, id: Name) {
+    rows.push(LayoutRow::Node { id }).expect(rt, "memory");
+}
+
+fn add_edge(rt: &impl Abort, rows: &mut Vec<LayoutRow>, id: Name, start: Name, finish: Name) {
+    let edge = LayoutRow::Edge { id, start, finish };
+    rows.push(edge).expect(rt, "memory");
 }
 
 /// So many nodes, and up to 10 edges, each from any node to any other.
-fn random_rows(alloc: Global, state: &mut u32, nodes: u32) -> Result<Vec<LayoutRow>, Fail> {
+fn random_rows(rt: &impl Abort, alloc: Global, state: &mut u32, nodes: u32) -> Vec<LayoutRow> {
     let mut rows = Vec::new(alloc);
     for i in 0..nodes {
-        let id = numbered(alloc, 'P', i)?;
-        rows.push(LayoutRow::Node { id })?;
+        add_node(rt, &mut rows, numbered(rt, alloc, 'P', i));
     }
     for i in 0..draw(state, 11) {
-        let id = numbered(alloc, 'e', i)?;
+        let id = numbered(rt, alloc, 'e', i);
         let from = draw(state, nodes);
         let to = draw(state, nodes);
         if from != to {
-            let start = numbered(alloc, 'P', from)?;
-            let finish = numbered(alloc, 'P', to)?;
-            rows.push(LayoutRow::Edge { id, start, finish })?;
+            let start = numbered(rt, alloc, 'P', from);
+            let finish = numbered(rt, alloc, 'P', to);
+            add_edge(rt, &mut rows, id, start, finish);
         }
     }
-    Ok(rows)
+    rows
 }
 
 /// Whether the row is another edge than this, and leads so.
@@ -90,113 +114,158 @@ fn is_other(row: &LayoutRow, than: Name, from: Name, to: Name) -> bool {
     }
 }
 
-/// Whether some edge has another beside it, and some edge one back.
-fn has_pairs(rows: &[LayoutRow]) -> (bool, bool) {
-    let mut parallel = false;
-    let mut back = false;
+fn has_other(rows: &[LayoutRow], than: Name, from: Name, to: Name) -> bool {
     for row in rows {
-        if let LayoutRow::Edge { id, start, finish } = *row {
-            parallel |= rows.iter().any(|other| is_other(other, id, start, finish));
-            back |= rows.iter().any(|other| is_other(other, id, finish, start));
+        if is_other(row, than, from, to) {
+            return true;
         }
     }
-    (parallel, back)
+    false
+}
+
+/// What was met among the random layouts.
+#[derive(Clone, Copy)]
+struct Met {
+    /// An edge with another beside it.
+    parallel: bool,
+    /// An edge with one back.
+    back: bool,
+    /// Nodes where no walk leads from one to the other.
+    cut_off: bool,
+    /// A way of more than two edges.
+    far: bool,
+}
+
+fn note_pairs(met: &mut Met, rows: &[LayoutRow]) {
+    for row in rows {
+        if let LayoutRow::Edge { id, start, finish } = *row {
+            met.parallel |= has_other(rows, id, start, finish);
+            met.back |= has_other(rows, id, finish, start);
+        }
+    }
+}
+
+/// Whether the way has so many edges, or both are none.
+fn is_length(hops: Option<u32>, way: &Option<Vec<Name>>) -> bool {
+    match (hops, way) {
+        (Some(hops), Some(ids)) => hops as usize == ids.len(),
+        (None, None) => true,
+        _ => false,
+    }
+}
+
+/// Compares the way from one node to another with the first of all walks, and returns its length.
+fn compare(
+    rt: &impl Abort,
+    alloc: Global,
+    layout: &Layout,
+    rows: &[LayoutRow],
+    from: Name,
+    to: Name,
+) -> Option<u32>
+    requires { IsLayoutOf rows.now layout.now }
+{
+    let wanted = way(alloc, layout, rows, from, to).expect(rt, "memory");
+    let found = layout.route(alloc, from, to).expect(rt, "memory");
+    assert!(rt; found == wanted, "{from} to {to} in {rows:?}");
+    let hops = layout.hops(alloc, from, to).expect(rt, "memory");
+    check(
+        rt,
+        is_length(hops, &wanted),
+        "as many edges as the route has",
+    );
+    hops
+}
+
+fn note_way(met: &mut Met, far: Option<u32>) {
+    met.cut_off |= far.is_none();
+    met.far |= far > Some(2);
+}
+
+/// From and to each node, and a name that is none.
+fn compare_all(rt: &impl Abort, alloc: Global, met: &mut Met, rows: &[LayoutRow], nodes: u32) {
+    let layout = Layout::of_rows(alloc, rows).expect(rt, "a layout");
+    for i in 0..=nodes {
+        for j in 0..=nodes {
+            let from = numbered(rt, alloc, 'P', i);
+            let to = numbered(rt, alloc, 'P', j);
+            note_way(met, compare(rt, alloc, &layout, rows, from, to));
+        }
+    }
 }
 
 /// Among the layouts there are parallel edges and edges both ways, nodes where no walk leads, and walks
 /// of more than two edges.
 #[test]
-fn as_all_walks_say(rt: HostRuntime) -> Result<(), Fail> {
-    let alloc = rt.alloc();
+fn as_all_walks_say(rt: HostRuntime) {
     let mut state = 1;
-    let mut some_is_parallel = false;
-    let mut some_is_back = false;
-    let mut some_is_cut_off = false;
-    let mut some_is_far = false;
+    let mut met = Met {
+        parallel: false,
+        back: false,
+        cut_off: false,
+        far: false,
+    };
     for _ in 0..48 {
         let nodes = draw(&mut state, 5).saturating_add(2);
-        let rows = random_rows(alloc, &mut state, nodes)?;
-        let layout = Layout::of_rows(alloc, &rows)?;
-        let (parallel, back) = has_pairs(&rows);
-        some_is_parallel |= parallel;
-        some_is_back |= back;
-        // From and to each node, and a name that is none.
-        for i in 0..=nodes {
-            for j in 0..=nodes {
-                let from = numbered(alloc, 'P', i)?;
-                let to = numbered(alloc, 'P', j)?;
-                let wanted = way(alloc, &layout, &rows, from, to)?;
-                let far = wanted.as_ref().map(|ids| ids.len());
-                let hops = layout.hops(alloc, from, to)?;
-                assert!(rt; hops.map(|hops| hops as usize) == far);
-                let found = layout.route(alloc, from, to)?;
-                assert!(rt; found == wanted, "{from} to {to} in {rows:?}");
-                some_is_cut_off |= far.is_none();
-                some_is_far |= far > Some(2);
-            }
-        }
+        let rows = random_rows(&rt, rt.alloc(), &mut state, nodes);
+        note_pairs(&mut met, &rows);
+        compare_all(&rt, rt.alloc(), &mut met, &rows, nodes);
     }
-    assert!(rt; some_is_parallel && some_is_back);
-    assert!(rt; some_is_cut_off && some_is_far);
-    Ok(())
-}
-
-fn add_edge(
-    alloc: Global,
-    rows: &mut Vec<LayoutRow>,
-    letter: char,
-    number: u32,
-    start: Name,
-    finish: Name,
-) -> Result<(), Fail> {
-    let id = numbered(alloc, letter, number)?;
-    rows.push(LayoutRow::Edge { id, start, finish })?;
-    Ok(())
+    check(&rt, met.parallel, "parallel edges");
+    check(&rt, met.back, "an edge back");
+    check(&rt, met.cut_off, "no way");
+    check(&rt, met.far, "more than two edges");
 }
 
 /// A path P000, P001 and on, of so many edges forward, F000 and on. Beside each is an edge back,
 /// B000 and on, and a second edge forward, G000 and on, and beside the first three a third, H000
 /// to H002.
-fn path_rows(alloc: Global, path: u32) -> Result<Vec<LayoutRow>, Fail> {
+fn path_rows(rt: &impl Abort, alloc: Global, path: u32) -> Vec<LayoutRow> {
     let mut rows = Vec::new(alloc);
-    let mut here = numbered(alloc, 'P', 0)?;
-    rows.push(LayoutRow::Node { id: here })?;
+    let mut here = numbered(rt, alloc, 'P', 0);
+    add_node(rt, &mut rows, here);
     for i in 0..path {
-        let there = numbered(alloc, 'P', i + 1)?;
-        rows.push(LayoutRow::Node { id: there })?;
+        let there = numbered(rt, alloc, 'P', i + 1);
+        add_node(rt, &mut rows, there);
         if i < 3 {
-            add_edge(alloc, &mut rows, 'H', i, here, there)?;
+            add_edge(rt, &mut rows, numbered(rt, alloc, 'H', i), here, there);
         }
-        add_edge(alloc, &mut rows, 'G', i, here, there)?;
-        add_edge(alloc, &mut rows, 'F', i, here, there)?;
-        add_edge(alloc, &mut rows, 'B', i, there, here)?;
+        add_edge(rt, &mut rows, numbered(rt, alloc, 'G', i), here, there);
+        add_edge(rt, &mut rows, numbered(rt, alloc, 'F', i), here, there);
+        add_edge(rt, &mut rows, numbered(rt, alloc, 'B', i), there, here);
         here = there;
     }
-    Ok(rows)
+    rows
+}
+
+/// The edges forward of least name.
+fn path_ids(rt: &impl Abort, alloc: Global, path: u32) -> Vec<Name> {
+    let mut ids = Vec::new(alloc);
+    for i in 0..path {
+        ids.push(numbered(rt, alloc, 'F', i)).expect(rt, "memory");
+    }
+    ids
 }
 
 /// Whether the route from end to end of such a path goes by the edges forward of least name.
-fn is_crossed(alloc: Global, path: u32) -> Result<bool, Fail> {
-    let layout = Layout::of_rows(alloc, &path_rows(alloc, path)?)?;
-    let from = numbered(alloc, 'P', 0)?;
-    let to = numbered(alloc, 'P', path)?;
-    let mut wanted = Vec::new(alloc);
-    for i in 0..path {
-        wanted.push(numbered(alloc, 'F', i)?)?;
-    }
-    Ok(layout.route(alloc, from, to)? == Some(wanted))
+fn is_crossed(rt: &impl Abort, alloc: Global, path: u32) -> bool {
+    let layout = layout_of(rt, alloc, &path_rows(rt, alloc, path));
+    let from = numbered(rt, alloc, 'P', 0);
+    let to = numbered(rt, alloc, 'P', path);
+    let route = layout.route(alloc, from, to).expect(rt, "memory");
+    route == Some(path_ids(rt, alloc, path))
 }
 
-/// 500 nodes and 1,500 edges.
 #[test]
-fn crosses_the_largest_layout(rt: HostRuntime) -> Result<(), Fail> {
-    assert!(rt; is_crossed(rt.alloc(), 499)?);
-    Ok(())
-}
-
-/// 250 nodes and 750 edges.
-#[test]
-fn crosses_half_of_it(rt: HostRuntime) -> Result<(), Fail> {
-    assert!(rt; is_crossed(rt.alloc(), 249)?);
-    Ok(())
+fn crosses_the_largest_layout(rt: HostRuntime) {
+    check(
+        &rt,
+        is_crossed(&rt, rt.alloc(), 499),
+        "500 nodes and 1,500 edges",
+    );
+    check(
+        &rt,
+        is_crossed(&rt, rt.alloc(), 249),
+        "250 nodes and 750 edges",
+    );
 }

@@ -8,7 +8,53 @@ pub struct Sample {
     pub why: &'static str,
 }
 
-pub const STATES: [Sample; 14] = [
+/// Under way: two nodes and two edges ahead, and an action done.
+pub const UNDER_WAY: &str = r#"{
+    "headerId": 1207, "timestamp": "2024-02-29T06:14:07.5Z", "version": "2.0.0",
+    "manufacturer": "ACME", "serialNumber": "agv-17", "orderId": "order-311",
+    "orderUpdateId": 2, "zoneSetId": "night", "lastNodeId": "n4", "lastNodeSequenceId": 6,
+    "driving": true, "paused": false, "newBaseRequest": true, "distanceSinceLastNode": 3,
+    "operatingMode": "AUTOMATIC",
+    "nodeStates": [
+        {"nodeId": "n5", "sequenceId": 8, "nodeDescription": "gate", "released": true},
+        {"nodeId": "n9", "sequenceId": 10, "released": false}
+    ],
+    "edgeStates": [
+        {"edgeId": "e45", "sequenceId": 7, "edgeDescription": "ramp", "released": true},
+        {"edgeId": "e59", "sequenceId": 9, "released": false}
+    ],
+    "actionStates": [
+        {"actionId": "order-311.0", "actionType": "pick", "actionDescription": "from rack 3",
+         "actionStatus": "FINISHED", "resultDescription": "ok"},
+        {"actionId": "order-311.1", "actionType": "drop", "actionStatus": "WAITING"}
+    ],
+    "loads": [{"loadId": "P-8", "loadType": "EPAL", "weight": 212}],
+    "batteryState": {"batteryCharge": 64, "batteryVoltage": 48, "batteryHealth": 97,
+                     "charging": false, "reach": 5400},
+    "errors": [], "information": [],
+    "safetyState": {"eStop": "NONE", "fieldViolation": false}
+}"#;
+
+/// An action of each status.
+pub const EVERY_STATUS: &str = r#"{
+    "headerId": 10, "timestamp": "2024-02-29T06:14:09Z", "version": "2.0.0",
+    "manufacturer": "ACME", "serialNumber": "agv-17", "orderId": "o", "orderUpdateId": 0,
+    "lastNodeId": "n1", "lastNodeSequenceId": 0, "driving": false,
+    "operatingMode": "AUTOMATIC", "nodeStates": [], "edgeStates": [],
+    "actionStates": [
+        {"actionId": "a", "actionType": "pick", "actionStatus": "WAITING"},
+        {"actionId": "b", "actionType": "pick", "actionStatus": "INITIALIZING"},
+        {"actionId": "c", "actionType": "pick", "actionStatus": "RUNNING"},
+        {"actionId": "d", "actionType": "pick", "actionStatus": "PAUSED"},
+        {"actionId": "e", "actionType": "pick", "actionStatus": "FINISHED"},
+        {"actionId": "f", "actionStatus": "FAILED"}
+    ],
+    "batteryState": {"batteryCharge": 64, "charging": false}, "errors": [],
+    "safetyState": {"eStop": "NONE", "fieldViolation": false}
+}"#;
+
+/// States of every day.
+pub const ORDINARY: [Sample; 4] = [
     Sample {
         why: "just switched on: no order, no node, every optional member left out",
         verdict: "read",
@@ -24,31 +70,7 @@ pub const STATES: [Sample; 14] = [
     Sample {
         why: "under way, with descriptions, a load that has no position, and what lies ahead",
         verdict: "read",
-        text: r#"{
-            "headerId": 1207, "timestamp": "2024-02-29T06:14:07.5Z", "version": "2.0.0",
-            "manufacturer": "ACME", "serialNumber": "agv-17", "orderId": "order-311",
-            "orderUpdateId": 2, "zoneSetId": "night", "lastNodeId": "n4", "lastNodeSequenceId": 6,
-            "driving": true, "paused": false, "newBaseRequest": true, "distanceSinceLastNode": 3,
-            "operatingMode": "AUTOMATIC",
-            "nodeStates": [
-                {"nodeId": "n5", "sequenceId": 8, "nodeDescription": "gate", "released": true},
-                {"nodeId": "n9", "sequenceId": 10, "released": false}
-            ],
-            "edgeStates": [
-                {"edgeId": "e45", "sequenceId": 7, "edgeDescription": "ramp", "released": true},
-                {"edgeId": "e59", "sequenceId": 9, "released": false}
-            ],
-            "actionStates": [
-                {"actionId": "order-311.0", "actionType": "pick", "actionDescription": "from rack 3",
-                 "actionStatus": "FINISHED", "resultDescription": "ok"},
-                {"actionId": "order-311.1", "actionType": "drop", "actionStatus": "WAITING"}
-            ],
-            "loads": [{"loadId": "P-8", "loadType": "EPAL", "weight": 212}],
-            "batteryState": {"batteryCharge": 64, "batteryVoltage": 48, "batteryHealth": 97,
-                             "charging": false, "reach": 5400},
-            "errors": [], "information": [],
-            "safetyState": {"eStop": "NONE", "fieldViolation": false}
-        }"#,
+        text: UNDER_WAY,
     },
     Sample {
         why: "the load's own position and box aren't the vehicle's position",
@@ -68,23 +90,12 @@ pub const STATES: [Sample; 14] = [
     Sample {
         why: "every status of an action, and an action without a type",
         verdict: "read",
-        text: r#"{
-            "headerId": 10, "timestamp": "2024-02-29T06:14:09Z", "version": "2.0.0",
-            "manufacturer": "ACME", "serialNumber": "agv-17", "orderId": "o", "orderUpdateId": 0,
-            "lastNodeId": "n1", "lastNodeSequenceId": 0, "driving": false,
-            "operatingMode": "AUTOMATIC", "nodeStates": [], "edgeStates": [],
-            "actionStates": [
-                {"actionId": "a", "actionType": "pick", "actionStatus": "WAITING"},
-                {"actionId": "b", "actionType": "pick", "actionStatus": "INITIALIZING"},
-                {"actionId": "c", "actionType": "pick", "actionStatus": "RUNNING"},
-                {"actionId": "d", "actionType": "pick", "actionStatus": "PAUSED"},
-                {"actionId": "e", "actionType": "pick", "actionStatus": "FINISHED"},
-                {"actionId": "f", "actionStatus": "FAILED"}
-            ],
-            "batteryState": {"batteryCharge": 64, "charging": false}, "errors": [],
-            "safetyState": {"eStop": "NONE", "fieldViolation": false}
-        }"#,
+        text: EVERY_STATUS,
     },
+];
+
+/// States of which a part is out of the ordinary, and harmless.
+pub const ODD: [Sample; 3] = [
     Sample {
         why: "a warning with references, information, and members of the maker's own",
         verdict: "read",
@@ -130,6 +141,10 @@ pub const STATES: [Sample; 14] = [
             "errors": [], "safetyState": {"eStop": "NONE", "fieldViolation": false}
         }"#,
     },
+];
+
+/// States that say a position, a velocity or a trajectory.
+pub const PLACED: [Sample; 5] = [
     Sample {
         why: "a fraction counts before the position in which it stands",
         verdict: "Fraction",
@@ -202,6 +217,10 @@ pub const STATES: [Sample; 14] = [
             "errors": [], "safetyState": {"eStop": "NONE", "fieldViolation": false}
         }"#,
     },
+];
+
+/// States of an older version.
+pub const OLD: [Sample; 2] = [
     Sample {
         why: "no eStop, and that counts before the old version",
         verdict: "BadBody",

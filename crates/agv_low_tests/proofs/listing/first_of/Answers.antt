@@ -1,7 +1,7 @@
 use Rattle.std.proofs.Common.{◌∙◌, sym, ap, subst, option_map}
 use Rattle.std.proofs.lemmas.List.{nil_from_length}
 use Rattle.agv_low_tests.specs.Listing.{names_of, names_in, first_in, IsFirstOf}
-use Rattle.agv_low_tests.proofs.Listed.{first_of_all}
+use Rattle.agv_low_tests.proofs.First.{first_of_all}
 use Rattle.agv_low_tests.proofs.listing.first_of.Goals as goal
 
 pub returns : goal.returns

@@ -1,7 +1,7 @@
 use Rattle.std.proofs.Common.{option_map}
 use Rattle.std.proofs.lemmas.Result.{IfOk-weaker}
 use Rattle.agv_low_tests.specs.Listing.{IsWayWithin}
-use Rattle.agv_low_tests.proofs.Listed.{IsWayTo-within}
+use Rattle.agv_low_tests.proofs.Plain.{IsWayTo-within}
 use Rattle.agv_low_tests.proofs.listing.way.Goals as goal
 
 pub returns : goal.returns

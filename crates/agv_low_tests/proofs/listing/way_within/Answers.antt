@@ -1,6 +1,5 @@
 use Rattle.std.proofs.Common.{sym, ◌∙◌}
-use Rattle.agv_low_tests.specs.Listing.{names_of}
-use Rattle.agv_low_tests.proofs.Listed.{IsWayWithin-found}
+use Rattle.agv_low_tests.proofs.First.{IsWayWithin-found}
 use Rattle.agv_low_tests.proofs.listing.way_within.Goals as goal
 
 pub returns-then-is_some : goal.returns-then-is_some
