@@ -1,14 +1,16 @@
 //! Streams of requests, as bytes in and bytes out.
 
+use crate::cases::check;
 use crate::fakes::{Drip, Patient, Tally, Trickle};
+use crate::loads::no_loads;
 use agv_face::laws::has_a_cut;
 use agv_face::{Heard, LoadsFault, Stop, Watched, answer_calls, read_request, serve_loads};
 use agv_store::Loads;
-use sqlite::{Connection, MemStore};
+use sqlite::MemStore;
 use std::alloc::Global;
 use std::cell::Cell;
 use std::io::Write;
-use std::test::Fail;
+use std::process::Abort;
 
 /// Registers L1, then asks where it stands.
 const FIRST: &[u8] =
@@ -28,50 +30,70 @@ const AGAIN: &[u8] =
 const AGAIN_ANSWERS: &[u8] =
     b"HTTP/1.1 409 Conflict\r\nContent-Length: 30\r\nContent-Type: application/json\r\n\r\n{\"name\":\"Exists\",\"refusal\":30}HTTP/1.1 200 OK\r\nContent-Length: 43\r\nContent-Type: application/json\r\n\r\n{\"job\":null,\"load\":\"L1\",\"place\":\"checking\"}HTTP/1.1 404 Not Found\r\nContent-Length: 30\r\nContent-Type: application/json\r\n\r\n{\"name\":\"NoLoad\",\"refusal\":23}";
 
-fn no_loads(rt: &HostRuntime) -> Result<Loads<MemStore>, Fail> {
-    Ok(Loads::create(Connection::open_in_memory(rt.alloc())?)?)
+/// Serves the input on these loads, and compares the answers and their number.
+fn check_served(
+    rt: &impl Abort,
+    alloc: Global,
+    loads: &mut Loads<MemStore>,
+    input: &[u8],
+    answers: &[u8],
+    count: u64,
+) {
+    let mut reader = Watched::new(input);
+    let mut out = Watched::new(Vec::new(alloc));
+    let served = serve_loads(alloc, loads, &mut reader, &mut out);
+    check(rt, served == Ok(count), "the number of the answers");
+    check(rt, out.inner().as_slice() == answers, "the answers");
+    check(rt, reader.calls() == 2, "the input, and its end");
+    check(rt, reader.failures() == 0, "no read fails");
 }
 
 /// The worked examples, whole, on one store.
 #[test]
-fn worked_examples(rt: HostRuntime) -> Result<(), Fail> {
-    let mut loads = no_loads(&rt)?;
-    for (input, answers, count) in [(FIRST, FIRST_ANSWERS, 2), (AGAIN, AGAIN_ANSWERS, 3)] {
-        let mut reader = Watched::new(input);
-        let mut out = Watched::new(Vec::new(rt.alloc()));
-        assert!(rt; serve_loads(rt.alloc(), &mut loads, &mut reader, &mut out) == Ok(count));
-        assert!(rt; out.inner().as_slice() == answers);
-        assert!(rt; (reader.calls(), reader.failures()) == (2, 0));
-    }
-    let mut loads = no_loads(&rt)?;
+fn worked_examples(rt: HostRuntime) {
+    let mut loads = no_loads(&rt, rt.alloc());
+    check_served(&rt, rt.alloc(), &mut loads, FIRST, FIRST_ANSWERS, 2);
+    check_served(&rt, rt.alloc(), &mut loads, AGAIN, AGAIN_ANSWERS, 3);
+}
+
+/// The first of them by the call that tells input of another form from a failed read.
+#[test]
+fn worked_example_by_calls(rt: HostRuntime) {
+    let mut loads = no_loads(&rt, rt.alloc());
     let mut reader = Watched::new(FIRST);
     let mut out = Watched::new(Vec::new(rt.alloc()));
-    assert!(rt; answer_calls(rt.alloc(), &mut loads, &mut reader, &mut out) == Ok(2));
-    assert!(rt; out.inner().as_slice() == FIRST_ANSWERS);
-    Ok(())
+    let served = answer_calls(rt.alloc(), &mut loads, &mut reader, &mut out);
+    check(&rt, served == Ok(2), "the number of the answers");
+    check(&rt, out.inner().as_slice() == FIRST_ANSWERS, "the answers");
+}
+
+fn check_in_pieces(rt: &impl Abort, alloc: Global, read: usize, write: usize) {
+    let mut loads = no_loads(rt, alloc);
+    let mut reader = Watched::new(Drip {
+        bytes: FIRST,
+        step: read,
+        reads: 1000,
+    });
+    let mut writer = Watched::new(Trickle {
+        taken: Vec::new(alloc),
+        step: write,
+        writes: 1000,
+    });
+    let served = serve_loads(alloc, &mut loads, &mut reader, &mut writer);
+    check(rt, served == Ok(2), "the number of the answers");
+    let taken = writer.inner().taken.as_slice();
+    check(rt, taken == FIRST_ANSWERS, "the answers");
+    check(rt, writer.flush().is_ok(), "a flush");
+    check(rt, reader.failures() == 0, "no read fails");
+    check(rt, writer.failures() == 0, "no write fails");
 }
 
 /// The first example in pieces of these sizes.
 #[test]
-fn in_pieces(rt: HostRuntime) -> Result<(), Fail> {
-    for (read, write) in [(1, 1), (7, 5), (4096, 1)] {
-        let mut loads = no_loads(&rt)?;
-        let mut reader = Watched::new(Drip {
-            bytes: FIRST,
-            step: read,
-            reads: 1000,
-        });
-        let mut writer = Watched::new(Trickle {
-            taken: Vec::new(rt.alloc()),
-            step: write,
-            writes: 1000,
-        });
-        assert!(rt; serve_loads(rt.alloc(), &mut loads, &mut reader, &mut writer) == Ok(2));
-        assert!(rt; writer.inner().taken.as_slice() == FIRST_ANSWERS);
-        assert!(rt; writer.flush().is_ok());
-        assert!(rt; (reader.failures(), writer.failures()) == (0, 0));
-    }
-    Ok(())
+fn in_pieces(rt: HostRuntime) {
+    check_in_pieces(&rt, rt.alloc(), 1, 1);
+    check_in_pieces(&rt, rt.alloc(), 7, 5);
+    check_in_pieces(&rt, rt.alloc(), 4096, 1);
 }
 
 /// Gives the second request of `FIRST` once the answer to the first is written, and fails before.
@@ -86,115 +108,167 @@ fn patient(written: &Cell<usize>) -> Watched<Patient<'_>> {
 
 /// Each answer is written before the next request is read.
 #[test]
-fn answers_before_it_reads_on(rt: HostRuntime) -> Result<(), Fail> {
+fn answers_before_it_reads_on(rt: HostRuntime) {
     let written = Cell::new(0);
-    let mut loads = no_loads(&rt)?;
+    let mut loads = no_loads(&rt, rt.alloc());
     let mut reader = patient(&written);
     let mut writer = Watched::new(Tally { written: &written });
-    assert!(rt; serve_loads(rt.alloc(), &mut loads, &mut reader, &mut writer) == Ok(2));
-    assert!(rt; written.get() == FIRST_ANSWERS.len());
-    Ok(())
+    let served = serve_loads(rt.alloc(), &mut loads, &mut reader, &mut writer);
+    check(&rt, served == Ok(2), "the number of the answers");
+    check(&rt, written.get() == FIRST_ANSWERS.len(), "the answers");
+}
+
+/// `FIRST` by such steps, of which the one after these reads fails.
+fn failing(step: usize, reads: u32) -> Watched<Drip> {
+    Watched::new(Drip {
+        bytes: FIRST,
+        step,
+        reads,
+    })
+}
+
+/// Stops after the reads with these answers, and serves what is left as the next stream.
+fn check_failing_reader(
+    rt: &impl Abort,
+    alloc: Global,
+    reads: u32,
+    answers: &[u8],
+    next: Result<u64, LoadsFault>,
+) {
+    let mut loads = no_loads(rt, alloc);
+    let mut reader = failing(20, reads);
+    let mut out = Watched::new(Vec::new(alloc));
+    let served = answer_calls(alloc, &mut loads, &mut reader, &mut out);
+    check(rt, served == Err(Stop::Read), "the reader failed");
+    check(rt, out.inner().as_slice() == answers, "the answers so far");
+    check(rt, reader.failures() == 1, "one read failed");
+    let mut out = Watched::new(Vec::new(alloc));
+    let served = serve_loads(alloc, &mut loads, &mut reader, &mut out);
+    check(rt, served == next, "the next stream");
+    let is_first = out.inner().as_slice() == FIRST_ANSWERS;
+    check(rt, is_first == next.is_ok(), "the answers of the next");
+    check(rt, reader.failures() == 1, "no other read failed");
 }
 
 /// A reader that fails at its first, its second and a later read, and then works again, leaves the
 /// answers so far. The reads give 20 bytes each, so the third completes the first request, of 57 bytes.
 /// What such a read gave is lost: but for the first, the next stream begins within a request.
 #[test]
-fn failing_reader(rt: HostRuntime) -> Result<(), Fail> {
-    for (reads, answers, next) in [
-        (0, b"".as_slice(), Ok(2)),
-        (1, b"", Err(LoadsFault::Read)),
-        (3, DONE, Err(LoadsFault::Read)),
-    ] {
-        let mut loads = no_loads(&rt)?;
-        let mut reader = Watched::new(Drip {
-            bytes: FIRST,
-            step: 20,
-            reads,
-        });
-        let mut out = Watched::new(Vec::new(rt.alloc()));
-        assert!(rt; answer_calls(rt.alloc(), &mut loads, &mut reader, &mut out) == Err(Stop::Read));
-        assert!(rt; out.inner().as_slice() == answers);
-        assert!(rt; reader.failures() == 1);
-        let mut out = Watched::new(Vec::new(rt.alloc()));
-        assert!(rt; serve_loads(rt.alloc(), &mut loads, &mut reader, &mut out) == next);
-        assert!(rt; (out.inner().as_slice() == FIRST_ANSWERS) == next.is_ok());
-        assert!(rt; reader.failures() == 1);
-    }
-    let mut loads = no_loads(&rt)?;
-    let mut reader = Watched::new(Drip {
-        bytes: FIRST,
-        step: 57,
-        reads: 1,
-    });
+fn failing_reader(rt: HostRuntime) {
+    check_failing_reader(&rt, rt.alloc(), 0, b"", Ok(2));
+    check_failing_reader(&rt, rt.alloc(), 1, b"", Err(LoadsFault::Read));
+    check_failing_reader(&rt, rt.alloc(), 3, DONE, Err(LoadsFault::Read));
+}
+
+/// The same told by the call that the program makes.
+#[test]
+fn failing_reader_of_loads(rt: HostRuntime) {
+    let mut loads = no_loads(&rt, rt.alloc());
+    let mut reader = failing(57, 1);
     let mut out = Watched::new(Vec::new(rt.alloc()));
     let served = serve_loads(rt.alloc(), &mut loads, &mut reader, &mut out);
-    assert!(rt; served == Err(LoadsFault::Read));
-    assert!(rt; out.inner().as_slice() == DONE);
-    Ok(())
+    check(&rt, served == Err(LoadsFault::Read), "the reader failed");
+    check(&rt, out.inner().as_slice() == DONE, "the answers so far");
+}
+
+/// Takes so many bytes at each of these writes, and none after, and holds so many in the end.
+fn check_failing_writer(rt: &impl Abort, alloc: Global, step: usize, writes: u32, taken: usize) {
+    let mut loads = no_loads(rt, alloc);
+    let mut reader = Watched::new(FIRST);
+    let mut writer = Watched::new(Trickle {
+        taken: Vec::new(alloc),
+        step,
+        writes,
+    });
+    let served = serve_loads(alloc, &mut loads, &mut reader, &mut writer);
+    check(rt, served == Err(LoadsFault::Write), "the writer failed");
+    check(rt, writer.failures() == 1, "one write failed");
+    let front = FIRST_ANSWERS.get(..taken);
+    check(
+        rt,
+        Some(writer.inner().taken.as_slice()) == front,
+        "a front of the answers",
+    );
 }
 
 /// A writer that fails at its first, its second and a later write, and would take the rest, and one that
 /// takes no byte.
 #[test]
-fn failing_writer(rt: HostRuntime) -> Result<(), Fail> {
-    for (step, writes, taken) in [(40, 0, 0), (40, 1, 40), (40, 3, 112), (0, 9, 0)] {
-        let mut loads = no_loads(&rt)?;
-        let mut reader = Watched::new(FIRST);
-        let mut writer = Watched::new(Trickle {
-            taken: Vec::new(rt.alloc()),
-            step,
-            writes,
-        });
-        let served = serve_loads(rt.alloc(), &mut loads, &mut reader, &mut writer);
-        assert!(rt; served == Err(LoadsFault::Write));
-        assert!(rt; writer.failures() == 1);
-        assert!(rt; writer.inner().taken.len() == taken);
-        assert!(rt; writer.inner().taken.as_slice() == &FIRST_ANSWERS[..taken]);
-    }
-    Ok(())
+fn failing_writer(rt: HostRuntime) {
+    check_failing_writer(&rt, rt.alloc(), 40, 0, 0);
+    check_failing_writer(&rt, rt.alloc(), 40, 1, 40);
+    check_failing_writer(&rt, rt.alloc(), 40, 3, 112);
+    check_failing_writer(&rt, rt.alloc(), 0, 9, 0);
 }
 
-/// Inputs of other forms: what stands before them is answered, and nothing else. And the line of each fault.
+const OTHERS: [&[u8]; 9] = [
+    b"GET /loads/L1 HTTP/1.0\r\n\r\n",
+    b"GET /loads/L1 HTTP/1.1\r\nConnection: keep-alive\r\n\r\n",
+    b"GET /loads/a%20b HTTP/1.1\r\n\r\n",
+    b"POST /loads HTTP/1.1\r\n\r\n",
+    b"POST /loads HTTP/1.1\r\nContent-Length: 13\r\n\r\n{\"loa",
+    b"POST /loads HTTP/1.1\r\nContent-Length: 23\r\n\r\n{\"load\":\"L1\",\"at\":null}",
+    b"POST /loads HTTP/1.1\r\nContent-Length: 15\r\n\r\n{\"load\":\"a b\"} ",
+    b"PUT /loads HTTP/1.1\r\nContent-Length: 0\r\n\r\n",
+    b"\r\nGET /loads",
+];
+
+/// `FIRST`, and then this.
+fn first_and(rt: &impl Abort, alloc: Global, other: &[u8]) -> Vec<u8> {
+    let mut input = Vec::from_slice(alloc, FIRST).expect(rt, "memory");
+    input.extend_from_slice(other).expect(rt, "memory");
+    input
+}
+
+/// Behind `FIRST` and alone, other input has no answer.
+fn check_other(rt: &impl Abort, alloc: Global, other: &[u8]) {
+    let mut loads = no_loads(rt, alloc);
+    let input = first_and(rt, alloc, other);
+    let mut reader = Watched::new(input.as_slice());
+    let mut out = Watched::new(Vec::new(alloc));
+    let served = answer_calls(alloc, &mut loads, &mut reader, &mut out);
+    check(rt, served == Err(Stop::Other), "the other form");
+    check(
+        rt,
+        out.inner().as_slice() == FIRST_ANSWERS,
+        "the answers before it",
+    );
+    let mut reader = Watched::new(other);
+    let served = serve_loads(alloc, &mut loads, &mut reader, &mut out);
+    check(
+        rt,
+        served == Err(LoadsFault::Read),
+        "the fault of the other form",
+    );
+    check(
+        rt,
+        out.inner().as_slice() == FIRST_ANSWERS,
+        "nothing more is written",
+    );
+    has_a_cut(other);
+}
+
+/// Inputs of other forms: what stands before them is answered, and nothing else.
 #[test]
-fn other_forms(rt: HostRuntime) -> Result<(), Fail> {
-    let others: [&[u8]; 9] = [
-        b"GET /loads/L1 HTTP/1.0\r\n\r\n",
-        b"GET /loads/L1 HTTP/1.1\r\nConnection: keep-alive\r\n\r\n",
-        b"GET /loads/a%20b HTTP/1.1\r\n\r\n",
-        b"POST /loads HTTP/1.1\r\n\r\n",
-        b"POST /loads HTTP/1.1\r\nContent-Length: 13\r\n\r\n{\"loa",
-        b"POST /loads HTTP/1.1\r\nContent-Length: 23\r\n\r\n{\"load\":\"L1\",\"at\":null}",
-        b"POST /loads HTTP/1.1\r\nContent-Length: 15\r\n\r\n{\"load\":\"a b\"} ",
-        b"PUT /loads HTTP/1.1\r\nContent-Length: 0\r\n\r\n",
-        b"\r\nGET /loads",
-    ];
-    for other in others {
-        let mut loads = no_loads(&rt)?;
-        let mut input = Vec::from_slice(rt.alloc(), FIRST)?;
-        input.extend_from_slice(other)?;
-        let mut reader = Watched::new(input.as_slice());
-        let mut out = Watched::new(Vec::new(rt.alloc()));
-        assert!(rt;
-            answer_calls(rt.alloc(), &mut loads, &mut reader, &mut out) == Err(Stop::Other)
-        );
-        assert!(rt; out.inner().as_slice() == FIRST_ANSWERS);
-        let mut reader = Watched::new(other);
-        assert!(rt;
-            serve_loads(rt.alloc(), &mut loads, &mut reader, &mut out) == Err(LoadsFault::Read)
-        );
-        assert!(rt; out.inner().as_slice() == FIRST_ANSWERS);
-        has_a_cut(other);
+fn other_forms(rt: HostRuntime) {
+    for other in &OTHERS {
+        check_other(&rt, rt.alloc(), other);
     }
-    for (fault, line) in [
-        (LoadsFault::Read, "fault: Read"),
-        (LoadsFault::Write, "fault: Write"),
-        (LoadsFault::Memory, "fault: Memory"),
-        (LoadsFault::Storage, "fault: Storage"),
-    ] {
-        assert!(rt; fault.line() == line);
+}
+
+const LINES: [(LoadsFault, &str); 4] = [
+    (LoadsFault::Read, "fault: Read"),
+    (LoadsFault::Write, "fault: Write"),
+    (LoadsFault::Memory, "fault: Memory"),
+    (LoadsFault::Storage, "fault: Storage"),
+];
+
+/// The line of each fault.
+#[test]
+fn lines_of_faults(rt: HostRuntime) {
+    for (fault, line) in &LINES {
+        check(&rt, fault.line() == *line, line);
     }
-    Ok(())
 }
 
 /// What a buffer shows: nothing yet, the end, a request, or the number of a refusal.
@@ -207,71 +281,81 @@ fn shown(bytes: &[u8], ended: bool) -> Result<&'static str, u8> {
     }
 }
 
+/// Bytes, whether the input ends behind them, and what they show.
+const ROWS: [(&[u8], bool, Result<&'static str, u8>); 11] = [
+    (b"POST /load", false, Ok("need")),
+    (b"POST /load", true, Err(1)),
+    (b"", false, Ok("need")),
+    (b"", true, Ok("end")),
+    (FIRST, false, Ok("request")),
+    (b"POST /jobs HTTP/1.1\r\n\r\n", false, Err(2)),
+    (
+        b"POST /jobs HTTP/1.1\r\nContent-Length: 65537\r\n\r\n",
+        false,
+        Err(3),
+    ),
+    (
+        b"POST /jobs HTTP/1.1\r\nTransfer-Encoding: chunked\r\n\r\n",
+        false,
+        Err(4),
+    ),
+    (
+        b"GET / HTTP/1.1\r\ncontent-length: 1\r\nContent-Length: 1\r\n\r\na",
+        false,
+        Err(1),
+    ),
+    (
+        b"GET / HTTP/1.1\r\nContent-Length: +1\r\n\r\na",
+        false,
+        Err(1),
+    ),
+    (
+        b"GET / HTTP/1.1\r\nContent-Length: 1\r\nTransfer-Encoding: x\r\n\r\na",
+        false,
+        Err(4),
+    ),
+];
+
 /// The next request of a buffer, at the edges of what one may be.
 #[test]
 fn next_requests(rt: HostRuntime) {
-    let rows: [(&[u8], bool, Result<&'static str, u8>); 11] = [
-        (b"POST /load", false, Ok("need")),
-        (b"POST /load", true, Err(1)),
-        (b"", false, Ok("need")),
-        (b"", true, Ok("end")),
-        (FIRST, false, Ok("request")),
-        (b"POST /jobs HTTP/1.1\r\n\r\n", false, Err(2)),
-        (
-            b"POST /jobs HTTP/1.1\r\nContent-Length: 65537\r\n\r\n",
-            false,
-            Err(3),
-        ),
-        (
-            b"POST /jobs HTTP/1.1\r\nTransfer-Encoding: chunked\r\n\r\n",
-            false,
-            Err(4),
-        ),
-        (
-            b"GET / HTTP/1.1\r\ncontent-length: 1\r\nContent-Length: 1\r\n\r\na",
-            false,
-            Err(1),
-        ),
-        (
-            b"GET / HTTP/1.1\r\nContent-Length: +1\r\n\r\na",
-            false,
-            Err(1),
-        ),
-        (
-            b"GET / HTTP/1.1\r\nContent-Length: 1\r\nTransfer-Encoding: x\r\n\r\na",
-            false,
-            Err(4),
-        ),
-    ];
-    for (bytes, ended, want) in rows {
-        assert!(rt; shown(bytes, ended) == want);
+    for (bytes, ended, want) in &ROWS {
+        check(&rt, shown(bytes, *ended) == *want, "what a buffer shows");
     }
 }
 
 /// A head of so many header lines, without the empty line behind them.
-fn head_of(alloc: Global, lines: u32) -> Result<Vec<u8>, Fail> {
-    let mut bytes = Vec::from_slice(alloc, b"GET / HTTP/1.1\r\n".as_slice())?;
+fn head_of(rt: &impl Abort, alloc: Global, lines: u32) -> Vec<u8> {
+    let mut bytes = Vec::from_slice(alloc, b"GET / HTTP/1.1\r\n".as_slice()).expect(rt, "memory");
     for _ in 0..lines {
-        bytes.extend_from_slice(b"A: b\r\n")?;
+        bytes.extend_from_slice(b"A: b\r\n").expect(rt, "memory");
     }
-    Ok(bytes)
+    bytes
 }
 
-/// A head of 32 lines is read, and one of 33 isn't waited for; nor is one that is not at its end within
-/// 8,192 bytes.
+/// A head of 32 lines is read, and one of 33 isn't waited for.
 #[test]
-fn limits_of_a_head(rt: HostRuntime) -> Result<(), Fail> {
-    let mut most = head_of(rt.alloc(), 32)?;
-    assert!(rt; shown(&most, false) == Ok("need"));
-    most.extend_from_slice(b"\r\n")?;
-    assert!(rt; shown(&most, false) == Ok("request"));
-    assert!(rt; shown(&head_of(rt.alloc(), 33)?, false) == Err(1));
-    let mut long = Vec::from_slice(rt.alloc(), b"GET /".as_slice())?;
+fn lines_of_a_head(rt: HostRuntime) {
+    let mut most = head_of(&rt, rt.alloc(), 32);
+    check(&rt, shown(&most, false) == Ok("need"), "32 lines");
+    most.extend_from_slice(b"\r\n").expect(&rt, "memory");
+    check(
+        &rt,
+        shown(&most, false) == Ok("request"),
+        "32 lines and their end",
+    );
+    let more = head_of(&rt, rt.alloc(), 33);
+    check(&rt, shown(&more, false) == Err(1), "33 lines");
+}
+
+/// Nor is a head waited for that is not at its end within 8,192 bytes.
+#[test]
+fn length_of_a_head(rt: HostRuntime) {
+    let mut long = Vec::from_slice(rt.alloc(), b"GET /".as_slice()).expect(&rt, "memory");
     for _ in 5..8191 {
-        long.push(b'a')?;
+        long.push(b'a').expect(&rt, "memory");
     }
-    assert!(rt; shown(&long, false) == Ok("need"));
-    long.push(b'a')?;
-    assert!(rt; shown(&long, false) == Err(1));
-    Ok(())
+    check(&rt, shown(&long, false) == Ok("need"), "8,191 bytes");
+    long.push(b'a').expect(&rt, "memory");
+    check(&rt, shown(&long, false) == Err(1), "8,192 bytes");
 }
