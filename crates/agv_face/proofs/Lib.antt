@@ -4,6 +4,5 @@ pub mod Heads
 pub mod Bodies
 pub mod Cuts
 pub mod Asking
-pub mod Later
 pub mod Streaming
 pub mod Steps

@@ -16,8 +16,8 @@ use Rattle.sqlite.proofs.Callers.{runs_as}
 use Rattle.agv_header.specs.Name.{name_cmp}
 use Rattle.agv_store.specs.Registered.{no_loads}
 use Rattle.agv_store.specs.LoadTable.{no_tables, load_table, load_schema, HasRows, AreLoads}
-use Rattle.agv_store.specs.Creation.{IsCreation}
 use Rattle.agv_store.specs.HeldLoads.{HoldsLoads}
+use Rattle.agv_store.proofs.Understood.{IsCreation}
 use Rattle.agv_store.proofs.Running.{went, same_value, commits_as}
 
 -- a table with no row has no load

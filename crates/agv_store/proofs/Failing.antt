@@ -1,5 +1,5 @@
 -- Why a statement fails, where its error is a fault of the store.
-use Rattle.std.proofs.Common.{arith, IsErrAnd, Vec, Global, ◌≡◌, ◌⊎◌, ℕ, false, List, [], ◌∷◌, length, Option, Some, None, Ok, Err, Result, IsTrue, IsSome, IfErr, inl, inr, sym, ap, subst, subst₂, refl, lit≤, ◌∙◌, append-nil}
+use Rattle.std.proofs.Common.{IsErrAnd, Vec, Global, ◌≡◌, ◌⊎◌, ℕ, false, List, [], ◌∷◌, length, Option, Some, None, Ok, Err, Result, IsTrue, IsSome, IfErr, inl, inr, sym, ap, subst, subst₂, ◌∙◌, append-nil}
 use Rattle.sqlite_disk.specs.Disk.{MoreFaults}
 use Rattle.sqlite_value.specs.declared.value.Value.TheVariants.{Text}
 use Rattle.sqlite_value.specs.Order.{Row}
@@ -20,12 +20,13 @@ use Rattle.agv_store.specs.declared.fault.Fault.TheVariants as fault
 use Rattle.agv_store.specs.Fault.{fault_of, IsOfStore}
 use Rattle.agv_store.specs.Registered.{Registered}
 use Rattle.agv_store.specs.LoadTable.{load_schema}
-use Rattle.agv_store.specs.Insertion.{IsWhole, is_shown, IsInsertion, insert_command}
+use Rattle.agv_store.specs.Insertion.{insert_command}
 use Rattle.agv_store.specs.RefusedRow.{RefusesRow}
-use Rattle.agv_store.specs.HeldLoads.{HasStorageCause, HoldsLoads, IsCounted, IsClean}
+use Rattle.agv_store.specs.HeldLoads.{HasStorageCause, HoldsLoads, IsCounted, IsClean, IsLater}
 use Rattle.sqlite_trees.specs.declared.store.Store.{Ghosts}
 use Rattle.sqlite.specs.Held.{Held, state}
-use Rattle.agv_store.proofs.Texts.{find_text, find_command, find_is, find_plain}
+use Rattle.agv_store.proofs.Later.{fault_later}
+use Rattle.agv_store.proofs.Understood.{IsWhole, is_shown, IsInsertion, find_command, IsLookUp}
 
 -- the store failed meanwhile, or had been shut, or the steps of a query are limited
 abbrev pub IsCaused : State → State → Type 0
@@ -49,11 +50,9 @@ is_statement s sql params e whole (inr other) =
     let is : IsWhole sql (length params) (Ok other.0) = subst (IsWhole sql (length params)) other.1 whole in
     elim other.2 [ inl more ↦ more.0 is.0 | inr rest ↦ elim rest [ inl count ↦ count.0 (sym is.1) | inr time ↦ time.0 is.2 ] ]
 
-find_whole : IsWhole find_text 1 (understood load_schema find_text)
-unfolding understood everything
-find_whole = (lit≤ tt, refl, refl)
+-- ---- the look-up
 
-module _ (name : List ℕ) (old new : State) (e : Error) (has : old.now.schema ≡ load_schema) where
+module _ (name sql : List ℕ) (means : IsLookUp sql) (old new : State) (e : Error) (has : old.now.schema ≡ load_schema) where
   refused : (db : Trees) → RefusesToRead old.step_limit find_command (record { schema = load_schema; trees = db }) (Text name ∷ []) e → IsCaused old new
   unfolding everything
   refused db (inl untyped) = absurd (let wrong = untyped.1 in cc)
@@ -61,25 +60,25 @@ module _ (name : List ℕ) (old new : State) (e : Error) (has : old.now.schema �
   refused db (inr (inr stopped)) = inr (inr stopped.1)
 
   -- a look-up that fails as the store does
-  pub find_caused : IsOfStore e → FailsToQuery find_text (Text name ∷ []) old new e → IsCaused old new
+  pub find_caused : IsOfStore e → FailsToQuery sql (Text name ∷ []) old new e → IsCaused old new
   unfolding FailsToQuery IsNotRun
-  find_caused stored (inl (inl unread)) = absurd (is_statement old find_text (Text name ∷ []) e (subst (λ s. IsWhole find_text 1 (understood s find_text)) (sym has) find_whole) unread.0)
+  find_caused stored (inl (inl unread)) = absurd (is_statement old sql (Text name ∷ []) e (subst (λ s. IsWhole sql 1 (understood s sql)) (sym has) means.whole) unread.0)
   find_caused stored (inl (inr fails)) = caused old new e stored fails
   find_caused stored (inr it) =
-      let known = sym it.1.is ∙ ap (λ s. understood s find_text) has in
-      let bare = subst IsPlain (sym known) find_plain in
+      let known = sym it.1.is ∙ ap (λ s. understood s sql) has in
+      let bare = subst IsPlain (sym known) means.plain in
       let shows = rw (bare.0, bare.1, append-nil (Text name ∷ [])) at it.2 in
-      let db : shows.0 ≡ old.now = subst (λ b. IsSourceOf b old.now shows.0) (ap (λ s. reads_listing s find_text) has ∙ find_is.1) shows.1 in
+      let db : shows.0 ≡ old.now = subst (λ b. IsSourceOf b old.now shows.0) (ap (λ s. reads_listing s sql) has ∙ means.unlisted) shows.1 in
       let schema : shows.0.schema ≡ load_schema = ap (λ (d : Database). d.schema) db ∙ has in
-      refused shows.0.trees (subst₂ (λ k s. RefusesToRead old.step_limit k (record { schema = s; trees = shows.0.trees }) (Text name ∷ []) e) (ap command_of known ∙ find_is.0) schema shows.2)
+      refused shows.0.trees (subst₂ (λ k s. RefusesToRead old.step_limit k (record { schema = s; trees = shows.0.trees }) (Text name ∷ []) e) (ap command_of known ∙ means.command) schema shows.2)
 
 -- where the call fails so
-module _ {S : Type 0} (g : Ghosts S) (old new : Held S) (name : List ℕ) where
-  pub finding_caused : (params : Row) → params ≡ Text name ∷ [] → (r : Result (Vec Row Global) Error) → IfErr r (FailsToQuery find_text params (state g old) (state g new))
+module _ {S : Type 0} (g : Ghosts S) (old new : Held S) (name sql : List ℕ) (means : IsLookUp sql) where
+  pub finding_caused : (params : Row) → params ≡ Text name ∷ [] → (r : Result (Vec Row Global) Error) → IfErr r (FailsToQuery sql params (state g old) (state g new))
       → IfErr r (λ e. IsOfStore e → (loads : Registered) → HoldsLoads g old loads → HasStorageCause g old new)
   finding_caused params given (Ok rows) fails = tt
   finding_caused params given (Err e) fails = λ stored loads h.
-      find_caused name (state g old) (state g new) e h.schema stored (subst (λ p. FailsToQuery find_text p (state g old) (state g new) e) given fails)
+      find_caused name sql means (state g old) (state g new) e h.schema stored (subst (λ p. FailsToQuery sql p (state g old) (state g new) e) given fails)
 
 -- a fault that an error of the database became
 pub fault_caused : {A : Type 0} (r : Result A Fault) (e : Error) → IsErrAnd r (λ f. f ≡ fault_of e) → {Why : Type 0} → (IsOfStore e → Why) → IfErr r (λ f. f ≡ fault.Storage → Why)
@@ -147,9 +146,7 @@ module _ {S : Type 0} (g : Ghosts S) (old new : Held S) (name sql : List ℕ) (m
       insert_caused name sql means (state g old) (state g new) e h.schema h.committed saved.limit (saved.closes clean h.is_open) stored (subst (λ p. Executes sql p (state g old) (state g new) (Err e)) given ran)
 
 -- a fault of the store after the look-up is one of the call
-pub later_caused : {S : Type 0} (g : Ghosts S) (old mid new : Held S) {Commits : Trees → Type 0} → Survives (state g old) (state g mid) Commits → (loads : Registered) → HoldsLoads g mid loads → {Named Room Why : Type 0}
-    → Named → Room → HasStorageCause g mid new ⊎ Why → HasStorageCause g old new ⊎ (Named × Room × Why)
-later_caused g old mid new saved loads h named room (inl (inl more)) = let counts = saved.counts in inl (inl (omega arith))
-later_caused g old mid new saved loads h named room (inl (inr (inl shut))) = absurd (let still = h.is_open in cc)
-later_caused g old mid new saved loads h named room (inl (inr (inr limited))) = inl (inr (inr (subst (λ l. IsSome l) saved.limit limited)))
-later_caused g old mid new saved loads h named room (inr why) = inr (named, room, why)
+pub later_caused : {S : Type 0} (g : Ghosts S) (old mid new : Held S) → IsLater g old mid → IsLater g mid new → IsClean g new → {Named Room Why : Type 0} → Named → Room
+    → HasStorageCause g mid new ⊎ Why → HasStorageCause g old new ⊎ (Named × Room × Why)
+later_caused g old mid new first next clean named room (inl failed) = inl (fault_later g old mid new first next clean failed)
+later_caused g old mid new first next clean named room (inr why) = inr (named, room, why)

@@ -27,7 +27,7 @@ use Rattle.agv_store.specs.HeldLoads.{IsOpen, HoldsLoads, HoldsNoSet}
 use Rattle.agv_store.proofs.Holding.{stays}
 use Rattle.agv_store.proofs.Rows.{names_it, list_any-map, list_any-alike, row_of_load}
 use Rattle.agv_store.proofs.Running.{query_fails, shown_open, shown_same, was_open}
-use Rattle.agv_store.proofs.Texts.{find_text, find_query, find_command, find_is, find_plain}
+use Rattle.agv_store.proofs.Understood.{find_query, find_command, IsLookUp}
 
 -- ---- whether some row passes
 
@@ -61,43 +61,43 @@ module _ (name : List ℕ) (db : Trees) (rows : List Row) (a : IsAnswer find_que
       ap (λ n. n == 0) (as_many ∙ ap length staged) ∙ none_passes (λ e. names_it name (column e 1 ∷ [])) (λ e. (Text name ∷ []) ∷ e ∷ []) (db load_table.tree)
       ∙ ap not (list_any-alike _ _ (db load_table.tree) (λ e. ap (λ v. is_true (binary (Compare Eq Binary) v (Text name)) && true) (past_number e)))
 
-pub found : (name : List ℕ) (old new : State) (rows : List Row) (loads : Registered) → old.now.schema ≡ load_schema → AreLoads old.now.trees loads
-    → Shown find_text (Text name ∷ []) old new rows → (length rows == 0) ≡ not (set.contains loads name)
-found name old new rows loads has h shown =
-    let got = reads_as find_text (Text name ∷ []) old new load_schema has find_command find_is.0 find_plain find_is.1 rows shown in
+pub found : (name sql : List ℕ) → IsLookUp sql → (old new : State) (rows : List Row) (loads : Registered) → old.now.schema ≡ load_schema → AreLoads old.now.trees loads
+    → Shown sql (Text name ∷ []) old new rows → (length rows == 0) ≡ not (set.contains loads name)
+found name sql means old new rows loads has h shown =
+    let got = reads_as sql (Text name ∷ []) old new load_schema has find_command means.command means.plain means.unlisted rows shown in
     let there = sym (list_any-map (names_it name) (drop 1) (old.now.trees load_table.tree)) ∙ row_of_load old.now.trees loads h name in
     shown_if_named name old.now.trees rows (got.answer Null) ∙ ap not there
 
 -- ---- the call
 
-module _ {S : Type 0} (g : Ghosts S) (old new : Held S) where
-  pub finds : (name : List ℕ) (params : Row) → params ≡ Text name ∷ [] → (r : Result (Vec Row Global) Error) → IfOk r (λ rows. Shown find_text params (state g old) (state g new) rows.items)
+module _ {S : Type 0} (g : Ghosts S) (old new : Held S) (sql : List ℕ) where
+  pub finds : IsLookUp sql → (name : List ℕ) (params : Row) → params ≡ Text name ∷ [] → (r : Result (Vec Row Global) Error) → IfOk r (λ rows. Shown sql params (state g old) (state g new) rows.items)
       → IfOk r (λ rows. (loads : Registered) → HoldsLoads g old loads → (vec_len rows == 0) ≡ not (set.contains loads name))
-  finds name params given (Err e) shown = tt
-  finds name params given (Ok rows) shown = λ loads h.
-      ap (λ n. n == 0) rows.ok.0 ∙ found name (state g old) (state g new) rows.items loads h.schema h.rows (subst (λ p. Shown find_text p (state g old) (state g new) rows.items) given shown)
+  finds means name params given (Err e) shown = tt
+  finds means name params given (Ok rows) shown = λ loads h.
+      ap (λ n. n == 0) rows.ok.0 ∙ found name sql means (state g old) (state g new) rows.items loads h.schema h.rows (subst (λ p. Shown sql p (state g old) (state g new) rows.items) given shown)
 
-  module _ (params : Row) (r : Result (Vec Row Global) Error) (ok : IfOk r (λ rows. Shown find_text params (state g old) (state g new) rows.items)) where
+  module _ (params : Row) (r : Result (Vec Row Global) Error) (ok : IfOk r (λ rows. Shown sql params (state g old) (state g new) rows.items)) where
     pub find_still_open : OnOk r (IsOpen g new)
-    find_still_open = elim r as (λ x. IfOk x (λ rows. Shown find_text params (state g old) (state g new) rows.items) → OnOk x (IsOpen g new)) [
-      | Ok rows ↦ λ shown. (shown_open find_text params (state g old) (state g new) rows.items shown).1
+    find_still_open = elim r as (λ x. IfOk x (λ rows. Shown sql params (state g old) (state g new) rows.items) → OnOk x (IsOpen g new)) [
+      | Ok rows ↦ λ shown. (shown_open sql params (state g old) (state g new) rows.items shown).1
       | Err e ↦ λ _. tt
     ] ok
 
-    module _ (err : IfErr r (FailsToQuery find_text params (state g old) (state g new))) where
+    module _ (err : IfErr r (FailsToQuery sql params (state g old) (state g new))) where
       pub find_was_open : IsOpen g new → IsOpen g old
-      find_was_open still = elim r as (λ x. IfOk x (λ rows. Shown find_text params (state g old) (state g new) rows.items) → IfErr x (FailsToQuery find_text params (state g old) (state g new)) → IsOpen g old) [
-        | Ok rows ↦ λ shown _. (shown_open find_text params (state g old) (state g new) rows.items shown).0
-        | Err e ↦ λ _ fails. was_open (state g old) (state g new) (query_fails find_text params (state g old) (state g new) e fails) still
+      find_was_open still = elim r as (λ x. IfOk x (λ rows. Shown sql params (state g old) (state g new) rows.items) → IfErr x (FailsToQuery sql params (state g old) (state g new)) → IsOpen g old) [
+        | Ok rows ↦ λ shown _. (shown_open sql params (state g old) (state g new) rows.items shown).0
+        | Err e ↦ λ _ fails. was_open (state g old) (state g new) (query_fails sql params (state g old) (state g new) e fails) still
       ] ok err
 
-      pub find_keeps : IsOpen g new → (loads : Registered) → HoldsLoads g old loads → HoldsLoads g new loads
-      find_keeps still loads h = elim r as (λ x. IfOk x (λ rows. Shown find_text params (state g old) (state g new) rows.items) → IfErr x (FailsToQuery find_text params (state g old) (state g new)) → HoldsLoads g new loads) [
-        | Ok rows ↦ λ shown _. stays g old new (inl (shown_same find_text params (state g old) (state g new) rows.items (subst (λ s. IsPlain (understood s find_text)) (sym h.schema) find_plain) shown)) still loads h
-        | Err e ↦ λ _ fails. stays g old new (query_fails find_text params (state g old) (state g new) e fails) still loads h
+      pub find_keeps : IsPlain (understood load_schema sql) → IsOpen g new → (loads : Registered) → HoldsLoads g old loads → HoldsLoads g new loads
+      find_keeps plain still loads h = elim r as (λ x. IfOk x (λ rows. Shown sql params (state g old) (state g new) rows.items) → IfErr x (FailsToQuery sql params (state g old) (state g new)) → HoldsLoads g new loads) [
+        | Ok rows ↦ λ shown _. stays g old new (inl (shown_same sql params (state g old) (state g new) rows.items (subst (λ s. IsPlain (understood s sql)) (sym h.schema) plain) shown)) still loads h
+        | Err e ↦ λ _ fails. stays g old new (query_fails sql params (state g old) (state g new) e fails) still loads h
       ] ok err
 
 -- a look-up commits nothing
-pub find_commits : {S : Type 0} (g : Ghosts S) (old : Held S) (params : Row) (trees : Trees) → CommitsShowing find_text params (state g old) trees → HoldsNoSet g old
-find_commits g old params trees commits loads h =
-    never_commits find_text params (state g old) trees (subst (λ s. IsPlain (understood s find_text)) (sym h.schema) find_plain) commits
+pub find_commits : {S : Type 0} (g : Ghosts S) (old : Held S) (sql : List ℕ) → IsPlain (understood load_schema sql) → (params : Row) (trees : Trees) → CommitsShowing sql params (state g old) trees → HoldsNoSet g old
+find_commits g old sql plain params trees commits loads h =
+    never_commits sql params (state g old) trees (subst (λ s. IsPlain (understood s sql)) (sym h.schema) plain) commits

@@ -27,10 +27,11 @@ use Rattle.sqlite.proofs.Callers.{runs_as, one_step}
 use Rattle.agv_store.specs.Registered.{Registered}
 use Rattle.agv_store.specs.LoadTable.{load_table, load_schema, load_row, HasRows, AreLoads}
 use Rattle.agv_store.specs.HeldLoads.{IsOpen, HoldsLoads}
-use Rattle.agv_store.specs.Insertion.{insert_command, IsInsertion}
+use Rattle.agv_store.specs.Insertion.{insert_command}
 use Rattle.agv_store.proofs.Entries.{HasRows-put_row}
 use Rattle.agv_store.proofs.Running.{went, same_value, write_fails, commits_as}
 use Rattle.agv_store.proofs.Holding.{stays}
+use Rattle.agv_store.proofs.Understood.{IsInsertion}
 
 -- the values of the row are of their columns' types
 fits : (name : List ℕ) → cast_all load_table.columns (load_row name) ≡ load_row name
@@ -98,11 +99,12 @@ module _ (s : State) (name : List ℕ) (has : s.now.schema ≡ load_schema) wher
 
 -- where the call succeeds, the connection holds one load more
 module _ {S : Type 0} (g : Ghosts S) (old new : Held S) (name sql : List ℕ) (means : IsInsertion sql) where
-  pub adds : (r : Result ℕ Error) → Executes sql (Text name ∷ []) (state g old) (state g new) r
+  pub adds : (params : Row) → params ≡ Text name ∷ [] → (r : Result ℕ Error) → Executes sql params (state g old) (state g new) r
       → OnOk r ((loads : Registered) → HoldsLoads g old loads → set.contains loads name ≡ false → HoldsLoads g new (set.insert loads name))
-  adds (Err e) ran = tt
-  adds (Ok count) ran = λ loads h new_name.
-      let w = runs_as sql (Text name ∷ []) (state g old) (state g new) load_schema h.schema insert_command means.command means.plain count ran in
+  adds params given (Err e) ran = tt
+  adds params given (Ok count) ran = λ loads h new_name.
+      let named = subst (λ p. Executes sql p (state g old) (state g new) (Ok count)) given ran in
+      let w = runs_as sql (Text name ∷ []) (state g old) (state g new) load_schema h.schema insert_command means.command means.plain count named in
       let more = joins (state g old) name h.schema w.tally (state g new).now w.changed loads h.rows new_name in
       record {
         is_open = w.shown.is_open;
@@ -119,8 +121,9 @@ insert_fails g old new sql params (Ok count) ran still = tt
 insert_fails g old new sql params (Err e) ran still = stays g old new (write_fails sql params (state g old) (state g new) e ran) still
 
 -- what a crash may leave of it has the new row
-pub insert_commits : {S : Type 0} (g : Ghosts S) (old : Held S) (name sql : List ℕ) (means : IsInsertion sql) (trees : Trees) → CommitsBy sql (Text name ∷ []) (state g old) trees
+pub insert_commits : {S : Type 0} (g : Ghosts S) (old : Held S) (name sql : List ℕ) (means : IsInsertion sql) (params : Row) → params ≡ Text name ∷ [] → (trees : Trees) → CommitsBy sql params (state g old) trees
     → (loads : Registered) → HoldsLoads g old loads → set.contains loads name ≡ false → AreLoads trees (set.insert loads name)
-insert_commits g old name sql means trees commits loads h new_name =
-    let it = commits_as sql (Text name ∷ []) (state g old) load_schema h.schema insert_command means.command means.plain (λ e. cc) (λ n e. cc) trees commits in
+insert_commits g old name sql means params given trees commits loads h new_name =
+    let named = subst (λ p. CommitsBy sql p (state g old) trees) given commits in
+    let it = commits_as sql (Text name ∷ []) (state g old) load_schema h.schema insert_command means.command means.plain (λ e. cc) (λ n e. cc) trees named in
     subst (λ t. AreLoads t (set.insert loads name)) (sym it.3) (joins (state g old) name h.schema it.0 it.1 it.2 loads h.rows new_name).1

@@ -9,4 +9,4 @@ pub mod Memory
 pub mod Registering
 pub mod Rows
 pub mod Running
-pub mod Texts
+pub mod Understood

@@ -1,4 +1,3 @@
-pub mod Creation
 pub mod Fault
 pub mod HeldLoads
 pub mod Insertion

@@ -6,18 +6,10 @@ ghost use Rattle.sqlite.specs.Held.{state};
 ghost use Rattle.agv_store.specs.Registered.{Registered, no_loads};
 ghost use Rattle.agv_store.specs.LoadTable.{no_tables, AreLoads};
 ghost use Rattle.agv_store.specs.Fault.{IsOfStore};
-ghost use Rattle.agv_store.specs.Creation.{IsCreation};
-ghost use Rattle.agv_store.specs.Insertion.{IsInsertion};
 ghost use Rattle.agv_store.specs.RefusedRow.{RefusesRow};
 ghost use Rattle.agv_store.specs.HeldLoads.{IsClean, IsOpen, HasStorageCause, HoldsLoads, HoldsNoSet, KeepsLoads};
 
 use sqlite::{Alter, Connection, Error, Row, params};
-
-fn creation() -> &'static str
-    ensures { IsCreation result.now }
-{
-    "CREATE TABLE load (id TEXT PRIMARY KEY, kind TEXT NOT NULL, station TEXT, manufacturer TEXT, serial TEXT) STRICT"
-}
 
 /// Makes the table.
 pub(crate) fn create_table<S: Alter>(conn: &mut Connection<S>) -> Result<usize, Error>
@@ -27,13 +19,10 @@ pub(crate) fn create_table<S: Alter>(conn: &mut Connection<S>) -> Result<usize, 
     ensures survives { Survives (state S.Store conn.old) (state S.Store conn.new)
         (λ trees. AreLoads trees no_loads) }
 {
-    conn.execute(creation(), &[])
-}
-
-fn insertion() -> &'static str
-    ensures { IsInsertion result.now }
-{
-    "INSERT INTO load (id, kind, station, manufacturer, serial) VALUES (?1, 'checking', NULL, NULL, NULL)"
+    conn.execute(
+        "CREATE TABLE load (id TEXT PRIMARY KEY, kind TEXT NOT NULL, station TEXT, manufacturer TEXT, serial TEXT) STRICT",
+        &[],
+    )
 }
 
 /// Adds the row of a load at the checking place.
@@ -50,7 +39,10 @@ pub(crate) fn insert_load<S: Alter>(conn: &mut Connection<S>, name: &str) -> Res
         (λ trees. (loads : Registered) → HoldsLoads S.Store conn.old loads
         → set.contains loads name.now ≡ false → AreLoads trees (set.insert loads name.now)) }
 {
-    conn.execute(insertion(), params![name])
+    conn.execute(
+        "INSERT INTO load (id, kind, station, manufacturer, serial) VALUES (?1, 'checking', NULL, NULL, NULL)",
+        params![name],
+    )
 }
 
 /// The row of the load of that name, or no row.

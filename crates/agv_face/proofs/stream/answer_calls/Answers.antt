@@ -5,7 +5,7 @@ use Rattle.agv_store.specs.HeldLoads.{HoldsLoads, HoldsIfOpen}
 use Rattle.agv_face.specs.declared.stream.Stop.{Stop}
 use Rattle.agv_face.specs.StreamEnds.{IsStreamEnd}
 use Rattle.agv_face.specs.Stepped.{IsNextOutcome}
-use Rattle.agv_face.proofs.Later.{later_refl, later_trans}
+use Rattle.agv_store.proofs.Later.{later_refl, later_trans}
 use Rattle.agv_face.proofs.Streaming.{HasCome, at_start, after_read, after_call, at_the_end, so_far, all_so_far, none_answered, answered-push, answered-none, answered-less}
 use Rattle.agv_face.proofs.Steps.{of_same_err, next_stopped, read_stopped}
 use Rattle.agv_face.proofs.stream.answer_calls.Goals as goal

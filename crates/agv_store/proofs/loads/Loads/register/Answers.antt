@@ -68,7 +68,7 @@ returns-in_err-insert_load-clause-caused g c clean =
     let room = was_to_add g.S.Store c.args.self.now c.self.inside.conn c.insert_load.new.conn c.args.name c.self.inside.count found c.as_str.result.now c.as_str.ensures.text c.insert_load.ensures.survives (omega arith) clean in
     let refused = subst (λ n. HasStorageCause g.S.Store c.self.inside.conn c.insert_load.new.conn ⊎ RefusesRow g.S.Store c.insert_load.new.conn n) c.as_str.ensures.text in
     fault_caused c.from_residual-in_err-insert_load.result c.in_err-insert_load.field-0.0 c.from_residual-in_err-insert_load.ensures.1 (λ stored.
-    later_caused g.S.Store c.args.self.now c.self.inside.conn c.insert_load.new.conn found.survives it.0 it.1 c.as_str.ensures.name room (refused (c.in_err-insert_load.ensures.caused clean stored it.0 it.1)))
+    later_caused g.S.Store c.args.self.now c.self.inside.conn c.insert_load.new.conn (later_by g.S.Store _ _ found.survives) (later_by g.S.Store _ _ c.insert_load.ensures.survives) clean c.as_str.ensures.name room (refused (c.in_err-insert_load.ensures.caused clean stored it.0 it.1)))
 
 -- a known name is no fault
 pub returns-then-branch-clause-caused : goal.returns-then-branch-clause-caused
