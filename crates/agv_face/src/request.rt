@@ -19,19 +19,19 @@ const MOST_BODY: u32 = 65536;
 
 /// A request, lent from the bytes that it came in.
 #[derive(Clone, Copy)]
-pub struct LentRequest<'b> {
-    pub method: &'b [u8],
-    pub target: &'b [u8],
-    pub body: &'b [u8],
+pub(crate) struct LentRequest<'b> {
+    pub(crate) method: &'b [u8],
+    pub(crate) target: &'b [u8],
+    pub(crate) body: &'b [u8],
     /// HTTP/1.1, with no Connection line.
-    pub is_plain: bool,
+    pub(crate) is_plain: bool,
     /// How many bytes it takes.
-    pub len: usize,
+    pub(crate) len: usize,
 }
 
 /// What comes next on a stream.
 #[derive(Clone, Copy)]
-pub enum Heard<'b> {
+pub(crate) enum Heard<'b> {
     /// More bytes have to come first.
     Need,
     /// The stream has ended, and no byte is left.
@@ -121,7 +121,7 @@ fn with_head<'b>(
 }
 
 /// The next request that the bytes begin with, or why there is none. `ended` says that no byte follows.
-pub fn read_request(buf: &[u8], ended: bool) -> Heard<'_>
+pub(crate) fn read_request(buf: &[u8], ended: bool) -> Heard<'_>
     ensures { IsHeard buf.now ended result }
 {
     if buf.is_empty() {
