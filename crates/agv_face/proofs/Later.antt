@@ -1,5 +1,6 @@
 -- A connection at later and later moments, and the causes of its faults.
-use Rattle.std.proofs.Common.{◌≡◌, ◌≤◌, ◌⊎◌, ℕ, Bool, true, false, Option, IsTrue, IsSome, refl, sym, ◌∙◌, subst, inl, inr, arith}
+use Rattle.std.proofs.Common.{◌≡◌, ◌≤◌, ◌⊎◌, ℕ, false, Option, IsSome, refl, ◌∙◌, subst, inl, inr, ⊎_elim, arith}
+use Rattle.std.proofs.lemmas.Bool.{both_ways, cases_Bool}
 use Rattle.sqlite_trees.specs.declared.store.Store.{Ghosts}
 use Rattle.sqlite.specs.Held.{Held, state}
 use Rattle.agv_store.specs.HeldLoads.{MoreFaults, IsClean, IsOpen, IsLater, HasStorageCause}
@@ -10,14 +11,6 @@ more_than_earlier old mid new earlier more = omega (arith, earlier, more)
 
 more_till_later : (old mid new : ℕ) → MoreFaults old mid → mid ≤ new → MoreFaults old new
 more_till_later old mid new more later = omega (arith, more, later)
-
--- what holds where it is true and where it is false
-either : (b : Bool) (P : Type 0) → (IsTrue b → P) → (b ≡ false → P) → P
-either true P if_true if_false = if_true refl
-either false P if_true if_false = if_false refl
-
-not_both : (b : Bool) → IsTrue b → b ≡ false → ⊥
-not_both b is not_so = let absurdly : true ≡ false = sym is ∙ not_so in cc
 
 module _ {S : Type 0} (g : Ghosts S) where
   pub later_refl : (held : Held S) → IsLater g held held
@@ -47,13 +40,13 @@ module _ {S : Type 0} (g : Ghosts S) where
     }
 
     shut_by : (state g mid).is_open ≡ false → IsOpen g mid ⊎ MoreFaults (state g old).faults (state g mid).faults → HasStorageCause g old new
-    shut_by shut (inl was_open) = absurd (not_both (state g mid).is_open was_open shut)
+    shut_by shut (inl was_open) = absurd (both_ways (state g mid).is_open shut was_open)
     shut_by shut (inr more) = inl (more_first more)
 
     -- a fault of the store after a later moment is one after an earlier one
     pub fault_later : IsClean g new → HasStorageCause g mid new → HasStorageCause g old new
     fault_later clean (inl more) = inl (more_next more)
     fault_later clean (inr (inl shut)) =
-        either (state g old).is_open (HasStorageCause g old new) (λ was_open. shut_by shut (first.closes (next.clean clean) was_open)) (λ was. inr (inl was))
+        ⊎_elim (λ was_open. shut_by shut (first.closes (next.clean clean) was_open)) (λ was. inr (inl was)) (cases_Bool (state g old).is_open)
     fault_later clean (inr (inr limited)) =
         let Limited : Option ℕ → Type 0 = λ o. IsSome o in inr (inr (subst Limited first.step_limit limited))
