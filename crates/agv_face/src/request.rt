@@ -1,7 +1,7 @@
 //! The next request of a stream: its head, by httparse, and its body.
 ghost use Rattle.std.specs.Prelude.{◌≡◌, ◌≤◌, ◌<◌, All, length, take, map, IfOk, min};
 ghost use Rattle.httparse.specs.Spans.{IsHeaderWithin, header_bytes, IsRequestWithin, IsRequestOf};
-ghost use Rattle.agv_face.specs.Lines.{Length};
+ghost use Rattle.agv_face.specs.Lines.{Length, absent};
 ghost use Rattle.agv_face.specs.Requests.{sends_body, length_needed, body_length, is_plain_head};
 ghost use Rattle.agv_face.specs.Found.{found_length};
 ghost use Rattle.agv_face.specs.Heard.{IsHeard};
@@ -48,6 +48,20 @@ fn wants_length(method: &[u8]) -> bool
     method == b"PUT".as_slice() || method == b"POST".as_slice()
 }
 
+/// How many bytes the body has where no line says its length.
+fn needed_without_length(is_coded: bool, method: &[u8]) -> Result<usize, Refusal>
+    ensures needed { result ≡ length_needed is_coded method.now absent }
+    ensures fits { IfOk result (λ n. n ≤ 65536) }
+{
+    if is_coded {
+        Err(Refusal::Coding)
+    } else if wants_length(method) {
+        Err(Refusal::NoLength)
+    } else {
+        Ok(0)
+    }
+}
+
 /// How many bytes the body has, from what the header lines say of it.
 fn needed(is_coded: bool, method: &[u8], found: FoundLength) -> Result<usize, Refusal>
     ensures needed { (length : Length) → found ≡ found_length length → result ≡ length_needed is_coded method.now length }
@@ -55,9 +69,8 @@ fn needed(is_coded: bool, method: &[u8], found: FoundLength) -> Result<usize, Re
 {
     match found {
         FoundLength::Wrong => Err(Refusal::BadHead),
-        _ if is_coded => Err(Refusal::Coding),
-        FoundLength::Absent if wants_length(method) => Err(Refusal::NoLength),
-        FoundLength::Absent => Ok(0),
+        FoundLength::Absent => needed_without_length(is_coded, method),
+        FoundLength::Bytes(_) if is_coded => Err(Refusal::Coding),
         FoundLength::Bytes(n) if n > MOST_BODY => Err(Refusal::TooLarge),
         FoundLength::Bytes(n) => Ok(n as usize),
     }
