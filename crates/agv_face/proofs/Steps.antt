@@ -1,9 +1,10 @@
 -- What became of a call, of the next request of a buffer, and of a stream of them.
 use Rattle.std.proofs.Common.{◌≡◌, ◌⊎◌, ℕ, Bool, false, List, [], Option, IfSome, Result, Ok, Err, IsErrAnd, refl, sym, ap, ◌∙◌, subst, inl, inr, append-nil}
+use Rattle.std.proofs.Math.Logic.{⊎_map}
 use Rattle.std.specs.Io.KnownBytes.{Appends}
 use Rattle.sqlite_trees.specs.declared.store.Store.{Ghosts}
 use Rattle.sqlite.specs.Held.{Held}
-use Rattle.agv_store.specs.HeldLoads.{IsClean, HasStorageCause, IsLater, HoldsLoads, HoldsIfOpen}
+use Rattle.agv_store.specs.HeldLoads.{IsClean, IsLater, HoldsLoads, HoldsIfOpen}
 use Rattle.agv_store.specs.Registered.{Registered}
 use Rattle.agv_store.specs.declared.fault.Fault.{Fault}
 use Rattle.agv_store.specs.declared.fault.Fault.TheVariants as fault
@@ -16,7 +17,7 @@ use Rattle.agv_face.specs.declared.watched.Watched.{Watched}
 use Rattle.agv_face.specs.Answers.{answer_bytes}
 use Rattle.agv_face.specs.Served.{answer_to, after, after_all, IsAnswered}
 use Rattle.agv_face.specs.Stops.{stop_of}
-use Rattle.agv_face.specs.StoreFaults.{IsRowRefusedBehind}
+use Rattle.agv_face.specs.StoreFaults.{HasCauseBehind, IsRowRefusedBehind}
 use Rattle.agv_face.specs.Stepped.{IsReadOutcome, IsWriteOutcome, IsCallOutcome, IsNextOutcome, IsNextCall, KeptIfOpen, CarriedOut, KeptOrCarriedOut}
 use Rattle.agv_face.specs.Watched.{inner_of, failures_of, FailedNever}
 use Rattle.agv_face.specs.Asked.{AsksNext}
@@ -61,12 +62,10 @@ module _ {S W : Type 0} (g : Ghosts S) (contents : W → Option (List ℕ)) (loa
   lost_next buf len call next (inl kept) = inl kept
   lost_next buf len call next (inr carried) = inr (len, call, next, carried)
 
-  next_caused : (buf : List ℕ) (len : ℕ) (call : Call) → IsNextCall buf len call
-      → HasStorageCause g loads loads_then ⊎ ((next : Call) × (next ≡ call) × IsRowRefusedBehind g loads loads_then [] next)
-      → HasStorageCause g loads loads_then ⊎ ((next : Call) × ((len : ℕ) × IsNextCall buf len next) × IsRowRefusedBehind g loads loads_then [] next)
-  next_caused buf len call next (inl failed) = inl failed
-  next_caused buf len call next (inr refused) =
-      let Next : Call → Type 0 = λ c. IsNextCall buf len c in inr (refused.0, (len, subst Next (sym refused.1) next), refused.2)
+  next_caused : (buf : List ℕ) (len : ℕ) (call : Call) → IsNextCall buf len call → HasCauseBehind g loads loads_then [] (λ next. next ≡ call)
+      → HasCauseBehind g loads loads_then [] (λ next. (len : ℕ) × IsNextCall buf len next)
+  next_caused buf len call next caused clean =
+      let Next : Call → Type 0 = λ c. IsNextCall buf len c in ⊎_map (λ failed. failed) (λ refused. (refused.0, (len, subst Next (sym refused.1) next), refused.2)) (caused clean)
 
   -- the next request is that call
   pub next_called : (buf : List ℕ) (ended : Bool) (len : ℕ) (call : Call) (s : Stop) → IsNextCall buf len call
@@ -75,7 +74,7 @@ module _ {S W : Type 0} (g : Ghosts S) (contents : W → Option (List ℕ)) (loa
   next_called buf ended len call stop.Read next came = absurd came
   next_called buf ended len call stop.Write next came = (len, call, next, came.0, came.1)
   next_called buf ended len call stop.Memory next came = (came.0, lost_next buf len call next came.1)
-  next_called buf ended len call stop.Storage next came = (came.0, came.1, λ is. next_caused buf len call next (came.2 is))
+  next_called buf ended len call stop.Storage next came = (came.0, came.1, next_caused buf len call next came.2)
 
 -- ---- a stream
 
@@ -101,12 +100,12 @@ module _ {S R W : Type 0} (g : Ghosts S) (remaining : R → Option (List ℕ)) (
   refused_behind calls (variant.Show load) old new answered refused = absurd refused
 
   cause_behind : (ended : Bool) (buf : List ℕ) (calls : List Call) → HasCome (remaining (inner_of reader)) (remaining (inner_of reader_mid)) ended buf calls → Answering g contents loads loads_mid reader reader_mid writer writer_mid calls
-      → IsLater g loads loads_mid → IsLater g loads_mid loads_then → IsClean g loads_then
-      → HasStorageCause g loads_mid loads_then ⊎ ((next : Call) × ((len : ℕ) × IsNextCall buf len next) × IsRowRefusedBehind g loads_mid loads_then [] next)
-      → HasStorageCause g loads loads_then ⊎ ((next : Call) × IfSome (remaining (inner_of reader)) (λ input. AsksNext input calls next) × IsRowRefusedBehind g loads loads_then calls next)
-  cause_behind ended buf calls come now first later is (inl failed) = inl (fault_later g loads loads_mid loads_then first later is failed)
-  cause_behind ended buf calls come now first later is (inr refused) =
-      inr (refused.0, asks_next _ _ _ _ refused.1.0 calls refused.0 come refused.1.1, refused_behind calls refused.0 _ _ (now.0 (later.clean is)) refused.2)
+      → IsLater g loads loads_mid → IsLater g loads_mid loads_then → HasCauseBehind g loads_mid loads_then [] (λ next. (len : ℕ) × IsNextCall buf len next)
+      → HasCauseBehind g loads loads_then calls (λ next. IfSome (remaining (inner_of reader)) (λ input. AsksNext input calls next))
+  cause_behind ended buf calls come now first later caused clean =
+      ⊎_map (fault_later g loads loads_mid loads_then first later clean)
+      (λ refused. (refused.0, asks_next _ _ _ _ refused.1.0 calls refused.0 come refused.1.1, refused_behind calls refused.0 _ _ (now.0 (later.clean clean)) refused.2))
+      (caused clean)
 
   -- the next request of the buffer ends the stream
   pub next_stopped : (ended : Bool) (buf : List ℕ) (calls : List Call) (s : Stop) → HasCome (remaining (inner_of reader)) (remaining (inner_of reader_mid)) ended buf calls → Answering g contents loads loads_mid reader reader_mid writer writer_mid calls
@@ -123,7 +122,7 @@ module _ {S R W : Type 0} (g : Ghosts S) (remaining : R → Option (List ℕ)) (
       calls,
       so_far _ _ _ _ calls come,
       (λ is. kept_on (HoldsLoads g loads) (HoldsLoads g loads_mid) (HoldsIfOpen g loads_then) _ _ _ calls (now.0 (later.clean is)) (ap (λ (w : Watched W). contents (inner_of w)) ends.0) (ends.1 is)),
-      (λ is. cause_behind ended buf calls come now first later is (ends.2 is)),
+      cause_behind ended buf calls come now first later ends.2,
     ),
     (now.1, ap (λ (w : Watched W). failures_of w) ends.0 ∙ now.2),
   )

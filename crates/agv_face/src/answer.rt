@@ -1,5 +1,5 @@
 //! From an answer to its bytes.
-ghost use Rattle.std.specs.Prelude.{◌≡◌, ◌≤◌, ◌<◌, [], unwrap_or, IfOk, string_bytes};
+ghost use Rattle.std.specs.Prelude.{◌≡◌, ◌≤◌, ◌<◌, [], unwrap_or, IfOk, codes, string_bytes};
 ghost use Rattle.http.specs.StatusCode.{reason_phrase};
 ghost use Rattle.serde_json.specs.View.{view};
 ghost use Rattle.serde_json.specs.Written.{compact_text};
@@ -42,6 +42,13 @@ fn reason_of(status: u16) -> &'static str
     }
 }
 
+/// The name of the checking place, where goods come in.
+fn checking_place() -> &'static str
+    ensures { result.now ≡ codes "checking" }
+{
+    "checking"
+}
+
 /// The body, as a JSON value.
 fn body_value(alloc: Global, answer: &Answer) -> Result<Value, AllocError>
     ensures { IfOk result (λ value. view value ≡ answer_data answer.now) }
@@ -49,7 +56,7 @@ fn body_value(alloc: Global, answer: &Answer) -> Result<Value, AllocError>
     match answer {
         Answer::Done => json!(in alloc; {}),
         Answer::AtChecking(load) => {
-            json!(in alloc; {"job": null, "load": load.as_str(), "place": "checking"})
+            json!(in alloc; {"job": null, "load": load.as_str(), "place": checking_place()})
         }
         Answer::Refused(refusal) => {
             json!(in alloc; {"name": refusal.name(), "refusal": refusal.number()})

@@ -1,10 +1,10 @@
 //! The face of the desk: from the bytes of a stream to calls, and from answers back to bytes.
 //!
-//! A reader gives bytes, cut as it likes. [`read_request`] finds the next request in what has come
-//! so far; it is a [`Call`] or none; the store carries the call out, which gives an [`Answer`]; and
-//! the answer's bytes are written before the next request is looked at. [`answer_calls`] does so up
-//! to the end of the input, and [`serve_loads`] is what the program calls. Both take their reader and
-//! their writer as [`Watched`], so that a clause can say why a stream ended.
+//! A reader gives bytes, cut as it likes. The next request is found in what has come so far; it is a
+//! [`Call`] or none; the store carries the call out, which gives an [`Answer`]; and the answer's bytes
+//! are written before the next request is looked at. [`answer_calls`] does so up to the end of the
+//! input, and [`serve_loads`] is what the program calls. Both take their reader and their writer as
+//! [`Watched`], so that a clause can say why a stream ended.
 //!
 //! What the contracts mean is in `specs/`: `Lines` and `Requests` say what one request is, `Heard` what a
 //! buffer shows of the next one, `Cut` how an input is cut into requests, `Calls` which call a request is,
@@ -25,7 +25,6 @@ mod watched;
 
 pub use answer::Answer;
 pub use call::Call;
-pub use request::{Heard, LentRequest, read_request};
 pub use serve::{LoadsFault, serve_loads};
 pub use stream::{Stop, answer_calls};
 pub use watched::Watched;

@@ -1,7 +1,7 @@
 //! The next request of a stream: its head, by httparse, and its body.
 ghost use Rattle.std.specs.Prelude.{◌≡◌, ◌≤◌, ◌<◌, All, length, take, map, IfOk, min};
 ghost use Rattle.httparse.specs.Spans.{IsHeaderWithin, header_bytes, IsRequestWithin, IsRequestOf};
-ghost use Rattle.agv_face.specs.Lines.{Length};
+ghost use Rattle.agv_face.specs.Lines.{Length, absent};
 ghost use Rattle.agv_face.specs.Requests.{sends_body, length_needed, body_length, is_plain_head};
 ghost use Rattle.agv_face.specs.Found.{found_length};
 ghost use Rattle.agv_face.specs.Heard.{IsHeard};
@@ -19,19 +19,19 @@ const MOST_BODY: u32 = 65536;
 
 /// A request, lent from the bytes that it came in.
 #[derive(Clone, Copy)]
-pub struct LentRequest<'b> {
-    pub method: &'b [u8],
-    pub target: &'b [u8],
-    pub body: &'b [u8],
+pub(crate) struct LentRequest<'b> {
+    pub(crate) method: &'b [u8],
+    pub(crate) target: &'b [u8],
+    pub(crate) body: &'b [u8],
     /// HTTP/1.1, with no Connection line.
-    pub is_plain: bool,
+    pub(crate) is_plain: bool,
     /// How many bytes it takes.
-    pub len: usize,
+    pub(crate) len: usize,
 }
 
 /// What comes next on a stream.
 #[derive(Clone, Copy)]
-pub enum Heard<'b> {
+pub(crate) enum Heard<'b> {
     /// More bytes have to come first.
     Need,
     /// The stream has ended, and no byte is left.
@@ -48,6 +48,20 @@ fn wants_length(method: &[u8]) -> bool
     method == b"PUT".as_slice() || method == b"POST".as_slice()
 }
 
+/// How many bytes the body has where no line says its length.
+fn needed_without_length(is_coded: bool, method: &[u8]) -> Result<usize, Refusal>
+    ensures needed { result ≡ length_needed is_coded method.now absent }
+    ensures fits { IfOk result (λ n. n ≤ 65536) }
+{
+    if is_coded {
+        Err(Refusal::Coding)
+    } else if wants_length(method) {
+        Err(Refusal::NoLength)
+    } else {
+        Ok(0)
+    }
+}
+
 /// How many bytes the body has, from what the header lines say of it.
 fn needed(is_coded: bool, method: &[u8], found: FoundLength) -> Result<usize, Refusal>
     ensures needed { (length : Length) → found ≡ found_length length → result ≡ length_needed is_coded method.now length }
@@ -55,9 +69,8 @@ fn needed(is_coded: bool, method: &[u8], found: FoundLength) -> Result<usize, Re
 {
     match found {
         FoundLength::Wrong => Err(Refusal::BadHead),
-        _ if is_coded => Err(Refusal::Coding),
-        FoundLength::Absent if wants_length(method) => Err(Refusal::NoLength),
-        FoundLength::Absent => Ok(0),
+        FoundLength::Absent => needed_without_length(is_coded, method),
+        FoundLength::Bytes(_) if is_coded => Err(Refusal::Coding),
         FoundLength::Bytes(n) if n > MOST_BODY => Err(Refusal::TooLarge),
         FoundLength::Bytes(n) => Ok(n as usize),
     }
@@ -121,7 +134,7 @@ fn with_head<'b>(
 }
 
 /// The next request that the bytes begin with, or why there is none. `ended` says that no byte follows.
-pub fn read_request(buf: &[u8], ended: bool) -> Heard<'_>
+pub(crate) fn read_request(buf: &[u8], ended: bool) -> Heard<'_>
     ensures { IsHeard buf.now ended result }
 {
     if buf.is_empty() {

@@ -1,6 +1,6 @@
 -- A connection at later and later moments, and the causes of its faults.
-use Rattle.std.proofs.Common.{◌≡◌, ◌≤◌, ◌⊎◌, ℕ, false, Option, IsSome, refl, sym, ◌∙◌, subst, inl, inr, arith}
-use Rattle.std.proofs.lemmas.Bool.{cases_Bool}
+use Rattle.std.proofs.Common.{◌≡◌, ◌≤◌, ◌⊎◌, ℕ, false, Option, IsSome, refl, ◌∙◌, subst, inl, inr, arith}
+use Rattle.std.proofs.lemmas.Bool.{both_ways, cases_Bool}
 use Rattle.sqlite_disk.specs.Disk.{MoreFaults}
 use Rattle.sqlite_trees.specs.declared.store.Store.{Ghosts}
 use Rattle.sqlite_trees.specs.Tree.{Trees}
@@ -47,7 +47,7 @@ module _ {S : Type 0} (g : Ghosts S) where
     }
 
     shut_by : (state g mid).is_open ≡ false → IsOpen g mid ⊎ MoreFaults (state g old).faults (state g mid).faults → HasStorageCause g old new
-    shut_by shut (inl was_open) = absurd (let so = sym was_open ∙ shut in cc)
+    shut_by shut (inl was_open) = absurd (both_ways (state g mid).is_open shut was_open)
     shut_by shut (inr more) = inl (more_first more)
 
     -- a fault of the store after a later moment is one after an earlier one

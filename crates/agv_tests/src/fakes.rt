@@ -6,13 +6,13 @@ use std::io::{self, ErrorKind, Read, Write};
 
 /// Gives at most `step` bytes at a read. The read after `reads` fails, and those after it work again.
 #[derive(Drop)]
-pub(crate) struct Drip {
-    pub(crate) bytes: &'static [u8],
+pub(crate) struct Drip<'b> {
+    pub(crate) bytes: &'b [u8],
     pub(crate) step: usize,
     pub(crate) reads: u32,
 }
 
-impl Read for Drip {
+impl Read for Drip<'_> {
     fn read(&mut self, buf: &mut [u8]) -> io::Result<usize> {
         if self.reads == 0 {
             self.reads = u32::MAX;

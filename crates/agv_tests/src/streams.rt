@@ -4,7 +4,7 @@ use crate::cases::check;
 use crate::fakes::{Drip, Patient, Tally, Trickle};
 use crate::loads::no_loads;
 use agv_face::laws::has_a_cut;
-use agv_face::{Heard, LoadsFault, Stop, Watched, answer_calls, read_request, serve_loads};
+use agv_face::{LoadsFault, Stop, Watched, answer_calls, serve_loads};
 use agv_store::Loads;
 use sqlite::MemStore;
 use std::alloc::Global;
@@ -119,7 +119,7 @@ fn answers_before_it_reads_on(rt: HostRuntime) {
 }
 
 /// `FIRST` by such steps, of which the one after these reads fails.
-fn failing(step: usize, reads: u32) -> Watched<Drip> {
+fn failing<'b>(step: usize, reads: u32) -> Watched<Drip<'b>> {
     Watched::new(Drip {
         bytes: FIRST,
         step,
@@ -271,91 +271,117 @@ fn lines_of_faults(rt: HostRuntime) {
     }
 }
 
-/// What a buffer shows: nothing yet, the end, a request, or the number of a refusal.
-fn shown(bytes: &[u8], ended: bool) -> Result<&'static str, u8> {
-    match read_request(bytes, ended) {
-        Heard::Need => Ok("need"),
-        Heard::End => Ok("end"),
-        Heard::Request(_) => Ok("request"),
-        Heard::Refused(refusal) => Err(refusal.number()),
-    }
+/// Gives these bytes, and fails at the read after so many. Where the stream waits for more than they are, it
+/// comes to that read and ends with `Read`, and else it doesn't.
+fn check_beginning(
+    rt: &impl Abort,
+    alloc: Global,
+    bytes: &[u8],
+    reads: u32,
+    end: Result<u64, Stop>,
+    answers: &[u8],
+) {
+    let mut loads = no_loads(rt, alloc);
+    let mut reader = Watched::new(Drip {
+        bytes,
+        step: 4096,
+        reads,
+    });
+    let mut out = Watched::new(Vec::new(alloc));
+    let served = answer_calls(alloc, &mut loads, &mut reader, &mut out);
+    check(rt, served == end, "the end of the stream");
+    check(rt, out.inner().as_slice() == answers, "the answers");
 }
 
-/// Bytes, whether the input ends behind them, and what they show.
-const ROWS: [(&[u8], bool, Result<&'static str, u8>); 11] = [
-    (b"POST /load", false, Ok("need")),
-    (b"POST /load", true, Err(1)),
-    (b"", false, Ok("need")),
-    (b"", true, Ok("end")),
-    (FIRST, false, Ok("request")),
-    (b"POST /jobs HTTP/1.1\r\n\r\n", false, Err(2)),
+/// More is waited for, or the input ends, within a request or behind one.
+#[test]
+fn waits_or_ends(rt: HostRuntime) {
+    check_beginning(&rt, rt.alloc(), b"", 0, Err(Stop::Read), b"");
+    check_beginning(&rt, rt.alloc(), b"", 1, Ok(0), b"");
+    check_beginning(&rt, rt.alloc(), b"POST /load", 1, Err(Stop::Read), b"");
+    check_beginning(&rt, rt.alloc(), b"POST /load", 2, Err(Stop::Other), b"");
+    check_beginning(&rt, rt.alloc(), FIRST, 1, Err(Stop::Read), FIRST_ANSWERS);
+    check_beginning(&rt, rt.alloc(), FIRST, 2, Ok(2), FIRST_ANSWERS);
+}
+
+/// Heads that the first read gives, and how the stream ends where the next read fails: with `Read` where the
+/// body is waited for, and with `Other` where nothing is, since the length is too large, isn't there, is there
+/// twice or has a sign, since there is a coding, or since the request is whole and no call.
+const HEADS: [(&[u8], Stop); 9] = [
     (
-        b"POST /jobs HTTP/1.1\r\nContent-Length: 65537\r\n\r\n",
-        false,
-        Err(3),
+        b"POST /loads HTTP/1.1\r\nContent-Length: 65536\r\n\r\n",
+        Stop::Read,
     ),
     (
-        b"POST /jobs HTTP/1.1\r\nTransfer-Encoding: chunked\r\n\r\n",
-        false,
-        Err(4),
+        b"POST /loads HTTP/1.1\r\nContent-Length: 65537\r\n\r\n",
+        Stop::Other,
+    ),
+    (b"POST /loads HTTP/1.1\r\n\r\n", Stop::Other),
+    (
+        b"GET /loads/L1 HTTP/1.1\r\nTransfer-Encoding: chunked\r\n\r\n",
+        Stop::Other,
     ),
     (
-        b"GET / HTTP/1.1\r\ncontent-length: 1\r\nContent-Length: 1\r\n\r\na",
-        false,
-        Err(1),
+        b"GET /loads/L1 HTTP/1.1\r\nContent-Length: 1\r\nTransfer-Encoding: x\r\n\r\n",
+        Stop::Other,
     ),
     (
-        b"GET / HTTP/1.1\r\nContent-Length: +1\r\n\r\na",
-        false,
-        Err(1),
+        b"GET /loads/L1 HTTP/1.1\r\ncontent-length: 1\r\nContent-Length: 1\r\n\r\n",
+        Stop::Other,
     ),
     (
-        b"GET / HTTP/1.1\r\nContent-Length: 1\r\nTransfer-Encoding: x\r\n\r\na",
-        false,
-        Err(4),
+        b"GET /loads/L1 HTTP/1.1\r\nContent-Length: +1\r\n\r\n",
+        Stop::Other,
     ),
+    (
+        b"GET /loads/L1 HTTP/1.1\r\nContent-Length: 1\r\n\r\n",
+        Stop::Read,
+    ),
+    (b"GET /jobs HTTP/1.1\r\n\r\n", Stop::Other),
 ];
 
-/// The next request of a buffer, at the edges of what one may be.
+/// What is refused by its head is refused at once.
 #[test]
-fn next_requests(rt: HostRuntime) {
-    for (bytes, ended, want) in &ROWS {
-        check(&rt, shown(bytes, *ended) == *want, "what a buffer shows");
+fn refuses_at_once(rt: HostRuntime) {
+    for (head, stop) in &HEADS {
+        check_beginning(&rt, rt.alloc(), head, 1, Err(*stop), b"");
     }
 }
+
+/// Asks for a load that isn't there.
+const ABSENT: &[u8] = b"GET /loads/L9 HTTP/1.1\r\n";
+
+const NO_LOAD: &[u8] =
+    b"HTTP/1.1 404 Not Found\r\nContent-Length: 30\r\nContent-Type: application/json\r\n\r\n{\"name\":\"NoLoad\",\"refusal\":23}";
 
 /// A head of so many header lines, without the empty line behind them.
 fn head_of(rt: &impl Abort, alloc: Global, lines: u32) -> Vec<u8> {
-    let mut bytes = Vec::from_slice(alloc, b"GET / HTTP/1.1\r\n".as_slice()).expect(rt, "memory");
+    let mut bytes = Vec::from_slice(alloc, ABSENT).expect(rt, "memory");
     for _ in 0..lines {
         bytes.extend_from_slice(b"A: b\r\n").expect(rt, "memory");
     }
     bytes
 }
 
-/// A head of 32 lines is read, and one of 33 isn't waited for.
+/// The end of a head of 32 lines is waited for, and with it the request is served. That of 33 isn't waited for.
 #[test]
 fn lines_of_a_head(rt: HostRuntime) {
     let mut most = head_of(&rt, rt.alloc(), 32);
-    check(&rt, shown(&most, false) == Ok("need"), "32 lines");
+    check_beginning(&rt, rt.alloc(), &most, 1, Err(Stop::Read), b"");
     most.extend_from_slice(b"\r\n").expect(&rt, "memory");
-    check(
-        &rt,
-        shown(&most, false) == Ok("request"),
-        "32 lines and their end",
-    );
+    check_beginning(&rt, rt.alloc(), &most, 1, Err(Stop::Read), NO_LOAD);
     let more = head_of(&rt, rt.alloc(), 33);
-    check(&rt, shown(&more, false) == Err(1), "33 lines");
+    check_beginning(&rt, rt.alloc(), &more, 1, Err(Stop::Other), b"");
 }
 
-/// Nor is a head waited for that is not at its end within 8,192 bytes.
+/// Nor is a head waited for that is not at its end within 8,192 bytes. Two reads give them.
 #[test]
 fn length_of_a_head(rt: HostRuntime) {
     let mut long = Vec::from_slice(rt.alloc(), b"GET /".as_slice()).expect(&rt, "memory");
     for _ in 5..8191 {
         long.push(b'a').expect(&rt, "memory");
     }
-    check(&rt, shown(&long, false) == Ok("need"), "8,191 bytes");
+    check_beginning(&rt, rt.alloc(), &long, 2, Err(Stop::Read), b"");
     long.push(b'a').expect(&rt, "memory");
-    check(&rt, shown(&long, false) == Err(1), "8,192 bytes");
+    check_beginning(&rt, rt.alloc(), &long, 2, Err(Stop::Other), b"");
 }
