@@ -129,5 +129,5 @@ pub fn read_layout(alloc: Global, bytes: &[u8]) -> Result<Vec<LayoutRow>, CsvFau
     ensures bad { result ≡ Err CsvFault.BadCsv → layout_in bytes.now ≡ None }
 {
     let records = read_records(alloc, bytes)?;
-    rows_under_header(alloc, records.as_slice())
+    rows_under_header(alloc, &records)
 }
