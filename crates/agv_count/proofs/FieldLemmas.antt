@@ -1,5 +1,5 @@
 -- The fields of a record of four, and what a field can't be.
-use Rattle.std.proofs.Common.{arith, ℕ, zero, suc, ◌≡◌, ◌≢◌, ◌<◌, ◌≤◌, ◌^◌, Bool, true, false, List, [], ◌∷◌, length, Option, Some, None, Result, Ok, Err, MatchResult, Bor, cond, ap, sym, ◌∙◌, rules}
+use Rattle.std.proofs.Common.{arith, ℕ, zero, suc, ◌≡◌, ◌≢◌, ◌<◌, ◌≤◌, ◌^◌, ◌==◌, nat_lt, nat_le, Bool, true, false, ◌&&◌, List, [], ◌∷◌, length, Option, Some, None, Result, Ok, Err, MatchResult, Bor, cond, ap, refl, sym, ◌∙◌, rules}
 use Rattle.std.specs.Char.{is_ascii_digit}
 use Rattle.std.specs.List.{list_all}
 use Rattle.std.specs.Result.{result_ok}
@@ -12,7 +12,8 @@ use Rattle.std.proofs.lemmas.Str.Ascii.{IsAscii-nil, IsAscii-cons}
 use Rattle.std.proofs.lemmas.Str.Parse.{IsDigitsTest, IsNumeralModel, numerals_by_value, digits_value_short, parse_gives}
 use Rattle.csv.specs.Records.{field_at}
 use Rattle.agv_header.specs.Name.{is_name, IsUtf8-name}
-use Rattle.agv_count.specs.LayoutFile.{is_capacity}
+use Rattle.agv_layout.specs.declared.row.LayoutRow.TheVariants.{Edge}
+use Rattle.agv_count.specs.LayoutFile.{edge_in, is_capacity}
 
 -- four fields, each read at its place
 pub four_fields : (fs : List (List ℕ)) (a b c d : List ℕ) → length fs ≡ 4
@@ -58,6 +59,13 @@ digit_bytes : (s : List ℕ) → list_all is_ascii_digit s ≡ true → IsAscii 
 digit_bytes [] h = IsAscii-nil
 digit_bytes (b ∷ s) h = let each = and_parts _ _ h in IsAscii-cons b s (digit_byte b each.0) (digit_bytes s each.1)
 
+-- a few digits are a capacity
+pub short_digits : (s : List ℕ) (empty digits : Bool) → empty ≡ (length s == 0) → empty ≡ false → length s ≤ 3 → digits ≡ list_all is_ascii_digit s → digits ≡ is_capacity s
+short_digits s empty digits is some few all =
+    let first : nat_lt 0 (length s) ≡ true = grind (arith, nat_tests) in
+    let second : nat_le (length s) 3 ≡ true = grind (arith, nat_tests) in
+    all ∙ sym (λ i. first i && second i && list_all is_ascii_digit s)
+
 capacity_digits : (s : List ℕ) → is_capacity s ≡ true → list_all is_ascii_digit s ≡ true
 capacity_digits s h = (and_parts _ _ h).1
 
@@ -82,3 +90,19 @@ capacity_parsed s r h good =
 -- what a test that holds chooses
 pub chosen : (b : Bool) (r : Option ℕ) (x : ℕ) → b ≡ true → r ≡ Some x → r ≡ cond b (Some x) None
 chosen b r x e h = rw e h
+
+-- what a test chose is the value, and the test holds
+chose : (b : Bool) (s x : List ℕ) → Some x ≡ cond b (Some s) None → (b ≡ true) × (x ≡ s)
+chose true s x e = (refl, cc)
+chose false s x e = cc
+
+-- an edge whose names are read
+pub edge_read : (id from to a b c : List ℕ) → Some a ≡ cond (is_name id) (Some id) None → Some b ≡ cond (is_name from) (Some from) None → Some c ≡ cond (is_name to) (Some to) None
+    → Some (Edge a b c) ≡ edge_in id from to
+unfolding edge_in
+edge_read id from to a b c e f g =
+    let first = chose (is_name id) id a e in
+    let second = chose (is_name from) from b f in
+    let third = chose (is_name to) to c g in
+    (λ i. Some (Edge (first.1 i) (second.1 i) (third.1 i)))
+    ∙ sym (λ i. cond (first.0 i && second.0 i && third.0 i) (Some (Edge id from to)) None)

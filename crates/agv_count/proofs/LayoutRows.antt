@@ -1,6 +1,8 @@
 -- Records of other lengths than four are no rows.
-use Rattle.std.proofs.Common.{◌≡◌, ◌∷◌, ◌&&◌, Bool, true, false, cond, List, [], ℕ, Option, Some, None, option_and_then, option_map, refl}
+use Rattle.std.proofs.Common.{◌≡◌, ◌∷◌, ◌&&◌, Bool, true, false, cond, List, [], ℕ, Option, Some, None, option_and_then, option_map, map, ap, sym, ◌∙◌, refl}
 use Rattle.std.specs.List.{list_all}
+use Rattle.csv.specs.Records.{fields_of}
+use Rattle.csv.specs.declared.record.ByteRecord.{ByteRecord}
 use Rattle.agv_count.specs.LayoutFile.{is_header, row_in, rows_in}
 use Rattle.agv_count.specs.Records.{each, has_fields}
 
@@ -51,3 +53,9 @@ uneven_rows (r ∷ rs) e = by (has_fields 4 r) refl
     by : (b : Bool) → has_fields 4 r ≡ b → rows_in (r ∷ rs) ≡ None
     by false short = rw (no_header r short) refl
     by true long = either_none (is_header r) (each row_in rs) (no_rows rs (rw long at e))
+
+-- what stands under a header
+pub rows_under : (records rest : List ByteRecord) (header : ByteRecord) (is : Bool) → records ≡ header ∷ rest → is ≡ is_header (fields_of header) → is ≡ true
+    → rows_in (map fields_of records) ≡ each row_in (map fields_of rest)
+rows_under records rest header is all said holds =
+    ap (λ (rs : List ByteRecord). rows_in (map fields_of rs)) all ∙ ap (λ b. cond b (each row_in (map fields_of rest)) None) (sym said ∙ holds)

@@ -53,10 +53,13 @@ fn are_digits(field: &[u8]) -> bool
     field.iter().all(|byte| byte.is_ascii_digit())
 }
 
+/// The most digits of a capacity.
+const MOST_DIGITS: usize = 3;
+
 fn writes_capacity(field: &[u8]) -> bool
     ensures { result ≡ is_capacity field.now }
 {
-    !field.is_empty() && field.len() <= 3 && are_digits(field)
+    !field.is_empty() && field.len() <= MOST_DIGITS && are_digits(field)
 }
 
 /// The capacity that a field writes.

@@ -112,10 +112,14 @@ fn rows_under_header(alloc: Global, records: &[ByteRecord]) -> Result<Vec<Layout
     ensures ok { IfOk result (λ rows. rows_in (map fields_of records.now) ≡ Some rows.items) }
     ensures bad { result ≡ Err CsvFault.BadCsv → rows_in (map fields_of records.now) ≡ None }
 {
-    match records.split_first() {
-        Some((header, rest)) if is_header(header) => rows(alloc, rest),
-        _ => Err(CsvFault::BadCsv),
+    let Some((header, rest)) = records.split_first() else {
+        return Err(CsvFault::BadCsv);
+    };
+    let has_header = is_header(header);
+    if !has_header {
+        return Err(CsvFault::BadCsv);
     }
+    rows(alloc, rest)
 }
 
 /// The rows of a layout file, in the order of the file.
@@ -129,5 +133,5 @@ pub fn read_layout(alloc: Global, bytes: &[u8]) -> Result<Vec<LayoutRow>, CsvFau
     ensures bad { result ≡ Err CsvFault.BadCsv → layout_in bytes.now ≡ None }
 {
     let records = read_records(alloc, bytes)?;
-    rows_under_header(alloc, records.as_slice())
+    rows_under_header(alloc, &records)
 }

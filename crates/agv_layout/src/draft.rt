@@ -1,5 +1,5 @@
 //! What is read of a layout's rows before it is known whether they give a layout.
-ghost use Rattle.std.specs.Prelude.{◌≡◌, ◌↔◌, ◌&&◌, not, nat_eq, nat_le, [], Err, IsTrue, IfOk, IfErr, OnOk};
+ghost use Rattle.std.specs.Prelude.{◌≡◌, ◌↔◌, ◌&&◌, not, nat_eq, nat_le, [], Err, false, true, IsTrue, IfOk, IfErr, OnOk};
 ghost use Rattle.std.specs.Cmp.Lexicographic.{pointwise};
 ghost use Rattle.agv_layout.specs.declared.fault.LayoutFault.TheVariants as fault;
 ghost use Rattle.agv_layout.specs.Draft.{drawn, plan_of, has_id, with_row, leads, stands, HasNode, AllLead, AllStand, IsWhole};
@@ -60,6 +60,20 @@ impl Draft {
         }
     }
 
+    // Adds the row; `Bad` where its id is in its kind already.
+    fn add(&mut self, row: LayoutRow) -> Result<(), LayoutFault>
+        ensures added { OnOk result (drawn self.new ≡ with_row (drawn self.old) row) }
+        ensures new { OnOk result (has_id (drawn self.old) row ≡ false) }
+        ensures again { result ≡ Err fault.Bad → has_id (drawn self.old) row ≡ true }
+        ensures limit { result ≡ Err fault.Limit → ⊥ }
+    {
+        let is_new = self.put(row)?;
+        if !is_new {
+            return Err(LayoutFault::Bad);
+        }
+        Ok(())
+    }
+
     // `Bad` where an id is twice in its kind.
     pub(crate) fn of_rows(alloc: Global, rows: &[LayoutRow]) -> Result<Draft, LayoutFault>
         ensures once { OnOk result (IsEachOnce rows.now) }
@@ -69,9 +83,7 @@ impl Draft {
     {
         let mut draft = Draft::new(alloc);
         for row in rows {
-            if !draft.put(*row)? {
-                return Err(LayoutFault::Bad);
-            }
+            draft.add(*row)?;
         }
         Ok(draft)
     }

@@ -1,5 +1,5 @@
 //! The rows of a layout, as a file or a table lists them.
-ghost use Rattle.std.specs.Prelude.{◌↔◌, IsTrue};
+ghost use Rattle.std.specs.Prelude.{◌↔◌, ◌⊎◌, ◌<◌, IsTrue};
 ghost use Rattle.agv_layout.specs.Rows.{IsOverLimit};
 
 use agv_header::Name;
@@ -15,6 +15,19 @@ pub enum LayoutRow {
     Station { id: Name, node: Name, capacity: u32 },
 }
 
+/// The most nodes, edges and stations of a layout.
+const MOST_NODES: usize = 500;
+
+const MOST_EDGES: usize = 1500;
+
+const MOST_STATIONS: usize = 500;
+
+fn are_too_many(nodes: usize, edges: usize, stations: usize) -> bool
+    ensures { IsTrue result ↔ ((500 < nodes) ⊎ ((1500 < edges) ⊎ (500 < stations))) }
+{
+    nodes > MOST_NODES || edges > MOST_EDGES || stations > MOST_STATIONS
+}
+
 pub(crate) fn are_over_limit(rows: &[LayoutRow]) -> bool
     ensures { IsTrue result ↔ IsOverLimit rows.now }
 {
@@ -28,5 +41,5 @@ pub(crate) fn are_over_limit(rows: &[LayoutRow]) -> bool
             LayoutRow::Station { .. } => stations += 1,
         }
     }
-    nodes > 500 || edges > 1500 || stations > 500
+    are_too_many(nodes, edges, stations)
 }
