@@ -1,0 +1,5 @@
+use Rattle.sqlite.proofs.Callers.{memory_is_clean}
+use Rattle.agv_app.proofs.run.new_loads.Goals as goal
+
+pub returns-in-Ok-create-clause-empty : goal.returns-in-Ok-create-clause-empty
+returns-in-Ok-create-clause-empty c = c.in-Ok-create.ensures.created (memory_is_clean c.in-Ok-create.loads)
