@@ -9,7 +9,7 @@ use clap::{Arg, ArgAction, Command, Error, value_parser};
 use std::alloc::{AllocError, Global};
 
 /// What a line asks for.
-#[derive(Clone, Copy, Debug)]
+#[derive(Clone, Copy)]
 pub enum Line {
     /// Serves standard input over a store in memory. `at` is the moment of every request, in
     /// milliseconds since 1970-01-01T00:00:00Z, from 0 to 4102444799999.
@@ -17,7 +17,7 @@ pub enum Line {
 }
 
 /// Why a line asks for nothing.
-#[derive(Debug, Drop)]
+#[derive(Drop)]
 pub enum LineFault {
     /// The words are refused, or ask for help; the error is the text to show.
     Refused(Error),
