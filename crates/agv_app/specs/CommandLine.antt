@@ -14,7 +14,7 @@ use Rattle.agv_app.specs.declared.line.LineFault.TheVariants as fault
 abbrev pub last_moment : ℕ
 last_moment = 4102444799999
 
--- the words that an option may have
+-- the words that an option may have, as `clap` keeps them: a borrowed list of borrowed texts, of which only the texts matter
 abbrev pub Choice : Type 0
 Choice = Bor (List (Bor Text))
 
@@ -34,7 +34,7 @@ at = record (new_rule (codes "at")) { long = Some (codes "at"); action = Some Se
 abbrev pub replay : Choice → App
 replay stores = with_rule (with_rule (new_app (codes "replay")) (db stores)) at
 
--- the words stand behind the program's name, and the first of them is a subcommand
+-- the program's name is not among the words, and the first of them is a subcommand
 abbrev pub desk_top : App
 desk_top = record { top = record (new_app (codes "desk")).top { no_binary_name = true; subcommand_required = true }; subs = [] }
 
@@ -50,14 +50,13 @@ given id app words = option_and_then (λ p. one_of id p.1) (subcommand_of app wo
 abbrev pub Spells : Text → ℕ → Type 0
 Spells text n = IsNumeral 10 (without_leading_plus text) × (n ≡ digits_value 10 (without_leading_plus text))
 
--- `clap` finds no fault in the words, the store is `memory`, and the moment is the number that is spelt, in its range
+-- `clap` finds no fault in the words (of a command as simple as `desk`, `fault_of` is all that it can find), the store is `memory`, and the moment is the number that is spelt, in its range
 abbrev pub IsLine : List Text → Line → Type 0
 IsLine words (line.Replay at) = (stores : Choice) × IsMemoryAlone stores × (fault_of (desk stores) words ≡ [])
     × (given (codes "db") (desk stores) words ≡ Some (codes "memory"))
     × ((text : Text) × (given (codes "at") (desk stores) words ≡ Some text) × Spells text at × (at ≤ last_moment))
 
--- a refused line has a fault that `clap` finds, and a line with none has a moment
+-- a refused line has a fault that `clap` finds, of the kind that its error tells; asking for help is one
 abbrev pub IsLineFault : List Text → LineFault → Type 0
 IsLineFault words (fault.Refused error) = (stores : Choice) × IsMemoryAlone stores × IsAmong (kind_of error) (fault_of (desk stores) words)
-IsLineFault words fault.NoMoment = ⊥
 IsLineFault words fault.Memory = ⊤

@@ -17,7 +17,11 @@ use Rattle.agv_app.specs.declared.outcome.Outcome.{Outcome}
 use Rattle.agv_app.specs.declared.outcome.Outcome.TheVariants as outcome
 use Rattle.agv_app.specs.CommandLine.{IsLine, IsLineFault}
 
--- a new store fails so
+-- a store in memory that holds no loads, and whose queries have no limit of steps
+abbrev pub IsNewStore : Held MemStore → Type 0
+IsNewStore loads = HoldsLoads over_memory loads no_loads × (loads.step_limit ≡ None)
+
+-- why no new store was had
 abbrev pub IsOfNewStore : LoadsFault → Type 0
 IsOfNewStore why = (why ≡ fault.Memory) ⊎ (why ≡ fault.Storage)
 
@@ -26,18 +30,18 @@ module _ {R W : Type 0} (remaining : R → Option (List ℕ)) (contents : W → 
   abbrev pub AreUntouched : Type 0
   AreUntouched = (reader_then ≡ reader) × (writer_then ≡ writer)
 
-  -- the store couldn't be made
+  -- no new store was had, and nothing is read or written
   abbrev pub IsUnbegun : Result ℕ LoadsFault → Type 0
   IsUnbegun (Ok n) = ⊥
   IsUnbegun (Err why) = IsOfNewStore why × AreUntouched
 
-  -- the stream ended so, over a store in memory that held no loads before it, with 16,777,216 reads at most
+  -- the stream ended so over a new store, with 16,777,216 reads at most; the store is gone then, so what is said of its loads shows in the answers
   abbrev pub IsEndFromNoLoads : Result ℕ LoadsFault → Type 0
   IsEndFromNoLoads result = (loads : Held MemStore) × (loads_then : Held MemStore)
-      × HoldsLoads over_memory loads no_loads × IsLater over_memory loads loads_then × HadCallsAtMost 16777216 reader reader_then
+      × IsNewStore loads × IsLater over_memory loads loads_then × HadCallsAtMost 16777216 reader reader_then
       × IsLoadsEnd over_memory remaining contents loads loads_then reader reader_then writer writer_then result
 
-  -- the store couldn't be made, or the stream ended so
+  -- no new store was had, or the stream ended so
   abbrev pub IsServed : Result ℕ LoadsFault → Type 0
   IsServed result = IsUnbegun result ⊎ IsEndFromNoLoads result
 
@@ -50,7 +54,6 @@ module _ {R W : Type 0} (remaining : R → Option (List ℕ)) (contents : W → 
   IsOutcome words outcome.Served = (line : Line) × (n : ℕ) × IsLine words line × IsServed (Ok n)
   IsOutcome words (outcome.Failed why) = ((line : Line) × IsLine words line × IsServed (Err why)) ⊎ IsUnread why
   IsOutcome words (outcome.Refused error) = IsLineFault words (line.Refused error) × AreUntouched
-  IsOutcome words outcome.NoMoment = ⊥
   IsOutcome words outcome.NotText = ⊥
 
 -- the exit status
@@ -58,7 +61,6 @@ abbrev pub status_of : Outcome → ℕ
 status_of outcome.Served = 0
 status_of (outcome.Failed why) = 1
 status_of (outcome.Refused error) = 2
-status_of outcome.NoMoment = 2
 status_of outcome.NotText = 2
 
 -- what is said of it; of a refused line that is the text of `clap`, of which no clause says anything
@@ -66,7 +68,6 @@ abbrev pub said_of : Outcome → Option (List ℕ)
 said_of outcome.Served = Some []
 said_of (outcome.Failed why) = Some (fault_line why ++ codes "\n")
 said_of (outcome.Refused error) = None
-said_of outcome.NoMoment = Some (codes "error: --at is missing\n")
 said_of outcome.NotText = Some (codes "error: a word of the line is not UTF-8\n")
 
 -- the words couldn't be had

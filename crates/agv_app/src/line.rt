@@ -21,8 +21,6 @@ pub enum Line {
 pub enum LineFault {
     /// The words are refused, or ask for help; the error is the text to show.
     Refused(Error),
-    /// The line has no moment. The parser refuses such a line by itself, so this never comes.
-    NoMoment,
     /// Want of memory.
     Memory,
 }
@@ -102,11 +100,12 @@ pub fn line_of<'a>(alloc: Global, words: &'a [String]) -> Result<Line, LineFault
         Err(error) if error.kind() == ErrorKind::OutOfMemory => return Err(LineFault::Memory),
         Err(error) => return Err(LineFault::Refused(error)),
     };
+    // Words in which `clap` finds no fault have the subcommand and its moment.
     let Some((_, replay)) = matches.subcommand() else {
-        return Err(LineFault::NoMoment);
+        unreachable!()
     };
     match replay.get_one::<u64>("at") {
         Some(at) => Ok(Line::Replay { at }),
-        None => Err(LineFault::NoMoment),
+        None => unreachable!(),
     }
 }

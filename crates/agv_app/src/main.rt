@@ -1,5 +1,6 @@
-//! The program of the desk. `main` reads its words and hands over the real streams; what is done
-//! with them is `run`, and all else is in the crates below.
+//! The program of the desk. `main` reads its words and hands over the real streams. The module
+//! `line` says what the words ask for, `run` does it, and `outcome` says how a run ends; all else is
+//! in the crates below.
 //!
 //! It exits with 0; with 1 after one line `fault: ..` on standard error; and with 2 where the words
 //! are refused, also at `--help`, with the text on standard error.

@@ -17,8 +17,6 @@ pub enum Outcome {
     Failed(LoadsFault),
     /// The words are refused, or ask for help; the error is the text.
     Refused(Error),
-    /// The line has no moment. The clause of `run` says that this never comes.
-    NoMoment,
     /// A word is no text.
     NotText,
 }
@@ -44,7 +42,6 @@ impl fmt::Display for Outcome {
             Outcome::Served => Ok(()),
             Outcome::Failed(fault) => write!(f, "{}\n", fault.line()),
             Outcome::Refused(error) => write!(f, "{error}"),
-            Outcome::NoMoment => write!(f, "error: --at is missing\n"),
             Outcome::NotText => write!(f, "error: a word of the line is not UTF-8\n"),
         }
     }

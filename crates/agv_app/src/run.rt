@@ -1,14 +1,12 @@
 //! What the program does with its words, its input and its output.
 ghost use Rattle.std.specs.Prelude.{◌≡◌, List, length, map, string_bytes, IfOk, IfErr, IfSome};
-ghost use Rattle.sqlite.specs.Steps.{over_memory};
 ghost use Rattle.std.specs.Io.KnownBytes.{Appends};
 ghost use Rattle.agv_store.specs.Registered.{no_loads};
-ghost use Rattle.agv_store.specs.HeldLoads.{HoldsLoads};
 ghost use Rattle.agv_face.specs.declared.call.Call.{Call};
 ghost use Rattle.agv_face.specs.Asked.{Asks};
 ghost use Rattle.agv_face.specs.Served.{output};
 ghost use Rattle.agv_face.specs.Watched.{inner_of};
-ghost use Rattle.agv_app.specs.Runs.{IsOfNewStore, IsOutcome, IsServed};
+ghost use Rattle.agv_app.specs.Runs.{IsNewStore, IsOfNewStore, IsOutcome, IsServed};
 
 use crate::line::{Line, LineFault, line_of};
 use crate::outcome::Outcome;
@@ -20,7 +18,7 @@ use std::io::{Read, Write};
 
 /// A new store in memory, with no load in it.
 fn new_loads(alloc: Global) -> Result<Loads<MemStore>, LoadsFault>
-    ensures empty { IfOk result (λ loads. HoldsLoads over_memory loads no_loads) }
+    ensures empty { IfOk result IsNewStore }
     ensures fault { IfErr result IsOfNewStore }
 {
     let Ok(conn) = Connection::open_in_memory(alloc) else {
@@ -64,7 +62,6 @@ pub fn run<R: Read, W: Write>(
             Err(fault) => Outcome::Failed(fault),
         },
         Err(LineFault::Memory) => Outcome::Failed(LoadsFault::Memory),
-        Err(LineFault::NoMoment) => Outcome::NoMoment,
         Err(LineFault::Refused(error)) => Outcome::Refused(error),
     }
 }

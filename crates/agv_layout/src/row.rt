@@ -15,11 +15,13 @@ pub enum LayoutRow {
     Station { id: Name, node: Name, capacity: u32 },
 }
 
-/// The most nodes, edges and stations of a layout.
+/// The most nodes of a layout.
 const MOST_NODES: usize = 500;
 
+/// The most edges.
 const MOST_EDGES: usize = 1500;
 
+/// The most stations.
 const MOST_STATIONS: usize = 500;
 
 fn are_too_many(nodes: usize, edges: usize, stations: usize) -> bool

@@ -1,4 +1,4 @@
--- A connection at later and later moments, and the causes of its faults.
+-- A connection at later and later moments, and the causes of its faults: the proofs of `laws::later_moments_follow`, which callers may cite.
 use Rattle.std.proofs.Common.{◌≡◌, ◌≤◌, ◌⊎◌, ℕ, false, Option, IsSome, refl, ◌∙◌, subst, inl, inr, arith}
 use Rattle.std.proofs.lemmas.Bool.{both_ways, cases_Bool}
 use Rattle.sqlite_disk.specs.Disk.{MoreFaults}

@@ -3,7 +3,7 @@
 //!
 //! - `loads` calls each public call of the store once, with ample memory.
 //! - `streams` serves the worked examples as bytes: whole, in pieces, and with a reader or a writer
-//!   that fails.
+//!   that fails; and it shows which beginnings of a request are waited for and which are refused at once.
 #![tactic(auto)]
 
 #[cfg(test)]

@@ -6,8 +6,8 @@ use Rattle.agv_app.proofs.Readings.{line_read, moment_read}
 use Rattle.agv_app.proofs.line.line_of.Goals as goal
 
 -- a line with no fault has a moment
-pub returns-clause-fault : goal.returns-clause-fault
-returns-clause-fault c =
+pub unreachable-requires-in-None : goal.unreachable-requires-in-None
+unreachable-requires-in-None c =
     let command = c.in_ok-desk_command.ensures in
     let rows = sym (ap (option_map (λ p. rows_of (found_of p.1.now))) c.in-Some.is) ∙ c.subcommand.ensures.rows in
     let line = line_read _ command.0 command.1 command.2 (map string_bytes c.args.words.now) c.in-Ok.matches c.in-Some.replay.now c.in-Ok.ensures.kinds c.in-Ok.ensures.matches rows in
@@ -16,8 +16,8 @@ returns-clause-fault c =
     let bad : Some moment.0 ≡ None = sym moment.1 ∙ c.in-None.is in
     cc
 
-pub returns-in-Some-get_one-clause-line : goal.returns-in-Some-get_one-clause-line
-returns-in-Some-get_one-clause-line c =
+pub returns-clause-line : goal.returns-clause-line
+returns-clause-line c =
     let command = c.in_ok-desk_command.ensures in
     let rows = sym (ap (option_map (λ p. rows_of (found_of p.1.now))) c.in-Some.is) ∙ c.subcommand.ensures.rows in
     let line = line_read _ command.0 command.1 command.2 (map string_bytes c.args.words.now) c.in-Ok.matches c.in-Some.replay.now c.in-Ok.ensures.kinds c.in-Ok.ensures.matches rows in

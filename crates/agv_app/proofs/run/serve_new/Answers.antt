@@ -8,4 +8,4 @@ returns-clause-ends g c = inr (c.in_ok-loads.loads, c.serve_loads.new.loads, c.i
 pub returns-clause-answers : goal.returns-clause-answers
 returns-clause-answers g c =
     answered g.R.Read.remaining g.W.Write.contents c.in_ok-loads.loads c.serve_loads.new.loads c.args.reader.now c.serve_loads.new.reader c.args.writer.now c.serve_loads.new.writer c.serve_loads.result
-    c.in_ok-loads.ensures.empty c.serve_loads.ensures.ends
+    c.in_ok-loads.ensures.empty.0 c.serve_loads.ensures.ends
