@@ -11,7 +11,8 @@ use Rattle.clap.specs.Matches.{found_of, one_text}
 use Rattle.clap.specs.declared.builder.command.Command.{Command}
 use Rattle.clap.specs.declared.parser.matches.ArgMatches.{ArgMatches}
 use Rattle.clap.proofs.WalkLemmas.{one_text-rows}
-use Rattle.agv_app.specs.CommandLine.{Choice, Spells, desk, given, IsMemoryAlone, last_moment}
+use Rattle.agv_app.specs.declared.line.Line.TheVariants as line
+use Rattle.agv_app.specs.CommandLine.{Choice, Spells, desk, given, IsLine, IsMemoryAlone, last_moment}
 use Rattle.agv_app.proofs.Rows.{IsFound, words_found}
 
 -- a text that passed the range reads as the number that it spells
@@ -62,3 +63,14 @@ pub line_read : (command : Command) (stores : Choice) → IsMemoryAlone stores �
 line_read command stores memory is words m replay kinds matches rows =
     read_from stores memory words (subst (λ (a : App). fault_of a words ≡ []) is (kinds (ap is_simple_and_free is))) replay
     (rows ∙ ap (option_map (λ p. p.1)) ((matches (ap is_simple is)).1 ∙ ap (λ (a : App). subcommand_of a words) is))
+
+-- the line, and its moment as the matches give it
+pub line_given : (command : Command) (stores : Choice) → IsMemoryAlone stores → app_of command ≡ desk stores → (words : List Text) (m replay : ArgMatches)
+    → (is_simple_and_free (app_of command) ≡ true → fault_of (app_of command) words ≡ []) → HasMatchesOf (app_of command) words m
+    → Some (rows_of (found_of replay)) ≡ option_map (λ p. p.1) (subcommand_rows_of m)
+    → (E : Type 0) (G : List ℕ → Result ℕ E → Type 0) (r : Option ℕ) → ((t : List ℕ) → one_text (found_of replay) (codes "at") ≡ Some t → ReadsOne G t r)
+    → ((u : List ℕ) (x : Result ℕ E) → G u x → ParsesUnsigned 64 10 u x) → (n : ℕ) × (r ≡ Some n) × IsLine words (line.Replay n)
+line_given command stores memory is words m replay kinds matches rows E G r value parses =
+    let has = line_read command stores memory is words m replay kinds matches rows in
+    let moment = moment_read E G last_moment has.text r (value has.text has.read) parses has.passed in
+    (moment.0, moment.1, (stores, memory, has.none, has.store, (has.text, has.written, moment.2, moment.3)))

@@ -22,6 +22,6 @@ pub answered : {R W : Type 0} (remaining : R → Option (List ℕ)) (contents : 
     → IsLoadsEnd over_memory remaining contents loads loads_then reader reader_then writer writer_then result
     → IfOk result (λ n. (calls : List Call) × (n ≡ length calls) × IfSome (remaining (inner_of reader)) (λ input. Asks input calls)
     × Appends (contents (inner_of writer)) (contents (inner_of writer_then)) (output no_loads calls))
-answered remaining contents loads loads_then reader reader_then writer writer_then (Ok n) empty end =
-    (end.0, end.1, end.2, (end.3 (memory_is_clean loads_then) no_loads empty).0)
+answered remaining contents loads loads_then reader reader_then writer writer_then (Ok n) new end =
+    (end.0, end.1, end.2, (end.3 (memory_is_clean loads_then) no_loads new).0)
 answered remaining contents loads loads_then reader reader_then writer writer_then (Err why) empty end = tt

@@ -18,7 +18,7 @@ use std::io::{Read, Write};
 
 /// A new store in memory, with no load in it.
 fn new_loads(alloc: Global) -> Result<Loads<MemStore>, LoadsFault>
-    ensures empty { IfOk result IsNewStore }
+    ensures new_store { IfOk result IsNewStore }
     ensures fault { IfErr result IsOfNewStore }
 {
     let Ok(conn) = Connection::open_in_memory(alloc) else {
