@@ -101,7 +101,7 @@ fn read_some<R: Read>(reader: &mut Watched<R>, buf: &mut Vec<u8>) -> Result<bool
     }
 }
 
-/// The number of reads with the next one, where that one is still to be made.
+/// The number of reads with one more, or the stop of a stream that has had its most.
 fn next_read(reads: u64) -> Result<u64, Stop>
     ensures counted { IfOk result (λ n. (n ≡ reads + 1) × (n ≤ 16777216)) }
     ensures ended { IfErr result (λ stop. (stop ≡ Stop.Read) × (16777216 ≤ reads)) }

@@ -67,7 +67,7 @@ impl<T> Watched<T> {
     }
 }
 
-/// Whether a write that took so many of these bytes took none of some.
+/// Whether a write that took so many of the bytes took none, where there were some.
 fn took_none(n: usize, bytes: &[u8]) -> bool
     ensures { result ≡ (n == 0 && not (length bytes.now == 0)) }
 {
