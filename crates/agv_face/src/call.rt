@@ -62,11 +62,18 @@ fn load_member(value: &Value) -> Option<Name>
     name_of(value.get("load")?.as_str()?.as_bytes())
 }
 
+/// Whether it is an object with just one member.
+fn has_one_member(value: &Value) -> bool
+    ensures { result ≡ (member_count (view value.now) == 1) }
+{
+    count_members(value) == 1
+}
+
 /// The load that the object names by its only member.
 fn only_load(value: &Value) -> Option<Name>
     ensures { result ≡ only_load (view value.now) }
 {
-    if count_members(value) == 1 {
+    if has_one_member(value) {
         load_member(value)
     } else {
         None

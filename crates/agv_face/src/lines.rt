@@ -37,7 +37,8 @@ fn with_value<'b>(values: Values<'b>, value: &'b [u8]) -> Values<'b>
 {
     match values {
         Values::Absent => Values::One(value),
-        Values::One(_) | Values::Several => Values::Several,
+        Values::One(_) => Values::Several,
+        Values::Several => Values::Several,
     }
 }
 

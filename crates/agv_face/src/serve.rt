@@ -48,7 +48,8 @@ impl From<Stop> for LoadsFault {
 
     fn from(stop: Stop) -> LoadsFault {
         match stop {
-            Stop::Other | Stop::Read => LoadsFault::Read,
+            Stop::Other => LoadsFault::Read,
+            Stop::Read => LoadsFault::Read,
             Stop::Write => LoadsFault::Write,
             Stop::Memory => LoadsFault::Memory,
             Stop::Storage => LoadsFault::Storage,

@@ -101,6 +101,18 @@ fn read_some<R: Read>(reader: &mut Watched<R>, buf: &mut Vec<u8>) -> Result<bool
     }
 }
 
+/// The number of reads with one more, or the stop of a stream that has had its most.
+fn next_read(reads: u64) -> Result<u64, Stop>
+    ensures counted { IfOk result (λ n. (n ≡ reads + 1) × (n ≤ 16777216)) }
+    ensures ended { IfErr result (λ stop. (stop ≡ Stop.Read) × (16777216 ≤ reads)) }
+{
+    if reads < MOST_READS {
+        Ok(reads + 1)
+    } else {
+        Err(Stop::Read)
+    }
+}
+
 /// Writes all the bytes. A write that takes none is a fault, and so is any error.
 fn write_whole<W: Write>(writer: &mut Watched<W>, bytes: &[u8]) -> Result<(), Stop>
     ensures ends { IsWriteOutcome W.contents writer.old writer.new bytes.now result }
@@ -230,10 +242,7 @@ pub fn answer_calls<S: Alter + Drop, R: Read, W: Write>(
                 answers += 1;
             }
             Step::Need => {
-                if reads >= MOST_READS {
-                    return Err(Stop::Read);
-                }
-                reads += 1;
+                reads = next_read(reads)?;
                 ended = !read_some(reader, &mut buf)?;
             }
         }

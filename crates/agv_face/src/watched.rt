@@ -1,5 +1,5 @@
 //! A reader or a writer whose failures are counted.
-ghost use Rattle.std.specs.Prelude.{◌≡◌, ◌<◌, ◌⊎◌, length, IfOk, OnOk, OnErr, if◌then◌else◌};
+ghost use Rattle.std.specs.Prelude.{◌≡◌, ◌==◌, ◌&&◌, ◌<◌, ◌⊎◌, not, length, IfOk, OnOk, OnErr, if◌then◌else◌};
 ghost use Rattle.std.specs.Io.{ReadsAtMost, WritesAtMost};
 ghost use Rattle.std.specs.Io.KnownBytes.{Keeps, ReadConsumes, WriteAppends};
 
@@ -67,6 +67,13 @@ impl<T> Watched<T> {
     }
 }
 
+/// Whether a write that took so many of the bytes took none, where there were some.
+fn took_none(n: usize, bytes: &[u8]) -> bool
+    ensures { result ≡ (n == 0 && not (length bytes.now == 0)) }
+{
+    n == 0 && !bytes.is_empty()
+}
+
 impl<R: Read> Read for Watched<R> {
     ghost use Rattle.agv_face.specs.Watched.{inner_of, HadCall, FailedOnce, FailedNever};
 
@@ -100,7 +107,7 @@ impl<W: Write> Write for Watched<W> {
     {
         let result = self.inner.write(buf);
         let failed = match &result {
-            Ok(n) => *n == 0 && !buf.is_empty(),
+            Ok(n) => took_none(*n, buf),
             Err(_) => true,
         };
         self.count(failed);

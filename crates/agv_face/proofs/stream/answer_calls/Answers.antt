@@ -14,8 +14,8 @@ use Rattle.agv_face.proofs.stream.answer_calls.Goals as goal
 below : (answers before left reads items len : ℕ) → answers + before ≤ reads * 4096 → before ≡ items → left ≡ items - len → 0 < len → len ≤ items → answers + 1 + left ≤ reads * 4096
 below answers before left reads items len most is after some fits = omega arith
 
-fed : (answers before now reads bytes : ℕ) → answers + before ≤ reads * 4096 → now ≡ before + bytes → bytes ≤ 4096 → answers + now ≤ (reads + 1) * 4096
-fed answers before now reads bytes most is few = omega arith
+fed : (answers before now reads next bytes : ℕ) → answers + before ≤ reads * 4096 → next ≡ reads + 1 → now ≡ before + bytes → bytes ≤ 4096 → answers + now ≤ next * 4096
+fed answers before now reads next bytes most one is few = omega arith
 
 pub loop-buf-init : goal.loop-buf-init
 loop-buf-init g c =
@@ -90,17 +90,21 @@ loop-buf-preserved-in-Answered g c =
     )
 
 -- too many reads
-pub returns-then-reads-ge-MOST_READS-clause-ends :
-    goal.returns-then-reads-ge-MOST_READS-clause-ends
-returns-then-reads-ge-MOST_READS-clause-ends g c =
+pub returns-in_err-reads-in-Need-clause-ends :
+    goal.returns-in_err-reads-in-Need-clause-ends
+returns-in_err-reads-in-Need-clause-ends g c =
     let now = c.loop-buf.invariant in
-    let step = rw (c.in-Need.is, c.deref.ensures.value) at c.in_ok-answer_next.ensures.ends in (
+    let step = rw (c.in-Need.is, c.deref.ensures.value) at c.in_ok-answer_next.ensures.ends in
+    let over = c.in_err-reads-in-Need.ensures.ended in
+    let Ended : Result ℕ Stop → Type 0 = λ result. IsStreamEnd g.S.Store g.R.Read.remaining g.W.Write.contents c.args.loads.now c.answer_next.new.loads c.args.reader.now c.loop-buf.reader c.args.writer.now c.answer_next.new.writer result in
+    let Stopped : Stop → Type 0 = λ stop. Ended (Err stop) in
+    of_same_err _ _ Ended c.from_residual-in_err-reads-in-Need.ensures.1 (subst Stopped (sym over.0) (
       now.0,
       all_so_far _ _ _ _ _ now.0 now.2 step.1.3 (Keeps-refl _),
       (λ clean. answered-none _ _ _ _ _ _ now.0 (now.3.0 (c.in_ok-answer_next.ensures.later.clean clean)) (rw step.1.0 at (step.2 clean))),
-      inr (omega (arith, now.8), now.3.1),
+      inr (omega (arith, now.8, over.1), now.3.1),
       step.3 ∙ now.3.2,
-    )
+    ))
 
 pub returns-in_err-ended-in-Need-clause-ends : goal.returns-in_err-ended-in-Need-clause-ends
 returns-in_err-ended-in-Need-clause-ends g c =
@@ -118,6 +122,7 @@ pub loop-buf-preserved : goal.loop-buf-preserved
 loop-buf-preserved g c =
     let now = c.loop-buf.invariant in
     let step = rw (c.in-Need.is, c.deref.ensures.value) at c.in_ok-answer_next.ensures.ends in
+    let counted = c.in_ok-reads-in-Need.ensures.counted in
     let got = c.in_ok-ended-in-Need.ensures.ends in
     let more : vec_len c.read_some.new.buf ≡ vec_len c.loop-buf.buf + length got.0 =
     c.read_some.new.buf.ok.0 ∙ ap length got.1 ∙ length-append c.loop-buf.buf.items got.0 ∙ ap (λ (n : ℕ). n + length got.0) (sym c.loop-buf.buf.ok.0) in
@@ -133,7 +138,7 @@ loop-buf-preserved g c =
       ),
       later_trans g.S.Store _ _ _ now.4 c.in_ok-answer_next.ensures.later,
       omega (arith, c.in_ok-ended-in-Need.ensures.room, now.5),
-      omega (arith, now.6),
-      fed _ _ _ _ _ now.7 more got.2,
-      omega (arith, now.8, c.in_ok-ended-in-Need.ensures.calls),
+      counted.1,
+      fed _ _ _ _ _ _ now.7 counted.0 more got.2,
+      omega (arith, now.8, counted.0, c.in_ok-ended-in-Need.ensures.calls),
     )
