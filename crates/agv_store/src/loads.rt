@@ -85,7 +85,8 @@ impl<S: Alter + Drop> Loads<S> {
         ensures survives { Survives (state S.Store self.old) (state S.Store self.new)
             (AreLoadsAfter S.Store self.old name) }
     {
-        if self.known(name)? {
+        let is_known = self.known(name)?;
+        if is_known {
             return Ok(Err(Refusal::Exists));
         }
         if self.count >= MOST_LOADS {
