@@ -92,8 +92,10 @@ fn add_row(rows: &mut Vec<LayoutRow>, raw: &ByteRecord) -> Result<(), CsvFault>
     ensures ok { OnOk result (option_map (λ row. rows.old.items ++ row ∷ []) (row_in (fields_of raw.now)) ≡ Some rows.new.items) }
     ensures bad { result ≡ Err CsvFault.BadCsv → row_in (fields_of raw.now) ≡ None }
 {
-    rows.push(row(raw).ok_or(CsvFault::BadCsv)?)?;
-    Ok(())
+    match row(raw) {
+        Some(found) => Ok(rows.push(found)?),
+        None => Err(CsvFault::BadCsv),
+    }
 }
 
 /// The rows that the records say, in order.
@@ -115,8 +117,7 @@ fn rows_under_header(alloc: Global, records: &[ByteRecord]) -> Result<Vec<Layout
     let Some((header, rest)) = records.split_first() else {
         return Err(CsvFault::BadCsv);
     };
-    let has_header = is_header(header);
-    if !has_header {
+    if !is_header(header) {
         return Err(CsvFault::BadCsv);
     }
     rows(alloc, rest)

@@ -1,5 +1,5 @@
 -- What the calls of the registered loads owe: the kept number, the answer, and the rows after a crash.
-use Rattle.std.proofs.Common.{◌≡◌, ◌<◌, ◌≤◌, ◌+◌, ℕ, Bool, true, false, not, cond, List, nat_lt, Ok, Err, Result, OnErr, refl, sym, ap, subst, ◌∙◌, arith}
+use Rattle.std.proofs.Common.{◌≡◌, ◌<◌, ◌≤◌, ◌+◌, ℕ, Bool, true, false, not, cond, List, nat_le, nat_lt, Ok, Err, Result, OnErr, refl, sym, ap, subst, ◌∙◌, arith}
 use Rattle.std.specs.FinSet as set
 use Rattle.std.proofs.lemmas.Bool.Decides.{nat_tests}
 use Rattle.std.proofs.lemmas.Cmp.{nat_list_cmp_total}
@@ -14,6 +14,14 @@ use Rattle.agv_store.specs.Registered.{Registered, no_loads, most_loads, registr
 use Rattle.agv_store.specs.LoadTable.{AreLoads}
 use Rattle.agv_store.specs.HeldLoads.{IsClean, IsOpen, HoldsLoads, HoldsNoSet, AreLoadsAfter, IsCounted}
 use Rattle.agv_store.proofs.Holding.{holds_one_set}
+
+-- ---- whether there is room for one more
+
+pub no_room : (count : ℕ) → true ≡ nat_le most_loads count → most_loads ≤ count
+no_room count is = grind (arith, nat_tests)
+
+pub some_room : (count : ℕ) → false ≡ nat_le most_loads count → count < most_loads
+some_room count is = grind (arith, nat_tests)
 
 -- ---- the answer to a registration
 

@@ -1,21 +1,28 @@
 //! The registered loads, over a connection to the database.
-ghost use Rattle.std.specs.Prelude.{◌≡◌, ◌⊎◌, false, IfOk, IfErr, OnOk, OnErr};
+ghost use Rattle.std.specs.Prelude.{◌≡◌, ◌⊎◌, false, nat_le, IfOk, IfErr, OnOk, OnErr};
 ghost use Rattle.std.specs.FinSet as set;
 ghost use Rattle.sqlite.specs.State.{Survives};
 ghost use Rattle.sqlite.specs.Held.{state};
-ghost use Rattle.agv_store.specs.Registered.{Registered, no_loads, registration_result, after_registration};
+ghost use Rattle.agv_store.specs.Registered.{Registered, no_loads, most_loads, registration_result, after_registration};
 ghost use Rattle.agv_store.specs.LoadTable.{no_tables, AreLoads};
 ghost use Rattle.agv_store.specs.RefusedRow.{IsRowRefused};
 ghost use Rattle.agv_store.specs.HeldLoads.{IsClean, IsOpen, IsLater, HasStorageCause, HoldsLoads, HoldsSome, HoldsNoSet, KeepsLoads, AreLoadsAfter};
 
 use crate::Fault;
-use crate::statements::{create_table, find_load, insert_load};
+use crate::statements::{create_table, find_load, has_row, insert_load};
 use agv_header::{Name, Refusal};
 use sqlite::{Alter, Connection};
 use std::marker::Model;
 
 /// The most loads that a desk keeps.
 const MOST_LOADS: u64 = 1_000_000;
+
+/// Whether a desk that keeps so many loads takes no other.
+fn is_full(count: u64) -> bool
+    ensures { result ≡ nat_le most_loads count }
+{
+    count >= MOST_LOADS
+}
 
 /// The registered loads. In a clause they are what their connection holds, of which
 /// `HoldsLoads` says the set of names.
@@ -85,10 +92,11 @@ impl<S: Alter + Drop> Loads<S> {
         ensures survives { Survives (state S.Store self.old) (state S.Store self.new)
             (AreLoadsAfter S.Store self.old name) }
     {
-        if self.known(name)? {
+        let is_known = self.known(name)?;
+        if is_known {
             return Ok(Err(Refusal::Exists));
         }
-        if self.count >= MOST_LOADS {
+        if is_full(self.count) {
             return Ok(Err(Refusal::Limit));
         }
         insert_load(&mut self.conn, name.as_str())?;
@@ -116,6 +124,6 @@ impl<S: Alter + Drop> Loads<S> {
             (λ _. HoldsNoSet S.Store self.old) }
     {
         let rows = find_load(&mut self.conn, name.as_str())?;
-        Ok(!rows.is_empty())
+        Ok(has_row(&rows))
     }
 }

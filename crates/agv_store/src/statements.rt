@@ -62,3 +62,10 @@ pub(crate) fn find_load<S: Alter>(conn: &mut Connection<S>, name: &str) -> Resul
 {
     conn.query_all("SELECT id FROM load WHERE id = ?1", params![name])
 }
+
+/// Whether a row is there.
+pub(crate) fn has_row(rows: &Vec<Row>) -> bool
+    ensures { result ≡ not (vec_len rows.now == 0) }
+{
+    !rows.is_empty()
+}
