@@ -1,5 +1,5 @@
 //! The statements of SQL on the table `load`, each in one call of the database.
-ghost use Rattle.std.specs.Prelude.{◌≡◌, ◌⊎◌, ◌==◌, false, not, vec_len, IfOk, OnOk, OnErr, IfErr};
+ghost use Rattle.std.specs.Prelude.{◌≡◌, ◌⊎◌, ◌==◌, false, length, not, vec_len, IfOk, OnOk, OnErr, IfErr};
 ghost use Rattle.std.specs.FinSet as set;
 ghost use Rattle.sqlite.specs.State.{Survives};
 ghost use Rattle.sqlite.specs.Held.{state};
@@ -64,8 +64,8 @@ pub(crate) fn find_load<S: Alter>(conn: &mut Connection<S>, name: &str) -> Resul
 }
 
 /// Whether a row is there.
-pub(crate) fn has_row(rows: &Vec<Row>) -> bool
-    ensures { result ≡ not (vec_len rows.now == 0) }
+pub(crate) fn has_row(rows: &[Row]) -> bool
+    ensures { result ≡ not (length rows.now == 0) }
 {
     !rows.is_empty()
 }

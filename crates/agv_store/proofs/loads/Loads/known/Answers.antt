@@ -1,4 +1,4 @@
-use Rattle.std.proofs.Common.{not, sym, ap, subst, ◌∙◌}
+use Rattle.std.proofs.Common.{◌==◌, ℕ, not, sym, ap, subst, ◌∙◌}
 use Rattle.std.specs.FinSet as set
 use Rattle.sqlite.specs.Held.{state}
 use Rattle.sqlite.specs.State.{Survives}
@@ -29,7 +29,7 @@ invariant_of-self-2 g c =
 pub returns-clause-answers : goal.returns-clause-answers
 returns-clause-answers g c clean loads h =
     let was = subst (λ held. HoldsLoads g.S.Store held loads) (sym c.self.view_is) h in (
-      c.has_row.ensures ∙ ap not (c.in_ok-rows.ensures.found clean loads was) ∙ not_not _ ∙ ap (set.contains loads) c.as_str.ensures.text,
+      c.has_row.ensures ∙ ap (λ (n : ℕ). not (n == 0)) c.deref.ensures.len ∙ ap not (c.in_ok-rows.ensures.found clean loads was) ∙ not_not _ ∙ ap (set.contains loads) c.as_str.ensures.text,
       c.find_load.ensures.kept clean (c.in_ok-rows.ensures.still_open clean) loads was,
     )
 
