@@ -168,29 +168,22 @@ fn header_numbers(rt: HostRuntime) {
 }
 
 /// A refusal, and its number, name and status.
-const REFUSALS: [(Refusal, &str); 6] = [
-    (Refusal::BadHead, "1 BadHead 400"),
-    (Refusal::BadMethod { allow: Verb::Get }, "6 BadMethod 405"),
-    (Refusal::Version, "12 Version 422"),
-    (Refusal::Exists, "30 Exists 409"),
-    (Refusal::WrongUpdate { sent: 1 }, "44 WrongUpdate 409"),
-    (Refusal::Storage, "91 Storage 503"),
+const REFUSALS: [(Refusal, u8, &str, u16); 6] = [
+    (Refusal::BadHead, 1, "BadHead", 400),
+    (Refusal::BadMethod { allow: Verb::Get }, 6, "BadMethod", 405),
+    (Refusal::Version, 12, "Version", 422),
+    (Refusal::Exists, 30, "Exists", 409),
+    (Refusal::WrongUpdate { sent: 1 }, 44, "WrongUpdate", 409),
+    (Refusal::Storage, 91, "Storage", 503),
 ];
 
-fn row_of(rt: &impl Abort, alloc: Global, refusal: &Refusal) -> String {
-    let row = format!(in alloc;
-        "{} {} {}",
-        refusal.number(),
-        refusal.name(),
-        refusal.status()
-    );
-    row.expect(rt, "memory")
+fn is_row(refusal: &Refusal, number: u8, name: &str, status: u16) -> bool {
+    refusal.number() == number && refusal.name() == name && refusal.status() == status
 }
 
 #[test]
 fn refusals(rt: HostRuntime) {
-    for (refusal, wanted) in &REFUSALS {
-        let found = row_of(&rt, rt.alloc(), refusal);
-        check_text(&rt, found.as_str(), wanted, "a refusal");
+    for (refusal, number, name, status) in &REFUSALS {
+        check(&rt, is_row(refusal, *number, name, *status), name);
     }
 }
