@@ -167,23 +167,28 @@ fn header_numbers(rt: HostRuntime) {
     check(&rt, beyond == None, "beyond the last");
 }
 
-/// A refusal, and its number, name and status.
-const REFUSALS: [(Refusal, u8, &str, u16); 6] = [
-    (Refusal::BadHead, 1, "BadHead", 400),
-    (Refusal::BadMethod { allow: Verb::Get }, 6, "BadMethod", 405),
-    (Refusal::Version, 12, "Version", 422),
-    (Refusal::Exists, 30, "Exists", 409),
-    (Refusal::WrongUpdate { sent: 1 }, 44, "WrongUpdate", 409),
-    (Refusal::Storage, 91, "Storage", 503),
+/// The number, the name and the status of a refusal.
+type Row = (u8, &'static str, u16);
+
+const REFUSALS: [(Refusal, Row); 6] = [
+    (Refusal::BadHead, (1, "BadHead", 400)),
+    (
+        Refusal::BadMethod { allow: Verb::Get },
+        (6, "BadMethod", 405),
+    ),
+    (Refusal::Version, (12, "Version", 422)),
+    (Refusal::Exists, (30, "Exists", 409)),
+    (Refusal::WrongUpdate { sent: 1 }, (44, "WrongUpdate", 409)),
+    (Refusal::Storage, (91, "Storage", 503)),
 ];
 
-fn is_row(refusal: &Refusal, number: u8, name: &str, status: u16) -> bool {
-    refusal.number() == number && refusal.name() == name && refusal.status() == status
+fn has_row(refusal: &Refusal, row: &Row) -> bool {
+    refusal.number() == row.0 && refusal.name() == row.1 && refusal.status() == row.2
 }
 
 #[test]
 fn refusals(rt: HostRuntime) {
-    for (refusal, number, name, status) in &REFUSALS {
-        check(&rt, is_row(refusal, *number, name, *status), name);
+    for (refusal, row) in &REFUSALS {
+        check(&rt, has_row(refusal, row), row.1);
     }
 }

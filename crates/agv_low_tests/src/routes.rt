@@ -166,7 +166,7 @@ fn compare(
 {
     let wanted = way(alloc, layout, rows, from, to).expect(rt, "memory");
     let found = layout.route(alloc, from, to).expect(rt, "memory");
-    assert!(rt; found == wanted, "{from} to {to} in {rows:?}");
+    check(rt, found == wanted, "the first of all walks");
     let hops = layout.hops(alloc, from, to).expect(rt, "memory");
     check(
         rt,
