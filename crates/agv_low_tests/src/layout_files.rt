@@ -1,14 +1,13 @@
 //! Layout files, with rows worked out by hand.
 
-use crate::cases::check_text;
+use crate::cases::check_debug;
 use agv_count::read_layout;
 use std::alloc::Global;
 use std::process::Abort;
 
 /// Compares what becomes of a file, its rows in order or the fault, with what is wanted.
 fn check_file(rt: &impl Abort, alloc: Global, file: &[u8], wanted: &str, case: &str) {
-    let found = format!(in alloc; "{:?}", read_layout(alloc, file)).expect(rt, "memory");
-    check_text(rt, found.as_str(), wanted, case);
+    check_debug(rt, alloc, &read_layout(alloc, file), wanted, case);
 }
 
 /// The rows of the warehouse of the examples.

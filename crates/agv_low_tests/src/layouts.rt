@@ -1,6 +1,6 @@
 //! Layouts: what they say of a name, and each reason why rows give none.
 
-use crate::cases::{check, check_text, name};
+use crate::cases::{check, check_debug, name};
 use agv_count::read_layout;
 use agv_layout::{Layout, LayoutFault, LayoutRow};
 use std::alloc::Global;
@@ -34,70 +34,65 @@ pub(crate) fn layout(rt: &impl Abort, alloc: Global, file: &str) -> Layout {
     layout_of(rt, alloc, &rows(rt, alloc, file))
 }
 
-/// What a layout says of a name: whether it is a node, the edge and the station.
-fn said(rt: &impl Abort, alloc: Global, layout: &Layout, id: &str) -> String {
-    let id = name(rt, id);
-    let said = format!(in alloc;
-        "{} {:?} {:?}",
-        layout.node(id),
-        layout.edge(id),
-        layout.station(id)
-    );
-    said.expect(rt, "memory")
+/// Compares what a layout says of a name, whether it is a node, the edge and the station, with what is
+/// wanted.
+fn check_said(rt: &impl Abort, alloc: Global, layout: &Layout, text: &str, wanted: &str) {
+    let id = name(rt, text);
+    let said = (layout.node(id), layout.edge(id), layout.station(id));
+    check_debug(rt, alloc, &said, wanted, text);
 }
 
 /// What the layout of the examples says of names.
 const SAID: [(&str, &str); 14] = [
-    ("N1", "true None None"),
-    ("N2", "true None None"),
-    ("N3", "true None None"),
+    ("N1", "(true, None, None)"),
+    ("N2", "(true, None, None)"),
+    ("N3", "(true, None, None)"),
     (
         "E12",
-        "false Some(Edge { id: E12, start: N1, finish: N2 }) None",
+        "(false, Some(Edge { id: E12, start: N1, finish: N2 }), None)",
     ),
     (
         "E21",
-        "false Some(Edge { id: E21, start: N2, finish: N1 }) None",
+        "(false, Some(Edge { id: E21, start: N2, finish: N1 }), None)",
     ),
     (
         "E23",
-        "false Some(Edge { id: E23, start: N2, finish: N3 }) None",
+        "(false, Some(Edge { id: E23, start: N2, finish: N3 }), None)",
     ),
     (
         "E32",
-        "false Some(Edge { id: E32, start: N3, finish: N2 }) None",
+        "(false, Some(Edge { id: E32, start: N3, finish: N2 }), None)",
     ),
     (
         "A",
-        "false None Some(Station { id: A, node: N1, capacity: 1 })",
+        "(false, None, Some(Station { id: A, node: N1, capacity: 1 }))",
     ),
     (
         "B",
-        "false None Some(Station { id: B, node: N3, capacity: 1 })",
+        "(false, None, Some(Station { id: B, node: N3, capacity: 1 }))",
     ),
     (
         "C",
-        "false None Some(Station { id: C, node: N3, capacity: 2 })",
+        "(false, None, Some(Station { id: C, node: N3, capacity: 2 }))",
     ),
-    ("N4", "false None None"),
-    ("n1", "false None None"),
-    ("E13", "false None None"),
-    ("D", "false None None"),
+    ("N4", "(false, None, None)"),
+    ("n1", "(false, None, None)"),
+    ("E13", "(false, None, None)"),
+    ("D", "(false, None, None)"),
 ];
 
-fn check_said(rt: &impl Abort, alloc: Global, layout: &Layout, which: &str) {
+fn check_names(rt: &impl Abort, alloc: Global, layout: &Layout) {
     for (id, wanted) in &SAID {
-        let found = said(rt, alloc, layout, id);
-        assert!(rt; found.as_str() == *wanted, "{id}, in {which}: {found}");
+        check_said(rt, alloc, layout, id, wanted);
     }
 }
 
 /// Compares what the layout of the rows says, and what its copy says.
 fn check_layout(rt: &impl Abort, alloc: Global, rows: &[LayoutRow]) {
     let layout = layout_of(rt, alloc, rows);
-    check_said(rt, alloc, &layout, "the layout");
+    check_names(rt, alloc, &layout);
     let copy = layout.copy().expect(rt, "memory");
-    check_said(rt, alloc, &copy, "the copy");
+    check_names(rt, alloc, &copy);
 }
 
 /// The layout of the examples, its rows in order and in reverse, and a copy of each.
@@ -119,12 +114,12 @@ station,X,Y,999
 
 #[test]
 fn one_id_in_three_kinds(rt: HostRuntime) {
-    let layout = layout(&rt, rt.alloc(), ONE_NAME);
-    check_text(
+    check_said(
         &rt,
-        said(&rt, rt.alloc(), &layout, "X").as_str(),
-        "true Some(Edge { id: X, start: X, finish: Y }) Some(Station { id: X, node: Y, capacity: 999 })",
+        rt.alloc(),
+        &layout(&rt, rt.alloc(), ONE_NAME),
         "X",
+        "(true, Some(Edge { id: X, start: X, finish: Y }), Some(Station { id: X, node: Y, capacity: 999 }))",
     );
 }
 

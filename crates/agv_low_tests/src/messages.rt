@@ -25,8 +25,10 @@ const AT_REST: &str = concat!(
 );
 
 fn state_of(alloc: Global, text: &str) -> Result<StateMessage, BodyFault> {
-    let body = read_body(alloc, text.as_bytes())?;
-    read_state(alloc, &body)
+    match read_body(alloc, text.as_bytes()) {
+        Ok(body) => read_state(alloc, &body),
+        Err(fault) => Err(fault),
+    }
 }
 
 /// The state that the text is, or why it is none.
@@ -34,27 +36,23 @@ fn said(rt: &impl Abort, alloc: Global, text: &str) -> String {
     format!(in alloc; "{:?}", state_of(alloc, text)).expect(rt, "memory")
 }
 
-fn fault_name(fault: BodyFault) -> &'static str {
+/// The name of the refusal, or `read` where there is no fault.
+fn fault_name(fault: Option<BodyFault>) -> &'static str {
     match fault {
-        BodyFault::Refused(refusal) => refusal.name(),
-        BodyFault::Memory => "an allocation failed",
+        None => "read",
+        Some(BodyFault::Refused(refusal)) => refusal.name(),
+        Some(BodyFault::Memory) => "an allocation failed",
     }
 }
 
 /// The name of the refusal that the text earns as a state, or `read`.
 fn verdict(alloc: Global, text: &str) -> &'static str {
-    let Err(fault) = state_of(alloc, text) else {
-        return "read";
-    };
-    fault_name(fault)
+    fault_name(state_of(alloc, text).err())
 }
 
 /// The name of the refusal that the bytes earn as a body, or `read`.
 pub(crate) fn body_verdict(alloc: Global, bytes: &[u8]) -> &'static str {
-    let Err(fault) = read_body(alloc, bytes) else {
-        return "read";
-    };
-    fault_name(fault)
+    fault_name(read_body(alloc, bytes).err())
 }
 
 /// The state with one part of its text replaced.
@@ -195,7 +193,8 @@ const READINESS: [(&str, &str, &str); 12] = [
 fn check_end(rt: &impl Abort, alloc: Global, old: &str, new: &str, end: &str) {
     let text = changed(rt, alloc, old, new);
     let found = said(rt, alloc, text.as_str());
-    assert!(rt; found.as_str().ends_with(end), "{new}: {found}");
+    let is_end = found.as_bytes().ends_with(end.as_bytes());
+    check(rt, is_end, new);
 }
 
 #[test]

@@ -2,7 +2,7 @@
 //! walks, and on the largest.
 ghost use Rattle.agv_layout.specs.Rows.{IsLayoutOf};
 
-use crate::cases::{check, check_text, name};
+use crate::cases::{check, check_debug, name};
 use crate::layouts::{WAREHOUSE, layout, layout_of};
 use crate::listing::way;
 use agv_header::Name;
@@ -39,30 +39,29 @@ edge,a1,P,Q
 
 /// A layout file, from where, to where, and how many edges and which are the way.
 const WAYS: [(&str, &str, &str, &str); 7] = [
-    (SQUARE, "P", "S", "Some(2) Some([a1, b1])"),
-    (PARALLEL, "P", "Q", "Some(1) Some([x1])"),
-    (ONE_WAY, "Q", "P", "None None"),
-    (WAREHOUSE, "N1", "N3", "Some(2) Some([E12, E23])"),
-    (WAREHOUSE, "N2", "N2", "Some(0) Some([])"),
-    (WAREHOUSE, "N1", "N9", "None None"),
-    (WAREHOUSE, "N9", "N1", "None None"),
+    (SQUARE, "P", "S", "(Some(2), Some([a1, b1]))"),
+    (PARALLEL, "P", "Q", "(Some(1), Some([x1]))"),
+    (ONE_WAY, "Q", "P", "(None, None)"),
+    (WAREHOUSE, "N1", "N3", "(Some(2), Some([E12, E23]))"),
+    (WAREHOUSE, "N2", "N2", "(Some(0), Some([]))"),
+    (WAREHOUSE, "N1", "N9", "(None, None)"),
+    (WAREHOUSE, "N9", "N1", "(None, None)"),
 ];
 
-/// How many edges the way from one node to another has, and their names.
-fn said(rt: &impl Abort, alloc: Global, file: &str, from: &str, to: &str) -> String {
+/// Compares how many edges the way from one node to another has, and their names, with what is wanted.
+fn check_way(rt: &impl Abort, alloc: Global, file: &str, from: &str, to: &str, wanted: &str) {
     let layout = layout(rt, alloc, file);
-    let from = name(rt, from);
-    let to = name(rt, to);
-    let hops = layout.hops(alloc, from, to).expect(rt, "memory");
-    let route = layout.route(alloc, from, to).expect(rt, "memory");
-    format!(in alloc; "{hops:?} {route:?}").expect(rt, "memory")
+    let start = name(rt, from);
+    let finish = name(rt, to);
+    let hops = layout.hops(alloc, start, finish).expect(rt, "memory");
+    let route = layout.route(alloc, start, finish).expect(rt, "memory");
+    check_debug(rt, alloc, &(hops, route), wanted, to);
 }
 
 #[test]
 fn on_small_layouts(rt: HostRuntime) {
     for (file, from, to, wanted) in &WAYS {
-        let found = said(&rt, rt.alloc(), file, from, to);
-        check_text(&rt, found.as_str(), wanted, to);
+        check_way(&rt, rt.alloc(), file, from, to, wanted);
     }
 }
 
@@ -167,7 +166,7 @@ fn compare(
 {
     let wanted = way(alloc, layout, rows, from, to).expect(rt, "memory");
     let found = layout.route(alloc, from, to).expect(rt, "memory");
-    assert!(rt; found == wanted, "{from} to {to} in {rows:?}");
+    check(rt, found == wanted, "the first of all walks");
     let hops = layout.hops(alloc, from, to).expect(rt, "memory");
     check(
         rt,

@@ -67,22 +67,49 @@ fn worked_example_by_calls(rt: HostRuntime) {
     check(&rt, out.inner().as_slice() == FIRST_ANSWERS, "the answers");
 }
 
+/// Gives so many bytes at a read, of which the one after these reads fails.
+fn drip(bytes: &[u8], step: usize, reads: u32) -> Watched<Drip<'_>> {
+    Watched::new(Drip { bytes, step, reads })
+}
+
+/// Takes so many bytes at a write, of which the one after these writes fails.
+fn trickle(alloc: Global, step: usize, writes: u32) -> Watched<Trickle> {
+    Watched::new(Trickle {
+        taken: Vec::new(alloc),
+        step,
+        writes,
+    })
+}
+
+/// Serves what the reader gives on these loads, and compares the end and the answers.
+fn check_loads(
+    rt: &impl Abort,
+    alloc: Global,
+    loads: &mut Loads<MemStore>,
+    reader: &mut Watched<Drip<'_>>,
+    writer: &mut Watched<Trickle>,
+    end: Result<u64, LoadsFault>,
+    answers: &[u8],
+) {
+    let served = serve_loads(alloc, loads, reader, writer);
+    check(rt, served == end, "the number of the answers, or the fault");
+    let taken = writer.inner().taken.as_slice();
+    check(rt, taken == answers, "the answers");
+}
+
 fn check_in_pieces(rt: &impl Abort, alloc: Global, read: usize, write: usize) {
     let mut loads = no_loads(rt, alloc);
-    let mut reader = Watched::new(Drip {
-        bytes: FIRST,
-        step: read,
-        reads: 1000,
-    });
-    let mut writer = Watched::new(Trickle {
-        taken: Vec::new(alloc),
-        step: write,
-        writes: 1000,
-    });
-    let served = serve_loads(alloc, &mut loads, &mut reader, &mut writer);
-    check(rt, served == Ok(2), "the number of the answers");
-    let taken = writer.inner().taken.as_slice();
-    check(rt, taken == FIRST_ANSWERS, "the answers");
+    let mut reader = drip(FIRST, read, 1000);
+    let mut writer = trickle(alloc, write, 1000);
+    check_loads(
+        rt,
+        alloc,
+        &mut loads,
+        &mut reader,
+        &mut writer,
+        Ok(2),
+        FIRST_ANSWERS,
+    );
     check(rt, writer.flush().is_ok(), "a flush");
     check(rt, reader.failures() == 0, "no read fails");
     check(rt, writer.failures() == 0, "no write fails");
@@ -118,13 +145,20 @@ fn answers_before_it_reads_on(rt: HostRuntime) {
     check(&rt, written.get() == FIRST_ANSWERS.len(), "the answers");
 }
 
-/// `FIRST` by such steps, of which the one after these reads fails.
-fn failing<'b>(step: usize, reads: u32) -> Watched<Drip<'b>> {
-    Watched::new(Drip {
-        bytes: FIRST,
-        step,
-        reads,
-    })
+/// Serves what the reader gives, and compares the end and the answers.
+fn check_calls(
+    rt: &impl Abort,
+    alloc: Global,
+    loads: &mut Loads<MemStore>,
+    reader: &mut Watched<Drip<'_>>,
+    end: Result<u64, Stop>,
+    answers: &[u8],
+) {
+    let mut writer = trickle(alloc, 4096, 1000);
+    let served = answer_calls(alloc, loads, reader, &mut writer);
+    check(rt, served == end, "the end of the stream");
+    let taken = writer.inner().taken.as_slice();
+    check(rt, taken == answers, "the answers");
 }
 
 /// Stops after the reads with these answers, and serves what is left as the next stream.
@@ -134,61 +168,66 @@ fn check_failing_reader(
     reads: u32,
     answers: &[u8],
     next: Result<u64, LoadsFault>,
+    next_answers: &[u8],
 ) {
     let mut loads = no_loads(rt, alloc);
-    let mut reader = failing(20, reads);
-    let mut out = Watched::new(Vec::new(alloc));
-    let served = answer_calls(alloc, &mut loads, &mut reader, &mut out);
-    check(rt, served == Err(Stop::Read), "the reader failed");
-    check(rt, out.inner().as_slice() == answers, "the answers so far");
+    let mut reader = drip(FIRST, 20, reads);
+    check_calls(rt, alloc, &mut loads, &mut reader, Err(Stop::Read), answers);
     check(rt, reader.failures() == 1, "one read failed");
-    let mut out = Watched::new(Vec::new(alloc));
-    let served = serve_loads(alloc, &mut loads, &mut reader, &mut out);
-    check(rt, served == next, "the next stream");
-    let is_first = out.inner().as_slice() == FIRST_ANSWERS;
-    check(rt, is_first == next.is_ok(), "the answers of the next");
+    let mut writer = trickle(alloc, 4096, 1000);
+    check_loads(
+        rt,
+        alloc,
+        &mut loads,
+        &mut reader,
+        &mut writer,
+        next,
+        next_answers,
+    );
     check(rt, reader.failures() == 1, "no other read failed");
 }
 
 /// A reader that fails at its first, its second and a later read, and then works again, leaves the
 /// answers so far. The reads give 20 bytes each, so the third completes the first request, of 57 bytes.
-/// What such a read gave is lost: but for the first, the next stream begins within a request.
+/// What such a read gave is lost: but for the first, the next stream begins within a request, and no answer
+/// is written to it.
 #[test]
 fn failing_reader(rt: HostRuntime) {
-    check_failing_reader(&rt, rt.alloc(), 0, b"", Ok(2));
-    check_failing_reader(&rt, rt.alloc(), 1, b"", Err(LoadsFault::Read));
-    check_failing_reader(&rt, rt.alloc(), 3, DONE, Err(LoadsFault::Read));
+    let lost = Err(LoadsFault::Read);
+    check_failing_reader(&rt, rt.alloc(), 0, b"", Ok(2), FIRST_ANSWERS);
+    check_failing_reader(&rt, rt.alloc(), 1, b"", lost, b"");
+    check_failing_reader(&rt, rt.alloc(), 3, DONE, lost, b"");
 }
 
 /// The same told by the call that the program makes.
 #[test]
 fn failing_reader_of_loads(rt: HostRuntime) {
-    let mut loads = no_loads(&rt, rt.alloc());
-    let mut reader = failing(57, 1);
-    let mut out = Watched::new(Vec::new(rt.alloc()));
-    let served = serve_loads(rt.alloc(), &mut loads, &mut reader, &mut out);
-    check(&rt, served == Err(LoadsFault::Read), "the reader failed");
-    check(&rt, out.inner().as_slice() == DONE, "the answers so far");
+    check_loads(
+        &rt,
+        rt.alloc(),
+        &mut no_loads(&rt, rt.alloc()),
+        &mut drip(FIRST, 57, 1),
+        &mut trickle(rt.alloc(), 4096, 1000),
+        Err(LoadsFault::Read),
+        DONE,
+    );
 }
 
 /// Takes so many bytes at each of these writes, and none after, and holds so many in the end.
 fn check_failing_writer(rt: &impl Abort, alloc: Global, step: usize, writes: u32, taken: usize) {
-    let mut loads = no_loads(rt, alloc);
-    let mut reader = Watched::new(FIRST);
-    let mut writer = Watched::new(Trickle {
-        taken: Vec::new(alloc),
-        step,
-        writes,
-    });
-    let served = serve_loads(alloc, &mut loads, &mut reader, &mut writer);
-    check(rt, served == Err(LoadsFault::Write), "the writer failed");
-    check(rt, writer.failures() == 1, "one write failed");
-    let front = FIRST_ANSWERS.get(..taken);
-    check(
+    let mut writer = trickle(alloc, step, writes);
+    check_loads(
         rt,
-        Some(writer.inner().taken.as_slice()) == front,
-        "a front of the answers",
+        alloc,
+        &mut no_loads(rt, alloc),
+        &mut drip(FIRST, 4096, 1000),
+        &mut writer,
+        Err(LoadsFault::Write),
+        FIRST_ANSWERS
+            .get(..taken)
+            .expect(rt, "a front of the answers"),
     );
+    check(rt, writer.failures() == 1, "one write failed");
 }
 
 /// A writer that fails at its first, its second and a later write, and would take the rest, and one that
@@ -220,30 +259,21 @@ fn first_and(rt: &impl Abort, alloc: Global, other: &[u8]) -> Vec<u8> {
     input
 }
 
-/// Behind `FIRST` and alone, other input has no answer.
+/// Behind `FIRST` and alone, on the same loads, other input has no answer.
 fn check_other(rt: &impl Abort, alloc: Global, other: &[u8]) {
     let mut loads = no_loads(rt, alloc);
     let input = first_and(rt, alloc, other);
-    let mut reader = Watched::new(input.as_slice());
-    let mut out = Watched::new(Vec::new(alloc));
-    let served = answer_calls(alloc, &mut loads, &mut reader, &mut out);
-    check(rt, served == Err(Stop::Other), "the other form");
-    check(
+    let mut reader = drip(input.as_slice(), 4096, 1000);
+    let end = Err(Stop::Other);
+    check_calls(rt, alloc, &mut loads, &mut reader, end, FIRST_ANSWERS);
+    check_loads(
         rt,
-        out.inner().as_slice() == FIRST_ANSWERS,
-        "the answers before it",
-    );
-    let mut reader = Watched::new(other);
-    let served = serve_loads(alloc, &mut loads, &mut reader, &mut out);
-    check(
-        rt,
-        served == Err(LoadsFault::Read),
-        "the fault of the other form",
-    );
-    check(
-        rt,
-        out.inner().as_slice() == FIRST_ANSWERS,
-        "nothing more is written",
+        alloc,
+        &mut loads,
+        &mut drip(other, 4096, 1000),
+        &mut trickle(alloc, 4096, 1000),
+        Err(LoadsFault::Read),
+        b"",
     );
     has_a_cut(other);
 }
@@ -282,15 +312,8 @@ fn check_beginning(
     answers: &[u8],
 ) {
     let mut loads = no_loads(rt, alloc);
-    let mut reader = Watched::new(Drip {
-        bytes,
-        step: 4096,
-        reads,
-    });
-    let mut out = Watched::new(Vec::new(alloc));
-    let served = answer_calls(alloc, &mut loads, &mut reader, &mut out);
-    check(rt, served == end, "the end of the stream");
-    check(rt, out.inner().as_slice() == answers, "the answers");
+    let mut reader = drip(bytes, 4096, reads);
+    check_calls(rt, alloc, &mut loads, &mut reader, end, answers);
 }
 
 /// More is waited for, or the input ends, within a request or behind one.
