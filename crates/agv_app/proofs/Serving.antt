@@ -24,4 +24,4 @@ pub answered : {R W : Type 0} (remaining : R → Option (List ℕ)) (contents : 
     × Appends (contents (inner_of writer)) (contents (inner_of writer_then)) (output no_loads calls))
 answered remaining contents loads loads_then reader reader_then writer writer_then (Ok n) new end =
     (end.0, end.1, end.2, (end.3 (memory_is_clean loads_then) no_loads new).0)
-answered remaining contents loads loads_then reader reader_then writer writer_then (Err why) empty end = tt
+answered remaining contents loads loads_then reader reader_then writer writer_then (Err why) new end = tt

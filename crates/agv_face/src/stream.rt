@@ -102,7 +102,7 @@ fn read_some<R: Read>(reader: &mut Watched<R>, buf: &mut Vec<u8>) -> Result<bool
 }
 
 /// The number of reads with one more, or the stop of a stream that has had its most.
-fn next_read(reads: u64) -> Result<u64, Stop>
+fn count_read(reads: u64) -> Result<u64, Stop>
     ensures counted { IfOk result (λ n. (n ≡ reads + 1) × (n ≤ 16777216)) }
     ensures ended { IfErr result (λ stop. (stop ≡ Stop.Read) × (16777216 ≤ reads)) }
 {
@@ -242,7 +242,7 @@ pub fn answer_calls<S: Alter + Drop, R: Read, W: Write>(
                 answers += 1;
             }
             Step::Need => {
-                reads = next_read(reads)?;
+                reads = count_read(reads)?;
                 ended = !read_some(reader, &mut buf)?;
             }
         }

@@ -1,4 +1,4 @@
-//! The statements of SQL on the table `load`, each in one call of the database.
+//! The statements of SQL on the table `load`, each in one call of the database, and whether a row was found.
 ghost use Rattle.std.specs.Prelude.{◌≡◌, ◌⊎◌, ◌==◌, false, length, not, vec_len, IfOk, OnOk, OnErr, IfErr};
 ghost use Rattle.std.specs.FinSet as set;
 ghost use Rattle.sqlite.specs.State.{Survives};

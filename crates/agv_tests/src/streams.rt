@@ -25,7 +25,7 @@ const FIRST_ANSWERS: &[u8] =
 
 /// Registers L1 again, asks where it stands, and asks for a load that isn't there.
 const AGAIN: &[u8] =
-    b"POST /loads HTTP/1.1\r\nContent-Length: 13\r\n\r\n{\"load\":\"L1\"}GET /loads/L1?x=1 HTTP/1.1\r\nHost: desk\r\n\r\nGET /loads/L9 HTTP/1.1\r\n\r\n";
+    b"POST /loads HTTP/1.1\r\nContent-Length: 13\r\n\r\n{\"load\":\"L1\"}GET /loads/L1 HTTP/1.1\r\n\r\nGET /loads/L9?x=1 HTTP/1.1\r\nHost: desk\r\n\r\n";
 
 const AGAIN_ANSWERS: &[u8] =
     b"HTTP/1.1 409 Conflict\r\nContent-Length: 30\r\nContent-Type: application/json\r\n\r\n{\"name\":\"Exists\",\"refusal\":30}HTTP/1.1 200 OK\r\nContent-Length: 43\r\nContent-Type: application/json\r\n\r\n{\"job\":null,\"load\":\"L1\",\"place\":\"checking\"}HTTP/1.1 404 Not Found\r\nContent-Length: 30\r\nContent-Type: application/json\r\n\r\n{\"name\":\"NoLoad\",\"refusal\":23}";
@@ -67,12 +67,12 @@ fn worked_example_by_calls(rt: HostRuntime) {
     check(&rt, out.inner().as_slice() == FIRST_ANSWERS, "the answers");
 }
 
-/// Gives so many bytes at a read, of which the one after these reads fails.
+/// A reader that gives at most `step` bytes at a read, and fails at the read after `reads`.
 fn drip(bytes: &[u8], step: usize, reads: u32) -> Watched<Drip<'_>> {
     Watched::new(Drip { bytes, step, reads })
 }
 
-/// Takes so many bytes at a write, of which the one after these writes fails.
+/// A writer that takes at most `step` bytes at a write, and fails at the write after `writes`.
 fn trickle(alloc: Global, step: usize, writes: u32) -> Watched<Trickle> {
     Watched::new(Trickle {
         taken: Vec::new(alloc),

@@ -1,5 +1,5 @@
 use Rattle.std.proofs.Common.{refl}
-use Rattle.agv_face.proofs.stream.next_read.Goals as goal
+use Rattle.agv_face.proofs.stream.count_read.Goals as goal
 
 -- the stream has had its reads
 pub returns-else-reads-lt-MOST_READS : goal.returns-else-reads-lt-MOST_READS
