@@ -22,13 +22,17 @@ Choice = Bor (List (Bor Text))
 abbrev pub IsMemoryAlone : Choice → Type 0
 IsMemoryAlone stores = map (λ name. name.now) stores.now ≡ codes "memory" ∷ []
 
--- `--db STORE`, which has to be there
-abbrev pub db : Choice → Rule
-db stores = record (new_rule (codes "db")) { long = Some (codes "db"); action = Some Set; value_names = 1; parser = Some (Names stores); required = true }
+-- a required option
+abbrev pub required_option : Text → Rule
+required_option name = record (new_rule name) { long = Some name; action = Some Set; required = true }
 
--- `--at MILLIS`, which has to be there: a number of the range
+-- `--db STORE`, one value
+abbrev pub db : Choice → Rule
+db stores = record (required_option (codes "db")) { value_names = 1; parser = Some (Names stores) }
+
+-- `--at MILLIS`, one value, a number of the range
 abbrev pub at : Rule
-at = record (new_rule (codes "at")) { long = Some (codes "at"); action = Some Set; value_names = 1; parser = Some (Unsigned 0 last_moment); required = true }
+at = record (required_option (codes "at")) { value_names = 1; parser = Some (Unsigned 0 last_moment) }
 
 -- the subcommand `replay`
 abbrev pub replay : Choice → App

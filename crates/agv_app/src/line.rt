@@ -2,7 +2,7 @@
 ghost use Rattle.std.specs.Prelude.{◌≡◌, IfOk, IfErr, false, map, string_bytes};
 ghost use Rattle.clap.specs.Words.{app_of, rule_of};
 ghost use Rattle.clap.specs.declared.builder.command.Command.TheViews.{out-Command};
-ghost use Rattle.agv_app.specs.CommandLine.{Choice, IsMemoryAlone, at, db, desk, replay, IsLine, IsLineFault};
+ghost use Rattle.agv_app.specs.CommandLine.{Choice, IsMemoryAlone, at, db, desk, replay, required_option, IsLine, IsLineFault};
 
 use clap::error::ErrorKind;
 use clap::{Arg, ArgAction, Command, Error, value_parser};
@@ -38,29 +38,34 @@ impl From<AllocError> for LineFault {
 /// Where records can be kept, today.
 static STORES: [&str; 1] = ["memory"];
 
-/// `--db STORE`.
+/// A required option.
+fn required_arg<'a>(alloc: Global, name: &'a str) -> Arg<'a>
+    ensures rule { rule_of result ≡ required_option name.now }
+    ensures local { result.global ≡ false }
+{
+    Arg::new(alloc, name)
+        .long(name)
+        .required(true)
+        .action(ArgAction::Set)
+}
+
+/// `--db`: where the records are kept.
 fn store_arg<'a>(alloc: Global) -> Arg<'a>
     ensures rule { (stores : Choice) × IsMemoryAlone stores × (rule_of result ≡ db stores) }
     ensures local { result.global ≡ false }
 {
-    Arg::new(alloc, "db")
-        .long("db")
-        .required(true)
-        .action(ArgAction::Set)
+    required_arg(alloc, "db")
         .value_name("memory")
         .value_parser(STORES.as_slice())
         .help("Where the records are kept: `memory`, for this run alone")
 }
 
-/// `--at MILLIS`.
+/// `--at`: the moment of every request.
 fn moment_arg<'a>(alloc: Global) -> Arg<'a>
     ensures rule { rule_of result ≡ at }
     ensures local { result.global ≡ false }
 {
-    Arg::new(alloc, "at")
-        .long("at")
-        .required(true)
-        .action(ArgAction::Set)
+    required_arg(alloc, "at")
         .value_name("MILLIS")
         .value_parser(value_parser!(u64).range(..=4_102_444_799_999))
         .help("The moment of every request, in milliseconds since 1970")

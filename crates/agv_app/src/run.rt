@@ -57,6 +57,7 @@ pub fn run<R: Read, W: Write>(
     ensures { IsOutcome R.remaining W.contents reader.old reader.new writer.old writer.new (map string_bytes words.now) result }
 {
     match line_of(alloc, words) {
+        // No call of today looks at the moment.
         Ok(Line::Replay { at: _ }) => match serve_new(alloc, reader, writer) {
             Ok(_) => Outcome::Served,
             Err(fault) => Outcome::Failed(fault),

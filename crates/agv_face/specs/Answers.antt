@@ -7,6 +7,7 @@ use Rattle.agv_header.specs.Refusal.{number_of, name_of, status_of}
 use Rattle.agv_face.specs.declared.answer.Answer.{Answer}
 use Rattle.agv_face.specs.declared.answer.Answer.TheVariants as answer
 
+-- the status code: 200, or that of the refusal
 abbrev pub answer_status : Answer → ℕ
 answer_status answer.Done = 200
 answer_status (answer.AtChecking load) = 200
@@ -18,6 +19,7 @@ answer_data answer.Done = object no_members
 answer_data (answer.AtChecking load) = object (member (codes "job") null (member (codes "load") (string load) (member (codes "place") (string (codes "checking")) no_members)))
 answer_data (answer.Refused refusal) = object (member (codes "name") (string (name_of refusal)) (member (codes "refusal") (number (unsigned (number_of refusal))) no_members))
 
+-- carriage return, line feed
 abbrev pub line_end : List ℕ
 line_end = 13 ∷ 10 ∷ []
 
@@ -29,8 +31,10 @@ head_bytes status len =
     ++ codes "Content-Type: application/json" ++ line_end
     ++ line_end
 
+-- the head for a body, and the body
 abbrev pub response : ℕ → List ℕ → List ℕ
 response status body = head_bytes status (length body) ++ body
 
+-- the body is the text of the JSON value, with no blanks
 abbrev pub answer_bytes : Answer → List ℕ
 answer_bytes a = response (answer_status a) (compact_text (answer_data a))

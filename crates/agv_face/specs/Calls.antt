@@ -10,6 +10,7 @@ use Rattle.agv_face.specs.declared.call.Call.{Call}
 use Rattle.agv_face.specs.declared.call.Call.TheVariants as call
 use Rattle.agv_face.specs.Requests.{Request, is_plain}
 
+-- where the query of a target begins
 abbrev pub question_mark : ℕ
 question_mark = 63
 
@@ -21,6 +22,7 @@ path_of target = before_first (λ b. b == question_mark) target
 abbrev pub as_name : List ℕ → Option (List ℕ)
 as_name text = if is_name text then Some text else None
 
+-- how many members stand in a list
 abbrev pub count_members : Members → ℕ
 count_members no_members = 0
 count_members (member key value more) = suc (count_members more)
@@ -46,10 +48,12 @@ load_in_body body = if is_utf8 body then option_and_then only_load (read body) e
 abbrev pub load_in_path : List ℕ → Option (List ℕ)
 load_in_path path = if starts_with nat_eq path (codes "/loads/") then as_name (drop 7 path) else None
 
+-- the call that registers this load, if there is one
 abbrev pub registration_of : Option (List ℕ) → Option Call
 registration_of None = None
 registration_of (Some load) = Some (call.Register load)
 
+-- the call that asks for this load, if there is one
 abbrev pub question_of : Option (List ℕ) → Option Call
 question_of None = None
 question_of (Some load) = Some (call.Show load)

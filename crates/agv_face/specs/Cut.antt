@@ -12,6 +12,7 @@ pub data Ending : Type 0 where
   -- what is left begins with no request
   faulty : Refusal → Ending
 
+-- the input is these requests, one behind another, and ends so
 pub data Cut : List ℕ → List Request → Ending → Type 0 where
   no_more : (bytes : List ℕ) → bytes ≡ [] → Cut bytes [] at_end
   a_fault : (bytes : List ℕ) (fault : Refusal) → IsFault bytes fault → Cut bytes [] (faulty fault)

@@ -16,6 +16,7 @@ pub record IsLent (request : Request) (lent : LentRequest) : Type 0 where
   pub body : lent.body.now ≡ request.body
   pub plain : lent.is_plain ≡ is_plain request
 
+-- what is heard of the next request in the bytes that have come; once the input has ended, no more come
 abbrev pub IsHeard : List ℕ → Bool → Heard → Type 0
 IsHeard buf ended heard.Need = (ended ≡ false) × (length buf < most_head + most_body) × NeedsMore buf
 IsHeard buf ended heard.End = (ended ≡ true) × (buf ≡ [])

@@ -37,5 +37,6 @@ length_given [] = absent
 length_given (value ∷ []) = if is_number value then given (digits_value 10 value) else wrong
 length_given (value ∷ next ∷ more) = wrong
 
+-- the length that the lines give, by their Content-Length lines alone
 abbrev pub content_length : List Line → Length
 content_length lines = length_given (values_of (codes "content-length") lines)

@@ -8,16 +8,19 @@ use Rattle.agv_header.specs.declared.refusal.Refusal.{Refusal}
 use Rattle.agv_header.specs.declared.refusal.Refusal.TheVariants as refusal
 use Rattle.agv_face.specs.Lines.{Line, same_word, values_of, has_line, Length, absent, given, wrong, content_length}
 
--- the most bytes of a head, the most header lines, the most bytes of a body
+-- the most bytes of a head
 abbrev pub most_head : ℕ
 most_head = 8192
 
+-- the most header lines
 abbrev pub most_lines : ℕ
 most_lines = 32
 
+-- the most bytes of a body
 abbrev pub most_body : ℕ
 most_body = 65536
 
+-- a request: what its head says, and its body
 pub record Request : Type 0 where
   pub method : List ℕ
   pub target : List ℕ
@@ -32,6 +35,7 @@ pub record BeginsWith (bytes : List ℕ) (head : RequestHead) (rest : List ℕ) 
   pub short : length (print_request head) ≤ most_head
   pub few : length head.fields ≤ most_lines
 
+-- the header lines, each a name and a value
 abbrev pub lines_of : RequestHead → List Line
 lines_of head = map name_and_value head.fields
 
@@ -49,6 +53,7 @@ length_needed coded method (given n) = if coded then Err refusal.Coding else (if
 abbrev pub body_length : List ℕ → List Line → Result ℕ Refusal
 body_length method lines = length_needed (has_line (codes "transfer-encoding") lines) method (content_length lines)
 
+-- the request of this head and this body
 abbrev pub request_of : RequestHead → List ℕ → Request
 request_of head body = record { method = head.method; target = head.target; minor = head.minor; lines = lines_of head; body = body }
 
@@ -64,6 +69,7 @@ IsFault bytes fault =
     ⊎ ((head : RequestHead) × (rest : List ℕ) × BeginsWith bytes head rest × (body_length head.method (lines_of head) ≡ Err fault))
     ⊎ ((head : RequestHead) × (rest : List ℕ) × (n : ℕ) × BeginsWith bytes head rest × (body_length head.method (lines_of head) ≡ Ok n) × (length rest < n) × (fault ≡ refusal.BadHead))
 
+-- what parts the elements of a value
 abbrev pub comma : ℕ
 comma = 44
 
@@ -79,6 +85,7 @@ is_last request = request.minor == 0 || list_any (λ value. list_any (same_word 
 abbrev pub is_plain_head : ℕ → List Line → Bool
 is_plain_head minor lines = minor == 1 && not (has_line (codes "connection") lines)
 
+-- a request with such a head
 abbrev pub is_plain : Request → Bool
 is_plain request = is_plain_head request.minor request.lines
 

@@ -20,12 +20,13 @@ loads_fault_of stop.Write = loads.Write
 loads_fault_of stop.Memory = loads.Memory
 loads_fault_of stop.Storage = loads.Storage
 
--- what a program says of a fault
+-- the name of a fault
 abbrev pub fault_name : LoadsFault → List ℕ
 fault_name loads.Read = codes "Read"
 fault_name loads.Write = codes "Write"
 fault_name loads.Memory = codes "Memory"
 fault_name loads.Storage = codes "Storage"
 
+-- what a program says of it
 abbrev pub fault_line : LoadsFault → List ℕ
 fault_line fault = codes "fault: " ++ fault_name fault

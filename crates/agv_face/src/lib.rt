@@ -10,8 +10,8 @@
 //! buffer shows of the next one, `Cut` how an input is cut into requests, `Calls` which call a request is,
 //! `Asked` which calls an input asks, `Answers` the bytes of an answer, `Served` what is written for some
 //! calls and what they make of the registered loads, and `StreamEnds` how a stream ends: the theorem of
-//! this crate. `Watched`, `Stops` and `StoreFaults` have its words on failures. The module [`laws`] has what holds of these
-//! definitions by themselves.
+//! this crate. `Watched`, `Stops` and `StoreFaults` have its words on failures, `Found` and `Stepped` what
+//! private functions come to. The module [`laws`] has what holds of these definitions by themselves.
 #![tactic(auto)]
 
 mod answer;

@@ -2,6 +2,7 @@
 ghost use Rattle.std.specs.Prelude.{◌≡◌, ◌==◌, ◌&&◌, ◌<◌, ◌⊎◌, not, length, IfOk, OnOk, OnErr, if◌then◌else◌};
 ghost use Rattle.std.specs.Io.{ReadsAtMost, WritesAtMost};
 ghost use Rattle.std.specs.Io.KnownBytes.{Keeps, ReadConsumes, WriteAppends};
+ghost use Rattle.agv_face.specs.Watched.{counted};
 
 use std::io::{self, Read, Write};
 
@@ -18,7 +19,7 @@ pub struct Watched<T> {
 }
 
 impl<T> Watched<T> {
-    ghost use Rattle.agv_face.specs.Watched.{inner_of, calls_of, failures_of, counted};
+    ghost use Rattle.agv_face.specs.Watched.{inner_of, calls_of, failures_of};
 
     /// The reader or the writer, before its first call.
     pub fn new(inner: T) -> Watched<T>
@@ -60,11 +61,18 @@ impl<T> Watched<T> {
         ensures calls { calls_of self.new ≡ counted (calls_of self.old) 1 }
         ensures failures { failures_of self.new ≡ (if failed then counted (failures_of self.old) 1 else failures_of self.old) }
     {
-        self.calls = self.calls.saturating_add(1);
+        add_one(&mut self.calls);
         if failed {
-            self.failures = self.failures.saturating_add(1);
+            add_one(&mut self.failures);
         }
     }
+}
+
+/// One more, where there is room for it.
+fn add_one(number: &mut u64)
+    ensures { number.new ≡ counted number.old 1 }
+{
+    *number = number.saturating_add(1);
 }
 
 /// Whether a write that took so many of the bytes took none, where there were some.
@@ -86,9 +94,9 @@ impl<R: Read> Read for Watched<R> {
         ensures gave { OnOk result (FailedNever self.old self.new) }
         ensures failed { OnErr result (FailedOnce self.old self.new) }
     {
-        let result = self.inner.read(buf);
-        self.count(result.is_err());
-        result
+        let read = self.inner.read(buf);
+        self.count(read.is_err());
+        read
     }
 }
 
@@ -105,13 +113,13 @@ impl<W: Write> Write for Watched<W> {
         ensures took_none { IfOk result (λ n. n ≡ 0 → 0 < length buf.now → FailedOnce self.old self.new) }
         ensures failed { OnErr result (FailedOnce self.old self.new) }
     {
-        let result = self.inner.write(buf);
-        let failed = match &result {
+        let written = self.inner.write(buf);
+        let failed = match &written {
             Ok(n) => took_none(*n, buf),
             Err(_) => true,
         };
         self.count(failed);
-        result
+        written
     }
 
     fn flush(&mut self) -> io::Result<()>
@@ -120,8 +128,8 @@ impl<W: Write> Write for Watched<W> {
         ensures passed { OnOk result (FailedNever self.old self.new) }
         ensures failed { OnErr result (FailedOnce self.old self.new) }
     {
-        let result = self.inner.flush();
-        self.count(result.is_err());
-        result
+        let flushed = self.inner.flush();
+        self.count(flushed.is_err());
+        flushed
     }
 }

@@ -6,6 +6,7 @@ use Rattle.std.specs.List.{range_with_len}
 abbrev pub is_leap_year : ℕ → Bool
 is_leap_year year = (year % 4 == 0) && (not (year % 100 == 0) || (year % 400 == 0))
 
+-- a leap year has a day more
 abbrev pub days_in_year : ℕ → ℕ
 days_in_year year = if is_leap_year year then 366 else 365
 

@@ -9,6 +9,7 @@ use Rattle.std.specs.FinMap.{IsAntisymmetric, nat_cmp-IsAntisymmetric, slice_cmp
 use Rattle.agv_header.specs.Key.{key_cmp}
 use Rattle.agv_header.specs.declared.key.VehicleKey.{VehicleKey}
 
+-- the order is total
 pub key_cmp-total : IsTotalOrder key_cmp
 key_cmp-total =
     then_total (on_total (λ (key : VehicleKey). key.manufacturer) nat_list_cmp_total) (on_total (λ (key : VehicleKey). key.serial) nat_list_cmp_total)
@@ -21,6 +22,7 @@ both_equal Greater b e = cc
 names_apart : IsAntisymmetric (slice_cmp nat_cmp)
 names_apart = slice_cmp-IsAntisymmetric nat_cmp-IsAntisymmetric
 
+-- keys that tie are equal
 pub key_cmp-IsAntisymmetric : IsAntisymmetric key_cmp
 key_cmp-IsAntisymmetric a b tied =
     let both = both_equal (slice_cmp nat_cmp a.manufacturer b.manufacturer) (slice_cmp nat_cmp a.serial b.serial) tied in
@@ -32,10 +34,12 @@ key_cmp-IsAntisymmetric a b tied =
 abbrev pub key_eq : VehicleKey → VehicleKey → Bool
 key_eq a b = pointwise nat_eq a.manufacturer b.manufacturer && pointwise nat_eq a.serial b.serial
 
+-- `==` holds of just the keys that tie
 pub key_cmp-ties : (a b : VehicleKey) → key_eq a b ≡ eq_by_cmp key_cmp a b
 key_cmp-ties a b =
     both_tied _ _ (slice_cmp nat_cmp a.manufacturer b.manufacturer) (slice_cmp nat_cmp a.serial b.serial) (texts_ties a.manufacturer b.manufacturer) (texts_ties a.serial b.serial)
 
+-- `==` and the order are a partial order, as `PartialOrd` asks
 pub key_cmp-partial : IsPartialOrder key_eq (λ a b. Some (key_cmp a b))
 key_cmp-partial =
     partial_order_from_agreeing_total key_cmp key_cmp-total (λ a b. refl) key_cmp-ties

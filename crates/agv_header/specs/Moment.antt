@@ -5,6 +5,7 @@ use Rattle.std.specs.Prelude.{ℕ, ◌≤◌, nat_le, if◌then◌else◌, ℤ, 
 abbrev pub last_moment : ℕ
 last_moment = 4102444799999
 
+-- a number of milliseconds that is a moment: from 0 to the last
 abbrev pub IsMoment : ℕ → Type 0
 IsMoment ms = ms ≤ last_moment
 

@@ -4,15 +4,19 @@ use Rattle.std.proofs.Common.{arith, ap, sym, ◌∙◌, take-append-drop, lengt
 use Rattle.agv_header.specs.Name.{IsName}
 use Rattle.agv_header.specs.declared.name.Name.TheInside.{Inside}
 
+-- the bytes of the name itself
 abbrev pub shown : Inside → List ℕ
 shown name = take name.len name.bytes
 
+-- 32 bytes, of which those behind the name are zeros
 abbrev pub IsPadded : Inside → Type 0
 IsPadded name = (name.len ≤ 32) × (length name.bytes ≡ 32) × (drop name.len name.bytes ≡ replicate (32 - name.len) 0) × IsName (shown name)
 
+-- how a name of these bytes is kept
 abbrev pub padded : List ℕ → Inside
 padded s = record { bytes = s ++ replicate (32 - length s) 0; len = length s }
 
+-- a name is kept in one way
 pub padded-shown : (name : Inside) → IsPadded name → padded (shown name) ≡ name
 padded-shown name h =
     let len : length (shown name) ≡ name.len = length-take-le name.len name.bytes (omega (arith, h.0, h.1)) in

@@ -3,11 +3,13 @@ use Rattle.std.specs.Prelude.{ℕ, List, codes}
 use Rattle.agv_header.specs.declared.refusal.Refusal.{Refusal}
 use Rattle.agv_header.specs.declared.refusal.Refusal.TheVariants as refusal
 
+-- what is told of a refusal: its number, its name, and the status code of its answer
 pub record Row : Type 0 where
   pub number : ℕ
   pub name : List ℕ
   pub status : ℕ
 
+-- a row of the table
 abbrev pub row : ℕ → List ℕ → ℕ → Row
 row n name status = record { number = n; name = name; status = status }
 
@@ -73,11 +75,14 @@ row_of refusal.OnVehicle = row 81 (codes "OnVehicle") 409
 row_of refusal.Memory = row 90 (codes "Memory") 503
 row_of refusal.Storage = row 91 (codes "Storage") 503
 
+-- its number, from the table
 abbrev pub number_of : Refusal → ℕ
 number_of r = (row_of r).number
 
+-- its name, from the table
 abbrev pub name_of : Refusal → List ℕ
 name_of r = (row_of r).name
 
+-- its status code, from the table
 abbrev pub status_of : Refusal → ℕ
 status_of r = (row_of r).status

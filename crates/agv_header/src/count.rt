@@ -1,5 +1,5 @@
 //! Header numbers: each message of a topic has one more than the message before it.
-ghost use Rattle.std.specs.Prelude.{◌≡◌, ◌+◌, ◌<◌, ◌^◌, ◌↔◌, IsTrue, IfSome, SomeIff};
+ghost use Rattle.std.specs.Prelude.{◌+◌, ◌<◌, ◌^◌, ◌↔◌, IsTrue, IfSome, SomeIff};
 
 /// Whether a message with header number `n` is newer than the last one: there is none, or `n` is
 /// greater than its number.

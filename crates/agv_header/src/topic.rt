@@ -1,5 +1,5 @@
 //! Topics: where a message belongs, by vehicle and kind.
-ghost use Rattle.std.specs.Prelude.{◌≡◌, ◌++◌, ℕ, List, codes, Some, Ok, IfOk, IfSome, IsSomeAnd, string_bytes};
+ghost use Rattle.std.specs.Prelude.{◌≡◌, ℕ, List, Some, Ok, IfOk, IfSome, IsSomeAnd, string_bytes};
 ghost use Rattle.agv_header.specs.Name.{IsName};
 ghost use Rattle.agv_header.specs.declared.key.VehicleKey.{VehicleKey as Key};
 ghost use Rattle.agv_header.specs.declared.topic.Topic.{Topic as Kind};

@@ -8,12 +8,11 @@ use Rattle.std.specs.FinMap.{find, IsAntisymmetric, nat_cmp-IsAntisymmetric, sli
 use Rattle.std.specs.FinSet as set
 use Rattle.std.specs.FinSet.{contains-from_list}
 use Rattle.std.specs.List.{list_any, AllByRecursion, IsDistinct}
-use Rattle.std.specs.List.Sorted.{IsStrictlySortedBy}
 use Rattle.std.specs.Map.{lookup, keys_of, values_of}
 use Rattle.std.specs.Ordering.{eq_by_cmp, is_eq}
 use Rattle.std.proofs.lemmas.Cmp.{tied_itself}
 use Rattle.std.proofs.lemmas.Map.Lookups.{exact_bytes}
-use Rattle.std.proofs.lemmas.Map.Keys.{IsDistinct-from_sorted, IsDistinct-head, IsDistinct-tail}
+use Rattle.std.proofs.lemmas.Map.Keys.{IsDistinct-head, IsDistinct-tail}
 use Rattle.std.proofs.lemmas.Map.Views.{tells_apart, Contains-from_any, list_any-from_Contains, Contains-from_lookup, lookup-from_Contains, IfSome-lookup_from_All, All-values_from_lookup}
 use Rattle.std.proofs.lemmas.Map.Made.{is_some-lookup}
 use Rattle.agv_header.specs.Name.{name_cmp}
@@ -67,14 +66,6 @@ set_len-distinct [] h = set.len-empty name_cmp
 set_len-distinct (k ∷ ks) h =
     let absent = contains-shown ks k ∙ none_passes _ _ (IsDistinct-head (eq_by_cmp name_cmp) k ks h) in
     set.len-insert names_total _ k ∙ one_more _ _ _ absent (set_len-distinct ks (IsDistinct-tail (eq_by_cmp name_cmp) k ks h))
-
--- of a `BTreeMap`, whose names ascend
-pub len-shown : {X : Type 0} (es : List (List ℕ × X)) → IsStrictlySortedBy name_cmp (keys_of es) → map.len (map.from_entries {R = name_cmp} es) ≡ length es
-len-shown es h = len-distinct es (IsDistinct-from_sorted name_cmp (keys_of es) h)
-
--- of a `BTreeSet`, whose names ascend
-pub set_len-shown : (ks : List (List ℕ)) → IsStrictlySortedBy name_cmp ks → set.len (set.from_list {R = name_cmp} ks) ≡ length ks
-set_len-shown ks h = set_len-distinct ks (IsDistinct-from_sorted name_cmp ks h)
 
 -- ---- one more
 -- what `insert` answers at each name is the map with one more entry

@@ -8,13 +8,16 @@ use Rattle.agv_layout.specs.declared.edge.Ends.{Ends}
 use Rattle.agv_layout.specs.declared.station.Spot.{Spot}
 use Rattle.agv_layout.specs.Layout.{Layout}
 
+-- an edge: its start and its finish
 abbrev pub ends_code : Coded Ends
 ends_code =
     code_by (List ℕ × List ℕ) (coded× (coded_list coded_ℕ) (coded_list coded_ℕ)) (λ e. (e.start, e.finish)) (λ p. record { start = p.0; finish = p.1 }) (λ _. refl)
 
+-- a station: its node and its capacity
 abbrev pub spot_code : Coded Spot
 spot_code = code_by (List ℕ × ℕ) (coded× (coded_list coded_ℕ) coded_ℕ) (λ s. (s.node, s.capacity)) (λ p. record { node = p.0; capacity = p.1 }) (λ _. refl)
 
+-- the nodes, the edges by name and the stations by name
 abbrev pub layout_code : Coded Layout
 layout_code =
     code_by (set.FinSet name_cmp × (map.FinMap name_cmp Ends × map.FinMap name_cmp Spot))

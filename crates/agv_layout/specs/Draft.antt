@@ -54,6 +54,7 @@ abbrev pub leads : Draft → Ends → Bool
 leads draft ends =
     contains name_cmp draft.nodes ends.start && (contains name_cmp draft.nodes ends.finish && not (pointwise nat_eq ends.start ends.finish))
 
+-- a station at a node, with a capacity of 1 to 999
 abbrev pub stands : Draft → Spot → Bool
 stands draft spot = contains name_cmp draft.nodes spot.node && (nat_le 1 spot.capacity && nat_le spot.capacity 999)
 

@@ -47,8 +47,10 @@ pub record KeepsRules (layout : Layout) : Type 0 where
   pub leads : (id : Name) (ends : Ends) → IsEdge layout id ends → Leads layout ends
   pub stands : (id : Name) (spot : Spot) → IsStation layout id spot → Stands layout spot
 
+-- the edge of this name, with these ends
 abbrev pub edge_of : Name → Ends → Edge
 edge_of id ends = record { id = id; start = ends.start; finish = ends.finish }
 
+-- the station of this name, at this spot
 abbrev pub station_of : Name → Spot → Station
 station_of id spot = record { id = id; node = spot.node; capacity = spot.capacity }

@@ -4,6 +4,7 @@ use Rattle.std.specs.FinSet as set
 use Rattle.agv_layout.specs.declared.layout.Layout.TheInside.{Inside}
 use Rattle.agv_layout.specs.Layout.{Layout}
 
+-- the set of the nodes, and the maps of the edges and the stations
 abbrev pub shown : Inside → Layout
 shown layout = record {
   nodes = set.from_list layout.nodes.keys;

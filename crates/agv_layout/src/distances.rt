@@ -1,5 +1,5 @@
 //! How far the nodes are from a goal: level by level, against the edges.
-ghost use Rattle.std.specs.Prelude.{◌≡◌, ◌+◌, ◌≤◌, ℕ, List, cond, not, ◌&&◌, ◌||◌, length, is_some, vec_len, IfOk, OnOk, Some, None, true};
+ghost use Rattle.std.specs.Prelude.{◌≡◌, ◌+◌, ◌≤◌, cond, not, ◌&&◌, ◌||◌, is_some, vec_len, IfOk, OnOk, Some, None, true};
 ghost use Rattle.std.specs.Option.{option_or};
 ghost use Rattle.std.specs.BTreeMap as tree;
 ghost use Rattle.std.specs.BTreeMap.{btree_map_len};

@@ -1,6 +1,6 @@
 //! What holds of the definitions that the contracts of this crate cite, whatever the code does.
 //! Each function does nothing: its clause is the law.
-ghost use Rattle.std.specs.Prelude.{◌≡◌, ◌≤◌, ℕ, List, Option, Some, length, option_map};
+ghost use Rattle.std.specs.Prelude.{◌≡◌, List, Option, length, option_map};
 ghost use Rattle.agv_layout.specs.declared.row.LayoutRow.{LayoutRow};
 ghost use Rattle.agv_layout.specs.Layout.{Layout as Plan, Name as NameOf, IsNode, KeepsRules};
 ghost use Rattle.agv_layout.specs.Rows.{IsLayoutOf, IsReadAlike};

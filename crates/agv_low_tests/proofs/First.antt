@@ -32,9 +32,6 @@ lists_apart = slice_cmp-IsAntisymmetric names_apart
 abbrev IsUpTo : List Name → List Name → Type 0
 IsUpTo ids others = (others ≡ ids) ⊎ IsBefore ids others
 
-up_to_itself : (ids : List Name) → IsUpTo ids ids
-up_to_itself ids = inl refl
-
 up_to_more : (a b c : List Name) → IsUpTo a b → IsUpTo b c → IsUpTo a c
 up_to_more a b c before after =
     ⊎_elim

@@ -8,9 +8,11 @@ use Rattle.serde_json.specs.View.{items_of}
 abbrev pub Field : Type 0
 Field = List ℕ × Data
 
+-- a member of this name, with this value
 abbrev pub field : String → Data → Field
 field name d = (codes name, d)
 
+-- the members, as they stand
 abbrev pub in_order : List Field → Members
 in_order [] = no_members
 in_order (f ∷ fs) = member f.0 f.1 (in_order fs)
@@ -19,14 +21,18 @@ in_order (f ∷ fs) = member f.0 f.1 (in_order fs)
 abbrev pub object_of : List Field → Data
 object_of fields = object (in_order fields)
 
+-- an array of these values
 abbrev pub list : List Data → Data
 list ds = array (items_of ds)
 
+-- a string
 abbrev pub text : List ℕ → Data
 text s = string s
 
+-- a whole number
 abbrev pub whole : ℕ → Data
 whole n = number (unsigned n)
 
+-- `true` or `false`
 abbrev pub truth : Bool → Data
 truth b = boolean b

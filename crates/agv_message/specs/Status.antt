@@ -14,6 +14,7 @@ status_name Paused = codes "PAUSED"
 status_name Finished = codes "FINISHED"
 status_name Failed = codes "FAILED"
 
+-- all of them
 abbrev pub statuses : List Status
 statuses = Waiting ∷ Initializing ∷ Running ∷ Paused ∷ Finished ∷ Failed ∷ []
 

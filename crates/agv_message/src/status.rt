@@ -14,7 +14,7 @@ pub enum Status {
 }
 
 impl Status {
-    ghost use Rattle.agv_message.specs.Status.{status_of, status_name};
+    ghost use Rattle.agv_message.specs.Status.{status_of};
 
     /// The status that is written so, in capitals; `None` where the text is no status.
     #[tactic(auto, unfolding(crate::specs::Status::status_of))]

@@ -10,5 +10,6 @@ use Rattle.sqlite_schema.specs.declared.command.Command.TheVariants.{Insert}
 abbrev pub insert_terms : List Term
 insert_terms = lit Null ∷ col 0 0 ∷ lit (Text (codes "checking")) ∷ lit Null ∷ lit Null ∷ lit Null ∷ []
 
+-- a row of these terms is added to the first table
 abbrev pub insert_command : Command
 insert_command = Insert 0 (Values insert_terms 6)

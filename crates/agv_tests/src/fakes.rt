@@ -1,15 +1,17 @@
-//! A reader and a writer that take their time, and fail once, when they are told to; and a reader that waits
-//! for what a writer has taken.
+//! A reader and a writer that take their time, and fail once, when they are told to; and a reader that fails
+//! unless a writer that counts its bytes has taken enough of them.
 
+use agv_face::Watched;
+use std::alloc::Global;
 use std::cell::Cell;
 use std::io::{self, ErrorKind, Read, Write};
 
 /// Gives at most `step` bytes at a read. The read after `reads` fails, and those after it work again.
 #[derive(Drop)]
 pub(crate) struct Drip<'b> {
-    pub(crate) bytes: &'b [u8],
-    pub(crate) step: usize,
-    pub(crate) reads: u32,
+    bytes: &'b [u8],
+    step: usize,
+    reads: u32,
 }
 
 impl Read for Drip<'_> {
@@ -27,12 +29,19 @@ impl Read for Drip<'_> {
     }
 }
 
+impl<'b> Drip<'b> {
+    /// A reader that gives at most `step` bytes at a read, and fails at the read after `reads`.
+    pub(crate) fn watched(bytes: &'b [u8], step: usize, reads: u32) -> Watched<Drip<'b>> {
+        Watched::new(Drip { bytes, step, reads })
+    }
+}
+
 /// Takes at most `step` bytes at a write. The write after `writes` fails, and those after it work again.
 #[derive(Drop)]
 pub(crate) struct Trickle {
     pub(crate) taken: Vec<u8>,
-    pub(crate) step: usize,
-    pub(crate) writes: u32,
+    step: usize,
+    writes: u32,
 }
 
 impl Write for Trickle {
@@ -49,6 +58,17 @@ impl Write for Trickle {
 
     fn flush(&mut self) -> io::Result<()> {
         Ok(())
+    }
+}
+
+impl Trickle {
+    /// A writer that takes at most `step` bytes at a write, and fails at the write after `writes`.
+    pub(crate) fn watched(alloc: Global, step: usize, writes: u32) -> Watched<Trickle> {
+        Watched::new(Trickle {
+            taken: Vec::new(alloc),
+            step,
+            writes,
+        })
     }
 }
 

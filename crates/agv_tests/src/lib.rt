@@ -2,12 +2,18 @@
 //! one over the store is linked for more than a minute. The expected bytes are written out by hand.
 //!
 //! - `loads` calls each public call of the store once, with ample memory.
-//! - `streams` serves the worked examples as bytes: whole, in pieces, and with a reader or a writer
-//!   that fails; and it shows which beginnings of a request are waited for and which are refused at once.
+//! - `streams` serves the worked examples as bytes, which `examples` has: whole, in pieces, with a reader or a
+//!   writer of `fakes` that fails, and with input of other forms behind them.
+//! - `beginnings` shows which beginnings of a request are waited for and which are refused at once.
+//! - `cases` compares what is found with what is wanted.
 #![tactic(auto)]
 
 #[cfg(test)]
+mod beginnings;
+#[cfg(test)]
 mod cases;
+#[cfg(test)]
+mod examples;
 #[cfg(test)]
 mod fakes;
 #[cfg(test)]
