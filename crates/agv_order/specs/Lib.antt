@@ -6,3 +6,4 @@ pub mod Messages
 pub mod Releases
 pub mod Joins
 pub mod Plans
+pub mod RouteOf

@@ -5,11 +5,16 @@
 #![tactic(auto)]
 
 mod act;
+mod fault;
 mod join;
+mod leg;
+mod plan;
+mod release;
 mod stop;
 mod trip;
 
 pub use act::Act;
+pub use fault::PlanFault;
 pub use join::{JoinRefusal, Joined};
 pub use stop::Stop;
 pub use trip::Trip;
