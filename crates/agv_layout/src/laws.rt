@@ -3,7 +3,7 @@
 ghost use Rattle.std.specs.Prelude.{◌≡◌, List, ◌++◌, Option, length, option_map};
 ghost use Rattle.agv_layout.specs.declared.row.LayoutRow.{LayoutRow};
 ghost use Rattle.agv_layout.specs.Layout.{Layout as Plan, Name as NameOf, IsNode, KeepsRules};
-ghost use Rattle.agv_layout.specs.Rows.{IsLayoutOf, IsReadAlike};
+ghost use Rattle.agv_layout.specs.Rows.{AreNamed, IsEachOnce, IsLayoutOf, IsOverLimit, IsReadAlike, IsSound};
 ghost use Rattle.std.specs.List.Sorted.{IsPermutation};
 ghost use Rattle.agv_layout.specs.Walk.{IsWalk, IsHops, IsWayTo};
 
@@ -16,6 +16,13 @@ pub fn ignores_order()
 /// Rows give one layout at most.
 pub fn is_one_layout()
     ensures { (rows : List LayoutRow) (one other : Plan) → IsLayoutOf rows one → IsLayoutOf rows other → one ≡ other }
+{}
+
+/// From a layout back to rows: rows that are each once and have what the layout has are sound, each id in them is
+/// a name, and they are not too many, so they give this layout again.
+pub fn gives_sound_rows()
+    ensures { (rows : List LayoutRow) (layout : Plan) → IsEachOnce rows → IsLayoutOf rows layout → KeepsRules layout
+        → (¬ IsOverLimit rows) × IsSound rows × AreNamed rows }
 {}
 
 /// There is one way from a node to another, or none.
