@@ -1,0 +1,45 @@
+//! Jobs: a load is to be carried from one station to another.
+ghost use Rattle.std.specs.Prelude.{◌≡◌};
+
+use agv_header::Name;
+
+/// A job to carry a load. Its name is used once for good.
+#[derive(Clone, Copy, Debug, PartialEq, Eq)]
+pub struct Job {
+    pub name: Name,
+    /// The load that is carried.
+    pub load: Name,
+    /// The station where the load is picked.
+    pub origin: Name,
+    /// The station where the load is dropped.
+    pub target: Name,
+    /// How far the job is.
+    pub phase: Phase,
+}
+
+/// How far a job is. It begins as Waiting, and Done and Stopped are final.
+#[derive(Clone, Copy, Debug, PartialEq, Eq)]
+pub enum Phase {
+    /// No vehicle has an order for it yet.
+    Waiting,
+    /// An open order of a vehicle has it.
+    Riding,
+    /// The load was dropped at the target.
+    Done,
+    /// It was taken back, or its order ended before the load was dropped.
+    Stopped,
+}
+
+impl Phase {
+    ghost use Rattle.agv_stock.specs.Phase.{is_live};
+
+    /// Whether a job in this phase is still to be carried out: it is Waiting or Riding.
+    pub fn is_live(self) -> bool
+        ensures { result ≡ is_live self }
+    {
+        match self {
+            Phase::Waiting | Phase::Riding => true,
+            Phase::Done | Phase::Stopped => false,
+        }
+    }
+}
