@@ -1,0 +1,56 @@
+-- How a vehicle joins an order message to the order that it holds (VDA 5050 2.0, order updates).
+use Rattle.std.specs.Prelude.{◌&&◌, ◌==◌, ◌++◌, nat_eq, nat_lt, Bool, false, if◌then◌else◌, List, [], ◌∷◌, Option, None, Some, Result, Ok, Err, filter}
+use Rattle.std.specs.Cmp.Lexicographic.{pointwise}
+use Rattle.agv_message.specs.declared.order.OrderEdge.{OrderEdge}
+use Rattle.agv_message.specs.declared.order.OrderMessage.{OrderMessage}
+use Rattle.agv_message.specs.declared.order.OrderNode.{OrderNode}
+use Rattle.agv_order.specs.declared.join.Joined.{Joined}
+use Rattle.agv_order.specs.declared.join.Joined.TheVariants.{Taken, Same}
+use Rattle.agv_order.specs.declared.join.JoinRefusal.{JoinRefusal}
+use Rattle.agv_order.specs.declared.join.JoinRefusal.TheVariants as refusal
+
+-- the nodes of the base: those that are released
+abbrev pub base_nodes : OrderMessage → List OrderNode
+base_nodes order = filter (λ (node : OrderNode). node.released) order.nodes
+
+-- the edges of the base
+abbrev pub base_edges : OrderMessage → List OrderEdge
+base_edges order = filter (λ (edge : OrderEdge). edge.released) order.edges
+
+-- all but the last
+abbrev pub front_of : {A : Type 0} → List A → List A
+front_of [] = []
+front_of (x ∷ []) = []
+front_of (x ∷ (y ∷ ys)) = x ∷ front_of (y ∷ ys)
+
+-- both are node `nodeId` at the same place of the order
+abbrev pub is_same_node : OrderNode → OrderNode → Bool
+is_same_node one other = pointwise nat_eq one.id other.id && one.seq == other.seq
+
+-- the first of the nodes of an update is the last of the base, the stitching node; both are there
+abbrev pub is_stitched : List OrderNode → List OrderNode → Bool
+is_stitched [] nodes = false
+is_stitched (last ∷ []) [] = false
+is_stitched (last ∷ []) (first ∷ nodes) = is_same_node last first
+is_stitched (node ∷ (next ∷ base)) nodes = is_stitched (next ∷ base) nodes
+
+-- the base without its last node, and then the message
+abbrev pub stitched : OrderMessage → OrderMessage → OrderMessage
+stitched held message = record message {
+  nodes = front_of (base_nodes held) ++ message.nodes;
+  edges = base_edges held ++ message.edges;
+}
+
+-- what a vehicle that holds an order does with a message of the same order
+abbrev pub update_of : OrderMessage → OrderMessage → Result Joined JoinRefusal
+update_of held message =
+    if held.update == message.update then Ok Same
+    else (if nat_lt message.update held.update then Err refusal.Lower
+    else (if is_stitched (base_nodes held) message.nodes then Ok (Taken (stitched held message))
+    else Err refusal.NotStitched))
+
+-- what a vehicle does with a message: the order that it then holds, or why it refuses
+abbrev pub join_of : Option OrderMessage → OrderMessage → Result Joined JoinRefusal
+join_of None message = if message.update == 0 then Ok (Taken message) else Err refusal.NotFirst
+join_of (Some held) message =
+    if pointwise nat_eq held.order message.order then update_of held message else Err refusal.OtherOrder

@@ -1,0 +1,88 @@
+-- Well-formed trips: their plan, and where they stand (VDA 5050 2.0, order and state; this project's profile).
+use Rattle.std.specs.Prelude.{◌≡◌, ℕ, ◌+◌, ◌<◌, ◌≤◌, ◌⊎◌, ◌&&◌, ◌||◌, not, nat_le, nat_eq, Bool, IsTrue, List, [], ◌∷◌, length, map, All, Option, None, Some}
+use Rattle.std.specs.List.{list_all, list_any, slice_get}
+use Rattle.std.specs.Cmp.Lexicographic.{pointwise}
+use Rattle.agv_layout.specs.Layout.{Layout, IsEdge, IsStation}
+use Rattle.agv_layout.specs.Walk.{IsWalk}
+use Rattle.agv_layout.specs.declared.edge.Edge.{Edge}
+use Rattle.agv_layout.specs.declared.station.Spot.{Spot}
+use Rattle.agv_order.specs.Statuses.{is_waiting, is_finished, is_final}
+use Rattle.agv_order.specs.Stops.{is_drop, stops_fit}
+use Rattle.agv_order.specs.Trips.{Task, stop_of, Plan, plan_of, nodes_on}
+use Rattle.agv_order.specs.declared.act.Act.{Act}
+use Rattle.agv_order.specs.declared.trip.Trip.{Trip}
+
+-- ---- the plan
+
+-- the edge leads as the layout says
+abbrev pub IsEdgeOf : Layout → Edge → Type 0
+IsEdgeOf layout edge = IsEdge layout edge.id (record { start = edge.start; finish = edge.finish })
+
+-- the names of edges
+abbrev pub ids_of : List Edge → List (List ℕ)
+ids_of edges = map (λ (edge : Edge). edge.id) edges
+
+-- from this place on the places of the tasks don't fall, and the last of them is the given one
+abbrev pub IsRising : ℕ → List Task → ℕ → Type 0
+IsRising from [] to = from ≡ to
+IsRising from (task ∷ tasks) to = (from ≤ task.place_at) × IsRising task.place_at tasks to
+
+-- the station of the task is at the node of its place
+abbrev pub IsAtStation : Layout → Plan → Task → Type 0
+IsAtStation layout plan task =
+    (spot : Spot) × IsStation layout task.station spot × (slice_get (nodes_on plan.start plan.edges) task.place_at ≡ Some spot.node)
+
+-- a walk of at most 200 edges; one to four jobs, each picked and later dropped; each task at its station, in the order of the way, the last at its end
+pub record IsPlanned (layout : Layout) (plan : Plan) : Type 0 where
+  pub walk : (finish : List ℕ) × IsWalk layout plan.start (ids_of plan.edges) finish
+  pub edges : All (IsEdgeOf layout) plan.edges
+  pub short : length plan.edges ≤ 200
+  pub stops : IsTrue (stops_fit (map stop_of plan.tasks))
+  pub few : length plan.tasks ≤ 8
+  pub rising : IsRising 0 plan.tasks (length plan.edges)
+  pub stations : All (IsAtStation layout plan) plan.tasks
+
+-- ---- where it stands
+
+-- the act is finished only where the vehicle has reached its node
+abbrev pub is_reached : ℕ → Act → Bool
+is_reached seen act = not (is_finished act.status) || nat_le act.place_at seen
+
+-- the load of this job was picked
+abbrev pub is_picked : List Act → List ℕ → Bool
+is_picked acts job = list_any (λ (act : Act). not (is_drop act.kind) && is_finished act.status && pointwise nat_eq act.job job) acts
+
+-- the act is a finished drop only where its job's load was picked
+abbrev pub is_in_turn : List Act → Act → Bool
+is_in_turn acts act = not (is_drop act.kind && is_finished act.status) || is_picked acts act.job
+
+-- the act has not begun
+abbrev pub has_not_begun : Act → Bool
+has_not_begun act = is_waiting act.status
+
+-- the act is over, well or not
+abbrev pub is_over : Act → Bool
+is_over act = is_final act.status
+
+-- what the vehicle has confirmed: nothing, and then nothing has happened; or the update that was sent last, or the one before it
+abbrev pub IsConfirmed : Trip → Option ℕ → Type 0
+IsConfirmed trip None = (trip.sent ≡ 0) × (trip.first ≡ 0) × (trip.seen ≡ 0) × IsTrue (list_all has_not_begun trip.acts)
+IsConfirmed trip (Some update) = (update ≡ trip.sent) ⊎ ((update + 1 ≡ trip.sent) × (trip.seen ≤ trip.first))
+
+-- the last message begins where the base before it ended, within the base; no act is finished before its turn; and the trip has not ended
+pub record IsUnderWay (trip : Trip) : Type 0 where
+  pub in_base : trip.first ≤ trip.base
+  pub on_way : trip.base ≤ length trip.edges
+  pub seen_released : trip.seen ≤ trip.base
+  pub sent_released : trip.sent ≤ trip.base
+  pub begins : trip.sent ≡ 0 → trip.first ≡ 0
+  pub grows : 0 < trip.sent → trip.first < trip.base
+  pub confirmed : IsConfirmed trip trip.confirmed
+  pub reached : IsTrue (list_all (is_reached trip.seen) trip.acts)
+  pub in_turn : IsTrue (list_all (is_in_turn trip.acts) trip.acts)
+  pub is_open : ¬ ((trip.seen ≡ length trip.edges) × IsTrue (list_all is_over trip.acts))
+
+-- a trip that is planned on the layout, and under way
+pub record IsWellFormed (layout : Layout) (trip : Trip) : Type 0 where
+  pub planned : IsPlanned layout (plan_of trip)
+  pub under_way : IsUnderWay trip

@@ -1,0 +1,15 @@
+//! Trips: the orders of the desk, from their plan to the messages that a vehicle takes.
+//!
+//! - A [`Trip`] is an open order of a vehicle: the edges that it is to drive, and the [`Act`]s, picks
+//!   and drops of loads, that it carries out on the way.
+#![tactic(auto)]
+
+mod act;
+mod join;
+mod stop;
+mod trip;
+
+pub use act::Act;
+pub use join::{JoinRefusal, Joined};
+pub use stop::Stop;
+pub use trip::Trip;

@@ -1,0 +1,34 @@
+//! Trips.
+
+use crate::Act;
+use agv_header::{Name, VehicleKey};
+use agv_layout::Edge;
+use agv_message::Sequence;
+
+/// An order that a vehicle carries out.
+///
+/// Node 0 of its way is the start, and node k + 1 the finish of edge k. The nodes up to `base` are the
+/// base of the order: the vehicle may drive there. The others are its horizon (VDA 5050 2.0, order).
+#[derive(Debug, Drop)]
+pub struct Trip {
+    /// The order's name, which is used once for good.
+    pub order: Name,
+    /// The vehicle that carries it out.
+    pub vehicle: VehicleKey,
+    /// The node where it starts.
+    pub start: Name,
+    /// The edges that it drives, at most 200, in this order.
+    pub edges: Sequence<Edge>,
+    /// The place of the node with which the last message begins.
+    pub first: u32,
+    /// The place of the last node that is released.
+    pub base: u32,
+    /// The number of the last update that was sent, 0 for the order itself.
+    pub sent: u32,
+    /// The number of the last update that the vehicle has confirmed: `sent`, the one before, or none.
+    pub confirmed: Option<u32>,
+    /// The place of the last node that the vehicle has reported.
+    pub seen: u32,
+    /// What is done on the way, in this order: two acts for each of one to four jobs.
+    pub acts: Sequence<Act>,
+}
