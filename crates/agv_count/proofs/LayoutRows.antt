@@ -4,7 +4,8 @@ use Rattle.std.specs.List.{list_all}
 use Rattle.csv.specs.Records.{fields_of}
 use Rattle.csv.specs.declared.record.ByteRecord.{ByteRecord}
 use Rattle.agv_count.specs.LayoutFile.{is_header, row_in, rows_in}
-use Rattle.agv_count.specs.Records.{each, has_fields}
+use Rattle.agv_header.specs.Each.{each}
+use Rattle.agv_count.specs.Records.{has_fields}
 
 -- a row has four fields
 no_row : (fields : List (List ℕ)) → has_fields 4 fields ≡ false → row_in fields ≡ None

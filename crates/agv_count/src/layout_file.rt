@@ -2,12 +2,13 @@
 ghost use Rattle.std.specs.Prelude.{◌≡◌, ◌∷◌, ◌++◌, [], ◌&&◌, ◌==◌, Err, IfOk, OnOk, None, Some, codes, length, map, option_map};
 ghost use Rattle.std.specs.Str.{bytes_eq};
 ghost use Rattle.csv.specs.Records.{fields_of};
-ghost use Rattle.agv_count.specs.LayoutFile.{edge_in, is_header, layout_in, node_in, row_in, rows_in, station_in};
-ghost use Rattle.agv_count.specs.Records.{each};
+ghost use Rattle.agv_count.specs.LayoutFile.{edge_row, is_header, layout_in, node_row, row_in, rows_in, station_row};
+ghost use Rattle.agv_header.specs.Each.{each};
 
 use crate::CsvFault;
-use crate::fields::{Fields, capacity, name};
+use crate::fields::{Fields, capacity};
 use crate::records::read_records;
+use agv_header::Name;
 use agv_layout::LayoutRow;
 use csv::ByteRecord;
 use std::alloc::Global;
@@ -19,36 +20,36 @@ fn are_empty(from: &[u8], to: &[u8]) -> bool
     from.is_empty() && to.is_empty()
 }
 
-#[tactic(auto, unfolding(crate::specs::LayoutFile::node_in))]
+#[tactic(auto, unfolding(crate::specs::LayoutFile::node_row))]
 fn node(fields: Fields<'_>) -> Option<LayoutRow>
-    ensures { result ≡ node_in fields.entry.id.now fields.entry.from.now fields.entry.to.now }
+    ensures { result ≡ node_row fields.entry.id.now fields.entry.from.now fields.entry.to.now }
 {
     if !are_empty(fields.from, fields.to) {
         return None;
     }
     Some(LayoutRow::Node {
-        id: name(fields.id)?,
+        id: Name::of_bytes(fields.id)?,
     })
 }
 
-#[tactic(auto, unfolding(crate::specs::LayoutFile::edge_in))]
+#[tactic(auto, unfolding(crate::specs::LayoutFile::edge_row))]
 fn edge(fields: Fields<'_>) -> Option<LayoutRow>
-    ensures { result ≡ edge_in fields.entry.id.now fields.entry.from.now fields.entry.to.now }
+    ensures { result ≡ edge_row fields.entry.id.now fields.entry.from.now fields.entry.to.now }
 {
     Some(LayoutRow::Edge {
-        id: name(fields.id)?,
-        start: name(fields.from)?,
-        finish: name(fields.to)?,
+        id: Name::of_bytes(fields.id)?,
+        start: Name::of_bytes(fields.from)?,
+        finish: Name::of_bytes(fields.to)?,
     })
 }
 
-#[tactic(auto, unfolding(crate::specs::LayoutFile::station_in))]
+#[tactic(auto, unfolding(crate::specs::LayoutFile::station_row))]
 fn station(fields: Fields<'_>) -> Option<LayoutRow>
-    ensures { result ≡ station_in fields.entry.id.now fields.entry.from.now fields.entry.to.now }
+    ensures { result ≡ station_row fields.entry.id.now fields.entry.from.now fields.entry.to.now }
 {
     Some(LayoutRow::Station {
-        id: name(fields.id)?,
-        node: name(fields.from)?,
+        id: Name::of_bytes(fields.id)?,
+        node: Name::of_bytes(fields.from)?,
         capacity: capacity(fields.to)?,
     })
 }

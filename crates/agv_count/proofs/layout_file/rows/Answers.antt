@@ -2,7 +2,7 @@ use Rattle.std.proofs.Common.{◌∙◌, Some, ap, append-nil, map}
 use Rattle.std.proofs.lemmas.List.{drop_all}
 use Rattle.csv.specs.Records.{fields_of}
 use Rattle.agv_count.specs.LayoutFile.{row_in}
-use Rattle.agv_count.specs.Records.{each}
+use Rattle.agv_header.specs.Each.{each}
 use Rattle.agv_count.proofs.EachRow.{after, after-more, left}
 use Rattle.agv_count.proofs.layout_file.rows.Goals as goal
 

@@ -1,7 +1,7 @@
 use Rattle.std.proofs.Common.{◌≡◌, drop, map}
 use Rattle.csv.specs.Records.{fields_of}
 use Rattle.agv_count.specs.LayoutFile.{row_in}
-use Rattle.agv_count.specs.Records.{each}
+use Rattle.agv_header.specs.Each.{each}
 use Rattle.agv_count.proofs.EachRow.{after}
 use Rattle.agv_count.proofs.layout_file.rows.Given as goal
 
