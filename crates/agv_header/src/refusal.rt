@@ -103,6 +103,8 @@ pub enum Refusal {
     Limit,
     /// The vehicle reports an order of this name.
     OrderKnown,
+    /// No stops, or some job's pick doesn't stand once with its drop once after it.
+    BadStops,
 
     // Reported states.
     /// The state is of another order.
@@ -194,6 +196,7 @@ impl Refusal {
             Refusal::JobState => (50, "JobState", 409),
             Refusal::Limit => (51, "Limit", 409),
             Refusal::OrderKnown => (52, "OrderKnown", 409),
+            Refusal::BadStops => (53, "BadStops", 409),
             Refusal::OtherOrder => (60, "OtherOrder", 409),
             Refusal::UpdateNotSent => (61, "UpdateNotSent", 409),
             Refusal::UpdateBackwards => (62, "UpdateBackwards", 409),
