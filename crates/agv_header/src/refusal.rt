@@ -13,7 +13,7 @@ pub enum Verb {
 }
 
 /// Why the desk refuses a request. The numbers stay as they are for good.
-#[derive(Clone, Copy, Debug)]
+#[derive(Clone, Copy, Debug, PartialEq, Eq)]
 pub enum Refusal {
     // The face of HTTP; each of the first four ends the stream.
     /// The head of the request can't be read.
