@@ -1,9 +1,12 @@
 //! Reading a state message.
-ghost use Rattle.std.specs.Prelude.{◌≡◌, Ok, IfErr, IfOk, codes, nat_eq};
+ghost use Rattle.std.specs.Prelude.{◌≡◌, true, Ok, Err, IfErr, IfOk, codes, nat_eq};
 ghost use Rattle.std.specs.List.{starts_with};
 ghost use Rattle.serde_json.specs.View.{view};
+ghost use Rattle.agv_header.specs.declared.refusal.Refusal.TheVariants as refusal;
 ghost use Rattle.agv_message.specs.Body.{IsFaultOf};
+ghost use Rattle.agv_message.specs.Position.{has_position as holds_position};
 ghost use Rattle.agv_message.specs.State.{judged, state_of};
+ghost use Rattle.agv_message.specs.declared.body.BodyFault.TheVariants as fault;
 
 use crate::parts::Parts;
 use crate::position::has_position;
@@ -43,6 +46,8 @@ fn read_located(alloc: Global, state: &Value) -> Result<StateMessage, BodyFault>
 pub fn read_state(alloc: Global, body: &Value) -> Result<StateMessage, BodyFault>
     ensures ok { IfOk result (λ message. state_of (view body.now) ≡ Ok message) }
     ensures err { IfErr result (λ fault. IsFaultOf fault (state_of (view body.now))) }
+    ensures position { holds_position (view body.now) ≡ true
+        → result ≡ Err (fault.Refused refusal.Position) }
 {
     let is_located = has_position(body);
     if is_located {
