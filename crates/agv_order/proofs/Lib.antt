@@ -1,2 +1,5 @@
 mod Legs
+mod NewTrips
 mod Releases
+mod Walked
+mod Ways

@@ -96,6 +96,7 @@ impl Trip {
     ) -> Result<Trip, PlanFault>
         ensures ok { IfOk result (λ trip. planned layout.now vehicle jobs.now stops.now order at_node edges ≡ Ok trip) }
         ensures err { IfErr result (λ error. error ≢ fault.Memory → planned layout.now vehicle jobs.now stops.now order at_node edges ≡ Err error) }
+        ensures well_formed { IsTrue (stops_fit stops.now) → length stops.now ≤ 8 → IfOk result (IsWellFormed layout.now) }
     {
         let legs = legs_to(alloc, layout, jobs, at_node, stops)?;
         let way = way_of(alloc, &legs)?;
