@@ -14,7 +14,7 @@ use Rattle.agv_header.specs.Name.{name_cmp}
 use Rattle.agv_layout.specs.declared.draft.Draft.{Draft}
 use Rattle.agv_layout.specs.declared.edge.Ends.{Ends}
 use Rattle.agv_layout.specs.declared.station.Spot.{Spot}
-use Rattle.agv_layout.specs.Draft.{drawn, leads, stands, HasNode, AllLead, AllStand}
+use Rattle.agv_layout.specs.Draft.{drawn, leads_in_draft, stands_in_draft, HasNode, AllLead, AllStand}
 use Rattle.agv_layout.specs.Layout.{Name, Layout, IsNode, Leads, Stands}
 use Rattle.agv_layout.proofs.Maps.{names_total, contains-shown, each_found, all_values}
 
@@ -26,7 +26,7 @@ same_parts a b c d e f p q r = λ i. record { nodes = p i; edges = q i; stations
 node-Decides : (draft : Draft) (id : Name) → Decides (set.contains (drawn draft).nodes id) (IsNode (drawn draft) id)
 node-Decides draft id = (λ has. has, λ has. has)
 
-leads-Decides : (draft : Draft) (ends : Ends) → Decides (leads draft ends) (Leads (drawn draft) ends)
+leads-Decides : (draft : Draft) (ends : Ends) → Decides (leads_in_draft draft ends) (Leads (drawn draft) ends)
 leads-Decides draft ends =
     let at = λ (id : Name). Decides-at _ _ (sym (contains-shown draft.nodes.keys id)) (node-Decides draft id) in
     Decides-like _ (λ w. (w.0, w.1.0, w.1.1)) (λ w. (w.0, (w.1, w.2)))
@@ -35,25 +35,25 @@ leads-Decides draft ends =
 le-Decides : (a b : ℕ) → Decides (nat_le a b) (a ≤ b)
 le-Decides a b = (leb-true a b, le-leb a b)
 
-stands-Decides : (draft : Draft) (spot : Spot) → Decides (stands draft spot) (Stands (drawn draft) spot)
+stands-Decides : (draft : Draft) (spot : Spot) → Decides (stands_in_draft draft spot) (Stands (drawn draft) spot)
 stands-Decides draft spot =
     let at = Decides-at _ _ (sym (contains-shown draft.nodes.keys spot.node)) (node-Decides draft spot.node) in
     Decides-like _ (λ w. (w.0, w.1.0, w.1.1)) (λ w. (w.0, (w.1, w.2)))
     (Decides-and _ _ at (Decides-and _ _ (le-Decides 1 spot.capacity) (le-Decides spot.capacity 999)))
 
-pub AllLead-Decides : (draft : Draft) → IsStrictlySortedBy name_cmp (keys_of draft.edges.entries) → Decides (list_all (leads draft) (values_of draft.edges.entries)) (AllLead (drawn draft))
+pub AllLead-Decides : (draft : Draft) → IsStrictlySortedBy name_cmp (keys_of draft.edges.entries) → Decides (list_all (leads_in_draft draft) (values_of draft.edges.entries)) (AllLead (drawn draft))
 AllLead-Decides draft ordered =
     let es = draft.edges.entries in
     let P = Leads (drawn draft) in
     Decides-like _ (each_found P es) (all_values P es (IsDistinct-from_sorted name_cmp (keys_of es) ordered))
-    (Decides-by_and (leads draft) P (list_all (leads draft)) (leads-Decides draft) refl (λ _ _. refl) (values_of es))
+    (Decides-by_and (leads_in_draft draft) P (list_all (leads_in_draft draft)) (leads-Decides draft) refl (λ _ _. refl) (values_of es))
 
-pub AllStand-Decides : (draft : Draft) → IsStrictlySortedBy name_cmp (keys_of draft.stations.entries) → Decides (list_all (stands draft) (values_of draft.stations.entries)) (AllStand (drawn draft))
+pub AllStand-Decides : (draft : Draft) → IsStrictlySortedBy name_cmp (keys_of draft.stations.entries) → Decides (list_all (stands_in_draft draft) (values_of draft.stations.entries)) (AllStand (drawn draft))
 AllStand-Decides draft ordered =
     let es = draft.stations.entries in
     let P = Stands (drawn draft) in
     Decides-like _ (each_found P es) (all_values P es (IsDistinct-from_sorted name_cmp (keys_of es) ordered))
-    (Decides-by_and (stands draft) P (list_all (stands draft)) (stands-Decides draft) refl (λ _ _. refl) (values_of es))
+    (Decides-by_and (stands_in_draft draft) P (list_all (stands_in_draft draft)) (stands-Decides draft) refl (λ _ _. refl) (values_of es))
 
 -- ---- whether there is a node
 any_some : (ks : List Name) (k : Name) → list_any (is_at (name_cmp k)) ks ≡ true → 1 ≤ length ks

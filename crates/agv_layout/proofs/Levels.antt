@@ -8,8 +8,8 @@ module _ {K : Type 0} (Step : K → K → Type 0) (goal : K) where
   abbrev Ways : ℕ → K → Type 0
   Ways = levels.Ways Step goal
 
-  abbrev IsWhole : (K → Option ℕ) → Type 0
-  IsWhole = levels.IsWhole Step goal
+  abbrev AreDistances : (K → Option ℕ) → Type 0
+  AreDistances = levels.AreDistances Step goal
 
   -- each distance is that of a way, and at most so great; each way of at most so many steps is known by a distance
   pub record IsUpTo (far : ℕ) (distance : K → Option ℕ) : Type 0 where
@@ -136,5 +136,5 @@ module _ {K : Type 0} (Step : K → K → Type 0) (goal : K) where
         (cases_lt below.0 far)
 
     -- at an empty level nothing is left to find
-    pub IsWhole-empty : IsWhole distance
-    IsWhole-empty = record { sound = λ v k e. (up.sound v k e).1; full = λ v j way. full_all j v way }
+    pub AreDistances-empty : AreDistances distance
+    AreDistances-empty = record { sound = λ v k e. (up.sound v k e).1; full = λ v j way. full_all j v way }

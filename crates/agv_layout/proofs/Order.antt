@@ -1,5 +1,5 @@
 -- The order of rows does not count, and rows give one layout at most.
-use Rattle.std.proofs.Common.{arith, ◌≤◌, ◌↔◌, ◌≡◌, ◌+◌, ◌<◌, List, [], ◌∷◌, length, cond, is_some, Some, None, Option, All, Contains, map, option_map, inl, inr, ⊎_elim, refl, sym, ap, subst, ◌∙◌, sum_by}
+use Rattle.std.proofs.Common.{arith, ℕ, ◌≤◌, ◌↔◌, ◌≡◌, ◌+◌, ◌<◌, List, [], ◌∷◌, length, cond, is_some, Some, None, Option, All, Contains, map, option_map, inl, inr, ⊎_elim, refl, sym, ap, subst, ◌∙◌, sum_by}
 use Rattle.std.specs.FinMap as map
 use Rattle.std.specs.FinSet as set
 use Rattle.std.specs.List.{filter_map, cons_option}
@@ -12,13 +12,16 @@ use Rattle.std.proofs.lemmas.List.Elements.{All-weaker, All-contains, Contains-g
 use Rattle.std.proofs.lemmas.List.Recursion.{is_sum_by}
 use Rattle.std.proofs.lemmas.List.Sorted.{IsPermutation-sym, Contains-permutation, sum_by-IsPermutation}
 use Rattle.std.proofs.lemmas.Map.Made.{is_member-Decides, length-from_keys, IsDistinct-from_count, AllPairs-from_IsDistinct, IsDistinct-from_AllPairs}
-use Rattle.agv_header.specs.Name.{name_cmp}
+use Rattle.agv_header.specs.Name.{IsName, name_cmp}
 use Rattle.agv_layout.specs.declared.row.LayoutRow.{LayoutRow}
-use Rattle.agv_layout.specs.Layout.{Name, Layout}
-use Rattle.agv_layout.specs.Rows.{node_in, edge_in, station_in, nodes_in, edges_in, stations_in, Differ, LeadsAmong, StandsAmong, IsEachOnce, IsOverLimit, IsSound, IsLayoutOf, IsReadAlike}
+use Rattle.agv_layout.specs.declared.row.LayoutRow.TheVariants as row
+use Rattle.agv_layout.specs.Draft.{plan_of}
+use Rattle.agv_layout.specs.Layout.{Name, Layout, KeepsRules}
+use Rattle.agv_layout.specs.Rows.{node_in, edge_in, station_in, nodes_in, edges_in, stations_in, Differ, LeadsAmong, StandsAmong, AreNamed, id_in, IsEachOnce, IsOverLimit, IsSound, IsLayoutOf, IsReadAlike}
 use Rattle.agv_layout.proofs.Drafts.{same_parts}
-use Rattle.agv_layout.proofs.Maps.{names_total, names_apart, names_equiv, decides_name}
-use Rattle.agv_layout.proofs.Sound.{said, sayer}
+use Rattle.agv_layout.proofs.Maps.{names_total, names_apart, names_equiv, decides_name, len-distinct, set_len-distinct}
+use Rattle.agv_layout.proofs.Rows.{AreDistinct, distinct_from}
+use Rattle.agv_layout.proofs.Sound.{said, sayer, layout_of, sound_from}
 
 -- ---- what is read of rows in another order
 one_more : {Y : Type 0} (o : Option Y) (ys : List Y) → length (cons_option o ys) ≡ cond (is_some o) 1 0 + length ys
@@ -130,3 +133,27 @@ one_layout rows one other is was =
     (set.same_set names_total names_apart one.nodes other.nodes (λ q. same_from_decides _ _ (is.nodes q) (was.nodes q)))
     (same_values one.edges other.edges _ is.edges was.edges)
     (same_values one.stations other.stations _ is.stations was.stations)
+
+-- ---- rows that a layout gives back
+within_limits : (rows : List LayoutRow) → AreDistinct rows → KeepsRules (plan_of rows) → IsOverLimit rows → ⊥
+within_limits rows d plan =
+    let few_nodes = subst (λ n. n ≤ 500) (set_len-distinct (nodes_in rows) d.nodes) plan.few_nodes in
+    let few_edges = subst (λ n. n ≤ 1500) (len-distinct (edges_in rows) d.edges) plan.few_edges in
+    let few_stations = subst (λ n. n ≤ 500) (len-distinct (stations_in rows) d.stations) plan.few_stations in
+    ⊎_elim (λ over. absurd (too_many few_nodes over)) (⊎_elim (λ over. absurd (too_many few_edges over)) (λ over. absurd (too_many few_stations over)))
+  where
+    too_many : {n most : ℕ} → n ≤ most → most < n → ⊥
+    too_many few over = omega arith
+
+each_named : (rows : List LayoutRow) (layout : Layout) → IsLayoutOf rows layout → KeepsRules layout → (r : LayoutRow) → Contains rows r → IsName (id_in r)
+each_named rows layout is plan (row.Node id) among = plan.nodes_named id ((is.nodes id).1 among)
+each_named rows layout is plan (row.Edge id start finish) among = plan.edges_named id _ ((is.edges id (record { start = start; finish = finish })).1 among)
+each_named rows layout is plan (row.Station id node capacity) among = plan.stations_named id _ ((is.stations id (record { node = node; capacity = capacity })).1 among)
+
+pub rows_of_layout : (rows : List LayoutRow) (layout : Layout) → IsEachOnce rows → IsLayoutOf rows layout → KeepsRules layout → (¬ IsOverLimit rows) × IsSound rows × AreNamed rows
+rows_of_layout rows layout once is plan =
+    let kept : KeepsRules (plan_of rows) = subst KeepsRules (one_layout rows layout (plan_of rows) is (layout_of rows once)) plan in (
+      within_limits rows (distinct_from rows once) kept,
+      sound_from rows once (record { some = kept.some; leads = kept.leads; stands = kept.stands }),
+      λ k d lt. each_named rows layout is plan _ (Contains-get_or rows k d lt),
+    )

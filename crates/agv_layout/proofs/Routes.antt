@@ -18,7 +18,7 @@ use Rattle.agv_layout.specs.declared.edge.Ends.{Ends}
 use Rattle.agv_layout.specs.Layout.{Layout, Name, IsNode}
 use Rattle.agv_layout.specs.Shown.{shown}
 use Rattle.agv_layout.specs.Arrivals.{Joins}
-use Rattle.agv_layout.specs.Levels.{Ways, IsWhole}
+use Rattle.agv_layout.specs.Levels.{Ways, AreDistances}
 use Rattle.agv_layout.specs.Walk.{IsWalk, IsCutOff, IsHops, IsBefore, IsRoute}
 use Rattle.agv_layout.specs.Ways.{is_less, is_nearer, is_way, first_way, followed}
 use Rattle.agv_layout.proofs.Maps.{names_total, ties_with_itself, get-shown}
@@ -58,7 +58,7 @@ module _ (inside : Inside) (goal : Name) where
   cut_off unknown v [] h = absurd (true≢false (sym (subst (IsNode layout) h.1 h.0) ∙ unknown))
   cut_off unknown v (id ∷ ids) h = cut_off unknown h.0 ids h.2
 
-  module _ (known : IsNode layout goal) (distances : BTreeMap Name ℕ) (whole : IsWhole (Joins edges) goal (get name_cmp distances)) where
+  module _ (known : IsNode layout goal) (distances : BTreeMap Name ℕ) (whole : AreDistances (Joins edges) goal (get name_cmp distances)) where
     hops_of : (v : Name) (o : Option ℕ) → get name_cmp distances v ≡ o → IsHops layout v goal o
     hops_of v None none = λ ids walk. let found = whole.full v (length ids) (ways_of_walk ids v walk) in absurd (some_none found.0 (sym found.1 ∙ none))
     hops_of v (Some n) some = record {

@@ -1,15 +1,16 @@
 -- Rows that give a layout, and the layout that they give.
 use Rattle.std.proofs.Common.{arith, ◌≡◌, ℕ, ◌<◌, ◌≤◌, ◌⊎◌, List, [], ◌∷◌, Some, None, Option, Contains, inl, inr, ⊎_elim, refl, sym, ap, subst, ◌∙◌}
 use Rattle.std.specs.List.{filter_map, cons_option}
-use Rattle.std.proofs.lemmas.List.Elements.{Contains-append_right, Contains-append_cases, Contains-push_cases}
+use Rattle.std.proofs.lemmas.List.Elements.{All-contains, Contains-append_right, Contains-append_cases, Contains-push_cases}
 use Rattle.std.proofs.lemmas.Option.{none-some, same_Some, some_pair_parts}
+use Rattle.agv_header.specs.Name.{IsName}
 use Rattle.agv_layout.specs.declared.edge.Ends.{Ends}
 use Rattle.agv_layout.specs.declared.row.LayoutRow.{LayoutRow}
 use Rattle.agv_layout.specs.declared.row.LayoutRow.TheVariants as row
 use Rattle.agv_layout.specs.declared.station.Spot.{Spot}
 use Rattle.agv_layout.specs.Draft.{plan_of, IsWhole}
 use Rattle.agv_layout.specs.Layout.{Name, Leads, Stands, KeepsRules}
-use Rattle.agv_layout.specs.Rows.{node_in, edge_in, station_in, nodes_in, edges_in, stations_in, LeadsAmong, StandsAmong, IsEachOnce, IsOverLimit, IsSound, IsLayoutOf}
+use Rattle.agv_layout.specs.Rows.{node_in, edge_in, station_in, nodes_in, edges_in, stations_in, LeadsAmong, StandsAmong, AreNamed, id_in, IsEachOnce, IsOverLimit, IsSound, IsLayoutOf}
 use Rattle.agv_layout.proofs.Maps.{contains-Decides, get_found, get_entry, each_found, all_values, len-distinct, set_len-distinct}
 use Rattle.agv_layout.proofs.Rows.{distinct_from}
 
@@ -132,14 +133,19 @@ whole_from rows sound =
 within : (n most : ℕ) → (most < n → ⊥) → n ≤ most
 within n most few = omega arith
 
-pub plan_from : (rows : List LayoutRow) → (IsOverLimit rows → ⊥) → IsEachOnce rows → IsWhole (plan_of rows) → KeepsRules (plan_of rows)
-plan_from rows few once whole =
+pub plan_from : (rows : List LayoutRow) → (IsOverLimit rows → ⊥) → IsEachOnce rows → AreNamed rows → IsWhole (plan_of rows) → KeepsRules (plan_of rows)
+plan_from rows few once named whole =
     let d = distinct_from rows once in
+    let is = layout_of rows once in
+    let name = λ (r : LayoutRow) (among : Contains rows r). All-contains (λ x. IsName (id_in x)) rows r named among in
     record {
       some = whole.some;
       few_nodes = subst (λ n. n ≤ 500) (sym (set_len-distinct (nodes_in rows) d.nodes)) (within _ _ (λ over. few (inl over)));
       few_edges = subst (λ n. n ≤ 1500) (sym (len-distinct (edges_in rows) d.edges)) (within _ _ (λ over. few (inr (inl over))));
       few_stations = subst (λ n. n ≤ 500) (sym (len-distinct (stations_in rows) d.stations)) (within _ _ (λ over. few (inr (inr over))));
+      nodes_named = λ id here. name (row.Node id) ((is.nodes id).0 here);
+      edges_named = λ id ends here. name (row.Edge id ends.start ends.finish) ((is.edges id ends).0 here);
+      stations_named = λ id spot here. name (row.Station id spot.node spot.capacity) ((is.stations id spot).0 here);
       leads = whole.leads;
       stands = whole.stands;
     }

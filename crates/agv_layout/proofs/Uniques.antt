@@ -1,5 +1,5 @@
 -- There is one way between two nodes, with as many edges as hops, and it joins nodes.
-use Rattle.std.proofs.Common.{◌≡◌, ⊎_elim, Option, Some, None, List, [], ◌∷◌, length, refl, sym, ap, subst, ◌∙◌, arith}
+use Rattle.std.proofs.Common.{◌≡◌, ⊎_elim, Option, Some, None, List, length, refl, sym, ap, ◌∙◌, arith}
 use Rattle.std.specs.declared.cmp.Ordering.TheVariants.{Less, Greater}
 use Rattle.std.specs.Ordering.{ordering_reverse}
 use Rattle.std.specs.Option.{option_map}
@@ -8,6 +8,7 @@ use Rattle.std.specs.Cmp.Lexicographic.{slice_cmp, lists_total}
 use Rattle.agv_header.specs.Name.{name_cmp}
 use Rattle.agv_layout.specs.Layout.{Layout, Name, IsNode, KeepsRules}
 use Rattle.agv_layout.specs.Walk.{IsWalk, IsHops, IsBefore, IsRoute, IsWayTo}
+use Rattle.agv_layout.specs.Walking.{begins_at_node, ends_at_node}
 use Rattle.agv_layout.proofs.Maps.{names_total}
 
 less_is_not_greater : Less ≡ Greater → ⊥
@@ -42,13 +43,5 @@ pub as_many_hops : (layout : Layout) (from to : Name) (way : Option (List Name))
 as_many_hops layout from to None h = h
 as_many_hops layout from to (Some ids) h = record { walk = (ids, h.walk, refl); least = h.shortest }
 
-ends_known : (layout : Layout) (from to : Name) (ids : List Name) → IsWalk layout from ids to → IsNode layout to
-ends_known layout from to [] h = subst (IsNode layout) h.1 h.0
-ends_known layout from to (id ∷ ids) h = ends_known layout h.0 to ids h.2
-
-starts_known : (layout : Layout) → KeepsRules layout → (from to : Name) (ids : List Name) → IsWalk layout from ids to → IsNode layout from
-starts_known layout plan from to [] h = h.0
-starts_known layout plan from to (id ∷ ids) h = (plan.leads id _ h.1).0
-
 pub nodes_joined : (layout : Layout) → KeepsRules layout → (from to : Name) (ids : List Name) → IsWalk layout from ids to → IsNode layout from × IsNode layout to
-nodes_joined layout plan from to ids h = (starts_known layout plan from to ids h, ends_known layout from to ids h)
+nodes_joined layout plan from to ids h = (begins_at_node layout plan from to ids h, ends_at_node layout from to ids h)

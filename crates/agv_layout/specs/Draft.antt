@@ -49,14 +49,14 @@ with_row plan (row.Station id node capacity) = record {
   stations = map.insert plan.stations id (record { node = node; capacity = capacity });
 }
 
--- as the tests of the code compute `Leads` and `Stands`
-abbrev pub leads : Draft → Ends → Bool
-leads draft ends =
+-- an edge leads from a node of the draft to another
+abbrev pub leads_in_draft : Draft → Ends → Bool
+leads_in_draft draft ends =
     contains name_cmp draft.nodes ends.start && (contains name_cmp draft.nodes ends.finish && not (pointwise nat_eq ends.start ends.finish))
 
 -- a station at a node, with a capacity of 1 to 999
-abbrev pub stands : Draft → Spot → Bool
-stands draft spot = contains name_cmp draft.nodes spot.node && (nat_le 1 spot.capacity && nat_le spot.capacity 999)
+abbrev pub stands_in_draft : Draft → Spot → Bool
+stands_in_draft draft spot = contains name_cmp draft.nodes spot.node && (nat_le 1 spot.capacity && nat_le spot.capacity 999)
 
 -- there is a node
 abbrev pub HasNode : Layout → Type 0

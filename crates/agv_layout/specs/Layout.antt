@@ -2,7 +2,7 @@
 use Rattle.std.specs.Prelude.{◌≡◌, ◌≢◌, ℕ, ◌≤◌, List, Some, IsTrue}
 use Rattle.std.specs.FinMap as map
 use Rattle.std.specs.FinSet as set
-use Rattle.agv_header.specs.Name.{name_cmp}
+use Rattle.agv_header.specs.Name.{name_cmp, IsName}
 use Rattle.agv_layout.specs.declared.edge.Ends.{Ends}
 use Rattle.agv_layout.specs.declared.edge.Edge.{Edge}
 use Rattle.agv_layout.specs.declared.station.Spot.{Spot}
@@ -38,12 +38,16 @@ Leads layout ends = IsNode layout ends.start × IsNode layout ends.finish × (en
 abbrev pub Stands : Layout → Spot → Type 0
 Stands layout spot = IsNode layout spot.node × (1 ≤ spot.capacity) × (spot.capacity ≤ 999)
 
--- what holds of every layout: there is a node, and there are at most 500 nodes, 1,500 edges and 500 stations
+-- what holds of every layout: there is a node, there are at most 500 nodes, 1,500 edges and 500 stations, and each has a name;
+-- edges lead from a node to another, and stations are at nodes and have room for 1 to 999 loads
 pub record KeepsRules (layout : Layout) : Type 0 where
   pub some : 1 ≤ set.len layout.nodes
   pub few_nodes : set.len layout.nodes ≤ 500
   pub few_edges : map.len layout.edges ≤ 1500
   pub few_stations : map.len layout.stations ≤ 500
+  pub nodes_named : (id : Name) → IsNode layout id → IsName id
+  pub edges_named : (id : Name) (ends : Ends) → IsEdge layout id ends → IsName id
+  pub stations_named : (id : Name) (spot : Spot) → IsStation layout id spot → IsName id
   pub leads : (id : Name) (ends : Ends) → IsEdge layout id ends → Leads layout ends
   pub stands : (id : Name) (spot : Spot) → IsStation layout id spot → Stands layout spot
 

@@ -8,6 +8,6 @@ module _ {K : Type 0} (Step : K → K → Type 0) (goal : K) where
   Ways (suc n) start = (next : K) × Step start next × Ways n next
 
   -- every way is known by a distance, and every distance is that of a way
-  pub record IsWhole (distance : K → Option ℕ) : Type 0 where
+  pub record AreDistances (distance : K → Option ℕ) : Type 0 where
     pub sound : (v : K) (k : ℕ) → distance v ≡ Some k → Ways k v
     pub full : (v : K) (j : ℕ) → Ways j v → (k : ℕ) × (distance v ≡ Some k) × (k ≤ j)

@@ -6,4 +6,5 @@ pub mod Levels
 pub mod Rows
 pub mod Shown
 pub mod Walk
+pub mod Walking
 pub mod Ways

@@ -2,6 +2,7 @@
 use Rattle.std.specs.Prelude.{◌≢◌, ◌⊎◌, ◌↔◌, ◌<◌, ◌≤◌, List, length, Option, None, Some, All, AllPairs, Contains}
 use Rattle.std.specs.List.{filter_map}
 use Rattle.std.specs.Map.{keys_of, values_of}
+use Rattle.agv_header.specs.Name.{IsName}
 use Rattle.agv_layout.specs.declared.edge.Ends.{Ends}
 use Rattle.agv_layout.specs.declared.row.LayoutRow.{LayoutRow}
 use Rattle.agv_layout.specs.declared.row.LayoutRow.TheVariants as row
@@ -25,6 +26,16 @@ abbrev pub station_in : LayoutRow → Option (Name × Spot)
 station_in (row.Node id) = None
 station_in (row.Edge id start finish) = None
 station_in (row.Station id node capacity) = Some (id, record { node = node; capacity = capacity })
+
+-- the id of the node, edge or station
+abbrev pub id_in : LayoutRow → Name
+id_in (row.Node id) = id
+id_in (row.Edge id start finish) = id
+id_in (row.Station id node capacity) = id
+
+-- each id is a name
+abbrev pub AreNamed : List LayoutRow → Type 0
+AreNamed rows = All (λ r. IsName (id_in r)) rows
 
 -- the nodes among rows
 abbrev pub nodes_in : List LayoutRow → List Name

@@ -10,7 +10,7 @@ abbrev pub IsBefore : List Name → List Name → Type 0
 IsBefore ids others = slice_cmp name_cmp ids others ≡ Less
 
 module _ (layout : Layout) where
-  -- a walk, as the names of its edges: each begins where the one before finishes. No edge at all leads from a node to itself
+  -- a walk, as the names of its edges: each begins where the one before finishes. The empty list is a walk from a node to itself
   abbrev pub IsWalk : Name → List Name → Name → Type 0
   IsWalk from [] to = IsNode layout from × (from ≡ to)
   IsWalk from (id ∷ ids) to = (next : Name) × IsEdge layout id (record { start = from; finish = next }) × IsWalk next ids to

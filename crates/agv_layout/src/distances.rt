@@ -7,7 +7,7 @@ ghost use Rattle.std.specs.BTreeSet.{contains};
 ghost use Rattle.std.specs.FinSet as set;
 ghost use Rattle.std.specs.List.{All, list_any};
 ghost use Rattle.agv_layout.specs.declared.edge.Ends.{Ends as EndsOf};
-ghost use Rattle.agv_layout.specs.Levels.{IsWhole};
+ghost use Rattle.agv_layout.specs.Levels.{AreDistances};
 ghost use Rattle.agv_header.specs.Name.{name_cmp};
 ghost use Rattle.agv_layout.specs.Layout.{Name as NameOf};
 ghost use Rattle.agv_layout.specs.Arrivals.{is_among, starts_of, leads, leads_to_one, is_so, Joins};
@@ -135,7 +135,7 @@ pub(crate) fn distances_to(
     requires goal { contains name_cmp nodes.now goal ≡ true }
     requires few { set.len (set.from_list {R = name_cmp} nodes.now.keys) ≤ 500 }
     requires starts { (id : NameOf) (ends : EndsOf) → tree.get name_cmp edges.now id ≡ Some ends → contains name_cmp nodes.now ends.start ≡ true }
-    ensures { IfOk result (λ distances. IsWhole (Joins edges.now) goal (tree.get name_cmp distances)) }
+    ensures { IfOk result (λ distances. AreDistances (Joins edges.now) goal (tree.get name_cmp distances)) }
 {
     let arrivals = arrivals_of(alloc, edges)?;
     let mut distances = BTreeMap::new(alloc);

@@ -2,8 +2,9 @@
 ghost use Rattle.std.specs.Prelude.{◌≡◌, ◌↔◌, ◌&&◌, not, nat_eq, nat_le, [], Err, false, true, IsTrue, IfOk, IfErr, OnOk};
 ghost use Rattle.std.specs.Cmp.Lexicographic.{pointwise};
 ghost use Rattle.agv_layout.specs.declared.fault.LayoutFault.TheVariants as fault;
-ghost use Rattle.agv_layout.specs.Draft.{drawn, plan_of, has_id, with_row, leads, stands, HasNode, AllLead, AllStand, IsWhole};
-ghost use Rattle.agv_layout.specs.Rows.{IsEachOnce};
+ghost use Rattle.agv_layout.specs.Draft.{drawn, plan_of, has_id, with_row, leads_in_draft, stands_in_draft, HasNode, AllLead, AllStand, IsWhole};
+ghost use Rattle.agv_header.specs.Name.{IsName};
+ghost use Rattle.agv_layout.specs.Rows.{AreNamed, IsEachOnce, id_in};
 
 use crate::{Ends, LayoutFault, LayoutRow, Spot};
 use agv_header::Name;
@@ -66,7 +67,9 @@ impl Draft {
         ensures new { OnOk result (has_id (drawn self.old) row ≡ false) }
         ensures again { result ≡ Err fault.Bad → has_id (drawn self.old) row ≡ true }
         ensures limit { result ≡ Err fault.Limit → ⊥ }
+        ensures named { IsName (id_in row) }
     {
+        row.is_named();
         let is_new = self.put(row)?;
         if !is_new {
             return Err(LayoutFault::Bad);
@@ -80,6 +83,7 @@ impl Draft {
         ensures drawn { IfOk result (λ draft. drawn draft ≡ plan_of rows.now) }
         ensures bad { result ≡ Err fault.Bad → ¬ (IsEachOnce rows.now) }
         ensures limit { result ≡ Err fault.Limit → ⊥ }
+        ensures named { OnOk result (AreNamed rows.now) }
     {
         let mut draft = Draft::new(alloc);
         for row in rows {
@@ -95,13 +99,13 @@ impl Draft {
     }
 
     fn leads(&self, ends: Ends) -> bool
-        ensures { result ≡ leads self.now ends }
+        ensures { result ≡ leads_in_draft self.now ends }
     {
         self.nodes.contains(&ends.start) && self.nodes.contains(&ends.finish) && is_no_loop(ends)
     }
 
     fn stands(&self, spot: Spot) -> bool
-        ensures { result ≡ stands self.now spot }
+        ensures { result ≡ stands_in_draft self.now spot }
     {
         self.nodes.contains(&spot.node) && is_capacity(spot.capacity)
     }

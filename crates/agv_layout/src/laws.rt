@@ -1,9 +1,9 @@
 //! What holds of the definitions that the contracts of this crate cite, whatever the code does.
 //! Each function does nothing: its clause is the law.
-ghost use Rattle.std.specs.Prelude.{◌≡◌, List, Option, length, option_map};
+ghost use Rattle.std.specs.Prelude.{◌≡◌, List, ◌++◌, Option, length, option_map};
 ghost use Rattle.agv_layout.specs.declared.row.LayoutRow.{LayoutRow};
 ghost use Rattle.agv_layout.specs.Layout.{Layout as Plan, Name as NameOf, IsNode, KeepsRules};
-ghost use Rattle.agv_layout.specs.Rows.{IsLayoutOf, IsReadAlike};
+ghost use Rattle.agv_layout.specs.Rows.{AreNamed, IsEachOnce, IsLayoutOf, IsOverLimit, IsReadAlike, IsSound};
 ghost use Rattle.std.specs.List.Sorted.{IsPermutation};
 ghost use Rattle.agv_layout.specs.Walk.{IsWalk, IsHops, IsWayTo};
 
@@ -16,6 +16,13 @@ pub fn ignores_order()
 /// Rows give one layout at most.
 pub fn is_one_layout()
     ensures { (rows : List LayoutRow) (one other : Plan) → IsLayoutOf rows one → IsLayoutOf rows other → one ≡ other }
+{}
+
+/// From a layout back to rows: rows that are each once and have what the layout has are sound, each id in them is
+/// a name, and they are not too many, so they give this layout again.
+pub fn gives_sound_rows()
+    ensures { (rows : List LayoutRow) (layout : Plan) → IsEachOnce rows → IsLayoutOf rows layout → KeepsRules layout
+        → (¬ IsOverLimit rows) × IsSound rows × AreNamed rows }
 {}
 
 /// There is one way from a node to another, or none.
@@ -34,4 +41,23 @@ pub fn has_as_many_hops()
 pub fn joins_nodes()
     ensures { (layout : Plan) → KeepsRules layout → (from to : NameOf) (ids : List NameOf)
         → IsWalk layout from ids to → IsNode layout from × IsNode layout to }
+{}
+
+/// Walks join: a walk, and a walk from where it ends, are one walk.
+pub fn joins_walks()
+    ensures { (layout : Plan) (from via to : NameOf) (ids others : List NameOf)
+        → IsWalk layout from ids via → IsWalk layout via others to → IsWalk layout from (ids ++ others) to }
+{}
+
+/// A walk splits at each of its nodes: wherever it is cut, the first part leads to a node, and the second on from there.
+pub fn splits_walks()
+    ensures { (layout : Plan) → KeepsRules layout → (from to : NameOf) (ids others : List NameOf)
+        → IsWalk layout from (ids ++ others) to
+        → (via : NameOf) × IsWalk layout from ids via × IsWalk layout via others to }
+{}
+
+/// A walk ends at one node.
+pub fn has_one_end()
+    ensures { (layout : Plan) (from to other : NameOf) (ids : List NameOf)
+        → IsWalk layout from ids to → IsWalk layout from ids other → to ≡ other }
 {}

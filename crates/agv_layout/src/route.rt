@@ -103,7 +103,7 @@ impl Layout {
 
     /// The way from one node to another, as the names of its edges: of all walks of least length the
     /// first, names being compared one by one. None where no walk leads there, and so where one of the
-    /// names is unknown; no edge at all from a node to itself.
+    /// names is unknown; the empty list from a node to itself.
     ///
     /// At each node it takes the edge of least name that leads nearer. The time is that of the nodes
     /// and the edges, each times the depth of a map. `Memory` for want of memory alone.

@@ -1,6 +1,7 @@
 //! The rows of a layout, as a file or a table lists them.
 ghost use Rattle.std.specs.Prelude.{◌↔◌, ◌⊎◌, ◌<◌, IsTrue};
-ghost use Rattle.agv_layout.specs.Rows.{IsOverLimit};
+ghost use Rattle.agv_header.specs.Name.{IsName};
+ghost use Rattle.agv_layout.specs.Rows.{IsOverLimit, id_in};
 
 use agv_header::Name;
 
@@ -13,6 +14,19 @@ pub enum LayoutRow {
     Edge { id: Name, start: Name, finish: Name },
     /// A place for loads at a node; `capacity` is how many fit there.
     Station { id: Name, node: Name, capacity: u32 },
+}
+
+impl LayoutRow {
+    // The id of a row is a name. It does nothing: a proof calls it for its clause.
+    pub(crate) fn is_named(&self)
+        ensures { IsName (id_in self.now) }
+    {
+        let _bytes = match self {
+            LayoutRow::Node { id } => id.as_bytes(),
+            LayoutRow::Edge { id, .. } => id.as_bytes(),
+            LayoutRow::Station { id, .. } => id.as_bytes(),
+        };
+    }
 }
 
 /// The most nodes of a layout.

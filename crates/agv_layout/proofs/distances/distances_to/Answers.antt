@@ -10,7 +10,7 @@ use Rattle.agv_layout.specs.Layout.{Name}
 use Rattle.agv_layout.specs.Arrivals.{is_among, leads_to_one, Joins}
 use Rattle.agv_layout.proofs.Maps.{same_name, ties_with_itself}
 use Rattle.agv_layout.proofs.Joined.{IsOneFrom-leads, few_distances, known_next}
-use Rattle.agv_layout.proofs.Levels.{IsUpTo-start, IsLevel-start, IsUpTo-next, IsLevel-next, IsWhole-empty}
+use Rattle.agv_layout.proofs.Levels.{IsUpTo-start, IsLevel-start, IsUpTo-next, IsLevel-next, AreDistances-empty}
 use Rattle.agv_layout.proofs.distances.distances_to.Goals as goal
 
 or-false : (b : Bool) → (b || false) ≡ b
@@ -69,4 +69,4 @@ pub returns : goal.returns
 returns c =
     let h = c.loop-alloc.invariant in
     let empty : vec_len c.loop-alloc.level ≡ 0 = grind (arith, nat_tests, c.loop-alloc-test.ensures) in
-    IsWhole-empty (Joins c.args.edges.now) c.args.goal c.loop-alloc.hops (get name_cmp c.loop-alloc.distances) (is_among c.loop-alloc.level.items) h.0 h.1 (λ v. ap (λ l. is_among l v) (nil_from_length c.loop-alloc.level.items (sym c.loop-alloc.level.ok.0 ∙ empty)))
+    AreDistances-empty (Joins c.args.edges.now) c.args.goal c.loop-alloc.hops (get name_cmp c.loop-alloc.distances) (is_among c.loop-alloc.level.items) h.0 h.1 (λ v. ap (λ l. is_among l v) (nil_from_length c.loop-alloc.level.items (sym c.loop-alloc.level.ok.0 ∙ empty)))

@@ -23,7 +23,7 @@ pub invariant_of-result : goal.invariant_of-result
 invariant_of-result c =
     let drawn = c.in_ok-draft.ensures.drawn in
     let whole = subst IsWhole drawn (c.is_whole.ensures.0 c.if-not-is_whole.false) in
-    subst KeepsRules (sym drawn) (plan_from c.args.rows.now (iff_false c.are_over_limit.ensures c.if-are_over_limit.false) c.in_ok-draft.ensures.once whole)
+    subst KeepsRules (sym drawn) (plan_from c.args.rows.now (iff_false c.are_over_limit.ensures c.if-are_over_limit.false) c.in_ok-draft.ensures.once c.in_ok-draft.ensures.named whole)
 
 pub returns-clause-ok : goal.returns-clause-ok
 returns-clause-ok c =

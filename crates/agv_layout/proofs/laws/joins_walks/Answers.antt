@@ -1,0 +1,5 @@
+use Rattle.agv_layout.specs.Walking.{walks_join}
+use Rattle.agv_layout.proofs.laws.joins_walks.Goals as goal
+
+pub returns : goal.returns
+returns c = walks_join
