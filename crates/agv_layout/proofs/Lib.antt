@@ -1,6 +1,7 @@
 mod Among
 mod Drafts
 mod Followed
+mod InOrder
 mod Joined
 mod Levels
 mod Maps

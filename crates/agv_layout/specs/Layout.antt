@@ -2,6 +2,7 @@
 use Rattle.std.specs.Prelude.{◌≡◌, ◌≢◌, ℕ, ◌≤◌, List, Some, IsTrue}
 use Rattle.std.specs.FinMap as map
 use Rattle.std.specs.FinSet as set
+use Rattle.std.specs.List.Sorted.{IsStrictlySortedBy}
 use Rattle.agv_header.specs.Name.{name_cmp, IsName}
 use Rattle.agv_layout.specs.declared.edge.Ends.{Ends}
 use Rattle.agv_layout.specs.declared.edge.Edge.{Edge}
@@ -50,6 +51,11 @@ pub record KeepsRules (layout : Layout) : Type 0 where
   pub stations_named : (id : Name) (spot : Spot) → IsStation layout id spot → IsName id
   pub leads : (id : Name) (ends : Ends) → IsEdge layout id ends → Leads layout ends
   pub stands : (id : Name) (spot : Spot) → IsStation layout id spot → Stands layout spot
+
+-- the nodes, each once, in the order of their names
+pub record AreNodesInOrder (layout : Layout) (ids : List Name) : Type 0 where
+  pub ordered : IsStrictlySortedBy name_cmp ids
+  pub all : set.from_list ids ≡ layout.nodes
 
 -- the edge of this name, with these ends
 abbrev pub edge_of : Name → Ends → Edge

@@ -3,7 +3,7 @@ ghost use Rattle.std.specs.Prelude.{◌≡◌, ◌↔◌, Err, IfOk, option_map}
 ghost use Rattle.std.specs.FinMap as map;
 ghost use Rattle.std.specs.FinSet as set;
 ghost use Rattle.agv_layout.specs.declared.fault.LayoutFault.TheVariants as fault;
-ghost use Rattle.agv_layout.specs.Layout.{Layout as Plan, edge_of, station_of, KeepsRules};
+ghost use Rattle.agv_layout.specs.Layout.{Layout as Plan, AreNodesInOrder, edge_of, station_of, KeepsRules};
 ghost use Rattle.agv_layout.specs.Rows.{IsOverLimit, IsSound, IsLayoutOf};
 
 use crate::draft::Draft;
@@ -11,11 +11,11 @@ use crate::row::are_over_limit;
 use crate::{Edge, Ends, LayoutFault, LayoutRow, Spot, Station};
 use agv_header::{Memory, Name};
 use std::alloc::Global;
-use std::collections::{BTreeMap, BTreeSet};
+use std::collections::{BTreeMap, BTreeSet, btree_map, btree_set};
 use std::marker::Model;
 
 /// The nodes, edges and stations of one warehouse, as rows that are a layout give them.
-#[derive(Drop)]
+#[derive(Debug, Drop)]
 pub struct Layout {
     pub(crate) nodes: BTreeSet<Name>,
     pub(crate) edges: BTreeMap<Name, Ends>,
@@ -93,6 +93,48 @@ impl Layout {
             edges: copy_edges(&self.edges)?,
             stations: self.stations.clone()?,
         })
+    }
+
+    /// The nodes, in the order of their names.
+    pub fn nodes(&self) -> btree_set::Iter<'_, Name>
+        ensures nodes { AreNodesInOrder self.now result }
+    {
+        self.nodes.iter()
+    }
+
+    /// The edges, in the order of their names: the name of each, and where it leads.
+    pub fn edges(&self) -> btree_map::Iter<'_, Name, Ends>
+        ensures edges { result ≡ map.entries self.now.edges }
+    {
+        self.edges.iter()
+    }
+
+    /// The stations, in the order of their names: the name of each, and where it is with how much room.
+    pub fn stations(&self) -> btree_map::Iter<'_, Name, Spot>
+        ensures stations { result ≡ map.entries self.now.stations }
+    {
+        self.stations.iter()
+    }
+
+    /// How many nodes there are: 1 to 500.
+    pub fn node_count(&self) -> usize
+        ensures { result ≡ set.len self.now.nodes }
+    {
+        self.nodes.len()
+    }
+
+    /// How many edges there are: at most 1,500.
+    pub fn edge_count(&self) -> usize
+        ensures { result ≡ map.len self.now.edges }
+    {
+        self.edges.len()
+    }
+
+    /// How many stations there are: at most 500.
+    pub fn station_count(&self) -> usize
+        ensures { result ≡ map.len self.now.stations }
+    {
+        self.stations.len()
     }
 
     /// Whether this is a node of the layout.

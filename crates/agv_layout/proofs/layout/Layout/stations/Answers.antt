@@ -1,0 +1,10 @@
+use Rattle.std.proofs.Common.{sym, ap, ◌∙◌}
+use Rattle.std.specs.FinMap as map
+use Rattle.agv_layout.specs.Layout.{Layout as Plan}
+use Rattle.agv_layout.proofs.InOrder.{entries-shown}
+use Rattle.agv_layout.proofs.layout.Layout.stations.Goals as goal
+
+pub returns : goal.returns
+returns c = record {
+  stations = c.iter.ensures.rest ∙ sym (entries-shown _ c.iter.ensures.ordered) ∙ ap (λ (layout : Plan). map.entries layout.stations) c.self.view_is;
+}
