@@ -11,9 +11,9 @@ use Rattle.std.proofs.lemmas.Str.{IsUtf8-from_ascii}
 use Rattle.std.proofs.lemmas.Str.Ascii.{IsAscii-nil, IsAscii-cons}
 use Rattle.std.proofs.lemmas.Str.Parse.{IsDigitsTest, IsNumeralModel, numerals_by_value, digits_value_short, parse_gives}
 use Rattle.csv.specs.Records.{field_at}
-use Rattle.agv_header.specs.Name.{is_name, IsUtf8-name}
+use Rattle.agv_header.specs.Name.{is_name}
 use Rattle.agv_layout.specs.declared.row.LayoutRow.TheVariants.{Edge}
-use Rattle.agv_count.specs.LayoutFile.{edge_in, is_capacity}
+use Rattle.agv_count.specs.LayoutFile.{edge_row, is_capacity}
 
 -- four fields, each read at its place
 pub four_fields : (fs : List (List ℕ)) (a b c d : List ℕ) → length fs ≡ 4
@@ -26,6 +26,14 @@ four_fields (p ∷ q ∷ r ∷ []) a b c d n h0 h1 h2 h3 = cc h3
 four_fields (p ∷ q ∷ r ∷ s ∷ []) a b c d n h0 h1 h2 h3 = cc
 four_fields (p ∷ q ∷ r ∷ s ∷ t ∷ fs) a b c d n h0 h1 h2 h3 = absurd (omega arith)
 
+-- and two
+pub two_at : (fs : List (List ℕ)) (a b : List ℕ) → length fs ≡ 2 → Some a ≡ field_at fs 0 → Some b ≡ field_at fs 1 → fs ≡ a ∷ b ∷ []
+unfolding field_at
+two_at [] a b n h0 h1 = cc h0
+two_at (p ∷ []) a b n h0 h1 = cc h1
+two_at (p ∷ q ∷ []) a b n h0 h1 = cc
+two_at (p ∷ q ∷ r ∷ fs) a b n h0 h1 = absurd (omega arith)
+
 -- a field that is there
 field_there : (fs : List (List ℕ)) (i : ℕ) → i < length fs → None ≡ field_at fs i → ⊥
 unfolding field_at
@@ -33,8 +41,8 @@ field_there [] i within h = absurd (omega arith)
 field_there (f ∷ fs) zero within h = cc h
 field_there (f ∷ fs) (suc i) within h = field_there fs i (omega arith) h
 
-pub too_few : (fs : List (List ℕ)) (i : ℕ) → i < 4 → None ≡ field_at fs i → length fs ≢ 4
-too_few fs i within h four = field_there fs i (omega arith) h
+pub too_few : (fs : List (List ℕ)) (n i : ℕ) → i < n → None ≡ field_at fs i → length fs ≢ n
+too_few fs n i within h all = field_there fs i (omega arith) h
 
 -- a field that is text, and one that is none
 pub as_text : {E : Type 0} (r : Result (Bor (List ℕ)) E) (s : List ℕ) (t : Bor (List ℕ)) (Q : E → Type 0)
@@ -46,11 +54,6 @@ pub no_text : {E : Type 0} (r : Result (Bor (List ℕ)) E) (s : List ℕ) (Q : E
     → MatchResult r (λ x. (x.now ≡ s) × IsUtf8 s) (λ e. ¬ (IsUtf8 s) × Q e) → result_ok r ≡ None → ¬ (IsUtf8 s)
 no_text (Ok x) s Q h e = cc e
 no_text (Err x) s Q h e = h.0
-
--- what is no text is no name
-pub no_name : (s : List ℕ) (b : Bool) → is_name s ≡ b → ¬ (IsUtf8 s) → is_name s ≡ false
-no_name s true e h = absurd (h (IsUtf8-name s e))
-no_name s false e h = e
 
 digit_byte : (b : ℕ) → is_ascii_digit b ≡ true → b < 128
 digit_byte b h = grind (arith, nat_tests)
@@ -98,8 +101,8 @@ chose false s x e = cc
 
 -- an edge whose names are read
 pub edge_read : (id from to a b c : List ℕ) → Some a ≡ cond (is_name id) (Some id) None → Some b ≡ cond (is_name from) (Some from) None → Some c ≡ cond (is_name to) (Some to) None
-    → Some (Edge a b c) ≡ edge_in id from to
-unfolding edge_in
+    → Some (Edge a b c) ≡ edge_row id from to
+unfolding edge_row
 edge_read id from to a b c e f g =
     let first = chose (is_name id) id a e in
     let second = chose (is_name from) from b f in

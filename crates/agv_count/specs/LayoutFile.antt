@@ -1,53 +1,57 @@
 -- The layout file: a header, and then a record for each node, edge and station, in any order (this project's format).
-use Rattle.std.specs.Prelude.{ℕ, List, [], ◌∷◌, length, codes, Bool, ◌&&◌, ◌==◌, nat_lt, nat_le, if◌then◌else◌, Option, Some, None}
+use Rattle.std.specs.Prelude.{◌≡◌, false, refl, ℕ, List, [], ◌∷◌, length, codes, Bool, ◌&&◌, ◌==◌, nat_lt, nat_le, if◌then◌else◌, Option, Some, None}
 use Rattle.std.specs.Char.{is_ascii_digit}
 use Rattle.std.specs.List.{list_all}
-use Rattle.std.specs.Cmp.Lexicographic.{pointwise}
 use Rattle.std.specs.Str.{bytes_eq}
 use Rattle.std.specs.Str.Parse.{digits_value}
 use Rattle.agv_header.specs.Name.{is_name}
 use Rattle.agv_layout.specs.declared.row.LayoutRow.{LayoutRow}
 use Rattle.agv_layout.specs.declared.row.LayoutRow.TheVariants.{Node, Edge, Station}
-use Rattle.agv_count.specs.Records.{each, records_of}
+use Rattle.agv_count.specs.Records.{has_fields, records_of}
+use Rattle.agv_count.specs.Table.{rows_under}
 
--- the record is `kind,id,from,to`
-abbrev pub is_header : List (List ℕ) → Bool
-is_header fields =
-    pointwise bytes_eq fields (codes "kind" ∷ codes "id" ∷ codes "from" ∷ codes "to" ∷ [])
+-- the header is `kind,id,from,to`
+abbrev pub layout_columns : List (List ℕ)
+layout_columns = codes "kind" ∷ codes "id" ∷ codes "from" ∷ codes "to" ∷ []
 
 -- a capacity is written with 1 to 3 digits, leading zeros among them
 abbrev pub is_capacity : List ℕ → Bool
 is_capacity field = nat_lt 0 (length field) && nat_le (length field) 3 && list_all is_ascii_digit field
 
 -- `node,N1,,`: a name, and two empty fields
-unfoldable pub node_in : List ℕ → List ℕ → List ℕ → Option LayoutRow
-node_in id from to =
+unfoldable pub node_row : List ℕ → List ℕ → List ℕ → Option LayoutRow
+node_row id from to =
     if is_name id && length from == 0 && length to == 0 then Some (Node id) else None
 
 -- `edge,E12,N1,N2`: a name, the node that it leads from and the node that it leads to
-unfoldable pub edge_in : List ℕ → List ℕ → List ℕ → Option LayoutRow
-edge_in id from to =
+unfoldable pub edge_row : List ℕ → List ℕ → List ℕ → Option LayoutRow
+edge_row id from to =
     if is_name id && is_name from && is_name to then Some (Edge id from to) else None
 
 -- `station,A,N1,1`: a name, the node where it is, and its capacity
-unfoldable pub station_in : List ℕ → List ℕ → List ℕ → Option LayoutRow
-station_in id from to =
+unfoldable pub station_row : List ℕ → List ℕ → List ℕ → Option LayoutRow
+station_row id from to =
     if is_name id && is_name from && is_capacity to then Some (Station id from (digits_value 10 to)) else None
 
 -- the row that a record says, if it says one
 unfoldable pub row_in : List (List ℕ) → Option LayoutRow
 row_in (kind ∷ id ∷ from ∷ to ∷ []) =
-    if bytes_eq kind (codes "node") then node_in id from to
-    else (if bytes_eq kind (codes "edge") then edge_in id from to
-    else (if bytes_eq kind (codes "station") then station_in id from to
+    if bytes_eq kind (codes "node") then node_row id from to
+    else (if bytes_eq kind (codes "edge") then edge_row id from to
+    else (if bytes_eq kind (codes "station") then station_row id from to
     else None))
 row_in other = None
 
--- the rows that the records say, in order: the first is the header, and each of the others says a row
-abbrev pub rows_in : List (List (List ℕ)) → Option (List LayoutRow)
-rows_in [] = None
-rows_in (first ∷ rest) = if is_header first then each row_in rest else None
-
 -- the rows of a layout file, if the bytes are one
 abbrev pub layout_in : List ℕ → Option (List LayoutRow)
-layout_in bytes = rows_in (records_of bytes)
+layout_in bytes = rows_under layout_columns row_in (records_of bytes)
+
+-- a record of other than four fields says no row
+pub no_layout_row : (fields : List (List ℕ)) → has_fields 4 fields ≡ false → row_in fields ≡ None
+unfolding row_in
+no_layout_row [] e = refl
+no_layout_row (a ∷ []) e = refl
+no_layout_row (a ∷ b ∷ []) e = refl
+no_layout_row (a ∷ b ∷ c ∷ []) e = refl
+no_layout_row (a ∷ b ∷ c ∷ d ∷ []) e = cc e
+no_layout_row (a ∷ b ∷ c ∷ d ∷ f ∷ rest) e = refl

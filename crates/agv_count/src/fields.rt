@@ -1,13 +1,10 @@
 //! The fields of a record.
 ghost use Rattle.std.specs.Prelude.{◌≡◌, ◌≢◌, ◌∷◌, [], IfNone, IfSome, None, Some, if◌then◌else◌, length};
-ghost use Rattle.std.specs.Char.{is_ascii_digit};
-ghost use Rattle.std.specs.List.{list_all};
 ghost use Rattle.std.specs.Str.Parse.{digits_value};
 ghost use Rattle.csv.specs.Records.{fields_of};
-ghost use Rattle.agv_header.specs.Name.{is_name};
 ghost use Rattle.agv_count.specs.LayoutFile.{is_capacity};
 
-use agv_header::Name;
+use agv_header::are_digits;
 use csv::ByteRecord;
 use std::str;
 
@@ -37,20 +34,6 @@ impl<'a> Fields<'a> {
             to: raw.get(3)?,
         })
     }
-}
-
-/// The name that a field is.
-pub fn name(field: &[u8]) -> Option<Name>
-    ensures { result ≡ (if is_name field.now then Some field.now else None) }
-{
-    let text = str::from_utf8(field).ok()?;
-    Name::read(text).ok()
-}
-
-fn are_digits(field: &[u8]) -> bool
-    ensures { result ≡ list_all is_ascii_digit field.now }
-{
-    field.iter().all(|byte| byte.is_ascii_digit())
 }
 
 /// The most digits of a capacity.

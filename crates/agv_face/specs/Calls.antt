@@ -5,7 +5,7 @@ use Rattle.std.specs.Str.{bytes_eq, is_utf8}
 use Rattle.serde_json.specs.Data.{Data, null, boolean, number, string, array, object, Members, no_members, member}
 use Rattle.serde_json.specs.Read.{read}
 use Rattle.serde_json.specs.Find.{get, as_str}
-use Rattle.agv_header.specs.Name.{is_name}
+use Rattle.agv_header.specs.Name.{as_name}
 use Rattle.agv_face.specs.declared.call.Call.{Call}
 use Rattle.agv_face.specs.declared.call.Call.TheVariants as call
 use Rattle.agv_face.specs.Requests.{Request, is_plain}
@@ -17,10 +17,6 @@ question_mark = 63
 -- the target up to the first question mark
 abbrev pub path_of : List ℕ → List ℕ
 path_of target = before_first (λ b. b == question_mark) target
-
--- the text, if it is a name
-abbrev pub as_name : List ℕ → Option (List ℕ)
-as_name text = if is_name text then Some text else None
 
 -- how many members stand in a list
 abbrev pub count_members : Members → ℕ

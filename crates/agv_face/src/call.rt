@@ -1,14 +1,14 @@
 //! From a request to the call that it is.
 ghost use Rattle.std.specs.Prelude.{◌≡◌, ◌==◌, None, IfOk, if◌then◌else◌, option_and_then, position, codes};
+ghost use Rattle.agv_header.specs.Name.{as_name};
 ghost use Rattle.serde_json.specs.Find.{get, as_str};
 ghost use Rattle.serde_json.specs.View.{view};
-ghost use Rattle.agv_face.specs.Calls.{path_of, as_name, member_count, only_load, load_in_body, load_in_path, call_at};
+ghost use Rattle.agv_face.specs.Calls.{path_of, member_count, only_load, load_in_body, load_in_path, call_at};
 
 use crate::request::LentRequest;
 use agv_header::Name;
 use serde_json::Value;
 use std::alloc::{AllocError, Global};
-use std::str;
 
 /// A call of the desk.
 #[derive(Clone, Copy, Debug)]
@@ -36,16 +36,6 @@ fn path_of(target: &[u8]) -> &[u8]
     }
 }
 
-/// The name that the bytes spell, if they do.
-fn name_of(bytes: &[u8]) -> Option<Name>
-    ensures { result ≡ as_name bytes.now }
-{
-    match str::from_utf8(bytes) {
-        Ok(text) => Name::read(text).ok(),
-        Err(_) => None,
-    }
-}
-
 fn count_members(value: &Value) -> usize
     ensures { result ≡ member_count (view value.now) }
 {
@@ -59,7 +49,7 @@ fn count_members(value: &Value) -> usize
 fn load_member(value: &Value) -> Option<Name>
     ensures { result ≡ option_and_then as_name (option_and_then as_str (get (codes "load") (view value.now))) }
 {
-    name_of(value.get("load")?.as_str()?.as_bytes())
+    Name::of_bytes(value.get("load")?.as_str()?.as_bytes())
 }
 
 /// Whether it is an object with just one member.
@@ -95,7 +85,7 @@ fn load_in_body(alloc: Global, body: &[u8]) -> Result<Option<Name>, AllocError>
 fn load_in_path(path: &[u8]) -> Option<Name>
     ensures { result ≡ load_in_path path.now }
 {
-    name_of(path.strip_prefix(b"/loads/".as_slice())?)
+    Name::of_bytes(path.strip_prefix(b"/loads/".as_slice())?)
 }
 
 /// The call that the request is, or none where it is of another form.

@@ -1,12 +1,11 @@
 //! What the header lines of a request say.
 ghost use Rattle.std.specs.Prelude.{◌≡◌, ℕ, All, List, ◌++◌, ◌∷◌, [], length, map, min, true};
-ghost use Rattle.std.specs.List.{list_all};
-ghost use Rattle.std.specs.Char.{is_ascii_digit};
 ghost use Rattle.std.specs.Str.Parse.{digits_value};
 ghost use Rattle.httparse.specs.Spans.{IsHeaderWithin, header_bytes};
 ghost use Rattle.agv_face.specs.Lines.{same_word, values_of, has_line, is_number, length_given, content_length};
 ghost use Rattle.agv_face.specs.Found.{AreFound, found_length};
 
+use agv_header::are_digits;
 use httparse::spans::HeaderSpan;
 
 /// The values of the header lines of one name.
@@ -76,16 +75,10 @@ fn capped(digits: &[u8]) -> u32
     n
 }
 
-fn are_all_digits(bytes: &[u8]) -> bool
-    ensures { result ≡ list_all is_ascii_digit bytes.now }
-{
-    bytes.iter().all(|byte| byte.is_ascii_digit())
-}
-
 fn spells_number(bytes: &[u8]) -> bool
     ensures { result ≡ is_number bytes.now }
 {
-    !bytes.is_empty() && are_all_digits(bytes)
+    !bytes.is_empty() && are_digits(bytes)
 }
 
 fn length_of(values: Values<'_>) -> FoundLength

@@ -1,4 +1,5 @@
 pub mod Calendar
+pub mod Each
 pub mod Key
 pub mod KeyOrder
 pub mod Moment

@@ -1,7 +1,8 @@
 //! What every layer of the desk speaks of: names, vehicles, topics, moments and refusals.
 //!
 //! - [`Name`] is the name of a load, node, edge, station, job, order, reference, manufacturer or
-//!   vehicle. [`Name::read`] accepts exactly the texts of 1 to 32 bytes of `A-Z a-z 0-9 _ . : -`.
+//!   vehicle. [`Name::read`] accepts exactly the texts of 1 to 32 bytes of `A-Z a-z 0-9 _ . : -`, and
+//!   [`Name::of_bytes`] the same bytes. [`are_digits`] tests for digits.
 //! - [`VehicleKey`] names a vehicle, and [`Thing`] a node or an edge of the layout. The order of
 //!   vehicles can keep a map: it is total, and only equal vehicles tie.
 //! - [`topic_text`] writes where a vehicle's messages of a kind belong, as
@@ -15,6 +16,7 @@
 #![tactic(auto)]
 
 mod count;
+mod digits;
 mod key;
 mod memory;
 mod moment;
@@ -24,6 +26,7 @@ mod stamp;
 mod topic;
 
 pub use count::{is_fresh, next_number};
+pub use digits::are_digits;
 pub use key::{Thing, VehicleKey};
 pub use memory::Memory;
 pub use moment::Moment;

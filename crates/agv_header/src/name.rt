@@ -4,7 +4,7 @@ ghost use Rattle.std.specs.Ordering.{nat_cmp};
 ghost use Rattle.std.specs.Cmp.Lexicographic.{pointwise, slice_cmp, nat_list_eq_equiv, nat_list_cmp_total, texts_po, texts_ties};
 ghost use Rattle.std.specs.Cmp.{partial_equiv_from_equiv};
 ghost use Rattle.std.specs.List.{list_all};
-ghost use Rattle.agv_header.specs.Name.{is_name_byte, is_name, IsName};
+ghost use Rattle.agv_header.specs.Name.{is_name_byte, is_name, IsName, as_name};
 
 use std::cmp::Ordering;
 use std::marker::Model;
@@ -67,13 +67,21 @@ impl Name {
         ensures kept { IfOk result (λ name. name ≡ text.now) }
         ensures exact { IsOk result ↔ IsName text.now }
     {
-        let bytes = text.as_bytes();
+        Name::of_bytes(text.as_bytes()).ok_or(NotName)
+    }
+
+    /// The name that the bytes spell. It takes no memory.
+    ///
+    /// None where they are no text that [`Name::read`] reads.
+    pub fn of_bytes(bytes: &[u8]) -> Option<Name>
+        ensures { result ≡ as_name bytes.now }
+    {
         if !spells_name(bytes) {
-            return Err(NotName);
+            return None;
         }
         let mut padded = [0; 32];
         padded[..bytes.len()].copy_from_slice(bytes);
-        Ok(Name {
+        Some(Name {
             bytes: padded,
             len: bytes.len(),
         })

@@ -51,11 +51,6 @@ truth_of (Some d) = as_bool d
 unfoldable pub truth_at : List ℕ → Data → Option Bool
 truth_at name d = truth_of (member_at name d)
 
--- what is read of each item, if it can be read of every one
-abbrev pub each : {A : Type 0} → (Data → Option A) → List Data → Option (List A)
-each f [] = Some []
-each f (d ∷ ds) = option_and_then (λ x. option_map (λ xs. x ∷ xs) (each f ds)) (f d)
-
 -- two readings, if both can be made
 abbrev pub both : {A B : Type 0} → Option A → Option B → Option (A × B)
 both None other = None

@@ -1,7 +1,8 @@
 //! The lists of a state: the nodes still to be traversed, and the actions.
 ghost use Rattle.std.specs.Prelude.{◌≡◌, IfOk, codes, map};
 ghost use Rattle.serde_json.specs.View.{view};
-ghost use Rattle.agv_message.specs.Member.{each, whole_at};
+ghost use Rattle.agv_header.specs.Each.{each};
+ghost use Rattle.agv_message.specs.Member.{whole_at};
 ghost use Rattle.agv_message.specs.State.{action_at, actions_at, node_seqs_at, status_at};
 
 use crate::member::{items, text, whole};

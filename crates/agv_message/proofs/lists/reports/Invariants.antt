@@ -1,6 +1,6 @@
 use Rattle.std.proofs.Common.{◌≡◌, map, drop}
 use Rattle.serde_json.specs.View.{view}
-use Rattle.agv_message.specs.Member.{each}
+use Rattle.agv_header.specs.Each.{each}
 use Rattle.agv_message.specs.State.{action_at}
 use Rattle.agv_message.proofs.Arrays.{after}
 use Rattle.agv_message.proofs.lists.reports.Given as goal

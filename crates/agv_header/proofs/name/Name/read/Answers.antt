@@ -1,9 +1,9 @@
-use Rattle.std.proofs.Common.{refl, sym, ◌∙◌}
-use Rattle.agv_header.proofs.Names.{padded_front}
+use Rattle.agv_header.specs.Name.{is_name}
+use Rattle.agv_header.proofs.Names.{read_as_name}
 use Rattle.agv_header.proofs.name.Name.read.Goals as goal
 
-pub invariant_of-result : goal.invariant_of-result
-invariant_of-result c = padded_front c.as_bytes-bytes.result.now _ _ (sym c.spells_name.ensures ∙ c.if-not-spells_name.false) c.copy_from_slice.ensures.after refl
+pub returns-clause-kept : goal.returns-clause-kept
+returns-clause-kept c = rw (c.ok_or.ensures.value, c.of_bytes.ensures, c.as_bytes.ensures.value) (read_as_name c.args.text.now _ (is_name c.args.text.now)).0
 
 pub returns-clause-exact : goal.returns-clause-exact
-returns-clause-exact c = (λ _. cc, λ _. refl)
+returns-clause-exact c = rw (c.ok_or.ensures.value, c.of_bytes.ensures, c.as_bytes.ensures.value) (read_as_name c.args.text.now _ (is_name c.args.text.now)).1
