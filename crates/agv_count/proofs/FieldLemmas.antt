@@ -26,6 +26,14 @@ four_fields (p ∷ q ∷ r ∷ []) a b c d n h0 h1 h2 h3 = cc h3
 four_fields (p ∷ q ∷ r ∷ s ∷ []) a b c d n h0 h1 h2 h3 = cc
 four_fields (p ∷ q ∷ r ∷ s ∷ t ∷ fs) a b c d n h0 h1 h2 h3 = absurd (omega arith)
 
+-- and two
+pub two_at : (fs : List (List ℕ)) (a b : List ℕ) → length fs ≡ 2 → Some a ≡ field_at fs 0 → Some b ≡ field_at fs 1 → fs ≡ a ∷ b ∷ []
+unfolding field_at
+two_at [] a b n h0 h1 = cc h0
+two_at (p ∷ []) a b n h0 h1 = cc h1
+two_at (p ∷ q ∷ []) a b n h0 h1 = cc
+two_at (p ∷ q ∷ r ∷ fs) a b n h0 h1 = absurd (omega arith)
+
 -- a field that is there
 field_there : (fs : List (List ℕ)) (i : ℕ) → i < length fs → None ≡ field_at fs i → ⊥
 unfolding field_at
@@ -33,8 +41,8 @@ field_there [] i within h = absurd (omega arith)
 field_there (f ∷ fs) zero within h = cc h
 field_there (f ∷ fs) (suc i) within h = field_there fs i (omega arith) h
 
-pub too_few : (fs : List (List ℕ)) (i : ℕ) → i < 4 → None ≡ field_at fs i → length fs ≢ 4
-too_few fs i within h four = field_there fs i (omega arith) h
+pub too_few : (fs : List (List ℕ)) (n i : ℕ) → i < n → None ≡ field_at fs i → length fs ≢ n
+too_few fs n i within h all = field_there fs i (omega arith) h
 
 -- a field that is text, and one that is none
 pub as_text : {E : Type 0} (r : Result (Bor (List ℕ)) E) (s : List ℕ) (t : Bor (List ℕ)) (Q : E → Type 0)

@@ -1,6 +1,6 @@
 pub mod AllRecords
 pub mod EachRow
 pub mod Failures
-pub mod LayoutRows
+pub mod TableRows
 pub mod ReadSoFar
 pub mod FieldLemmas

@@ -1,20 +1,18 @@
 -- The layout file: a header, and then a record for each node, edge and station, in any order (this project's format).
-use Rattle.std.specs.Prelude.{ℕ, List, [], ◌∷◌, length, codes, Bool, ◌&&◌, ◌==◌, nat_lt, nat_le, if◌then◌else◌, Option, Some, None}
+use Rattle.std.specs.Prelude.{◌≡◌, false, refl, ℕ, List, [], ◌∷◌, length, codes, Bool, ◌&&◌, ◌==◌, nat_lt, nat_le, if◌then◌else◌, Option, Some, None}
 use Rattle.std.specs.Char.{is_ascii_digit}
 use Rattle.std.specs.List.{list_all}
-use Rattle.std.specs.Cmp.Lexicographic.{pointwise}
 use Rattle.std.specs.Str.{bytes_eq}
 use Rattle.std.specs.Str.Parse.{digits_value}
-use Rattle.agv_header.specs.Each.{each}
 use Rattle.agv_header.specs.Name.{is_name}
 use Rattle.agv_layout.specs.declared.row.LayoutRow.{LayoutRow}
 use Rattle.agv_layout.specs.declared.row.LayoutRow.TheVariants.{Node, Edge, Station}
-use Rattle.agv_count.specs.Records.{records_of}
+use Rattle.agv_count.specs.Records.{has_fields, records_of}
+use Rattle.agv_count.specs.Table.{rows_under}
 
--- the record is `kind,id,from,to`
-abbrev pub is_header : List (List ℕ) → Bool
-is_header fields =
-    pointwise bytes_eq fields (codes "kind" ∷ codes "id" ∷ codes "from" ∷ codes "to" ∷ [])
+-- the header is `kind,id,from,to`
+abbrev pub layout_columns : List (List ℕ)
+layout_columns = codes "kind" ∷ codes "id" ∷ codes "from" ∷ codes "to" ∷ []
 
 -- a capacity is written with 1 to 3 digits, leading zeros among them
 abbrev pub is_capacity : List ℕ → Bool
@@ -44,11 +42,16 @@ row_in (kind ∷ id ∷ from ∷ to ∷ []) =
     else None))
 row_in other = None
 
--- the rows that the records say, in order: the first is the header, and each of the others says a row
-abbrev pub rows_in : List (List (List ℕ)) → Option (List LayoutRow)
-rows_in [] = None
-rows_in (first ∷ rest) = if is_header first then each row_in rest else None
-
 -- the rows of a layout file, if the bytes are one
 abbrev pub layout_in : List ℕ → Option (List LayoutRow)
-layout_in bytes = rows_in (records_of bytes)
+layout_in bytes = rows_under layout_columns row_in (records_of bytes)
+
+-- a record of other than four fields says no row
+pub no_layout_row : (fields : List (List ℕ)) → has_fields 4 fields ≡ false → row_in fields ≡ None
+unfolding row_in
+no_layout_row [] e = refl
+no_layout_row (a ∷ []) e = refl
+no_layout_row (a ∷ b ∷ []) e = refl
+no_layout_row (a ∷ b ∷ c ∷ []) e = refl
+no_layout_row (a ∷ b ∷ c ∷ d ∷ []) e = cc e
+no_layout_row (a ∷ b ∷ c ∷ d ∷ f ∷ rest) e = refl

@@ -1,3 +1,5 @@
+pub mod CountFile
 pub mod Fault
 pub mod LayoutFile
 pub mod Records
+pub mod Table

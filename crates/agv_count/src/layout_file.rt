@@ -1,13 +1,13 @@
 //! The layout file.
-ghost use Rattle.std.specs.Prelude.{◌≡◌, ◌∷◌, ◌++◌, [], ◌&&◌, ◌==◌, Err, IfOk, OnOk, None, Some, codes, length, map, option_map};
+ghost use Rattle.std.specs.Prelude.{◌≡◌, ◌&&◌, ◌==◌, Err, IfOk, None, Some, codes, length};
 ghost use Rattle.std.specs.Str.{bytes_eq};
 ghost use Rattle.csv.specs.Records.{fields_of};
-ghost use Rattle.agv_count.specs.LayoutFile.{edge_row, is_header, layout_in, node_row, row_in, rows_in, station_row};
-ghost use Rattle.agv_header.specs.Each.{each};
+ghost use Rattle.agv_count.specs.LayoutFile.{edge_row, layout_columns, layout_in, no_layout_row, node_row, row_in, station_row};
+ghost use Rattle.agv_count.specs.Table.{is_record};
 
 use crate::CsvFault;
 use crate::fields::{Fields, capacity};
-use crate::records::read_records;
+use crate::table::{Row, read_table};
 use agv_header::Name;
 use agv_layout::LayoutRow;
 use csv::ByteRecord;
@@ -78,7 +78,7 @@ fn row(raw: &ByteRecord) -> Option<LayoutRow>
 }
 
 fn is_header(raw: &ByteRecord) -> bool
-    ensures { result ≡ is_header (fields_of raw.now) }
+    ensures { result ≡ is_record layout_columns (fields_of raw.now) }
 {
     Fields::of(raw).is_some_and(|fields| {
         fields.kind == b"kind".as_slice()
@@ -88,40 +88,20 @@ fn is_header(raw: &ByteRecord) -> bool
     })
 }
 
-/// Adds the row that a record says.
-fn add_row(rows: &mut Vec<LayoutRow>, raw: &ByteRecord) -> Result<(), CsvFault>
-    ensures ok { OnOk result (option_map (λ row. rows.old.items ++ row ∷ []) (row_in (fields_of raw.now)) ≡ Some rows.new.items) }
-    ensures bad { result ≡ Err CsvFault.BadCsv → row_in (fields_of raw.now) ≡ None }
-{
-    match row(raw) {
-        Some(found) => Ok(rows.push(found)?),
-        None => Err(CsvFault::BadCsv),
-    }
-}
+impl Row for LayoutRow {
+    ghost columns = { layout_columns };
 
-/// The rows that the records say, in order.
-fn rows(alloc: Global, records: &[ByteRecord]) -> Result<Vec<LayoutRow>, CsvFault>
-    ensures ok { IfOk result (λ rows. each row_in (map fields_of records.now) ≡ Some rows.items) }
-    ensures bad { result ≡ Err CsvFault.BadCsv → each row_in (map fields_of records.now) ≡ None }
-{
-    let mut rows = Vec::new(alloc);
-    for record in records {
-        add_row(&mut rows, record)?;
-    }
-    Ok(rows)
-}
+    ghost says = { row_in };
 
-fn rows_under_header(alloc: Global, records: &[ByteRecord]) -> Result<Vec<LayoutRow>, CsvFault>
-    ensures ok { IfOk result (λ rows. rows_in (map fields_of records.now) ≡ Some rows.items) }
-    ensures bad { result ≡ Err CsvFault.BadCsv → rows_in (map fields_of records.now) ≡ None }
-{
-    let Some((header, rest)) = records.split_first() else {
-        return Err(CsvFault::BadCsv);
-    };
-    if !is_header(header) {
-        return Err(CsvFault::BadCsv);
+    ghost full = { no_layout_row };
+
+    fn is_header(raw: &ByteRecord) -> bool {
+        is_header(raw)
     }
-    rows(alloc, rest)
+
+    fn of_record(raw: &ByteRecord) -> Option<LayoutRow> {
+        row(raw)
+    }
 }
 
 /// The rows of a layout file, in the order of the file.
@@ -134,6 +114,5 @@ pub fn read_layout(alloc: Global, bytes: &[u8]) -> Result<Vec<LayoutRow>, CsvFau
     ensures ok { IfOk result (λ rows. layout_in bytes.now ≡ Some rows.items) }
     ensures bad { result ≡ Err CsvFault.BadCsv → layout_in bytes.now ≡ None }
 {
-    let records = read_records(alloc, bytes)?;
-    rows_under_header(alloc, &records)
+    read_table(alloc, bytes)
 }

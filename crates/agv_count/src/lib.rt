@@ -9,10 +9,13 @@
 //! records have as many fields. One byte order mark at the start is dropped.
 #![tactic(auto)]
 
+mod count_file;
 mod fault;
 mod fields;
 mod layout_file;
 mod records;
+mod table;
 
+pub use count_file::read_count;
 pub use fault::CsvFault;
 pub use layout_file::read_layout;

@@ -1,0 +1,77 @@
+//! Files that are tables: a header, and then a record for each row.
+ghost use Rattle.std.specs.Prelude.{◌≡◌, ℕ, List, Option, ◌∷◌, ◌++◌, [], Err, IfOk, OnOk, None, Some, false, length, map, option_map};
+ghost use Rattle.csv.specs.Records.{fields_of};
+ghost use Rattle.agv_header.specs.Each.{each};
+ghost use Rattle.agv_count.specs.Records.{has_fields, records_of};
+ghost use Rattle.agv_count.specs.Table.{is_record, rows_under};
+
+use crate::CsvFault;
+use crate::records::read_records;
+use csv::ByteRecord;
+use std::alloc::Global;
+
+/// A row of a table: what a record of its file says.
+pub trait Row: Sized + Drop {
+    ghost columns: { List (List ℕ) };
+
+    ghost says: { List (List ℕ) → Option Self };
+
+    /// Whether a record is the header, which names the columns.
+    fn is_header(raw: &ByteRecord) -> bool
+        ensures { result ≡ is_record columns (fields_of raw.now) };
+
+    /// The row that a record says.
+    fn of_record(raw: &ByteRecord) -> Option<Self>
+        ensures { result ≡ says (fields_of raw.now) };
+
+    // A row has as many fields as there are columns.
+    ghost full: { (fields : List (List ℕ)) → has_fields (length columns) fields ≡ false → says fields ≡ None };
+}
+
+/// Adds the row that a record says.
+fn add_row<R: Row>(rows: &mut Vec<R>, raw: &ByteRecord) -> Result<(), CsvFault>
+    ensures ok { OnOk result (option_map (λ row. rows.old.items ++ row ∷ []) (R.says (fields_of raw.now)) ≡ Some rows.new.items) }
+    ensures bad { result ≡ Err CsvFault.BadCsv → R.says (fields_of raw.now) ≡ None }
+{
+    match R::of_record(raw) {
+        Some(found) => Ok(rows.push(found)?),
+        None => Err(CsvFault::BadCsv),
+    }
+}
+
+/// The rows that the records say, in order.
+fn rows<R: Row>(alloc: Global, records: &[ByteRecord]) -> Result<Vec<R>, CsvFault>
+    ensures ok { IfOk result (λ rows. each R.says (map fields_of records.now) ≡ Some rows.items) }
+    ensures bad { result ≡ Err CsvFault.BadCsv → each R.says (map fields_of records.now) ≡ None }
+{
+    let mut rows = Vec::new(alloc);
+    for record in records {
+        add_row(&mut rows, record)?;
+    }
+    Ok(rows)
+}
+
+fn rows_under_header<R: Row>(alloc: Global, records: &[ByteRecord]) -> Result<Vec<R>, CsvFault>
+    ensures ok { IfOk result (λ rows. rows_under R.columns R.says (map fields_of records.now) ≡ Some rows.items) }
+    ensures bad { result ≡ Err CsvFault.BadCsv → rows_under R.columns R.says (map fields_of records.now) ≡ None }
+{
+    let Some((header, rest)) = records.split_first() else {
+        return Err(CsvFault::BadCsv);
+    };
+    if !R::is_header(header) {
+        return Err(CsvFault::BadCsv);
+    }
+    rows(alloc, rest)
+}
+
+/// The rows of a file, in its order.
+///
+/// `BadCsv` where the file isn't CSV whose records have as many fields each, has no record, doesn't begin
+/// with the header, or has a record that is no row. `Memory` where an allocation was refused.
+pub fn read_table<R: Row>(alloc: Global, bytes: &[u8]) -> Result<Vec<R>, CsvFault>
+    ensures ok { IfOk result (λ rows. rows_under R.columns R.says (records_of bytes.now) ≡ Some rows.items) }
+    ensures bad { result ≡ Err CsvFault.BadCsv → rows_under R.columns R.says (records_of bytes.now) ≡ None }
+{
+    let records = read_records(alloc, bytes)?;
+    rows_under_header(alloc, &records)
+}
