@@ -4,7 +4,6 @@ use Rattle.std.specs.Option.{option_map, option_and_then}
 use Rattle.agv_layout.specs.Layout.{Layout}
 use Rattle.agv_stock.specs.declared.job.Job.{Job}
 use Rattle.std.proofs.lemmas.List.Folds.{length-flat_map-take}
-use Rattle.agv_layout.specs.declared.edge.Edge.{Edge}
 use Rattle.agv_order.specs.Plans.{leg_to, legs_to, way_of}
 use Rattle.agv_order.specs.declared.leg.Leg.{Leg}
 use Rattle.agv_order.specs.declared.stop.Stop.{Stop}

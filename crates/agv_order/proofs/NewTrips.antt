@@ -1,5 +1,5 @@
 -- A trip that was planned is well formed.
-use Rattle.std.proofs.Common.{arith, ◌≡◌, ℕ, zero, ◌+◌, ◌<◌, ◌≤◌, ◌≢◌, ◌&&◌, not, nat_lt, Bool, true, false, List, [], ◌∷◌, length, map, Option, None, Some, Result, Ok, Err, refl, sym, ap, subst, ◌∙◌, true≢false}
+use Rattle.std.proofs.Common.{arith, ◌≡◌, ℕ, ◌+◌, ◌≤◌, ◌&&◌, not, nat_lt, Bool, true, false, List, [], ◌∷◌, length, Option, None, Some, Ok, Err, refl, sym, ap, subst, ◌∙◌, true≢false}
 use Rattle.std.specs.List.{list_all}
 use Rattle.std.specs.Prelude.{IsTrue, if◌then◌else◌}
 use Rattle.std.proofs.lemmas.List.{length-map}
@@ -7,17 +7,17 @@ use Rattle.std.proofs.lemmas.Bool.Decides.{nat_tests}
 use Rattle.agv_header.specs.declared.key.VehicleKey.{VehicleKey}
 use Rattle.agv_layout.specs.Layout.{Layout}
 use Rattle.agv_stock.specs.declared.job.Job.{Job}
-use Rattle.agv_order.specs.Plans.{legs_to, way_of, act_at, acts_along, trip_over, trip_along, planned}
+use Rattle.agv_order.specs.Plans.{legs_to, way_of, acts_along, trip_over, trip_along, planned}
 use Rattle.agv_order.specs.Stops.{is_drop, stops_fit}
 use Rattle.agv_order.specs.Trips.{plan_of, stop_of}
-use Rattle.agv_order.specs.WellFormed.{IsRising, IsPlanned, IsUnderWay, IsWellFormed, is_reached, is_in_turn, is_over, has_not_begun}
+use Rattle.agv_order.specs.WellFormed.{IsRising, IsWellFormed, is_reached, is_in_turn, has_not_begun}
 use Rattle.agv_order.specs.declared.act.Act.{Act}
 use Rattle.agv_order.specs.declared.fault.PlanFault.TheVariants as fault
 use Rattle.agv_order.specs.declared.leg.Leg.{Leg}
 use Rattle.agv_order.specs.declared.stop.Stop.{Stop}
 use Rattle.agv_order.specs.declared.trip.Trip.{Trip}
 use Rattle.agv_order.proofs.Walked.{AreLegs, are_legs}
-use Rattle.agv_order.proofs.Ways.{tasks_along, way_known, whole_walk, tasks_stops, stations, rising, length-tasks_along}
+use Rattle.agv_order.proofs.Ways.{tasks_along, way_known, whole_walk, tasks_stops, stations, rising}
 
 -- ---- acts that have not begun
 all_waiting : (from : ℕ) (legs : List Leg) → list_all has_not_begun (acts_along from legs) ≡ true

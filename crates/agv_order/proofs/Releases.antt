@@ -1,5 +1,5 @@
 -- A well-formed trip after a release.
-use Rattle.std.proofs.Common.{arith, ◌≡◌, ℕ, ◌+◌, ◌<◌, ◌≤◌, ◌⊎◌, length, Option, Some, refl, sym, ap, subst, inr, ◌∙◌}
+use Rattle.std.proofs.Common.{arith, ◌≡◌, ℕ, Option, Some, refl, sym, subst, inr}
 use Rattle.agv_layout.specs.Layout.{Layout}
 use Rattle.agv_order.specs.Releases.{CanRelease, released}
 use Rattle.agv_order.specs.WellFormed.{IsConfirmed, IsUnderWay, IsWellFormed}

@@ -1,6 +1,6 @@
 -- Each leg of a plan leads by a walk from the stop before it to its own.
-use Rattle.std.proofs.Common.{◌≡◌, ℕ, List, [], ◌∷◌, map, All, Option, None, Some, refl, sym, ap, subst, ◌∙◌}
-use Rattle.std.specs.List.{filter_map, cons_option}
+use Rattle.std.proofs.Common.{◌≡◌, ℕ, List, [], ◌∷◌, All, Option, None, Some, refl, sym, ap, subst, ◌∙◌}
+use Rattle.std.specs.List.{cons_option}
 use Rattle.std.specs.Option.{option_map, option_and_then}
 use Rattle.std.specs.FinMap as finite
 use Rattle.std.proofs.lemmas.Option.{same_Some}
@@ -12,7 +12,8 @@ use Rattle.agv_layout.specs.declared.edge.Ends.{Ends}
 use Rattle.agv_layout.specs.declared.station.Spot.{Spot}
 use Rattle.agv_stock.specs.declared.job.Job.{Job}
 use Rattle.agv_order.specs.Plans.{job_named, station_of, edges_named, leg_over, leg_for, leg_to, legs_to}
-use Rattle.agv_order.specs.RouteOf.{route_of, route_of-is}
+use Rattle.agv_layout.specs.RouteOf.{route_of}
+use Rattle.agv_layout.proofs.RouteFound.{route_is_found}
 use Rattle.agv_order.specs.WellFormed.{IsEdgeOf, ids_of}
 use Rattle.agv_order.specs.declared.leg.Leg.{Leg}
 use Rattle.agv_order.specs.declared.stop.Stop.{Stop}
@@ -68,7 +69,7 @@ module _ (layout : Layout) where
   leg_by : (at : List ℕ) (stop : Stop) (job : Job) (spot : Spot) (ids : List (List ℕ)) → finite.get layout.stations (station_of stop.kind job) ≡ Some spot
       → route_of layout at spot.node ≡ Some ids → IsLeg at stop (leg_over layout stop job spot.node ids)
   leg_by at stop job spot ids e r =
-      let route = subst (IsWayTo layout at spot.node) r (route_of-is layout at spot.node) in
+      let route = subst (IsWayTo layout at spot.node) r (route_is_found layout at spot.node) in
       let are = are_edges at spot.node ids route.walk in
       record {
         made = refl;
@@ -100,4 +101,4 @@ module _ (layout : Layout) where
       let leg = chained (λ (leg : Leg). option_map (λ (others : List Leg). leg ∷ others) (legs_to layout jobs leg.goal stops)) (leg_to layout jobs at stop) legs e in
       let rest = mapped (λ (others : List Leg). leg.value ∷ others) (legs_to layout jobs leg.value.goal stops) legs leg.gives in
       subst (AreLegs at (stop ∷ stops)) rest.gives
-        (is_leg jobs at stop leg.value leg.here, are_legs jobs leg.value.goal stops rest.value rest.here)
+      (is_leg jobs at stop leg.value leg.here, are_legs jobs leg.value.goal stops rest.value rest.here)

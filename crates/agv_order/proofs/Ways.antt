@@ -1,22 +1,20 @@
 -- The way of all legs: it is a walk, the acts rise along it, and each is done at the node of its station.
-use Rattle.std.proofs.Common.{arith, ◌≡◌, ℕ, zero, suc, ◌+◌, ◌≤◌, List, [], ◌∷◌, ◌++◌, length, map, All, Option, Some, refl, sym, ap, subst, ◌∙◌, append-nil, append_assoc, length-append}
+use Rattle.std.proofs.Common.{arith, ◌≡◌, ℕ, suc, ◌+◌, List, [], ◌∷◌, ◌++◌, length, map, All, Some, refl, sym, ap, subst, ◌∙◌, append_assoc, length-append}
 use Rattle.std.specs.List.{slice_get}
 use Rattle.std.proofs.lemmas.List.{map-append}
 use Rattle.std.proofs.lemmas.List.Elements.{All-nil, All-cons, All-head, All-tail, All-append}
 use Rattle.std.proofs.lemmas.Option.{same_Some}
-use Rattle.agv_layout.specs.Layout.{Layout, IsNode, IsStation}
+use Rattle.agv_layout.specs.Layout.{Layout, IsNode}
 use Rattle.agv_layout.specs.Walk.{IsWalk}
 use Rattle.agv_layout.specs.Walking.{walks_join, ends_at_node}
 use Rattle.agv_layout.specs.declared.edge.Edge.{Edge}
 use Rattle.agv_layout.specs.declared.edge.Ends.{Ends}
-use Rattle.agv_layout.specs.declared.station.Spot.{Spot}
 use Rattle.agv_order.specs.Plans.{way_of, act_at, acts_along}
 use Rattle.agv_order.specs.Trips.{Task, task_of, stop_of, Plan, nodes_on}
 use Rattle.agv_order.specs.WellFormed.{IsEdgeOf, ids_of, IsRising, IsAtStation}
-use Rattle.agv_order.specs.declared.act.Act.{Act}
 use Rattle.agv_order.specs.declared.leg.Leg.{Leg}
 use Rattle.agv_order.specs.declared.stop.Stop.{Stop}
-use Rattle.agv_order.proofs.Walked.{IsLeg, AreLegs}
+use Rattle.agv_order.proofs.Walked.{AreLegs}
 
 -- the tasks at the ends of the legs
 abbrev pub tasks_along : ℕ → List Leg → List Task
@@ -58,17 +56,21 @@ module _ (layout : Layout) where
   rest_walk at [] (leg ∷ legs) node are = elim are [ ]
   rest_walk at (stop ∷ stops) [] node are = elim are [ ]
   rest_walk at (stop ∷ stops) (leg ∷ legs) node are =
-      let rest = rest_walk leg.goal stops legs (ends_at_node layout at leg.goal (ids_of leg.edges) are.0.walk) are.1 in
-      (rest.0, subst (λ ids. IsWalk layout at ids rest.0) (sym (map-append (λ (edge : Edge). edge.id) leg.edges (way_of legs)))
-        (walks_join layout at leg.goal rest.0 (ids_of leg.edges) (ids_of (way_of legs)) are.0.walk rest.1))
+      let rest = rest_walk leg.goal stops legs (ends_at_node layout at leg.goal (ids_of leg.edges) are.0.walk) are.1 in (
+        rest.0,
+        subst (λ ids. IsWalk layout at ids rest.0) (sym (map-append (λ (edge : Edge). edge.id) leg.edges (way_of legs)))
+            (walks_join layout at leg.goal rest.0 (ids_of leg.edges) (ids_of (way_of legs)) are.0.walk rest.1),
+      )
 
   pub whole_walk : (at : List ℕ) (stop : Stop) (stops : List Stop) (legs : List Leg) → AreLegs layout at (stop ∷ stops) legs
       → (finish : List ℕ) × IsWalk layout at (ids_of (way_of legs)) finish
   whole_walk at stop stops [] are = elim are [ ]
   whole_walk at stop stops (leg ∷ legs) are =
-      let rest = rest_walk leg.goal stops legs (ends_at_node layout at leg.goal (ids_of leg.edges) are.0.walk) are.1 in
-      (rest.0, subst (λ ids. IsWalk layout at ids rest.0) (sym (map-append (λ (edge : Edge). edge.id) leg.edges (way_of legs)))
-        (walks_join layout at leg.goal rest.0 (ids_of leg.edges) (ids_of (way_of legs)) are.0.walk rest.1))
+      let rest = rest_walk leg.goal stops legs (ends_at_node layout at leg.goal (ids_of leg.edges) are.0.walk) are.1 in (
+        rest.0,
+        subst (λ ids. IsWalk layout at ids rest.0) (sym (map-append (λ (edge : Edge). edge.id) leg.edges (way_of legs)))
+            (walks_join layout at leg.goal rest.0 (ids_of leg.edges) (ids_of (way_of legs)) are.0.walk rest.1),
+      )
 
   -- ---- the tasks
   pub tasks_stops : (from : ℕ) (at : List ℕ) (stops : List Stop) (legs : List Leg) → AreLegs layout at stops legs → map stop_of (tasks_along from legs) ≡ stops
@@ -88,14 +90,16 @@ module _ (layout : Layout) where
   stations_past start before at (stop ∷ stops) [] here are plan s e = elim are [ ]
   stations_past start before at (stop ∷ stops) (leg ∷ legs) here are plan s e =
       All-cons (IsAtStation layout plan) (task_of (act_at leg (length before + length leg.edges))) (tasks_along (length before + length leg.edges) legs)
-        (are.0.spot, are.0.station, node ∙ ap Some (there ∙ sym are.0.stands))
-        (subst (λ n. All (IsAtStation layout plan) (tasks_along n legs)) longer
-          (stations_past start (before ++ leg.edges) leg.goal stops legs there are.1 plan s (e ∙ sym (append_assoc before leg.edges (way_of legs)))))
+      (are.0.spot, are.0.station, node ∙ ap Some (there ∙ sym are.0.stands))
+      (subst (λ n. All (IsAtStation layout plan) (tasks_along n legs)) longer
+      (stations_past start (before ++ leg.edges) leg.goal stops legs there are.1 plan s (e ∙ sym (append_assoc before leg.edges (way_of legs)))))
     where
       longer : length (before ++ leg.edges) ≡ length before + length leg.edges
       longer = length-append before leg.edges
+
       there : end_of start (before ++ leg.edges) ≡ leg.goal
       there = end_of-append start before leg.edges ∙ ap (λ from. end_of from leg.edges) here ∙ ends_there at leg.goal leg.edges are.0.walk are.0.known
+
       node : slice_get (nodes_on plan.start plan.edges) (length before + length leg.edges) ≡ Some (end_of start (before ++ leg.edges))
       node =
           (λ i. slice_get (nodes_on (s i) ((e ∙ sym (append_assoc before leg.edges (way_of legs))) i)) (sym longer i))
@@ -108,9 +112,10 @@ module _ (layout : Layout) where
 -- the acts don't fall, and the last is done at the end
 pub rising : (from : ℕ) (legs : List Leg) → IsRising from (tasks_along from legs) (from + length (way_of legs))
 rising from [] = omega arith
-rising from (leg ∷ legs) =
-    (omega arith,
-     subst (IsRising (from + length leg.edges) (tasks_along (from + length leg.edges) legs)) longer (rising (from + length leg.edges) legs))
+rising from (leg ∷ legs) = (
+  omega arith,
+  subst (IsRising (from + length leg.edges) (tasks_along (from + length leg.edges) legs)) longer (rising (from + length leg.edges) legs),
+)
   where
     longer : (from + length leg.edges) + length (way_of legs) ≡ from + length (leg.edges ++ way_of legs)
     longer = omega (arith, length-append leg.edges (way_of legs))

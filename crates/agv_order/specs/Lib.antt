@@ -6,4 +6,3 @@ pub mod Messages
 pub mod Releases
 pub mod Joins
 pub mod Plans
-pub mod RouteOf

@@ -12,7 +12,7 @@ use Rattle.agv_message.specs.declared.order.ActKind.{ActKind}
 use Rattle.agv_message.specs.declared.order.ActKind.TheVariants.{Pick, Drop}
 use Rattle.agv_message.specs.declared.status.Status.TheVariants.{Waiting}
 use Rattle.agv_stock.specs.declared.job.Job.{Job}
-use Rattle.agv_order.specs.RouteOf.{route_of}
+use Rattle.agv_layout.specs.RouteOf.{route_of}
 use Rattle.agv_order.specs.declared.act.Act.{Act}
 use Rattle.agv_order.specs.declared.fault.PlanFault.{PlanFault}
 use Rattle.agv_order.specs.declared.fault.PlanFault.TheVariants as fault

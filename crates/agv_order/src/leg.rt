@@ -2,7 +2,7 @@
 ghost use Rattle.std.specs.Prelude.{◌≡◌, ◌⊎◌, ◌++◌, [], ◌∷◌, OnOk, Some, None, Err, IfOk, IfErr};
 ghost use Rattle.agv_layout.specs.Layout.{Name as NameOf};
 ghost use Rattle.agv_order.specs.Plans.{job_named, station_of, edges_named, leg_for, leg_to, act_at};
-ghost use Rattle.agv_order.specs.RouteOf.{route_of};
+ghost use Rattle.agv_layout.specs.RouteOf.{route_of};
 ghost use Rattle.agv_order.specs.declared.fault.PlanFault.TheVariants as fault;
 
 use crate::{Act, PlanFault, Stop};

@@ -1,7 +1,4 @@
-use Rattle.std.proofs.Common.{◌≡◌, nat_eq, drop}
-use Rattle.std.specs.List.{find}
-use Rattle.std.specs.Cmp.Lexicographic.{pointwise}
-use Rattle.agv_stock.specs.declared.job.Job.{Job}
+use Rattle.std.proofs.Common.{◌≡◌, drop}
 use Rattle.agv_order.specs.Plans.{job_named}
 use Rattle.agv_order.proofs.leg.job_named.Given as goal
 

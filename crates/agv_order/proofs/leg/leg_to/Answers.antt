@@ -1,6 +1,6 @@
-use Rattle.std.proofs.Common.{rules, ◌≡◌, Some, None, Err, IfOk, ap, sym, ◌∙◌}
+use Rattle.std.proofs.Common.{ap, sym}
 use Rattle.std.specs.Option.{option_and_then}
-use Rattle.agv_order.specs.Plans.{job_named, leg_for, leg_to}
+use Rattle.agv_order.specs.Plans.{leg_for, leg_to}
 use Rattle.agv_order.proofs.leg.leg_to.Goals as goal
 
 pub returns-in-Some-clause-ok : goal.returns-in-Some-clause-ok

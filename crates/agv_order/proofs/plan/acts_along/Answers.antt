@@ -1,7 +1,4 @@
-use Rattle.std.proofs.Common.{arith, ◌+◌, ◌≤◌, ◌≡◌, length, take}
-use Rattle.std.proofs.lemmas.List.Folds.{length-flat_map-take}
-use Rattle.agv_order.specs.Plans.{way_of}
-use Rattle.agv_order.specs.declared.leg.Leg.{Leg}
+use Rattle.std.proofs.Common.{arith}
 use Rattle.agv_order.proofs.Legs.{place_within}
 use Rattle.agv_order.proofs.plan.acts_along.Goals as goal
 
