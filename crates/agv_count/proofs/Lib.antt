@@ -4,3 +4,5 @@ pub mod Failures
 pub mod TableRows
 pub mod ReadSoFar
 pub mod FieldLemmas
+pub mod Pieces
+pub mod ShelfLemmas

@@ -2,4 +2,6 @@ pub mod CountFile
 pub mod Fault
 pub mod LayoutFile
 pub mod Records
+pub mod Reports
+pub mod Shelves
 pub mod Table

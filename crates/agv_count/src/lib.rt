@@ -10,12 +10,19 @@
 #![tactic(auto)]
 
 mod count_file;
+mod export;
 mod fault;
 mod fields;
+mod holds;
 mod layout_file;
 mod records;
+mod shelves;
+mod stock;
 mod table;
 
 pub use count_file::read_count;
+pub use export::loads_csv;
 pub use fault::CsvFault;
+pub use holds::hold_report;
 pub use layout_file::read_layout;
+pub use stock::stock_report;

@@ -1,0 +1,15 @@
+use Rattle.std.proofs.Common.{◌≡◌, ℕ, List, [], ◌∷◌, ◌++◌, Option, Some, Vec, Global, ap, cond, ◌∙◌}
+use Rattle.std.specs.BTreeMap.{is_at}
+use Rattle.agv_count.specs.Shelves.{loads_at}
+use Rattle.agv_count.proofs.ShelfLemmas.{items_of, items-kept, loads_at-put}
+use Rattle.agv_count.proofs.shelves.put.Goals as goal
+
+pub returns : goal.returns
+returns g c =
+    let total = g.met.K.Ord.total in
+    let fresh : c.unwrap_or-loads.result.items ≡ items_of c.remove.result = ap (λ (v : Vec (List ℕ) Global). v.items) c.unwrap_or-loads.ensures ∙ items-kept c.remove.result c.new.result c.new.ensures.items in
+    let kept : c.unwrap_or-loads.result.items ≡ loads_at g.K.Ord.cmp c.args.shelf.now c.args.at = fresh ∙ ap items_of c.remove.ensures.value in
+    λ q.
+    loads_at-put total c.args.shelf.now c.insert.new.self c.args.at c.push.new.self c.args.load q
+    (c.in_ok-push.ensures.items ∙ ap (λ (l : List (List ℕ)). l ++ c.args.load ∷ []) kept)
+    (c.in_ok-insert.ensures.updates.0 q ∙ ap (λ (o : Option (Vec (List ℕ) Global)). cond (is_at (g.K.Ord.cmp c.args.at) q) (Some c.push.new.self) o) (c.remove.ensures.updates.0 q))

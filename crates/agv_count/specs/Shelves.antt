@@ -1,0 +1,15 @@
+-- The loads of a list, kept by where they stand.
+use Rattle.std.specs.Prelude.{ℕ, Bool, List, [], ◌∷◌, if◌then◌else◌}
+use Rattle.std.specs.BTreeMap.{BTreeMap, get}
+use Rattle.std.specs.Option.{option_map, unwrap_or}
+use Rattle.std.specs.declared.cmp.Ordering.{Ordering}
+use Rattle.std.specs.declared.vec.Vec.{Vec}
+
+module _ {K A : Type 0} where
+  -- the loads at one of the places
+  abbrev pub loads_at : (K → K → Ordering) → BTreeMap K (Vec (List ℕ) A) → K → List (List ℕ)
+  loads_at cmp shelf at = unwrap_or (option_map (λ loads. loads.items) (get cmp shelf at)) []
+
+-- the load, if it is there
+abbrev pub one_if : Bool → List ℕ → List (List ℕ)
+one_if is_there load = if is_there then load ∷ [] else []

@@ -1,0 +1,45 @@
+//! The report of holds.
+ghost use Rattle.std.specs.Prelude.{◌≡◌, ◌++◌, IfOk, OnOk, string_bytes};
+ghost use Rattle.agv_count.specs.Reports.{hold_line, hold_text, thing_text};
+
+use agv_header::{Memory, Thing, VehicleKey};
+use std::alloc::Global;
+
+/// Writes which node or edge it is.
+fn write_thing(out: &mut String, thing: Thing) -> Result<(), Memory>
+    ensures { OnOk result (string_bytes out.new ≡ string_bytes out.old ++ thing_text thing) }
+{
+    match thing {
+        Thing::Node(id) => write!(out, "node {id}")?,
+        Thing::Edge(id) => write!(out, "edge {id}")?,
+    }
+    Ok(())
+}
+
+/// Writes the line of a hold.
+fn write_hold(out: &mut String, thing: Thing, key: VehicleKey) -> Result<(), Memory>
+    ensures { OnOk result (string_bytes out.new ≡ string_bytes out.old ++ hold_line (thing, key)) }
+{
+    write_thing(out, thing)?;
+    writeln!(out, " {}/{}", key.manufacturer, key.serial)?;
+    Ok(())
+}
+
+/// The report of what is held, and by which vehicle: a line for each hold, in the order given, and how many of all
+/// nodes and edges are held. The desk gives the nodes first, then the edges, each by name.
+///
+/// `Memory` for want of memory alone.
+pub fn hold_report(
+    alloc: Global,
+    holds: &[(Thing, VehicleKey)],
+    things: u32,
+) -> Result<Vec<u8>, Memory>
+    ensures { IfOk result (λ report. report.items ≡ hold_text holds.now things) }
+{
+    let mut out = String::new(alloc);
+    for (thing, key) in holds {
+        write_hold(&mut out, *thing, *key)?;
+    }
+    writeln!(out, "held {} of {things}", holds.len())?;
+    Ok(out.into_bytes())
+}
