@@ -6,10 +6,14 @@
 
 mod act;
 mod join;
+mod number;
+mod status;
 mod stop;
 mod trip;
 
 pub use act::Act;
 pub use join::{JoinRefusal, Joined};
+pub use number::{edge_seq, node_seq};
+pub use status::merge;
 pub use stop::Stop;
 pub use trip::Trip;
