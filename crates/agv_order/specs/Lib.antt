@@ -1,5 +1,6 @@
 pub mod Statuses
 pub mod Stops
+pub mod Served
 pub mod Trips
 pub mod WellFormed
 pub mod Messages

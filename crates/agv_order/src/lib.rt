@@ -7,6 +7,7 @@
 mod act;
 mod join;
 mod number;
+mod served;
 mod status;
 mod stop;
 mod trip;
@@ -15,5 +16,5 @@ pub use act::Act;
 pub use join::{JoinRefusal, Joined};
 pub use number::{edge_seq, node_seq};
 pub use status::merge;
-pub use stop::Stop;
+pub use stop::{Stop, stops_fit};
 pub use trip::Trip;
