@@ -6,4 +6,5 @@ pub mod WellFormed
 pub mod Messages
 pub mod Releases
 pub mod Joins
+pub mod Stitch
 pub mod Plans

@@ -5,15 +5,16 @@
 #![tactic(auto)]
 
 mod act;
-mod join;
+mod joining;
 mod number;
 mod served;
 mod status;
+mod stitch;
 mod stop;
 mod trip;
 
 pub use act::Act;
-pub use join::{JoinRefusal, Joined};
+pub use joining::{JoinRefusal, Joined, join};
 pub use number::{edge_seq, node_seq};
 pub use status::merge;
 pub use stop::{Stop, stops_fit};
