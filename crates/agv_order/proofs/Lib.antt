@@ -1,2 +1,3 @@
+mod Messaging
 mod Serving
 mod Stitching

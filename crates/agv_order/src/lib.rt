@@ -6,6 +6,7 @@
 
 mod act;
 mod joining;
+mod message;
 mod number;
 mod served;
 mod status;
