@@ -1,3 +1,4 @@
 mod Messaging
 mod Serving
 mod Stitching
+mod Updates

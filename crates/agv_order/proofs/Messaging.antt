@@ -1,7 +1,7 @@
 -- The nodes, edges and acts of a message, one more at a time.
-use Rattle.std.proofs.Common.{◌≡◌, ℕ, ◌+◌, ◌<◌, ◌≤◌, ◌==◌, length, get_or, take, drop, Bool, false, cond, List, [], ◌∷◌, ◌++◌, map, sym, ◌∙◌, ap, arith, eq-eqb, eqb, inl, inr}
+use Rattle.std.proofs.Common.{◌≡◌, ℕ, ◌+◌, ◌<◌, ◌≤◌, ◌==◌, length, get_or, take, drop, Bool, cond, List, [], ◌∷◌, ◌++◌, map, sym, ◌∙◌, ap, arith}
 use Rattle.std.proofs.lemmas.List.{append-nil, take_more, map-append, length-take-le, length-append, length-map, drop-append-le, drop_all}
-use Rattle.std.proofs.lemmas.Bool.Decides.{eqb_tells}
+use Rattle.std.proofs.lemmas.Bool.{eq-eqb, ne_eqb}
 use Rattle.std.proofs.lemmas.List.Elements.{filter-append}
 use Rattle.std.proofs.lemmas.List.FromFn.{length-enumerate_from}
 use Rattle.std.specs.List.{filter, enumerate_from}
@@ -151,9 +151,6 @@ acts_yes acts i act k within is here =
     acts_more acts i act k within is
     ∙ ap (λ b. let numbered : ℕ × Act = (i, act) in acts_at (take i acts) k ++ map order_act (cond b (numbered ∷ []) [])) (eq-eqb act.place_at k here)
 
-differ : (a b : ℕ) → (a ≡ b → ⊥) → eqb a b ≡ false
-differ a b away = elim (eqb_tells a b) [ inl same ↦ absurd (away same.1) | inr other ↦ other.0 ]
-
 pub acts_no :
     (acts : List Act) (i : ℕ) (act : Act) (k : ℕ)
     → i < length acts
@@ -162,7 +159,7 @@ pub acts_no :
     → acts_at (take (i + 1) acts) k ≡ acts_at (take i acts) k
 acts_no acts i act k within is away =
     acts_more acts i act k within is
-    ∙ (ap (λ b. let numbered : ℕ × Act = (i, act) in acts_at (take i acts) k ++ map order_act (cond b (numbered ∷ []) [])) (differ act.place_at k away)
+    ∙ (ap (λ b. let numbered : ℕ × Act = (i, act) in acts_at (take i acts) k ++ map order_act (cond b (numbered ∷ []) [])) (ne_eqb act.place_at k away)
     ∙ append-nil (acts_at (take i acts) k))
 
 -- a list that was made so far, and an item that is pushed

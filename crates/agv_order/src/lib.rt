@@ -6,6 +6,7 @@
 
 mod act;
 mod joining;
+pub mod laws;
 mod message;
 mod number;
 mod served;
