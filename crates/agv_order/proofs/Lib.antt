@@ -1,5 +1,9 @@
 mod Legs
-mod NewTrips
-mod Releases
+mod Messaging
+pub mod NewTrips
+pub mod Releases
+mod Serving
+mod Stitching
+pub mod Updates
 mod Walked
 mod Ways
