@@ -1,0 +1,6 @@
+pub mod Reports
+pub mod Reached
+pub mod Acts
+pub mod Ids
+pub mod Judgements
+pub mod Idle

@@ -1,0 +1,21 @@
+//! Where vehicles are: what a state message says of a trip, what a vehicle holds, and who holds what.
+//!
+//! - [`judge`] reads a state against the trip of its vehicle, and [`judge_idle`] against a vehicle
+//!   without one: a [`Refusal`](agv_header::Refusal), or what is so from now on.
+#![tactic(auto)]
+
+mod action_id;
+mod idle;
+mod judgement;
+mod pending;
+mod progress;
+mod reported;
+mod standing;
+mod statuses;
+mod way;
+
+pub use idle::judge_idle;
+pub use judgement::judge;
+pub use pending::Pending;
+pub use progress::{End, Progress};
+pub use standing::Standing;
