@@ -1,5 +1,6 @@
 pub mod AllRecords
 pub mod EachRow
+pub mod ExportLemmas
 pub mod Failures
 pub mod TableRows
 pub mod ReadSoFar

@@ -1,4 +1,5 @@
 pub mod CountFile
+pub mod ExportRecords
 pub mod Fault
 pub mod LayoutFile
 pub mod Records

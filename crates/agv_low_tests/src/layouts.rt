@@ -104,6 +104,22 @@ fn in_any_order(rt: HostRuntime) {
     check_layout(&rt, rt.alloc(), &rows);
 }
 
+/// What the layout of the examples prints, in the order of names.
+const SHOWN: &str = concat!(
+    "Layout { nodes: {N1, N2, N3}, edges: {E12: Ends { start: N1, finish: N2 }, ",
+    "E21: Ends { start: N2, finish: N1 }, E23: Ends { start: N2, finish: N3 }, ",
+    "E32: Ends { start: N3, finish: N2 }}, stations: {A: Spot { node: N1, capacity: 1 }, ",
+    "B: Spot { node: N3, capacity: 1 }, C: Spot { node: N3, capacity: 2 }} }",
+);
+
+#[test]
+fn shown_in_order(rt: HostRuntime) {
+    let mut rows = rows(&rt, rt.alloc(), WAREHOUSE);
+    rows.reverse();
+    let layout = layout_of(&rt, rt.alloc(), &rows);
+    check_debug(&rt, rt.alloc(), &layout, SHOWN, "the layout");
+}
+
 /// A node, an edge and a station of one name.
 const ONE_NAME: &str = "kind,id,from,to
 node,X,,

@@ -4,8 +4,10 @@
 //! - `cases` compares what is found with what is wanted.
 //! - `headers` has names, topics, stamps and header numbers, `messages` state messages and the texts of
 //!   orders and instant actions, the largest among them.
+//! - `counts` has stocktake files, and `reports` the reports and the export.
 //! - `layouts` has rows that give a layout and rows that give none, and what a layout says of a name.
 //! - `layout_files` has files, and the rows that they say.
+//! - `largest` has the largest layout, as a file, as rows and as a layout.
 //! - `routes` has routes on small layouts, on random ones and on the largest; `listing` is the plain program
 //!   that lists all walks, with which the random ones are compared.
 #![tactic(auto)]
@@ -13,7 +15,11 @@
 #[cfg(test)]
 mod cases;
 #[cfg(test)]
+mod counts;
+#[cfg(test)]
 mod headers;
+#[cfg(test)]
+mod largest;
 #[cfg(test)]
 mod layout_files;
 #[cfg(test)]
@@ -22,5 +28,7 @@ mod layouts;
 mod listing;
 #[cfg(test)]
 mod messages;
+#[cfg(test)]
+mod reports;
 #[cfg(test)]
 mod routes;

@@ -72,7 +72,7 @@ fn draw(state: &mut u32, bound: u32) -> u32 {
 }
 
 /// A letter and a number, as P007.
-fn numbered(rt: &impl Abort, alloc: Global, letter: char, number: u32) -> Name {
+pub(crate) fn numbered(rt: &impl Abort, alloc: Global, letter: char, number: u32) -> Name {
     let text = format!(in alloc; "{letter}{number:03}").expect(rt, "memory");
     name(rt, text.as_str())
 }
@@ -219,7 +219,7 @@ fn as_all_walks_say(rt: HostRuntime) {
 /// A path P000, P001 and on, of so many edges forward, F000 and on. Beside each is an edge back,
 /// B000 and on, and a second edge forward, G000 and on, and beside the first three a third, H000
 /// to H002.
-fn path_rows(rt: &impl Abort, alloc: Global, path: u32) -> Vec<LayoutRow> {
+pub(crate) fn path_rows(rt: &impl Abort, alloc: Global, path: u32) -> Vec<LayoutRow> {
     let mut rows = Vec::new(alloc);
     let mut here = numbered(rt, alloc, 'P', 0);
     add_node(rt, &mut rows, here);

@@ -6,10 +6,11 @@ use Rattle.agv_count.proofs.shelves.put.Goals as goal
 
 pub returns : goal.returns
 returns g c =
-    let total = g.met.K.Ord.total in
+    let cmp = g.K.Ord.cmp in
+    let at = c.args.at in
     let fresh : c.unwrap_or-loads.result.items ≡ items_of c.remove.result = ap (λ (v : Vec (List ℕ) Global). v.items) c.unwrap_or-loads.ensures ∙ items-kept c.remove.result c.new.result c.new.ensures.items in
-    let kept : c.unwrap_or-loads.result.items ≡ loads_at g.K.Ord.cmp c.args.shelf.now c.args.at = fresh ∙ ap items_of c.remove.ensures.value in
+    let kept : c.unwrap_or-loads.result.items ≡ loads_at cmp c.args.shelf.now at = fresh ∙ ap items_of c.remove.ensures.value in
+    let more : c.push.new.self.items ≡ loads_at cmp c.args.shelf.now at ++ c.args.load ∷ [] = c.in_ok-push.ensures.items ∙ ap (λ (l : List (List ℕ)). l ++ c.args.load ∷ []) kept in
     λ q.
-    loads_at-put total c.args.shelf.now c.insert.new.self c.args.at c.push.new.self c.args.load q
-    (c.in_ok-push.ensures.items ∙ ap (λ (l : List (List ℕ)). l ++ c.args.load ∷ []) kept)
-    (c.in_ok-insert.ensures.updates.0 q ∙ ap (λ (o : Option (Vec (List ℕ) Global)). cond (is_at (g.K.Ord.cmp c.args.at) q) (Some c.push.new.self) o) (c.remove.ensures.updates.0 q))
+    loads_at-put g.met.K.Ord.total c.args.shelf.now c.insert.new.self at c.push.new.self c.args.load q more
+    (c.in_ok-insert.ensures.updates.0 q ∙ ap (λ (o : Option (Vec (List ℕ) Global)). cond (is_at (cmp at) q) (Some c.push.new.self) o) (c.remove.ensures.updates.0 q))
