@@ -1,4 +1,5 @@
 mod Messaging
 mod Serving
 mod Stitching
+mod Stopping
 mod Updates

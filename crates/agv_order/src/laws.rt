@@ -1,12 +1,15 @@
 //! What holds of the definitions that the contracts of this crate cite, whatever the code does.
 //! Each function does nothing: its clause is the law.
-ghost use Rattle.std.specs.Prelude.{◌≡◌, ◌<◌, ℕ, Some, Ok, Err};
+ghost use Rattle.std.specs.Prelude.{◌≡◌, ◌↔◌, ◌<◌, ◌*◌, ℕ, IsTrue, List, Some, Ok, Err, filter, length};
 ghost use Rattle.agv_order.specs.declared.joining.Joined.TheVariants.{Taken, Same};
 ghost use Rattle.agv_order.specs.declared.joining.JoinRefusal.TheVariants as refusal;
+ghost use Rattle.agv_order.specs.declared.stop.Stop.{Stop as Halt};
 ghost use Rattle.agv_order.specs.declared.trip.Trip.{Trip as Order};
 ghost use Rattle.agv_order.specs.Joins.{join_of};
 ghost use Rattle.agv_order.specs.Messages.{whole_of, message_of};
 ghost use Rattle.agv_order.specs.Releases.{CanRelease, released};
+ghost use Rattle.agv_order.specs.StopPlaces.{CanBeDone, is_pick};
+ghost use Rattle.agv_order.specs.Stops.{stops_fit};
 
 /// A vehicle that holds the whole order of a trip, and takes the update that releases more of it, holds
 /// the whole order of the trip after that release.
@@ -21,4 +24,15 @@ pub fn takes_no_earlier_update()
     ensures { (trip earlier : Order) → earlier.order ≡ trip.order
         → (earlier.sent ≡ trip.sent → join_of (Some (whole_of trip)) (message_of earlier) ≡ Ok Same)
         × (earlier.sent < trip.sent → join_of (Some (whole_of trip)) (message_of earlier) ≡ Err refusal.Lower) }
+{}
+
+/// Stops can be carried out exactly where there is at least one, and each job that a stop names is picked
+/// at just one place of the list, and at just one later place dropped.
+pub fn fits_as_said()
+    ensures { (stops : List Halt) → IsTrue (stops_fit stops) ↔ CanBeDone stops }
+{}
+
+/// Stops that can be carried out are twice as many as the jobs, which are as many as the picks.
+pub fn stops_twice()
+    ensures { (stops : List Halt) → IsTrue (stops_fit stops) → length stops ≡ 2 * length (filter is_pick stops) }
 {}
