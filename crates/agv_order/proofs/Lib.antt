@@ -4,6 +4,7 @@ pub mod NewTrips
 pub mod Releases
 mod Serving
 mod Stitching
+pub mod Stopping
 pub mod Updates
 mod Walked
 mod Ways

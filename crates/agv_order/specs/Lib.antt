@@ -1,6 +1,7 @@
 pub mod Statuses
 pub mod Stops
 pub mod Served
+pub mod StopPlaces
 pub mod Trips
 pub mod WellFormed
 pub mod Messages

@@ -1,5 +1,0 @@
-pub mod Keys
-pub mod Spread
-pub mod Worlds
-pub mod Rows
-pub mod Changes
