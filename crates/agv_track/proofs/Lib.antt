@@ -4,3 +4,5 @@ pub mod Numbered
 pub mod Renewals
 pub mod Eight
 pub mod Judged
+pub mod Firsts
+pub mod Edges

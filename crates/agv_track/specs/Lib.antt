@@ -4,3 +4,5 @@ pub mod Acts
 pub mod Ids
 pub mod Judgements
 pub mod Idle
+pub mod Footprints
+pub mod Once

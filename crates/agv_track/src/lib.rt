@@ -5,8 +5,10 @@
 #![tactic(auto)]
 
 mod action_id;
+mod held;
 mod idle;
 mod judgement;
+mod once;
 mod pending;
 mod progress;
 mod reported;
@@ -14,6 +16,7 @@ mod standing;
 mod statuses;
 mod way;
 
+pub use held::footprint;
 pub use idle::judge_idle;
 pub use judgement::judge;
 pub use pending::Pending;

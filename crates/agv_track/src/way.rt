@@ -27,7 +27,7 @@ pub(crate) fn reported_node(state: &StateMessage) -> u32
 }
 
 // The name of node k.
-fn node_at(trip: &Trip, k: u32) -> Option<Name>
+pub(crate) fn node_at(trip: &Trip, k: u32) -> Option<Name>
     ensures { result ≡ node_at trip.now k }
 {
     if k == 0 {
