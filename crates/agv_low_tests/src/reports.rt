@@ -118,13 +118,17 @@ fn stock(rt: HostRuntime) {
     check_stock(&rt, rt.alloc(), &stations, &places, &keys, ALL_PLACES);
 }
 
+/// A node or an edge that the vehicle holds.
+fn held(rt: &impl Abort, thing: Thing) -> (Thing, VehicleKey) {
+    (thing, vehicle(rt, "KIT", "0001"))
+}
+
 #[test]
 fn holds(rt: HostRuntime) {
-    let key = vehicle(&rt, "KIT", "0001");
     let held = [
-        (Thing::Node(name(&rt, "N1")), key),
-        (Thing::Node(name(&rt, "N2")), key),
-        (Thing::Edge(name(&rt, "E12")), key),
+        held(&rt, Thing::Node(name(&rt, "N1"))),
+        held(&rt, Thing::Node(name(&rt, "N2"))),
+        held(&rt, Thing::Edge(name(&rt, "E12"))),
     ];
     let found = hold_report(rt.alloc(), &held, 7).expect(&rt, "memory");
     let wanted = "node N1 KIT/0001\nnode N2 KIT/0001\nedge E12 KIT/0001\nheld 3 of 7\n";
