@@ -4,5 +4,4 @@ pub mod Numbered
 pub mod Renewals
 pub mod Eight
 pub mod Judged
-pub mod Firsts
 pub mod Edges

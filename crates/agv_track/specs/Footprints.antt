@@ -65,3 +65,8 @@ once (first ∷ things) = first ∷ filter (λ (other : Thing). not (thing_eq fi
 -- what the vehicle that stands so holds, each thing once, in the order of its way
 unfoldable pub footprint_of : Standing → List Thing
 footprint_of standing = once (things_by standing.node standing.rest standing.trip)
+
+-- the trip, if there is one, has not passed the last node that is released
+abbrev pub IsOnBase : Option Trip → Type 0
+IsOnBase None = Unit {0}
+IsOnBase (Some trip) = trip.seen ≤ trip.base

@@ -6,3 +6,6 @@ pub mod Judgements
 pub mod Idle
 pub mod Footprints
 pub mod Once
+pub mod Firsts
+pub mod Occupied
+pub mod Held

@@ -8,6 +8,7 @@ mod action_id;
 mod held;
 mod idle;
 mod judgement;
+pub mod laws;
 mod once;
 mod pending;
 mod progress;

@@ -1,7 +1,7 @@
 use Rattle.std.proofs.Common.{sym, ap, ◌∙◌}
 use Rattle.std.specs.List.{list_any}
 use Rattle.agv_header.specs.ThingOrder.{thing_eq}
-use Rattle.agv_track.proofs.Firsts.{knows_more}
+use Rattle.agv_track.specs.Firsts.{knows_more}
 use Rattle.agv_track.proofs.once.Once.add.Goals as goal
 
 pub returns-in_ok-push-clause-knows : goal.returns-in_ok-push-clause-knows
