@@ -1,0 +1,3 @@
+pub mod HoldCode
+pub mod Holders
+pub mod Holds
