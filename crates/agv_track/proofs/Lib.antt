@@ -5,3 +5,9 @@ pub mod Renewals
 pub mod Eight
 pub mod Judged
 pub mod Edges
+pub mod Claims
+pub mod FirstHeld
+pub mod Holders
+pub mod Members
+pub mod Sheds
+mod Tables

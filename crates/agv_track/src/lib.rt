@@ -2,10 +2,19 @@
 //!
 //! - [`judge`] reads a state against the trip of its vehicle, and [`judge_idle`] against a vehicle
 //!   without one: a [`Refusal`](agv_header::Refusal), or what is so from now on.
+//! - [`footprint`] lists the nodes and edges that a vehicle holds, each once, in the order of its way.
+//! - A [`HoldTable`] says of each node and edge which vehicle holds it. [`HoldTable::claim`] gives things
+//!   to a vehicle where no other one holds any of them, and [`HoldTable::shed`] takes from it what it
+//!   needs no more.
+//! - [`laws`] says what follows from a judgement, and [`hold_laws`] what claiming and shedding leave,
+//!   thing by thing.
 #![tactic(auto)]
 
 mod action_id;
+mod claim_fault;
 mod held;
+pub mod hold_laws;
+mod holds;
 mod idle;
 mod judgement;
 pub mod laws;
@@ -17,7 +26,9 @@ mod standing;
 mod statuses;
 mod way;
 
+pub use claim_fault::ClaimFault;
 pub use held::footprint;
+pub use holds::HoldTable;
 pub use idle::judge_idle;
 pub use judgement::judge;
 pub use pending::Pending;

@@ -1,0 +1,23 @@
+//! Why a vehicle gets no hold.
+
+use agv_header::{Memory, Thing, VehicleKey};
+
+/// Why things are not given to a vehicle.
+#[derive(Clone, Copy, Debug, PartialEq, Eq)]
+pub enum ClaimFault {
+    /// Another vehicle, `by`, holds the thing `what`.
+    Held { what: Thing, by: VehicleKey },
+    /// Want of memory.
+    Memory,
+}
+
+impl From<Memory> for ClaimFault {
+    ghost use Rattle.std.specs.Prelude.{◌≡◌};
+    ghost use Rattle.agv_track.specs.declared.claim_fault.ClaimFault.TheVariants as fault;
+
+    ghost from_gives = { λ _ made. made ≡ fault.Memory };
+
+    fn from(_error: Memory) -> ClaimFault {
+        ClaimFault::Memory
+    }
+}
