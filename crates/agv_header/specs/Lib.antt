@@ -7,4 +7,5 @@ pub mod Name
 pub mod Padded
 pub mod Refusal
 pub mod Stamp
+pub mod ThingOrder
 pub mod Topic

@@ -58,6 +58,7 @@ row_of refusal.RefUsed = row 49 (codes "RefUsed") 409
 row_of refusal.JobState = row 50 (codes "JobState") 409
 row_of refusal.Limit = row 51 (codes "Limit") 409
 row_of refusal.OrderKnown = row 52 (codes "OrderKnown") 409
+row_of refusal.BadStops = row 53 (codes "BadStops") 409
 row_of refusal.OtherOrder = row 60 (codes "OtherOrder") 409
 row_of refusal.UpdateNotSent = row 61 (codes "UpdateNotSent") 409
 row_of refusal.UpdateBackwards = row 62 (codes "UpdateBackwards") 409

@@ -56,9 +56,76 @@ impl VehicleKey {
     {}
 }
 
-/// A stretch of track that at most one vehicle holds: a node or an edge of the layout.
-#[derive(Clone, Copy, Debug, PartialEq, Eq)]
+/// A stretch of track that at most one vehicle holds: a node or an edge of the layout. Nodes come
+/// before edges, and each by their names' bytes.
+#[derive(Clone, Copy, Debug)]
 pub enum Thing {
     Node(Name),
     Edge(Name),
+}
+
+impl PartialEq for Thing {
+    ghost use Rattle.std.specs.Cmp.{partial_equiv_from_equiv};
+    ghost use Rattle.agv_header.specs.ThingOrder.{thing_eq, thing_eq-equivalence};
+
+    ghost eq = { thing_eq };
+
+    ghost laws = { partial_equiv_from_equiv thing_eq-equivalence };
+
+    fn eq(&self, other: &Self) -> bool {
+        self.cmp(other).is_eq()
+    }
+}
+
+impl Eq for Thing {
+    ghost use Rattle.agv_header.specs.ThingOrder.{thing_eq-equivalence};
+
+    ghost laws = { thing_eq-equivalence };
+}
+
+impl PartialOrd for Thing {
+    ghost use Rattle.std.specs.Prelude.{Some};
+    ghost use Rattle.agv_header.specs.Key.{thing_cmp};
+    ghost use Rattle.agv_header.specs.ThingOrder.{thing_cmp-partial};
+
+    ghost partial_cmp = { λ a b. Some (thing_cmp a b) };
+
+    ghost laws = { thing_cmp-partial };
+
+    fn partial_cmp(&self, other: &Self) -> Option<Ordering> {
+        Some(self.cmp(other))
+    }
+}
+
+impl Ord for Thing {
+    ghost use Rattle.std.specs.Prelude.{refl};
+    ghost use Rattle.agv_header.specs.Key.{thing_cmp};
+    ghost use Rattle.agv_header.specs.ThingOrder.{thing_cmp-total};
+
+    ghost cmp = { thing_cmp };
+
+    ghost total = { thing_cmp-total };
+
+    ghost matches_partial_cmp = { λ a b. refl };
+
+    ghost matches_eq = { λ a b. refl };
+
+    fn cmp(&self, other: &Self) -> Ordering {
+        match (self, other) {
+            (Thing::Node(first), Thing::Node(second)) => first.cmp(second),
+            (Thing::Node(_), Thing::Edge(_)) => Ordering::Less,
+            (Thing::Edge(_), Thing::Node(_)) => Ordering::Greater,
+            (Thing::Edge(first), Thing::Edge(second)) => first.cmp(second),
+        }
+    }
+}
+
+impl Thing {
+    ghost use Rattle.agv_header.specs.Key.{thing_cmp};
+
+    /// The order of things is total, and only equal things tie: a finite map can be kept by it.
+    pub fn are_ordered()
+        ensures total { IsTotalOrder thing_cmp }
+        ensures apart { IsAntisymmetric thing_cmp }
+    {}
 }

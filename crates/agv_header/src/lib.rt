@@ -4,7 +4,7 @@
 //!   vehicle. [`Name::read`] accepts exactly the texts of 1 to 32 bytes of `A-Z a-z 0-9 _ . : -`, and
 //!   [`Name::of_bytes`] the same bytes. [`are_digits`] tests for digits.
 //! - [`VehicleKey`] names a vehicle, and [`Thing`] a node or an edge of the layout. The order of
-//!   vehicles can keep a map: it is total, and only equal vehicles tie.
+//!   each can keep a map: it is total, and only equal ones tie.
 //! - [`topic_text`] writes where a vehicle's messages of a kind belong, as
 //!   `uagv/v2/KIT/0001/order`, and [`read_topic`] accepts exactly the texts that it writes.
 //! - [`Moment`] is a time in milliseconds, from 1970 to the end of 2099. [`stamp_text`] is its date

@@ -13,7 +13,7 @@ pub enum Verb {
 }
 
 /// Why the desk refuses a request. The numbers stay as they are for good.
-#[derive(Clone, Copy, Debug)]
+#[derive(Clone, Copy, Debug, PartialEq, Eq)]
 pub enum Refusal {
     // The face of HTTP; each of the first four ends the stream.
     /// The head of the request can't be read.
@@ -103,6 +103,8 @@ pub enum Refusal {
     Limit,
     /// The vehicle reports an order of this name.
     OrderKnown,
+    /// No stops, or some job's pick doesn't stand once with its drop once after it.
+    BadStops,
 
     // Reported states.
     /// The state is of another order.
@@ -194,6 +196,7 @@ impl Refusal {
             Refusal::JobState => (50, "JobState", 409),
             Refusal::Limit => (51, "Limit", 409),
             Refusal::OrderKnown => (52, "OrderKnown", 409),
+            Refusal::BadStops => (53, "BadStops", 409),
             Refusal::OtherOrder => (60, "OtherOrder", 409),
             Refusal::UpdateNotSent => (61, "UpdateNotSent", 409),
             Refusal::UpdateBackwards => (62, "UpdateBackwards", 409),

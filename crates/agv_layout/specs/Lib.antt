@@ -3,6 +3,7 @@ pub mod Code
 pub mod Draft
 pub mod Layout
 pub mod Levels
+pub mod RouteOf
 pub mod Rows
 pub mod Shown
 pub mod Walk

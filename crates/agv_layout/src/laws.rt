@@ -3,6 +3,7 @@
 ghost use Rattle.std.specs.Prelude.{◌≡◌, List, ◌++◌, Option, length, option_map};
 ghost use Rattle.agv_layout.specs.declared.row.LayoutRow.{LayoutRow};
 ghost use Rattle.agv_layout.specs.Layout.{Layout as Plan, Name as NameOf, IsNode, KeepsRules};
+ghost use Rattle.agv_layout.specs.RouteOf.{route_of};
 ghost use Rattle.agv_layout.specs.Rows.{AreNamed, IsEachOnce, IsLayoutOf, IsOverLimit, IsReadAlike, IsSound};
 ghost use Rattle.std.specs.List.Sorted.{IsPermutation};
 ghost use Rattle.agv_layout.specs.Walk.{IsWalk, IsHops, IsWayTo};
@@ -29,6 +30,12 @@ pub fn gives_sound_rows()
 pub fn is_one_way()
     ensures { (layout : Plan) (from to : NameOf) (one other : Option (List NameOf))
         → IsWayTo layout from to one → IsWayTo layout from to other → one ≡ other }
+{}
+
+/// What the function of a layout gives for a route is the way, and it gives none where no walk leads there. So the
+/// route that the contracts name by its properties and the one that they name by a function are one.
+pub fn route_is_found()
+    ensures { (layout : Plan) (from to : NameOf) → IsWayTo layout from to (route_of layout from to) }
 {}
 
 /// The way has as many edges as it takes hops.

@@ -4,6 +4,7 @@ ghost use Rattle.std.specs.BTreeMap as tree;
 ghost use Rattle.std.specs.Option.{option_or};
 ghost use Rattle.agv_header.specs.Name.{name_cmp};
 ghost use Rattle.agv_layout.specs.Layout.{Name as NameOf, edge_of};
+ghost use Rattle.agv_layout.specs.RouteOf.{route_of, hops_of};
 ghost use Rattle.agv_layout.specs.Walk.{IsHops, IsWayTo};
 ghost use Rattle.agv_layout.specs.Ways.{is_nearer, is_way, first_way, followed};
 
@@ -93,6 +94,7 @@ impl Layout {
     /// of memory alone.
     pub fn hops(&self, alloc: Global, from: Name, to: Name) -> Result<Option<u32>, Memory>
         ensures hops { IfOk result (IsHops self.now from to) }
+        ensures exact { IfOk result (λ hops. hops ≡ hops_of self.now from to) }
     {
         if !self.nodes.contains(&to) {
             return Ok(None);
@@ -109,6 +111,7 @@ impl Layout {
     /// and the edges, each times the depth of a map. `Memory` for want of memory alone.
     pub fn route(&self, alloc: Global, from: Name, to: Name) -> Result<Option<Vec<Name>>, Memory>
         ensures route { IfOk result (λ route. IsWayTo self.now from to (option_map (λ ids. ids.items) route)) }
+        ensures exact { IfOk result (λ route. option_map (λ ids. ids.items) route ≡ route_of self.now from to) }
     {
         if !self.nodes.contains(&to) {
             return Ok(None);

@@ -2,7 +2,7 @@
 
 use crate::cases::{check, check_text, name, vehicle};
 use agv_header::{
-    Moment, Name, NotName, NotTopic, Refusal, StampFault, Topic, VehicleKey, Verb, is_fresh,
+    Moment, Name, NotName, NotTopic, Refusal, StampFault, Thing, Topic, VehicleKey, Verb, is_fresh,
     next_number, read_stamp, read_topic, stamp_text, topic_text,
 };
 use std::alloc::Global;
@@ -40,6 +40,34 @@ fn vehicles_are_ordered(rt: HostRuntime) {
         let key = Some(vehicle(&rt, manufacturer, serial));
         check(&rt, last < key, serial);
         last = key;
+    }
+}
+
+/// Nodes before edges, and each by name: whether it is a node, and its name.
+const RISING_THINGS: [(bool, &str); 5] = [
+    (true, "B"),
+    (true, "BA"),
+    (true, "C"),
+    (false, "A"),
+    (false, "B"),
+];
+
+fn thing(rt: &impl Abort, is_node: bool, text: &str) -> Thing {
+    let name = name(rt, text);
+    if is_node {
+        Thing::Node(name)
+    } else {
+        Thing::Edge(name)
+    }
+}
+
+#[test]
+fn things_are_ordered(rt: HostRuntime) {
+    let mut last: Option<Thing> = None;
+    for (is_node, text) in &RISING_THINGS {
+        let next = Some(thing(&rt, *is_node, text));
+        check(&rt, last < next && last != next && next == next, text);
+        last = next;
     }
 }
 
@@ -170,7 +198,7 @@ fn header_numbers(rt: HostRuntime) {
 /// The number, the name and the status of a refusal.
 type Row = (u8, &'static str, u16);
 
-const REFUSALS: [(Refusal, Row); 6] = [
+const REFUSALS: [(Refusal, Row); 7] = [
     (Refusal::BadHead, (1, "BadHead", 400)),
     (
         Refusal::BadMethod { allow: Verb::Get },
@@ -179,6 +207,7 @@ const REFUSALS: [(Refusal, Row); 6] = [
     (Refusal::Version, (12, "Version", 422)),
     (Refusal::Exists, (30, "Exists", 409)),
     (Refusal::WrongUpdate { sent: 1 }, (44, "WrongUpdate", 409)),
+    (Refusal::BadStops, (53, "BadStops", 409)),
     (Refusal::Storage, (91, "Storage", 503)),
 ];
 
@@ -191,4 +220,12 @@ fn refusals(rt: HostRuntime) {
     for (refusal, row) in &REFUSALS {
         check(&rt, has_row(refusal, row), row.1);
     }
+}
+
+#[test]
+fn refusals_are_compared(rt: HostRuntime) {
+    let sent = |sent| Refusal::WrongUpdate { sent };
+    check(&rt, sent(1) == sent(1), "one refusal");
+    check(&rt, sent(1) != sent(2), "of other updates");
+    check(&rt, Refusal::Full != Refusal::InJob, "two refusals");
 }

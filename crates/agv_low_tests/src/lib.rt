@@ -3,7 +3,7 @@
 //!
 //! - `cases` compares what is found with what is wanted.
 //! - `headers` has names, topics, stamps and header numbers, `messages` state messages and the texts of
-//!   orders and instant actions.
+//!   orders and instant actions, the largest among them.
 //! - `layouts` has rows that give a layout and rows that give none, and what a layout says of a name.
 //! - `layout_files` and `counts` have files, and the rows that they say.
 //! - `reports` has the reports and the export.

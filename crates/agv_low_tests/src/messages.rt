@@ -1,5 +1,6 @@
 //! Examples. Their texts are written by hand, after the formats and the public standard.
 mod changes;
+mod large;
 mod orders;
 mod states;
 mod written;
@@ -8,7 +9,7 @@ use crate::cases::{check, check_text};
 use crate::messages::changes::CHANGES;
 use crate::messages::orders::ORDERS;
 use crate::messages::states::{EVERY_STATUS, ODD, OLD, ORDINARY, PLACED, Sample, UNDER_WAY};
-use agv_message::{BodyFault, Sequence, StateMessage, Text, read_body, read_state};
+use agv_message::{BodyFault, Sequence, StateMessage, Status, Text, read_body, read_state};
 use std::alloc::Global;
 use std::process::Abort;
 
@@ -24,7 +25,7 @@ const AT_REST: &str = concat!(
     r#"actions: Sequence { kept: [] }, ready: true, paused: false })"#,
 );
 
-fn state_of(alloc: Global, text: &str) -> Result<StateMessage, BodyFault> {
+pub(crate) fn state_of(alloc: Global, text: &str) -> Result<StateMessage, BodyFault> {
     match read_body(alloc, text.as_bytes()) {
         Ok(body) => read_state(alloc, &body),
         Err(fault) => Err(fault),
@@ -46,7 +47,7 @@ fn fault_name(fault: Option<BodyFault>) -> &'static str {
 }
 
 /// The name of the refusal that the text earns as a state, or `read`.
-fn verdict(alloc: Global, text: &str) -> &'static str {
+pub(crate) fn verdict(alloc: Global, text: &str) -> &'static str {
     fault_name(state_of(alloc, text).err())
 }
 
@@ -81,6 +82,24 @@ const ACTING: &str = concat!(
     r#"(Text { text: "c" }, Running), (Text { text: "d" }, Paused), "#,
     r#"(Text { text: "e" }, Finished), (Text { text: "f" }, Failed)] }, ready: true, paused: false })"#,
 );
+
+const STATUSES: [(Status, &str); 6] = [
+    (Status::Waiting, "WAITING"),
+    (Status::Initializing, "INITIALIZING"),
+    (Status::Running, "RUNNING"),
+    (Status::Paused, "PAUSED"),
+    (Status::Finished, "FINISHED"),
+    (Status::Failed, "FAILED"),
+];
+
+#[test]
+fn statuses_have_names(rt: HostRuntime) {
+    for (status, text) in &STATUSES {
+        check_text(&rt, status.name(), text, "the name of a status");
+        check(&rt, Status::of(text) == Some(*status), text);
+    }
+    check(&rt, Status::of("waiting") == None, "no status");
+}
 
 fn check_state(rt: &impl Abort, alloc: Global, text: &str, wanted: &str) {
     check_text(rt, said(rt, alloc, text).as_str(), wanted, text);
@@ -244,4 +263,17 @@ fn sequences_are_kept(rt: HostRuntime) {
     check(&rt, has_items(two.into(), &[8, 10]), "two items");
     let none = Vec::new(rt.alloc());
     check(&rt, has_items(none.into(), &[]), "no items");
+}
+
+fn is_copied(rt: &impl Abort, sequence: &Sequence<u32>) -> bool {
+    let copy = sequence.copy().expect(rt, "memory");
+    copy == *sequence
+}
+
+#[test]
+fn sequences_are_copied(rt: HostRuntime) {
+    let two = vec![in rt.alloc(); 8, 10].expect(&rt, "memory");
+    check(&rt, is_copied(&rt, &two.into()), "two items");
+    let none = Vec::new(rt.alloc());
+    check(&rt, is_copied(&rt, &none.into()), "no items");
 }

@@ -56,10 +56,13 @@ has_condition d =
     is_some (text_at (codes "operatingMode") d) && is_some (stop_at d)
     && is_some (levels_at d) && is_some (truth_at (codes "paused") d)
 
--- a member that is needed is absent, or one that is read has the wrong kind
+-- one of these members is absent where it is needed, or has the wrong kind
+abbrev pub lacks_members : Data → Bool
+lacks_members d = not (has_opening d && has_progress d && has_condition d)
+
+-- a member that is needed is absent, or one that is read has the wrong kind; the lists are read last
 unfoldable pub is_bad : Data → Bool
-is_bad d =
-    not (has_opening d && has_progress d && has_condition d && is_some (node_seqs_at d) && is_some (actions_at d))
+is_bad d = lacks_members d || not (is_some (node_seqs_at d) && is_some (actions_at d))
 
 -- a text of a state that isn't bad
 abbrev pub text : List ℕ → Data → List ℕ

@@ -1,5 +1,5 @@
 -- The statuses of an action (VDA 5050 2.0, actionStatus).
-use Rattle.std.specs.Prelude.{ℕ, List, [], ◌∷◌, Option, codes}
+use Rattle.std.specs.Prelude.{◌≡◌, ℕ, List, [], ◌∷◌, Option, Some, codes, refl}
 use Rattle.std.specs.List.{find}
 use Rattle.std.specs.Str.{bytes_eq}
 use Rattle.agv_message.specs.declared.status.Status.{Status}
@@ -21,3 +21,13 @@ statuses = Waiting ∷ Initializing ∷ Running ∷ Paused ∷ Finished ∷ Fail
 -- the status that is written so, if there is one
 unfoldable pub status_of : List ℕ → Option Status
 status_of text = find (λ status. bytes_eq text (status_name status)) statuses
+
+-- a status is read back from what is written of it
+pub status_of-name : (status : Status) → status_of (status_name status) ≡ Some status
+unfolding status_of
+status_of-name Waiting = refl
+status_of-name Initializing = refl
+status_of-name Running = refl
+status_of-name Paused = refl
+status_of-name Finished = refl
+status_of-name Failed = refl

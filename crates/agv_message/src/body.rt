@@ -1,15 +1,20 @@
 //! Bodies: JSON values whose numbers are all whole.
-ghost use Rattle.std.specs.Prelude.{◌≡◌, Ok, IfOk, IfErr};
+ghost use Rattle.std.specs.Prelude.{◌≡◌, false, Ok, Err, IfOk, IfErr};
+ghost use Rattle.std.specs.Str.{is_utf8};
+ghost use Rattle.serde_json.specs.Read.{read};
 ghost use Rattle.serde_json.specs.View.{view, items_view, members_view};
 ghost use Rattle.serde_json.specs.Written.{has_float, items_have_float, members_have_float};
-ghost use Rattle.agv_message.specs.Body.{body_of, IsFaultOf};
+ghost use Rattle.agv_header.specs.declared.refusal.Refusal.TheVariants as refusal;
+ghost use Rattle.agv_message.specs.Body.{body_of, whole_only, IsFaultOf};
+ghost use Rattle.agv_message.specs.declared.body.BodyFault.TheVariants as fault;
 
 use agv_header::{Memory, Refusal};
 use serde_json::{Map, Value};
 use std::alloc::Global;
+use std::str;
 
 /// Why a body isn't read.
-#[derive(Clone, Copy, Debug)]
+#[derive(Clone, Copy, Debug, PartialEq, Eq)]
 pub enum BodyFault {
     /// The body is refused.
     Refused(Refusal),
@@ -18,8 +23,6 @@ pub enum BodyFault {
 }
 
 impl From<Memory> for BodyFault {
-    ghost use Rattle.agv_message.specs.declared.body.BodyFault.TheVariants as fault;
-
     ghost from_gives = { λ _ made. made ≡ fault.Memory };
 
     fn from(_memory: Memory) -> BodyFault {
@@ -63,20 +66,32 @@ fn members_have_fraction(members: &Map<String, Value>) -> bool
     false
 }
 
+/// The JSON value that the text is.
+fn read_text(alloc: Global, text: &str) -> Result<Value, BodyFault>
+    ensures ok { IfOk result (λ value. whole_only (read text.now) ≡ Ok (view value)) }
+    ensures err { IfErr result (λ fault. IsFaultOf fault (whole_only (read text.now))) }
+{
+    match Value::from_str(alloc, text) {
+        Ok(value) if has_fraction(&value) => Err(BodyFault::Refused(Refusal::Fraction)),
+        Ok(value) => Ok(value),
+        Err(error) if error.is_memory() => Err(BodyFault::Memory),
+        Err(_) => Err(BodyFault::Refused(Refusal::BadJson)),
+    }
+}
+
 /// The JSON value that the bytes are.
 ///
 /// `Refused` with `BadJson` where they are no JSON text (not UTF-8, empty, or nested deeper than
 /// 127), and else with `Fraction` where some number of the value, wherever it stands, is no whole
 /// number of 64 bits as `serde_json` reads it (also `1e0` and `-0`); `Memory` where an allocation
-/// was refused.
+/// was refused, which bytes that are not UTF-8 don't ask for.
 pub fn read_body(alloc: Global, bytes: &[u8]) -> Result<Value, BodyFault>
     ensures ok { IfOk result (λ value. body_of bytes.now ≡ Ok (view value)) }
     ensures err { IfErr result (λ fault. IsFaultOf fault (body_of bytes.now)) }
+    ensures no_text { is_utf8 bytes.now ≡ false → result ≡ Err (fault.Refused refusal.BadJson) }
 {
-    match Value::from_slice(alloc, bytes) {
-        Ok(value) if has_fraction(&value) => Err(BodyFault::Refused(Refusal::Fraction)),
-        Ok(value) => Ok(value),
-        Err(error) if error.is_memory() => Err(BodyFault::Memory),
+    match str::from_utf8(bytes) {
+        Ok(text) => read_text(alloc, text),
         Err(_) => Err(BodyFault::Refused(Refusal::BadJson)),
     }
 }

@@ -13,6 +13,7 @@
 //!
 //! [`Sequence`] is a list and [`Text`] a text that a message keeps. Clauses see the one as the list
 //! of its items and the other as the list of its bytes, so a message is a plain record in a clause.
+//! Messages can be compared, and orders copied.
 #![tactic(auto)]
 
 mod action_writer;

@@ -1,11 +1,11 @@
 //! Orders: the nodes and edges that a vehicle is to drive, and what it does on the nodes.
-ghost use Rattle.std.specs.Prelude.{◌≡◌};
+ghost use Rattle.std.specs.Prelude.{◌≡◌, IfOk};
 
 use crate::Sequence;
-use agv_header::Name;
+use agv_header::{Memory, Name};
 
 /// An order message (VDA 5050 2.0, order): the released nodes and edges first, then the others.
-#[derive(Debug, Drop)]
+#[derive(Debug, Drop, PartialEq, Eq)]
 pub struct OrderMessage {
     /// The order's name.
     pub order: Name,
@@ -16,7 +16,7 @@ pub struct OrderMessage {
 }
 
 /// A node of an order.
-#[derive(Debug, Drop)]
+#[derive(Debug, Drop, PartialEq, Eq)]
 pub struct OrderNode {
     pub id: Name,
     /// Its place among all nodes and edges of the order.
@@ -25,6 +25,48 @@ pub struct OrderNode {
     pub released: bool,
     /// What the vehicle does there, in this order.
     pub acts: Sequence<OrderAct>,
+}
+
+fn copy_nodes(nodes: &Sequence<OrderNode>) -> Result<Sequence<OrderNode>, Memory>
+    ensures { IfOk result (λ copy. copy ≡ nodes.now) }
+{
+    let mut copy = Vec::new(nodes.allocator());
+    for node in nodes.as_slice() {
+        copy.push(node.copy()?)?;
+    }
+    Ok(copy.into())
+}
+
+impl OrderMessage {
+    /// A message equal to this one.
+    ///
+    /// `Memory` where an allocation was refused.
+    pub fn copy(&self) -> Result<OrderMessage, Memory>
+        ensures { IfOk result (λ copy. copy ≡ self.now) }
+    {
+        Ok(OrderMessage {
+            order: self.order,
+            update: self.update,
+            nodes: copy_nodes(&self.nodes)?,
+            edges: self.edges.copy()?,
+        })
+    }
+}
+
+impl OrderNode {
+    /// A node equal to this one.
+    ///
+    /// `Memory` where an allocation was refused.
+    pub fn copy(&self) -> Result<OrderNode, Memory>
+        ensures { IfOk result (λ copy. copy ≡ self.now) }
+    {
+        Ok(OrderNode {
+            id: self.id,
+            seq: self.seq,
+            released: self.released,
+            acts: self.acts.copy()?,
+        })
+    }
 }
 
 /// An edge of an order.

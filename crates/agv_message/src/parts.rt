@@ -1,8 +1,8 @@
 //! The members of a state that the desk looks at.
-ghost use Rattle.std.specs.Prelude.{◌≡◌, ℕ, true, false, IfNone, IfOk, IfSome, codes};
+ghost use Rattle.std.specs.Prelude.{◌≡◌, ℕ, true, false, None, Ok, IfNone, IfOk, IfSome, codes};
 ghost use Rattle.serde_json.specs.View.{view};
 ghost use Rattle.agv_message.specs.Parts.{message_from, message_with, texts_of};
-ghost use Rattle.agv_message.specs.State.{is_bad, message_of, text};
+ghost use Rattle.agv_message.specs.State.{is_bad, lacks_members, message_of, text};
 
 use crate::condition::Condition;
 use crate::opening::{Opening, Progress};
@@ -42,6 +42,7 @@ impl<'a> Parts<'a> {
     /// The parts of the state; `None` where a member is missing or of the wrong kind.
     #[tactic(auto, unfolding(crate::specs::State::is_bad))]
     pub fn of(alloc: Global, state: &'a Value) -> Result<Option<Parts<'a>>, Memory>
+        ensures lacking { lacks_members (view state.now) ≡ true → result ≡ Ok None }
         ensures bad { IfOk result (λ parts. IfNone parts (is_bad (view state.now) ≡ true)) }
         ensures good { IfOk result (λ parts. IfSome parts (λ _. is_bad (view state.now) ≡ false)) }
         ensures timestamp { IfOk result (λ parts. IfSome parts

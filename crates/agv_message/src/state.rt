@@ -4,7 +4,7 @@ use crate::{Sequence, Status, Text};
 use agv_header::Moment;
 
 /// What a vehicle says of itself (VDA 5050 2.0, state), as far as the desk looks at it.
-#[derive(Debug, Drop)]
+#[derive(Debug, Drop, PartialEq, Eq)]
 pub struct StateMessage {
     /// The message's number, one more than the last one's.
     pub header_id: u32,

@@ -14,7 +14,8 @@ pub enum Status {
 }
 
 impl Status {
-    ghost use Rattle.agv_message.specs.Status.{status_of};
+    ghost use Rattle.std.specs.Prelude.{Some};
+    ghost use Rattle.agv_message.specs.Status.{status_name, status_of};
 
     /// The status that is written so, in capitals; `None` where the text is no status.
     #[tactic(auto, unfolding(crate::specs::Status::status_of))]
@@ -29,6 +30,22 @@ impl Status {
             "FINISHED" => Some(Status::Finished),
             "FAILED" => Some(Status::Failed),
             _ => None,
+        }
+    }
+    /// How it is written, in capitals: `WAITING`, `INITIALIZING`, `RUNNING`, `PAUSED`, `FINISHED` or
+    /// `FAILED`. [`Status::of`] reads it back.
+    #[tactic(auto, unfolding(crate::specs::Status::status_of))]
+    pub fn name(self) -> &'static str
+        ensures text { result.now ≡ status_name self }
+        ensures reads_back { status_of result.now ≡ Some self }
+    {
+        match self {
+            Status::Waiting => "WAITING",
+            Status::Initializing => "INITIALIZING",
+            Status::Running => "RUNNING",
+            Status::Paused => "PAUSED",
+            Status::Finished => "FINISHED",
+            Status::Failed => "FAILED",
         }
     }
 }

@@ -1,0 +1,10 @@
+mod Legs
+mod Messaging
+pub mod NewTrips
+pub mod Releases
+mod Serving
+mod Stitching
+pub mod Stopping
+pub mod Updates
+mod Walked
+mod Ways

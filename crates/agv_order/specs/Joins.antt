@@ -1,13 +1,13 @@
 -- How a vehicle joins an order message to the order that it holds (VDA 5050 2.0, order updates).
-use Rattle.std.specs.Prelude.{◌&&◌, ◌==◌, ◌++◌, nat_eq, nat_lt, Bool, false, if◌then◌else◌, List, [], ◌∷◌, Option, None, Some, Result, Ok, Err, filter}
+use Rattle.std.specs.Prelude.{◌≡◌, ◌⊎◌, ◌&&◌, ◌==◌, ◌++◌, nat_eq, nat_lt, Bool, false, if◌then◌else◌, List, [], ◌∷◌, Option, None, Some, Result, Ok, Err, filter}
 use Rattle.std.specs.Cmp.Lexicographic.{pointwise}
 use Rattle.agv_message.specs.declared.order.OrderEdge.{OrderEdge}
 use Rattle.agv_message.specs.declared.order.OrderMessage.{OrderMessage}
 use Rattle.agv_message.specs.declared.order.OrderNode.{OrderNode}
-use Rattle.agv_order.specs.declared.join.Joined.{Joined}
-use Rattle.agv_order.specs.declared.join.Joined.TheVariants.{Taken, Same}
-use Rattle.agv_order.specs.declared.join.JoinRefusal.{JoinRefusal}
-use Rattle.agv_order.specs.declared.join.JoinRefusal.TheVariants as refusal
+use Rattle.agv_order.specs.declared.joining.Joined.{Joined}
+use Rattle.agv_order.specs.declared.joining.Joined.TheVariants.{Taken, Same}
+use Rattle.agv_order.specs.declared.joining.JoinRefusal.{JoinRefusal}
+use Rattle.agv_order.specs.declared.joining.JoinRefusal.TheVariants as refusal
 
 -- the nodes of the base: those that are released
 abbrev pub base_nodes : OrderMessage → List OrderNode
@@ -54,3 +54,9 @@ abbrev pub join_of : Option OrderMessage → OrderMessage → Result Joined Join
 join_of None message = if message.update == 0 then Ok (Taken message) else Err refusal.NotFirst
 join_of (Some held) message =
     if pointwise nat_eq held.order message.order then update_of held message else Err refusal.OtherOrder
+
+-- the vehicle gives this answer; only where it takes an order it may want memory in its place
+abbrev pub IsAnswer : Result Joined JoinRefusal → Result Joined JoinRefusal → Type 0
+IsAnswer (Ok (Taken order)) given = (given ≡ Ok (Taken order)) ⊎ (given ≡ Err refusal.Memory)
+IsAnswer (Ok Same) given = given ≡ Ok Same
+IsAnswer (Err fault) given = given ≡ Err fault

@@ -1,8 +1,11 @@
 pub mod Statuses
 pub mod Stops
+pub mod Served
+pub mod StopPlaces
 pub mod Trips
 pub mod WellFormed
 pub mod Messages
 pub mod Releases
 pub mod Joins
+pub mod Stitch
 pub mod Plans

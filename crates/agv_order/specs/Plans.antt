@@ -1,17 +1,24 @@
 -- The plan of a trip: from the vehicle's node to the node of each stop in turn (this project's profile).
-use Rattle.std.specs.Prelude.{ℕ, ◌+◌, nat_eq, List, [], ◌∷◌, ◌++◌, length, map, find, Option, None, Some}
+use Rattle.std.specs.Prelude.{ℕ, ◌+◌, nat_eq, nat_lt, if◌then◌else◌, List, [], ◌∷◌, length, find, Option, None, Some, Result, Ok, Err}
 use Rattle.std.specs.Option.{option_map, option_and_then}
-use Rattle.std.specs.FinMap as map_of
+use Rattle.std.specs.List.{filter_map, flat_map}
+use Rattle.std.specs.FinMap as finite
 use Rattle.std.specs.Cmp.Lexicographic.{pointwise}
-use Rattle.agv_layout.specs.Layout.{Layout}
-use Rattle.agv_layout.specs.Walk.{IsRoute}
+use Rattle.agv_header.specs.declared.key.VehicleKey.{VehicleKey}
+use Rattle.agv_layout.specs.Layout.{Layout, edge_of}
+use Rattle.agv_layout.specs.declared.edge.Edge.{Edge}
 use Rattle.agv_layout.specs.declared.station.Spot.{Spot}
 use Rattle.agv_message.specs.declared.order.ActKind.{ActKind}
 use Rattle.agv_message.specs.declared.order.ActKind.TheVariants.{Pick, Drop}
 use Rattle.agv_message.specs.declared.status.Status.TheVariants.{Waiting}
 use Rattle.agv_stock.specs.declared.job.Job.{Job}
+use Rattle.agv_layout.specs.RouteOf.{route_of}
 use Rattle.agv_order.specs.declared.act.Act.{Act}
+use Rattle.agv_order.specs.declared.fault.PlanFault.{PlanFault}
+use Rattle.agv_order.specs.declared.fault.PlanFault.TheVariants as fault
+use Rattle.agv_order.specs.declared.leg.Leg.{Leg}
 use Rattle.agv_order.specs.declared.stop.Stop.{Stop}
+use Rattle.agv_order.specs.declared.trip.Trip.{Trip}
 
 -- the job of this name among jobs
 abbrev pub job_named : List Job → List ℕ → Option Job
@@ -22,41 +29,73 @@ abbrev pub station_of : ActKind → Job → List ℕ
 station_of Pick job = job.origin
 station_of Drop job = job.target
 
--- where a stop is made: the node of the station, if job and station are known
-abbrev pub goal_of : Layout → List Job → Stop → Option (List ℕ)
-goal_of layout jobs stop =
-    option_map (λ (spot : Spot). spot.node)
-    (option_and_then (λ (job : Job). map_of.get layout.stations (station_of stop.kind job)) (job_named jobs stop.job))
+-- the edges of these names
+abbrev pub edges_named : Layout → List (List ℕ) → List Edge
+edges_named layout ids = filter_map (λ id. option_map (edge_of id) (finite.get layout.edges id)) ids
 
--- the parts of the way: from the node where one part ends to the next goal, each part the route of the layout; there is none past a goal that is unknown or can't be reached
-abbrev pub IsTour : Layout → List ℕ → List (Option (List ℕ)) → List (List (List ℕ)) → Type 0
-IsTour layout at [] [] = Unit {0}
-IsTour layout at [] (part ∷ parts) = ⊥
-IsTour layout at (goal ∷ goals) [] = ⊥
-IsTour layout at (None ∷ goals) (part ∷ parts) = ⊥
-IsTour layout at (Some goal ∷ goals) (part ∷ parts) = IsRoute layout at goal part × IsTour layout goal goals parts
+-- a leg to a stop: for its job, to this node, over these edges
+abbrev pub leg_over : Layout → Stop → Job → List ℕ → List (List ℕ) → Leg
+leg_over layout stop job goal ids = record { stop = stop; job = job; goal = goal; edges = edges_named layout ids }
 
--- the parts of the way of these stops
-abbrev pub IsWayOf : Layout → List Job → List Stop → List ℕ → List (List (List ℕ)) → Type 0
-IsWayOf layout jobs stops at parts = IsTour layout at (map (goal_of layout jobs) stops) parts
+-- the leg to a stop of the job: by the route from a node to the node of the job's station
+abbrev pub leg_for : Layout → List ℕ → Stop → Job → Option Leg
+leg_for layout at stop job =
+    option_and_then (λ (spot : Spot). option_map (leg_over layout stop job spot.node) (route_of layout at spot.node)) (finite.get layout.stations (station_of stop.kind job))
 
--- the edges of all parts, one part after the other
-abbrev pub whole_way : List (List (List ℕ)) → List (List ℕ)
-whole_way [] = []
-whole_way (part ∷ parts) = part ++ whole_way parts
+-- the leg to a stop; none where its job or its station is unknown, or no walk leads there
+unfoldable pub leg_to : Layout → List Job → List ℕ → Stop → Option Leg
+leg_to layout jobs at stop = option_and_then (leg_for layout at stop) (job_named jobs stop.job)
 
--- the places where the parts end, the first of which begins at this place
-abbrev pub ends_of : ℕ → List (List (List ℕ)) → List ℕ
-ends_of from [] = []
-ends_of from (part ∷ parts) = (from + length part) ∷ ends_of (from + length part) parts
+-- the legs from a node to each stop in turn; none where one of them can't be had
+abbrev pub legs_to : Layout → List Job → List ℕ → List Stop → Option (List Leg)
+legs_to layout jobs at [] = Some []
+legs_to layout jobs at (stop ∷ stops) =
+    option_and_then (λ (leg : Leg). option_map (λ (legs : List Leg). leg ∷ legs) (legs_to layout jobs leg.goal stops)) (leg_to layout jobs at stop)
 
--- the act of a stop at its place: with the load of its job, at the origin for a pick and at the target for a drop, not yet begun
-abbrev pub act_of : Job → Stop × ℕ → Act
-act_of job placed = record {
-  kind = placed.0.kind;
-  job = placed.0.job;
-  load = job.load;
-  station = station_of placed.0.kind job;
-  place_at = placed.1;
+-- the edges of all legs
+abbrev pub way_of : List Leg → List Edge
+way_of legs = flat_map (λ (leg : Leg). leg.edges) legs
+
+-- the act at the end of a leg, at this place: with the load of its job, at the origin for a pick and at the target for a drop, not yet begun
+abbrev pub act_at : Leg → ℕ → Act
+act_at leg place = record {
+  kind = leg.stop.kind;
+  job = leg.stop.job;
+  load = leg.job.load;
+  station = station_of leg.stop.kind leg.job;
+  place_at = place;
   status = Waiting;
 }
+
+-- the acts at the ends of the legs, the first of which begins at this place
+abbrev pub acts_along : ℕ → List Leg → List Act
+acts_along from [] = []
+acts_along from (leg ∷ legs) = act_at leg (from + length leg.edges) ∷ acts_along (from + length leg.edges) legs
+
+module _ (vehicle : VehicleKey) (order : List ℕ) (at : List ℕ) (base : ℕ) where
+  -- the trip over these legs, with nothing confirmed
+  abbrev pub trip_over : List Leg → Trip
+  trip_over legs = record {
+    order = order;
+    vehicle = vehicle;
+    start = at;
+    edges = way_of legs;
+    first = 0;
+    base = base;
+    sent = 0;
+    confirmed = None;
+    seen = 0;
+    acts = acts_along 0 legs;
+  }
+
+  -- a way of more than 200 edges is too long, and the base can't pass its end
+  abbrev pub trip_along : Option (List Leg) → Result Trip PlanFault
+  trip_along None = Err fault.NoWalk
+  trip_along (Some legs) =
+      if nat_lt 200 (length (way_of legs)) then Err fault.TooLong
+      else (if nat_lt (length (way_of legs)) base then Err fault.Beyond
+      else Ok (trip_over legs))
+
+-- the trip of a vehicle at a node, which makes these stops for these jobs, with the first `base` edges released
+abbrev pub planned : Layout → VehicleKey → List Job → List Stop → List ℕ → List ℕ → ℕ → Result Trip PlanFault
+planned layout vehicle jobs stops order at base = trip_along vehicle order at base (legs_to layout jobs at stops)

@@ -2,14 +2,34 @@
 //!
 //! - A [`Trip`] is an open order of a vehicle: the edges that it is to drive, and the [`Act`]s, picks
 //!   and drops of loads, that it carries out on the way.
+//! - [`stops_fit`] tells which lists of [`Stop`]s an order can make. [`Trip::plan`] plans the trip that
+//!   makes them, by the route from stop to stop; [`Trip::release`] releases more of it by an update.
+//! - [`Trip::message`] is the order message of the trip's last update, with the numbers of
+//!   [`node_seq`] and [`edge_seq`]; [`join`] is what a vehicle does with a message.
+//! - [`merge`] is the order of an action's statuses.
+//! - [`laws`] says what holds of the definitions behind these contracts: that the next update gives the
+//!   whole order, and that trips stay well formed.
 #![tactic(auto)]
 
 mod act;
-mod join;
+mod fault;
+mod joining;
+pub mod laws;
+mod leg;
+mod message;
+mod number;
+mod plan;
+mod release;
+mod served;
+mod status;
+mod stitch;
 mod stop;
 mod trip;
 
 pub use act::Act;
-pub use join::{JoinRefusal, Joined};
-pub use stop::Stop;
+pub use fault::PlanFault;
+pub use joining::{JoinRefusal, Joined, join};
+pub use number::{edge_seq, node_seq};
+pub use status::merge;
+pub use stop::{Stop, stops_fit};
 pub use trip::Trip;

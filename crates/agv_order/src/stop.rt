@@ -1,5 +1,9 @@
 //! Stops: what an order is to do, one after the other.
+ghost use Rattle.std.specs.Prelude.{◌≡◌};
+ghost use Rattle.std.specs.List.{list_all};
+ghost use Rattle.agv_order.specs.Stops.{kinds_of, is_pick_then_drop, stops_fit};
 
+use crate::served::is_served;
 use agv_header::Name;
 use agv_message::ActKind;
 
@@ -8,4 +12,22 @@ use agv_message::ActKind;
 pub struct Stop {
     pub kind: ActKind,
     pub job: Name,
+}
+
+/// Whether each job that a stop names is picked and then dropped.
+fn are_all_served(stops: &[Stop]) -> bool
+    ensures { result ≡ list_all (λ one. is_pick_then_drop (kinds_of stops.now one.job)) stops.now }
+{
+    stops.iter().all(|stop| is_served(stops, stop.job))
+}
+
+/// Whether these stops can be carried out: there is at least one, and the load of each job that is named
+/// is picked just once and, later, dropped just once. It takes no memory.
+///
+/// Each stop is compared with each: the time is that of the square of their number.
+#[tactic(auto, unfolding(crate::specs::Stops::stops_fit))]
+pub fn stops_fit(stops: &[Stop]) -> bool
+    ensures { result ≡ stops_fit stops.now }
+{
+    !stops.is_empty() && are_all_served(stops)
 }

@@ -1,7 +1,8 @@
 //! Trips.
+ghost use Rattle.std.specs.Prelude.{◌≡◌, IfOk};
 
 use crate::Act;
-use agv_header::{Name, VehicleKey};
+use agv_header::{Memory, Name, VehicleKey};
 use agv_layout::Edge;
 use agv_message::Sequence;
 
@@ -31,4 +32,26 @@ pub struct Trip {
     pub seen: u32,
     /// What is done on the way, in this order: two acts for each of one to four jobs.
     pub acts: Sequence<Act>,
+}
+
+impl Trip {
+    /// A trip equal to this one.
+    ///
+    /// `Memory` for want of memory alone.
+    pub fn copy(&self) -> Result<Trip, Memory>
+        ensures { IfOk result (λ copy. copy ≡ self.now) }
+    {
+        Ok(Trip {
+            order: self.order,
+            vehicle: self.vehicle,
+            start: self.start,
+            edges: self.edges.copy()?,
+            first: self.first,
+            base: self.base,
+            sent: self.sent,
+            confirmed: self.confirmed,
+            seen: self.seen,
+            acts: self.acts.copy()?,
+        })
+    }
 }

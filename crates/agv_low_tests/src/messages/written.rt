@@ -10,7 +10,7 @@ use agv_message::{
 use std::alloc::Global;
 use std::process::Abort;
 
-fn header(rt: &impl Abort, number: u32) -> Header {
+pub(crate) fn header(rt: &impl Abort, number: u32) -> Header {
     Header {
         number,
         at: Moment::of(1_700_000_000_000).expect(rt, "a moment"),
@@ -38,8 +38,9 @@ struct Order {
 }
 
 /// A load is picked on the first node and dropped on the last; then a pick and a drop on the same node,
-/// in an update, the pick first, and no edge.
-const ORDERS: [Order; 2] = [
+/// in an update, the pick first, and no edge. The third text was written by another program after the
+/// schema of VDA 5050 2.0: Python's `json.dumps` with sorted members and no blanks.
+const ORDERS: [Order; 3] = [
     Order {
         number: 1,
         order: "O1",
@@ -87,6 +88,39 @@ const ORDERS: [Order; 2] = [
             r#""actionType":"drop","blockingType":"HARD"}],"nodeId":"N3","released":true,"sequenceId":4}],"#,
             r#""orderId":"O-4.x:y_z","orderUpdateId":4294967295,"serialNumber":"0001","#,
             r#""timestamp":"2023-11-14T22:13:20.00Z","version":"2.0.0"}"#,
+        ),
+    },
+    Order {
+        number: 77,
+        order: "tugger:7_2026-11-23",
+        update: 12,
+        nodes: &[
+            (
+                "aisle-03.rack_12:level-2.slot-07",
+                20,
+                true,
+                &[(4, ActKind::Drop, "S-9"), (5, ActKind::Pick, "S-9")],
+            ),
+            ("x", 22, true, &[]),
+            ("Z9", 24, false, &[(6, ActKind::Drop, "dock:B")]),
+        ],
+        edges: &[
+            ("x-in", "aisle-03.rack_12:level-2.slot-07", "x", 21, true),
+            ("x-out", "x", "Z9", 23, false),
+        ],
+        text: concat!(
+            r#"{"edges":[{"actions":[],"edgeId":"x-in","endNodeId":"x","released":true,"sequenceId":21,"startNodeId":"aisle-03.rack_12:level-2.slot-07"},"#,
+            r#"{"actions":[],"edgeId":"x-out","endNodeId":"Z9","released":false,"sequenceId":23,"startNodeId":"x"}],"headerId":77,"manufacturer":"KIT","#,
+            r#""nodes":[{"actions":[{"actionId":"tugger:7_2026-11-23.4","actionParameters":[{"key":"stationType","value":"station"},"#,
+            r#"{"key":"stationName","value":"S-9"},{"key":"loadType","value":"load"},{"key":"loadId","value":"L1"}],"#,
+            r#""actionType":"drop","blockingType":"HARD"},{"actionId":"tugger:7_2026-11-23.5","actionParameters":["#,
+            r#"{"key":"stationType","value":"station"},{"key":"stationName","value":"S-9"},{"key":"loadType","value":"load"},"#,
+            r#"{"key":"loadId","value":"L1"}],"actionType":"pick","blockingType":"HARD"}],"nodeId":"aisle-03.rack_12:level-2.slot-07","#,
+            r#""released":true,"sequenceId":20},{"actions":[],"nodeId":"x","released":true,"sequenceId":22},{"actions":["#,
+            r#"{"actionId":"tugger:7_2026-11-23.6","actionParameters":[{"key":"stationType","value":"station"},"#,
+            r#"{"key":"stationName","value":"dock:B"},{"key":"loadType","value":"load"},{"key":"loadId","value":"L1"}],"#,
+            r#""actionType":"drop","blockingType":"HARD"}],"nodeId":"Z9","released":false,"sequenceId":24}],"#,
+            r#""orderId":"tugger:7_2026-11-23","orderUpdateId":12,"serialNumber":"0001","timestamp":"2023-11-14T22:13:20.00Z","version":"2.0.0"}"#,
         ),
     },
 ];

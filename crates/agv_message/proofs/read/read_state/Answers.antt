@@ -1,4 +1,4 @@
-use Rattle.std.proofs.Common.{◌≡◌, Result, Ok, IfOk, IfErr, subst, sym, ◌∙◌}
+use Rattle.std.proofs.Common.{◌≡◌, Result, Ok, IfOk, IfErr, refl, subst, sym, ◌∙◌}
 use Rattle.agv_header.specs.declared.refusal.Refusal.{Refusal}
 use Rattle.agv_message.specs.Body.{IsFaultOf}
 use Rattle.agv_message.specs.declared.state.StateMessage.{StateMessage}
@@ -14,3 +14,6 @@ pub returns-clause-err : goal.returns-clause-err
 returns-clause-err c =
     let judged = state_of-not_located _ (sym c.has_position-is_located.ensures ∙ c.if-is_located.false) in
     subst (λ (said : Result StateMessage Refusal). IfErr c.read_located.result (λ fault. IsFaultOf fault said)) (sym judged) c.read_located.ensures.err
+
+pub returns-then-is_located-clause-position : goal.returns-then-is_located-clause-position
+returns-then-is_located-clause-position c located = refl

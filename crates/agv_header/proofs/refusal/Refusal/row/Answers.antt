@@ -129,6 +129,9 @@ returns-in-Limit c = rw c.in-Limit.is
 pub returns-in-OrderKnown : goal.returns-in-OrderKnown
 returns-in-OrderKnown c = rw c.in-OrderKnown.is
 
+pub returns-in-BadStops : goal.returns-in-BadStops
+returns-in-BadStops c = rw c.in-BadStops.is
+
 pub returns-in-OtherOrder : goal.returns-in-OtherOrder
 returns-in-OtherOrder c = rw c.in-OtherOrder.is
 

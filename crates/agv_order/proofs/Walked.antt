@@ -1,0 +1,104 @@
+-- Each leg of a plan leads by a walk from the stop before it to its own.
+use Rattle.std.proofs.Common.{◌≡◌, ℕ, List, [], ◌∷◌, All, Option, None, Some, refl, sym, ap, subst, ◌∙◌}
+use Rattle.std.specs.List.{cons_option}
+use Rattle.std.specs.Option.{option_map, option_and_then}
+use Rattle.std.specs.FinMap as finite
+use Rattle.std.proofs.lemmas.Option.{same_Some}
+use Rattle.std.proofs.lemmas.List.Elements.{All-nil, All-cons}
+use Rattle.agv_layout.specs.Layout.{Layout, IsStation, edge_of}
+use Rattle.agv_layout.specs.Walk.{IsWalk, IsWayTo}
+use Rattle.agv_layout.specs.declared.edge.Edge.{Edge}
+use Rattle.agv_layout.specs.declared.edge.Ends.{Ends}
+use Rattle.agv_layout.specs.declared.station.Spot.{Spot}
+use Rattle.agv_stock.specs.declared.job.Job.{Job}
+use Rattle.agv_order.specs.Plans.{job_named, station_of, edges_named, leg_over, leg_for, leg_to, legs_to}
+use Rattle.agv_layout.specs.RouteOf.{route_of}
+use Rattle.agv_layout.proofs.RouteFound.{route_is_found}
+use Rattle.agv_order.specs.WellFormed.{IsEdgeOf, ids_of}
+use Rattle.agv_order.specs.declared.leg.Leg.{Leg}
+use Rattle.agv_order.specs.declared.stop.Stop.{Stop}
+
+-- what is chained to a value that is there
+pub record Chained (A B : Type 0) (f : A → Option B) (o : Option A) (b : B) : Type 0 where
+  pub value : A
+  pub here : o ≡ Some value
+  pub gives : f value ≡ Some b
+
+pub chained : {A B : Type 0} (f : A → Option B) (o : Option A) (b : B) → option_and_then f o ≡ Some b → Chained A B f o b
+chained f None b e = cc
+chained f (Some a) b e = record { value = a; here = refl; gives = e }
+
+pub record Mapped (A B : Type 0) (f : A → B) (o : Option A) (b : B) : Type 0 where
+  pub value : A
+  pub here : o ≡ Some value
+  pub gives : f value ≡ b
+
+pub mapped : {A B : Type 0} (f : A → B) (o : Option A) (b : B) → option_map f o ≡ Some b → Mapped A B f o b
+mapped f None b e = cc
+mapped f (Some a) b e = record { value = a; here = refl; gives = same_Some _ _ e }
+
+module _ (layout : Layout) where
+  -- the edges of a walk have its names, and lead as the layout says
+  pub record AreEdges (ids : List (List ℕ)) (edges : List Edge) : Type 0 where
+    pub named : ids_of edges ≡ ids
+    pub known : All (IsEdgeOf layout) edges
+
+  one_more : (id : List ℕ) (ends : Ends) (ids : List (List ℕ)) (edges more : List Edge) → finite.get layout.edges id ≡ Some ends
+      → AreEdges ids edges → cons_option (option_map (edge_of id) (finite.get layout.edges id)) edges ≡ more → AreEdges (id ∷ ids) more
+  one_more id ends ids edges more e are same =
+      let first : edge_of id ends ∷ edges ≡ more = ap (λ o. cons_option (option_map (edge_of id) o) edges) (sym e) ∙ same in
+      subst (AreEdges (id ∷ ids)) first (record {
+        named = ap (λ names. id ∷ names) are.named;
+        known = All-cons (IsEdgeOf layout) (edge_of id ends) edges e are.known;
+      })
+
+  pub are_edges : (from to : List ℕ) (ids : List (List ℕ)) → IsWalk layout from ids to → AreEdges ids (edges_named layout ids)
+  are_edges from to [] walk = record { named = refl; known = All-nil (IsEdgeOf layout) }
+  are_edges from to (id ∷ ids) walk =
+      one_more id _ ids (edges_named layout ids) (edges_named layout (id ∷ ids)) walk.1 (are_edges walk.0 to ids walk.2) refl
+
+  -- a leg: for its stop, by a walk from a node to the node of its station, over edges of the layout
+  pub record IsLeg (at : List ℕ) (stop : Stop) (leg : Leg) : Type 0 where
+    pub made : leg.stop ≡ stop
+    pub walk : IsWalk layout at (ids_of leg.edges) leg.goal
+    pub known : All (IsEdgeOf layout) leg.edges
+    pub spot : Spot
+    pub station : IsStation layout (station_of leg.stop.kind leg.job) spot
+    pub stands : spot.node ≡ leg.goal
+
+  leg_by : (at : List ℕ) (stop : Stop) (job : Job) (spot : Spot) (ids : List (List ℕ)) → finite.get layout.stations (station_of stop.kind job) ≡ Some spot
+      → route_of layout at spot.node ≡ Some ids → IsLeg at stop (leg_over layout stop job spot.node ids)
+  leg_by at stop job spot ids e r =
+      let route = subst (IsWayTo layout at spot.node) r (route_is_found layout at spot.node) in
+      let are = are_edges at spot.node ids route.walk in
+      record {
+        made = refl;
+        walk = subst (λ names. IsWalk layout at names spot.node) (sym are.named) route.walk;
+        known = are.known;
+        spot = spot;
+        station = e;
+        stands = refl;
+      }
+
+  pub is_leg : (jobs : List Job) (at : List ℕ) (stop : Stop) (leg : Leg) → leg_to layout jobs at stop ≡ Some leg → IsLeg at stop leg
+  unfolding leg_to
+  is_leg jobs at stop leg e =
+      let job = chained (leg_for layout at stop) (job_named jobs stop.job) leg e in
+      let spot = chained (λ (spot : Spot). option_map (leg_over layout stop job.value spot.node) (route_of layout at spot.node)) (finite.get layout.stations (station_of stop.kind job.value)) leg job.gives in
+      let ids = mapped (leg_over layout stop job.value spot.value.node) (route_of layout at spot.value.node) leg spot.gives in
+      subst (IsLeg at stop) ids.gives (leg_by at stop job.value spot.value ids.value spot.here ids.here)
+
+  -- the legs lead on from one to the next, a leg for each stop
+  abbrev pub AreLegs : List ℕ → List Stop → List Leg → Type 0
+  AreLegs at [] [] = Unit {0}
+  AreLegs at [] (leg ∷ legs) = ⊥
+  AreLegs at (stop ∷ stops) [] = ⊥
+  AreLegs at (stop ∷ stops) (leg ∷ legs) = IsLeg at stop leg × AreLegs leg.goal stops legs
+
+  pub are_legs : (jobs : List Job) (at : List ℕ) (stops : List Stop) (legs : List Leg) → legs_to layout jobs at stops ≡ Some legs → AreLegs at stops legs
+  are_legs jobs at [] legs e = subst (AreLegs at []) (same_Some _ _ e) tt
+  are_legs jobs at (stop ∷ stops) legs e =
+      let leg = chained (λ (leg : Leg). option_map (λ (others : List Leg). leg ∷ others) (legs_to layout jobs leg.goal stops)) (leg_to layout jobs at stop) legs e in
+      let rest = mapped (λ (others : List Leg). leg.value ∷ others) (legs_to layout jobs leg.value.goal stops) legs leg.gives in
+      subst (AreLegs at (stop ∷ stops)) rest.gives
+      (is_leg jobs at stop leg.value leg.here, are_legs jobs leg.value.goal stops rest.value rest.here)

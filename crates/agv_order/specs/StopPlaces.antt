@@ -1,0 +1,28 @@
+-- Stops that can be carried out, place by place (this project's profile).
+use Rattle.std.specs.Prelude.{◌≡◌, ◌≢◌, ℕ, ◌<◌, Bool, not, List, [], Some}
+use Rattle.std.specs.List.{slice_get}
+use Rattle.agv_message.specs.declared.order.ActKind.{ActKind}
+use Rattle.agv_message.specs.declared.order.ActKind.TheVariants.{Pick, Drop}
+use Rattle.agv_order.specs.declared.stop.Stop.{Stop}
+use Rattle.agv_order.specs.Stops.{is_drop}
+
+-- at this place of the list the load of the job is picked, or dropped
+abbrev pub IsAt : List Stop → List ℕ → ActKind → ℕ → Type 0
+IsAt stops job kind k = slice_get stops k ≡ Some (record { kind = kind; job = job })
+
+-- just at this place of the list
+abbrev pub IsJustAt : List Stop → List ℕ → ActKind → ℕ → Type 0
+IsJustAt stops job kind k = IsAt stops job kind k × ((other : ℕ) → IsAt stops job kind other → other ≡ k)
+
+-- the load of the job is picked at just one place, dropped at just one place, and dropped later
+abbrev pub IsServed : List Stop → List ℕ → Type 0
+IsServed stops job = (pick : ℕ) × (drop : ℕ) × (pick < drop) × IsJustAt stops job Pick pick × IsJustAt stops job Drop drop
+
+-- there is a stop, and each job that a stop names is served
+pub record CanBeDone (stops : List Stop) : Type 0 where
+  pub some : stops ≢ []
+  pub each : (k : ℕ) (stop : Stop) → slice_get stops k ≡ Some stop → IsServed stops stop.job
+
+-- the load is picked
+abbrev pub is_pick : Stop → Bool
+is_pick stop = not (is_drop stop.kind)

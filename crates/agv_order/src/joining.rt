@@ -1,0 +1,85 @@
+//! How a vehicle joins an order message to the order that it holds.
+ghost use Rattle.std.specs.Option.{option_copied};
+ghost use Rattle.agv_order.specs.Joins.{update_of, join_of, IsAnswer};
+
+use crate::stitch::{is_stitched, stitched};
+use agv_header::Memory;
+use agv_message::OrderMessage;
+use std::alloc::Global;
+
+/// What a vehicle that takes a message does with it.
+#[derive(Debug, Drop)]
+pub enum Joined {
+    /// The order that it holds from now on.
+    Taken(OrderMessage),
+    /// It has the update already, and discards the message.
+    Same,
+}
+
+/// Why a vehicle takes no message.
+#[derive(Clone, Copy, Debug, PartialEq, Eq)]
+pub enum JoinRefusal {
+    /// It holds no order, and the message is an update.
+    NotFirst,
+    /// It holds another order.
+    OtherOrder,
+    /// It has a later update already.
+    Lower,
+    /// The message does not begin at the last node of the base that it holds.
+    NotStitched,
+    /// Want of memory; the message may be good.
+    Memory,
+}
+
+impl From<Memory> for JoinRefusal {
+    ghost use Rattle.std.specs.Prelude.{◌≡◌};
+    ghost use Rattle.agv_order.specs.declared.joining.JoinRefusal.TheVariants as refusal;
+
+    ghost from_gives = { λ _ made. made ≡ refusal.Memory };
+
+    fn from(_memory: Memory) -> JoinRefusal {
+        JoinRefusal::Memory
+    }
+}
+
+fn update(alloc: Global, held: &OrderMessage, message: &OrderMessage) -> Result<Joined, JoinRefusal>
+    ensures { IsAnswer (update_of held.now message.now) result }
+{
+    if held.update == message.update {
+        return Ok(Joined::Same);
+    }
+    if message.update < held.update {
+        return Err(JoinRefusal::Lower);
+    }
+    if !is_stitched(held.nodes.as_slice(), message.nodes.as_slice()) {
+        return Err(JoinRefusal::NotStitched);
+    }
+    Ok(Joined::Taken(stitched(alloc, held, message)?))
+}
+
+/// What a vehicle that holds an order, or none, does with an order message (VDA 5050 2.0, order updates).
+///
+/// - With no order it takes update 0 as it is; any other is `NotFirst`.
+/// - It refuses a message of another order (`OtherOrder`), discards an update that it has (`Same`), and
+///   refuses one before it (`Lower`).
+/// - It takes a later one that begins at the last node of its base: then it holds its base, and from that
+///   node on the message. Any other is `NotStitched`.
+/// - `Memory`, for want of memory alone, comes only where an order is taken: the other answers take none.
+pub fn join(
+    alloc: Global,
+    held: Option<&OrderMessage>,
+    message: &OrderMessage,
+) -> Result<Joined, JoinRefusal>
+    ensures { IsAnswer (join_of (option_copied held.entry) message.now) result }
+{
+    let Some(held) = held else {
+        if message.update != 0 {
+            return Err(JoinRefusal::NotFirst);
+        }
+        return Ok(Joined::Taken(message.copy()?));
+    };
+    if held.order != message.order {
+        return Err(JoinRefusal::OtherOrder);
+    }
+    update(alloc, held, message)
+}

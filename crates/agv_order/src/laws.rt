@@ -1,0 +1,56 @@
+//! What holds of the definitions that the contracts of this crate cite, whatever the code does.
+//! Each function does nothing: its clause is the law.
+ghost use Rattle.std.specs.Prelude.{◌≡◌, ◌↔◌, ◌<◌, ◌≤◌, ◌*◌, ℕ, List, filter, length, IsTrue, Some, Ok, Err};
+ghost use Rattle.agv_header.specs.declared.key.VehicleKey.{VehicleKey as KeyOf};
+ghost use Rattle.agv_layout.specs.Layout.{Layout as LayoutOf, Name as NameOf};
+ghost use Rattle.agv_stock.specs.declared.job.Job.{Job as JobOf};
+ghost use Rattle.agv_order.specs.Plans.{planned};
+ghost use Rattle.agv_order.specs.WellFormed.{IsWellFormed};
+ghost use Rattle.agv_order.specs.declared.joining.Joined.TheVariants.{Taken, Same};
+ghost use Rattle.agv_order.specs.declared.joining.JoinRefusal.TheVariants as refusal;
+ghost use Rattle.agv_order.specs.declared.stop.Stop.{Stop as StopOf};
+ghost use Rattle.agv_order.specs.declared.trip.Trip.{Trip as TripOf};
+ghost use Rattle.agv_order.specs.Joins.{join_of};
+ghost use Rattle.agv_order.specs.Messages.{whole_of, message_of};
+ghost use Rattle.agv_order.specs.Releases.{CanRelease, released};
+ghost use Rattle.agv_order.specs.StopPlaces.{CanBeDone, is_pick};
+ghost use Rattle.agv_order.specs.Stops.{stops_fit};
+
+/// A vehicle that holds the whole order of a trip, and takes the update that releases more of it, holds
+/// the whole order of the trip after that release.
+pub fn joins_next_update()
+    ensures { (trip : TripOf) (n : ℕ) → CanRelease trip n
+        → join_of (Some (whole_of trip)) (message_of (released trip n)) ≡ Ok (Taken (whole_of (released trip n))) }
+{}
+
+/// A vehicle that holds the whole order of a trip discards the message of the same update once more, and
+/// refuses each earlier one.
+pub fn takes_no_earlier_update()
+    ensures { (trip earlier : TripOf) → earlier.order ≡ trip.order
+        → (earlier.sent ≡ trip.sent → join_of (Some (whole_of trip)) (message_of earlier) ≡ Ok Same)
+        × (earlier.sent < trip.sent → join_of (Some (whole_of trip)) (message_of earlier) ≡ Err refusal.Lower) }
+{}
+
+/// A trip that is planned for stops that fit, at most eight, is well formed.
+pub fn plans_are_well_formed()
+    ensures { (layout : LayoutOf) (vehicle : KeyOf) (jobs : List JobOf) (stops : List StopOf) (order at : NameOf) (base : ℕ) (trip : TripOf)
+        → IsTrue (stops_fit stops) → length stops ≤ 8
+        → planned layout vehicle jobs stops order at base ≡ Ok trip → IsWellFormed layout trip }
+{}
+
+/// A well-formed trip stays so when more of it is released, where the vehicle has confirmed what was sent.
+pub fn releases_keep_trips_well_formed()
+    ensures { (layout : LayoutOf) (trip : TripOf) (n : ℕ) → IsWellFormed layout trip → trip.confirmed ≡ Some trip.sent
+        → CanRelease trip n → IsWellFormed layout (released trip n) }
+{}
+
+/// Stops can be carried out exactly where there is at least one, and each job that a stop names is picked
+/// at just one place of the list, and at just one later place dropped.
+pub fn fits_as_said()
+    ensures { (stops : List StopOf) → IsTrue (stops_fit stops) ↔ CanBeDone stops }
+{}
+
+/// Stops that can be carried out are twice as many as the jobs, which are as many as the picks.
+pub fn stops_twice()
+    ensures { (stops : List StopOf) → IsTrue (stops_fit stops) → length stops ≡ 2 * length (filter is_pick stops) }
+{}

@@ -1,0 +1,122 @@
+//! Planning a trip.
+ghost use Rattle.std.specs.Prelude.{◌≡◌, ◌≢◌, ◌⊎◌, ◌≤◌, ◌++◌, [], ◌∷◌, length, map, Some, None, Ok, Err, IfOk, IfErr, OnOk, IsTrue};
+ghost use Rattle.agv_order.specs.Plans.{legs_to, way_of, acts_along, planned};
+ghost use Rattle.agv_order.specs.Stops.{stops_fit};
+ghost use Rattle.agv_order.specs.WellFormed.{IsWellFormed};
+ghost use Rattle.agv_order.specs.declared.fault.PlanFault.TheVariants as fault;
+
+use crate::leg::{Leg, act_at, leg_to};
+use crate::{Act, PlanFault, Stop, Trip};
+use agv_header::{Memory, Name, VehicleKey};
+use agv_layout::{Edge, Layout};
+use agv_message::Sequence;
+use agv_stock::Job;
+use std::alloc::Global;
+
+/// The most edges of a trip.
+const MOST_EDGES: usize = 200;
+
+/// The legs from a node to each stop in turn; `NoWalk` where one of them can't be had.
+fn legs_to(
+    alloc: Global,
+    layout: &Layout,
+    jobs: &[Job],
+    start: Name,
+    stops: &[Stop],
+) -> Result<Vec<Leg>, PlanFault>
+    ensures ok { IfOk result (λ legs. legs_to layout.now jobs.now start stops.now ≡ Some legs.items) }
+    ensures no_walk { result ≡ Err fault.NoWalk → legs_to layout.now jobs.now start stops.now ≡ None }
+    ensures err { IfErr result (λ error. (error ≡ fault.NoWalk) ⊎ (error ≡ fault.Memory)) }
+{
+    let mut legs = Vec::new(alloc);
+    let mut at = start;
+    for stop in stops {
+        let leg = leg_to(alloc, layout, jobs, at, *stop)?;
+        at = leg.goal;
+        legs.push(leg)?;
+    }
+    Ok(legs)
+}
+
+/// Adds the edges of a leg.
+fn add_edges(way: &mut Vec<Edge>, leg: &Leg) -> Result<(), Memory>
+    ensures { OnOk result (way.new.items ≡ way.old.items ++ leg.now.edges) }
+{
+    way.extend_from_slice(leg.edges.as_slice())?;
+    Ok(())
+}
+
+/// The edges of all legs.
+fn way_of(alloc: Global, legs: &[Leg]) -> Result<Vec<Edge>, Memory>
+    ensures { IfOk result (λ way. way.items ≡ way_of legs.now) }
+{
+    let mut way = Vec::new(alloc);
+    for leg in legs {
+        add_edges(&mut way, leg)?;
+    }
+    Ok(way)
+}
+
+/// The acts at the ends of the legs.
+fn acts_along(alloc: Global, legs: &[Leg]) -> Result<Vec<Act>, Memory>
+    requires { length (way_of legs.now) ≤ 200 }
+    ensures { IfOk result (λ acts. acts.items ≡ acts_along 0 legs.now) }
+{
+    let mut acts = Vec::new(alloc);
+    let mut place = 0;
+    for leg in legs {
+        place += leg.edges.len() as u32;
+        acts.push(act_at(leg, place))?;
+    }
+    Ok(acts)
+}
+
+impl Trip {
+    /// Plans the trip of a vehicle that is to make these stops one after the other: from its node to the
+    /// node of each stop in turn, each time by the route of the layout. The job of a stop is looked up
+    /// among `jobs`; its load is picked at its origin and dropped at its target. The first `edges`
+    /// edges are released.
+    ///
+    /// - `NoWalk` where a job, its station or the vehicle's node is unknown, or no walk leads to a stop.
+    /// - `TooLong`, else, where the whole way has more than 200 edges.
+    /// - `Beyond`, else, where `edges` is more than it has.
+    /// - `Memory` for want of memory alone.
+    ///
+    /// The trip is well formed where the stops fit and are at most eight. The time is that of a route
+    /// for each stop, and of the edges.
+    pub fn plan(
+        alloc: Global,
+        layout: &Layout,
+        vehicle: VehicleKey,
+        jobs: &[Job],
+        stops: &[Stop],
+        order: Name,
+        at_node: Name,
+        edges: u32,
+    ) -> Result<Trip, PlanFault>
+        ensures ok { IfOk result (λ trip. planned layout.now vehicle jobs.now stops.now order at_node edges ≡ Ok trip) }
+        ensures err { IfErr result (λ error. error ≢ fault.Memory → planned layout.now vehicle jobs.now stops.now order at_node edges ≡ Err error) }
+        ensures well_formed { IsTrue (stops_fit stops.now) → length stops.now ≤ 8 → IfOk result (IsWellFormed layout.now) }
+    {
+        let legs = legs_to(alloc, layout, jobs, at_node, stops)?;
+        let way = way_of(alloc, &legs)?;
+        if way.len() > MOST_EDGES {
+            return Err(PlanFault::TooLong);
+        }
+        if edges as usize > way.len() {
+            return Err(PlanFault::Beyond);
+        }
+        Ok(Trip {
+            order,
+            vehicle,
+            start: at_node,
+            edges: Sequence::from(way),
+            first: 0,
+            base: edges,
+            sent: 0,
+            confirmed: None,
+            seen: 0,
+            acts: Sequence::from(acts_along(alloc, &legs)?),
+        })
+    }
+}

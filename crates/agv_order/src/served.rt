@@ -1,0 +1,56 @@
+//! What a list of stops does for one of its jobs.
+ghost use Rattle.std.specs.Prelude.{◌≡◌};
+ghost use Rattle.agv_order.specs.Served.{served_then, is_over};
+ghost use Rattle.agv_order.specs.Stops.{kinds_of, is_pick_then_drop};
+
+use crate::Stop;
+use agv_header::Name;
+use agv_message::ActKind;
+
+/// What the stops that were read do for the job.
+#[derive(Clone, Copy)]
+enum Served {
+    /// Nothing yet.
+    Waiting,
+    /// They pick its load.
+    Picked,
+    /// They pick its load and then drop it.
+    Dropped,
+    /// Nothing that can be carried out.
+    Wrong,
+}
+
+impl Served {
+    /// The same after one more stop for the job.
+    fn then(self, kind: ActKind) -> Served
+        ensures { result ≡ served_then self kind }
+    {
+        match (self, kind) {
+            (Served::Waiting, ActKind::Pick) => Served::Picked,
+            (Served::Picked, ActKind::Drop) => Served::Dropped,
+            _ => Served::Wrong,
+        }
+    }
+
+    fn is_over(self) -> bool
+        ensures { result ≡ is_over self }
+    {
+        match self {
+            Served::Dropped => true,
+            Served::Waiting | Served::Picked | Served::Wrong => false,
+        }
+    }
+}
+
+/// Whether the stops of this job are a pick, and then a drop.
+pub(crate) fn is_served(stops: &[Stop], job: Name) -> bool
+    ensures { result ≡ is_pick_then_drop (kinds_of stops.now job) }
+{
+    let mut served = Served::Waiting;
+    for stop in stops {
+        if stop.job == job {
+            served = served.then(stop.kind);
+        }
+    }
+    served.is_over()
+}

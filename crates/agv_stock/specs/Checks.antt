@@ -1,0 +1,87 @@
+-- What can be done with a load: the checks in their order, the first that fails being the answer (this project's profile).
+use Rattle.std.specs.Prelude.{◌==◌, Bool, true, false, not, is_some, if◌then◌else◌, Option, None, Some, Result, Ok, Err}
+use Rattle.agv_header.specs.declared.refusal.Refusal.{Refusal}
+use Rattle.agv_header.specs.declared.refusal.Refusal.TheVariants as refusal
+use Rattle.agv_stock.specs.Room.{is_at, is_checking, has_left}
+use Rattle.agv_stock.specs.declared.goal.Goal.{Goal}
+use Rattle.agv_stock.specs.declared.goal.Goal.TheVariants.{Checking, Unknown, At}
+use Rattle.agv_stock.specs.declared.place.Place.{Place}
+use Rattle.agv_stock.specs.declared.place.Place.TheVariants as place
+
+-- what a check answers
+abbrev pub Checked : Type 0
+Checked = Result (Unit {0}) Refusal
+
+-- go on where the test passes, else refuse
+abbrev pub require : Bool → Refusal → Checked → Checked
+require test why rest = if test then rest else Err why
+
+-- nothing is left to check
+abbrev pub passed : Checked
+passed = Ok tt
+
+-- the goal is not a station that is unknown
+abbrev pub is_known : Goal → Bool
+is_known Checking = true
+is_known Unknown = false
+is_known (At station room) = true
+
+-- one load more fits there; the checking place takes any
+abbrev pub has_room : Goal → Bool
+has_room Checking = true
+has_room Unknown = true
+has_room (At station room) = not (room == 0)
+
+-- the load is there already
+abbrev pub is_there : Goal → Place → Bool
+is_there Checking place = is_checking place
+is_there Unknown place = false
+is_there (At station room) place = is_at station place
+
+-- the load stands at a station
+abbrev pub is_stored : Place → Bool
+is_stored (place.Station id) = true
+is_stored (place.Vehicle key) = false
+is_stored place.Checking = false
+is_stored place.Left = false
+
+-- go on with the place of a load that is known
+abbrev pub found : Option Place → (Place → Checked) → Checked
+found None rest = Err refusal.NoLoad
+found (Some place) rest = rest place
+
+-- registering a load: Exists, NoStation, Full
+abbrev pub register_check : Option Place → Goal → Checked
+register_check place goal =
+    require (not (is_some place)) refusal.Exists
+    (require (is_known goal) refusal.NoStation
+    (require (has_room goal) refusal.Full
+    passed))
+
+-- correcting a load's place: NoLoad, NoStation, Elsewhere where it has left, InJob, SameStation where it is there, Full
+abbrev pub correct_check : Option Place → Bool → Goal → Checked
+correct_check known live goal = found known (λ place.
+    require (is_known goal) refusal.NoStation
+    (require (not (has_left place)) refusal.Elsewhere
+    (require (not live) refusal.InJob
+    (require (not (is_there goal place)) refusal.SameStation
+    (require (has_room goal) refusal.Full
+    passed)))))
+
+-- a load leaves: NoLoad, Elsewhere where it has left, InJob
+abbrev pub leave_check : Option Place → Bool → Checked
+leave_check known live = found known (λ place.
+    require (not (has_left place)) refusal.Elsewhere
+    (require (not live) refusal.InJob
+    passed))
+
+-- a job for a load: Exists, NoLoad, NoStation, Elsewhere where it is at no station, InJob, SameStation, Full
+abbrev pub job_check : Bool → Option Place → Bool → Goal → Checked
+job_check job_known known live goal =
+    require (not job_known) refusal.Exists (found known (λ place.
+    require (is_known goal) refusal.NoStation
+    (require (is_stored place) refusal.Elsewhere
+    (require (not live) refusal.InJob
+    (require (not (is_there goal place)) refusal.SameStation
+    (require (has_room goal) refusal.Full
+    passed))))))

@@ -1,0 +1,8 @@
+use Rattle.std.proofs.Common.{◌≡◌, take}
+use Rattle.agv_track.specs.Footprints.{along}
+use Rattle.agv_track.specs.Once.{KnowsAll, with_things}
+use Rattle.agv_track.proofs.held.add_edges.Given as goal
+
+abbrev pub invariant-loop-edge : goal.invariant-loop-edge
+invariant-loop-edge l =
+    KnowsAll l.once × (l.once.things.items ≡ with_things l.initial.once.things.items (along (take l.edge-index l.edges)))

@@ -1,0 +1,11 @@
+pub mod Reports
+pub mod Reached
+pub mod Acts
+pub mod Ids
+pub mod Judgements
+pub mod Idle
+pub mod Footprints
+pub mod Once
+pub mod Firsts
+pub mod Occupied
+pub mod Held

@@ -1,0 +1,88 @@
+//! What a vehicle holds.
+ghost use Rattle.std.specs.Prelude.{◌≡◌, ◌++◌, ◌∷◌, [], IfOk, OnOk, Some};
+ghost use Rattle.agv_track.specs.Once.{KnowsAll, with_things};
+ghost use Rattle.agv_track.specs.Footprints.{along, released_edges, from_node, rest_things, things_by, once, footprint_of};
+ghost use Rattle.agv_order.specs.Trips.{node_at};
+ghost use Rattle.agv_header.specs.declared.key.Thing.TheVariants.{Node};
+
+use crate::Standing;
+use crate::once::Once;
+use crate::way::node_at;
+use agv_header::{Memory, Name, Thing};
+use agv_layout::Edge;
+use agv_order::Trip;
+use std::alloc::Global;
+
+// The edges after node `seen` up to node `base`.
+fn released_edges(trip: &Trip) -> &[Edge]
+    ensures { result.now ≡ released_edges trip.now }
+{
+    let edges = trip.edges.as_slice();
+    let from = edges.len().min(trip.seen as usize);
+    let rest = &edges[from..];
+    let count = rest.len().min(trip.base.saturating_sub(trip.seen) as usize);
+    &rest[..count]
+}
+
+// Adds the edges, each with the node where it leads.
+fn add_edges(once: &mut Once, edges: &[Edge]) -> Result<(), Memory>
+    requires { KnowsAll once.old }
+    ensures added { OnOk result (once.new.things.items ≡ with_things once.old.things.items (along edges.now)) }
+{
+    for edge in edges {
+        once.add(&Thing::Edge(edge.id))?;
+        once.add(&Thing::Node(edge.finish))?;
+    }
+    Ok(())
+}
+
+// Adds what a vehicle on the trip holds.
+fn add_trip(once: &mut Once, trip: &Trip) -> Result<(), Memory>
+    requires { KnowsAll once.old }
+    ensures added { OnOk result (once.new.things.items ≡ with_things once.old.things.items (from_node (node_at trip.now trip.now.seen) (released_edges trip.now))) }
+{
+    let Some(node) = node_at(trip, trip.seen) else {
+        return Ok(());
+    };
+    once.add(&Thing::Node(node))?;
+    add_edges(once, released_edges(trip))
+}
+
+// Adds what a vehicle without a trip holds.
+fn add_rest(once: &mut Once, node: Name, rest: Option<(Name, Name)>) -> Result<(), Memory>
+    requires { KnowsAll once.old }
+    ensures added { OnOk result (once.new.things.items ≡ with_things once.old.things.items (Node node ∷ rest_things rest)) }
+{
+    once.add(&Thing::Node(node))?;
+    if let Some((edge, finish)) = rest {
+        once.add(&Thing::Edge(edge))?;
+        once.add(&Thing::Node(finish))?;
+    }
+    Ok(())
+}
+
+// Adds what the vehicle holds.
+fn add_standing(once: &mut Once, standing: &Standing) -> Result<(), Memory>
+    requires { KnowsAll once.old }
+    ensures added { OnOk result (once.new.things.items ≡ with_things once.old.things.items (things_by standing.now.node standing.now.rest standing.now.trip)) }
+{
+    match &standing.trip {
+        Some(trip) => add_trip(once, trip),
+        None => add_rest(once, standing.node, standing.rest),
+    }
+}
+
+/// What the vehicle holds, each node and edge once, in the order of its way.
+///
+/// Without an open order that is its node, and the edge and the node of its rest. With one it is the
+/// node that it has reached last, and every node and edge after it up to the last one that is
+/// released; one that the way comes back to stands where it comes first.
+///
+/// `Memory` for want of memory alone. It takes time in proportion to the way, times its logarithm.
+pub fn footprint(alloc: Global, standing: &Standing) -> Result<Vec<Thing>, Memory>
+    ensures { IfOk result (λ things. things.items ≡ footprint_of standing.now) }
+{
+    let mut once = Once::new(alloc);
+    add_standing(&mut once, standing)?;
+    Ok(once.things)
+}

@@ -1,0 +1,111 @@
+//! What a state says of actions.
+ghost use Rattle.std.specs.Prelude.{◌≡◌, length, ◌≤◌};
+ghost use Rattle.agv_track.specs.Ids.{id_text};
+ghost use Rattle.agv_track.specs.Reports.{is_twice, told, has_act_twice, status_after, statuses_after, has_pending_twice, pending_told, is_pending_over, is_cancel, is_cancelling, is_cancelled};
+ghost use Rattle.agv_track.specs.Judgements.{nth_status, eight, new_statuses};
+
+use crate::Pending;
+use crate::action_id::ActionId;
+use agv_message::{InstantKind, StateMessage, Status, Text};
+use agv_order::Trip;
+
+// Whether the id stands twice or more.
+fn is_twice(reports: &[(Text, Status)], id: ActionId) -> bool
+    ensures { result ≡ is_twice reports.now (id_text id) }
+{
+    reports
+        .iter()
+        .filter(|report| id.is(report.0.as_str()))
+        .count()
+        > 1
+}
+
+// The status that is listed for the id.
+fn told(reports: &[(Text, Status)], id: ActionId) -> Option<Status>
+    ensures { result ≡ told reports.now (id_text id) }
+{
+    let report = reports.iter().find(|report| id.is(report.0.as_str()))?;
+    Some(report.1)
+}
+
+// Whether the id of some act stands twice.
+pub(crate) fn has_act_twice(trip: &Trip, state: &StateMessage) -> bool
+    ensures { result ≡ has_act_twice state.now.actions trip.now.order trip.now.acts }
+{
+    let order = trip.order;
+    let reports = state.actions.as_slice();
+    let mut acts = trip.acts.as_slice().iter().enumerate();
+    acts.any(|(n, _)| is_twice(reports, ActionId::Act { order, n }))
+}
+
+// The status of act n after the state; Waiting where there is no such act.
+fn status_after(trip: &Trip, state: &StateMessage, n: usize) -> Status
+    ensures { result ≡ nth_status (new_statuses trip.now state.now) n }
+{
+    let order = trip.order;
+    match trip.acts.as_slice().get(n) {
+        Some(act) => told(state.actions.as_slice(), ActionId::Act { order, n }).unwrap_or(
+            act.status,
+        ),
+        None => Status::Waiting,
+    }
+}
+
+// The statuses of the acts after the state, and Waiting up to eight.
+pub(crate) fn statuses_after(trip: &Trip, state: &StateMessage) -> [Status; 8]
+    ensures { result ≡ eight (new_statuses trip.now state.now) }
+{
+    let mut statuses = [Status::Waiting; 8];
+    for n in 0..8 {
+        statuses[n] = status_after(trip, state, n);
+    }
+    statuses
+}
+
+// Whether the id of the pending action stands twice.
+pub(crate) fn has_pending_twice(pending: Option<Pending>, state: &StateMessage) -> bool
+    ensures { result ≡ has_pending_twice state.now.actions pending }
+{
+    match pending {
+        Some(Pending { number, .. }) => is_twice(
+            state.actions.as_slice(),
+            ActionId::Instant { number },
+        ),
+        None => false,
+    }
+}
+
+// The status of the pending action, if it is listed.
+fn pending_told(pending: Option<Pending>, state: &StateMessage) -> Option<Status>
+    ensures { result ≡ pending_told state.now.actions pending }
+{
+    let number = pending?.number;
+    told(state.actions.as_slice(), ActionId::Instant { number })
+}
+
+// Whether the pending action is listed as finished or failed.
+pub(crate) fn is_pending_over(pending: Option<Pending>, state: &StateMessage) -> bool
+    ensures { result ≡ is_pending_over state.now.actions pending }
+{
+    matches!(
+        pending_told(pending, state),
+        Some(Status::Finished | Status::Failed)
+    )
+}
+
+// Whether a cancelOrder is pending.
+fn is_cancelling(pending: Option<Pending>) -> bool
+    ensures { result ≡ is_cancelling pending }
+{
+    match pending {
+        Some(Pending { kind, .. }) => matches!(kind, InstantKind::CancelOrder),
+        None => false,
+    }
+}
+
+// Whether the pending cancelOrder is listed as finished.
+pub(crate) fn is_cancelled(pending: Option<Pending>, state: &StateMessage) -> bool
+    ensures { result ≡ is_cancelled state.now.actions pending }
+{
+    is_cancelling(pending) && matches!(pending_told(pending, state), Some(Status::Finished))
+}

@@ -1,0 +1,102 @@
+//! Where on its way a state puts a vehicle.
+ghost use Rattle.std.specs.Prelude.{◌≡◌, Ok, Some};
+ghost use Rattle.agv_order.specs.Trips.{node_at};
+ghost use Rattle.agv_track.specs.Reached.{is_at_start, reported_node, names_node, is_our_node, is_before, base_of};
+ghost use Rattle.agv_track.specs.Judgements.{way_refusals, first_of};
+
+use agv_header::{Name, Refusal};
+use agv_message::StateMessage;
+use agv_order::Trip;
+
+// Whether node 0 is still to be traversed.
+fn is_at_start(state: &StateMessage) -> bool
+    ensures { result ≡ is_at_start state.now }
+{
+    state.node_seqs.as_slice().iter().any(|seq| *seq == 0)
+}
+
+// The place on the way that the vehicle has reached.
+pub(crate) fn reported_node(state: &StateMessage) -> u32
+    ensures { result ≡ reported_node state.now }
+{
+    if is_at_start(state) {
+        0
+    } else {
+        state.last_seq / 2
+    }
+}
+
+// The name of node k.
+pub(crate) fn node_at(trip: &Trip, k: u32) -> Option<Name>
+    ensures { result ≡ node_at trip.now k }
+{
+    if k == 0 {
+        return Some(trip.start);
+    }
+    let edge = trip.edges.as_slice().get(k as usize - 1)?;
+    Some(edge.finish)
+}
+
+// Whether the number is that of a node of the trip, and the name is the node's.
+fn names_node(trip: &Trip, state: &StateMessage) -> bool
+    ensures { result ≡ names_node trip.now state.now }
+{
+    if state.last_seq % 2 != 0 {
+        return false;
+    }
+    match node_at(trip, state.last_seq / 2) {
+        Some(name) => name.as_str() == state.last_node.as_str(),
+        None => false,
+    }
+}
+
+// Whether the state names a node of the trip.
+fn is_our_node(trip: &Trip, state: &StateMessage) -> bool
+    ensures { result ≡ is_our_node trip.now state.now }
+{
+    is_at_start(state) || names_node(trip, state)
+}
+
+// Whether the update is before the confirmed one.
+fn is_before(update: u32, confirmed: Option<u32>) -> bool
+    ensures { result ≡ is_before update confirmed }
+{
+    match confirmed {
+        Some(confirmed) => update < confirmed,
+        None => false,
+    }
+}
+
+// The place of the last node that is released for a vehicle which has this update.
+fn base_of(trip: &Trip, update: u32) -> u32
+    ensures { result ≡ base_of trip.now update }
+{
+    if update == trip.sent {
+        trip.base
+    } else {
+        trip.first
+    }
+}
+
+// The first refusal of the update and the node that the state reports.
+#[tactic(auto, unfolding(crate::specs::Judgements::way_refusals))]
+pub(crate) fn way_refusal(trip: &Trip, state: &StateMessage) -> Option<Refusal>
+    ensures { result ≡ first_of (way_refusals trip.now state.now) }
+{
+    if trip.sent < state.update {
+        return Some(Refusal::UpdateNotSent);
+    }
+    if is_before(state.update, trip.confirmed) {
+        return Some(Refusal::UpdateBackwards);
+    }
+    if !is_our_node(trip, state) {
+        return Some(Refusal::NotOurNode);
+    }
+    if reported_node(state) < trip.seen {
+        return Some(Refusal::Backwards);
+    }
+    if base_of(trip, state.update) < reported_node(state) {
+        return Some(Refusal::BeyondBase);
+    }
+    None
+}
