@@ -2,6 +2,5 @@ pub mod Ids
 pub mod Ways
 pub mod Numbered
 pub mod Renewals
-pub mod Eight
 pub mod Judged
 pub mod Edges

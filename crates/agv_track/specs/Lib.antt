@@ -9,3 +9,6 @@ pub mod Once
 pub mod Firsts
 pub mod Occupied
 pub mod Held
+pub mod Eight
+pub mod Progressed
+pub mod Judging
