@@ -2,7 +2,6 @@ pub mod Ids
 pub mod Ways
 pub mod Numbered
 pub mod Renewals
-pub mod Eight
 pub mod Judged
 pub mod Edges
 pub mod Claims

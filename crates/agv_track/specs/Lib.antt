@@ -12,3 +12,6 @@ pub mod Held
 pub mod HoldCode
 pub mod Holders
 pub mod Holds
+pub mod Eight
+pub mod Progressed
+pub mod Judging

@@ -1,0 +1,5 @@
+use Rattle.agv_track.specs.Judging.{judged-advances}
+use Rattle.agv_track.proofs.laws.advances.Goals as goal
+
+pub returns : goal.returns
+returns c = judged-advances

@@ -1,0 +1,5 @@
+use Rattle.agv_track.specs.Judging.{final-stays}
+use Rattle.agv_track.proofs.laws.keeps_final.Goals as goal
+
+pub returns : goal.returns
+returns c = final-stays

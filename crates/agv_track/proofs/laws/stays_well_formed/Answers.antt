@@ -1,0 +1,5 @@
+use Rattle.agv_track.specs.Judging.{judged-well-formed}
+use Rattle.agv_track.proofs.laws.stays_well_formed.Goals as goal
+
+pub returns : goal.returns
+returns c = judged-well-formed
