@@ -8,6 +8,8 @@
 //! - `layout_files` has files, and the rows that they say.
 //! - `routes` has routes on small layouts, on random ones and on the largest; `listing` is the plain program
 //!   that lists all walks, with which the random ones are compared.
+//! - `plans` has trips and releases on the layout of the examples, `long_plans` trips of about 200 edges,
+//!   and `random_plans` trips on random layouts, whose legs are compared with those of the plain program.
 #![tactic(auto)]
 
 #[cfg(test)]
@@ -21,6 +23,12 @@ mod layouts;
 #[cfg(test)]
 mod listing;
 #[cfg(test)]
+mod long_plans;
+#[cfg(test)]
 mod messages;
+#[cfg(test)]
+mod plans;
+#[cfg(test)]
+mod random_plans;
 #[cfg(test)]
 mod routes;

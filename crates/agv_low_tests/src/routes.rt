@@ -66,18 +66,18 @@ fn on_small_layouts(rt: HostRuntime) {
 }
 
 /// The next number of a fixed sequence that looks random, below a bound.
-fn draw(state: &mut u32, bound: u32) -> u32 {
+pub(crate) fn draw(state: &mut u32, bound: u32) -> u32 {
     *state = state.wrapping_mul(1_664_525).wrapping_add(1_013_904_223);
     (*state >> 16).checked_rem(bound).unwrap_or(0)
 }
 
 /// A letter and a number, as P007.
-fn numbered(rt: &impl Abort, alloc: Global, letter: char, number: u32) -> Name {
+pub(crate) fn numbered(rt: &impl Abort, alloc: Global, letter: char, number: u32) -> Name {
     let text = format!(in alloc; "{letter}{number:03}").expect(rt, "memory");
     name(rt, text.as_str())
 }
 
-fn add_node(rt: &impl Abort, rows: &mut Vec<LayoutRow>, id: Name) {
+pub(crate) fn add_node(rt: &impl Abort, rows: &mut Vec<LayoutRow>, id: Name) {
     rows.push(LayoutRow::Node { id }).expect(rt, "memory");
 }
 
@@ -87,7 +87,12 @@ fn add_edge(rt: &impl Abort, rows: &mut Vec<LayoutRow>, id: Name, start: Name, f
 }
 
 /// So many nodes, and up to 10 edges, each from any node to any other.
-fn random_rows(rt: &impl Abort, alloc: Global, state: &mut u32, nodes: u32) -> Vec<LayoutRow> {
+pub(crate) fn random_rows(
+    rt: &impl Abort,
+    alloc: Global,
+    state: &mut u32,
+    nodes: u32,
+) -> Vec<LayoutRow> {
     let mut rows = Vec::new(alloc);
     for i in 0..nodes {
         add_node(rt, &mut rows, numbered(rt, alloc, 'P', i));
@@ -219,7 +224,7 @@ fn as_all_walks_say(rt: HostRuntime) {
 /// A path P000, P001 and on, of so many edges forward, F000 and on. Beside each is an edge back,
 /// B000 and on, and a second edge forward, G000 and on, and beside the first three a third, H000
 /// to H002.
-fn path_rows(rt: &impl Abort, alloc: Global, path: u32) -> Vec<LayoutRow> {
+pub(crate) fn path_rows(rt: &impl Abort, alloc: Global, path: u32) -> Vec<LayoutRow> {
     let mut rows = Vec::new(alloc);
     let mut here = numbered(rt, alloc, 'P', 0);
     add_node(rt, &mut rows, here);
