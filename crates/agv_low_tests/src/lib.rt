@@ -10,6 +10,8 @@
 //! - `largest` has the largest layout, as a file, as rows and as a layout.
 //! - `routes` has routes on small layouts, on random ones and on the largest; `listing` is the plain program
 //!   that lists all walks, with which the random ones are compared.
+//! - `plans` has trips and releases on the layout of the examples, `long_plans` trips of about 200 edges,
+//!   and `random_plans` trips on random layouts, whose legs are compared with those of the plain program.
 #![tactic(auto)]
 
 #[cfg(test)]
@@ -27,7 +29,13 @@ mod layouts;
 #[cfg(test)]
 mod listing;
 #[cfg(test)]
+mod long_plans;
+#[cfg(test)]
 mod messages;
+#[cfg(test)]
+mod plans;
+#[cfg(test)]
+mod random_plans;
 #[cfg(test)]
 mod reports;
 #[cfg(test)]

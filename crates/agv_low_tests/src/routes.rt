@@ -66,7 +66,7 @@ fn on_small_layouts(rt: HostRuntime) {
 }
 
 /// The next number of a fixed sequence that looks random, below a bound.
-fn draw(state: &mut u32, bound: u32) -> u32 {
+pub(crate) fn draw(state: &mut u32, bound: u32) -> u32 {
     *state = state.wrapping_mul(1_664_525).wrapping_add(1_013_904_223);
     (*state >> 16).checked_rem(bound).unwrap_or(0)
 }
@@ -77,7 +77,7 @@ pub(crate) fn numbered(rt: &impl Abort, alloc: Global, letter: char, number: u32
     name(rt, text.as_str())
 }
 
-fn add_node(rt: &impl Abort, rows: &mut Vec<LayoutRow>, id: Name) {
+pub(crate) fn add_node(rt: &impl Abort, rows: &mut Vec<LayoutRow>, id: Name) {
     rows.push(LayoutRow::Node { id }).expect(rt, "memory");
 }
 
@@ -87,7 +87,12 @@ fn add_edge(rt: &impl Abort, rows: &mut Vec<LayoutRow>, id: Name, start: Name, f
 }
 
 /// So many nodes, and up to 10 edges, each from any node to any other.
-fn random_rows(rt: &impl Abort, alloc: Global, state: &mut u32, nodes: u32) -> Vec<LayoutRow> {
+pub(crate) fn random_rows(
+    rt: &impl Abort,
+    alloc: Global,
+    state: &mut u32,
+    nodes: u32,
+) -> Vec<LayoutRow> {
     let mut rows = Vec::new(alloc);
     for i in 0..nodes {
         add_node(rt, &mut rows, numbered(rt, alloc, 'P', i));
