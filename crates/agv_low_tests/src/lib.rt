@@ -8,6 +8,8 @@
 //! - `layout_files` has files, and the rows that they say.
 //! - `routes` has routes on small layouts, on random ones and on the largest; `listing` is the plain program
 //!   that lists all walks, with which the random ones are compared.
+//! - `trips` has trips that are built by hand, their messages, and what a vehicle does with these; which
+//!   stops can be carried out; and how statuses follow one another.
 #![tactic(auto)]
 
 #[cfg(test)]
@@ -24,3 +26,5 @@ mod listing;
 mod messages;
 #[cfg(test)]
 mod routes;
+#[cfg(test)]
+mod trips;

@@ -2,7 +2,7 @@
 mod changes;
 mod orders;
 mod states;
-mod written;
+pub(crate) mod written;
 
 use crate::cases::{check, check_text};
 use crate::messages::changes::CHANGES;
