@@ -3,7 +3,7 @@ mod changes;
 mod large;
 mod orders;
 mod states;
-mod written;
+pub(crate) mod written;
 
 use crate::cases::{check, check_text};
 use crate::messages::changes::CHANGES;

@@ -166,7 +166,9 @@ module _ (job : List ℕ) where
 
   not_both : (xs : List Stop) (k m : ℕ) → k ≡ m → IsAt xs job Pick k → IsAt xs job Drop m → ⊥
   not_both xs k m same pick drop =
-      let one : Some (record { kind = Pick; job = job }) ≡ Some (record { kind = Drop; job = job }) = sym pick ∙ (ap (slice_get xs) same ∙ drop) in
+      let picked : Stop = record { kind = Pick; job = job } in
+      let dropped : Stop = record { kind = Drop; job = job } in
+      let one : Some picked ≡ Some dropped = sym pick ∙ (ap (slice_get xs) same ∙ drop) in
       let kinds : Some Pick ≡ Some Drop = ap (option_map (λ (stop : Stop). stop.kind)) one in
       cc
 

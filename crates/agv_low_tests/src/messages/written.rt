@@ -37,6 +37,21 @@ struct Order {
     text: &'static str,
 }
 
+/// The text of the first message of the order O1: a load is picked on its first node and dropped on its last.
+pub(crate) const WORKED_TEXT: &str = concat!(
+    r#"{"edges":[{"actions":[],"edgeId":"E12","endNodeId":"N2","released":true,"sequenceId":1,"startNodeId":"N1"},"#,
+    r#"{"actions":[],"edgeId":"E23","endNodeId":"N3","released":false,"sequenceId":3,"startNodeId":"N2"}],"#,
+    r#""headerId":1,"manufacturer":"KIT","nodes":[{"actions":[{"actionId":"O1.0","actionParameters":["#,
+    r#"{"key":"stationType","value":"station"},{"key":"stationName","value":"A"},"#,
+    r#"{"key":"loadType","value":"load"},{"key":"loadId","value":"L1"}],"#,
+    r#""actionType":"pick","blockingType":"HARD"}],"nodeId":"N1","released":true,"sequenceId":0},"#,
+    r#"{"actions":[],"nodeId":"N2","released":true,"sequenceId":2},{"actions":[{"actionId":"O1.1","#,
+    r#""actionParameters":[{"key":"stationType","value":"station"},{"key":"stationName","value":"B"},"#,
+    r#"{"key":"loadType","value":"load"},{"key":"loadId","value":"L1"}],"#,
+    r#""actionType":"drop","blockingType":"HARD"}],"nodeId":"N3","released":false,"sequenceId":4}],"#,
+    r#""orderId":"O1","orderUpdateId":0,"serialNumber":"0001","timestamp":"2023-11-14T22:13:20.00Z","version":"2.0.0"}"#,
+);
+
 /// A load is picked on the first node and dropped on the last; then a pick and a drop on the same node,
 /// in an update, the pick first, and no edge. The third text was written by another program after the
 /// schema of VDA 5050 2.0: Python's `json.dumps` with sorted members and no blanks.
@@ -51,19 +66,7 @@ const ORDERS: [Order; 3] = [
             ("N3", 4, false, &[(1, ActKind::Drop, "B")]),
         ],
         edges: &[("E12", "N1", "N2", 1, true), ("E23", "N2", "N3", 3, false)],
-        text: concat!(
-            r#"{"edges":[{"actions":[],"edgeId":"E12","endNodeId":"N2","released":true,"sequenceId":1,"startNodeId":"N1"},"#,
-            r#"{"actions":[],"edgeId":"E23","endNodeId":"N3","released":false,"sequenceId":3,"startNodeId":"N2"}],"#,
-            r#""headerId":1,"manufacturer":"KIT","nodes":[{"actions":[{"actionId":"O1.0","actionParameters":["#,
-            r#"{"key":"stationType","value":"station"},{"key":"stationName","value":"A"},"#,
-            r#"{"key":"loadType","value":"load"},{"key":"loadId","value":"L1"}],"#,
-            r#""actionType":"pick","blockingType":"HARD"}],"nodeId":"N1","released":true,"sequenceId":0},"#,
-            r#"{"actions":[],"nodeId":"N2","released":true,"sequenceId":2},{"actions":[{"actionId":"O1.1","#,
-            r#""actionParameters":[{"key":"stationType","value":"station"},{"key":"stationName","value":"B"},"#,
-            r#"{"key":"loadType","value":"load"},{"key":"loadId","value":"L1"}],"#,
-            r#""actionType":"drop","blockingType":"HARD"}],"nodeId":"N3","released":false,"sequenceId":4}],"#,
-            r#""orderId":"O1","orderUpdateId":0,"serialNumber":"0001","timestamp":"2023-11-14T22:13:20.00Z","version":"2.0.0"}"#,
-        ),
+        text: WORKED_TEXT,
     },
     Order {
         number: 4_294_967_295,
