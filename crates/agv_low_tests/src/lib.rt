@@ -4,6 +4,7 @@
 //! - `cases` compares what is found with what is wanted.
 //! - `headers` has names, topics, stamps and header numbers, `messages` state messages and the texts of
 //!   orders and instant actions.
+//! - `holds` has what vehicles claim and shed, and who holds what then.
 //! - `layouts` has rows that give a layout and rows that give none, and what a layout says of a name.
 //! - `layout_files` has files, and the rows that they say.
 //! - `routes` has routes on small layouts, on random ones and on the largest; `listing` is the plain program
@@ -14,6 +15,8 @@
 mod cases;
 #[cfg(test)]
 mod headers;
+#[cfg(test)]
+mod holds;
 #[cfg(test)]
 mod layout_files;
 #[cfg(test)]
