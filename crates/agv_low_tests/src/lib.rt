@@ -4,6 +4,7 @@
 //! - `cases` compares what is found with what is wanted.
 //! - `headers` has names, topics, stamps and header numbers, `messages` state messages and the texts of
 //!   orders and instant actions, the largest among them.
+//! - `holds` has what vehicles claim and shed, and who holds what then.
 //! - `layouts` has rows that give a layout and rows that give none, and what a layout says of a name.
 //! - `layout_files` and `counts` have files, and the rows that they say.
 //! - `reports` has the reports and the export.
@@ -22,6 +23,8 @@ mod cases;
 mod counts;
 #[cfg(test)]
 mod headers;
+#[cfg(test)]
+mod holds;
 #[cfg(test)]
 mod largest;
 #[cfg(test)]

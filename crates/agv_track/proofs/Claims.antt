@@ -1,14 +1,12 @@
 -- What a claim leaves at each thing, and what it means that nobody else holds any of a list.
-use Rattle.std.proofs.Common.{◌≡◌, ℕ, zero, suc, Bool, true, false, cond, not, ◌||◌, ◌&&◌, ◌⊎◌, inl, inr, List, [], ◌∷◌, ◌++◌, take, Some, None, Option, Ordering, Result, Ok, Err, OnErr, refl, sym, ap, subst, ◌∙◌}
+use Rattle.std.proofs.Common.{◌≡◌, ℕ, zero, suc, Bool, true, false, cond, ◌||◌, ◌&&◌, ◌⊎◌, inl, inr, List, [], ◌∷◌, ◌++◌, take, Some, None, Option, Result, Ok, Err, OnErr, refl, sym, ap, subst, ◌∙◌}
 use Rattle.std.specs.Cmp.{eq_by_cmp_equiv}
-use Rattle.std.specs.FinMap.{FinMap, get, insert, remove, get-insert, get-remove, same_map}
+use Rattle.std.specs.FinMap.{get, insert, remove, get-insert, get-remove, same_map}
 use Rattle.std.specs.List.{list_any}
 use Rattle.std.specs.Option.{is_none}
-use Rattle.std.specs.Ordering.{eq_by_cmp}
-use Rattle.std.proofs.lemmas.Bool.{cases_Bool, or_cases, or_parts}
+use Rattle.std.proofs.lemmas.Bool.{or_cases, or_parts}
 use Rattle.std.proofs.lemmas.List.Folds.{list_any-append}
 use Rattle.std.proofs.lemmas.Map.Views.{tells_apart, any-filter_same}
-use Rattle.agv_header.specs.Key.{thing_cmp, key_cmp}
 use Rattle.agv_header.specs.KeyOrder.{key_eq, key_cmp-total, key_cmp-IsAntisymmetric, key_cmp-ties}
 use Rattle.agv_header.specs.ThingOrder.{thing_eq, thing_cmp-total, thing_cmp-IsAntisymmetric}
 use Rattle.agv_header.specs.declared.key.Thing.{Thing}

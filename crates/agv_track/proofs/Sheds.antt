@@ -1,8 +1,7 @@
 -- What is left of a table when a vehicle gives things up.
-use Rattle.std.proofs.Common.{◌≡◌, ℕ, Bool, true, false, cond, not, ◌||◌, ◌&&◌, ◌⊎◌, inl, inr, List, [], ◌∷◌, ◌++◌, Some, None, Option, refl, sym, ap, subst, ◌∙◌}
-use Rattle.std.specs.FinMap.{get, remove, retain_keys, get-remove, get-retain_keys}
+use Rattle.std.proofs.Common.{◌≡◌, Bool, true, false, cond, not, ◌||◌, ◌&&◌, inl, inr, List, [], ◌∷◌, ◌++◌, Some, None, Option, refl, sym, ap, ◌∙◌}
+use Rattle.std.specs.FinMap.{get, remove, get-remove, get-retain_keys}
 use Rattle.std.proofs.lemmas.Bool.{cases_Bool}
-use Rattle.agv_header.specs.Key.{thing_cmp}
 use Rattle.agv_header.specs.KeyOrder.{key_eq}
 use Rattle.agv_header.specs.ThingOrder.{thing_eq, thing_cmp-total, thing_cmp-IsAntisymmetric}
 use Rattle.agv_header.specs.declared.key.Thing.{Thing}

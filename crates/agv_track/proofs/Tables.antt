@@ -1,10 +1,9 @@
 -- A finite map of things, and the tree that keeps it, answer alike.
-use Rattle.std.proofs.Common.{◌≡◌, Bool, true, false, cond, List, [], ◌∷◌, Some, None, Option, Ordering, refl, sym, ap, ◌∙◌}
+use Rattle.std.proofs.Common.{◌≡◌, cond, List, [], ◌∷◌, Some, None, refl, sym, ap, ◌∙◌}
 use Rattle.std.specs.BTreeMap.{is_at}
 use Rattle.std.specs.Cmp.{eq_by_cmp_equiv}
-use Rattle.std.specs.FinMap.{FinMap, get, insert, remove, from_entries, find, get-from_entries, get-insert, get-remove, same_map}
+use Rattle.std.specs.FinMap.{get, insert, remove, from_entries, find, get-from_entries, get-insert, get-remove, same_map}
 use Rattle.std.specs.Map.{lookup}
-use Rattle.std.specs.Ordering.{eq_by_cmp}
 use Rattle.agv_header.specs.Key.{thing_cmp}
 use Rattle.agv_header.specs.ThingOrder.{thing_eq, thing_cmp-total, thing_cmp-IsAntisymmetric}
 use Rattle.agv_header.specs.declared.key.Thing.{Thing}

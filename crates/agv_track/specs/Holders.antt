@@ -1,5 +1,5 @@
 -- When the table of holds says just who needs what: of each vehicle the things that it needs, and nothing else.
-use Rattle.std.specs.Prelude.{◌≡◌, ◌↔◌, Bool, not, IsTrue, if◌then◌else◌, List, Option, Some, filter}
+use Rattle.std.specs.Prelude.{◌≡◌, ◌↔◌, not, IsTrue, if◌then◌else◌, List, Some, filter}
 use Rattle.std.specs.FinMap.{get}
 use Rattle.agv_header.specs.KeyOrder.{key_eq}
 use Rattle.agv_header.specs.declared.key.Thing.{Thing}

@@ -1,5 +1,5 @@
 -- Who holds what, and what it is to get and to give up holds.
-use Rattle.std.specs.Prelude.{◌≡◌, ◌⊎◌, Bool, true, false, not, IsTrue, ◌&&◌, if◌then◌else◌, List, [], ◌∷◌, ◌++◌, Option, None, Some, filter}
+use Rattle.std.specs.Prelude.{◌≡◌, ◌⊎◌, Bool, false, not, IsTrue, ◌&&◌, if◌then◌else◌, List, [], ◌∷◌, ◌++◌, Option, None, Some, filter}
 use Rattle.std.specs.Option.{is_none}
 use Rattle.std.specs.FinMap.{FinMap, get, insert, retain_keys}
 use Rattle.std.specs.List.{list_any}

@@ -1,5 +1,5 @@
 use Rattle.std.proofs.Common.{not, ◌&&◌, sym, ap, ◌∙◌}
-use Rattle.agv_track.specs.Holds.{is_own, is_in}
+use Rattle.agv_track.specs.Holds.{is_in}
 use Rattle.agv_track.proofs.Claims.{is_in-turned}
 use Rattle.agv_track.proofs.holds.HoldTable.gives_up.Goals as goal
 

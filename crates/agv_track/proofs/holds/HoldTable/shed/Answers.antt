@@ -1,4 +1,4 @@
-use Rattle.std.proofs.Common.{◌≡◌, ◌++◌, ◌∷◌, [], sym, ap, take, ◌∙◌}
+use Rattle.std.proofs.Common.{◌++◌, ◌∷◌, [], sym, ap, take, ◌∙◌}
 use Rattle.std.proofs.lemmas.List.{take_more}
 use Rattle.agv_track.specs.Holds.{shed_from}
 use Rattle.agv_track.proofs.Sheds.{shed_none, shed_this, shed_not}
