@@ -18,7 +18,7 @@ first_onward goes_on at [] = None
 first_onward goes_on at (e ∷ es) = option_or (onward goes_on at e) (first_onward goes_on at es)
 
 module _ (layout : Layout) where
-  -- the first walk of just so many edges: the edges are tried in the order of their names. No edge is a walk from a node to itself
+  -- the first walk of just so many edges: the edges are tried in the order of their names; the empty list is a walk from a known node to itself
   abbrev pub walk_of : ℕ → Name → Name → Option (List Name)
   walk_of zero from to = cond (set.contains layout.nodes from && is_at (name_cmp from) to) (Some []) None
   walk_of (suc n) from to = first_onward (λ next. walk_of n next to) from (map.entries layout.edges)
