@@ -4,7 +4,7 @@ ghost use Rattle.std.specs.Prelude.{◌≡◌, IfOk};
 use crate::Sequence;
 use agv_header::{Memory, Name};
 
-/// An order message (VDA 5050 2.0, order): the released nodes and edges first, then the others.
+/// An order message (VDA 5050 2.0, order). In what the desk writes the released nodes and edges come first.
 #[derive(Debug, Drop, PartialEq, Eq)]
 pub struct OrderMessage {
     /// The order's name.

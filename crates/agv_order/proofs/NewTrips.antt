@@ -46,25 +46,25 @@ by_bools false false made trip e = (refl, refl, cc)
 not_above : (n m : ℕ) → nat_lt n m ≡ false → m ≤ n
 not_above n m e = grind (arith, nat_tests)
 
-module _ (layout : Layout) (vehicle : VehicleKey) (order : List ℕ) (at : List ℕ) (base : ℕ) where
+module _ (layout : Layout) (jobs : List Job) (vehicle : VehicleKey) (order : List ℕ) (at : List ℕ) (base : ℕ) where
   -- over legs that are there, not too long, with a base within
-  over_legs : (stop : Stop) (stops : List Stop) (legs : List Leg) → stops_fit (stop ∷ stops) ≡ true → length (stop ∷ stops) ≤ 8 → AreLegs layout at (stop ∷ stops) legs
+  over_legs : (stop : Stop) (stops : List Stop) (legs : List Leg) → stops_fit (stop ∷ stops) ≡ true → length (stop ∷ stops) ≤ 8 → AreLegs layout jobs at (stop ∷ stops) legs
       → length (way_of legs) ≤ 200 → base ≤ length (way_of legs) → IsWellFormed layout (trip_over vehicle order at base legs)
   over_legs stop stops [] fit few are short within = elim are [ ]
   over_legs stop stops (leg ∷ legs) fit few are short within =
       let all : List Leg = leg ∷ legs in
-      let made = tasks_stops layout 0 at (stop ∷ stops) all are in
+      let made = tasks_stops layout jobs 0 at (stop ∷ stops) all are in
       let from_zero : 0 + length (way_of all) ≡ length (way_of all) = omega arith in
       let count : length (tasks_along 0 all) ≡ length (stop ∷ stops) = sym (length-map (tasks_along 0 all) stop_of) ∙ ap length made in
       record {
         planned = record {
-          walk = whole_walk layout at stop stops all are;
-          edges = way_known layout at (stop ∷ stops) all are;
+          walk = whole_walk layout jobs at stop stops all are;
+          edges = way_known layout jobs at (stop ∷ stops) all are;
           short = short;
           stops = ap stops_fit made ∙ fit;
           few = omega (arith, count, few);
           rising = subst (IsRising 0 (tasks_along 0 all)) from_zero (rising 0 all);
-          stations = stations layout at (stop ∷ stops) all (plan_of (trip_over vehicle order at base all)) are refl refl;
+          stations = stations layout jobs at (stop ∷ stops) all (plan_of (trip_over vehicle order at base all)) are refl refl;
         };
         under_way = record {
           in_base = omega arith;
@@ -80,21 +80,21 @@ module _ (layout : Layout) (vehicle : VehicleKey) (order : List ℕ) (at : List 
         };
       }
 
-  some_stop : (stops : List Stop) (legs : List Leg) → stops_fit stops ≡ true → length stops ≤ 8 → AreLegs layout at stops legs
+  some_stop : (stops : List Stop) (legs : List Leg) → stops_fit stops ≡ true → length stops ≤ 8 → AreLegs layout jobs at stops legs
       → length (way_of legs) ≤ 200 → base ≤ length (way_of legs) → IsWellFormed layout (trip_over vehicle order at base legs)
   unfolding stops_fit
   some_stop [] legs fit few are short within = absurd (true≢false (sym fit))
   some_stop (stop ∷ stops) legs fit few are short within = over_legs stop stops legs fit few are short within
 
   -- whatever the tests say, a trip comes only where they pass
-  by_tests : (legs : List Leg) (trip : Trip) → trip_along vehicle order at base (Some legs) ≡ Ok trip
+  pub by_tests : (legs : List Leg) (trip : Trip) → trip_along vehicle order at base (Some legs) ≡ Ok trip
       → (length (way_of legs) ≤ 200) × (base ≤ length (way_of legs)) × (trip_over vehicle order at base legs ≡ trip)
   by_tests legs trip e =
       let tests = by_bools (nat_lt 200 (length (way_of legs))) (nat_lt (length (way_of legs)) base) (trip_over vehicle order at base legs) trip e in
       (not_above 200 (length (way_of legs)) tests.0, not_above (length (way_of legs)) base tests.1, tests.2)
 
   by_legs : (stops : List Stop) (found : Option (List Leg)) (trip : Trip) → stops_fit stops ≡ true → length stops ≤ 8
-      → ((legs : List Leg) → found ≡ Some legs → AreLegs layout at stops legs) → trip_along vehicle order at base found ≡ Ok trip → IsWellFormed layout trip
+      → ((legs : List Leg) → found ≡ Some legs → AreLegs layout jobs at stops legs) → trip_along vehicle order at base found ≡ Ok trip → IsWellFormed layout trip
   by_legs stops None trip fit few are e = cc
   by_legs stops (Some legs) trip fit few are e =
       let tests = by_tests legs trip e in
@@ -104,4 +104,4 @@ module _ (layout : Layout) (vehicle : VehicleKey) (order : List ℕ) (at : List 
 pub planned_well : (layout : Layout) (vehicle : VehicleKey) (jobs : List Job) (stops : List Stop) (order at : List ℕ) (base : ℕ) (trip : Trip)
     → IsTrue (stops_fit stops) → length stops ≤ 8 → planned layout vehicle jobs stops order at base ≡ Ok trip → IsWellFormed layout trip
 planned_well layout vehicle jobs stops order at base trip fit few e =
-    by_legs layout vehicle order at base stops (legs_to layout jobs at stops) trip fit few (λ legs f. are_legs layout jobs at stops legs f) e
+    by_legs layout jobs vehicle order at base stops (legs_to layout jobs at stops) trip fit few (λ legs f. are_legs layout jobs at stops legs f) e

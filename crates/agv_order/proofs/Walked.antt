@@ -6,7 +6,7 @@ use Rattle.std.specs.FinMap as finite
 use Rattle.std.proofs.lemmas.Option.{same_Some}
 use Rattle.std.proofs.lemmas.List.Elements.{All-nil, All-cons}
 use Rattle.agv_layout.specs.Layout.{Layout, IsStation, edge_of}
-use Rattle.agv_layout.specs.Walk.{IsWalk, IsWayTo}
+use Rattle.agv_layout.specs.Walk.{IsWalk, IsRoute, IsWayTo}
 use Rattle.agv_layout.specs.declared.edge.Edge.{Edge}
 use Rattle.agv_layout.specs.declared.edge.Ends.{Ends}
 use Rattle.agv_layout.specs.declared.station.Spot.{Spot}
@@ -58,47 +58,51 @@ module _ (layout : Layout) where
       one_more id _ ids (edges_named layout ids) (edges_named layout (id ∷ ids)) walk.1 (are_edges walk.0 to ids walk.2) refl
 
   -- a leg: for its stop, by a walk from a node to the node of its station, over edges of the layout
-  pub record IsLeg (at : List ℕ) (stop : Stop) (leg : Leg) : Type 0 where
+  pub record IsLeg (jobs : List Job) (at : List ℕ) (stop : Stop) (leg : Leg) : Type 0 where
     pub made : leg.stop ≡ stop
+    pub named : job_named jobs leg.stop.job ≡ Some leg.job
     pub walk : IsWalk layout at (ids_of leg.edges) leg.goal
+    pub route : IsRoute layout at leg.goal (ids_of leg.edges)
     pub known : All (IsEdgeOf layout) leg.edges
     pub spot : Spot
     pub station : IsStation layout (station_of leg.stop.kind leg.job) spot
     pub stands : spot.node ≡ leg.goal
 
-  leg_by : (at : List ℕ) (stop : Stop) (job : Job) (spot : Spot) (ids : List (List ℕ)) → finite.get layout.stations (station_of stop.kind job) ≡ Some spot
-      → route_of layout at spot.node ≡ Some ids → IsLeg at stop (leg_over layout stop job spot.node ids)
-  leg_by at stop job spot ids e r =
+  leg_by : (jobs : List Job) (at : List ℕ) (stop : Stop) (job : Job) (spot : Spot) (ids : List (List ℕ)) → job_named jobs stop.job ≡ Some job → finite.get layout.stations (station_of stop.kind job) ≡ Some spot
+      → route_of layout at spot.node ≡ Some ids → IsLeg jobs at stop (leg_over layout stop job spot.node ids)
+  leg_by jobs at stop job spot ids j e r =
       let route = subst (IsWayTo layout at spot.node) r (route_is_found layout at spot.node) in
       let are = are_edges at spot.node ids route.walk in
       record {
         made = refl;
+        named = j;
         walk = subst (λ names. IsWalk layout at names spot.node) (sym are.named) route.walk;
+        route = subst (IsRoute layout at spot.node) (sym are.named) route;
         known = are.known;
         spot = spot;
         station = e;
         stands = refl;
       }
 
-  pub is_leg : (jobs : List Job) (at : List ℕ) (stop : Stop) (leg : Leg) → leg_to layout jobs at stop ≡ Some leg → IsLeg at stop leg
+  pub is_leg : (jobs : List Job) (at : List ℕ) (stop : Stop) (leg : Leg) → leg_to layout jobs at stop ≡ Some leg → IsLeg jobs at stop leg
   unfolding leg_to
   is_leg jobs at stop leg e =
       let job = chained (leg_for layout at stop) (job_named jobs stop.job) leg e in
       let spot = chained (λ (spot : Spot). option_map (leg_over layout stop job.value spot.node) (route_of layout at spot.node)) (finite.get layout.stations (station_of stop.kind job.value)) leg job.gives in
       let ids = mapped (leg_over layout stop job.value spot.value.node) (route_of layout at spot.value.node) leg spot.gives in
-      subst (IsLeg at stop) ids.gives (leg_by at stop job.value spot.value ids.value spot.here ids.here)
+      subst (IsLeg jobs at stop) ids.gives (leg_by jobs at stop job.value spot.value ids.value job.here spot.here ids.here)
 
   -- the legs lead on from one to the next, a leg for each stop
-  abbrev pub AreLegs : List ℕ → List Stop → List Leg → Type 0
-  AreLegs at [] [] = Unit {0}
-  AreLegs at [] (leg ∷ legs) = ⊥
-  AreLegs at (stop ∷ stops) [] = ⊥
-  AreLegs at (stop ∷ stops) (leg ∷ legs) = IsLeg at stop leg × AreLegs leg.goal stops legs
+  abbrev pub AreLegs : List Job → List ℕ → List Stop → List Leg → Type 0
+  AreLegs jobs at [] [] = Unit {0}
+  AreLegs jobs at [] (leg ∷ legs) = ⊥
+  AreLegs jobs at (stop ∷ stops) [] = ⊥
+  AreLegs jobs at (stop ∷ stops) (leg ∷ legs) = IsLeg jobs at stop leg × AreLegs jobs leg.goal stops legs
 
-  pub are_legs : (jobs : List Job) (at : List ℕ) (stops : List Stop) (legs : List Leg) → legs_to layout jobs at stops ≡ Some legs → AreLegs at stops legs
-  are_legs jobs at [] legs e = subst (AreLegs at []) (same_Some _ _ e) tt
+  pub are_legs : (jobs : List Job) (at : List ℕ) (stops : List Stop) (legs : List Leg) → legs_to layout jobs at stops ≡ Some legs → AreLegs jobs at stops legs
+  are_legs jobs at [] legs e = subst (AreLegs jobs at []) (same_Some _ _ e) tt
   are_legs jobs at (stop ∷ stops) legs e =
       let leg = chained (λ (leg : Leg). option_map (λ (others : List Leg). leg ∷ others) (legs_to layout jobs leg.goal stops)) (leg_to layout jobs at stop) legs e in
       let rest = mapped (λ (others : List Leg). leg.value ∷ others) (legs_to layout jobs leg.value.goal stops) legs leg.gives in
-      subst (AreLegs at (stop ∷ stops)) rest.gives
+      subst (AreLegs jobs at (stop ∷ stops)) rest.gives
       (is_leg jobs at stop leg.value leg.here, are_legs jobs leg.value.goal stops rest.value rest.here)

@@ -9,6 +9,7 @@ use Rattle.agv_layout.specs.Walk.{IsWalk}
 use Rattle.agv_layout.specs.Walking.{walks_join, ends_at_node}
 use Rattle.agv_layout.specs.declared.edge.Edge.{Edge}
 use Rattle.agv_layout.specs.declared.edge.Ends.{Ends}
+use Rattle.agv_stock.specs.declared.job.Job.{Job}
 use Rattle.agv_order.specs.Plans.{way_of, act_at, acts_along}
 use Rattle.agv_order.specs.Trips.{Task, task_of, stop_of, Plan, nodes_on}
 use Rattle.agv_order.specs.WellFormed.{IsEdgeOf, ids_of, IsRising, IsAtStation}
@@ -34,7 +35,7 @@ node_past : (at : List ℕ) (edges others : List Edge) → slice_get (nodes_on a
 node_past at [] others = refl
 node_past at (edge ∷ edges) others = node_past edge.finish edges others
 
-module _ (layout : Layout) where
+module _ (layout : Layout) (jobs : List Job) where
   -- the edges of a walk end where it ends
   ends_there : (at to : List ℕ) (edges : List Edge) → IsWalk layout at (ids_of edges) to → All (IsEdgeOf layout) edges → end_of at edges ≡ to
   ends_there at to [] walk known = walk.1
@@ -43,14 +44,14 @@ module _ (layout : Layout) where
       ends_there edge.finish to edges (subst (λ next. IsWalk layout next (ids_of edges) to) (sym here) walk.2) (All-tail (IsEdgeOf layout) edge edges known)
 
   -- ---- all legs
-  pub way_known : (at : List ℕ) (stops : List Stop) (legs : List Leg) → AreLegs layout at stops legs → All (IsEdgeOf layout) (way_of legs)
+  pub way_known : (at : List ℕ) (stops : List Stop) (legs : List Leg) → AreLegs layout jobs at stops legs → All (IsEdgeOf layout) (way_of legs)
   way_known at [] [] are = All-nil (IsEdgeOf layout)
   way_known at [] (leg ∷ legs) are = elim are [ ]
   way_known at (stop ∷ stops) [] are = elim are [ ]
   way_known at (stop ∷ stops) (leg ∷ legs) are =
       All-append (IsEdgeOf layout) leg.edges (way_of legs) are.0.known (way_known leg.goal stops legs are.1)
 
-  rest_walk : (at : List ℕ) (stops : List Stop) (legs : List Leg) → IsNode layout at → AreLegs layout at stops legs
+  rest_walk : (at : List ℕ) (stops : List Stop) (legs : List Leg) → IsNode layout at → AreLegs layout jobs at stops legs
       → (finish : List ℕ) × IsWalk layout at (ids_of (way_of legs)) finish
   rest_walk at [] [] node are = (at, (node, refl))
   rest_walk at [] (leg ∷ legs) node are = elim are [ ]
@@ -62,7 +63,7 @@ module _ (layout : Layout) where
             (walks_join layout at leg.goal rest.0 (ids_of leg.edges) (ids_of (way_of legs)) are.0.walk rest.1),
       )
 
-  pub whole_walk : (at : List ℕ) (stop : Stop) (stops : List Stop) (legs : List Leg) → AreLegs layout at (stop ∷ stops) legs
+  pub whole_walk : (at : List ℕ) (stop : Stop) (stops : List Stop) (legs : List Leg) → AreLegs layout jobs at (stop ∷ stops) legs
       → (finish : List ℕ) × IsWalk layout at (ids_of (way_of legs)) finish
   whole_walk at stop stops [] are = elim are [ ]
   whole_walk at stop stops (leg ∷ legs) are =
@@ -73,7 +74,7 @@ module _ (layout : Layout) where
       )
 
   -- ---- the tasks
-  pub tasks_stops : (from : ℕ) (at : List ℕ) (stops : List Stop) (legs : List Leg) → AreLegs layout at stops legs → map stop_of (tasks_along from legs) ≡ stops
+  pub tasks_stops : (from : ℕ) (at : List ℕ) (stops : List Stop) (legs : List Leg) → AreLegs layout jobs at stops legs → map stop_of (tasks_along from legs) ≡ stops
   tasks_stops from at [] [] are = refl
   tasks_stops from at [] (leg ∷ legs) are = elim are [ ]
   tasks_stops from at (stop ∷ stops) [] are = elim are [ ]
@@ -83,7 +84,7 @@ module _ (layout : Layout) where
       λ i. first i ∷ rest i
 
   -- the station of each task is at the node where its leg ends
-  stations_past : (start : List ℕ) (before : List Edge) (at : List ℕ) (stops : List Stop) (legs : List Leg) → end_of start before ≡ at → AreLegs layout at stops legs
+  stations_past : (start : List ℕ) (before : List Edge) (at : List ℕ) (stops : List Stop) (legs : List Leg) → end_of start before ≡ at → AreLegs layout jobs at stops legs
       → (plan : Plan) → plan.start ≡ start → plan.edges ≡ before ++ way_of legs → All (IsAtStation layout plan) (tasks_along (length before) legs)
   stations_past start before at [] [] here are plan s e = All-nil (IsAtStation layout plan)
   stations_past start before at [] (leg ∷ legs) here are plan s e = elim are [ ]
@@ -105,7 +106,7 @@ module _ (layout : Layout) where
           (λ i. slice_get (nodes_on (s i) ((e ∙ sym (append_assoc before leg.edges (way_of legs))) i)) (sym longer i))
           ∙ node_past start (before ++ leg.edges) (way_of legs)
 
-  pub stations : (at : List ℕ) (stops : List Stop) (legs : List Leg) (plan : Plan) → AreLegs layout at stops legs → plan.start ≡ at → plan.edges ≡ way_of legs
+  pub stations : (at : List ℕ) (stops : List Stop) (legs : List Leg) (plan : Plan) → AreLegs layout jobs at stops legs → plan.start ≡ at → plan.edges ≡ way_of legs
       → All (IsAtStation layout plan) (tasks_along 0 legs)
   stations at stops legs plan are s e = stations_past at [] at stops legs refl are plan s e
 

@@ -9,3 +9,4 @@ pub mod Releases
 pub mod Joins
 pub mod Stitch
 pub mod Plans
+pub mod Tours

@@ -8,7 +8,7 @@ use std::alloc::{AllocError, AllocFailed};
 /// A trip that can't be planned, or want of memory.
 #[derive(Clone, Copy, Debug, PartialEq, Eq)]
 pub enum PlanFault {
-    /// The job or the station of a stop is unknown, or no walk leads to it.
+    /// The vehicle's node, or the job or the station of a stop, is unknown, or no walk leads to it.
     NoWalk,
     /// The whole way has more than 200 edges.
     TooLong,

@@ -1,10 +1,14 @@
 //! What holds of the definitions that the contracts of this crate cite, whatever the code does.
 //! Each function does nothing: its clause is the law.
-ghost use Rattle.std.specs.Prelude.{◌≡◌, ◌↔◌, ◌<◌, ◌≤◌, ◌*◌, ℕ, List, filter, length, IsTrue, Some, Ok, Err};
+ghost use Rattle.std.specs.Prelude.{◌≡◌, ◌↔◌, ◌<◌, ◌≤◌, ◌*◌, ℕ, List, filter, length, IsTrue, None, Some, Ok, Err};
 ghost use Rattle.agv_header.specs.declared.key.VehicleKey.{VehicleKey as KeyOf};
 ghost use Rattle.agv_layout.specs.Layout.{Layout as LayoutOf, Name as NameOf};
 ghost use Rattle.agv_stock.specs.declared.job.Job.{Job as JobOf};
+ghost use Rattle.agv_layout.specs.declared.edge.Edge.{Edge as EdgeOf};
+ghost use Rattle.agv_order.specs.declared.act.Act.{Act as ActOf};
+ghost use Rattle.agv_order.specs.declared.fault.PlanFault.TheVariants as fault;
 ghost use Rattle.agv_order.specs.Plans.{planned};
+ghost use Rattle.agv_order.specs.Tours.{MakesStops, IsPlanOf};
 ghost use Rattle.agv_order.specs.WellFormed.{IsWellFormed};
 ghost use Rattle.agv_order.specs.declared.joining.Joined.TheVariants.{Taken, Same};
 ghost use Rattle.agv_order.specs.declared.joining.JoinRefusal.TheVariants as refusal;
@@ -53,4 +57,21 @@ pub fn fits_as_said()
 /// Stops that can be carried out are twice as many as the jobs, which are as many as the picks.
 pub fn stops_twice()
     ensures { (stops : List StopOf) → IsTrue (stops_fit stops) → length stops ≡ 2 * length (filter is_pick stops) }
+{}
+
+/// What a plan is, in terms of routes: from the vehicle's node to the node of each stop in turn, each time by
+/// the route of the layout, and the act of each stop stands where its part of the way ends. Where there is no
+/// plan because no walk leads there, nothing goes so from stop to stop.
+pub fn plans_go_by_routes()
+    ensures goes { (layout : LayoutOf) (jobs : List JobOf) (vehicle : KeyOf) (stops : List StopOf) (order at : NameOf) (base : ℕ) (trip : TripOf)
+        → planned layout vehicle jobs stops order at base ≡ Ok trip → IsPlanOf layout jobs stops at base trip }
+    ensures none { (layout : LayoutOf) (jobs : List JobOf) (vehicle : KeyOf) (stops : List StopOf) (order at : NameOf) (base : ℕ)
+        → planned layout vehicle jobs stops order at base ≡ Err fault.NoWalk
+        → (edges : List EdgeOf) (acts : List ActOf) → ¬ MakesStops layout jobs at 0 stops edges acts }
+{}
+
+/// A vehicle that holds nothing and takes the first message of a trip holds the whole order of the trip.
+pub fn takes_the_first_message()
+    ensures { (trip : TripOf) → trip.sent ≡ 0 → trip.first ≡ 0
+        → join_of None (message_of trip) ≡ Ok (Taken (whole_of trip)) }
 {}

@@ -10,7 +10,7 @@ use agv_message::Sequence;
 ///
 /// Node 0 of its way is the start, and node k + 1 the finish of edge k. The nodes up to `base` are the
 /// base of the order: the vehicle may drive there. The others are its horizon (VDA 5050 2.0, order).
-#[derive(Debug, Drop)]
+#[derive(Debug, Drop, PartialEq, Eq)]
 pub struct Trip {
     /// The order's name, which is used once for good.
     pub order: Name,
@@ -18,7 +18,7 @@ pub struct Trip {
     pub vehicle: VehicleKey,
     /// The node where it starts.
     pub start: Name,
-    /// The edges that it drives, at most 200, in this order.
+    /// The edges that it drives, in this order: of a well-formed trip at most 200.
     pub edges: Sequence<Edge>,
     /// The place of the node with which the last message begins.
     pub first: u32,
@@ -30,7 +30,7 @@ pub struct Trip {
     pub confirmed: Option<u32>,
     /// The place of the last node that the vehicle has reported.
     pub seen: u32,
-    /// What is done on the way, in this order: two acts for each of one to four jobs.
+    /// What is done on the way, in this order: of a well-formed trip two acts for each of one to four jobs.
     pub acts: Sequence<Act>,
 }
 
