@@ -1,13 +1,13 @@
 -- The reports and the export, to the byte (this project's formats).
-use Rattle.std.specs.Prelude.{ℕ, Bool, true, false, List, [], ◌∷◌, ◌++◌, length, filter, codes, decimal}
+use Rattle.std.specs.Prelude.{ℕ, Bool, false, List, [], ◌∷◌, ◌++◌, length, filter, codes, decimal}
 use Rattle.std.specs.List.{count_by, flat_map}
 use Rattle.std.specs.Map.{keys_of}
-use Rattle.std.specs.Str.{bytes_eq}
 use Rattle.agv_header.specs.KeyOrder.{key_eq}
 use Rattle.agv_header.specs.declared.key.Thing.{Thing}
 use Rattle.agv_header.specs.declared.key.Thing.TheVariants as thing
 use Rattle.agv_header.specs.declared.key.VehicleKey.{VehicleKey}
 use Rattle.agv_layout.specs.declared.station.Station.{Station}
+use Rattle.agv_stock.specs.Room.{is_at, is_checking, has_left}
 use Rattle.agv_stock.specs.declared.place.Place.{Place}
 use Rattle.agv_stock.specs.declared.place.Place.TheVariants as place
 
@@ -19,33 +19,12 @@ line text = text ++ 10 ∷ []
 abbrev pub key_text : VehicleKey → List ℕ
 key_text key = key.manufacturer ++ (codes "/" ++ key.serial)
 
--- the load stands at the station
-abbrev pub is_at_station : List ℕ → Place → Bool
-is_at_station id (place.Station at) = bytes_eq at id
-is_at_station id (place.Vehicle key) = false
-is_at_station id place.Checking = false
-is_at_station id place.Left = false
-
 -- the load is on the vehicle
 abbrev pub is_on_vehicle : VehicleKey → Place → Bool
 is_on_vehicle key (place.Station id) = false
 is_on_vehicle key (place.Vehicle at) = key_eq at key
 is_on_vehicle key place.Checking = false
 is_on_vehicle key place.Left = false
-
--- the load is at the checking place
-abbrev pub is_checking : Place → Bool
-is_checking (place.Station id) = false
-is_checking (place.Vehicle key) = false
-is_checking place.Checking = true
-is_checking place.Left = false
-
--- the load has left
-abbrev pub has_left : Place → Bool
-has_left (place.Station id) = false
-has_left (place.Vehicle key) = false
-has_left place.Checking = false
-has_left place.Left = true
 
 -- the loads whose place is so, in the order of the list
 abbrev pub loads_where : (Place → Bool) → List (List ℕ × Place) → List (List ℕ)
@@ -76,7 +55,7 @@ left_part gone = line (codes "left: " ++ decimal gone)
 -- the stations, the checking place and the vehicles, each with its loads, and how many loads have left
 unfoldable pub stock_text : List (Station × ℕ) → List (List ℕ × Place) → List VehicleKey → List ℕ
 stock_text stations loads vehicles =
-    flat_map (λ s. station_part (loads_where (is_at_station s.0.id) loads) s.0 s.1) stations
+    flat_map (λ s. station_part (loads_where (is_at s.0.id) loads) s.0 s.1) stations
     ++ (checking_part (loads_where is_checking loads)
     ++ (flat_map (λ key. vehicle_part (loads_where (is_on_vehicle key) loads) key) vehicles
     ++ left_part (count_by (λ l. has_left l.1) loads)))

@@ -3,7 +3,8 @@ ghost use Rattle.std.specs.Prelude.{◌≡◌, ◌++◌, IfOk, OnOk, string_byte
 ghost use Rattle.std.specs.List.{count_by, flat_map};
 ghost use Rattle.agv_header.specs.Key.{key_cmp};
 ghost use Rattle.agv_header.specs.Name.{name_cmp};
-ghost use Rattle.agv_count.specs.Reports.{checking_part, has_left, left_part, listed, station_part, stock_text, vehicle_part};
+ghost use Rattle.agv_count.specs.Reports.{checking_part, left_part, listed, station_part, stock_text, vehicle_part};
+ghost use Rattle.agv_stock.specs.Room.{has_left};
 ghost use Rattle.agv_count.specs.Shelves.{loads_at};
 
 use crate::shelves::{Shelf, Shelves, loads_at};

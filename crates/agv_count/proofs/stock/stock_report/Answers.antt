@@ -5,7 +5,8 @@ use Rattle.agv_header.specs.Name.{name_cmp}
 use Rattle.agv_header.specs.declared.key.VehicleKey.{VehicleKey}
 use Rattle.agv_layout.specs.declared.station.Station.{Station}
 use Rattle.agv_stock.specs.declared.place.Place.{Place}
-use Rattle.agv_count.specs.Reports.{checking_part, has_left, is_at_station, is_checking, is_on_vehicle, left_part, loads_where, station_part, stock_text, vehicle_part}
+use Rattle.agv_count.specs.Reports.{checking_part, is_on_vehicle, left_part, loads_where, station_part, stock_text, vehicle_part}
+use Rattle.agv_stock.specs.Room.{has_left, is_at as is_at_station, is_checking}
 use Rattle.agv_count.specs.Shelves.{loads_at}
 use Rattle.agv_count.specs.declared.shelves.Shelves.{Shelves}
 use Rattle.agv_count.proofs.Pieces.{four_parts}

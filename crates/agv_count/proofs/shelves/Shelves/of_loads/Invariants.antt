@@ -2,7 +2,8 @@ use Rattle.std.proofs.Common.{◌≡◌, ℕ, List, take}
 use Rattle.agv_header.specs.Key.{key_cmp}
 use Rattle.agv_header.specs.Name.{name_cmp}
 use Rattle.agv_header.specs.declared.key.VehicleKey.{VehicleKey}
-use Rattle.agv_count.specs.Reports.{is_at_station, is_checking, is_on_vehicle, loads_where}
+use Rattle.agv_count.specs.Reports.{is_on_vehicle, loads_where}
+use Rattle.agv_stock.specs.Room.{is_at as is_at_station, is_checking}
 use Rattle.agv_count.specs.Shelves.{loads_at}
 use Rattle.agv_count.proofs.shelves.Shelves.of_loads.Given as goal
 
