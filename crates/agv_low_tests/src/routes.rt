@@ -72,7 +72,7 @@ fn draw(state: &mut u32, bound: u32) -> u32 {
 }
 
 /// A letter and a number, as P007.
-fn numbered(rt: &impl Abort, alloc: Global, letter: char, number: u32) -> Name {
+pub(crate) fn numbered(rt: &impl Abort, alloc: Global, letter: char, number: u32) -> Name {
     let text = format!(in alloc; "{letter}{number:03}").expect(rt, "memory");
     name(rt, text.as_str())
 }
