@@ -2,7 +2,8 @@
 //! compared after each call.
 
 use crate::cases::{check, check_debug, name, vehicle};
-use agv_header::{Name, Thing, VehicleKey};
+use crate::routes::numbered;
+use agv_header::{Thing, VehicleKey};
 use agv_track::HoldTable;
 use std::alloc::Global;
 use std::process::Abort;
@@ -141,12 +142,6 @@ fn there_and_back(rt: HostRuntime) {
     shed(&rt, alloc, &mut table, "0002", second, third, two_edges);
 }
 
-/// A letter and a number, as N007.
-fn numbered(rt: &impl Abort, alloc: Global, letter: char, number: u32) -> Name {
-    let text = format!(in alloc; "{letter}{number:03}").expect(rt, "memory");
-    name(rt, text.as_str())
-}
-
 /// So many nodes, and an edge from each to the next.
 fn long_way(rt: &impl Abort, alloc: Global, nodes: u32) -> Vec<Thing> {
     let mut way = Vec::new(alloc);
@@ -161,9 +156,15 @@ fn long_way(rt: &impl Abort, alloc: Global, nodes: u32) -> Vec<Thing> {
     way
 }
 
-/// Whether this is the holder of each of the things.
-fn all_have(table: &HoldTable, things: &[Thing], holder: Option<VehicleKey>) -> bool {
-    things.iter().all(|thing| table.holder(thing) == holder)
+/// Whether the holder of each of the things is that of this serial number, or each is `free`.
+fn all_have(table: &HoldTable, things: &[Thing], serial: &str) -> bool {
+    for thing in things {
+        let holder = table.holder(thing);
+        if holder_text(&holder) != serial {
+            return false;
+        }
+    }
+    true
 }
 
 /// The footprint of a vehicle that has a route of 200 edges before it: 401 things.
@@ -173,14 +174,14 @@ fn the_longest_footprint(rt: HostRuntime) {
     let mut table = HoldTable::new(alloc);
     let way = long_way(&rt, alloc, 201);
     check(&rt, way.len() == 401, "401 things");
-    check(&rt, all_have(&table, &way, None), "all free");
-    let one = kit(&rt, "0001");
-    let first = table.claim(one, &way);
+    check(&rt, all_have(&table, &way, "free"), "all free");
+    let first = table.claim(kit(&rt, "0001"), &way);
     check(&rt, first == Ok(()), "all given");
-    check(&rt, all_have(&table, &way, Some(one)), "all held");
+    check(&rt, all_have(&table, &way, "0001"), "all held");
     let second = table.claim(kit(&rt, "0002"), &way);
-    check(&rt, second.is_err(), "all another's");
-    check(&rt, all_have(&table, &way, Some(one)), "still held");
-    table.shed(one, &way, &[]);
-    check(&rt, all_have(&table, &way, None), "free again");
+    let held = "Err(Held { what: Node(N000), by: VehicleKey { manufacturer: KIT, serial: 0001 } })";
+    check_debug(&rt, alloc, &second, held, "all another's");
+    check(&rt, all_have(&table, &way, "0001"), "still held");
+    table.shed(kit(&rt, "0001"), &way, &[]);
+    check(&rt, all_have(&table, &way, "free"), "free again");
 }
