@@ -1,0 +1,44 @@
+//! Why a question to what the desk knows has no answer.
+ghost use Rattle.std.specs.Prelude.{◌≡◌};
+
+use agv_header::Memory;
+use std::alloc::{AllocError, AllocFailed};
+
+/// Why a question to what the desk knows has no answer.
+#[derive(Clone, Copy, Debug, PartialEq, Eq)]
+pub enum Fault {
+    /// An allocation was refused.
+    Memory,
+    /// The store failed, or what lies in it cannot be read.
+    Storage,
+}
+
+impl From<Memory> for Fault {
+    ghost use Rattle.agv_world.specs.declared.fault.Fault.TheVariants as fault;
+
+    ghost from_gives = { λ _ made. made ≡ fault.Memory };
+
+    fn from(_error: Memory) -> Fault {
+        Fault::Memory
+    }
+}
+
+impl From<AllocError> for Fault {
+    ghost use Rattle.agv_world.specs.declared.fault.Fault.TheVariants as fault;
+
+    ghost from_gives = { λ _ made. made ≡ fault.Memory };
+
+    fn from(_error: AllocError) -> Fault {
+        Fault::Memory
+    }
+}
+
+impl<T: Drop> From<AllocFailed<T>> for Fault {
+    ghost use Rattle.agv_world.specs.declared.fault.Fault.TheVariants as fault;
+
+    ghost from_gives = { λ _ made. made ≡ fault.Memory };
+
+    fn from(_error: AllocFailed<T>) -> Fault {
+        Fault::Memory
+    }
+}

@@ -1,0 +1,80 @@
+//! The rows of vehicles, trips and jobs, but for their keys.
+
+use agv_header::{Moment, Name, VehicleKey};
+use agv_message::{InstantKind, Sequence};
+use agv_order::Act;
+use agv_stock::Phase;
+use std::alloc::AllocError;
+
+/// How many messages of a topic a vehicle was sent, and when the last was made: 0 and the moment 0
+/// where none was. The next message has the number `count + 1`.
+#[derive(Clone, Copy, Debug, PartialEq, Eq)]
+pub struct Sent {
+    pub count: u32,
+    pub at: Moment,
+}
+
+/// What is known of a vehicle, but for its open trip.
+#[derive(Clone, Copy, Debug, PartialEq, Eq)]
+pub struct VehicleRow {
+    /// How many loads it carries at once: 1 to 4.
+    pub capacity: u32,
+    /// The node where it stands, or that it has reported last.
+    pub node: Name,
+    /// The edge and the node that it may have gone on to after a cancelled order.
+    pub rest: Option<(Name, Name)>,
+    /// The number of the last state that was accepted, none before the first and after a resync.
+    pub last_header: Option<u32>,
+    /// The order that it has reported last, if that was a name.
+    pub reported: Option<Name>,
+    /// The desk is in control of it, and it can drive.
+    pub ready: bool,
+    pub paused: bool,
+    /// Its order messages.
+    pub orders: Sent,
+    /// Its instantActions messages.
+    pub instants: Sent,
+    /// The action of the last instantActions message, until the vehicle has reported its end.
+    pub pending: Option<InstantKind>,
+}
+
+/// An open trip, but for its order's name and its edges.
+#[derive(Debug, Drop)]
+pub struct TripRow {
+    pub vehicle: VehicleKey,
+    pub start: Name,
+    pub first: u32,
+    pub base: u32,
+    pub sent: u32,
+    pub confirmed: Option<u32>,
+    pub seen: u32,
+    pub acts: Sequence<Act>,
+}
+
+impl Clone for TripRow {
+    ghost use Rattle.std.specs.Prelude.{◌≡◌};
+
+    ghost is_clone = { λ row clone. clone ≡ row };
+
+    fn clone(&self) -> Result<TripRow, AllocError> {
+        Ok(TripRow {
+            vehicle: self.vehicle,
+            start: self.start,
+            first: self.first,
+            base: self.base,
+            sent: self.sent,
+            confirmed: self.confirmed,
+            seen: self.seen,
+            acts: self.acts.clone()?,
+        })
+    }
+}
+
+/// A job, but for its name.
+#[derive(Clone, Copy, Debug, PartialEq, Eq)]
+pub struct JobRow {
+    pub load: Name,
+    pub origin: Name,
+    pub target: Name,
+    pub phase: Phase,
+}

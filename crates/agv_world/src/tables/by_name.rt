@@ -1,0 +1,106 @@
+//! Tables with names for keys.
+ghost use Rattle.std.specs.Prelude.{◌≡◌, IfOk, OnOk, OnErr};
+ghost use Rattle.std.specs.FinMap as map;
+ghost use Rattle.std.specs.Option.{option_copied};
+
+use crate::{JobRow, TripRow, VehicleRow};
+use agv_header::{Memory, Name};
+use agv_layout::{Ends, Spot};
+use agv_stock::Place;
+use std::alloc::Global;
+use std::collections::BTreeMap;
+use std::marker::Model;
+
+/// What a table can keep: a row of which a clone is an equal row.
+pub trait Row: Clone + Drop {
+    ghost same: { (row clone : Self) → Self.is_clone row clone → clone ≡ row };
+}
+
+impl Row for Ends {
+    ghost same = { λ row clone e. e };
+}
+
+impl Row for Spot {
+    ghost same = { λ row clone e. e };
+}
+
+impl Row for VehicleRow {
+    ghost same = { λ row clone e. e };
+}
+
+impl Row for TripRow {
+    ghost same = { λ row clone e. e };
+}
+
+impl Row for Place {
+    ghost same = { λ row clone e. e };
+}
+
+impl Row for JobRow {
+    ghost same = { λ row clone e. e };
+}
+
+/// A row for each name. In a clause it is the finite map of its rows.
+#[derive(Debug, Drop)]
+pub struct ByName<V: Row> {
+    kept: BTreeMap<Name, V>,
+}
+
+impl<V: Row> Model for ByName<V> {
+    ghost use Rattle.std.specs.FinMap as map;
+    ghost use Rattle.agv_header.specs.Name.{name_cmp};
+    ghost use Rattle.agv_world.specs.Codes.{name_code};
+
+    ghost Value = { map.FinMap name_cmp V };
+
+    ghost coded = { map.code name_code V.code };
+
+    ghost view = { λ table. map.from_entries table.kept.entries };
+}
+
+impl<V: Row> ByName<V> {
+    /// A table without a row.
+    pub fn new(alloc: Global) -> ByName<V>
+        ensures { result ≡ map.empty }
+    {
+        ByName {
+            kept: BTreeMap::new(alloc),
+        }
+    }
+
+    /// The row of a key.
+    pub fn get(&self, key: Name) -> Option<&V>
+        ensures { option_copied result ≡ map.get self.now key }
+    {
+        self.kept.get(&key)
+    }
+
+    /// Writes the row of a key, in place of the one that is there.
+    ///
+    /// `Memory` where an allocation was refused; then nothing has changed.
+    pub fn insert(&mut self, key: Name, row: V) -> Result<(), Memory>
+        ensures ok { OnOk result (self.new ≡ map.insert self.old key row) }
+        ensures err { OnErr result (self.new ≡ self.old) }
+    {
+        self.kept.insert(key, row)?;
+        Ok(())
+    }
+
+    /// Removes the row of a key, if there is one.
+    pub fn remove(&mut self, key: Name)
+        ensures { self.new ≡ map.remove self.old key }
+    {
+        self.kept.remove(&key);
+    }
+
+    /// A table equal to this one.
+    ///
+    /// `Memory` where an allocation was refused.
+    pub fn copy(&self) -> Result<ByName<V>, Memory>
+        ensures { IfOk result (λ copy. copy ≡ self.now) }
+    {
+        Ok(ByName {
+            kept: self.kept.clone()?,
+        })
+    }
+}

@@ -1,0 +1,75 @@
+//! Tables with vehicles for keys.
+ghost use Rattle.std.specs.Prelude.{◌≡◌, IfOk, OnOk, OnErr};
+ghost use Rattle.std.specs.FinMap as map;
+ghost use Rattle.std.specs.Option.{option_copied};
+
+use crate::Row;
+use agv_header::{Memory, VehicleKey};
+use std::alloc::Global;
+use std::collections::BTreeMap;
+use std::marker::Model;
+
+/// A row for each vehicle. In a clause it is the finite map of its rows.
+#[derive(Debug, Drop)]
+pub struct ByVehicle<V: Row> {
+    kept: BTreeMap<VehicleKey, V>,
+}
+
+impl<V: Row> Model for ByVehicle<V> {
+    ghost use Rattle.std.specs.FinMap as map;
+    ghost use Rattle.agv_header.specs.Key.{key_cmp};
+    ghost use Rattle.agv_world.specs.Codes.{key_code};
+
+    ghost Value = { map.FinMap key_cmp V };
+
+    ghost coded = { map.code key_code V.code };
+
+    ghost view = { λ table. map.from_entries table.kept.entries };
+}
+
+impl<V: Row> ByVehicle<V> {
+    /// A table without a row.
+    pub fn new(alloc: Global) -> ByVehicle<V>
+        ensures { result ≡ map.empty }
+    {
+        ByVehicle {
+            kept: BTreeMap::new(alloc),
+        }
+    }
+
+    /// The row of a key.
+    pub fn get(&self, key: VehicleKey) -> Option<&V>
+        ensures { option_copied result ≡ map.get self.now key }
+    {
+        self.kept.get(&key)
+    }
+
+    /// Writes the row of a key, in place of the one that is there.
+    ///
+    /// `Memory` where an allocation was refused; then nothing has changed.
+    pub fn insert(&mut self, key: VehicleKey, row: V) -> Result<(), Memory>
+        ensures ok { OnOk result (self.new ≡ map.insert self.old key row) }
+        ensures err { OnErr result (self.new ≡ self.old) }
+    {
+        self.kept.insert(key, row)?;
+        Ok(())
+    }
+
+    /// Removes the row of a key, if there is one.
+    pub fn remove(&mut self, key: VehicleKey)
+        ensures { self.new ≡ map.remove self.old key }
+    {
+        self.kept.remove(&key);
+    }
+
+    /// A table equal to this one.
+    ///
+    /// `Memory` where an allocation was refused.
+    pub fn copy(&self) -> Result<ByVehicle<V>, Memory>
+        ensures { IfOk result (λ copy. copy ≡ self.now) }
+    {
+        Ok(ByVehicle {
+            kept: self.kept.clone()?,
+        })
+    }
+}

@@ -1,0 +1,66 @@
+//! The table of nodes.
+ghost use Rattle.std.specs.Prelude.{◌≡◌, IfOk, OnOk, OnErr};
+ghost use Rattle.std.specs.FinSet as set;
+
+use agv_header::{Memory, Name};
+use std::alloc::Global;
+use std::collections::BTreeSet;
+use std::marker::Model;
+
+/// The names of nodes. In a clause it is a finite set.
+#[derive(Debug, Drop)]
+pub struct Names {
+    kept: BTreeSet<Name>,
+}
+
+impl Model for Names {
+    ghost use Rattle.std.specs.FinSet as set;
+    ghost use Rattle.agv_header.specs.Name.{name_cmp};
+    ghost use Rattle.agv_world.specs.Codes.{name_code};
+
+    ghost Value = { set.FinSet name_cmp };
+
+    ghost coded = { set.code name_code };
+
+    ghost view = { λ table. set.from_list table.kept.keys };
+}
+
+impl Names {
+    /// None of them.
+    pub fn new(alloc: Global) -> Names
+        ensures { result ≡ set.empty }
+    {
+        Names {
+            kept: BTreeSet::new(alloc),
+        }
+    }
+
+    /// Whether it is one of them.
+    pub fn contains(&self, key: Name) -> bool
+        ensures { result ≡ set.contains self.now key }
+    {
+        self.kept.contains(&key)
+    }
+
+    /// Adds one, if it is none of them yet.
+    ///
+    /// `Memory` where an allocation was refused; then nothing has changed.
+    pub fn insert(&mut self, key: Name) -> Result<(), Memory>
+        ensures ok { OnOk result (self.new ≡ set.insert self.old key) }
+        ensures err { OnErr result (self.new ≡ self.old) }
+    {
+        self.kept.insert(key)?;
+        Ok(())
+    }
+
+    /// A set equal to this one.
+    ///
+    /// `Memory` where an allocation was refused.
+    pub fn copy(&self) -> Result<Names, Memory>
+        ensures { IfOk result (λ copy. copy ≡ self.now) }
+    {
+        Ok(Names {
+            kept: self.kept.clone()?,
+        })
+    }
+}

@@ -1,0 +1,67 @@
+//! The table of used names.
+ghost use Rattle.std.specs.Prelude.{◌≡◌, IfOk, OnOk, OnErr};
+ghost use Rattle.std.specs.FinSet as set;
+
+use crate::UseKey;
+use agv_header::Memory;
+use std::alloc::Global;
+use std::collections::BTreeSet;
+use std::marker::Model;
+
+/// The names that were used, each in its kind. In a clause it is a finite set.
+#[derive(Debug, Drop)]
+pub struct UsedNames {
+    kept: BTreeSet<UseKey>,
+}
+
+impl Model for UsedNames {
+    ghost use Rattle.std.specs.FinSet as set;
+    ghost use Rattle.agv_world.specs.Keys.{use_cmp};
+    ghost use Rattle.agv_world.specs.Codes.{use_code};
+
+    ghost Value = { set.FinSet use_cmp };
+
+    ghost coded = { set.code use_code };
+
+    ghost view = { λ table. set.from_list table.kept.keys };
+}
+
+impl UsedNames {
+    /// None of them.
+    pub fn new(alloc: Global) -> UsedNames
+        ensures { result ≡ set.empty }
+    {
+        UsedNames {
+            kept: BTreeSet::new(alloc),
+        }
+    }
+
+    /// Whether it is one of them.
+    pub fn contains(&self, key: UseKey) -> bool
+        ensures { result ≡ set.contains self.now key }
+    {
+        self.kept.contains(&key)
+    }
+
+    /// Adds one, if it is none of them yet.
+    ///
+    /// `Memory` where an allocation was refused; then nothing has changed.
+    pub fn insert(&mut self, key: UseKey) -> Result<(), Memory>
+        ensures ok { OnOk result (self.new ≡ set.insert self.old key) }
+        ensures err { OnErr result (self.new ≡ self.old) }
+    {
+        self.kept.insert(key)?;
+        Ok(())
+    }
+
+    /// A set equal to this one.
+    ///
+    /// `Memory` where an allocation was refused.
+    pub fn copy(&self) -> Result<UsedNames, Memory>
+        ensures { IfOk result (λ copy. copy ≡ self.now) }
+    {
+        Ok(UsedNames {
+            kept: self.kept.clone()?,
+        })
+    }
+}

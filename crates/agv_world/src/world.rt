@@ -1,0 +1,141 @@
+//! The world in memory: its tables.
+ghost use Rattle.std.specs.Prelude.{◌≡◌, IfOk, OnOk, OnErr};
+ghost use Rattle.agv_world.specs.Changes.{change, changed};
+ghost use Rattle.agv_world.specs.Kept.{Agrees, Keeps};
+ghost use Rattle.agv_world.specs.Rows.{Rows, rows_of};
+ghost use Rattle.agv_world.specs.Spread.{edit};
+ghost use Rattle.agv_world.specs.Worlds.{World as WorldOf, empty_world};
+
+use crate::{
+    ByLeg, ByName, ByVehicle, Change, JobRow, LegKey, Names, TripRow, UsedNames, VehicleRow,
+};
+use agv_header::{Memory, Name};
+use agv_layout::{Ends, Spot};
+use agv_stock::Place;
+use std::alloc::Global;
+
+/// What the desk knows, as the tables of its rows. Who holds a node or an edge is in none of them: it
+/// follows from the vehicles and their trips.
+#[derive(Debug, Drop)]
+pub struct World {
+    /// The nodes of the layout.
+    pub nodes: Names,
+    /// The edges of the layout.
+    pub edges: ByName<Ends>,
+    /// The stations of the layout.
+    pub stations: ByName<Spot>,
+    /// The vehicles, but for their open trips.
+    pub vehicles: ByVehicle<VehicleRow>,
+    /// The open trips by their orders, but for their edges.
+    pub trips: ByName<TripRow>,
+    /// The edges of the open trips.
+    pub legs: ByLeg,
+    /// Where each load is.
+    pub loads: ByName<Place>,
+    /// The jobs.
+    pub jobs: ByName<JobRow>,
+    /// The names of orders, and the references, that were used.
+    pub used: UsedNames,
+}
+
+fn put_trip(trips: &mut ByName<TripRow>, order: Name, row: &Option<TripRow>) -> Result<(), Memory>
+    ensures { OnOk result (trips.new ≡ edit trips.old order row.now) }
+{
+    match row {
+        Some(row) => trips.insert(order, row.clone()?)?,
+        None => trips.remove(order),
+    }
+    Ok(())
+}
+
+fn put_leg(legs: &mut ByLeg, key: LegKey, edge: Option<Name>) -> Result<(), Memory>
+    ensures { OnOk result (legs.new ≡ edit legs.old key edge) }
+{
+    match edge {
+        Some(edge) => legs.insert(key, edge)?,
+        None => legs.remove(key),
+    }
+    Ok(())
+}
+
+impl World {
+    /// The world of a desk that knows nothing yet: no layout, vehicle, load or job.
+    pub fn empty(alloc: Global) -> World
+        ensures { Keeps result empty_world }
+    {
+        World {
+            nodes: Names::new(alloc),
+            edges: ByName::new(alloc),
+            stations: ByName::new(alloc),
+            vehicles: ByVehicle::new(alloc),
+            trips: ByName::new(alloc),
+            legs: ByLeg::new(alloc),
+            loads: ByName::new(alloc),
+            jobs: ByName::new(alloc),
+            used: UsedNames::new(alloc),
+        }
+    }
+
+    /// A world equal to this one.
+    ///
+    /// `Memory` where an allocation was refused.
+    pub fn copy(&self) -> Result<World, Memory>
+        ensures { IfOk result (λ copy. copy ≡ self.now) }
+    {
+        Ok(World {
+            nodes: self.nodes.copy()?,
+            edges: self.edges.copy()?,
+            stations: self.stations.copy()?,
+            vehicles: self.vehicles.copy()?,
+            trips: self.trips.copy()?,
+            legs: self.legs.copy()?,
+            loads: self.loads.copy()?,
+            jobs: self.jobs.copy()?,
+            used: self.used.copy()?,
+        })
+    }
+
+    // Carries out one change; holds have no table here.
+    fn put(&mut self, written: &Change) -> Result<(), Memory>
+        ensures { OnOk result ((rows : Rows) → Agrees self.old rows → Agrees self.new (change rows written.now)) }
+    {
+        match written {
+            Change::Node(id) => self.nodes.insert(*id),
+            Change::Edge(id, ends) => self.edges.insert(*id, *ends),
+            Change::Station(id, spot) => self.stations.insert(*id, *spot),
+            Change::Vehicle(key, row) => self.vehicles.insert(*key, *row),
+            Change::Trip(order, row) => put_trip(&mut self.trips, *order, row),
+            Change::Leg(key, edge) => put_leg(&mut self.legs, *key, *edge),
+            Change::Load(id, place) => self.loads.insert(*id, *place),
+            Change::Job(id, row) => self.jobs.insert(*id, *row),
+            Change::Hold(_, _) => Ok(()),
+            Change::Used(key) => self.used.insert(*key),
+        }
+    }
+
+    // Carries out the changes one after the other; after an error it has carried out some of them.
+    fn put_all(&mut self, changes: &[Change]) -> Result<(), Memory>
+        ensures { OnOk result ((rows : Rows) → Agrees self.old rows → Agrees self.new (changed changes.now rows)) }
+    {
+        for written in changes {
+            self.put(written)?;
+        }
+        Ok(())
+    }
+
+    /// Carries out the changes. Where they lead from the rows of this world to the rows of some world, it
+    /// is that world then.
+    ///
+    /// `Memory` where an allocation was refused; then nothing has changed. It takes time and memory in
+    /// proportion to the world, which it copies, and time for the changes, times the logarithm of the rows.
+    pub fn apply(&mut self, changes: &[Change]) -> Result<(), Memory>
+        ensures applied { OnOk result ((world next : WorldOf) → Keeps self.old world → changed changes.now (rows_of world) ≡ rows_of next → Keeps self.new next) }
+        ensures agrees { OnOk result ((rows : Rows) → Agrees self.old rows → Agrees self.new (changed changes.now rows)) }
+        ensures refused { OnErr result (self.new ≡ self.old) }
+    {
+        let mut next = self.copy()?;
+        next.put_all(changes)?;
+        *self = next;
+        Ok(())
+    }
+}
