@@ -4,9 +4,7 @@
 use crate::cases::{check_debug, name};
 use agv_layout::Station;
 use agv_stock::Phase::{Done, Riding, Waiting};
-use agv_stock::{
-    Goal, Job, Phase, Place, can_correct, can_job, can_leave, can_register, room, room_left,
-};
+use agv_stock::{Goal, Job, Phase, Place, can_correct, can_leave, can_register, room, room_left};
 use std::process::Abort;
 
 fn station(rt: &impl Abort, id: &str, capacity: u32) -> Station {
@@ -43,15 +41,24 @@ fn rooms(rt: HostRuntime) {
     assert_eq!(rt; room_left(3, 1, 1), 1);
 }
 
+fn at(rt: &impl Abort, station: &str) -> Option<Place> {
+    Some(Place::Station(name(rt, station)))
+}
+
+fn to(rt: &impl Abort, station: &str, room: u32) -> Goal {
+    Goal::At(name(rt, station), room)
+}
+
 #[test]
-fn registrations_and_jobs(rt: HostRuntime) {
+fn registrations(rt: HostRuntime) {
     let alloc = rt.alloc();
-    let (at_a, at_c) = (
-        Place::Station(name(&rt, "A")),
-        Place::Station(name(&rt, "C")),
+    check_debug(
+        &rt,
+        alloc,
+        &can_register(None, to(&rt, "A", 1)),
+        "Ok(())",
+        "to A",
     );
-    let (to_a, full) = (Goal::At(name(&rt, "A"), 1), Goal::At(name(&rt, "A"), 0));
-    check_debug(&rt, alloc, &can_register(None, to_a), "Ok(())", "to A");
     check_debug(
         &rt,
         alloc,
@@ -62,7 +69,7 @@ fn registrations_and_jobs(rt: HostRuntime) {
     check_debug(
         &rt,
         alloc,
-        &can_register(None, full),
+        &can_register(None, to(&rt, "A", 0)),
         "Err(Full)",
         "to a full A",
     );
@@ -76,109 +83,49 @@ fn registrations_and_jobs(rt: HostRuntime) {
     check_debug(
         &rt,
         alloc,
-        &can_register(Some(at_a), Goal::Unknown),
+        &can_register(at(&rt, "A"), Goal::Unknown),
         "Err(Exists)",
         "twice",
-    );
-    check_debug(
-        &rt,
-        alloc,
-        &can_job(false, Some(at_c), false, to_a),
-        "Ok(())",
-        "a job",
-    );
-    check_debug(
-        &rt,
-        alloc,
-        &can_job(true, None, true, full),
-        "Err(Exists)",
-        "a job twice",
-    );
-    check_debug(
-        &rt,
-        alloc,
-        &can_job(false, None, true, full),
-        "Err(NoLoad)",
-        "for no load",
-    );
-    let checked = can_job(false, Some(Place::Checking), true, full);
-    check_debug(&rt, alloc, &checked, "Err(Elsewhere)", "at no station");
-    check_debug(
-        &rt,
-        alloc,
-        &can_job(false, Some(at_a), true, full),
-        "Err(InJob)",
-        "in a job",
-    );
-    check_debug(
-        &rt,
-        alloc,
-        &can_job(false, Some(at_a), false, full),
-        "Err(SameStation)",
-        "to its own",
     );
 }
 
 #[test]
-fn corrections_and_leaves(rt: HostRuntime) {
+fn corrections(rt: HostRuntime) {
     let alloc = rt.alloc();
-    let at_a = Place::Station(name(&rt, "A"));
-    let (to_a, full) = (Goal::At(name(&rt, "A"), 1), Goal::At(name(&rt, "C"), 0));
     check_debug(
         &rt,
         alloc,
-        &can_correct(Some(at_a), false, Goal::Checking),
+        &can_correct(at(&rt, "A"), false, Goal::Checking),
         "Ok(())",
         "to check",
     );
     check_debug(
         &rt,
         alloc,
-        &can_correct(None, true, full),
+        &can_correct(None, true, to(&rt, "C", 0)),
         "Err(NoLoad)",
         "no load",
     );
+    let left = can_correct(Some(Place::Left), true, to(&rt, "C", 0));
+    check_debug(&rt, alloc, &left, "Err(Elsewhere)", "left");
+    let there = can_correct(at(&rt, "A"), false, to(&rt, "A", 1));
+    check_debug(&rt, alloc, &there, "Err(SameStation)", "there");
+}
+
+#[test]
+fn leaves(rt: HostRuntime) {
+    let alloc = rt.alloc();
     check_debug(
         &rt,
         alloc,
-        &can_correct(Some(Place::Left), true, full),
-        "Err(Elsewhere)",
-        "left",
-    );
-    check_debug(
-        &rt,
-        alloc,
-        &can_correct(Some(at_a), true, full),
-        "Err(InJob)",
-        "in a job",
-    );
-    check_debug(
-        &rt,
-        alloc,
-        &can_correct(Some(at_a), false, to_a),
-        "Err(SameStation)",
-        "there",
-    );
-    let there = can_correct(Some(Place::Checking), false, Goal::Checking);
-    check_debug(&rt, alloc, &there, "Err(SameStation)", "checked already");
-    check_debug(
-        &rt,
-        alloc,
-        &can_correct(Some(at_a), false, full),
-        "Err(Full)",
-        "to a full C",
-    );
-    check_debug(
-        &rt,
-        alloc,
-        &can_leave(Some(at_a), false),
+        &can_leave(at(&rt, "A"), false),
         "Ok(())",
         "it leaves",
     );
     check_debug(
         &rt,
         alloc,
-        &can_leave(Some(at_a), true),
+        &can_leave(at(&rt, "A"), true),
         "Err(InJob)",
         "in a job it stays",
     );

@@ -357,6 +357,7 @@ fn check_judgement(rt: &impl Abort, alloc: Global, case: &Judgement) {
     let (way, pending, update, node, last_seq, rows, wanted) = case;
     let trip = trip(rt, alloc, way);
     let state = state(rt, alloc, *update, node, *last_seq, rows);
+    assert!(rt; trip.acts.len() <= 8, "at most four jobs");
     check_debug(rt, alloc, &judge(&trip, *pending, &state), wanted, wanted);
 }
 
