@@ -10,6 +10,7 @@
 //! - `largest` has the largest layout, as a file, as rows and as a layout.
 //! - `routes` has routes on small layouts, on random ones and on the largest; `listing` is the plain program
 //!   that lists all walks, with which the random ones are compared.
+//! - `worlds` has changes that are carried out on a world in memory.
 #![tactic(auto)]
 
 #[cfg(test)]
@@ -32,3 +33,5 @@ mod messages;
 mod reports;
 #[cfg(test)]
 mod routes;
+#[cfg(test)]
+mod worlds;
