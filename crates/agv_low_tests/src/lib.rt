@@ -17,6 +17,7 @@
 //! - `tracks` has states of vehicles on the way, and what vehicles hold.
 //! - `trips` has trips that are built by hand, their messages, and what a vehicle does with these; which
 //!   stops can be carried out; and how statuses follow one another.
+//! - `worlds` has changes that are carried out on a world in memory.
 #![tactic(auto)]
 
 #[cfg(test)]
@@ -53,3 +54,5 @@ mod stocks;
 mod tracks;
 #[cfg(test)]
 mod trips;
+#[cfg(test)]
+mod worlds;

@@ -6,3 +6,4 @@ pub mod Worlds
 pub mod Rows
 pub mod Changes
 pub mod Kept
+pub mod GoodOrder

@@ -6,12 +6,14 @@
 //!   (`specs/Rows.antt`). A [`Change`] is one row written or removed (`specs/Changes.antt`).
 //! - In memory a [`World`] is the tables of its rows, but for the holds, which follow from the others
 //!   (`specs/Kept.antt`). [`World::apply`] carries out changes: all of them, or none.
+//! - Rows tell the world, and the holds among them are the vehicles' footprints ([`laws`]).
 //! - A [`Fault`] says why a question to what the desk knows has no answer.
 #![tactic(auto)]
 
 mod change;
 mod fault;
 mod key;
+pub mod laws;
 mod row;
 mod tables;
 mod world;

@@ -1,0 +1,50 @@
+-- What makes the rows of a world tell which world it is.
+use Rattle.std.specs.Prelude.{◌≡◌, Some}
+use Rattle.std.specs.FinMap as map
+use Rattle.std.specs.List.{AllByRecursion, Contains}
+use Rattle.agv_header.specs.declared.key.Thing.{Thing}
+use Rattle.agv_header.specs.declared.key.VehicleKey.{VehicleKey}
+use Rattle.agv_layout.specs.Layout.{Layout, IsEdge}
+use Rattle.agv_layout.specs.declared.edge.Edge.{Edge}
+use Rattle.agv_order.specs.declared.trip.Trip.{Trip}
+use Rattle.agv_track.specs.Footprints.{footprint_of}
+use Rattle.agv_world.specs.Rows.{standing_of}
+use Rattle.agv_world.specs.Worlds.{Vehicle, World}
+
+-- the world has the vehicle
+abbrev pub IsVehicle : World → VehicleKey → Vehicle → Type 0
+IsVehicle world key vehicle = map.get world.vehicles key ≡ Some vehicle
+
+-- the vehicle has the trip open
+abbrev pub HasTrip : World → VehicleKey → Trip → Type 0
+HasTrip world key trip = (vehicle : Vehicle) × IsVehicle world key vehicle × (vehicle.trip ≡ Some trip)
+
+-- the node or edge is in the footprint of the vehicle
+abbrev pub IsHolder : World → VehicleKey → Thing → Type 0
+IsHolder world key thing = (vehicle : Vehicle) × IsVehicle world key vehicle × Contains (footprint_of (standing_of vehicle)) thing
+
+-- no two vehicles have a trip of one order
+abbrev pub HasOneTripAnOrder : World → Type 0
+HasOneTripAnOrder world = (one other : VehicleKey) (trip further : Trip) → HasTrip world one trip → HasTrip world other further → trip.order ≡ further.order → one ≡ other
+
+-- each trip names the vehicle that has it open
+abbrev pub NamesItsVehicle : World → Type 0
+NamesItsVehicle world = (key : VehicleKey) (trip : Trip) → HasTrip world key trip → trip.vehicle ≡ key
+
+-- the layout has the edge, with its ends
+abbrev pub IsOfLayout : Layout → Edge → Type 0
+IsOfLayout layout edge = IsEdge layout edge.id (record { start = edge.start; finish = edge.finish })
+
+-- each edge of a trip is the layout's
+abbrev pub DrivesOnLayout : World → Type 0
+DrivesOnLayout world = (key : VehicleKey) (trip : Trip) → HasTrip world key trip → AllByRecursion (IsOfLayout world.layout) trip.edges
+
+-- no node or edge is in the footprints of two vehicles
+abbrev pub SharesNothing : World → Type 0
+SharesNothing world = (one other : VehicleKey) (thing : Thing) → IsHolder world one thing → IsHolder world other thing → one ≡ other
+
+-- what the rows need to tell the world
+pub record InGoodOrder (world : World) : Type 0 where
+  pub one_trip : HasOneTripAnOrder world
+  pub own : NamesItsVehicle world
+  pub known : DrivesOnLayout world

@@ -1,0 +1,21 @@
+//! What holds of rows, for every world. Each function does nothing: its clause is the law.
+ghost use Rattle.std.specs.Prelude.{◌≡◌, ◌↔◌, Some};
+ghost use Rattle.std.specs.FinMap as map;
+ghost use Rattle.agv_header.specs.declared.key.Thing.{Thing};
+ghost use Rattle.agv_header.specs.declared.key.VehicleKey.{VehicleKey};
+ghost use Rattle.agv_world.specs.GoodOrder.{InGoodOrder, IsHolder, SharesNothing};
+ghost use Rattle.agv_world.specs.Rows.{rows_of};
+ghost use Rattle.agv_world.specs.Worlds.{World};
+
+/// Where no node or edge is in the footprints of two vehicles, the table of holds has each vehicle's
+/// footprint, and nothing else.
+pub fn holds_are_footprints()
+    ensures { (world : World) → SharesNothing world → (thing : Thing) (key : VehicleKey)
+        → (map.get (rows_of world).holds thing ≡ Some key) ↔ IsHolder world key thing }
+{}
+
+/// Two worlds in good order that have the same rows are one.
+#[tactic(auto, using(crate::proofs::Unique::one_world))]
+pub fn rows_tell_the_world()
+    ensures { (world other : World) → InGoodOrder world → InGoodOrder other → rows_of world ≡ rows_of other → world ≡ other }
+{}
