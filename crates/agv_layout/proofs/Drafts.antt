@@ -32,7 +32,7 @@ leads-Decides draft ends =
     Decides-like _ (λ w. (w.0, w.1.0, w.1.1)) (λ w. (w.0, (w.1, w.2)))
     (Decides-and _ _ (at ends.start) (Decides-and _ _ (at ends.finish) (Decides-not _ (bytes_decides ends.start ends.finish))))
 
-le-Decides : (a b : ℕ) → Decides (nat_le a b) (a ≤ b)
+pub le-Decides : (a b : ℕ) → Decides (nat_le a b) (a ≤ b)
 le-Decides a b = (leb-true a b, le-leb a b)
 
 stands-Decides : (draft : Draft) (spot : Spot) → Decides (stands_in_draft draft spot) (Stands (drawn draft) spot)

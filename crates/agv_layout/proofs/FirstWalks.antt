@@ -1,5 +1,5 @@
 -- The first walk of just so many edges is the first of all of them, and where there is none no walk has so many.
-use Rattle.std.proofs.Common.{◌≡◌, ◌⊎◌, inl, inr, ⊎_elim, ℕ, zero, suc, Bool, true, false, cond, T, ◌&&◌, Option, Some, None, List, [], ◌∷◌, length, Ordering, Less, Equal, Greater, is_eq, is_lt, refl, sym, ap, subst, ◌∙◌, true≢false, arith}
+use Rattle.std.proofs.Common.{◌≡◌, ◌⊎◌, inl, inr, ⊎_elim, ℕ, zero, suc, true, false, cond, ◌&&◌, Option, Some, None, List, [], ◌∷◌, length, Ordering, Less, is_eq, is_lt, refl, sym, ap, subst, ◌∙◌, true≢false, arith}
 use Rattle.std.specs.BTreeMap.{is_at}
 use Rattle.std.specs.Cmp.Lexicographic.{slice_cmp}
 use Rattle.std.specs.FinMap as map
@@ -17,18 +17,10 @@ use Rattle.agv_layout.specs.declared.edge.Ends.{Ends}
 use Rattle.agv_layout.specs.Layout.{Layout, Name, IsEdge}
 use Rattle.agv_layout.specs.RouteOf.{onward, first_onward, walk_of}
 use Rattle.agv_layout.specs.Walk.{IsWalk, IsBefore}
+use Rattle.agv_layout.proofs.InOrder.{is_true, is_less}
 use Rattle.agv_layout.proofs.Maps.{names_total, same_name, ties_with_itself}
 
 -- ---- entries in the order of their names
-is_true : (b : Bool) → T b → b ≡ true
-is_true true h = refl
-is_true false h = absurd h
-
-is_less : (r : Ordering) → is_lt r ≡ true → r ≡ Less
-is_less Less h = refl
-is_less Equal h = absurd (true≢false (sym h))
-is_less Greater h = absurd (true≢false (sym h))
-
 -- an entry that is found among those after a name comes after it
 comes_after : (x id : Name) (ends : Ends) (es : List (Name × Ends)) → below_all name_cmp x es ≡ true → find name_cmp id es ≡ Some ends → name_cmp x id ≡ Less
 comes_after x id ends [] below found = cc

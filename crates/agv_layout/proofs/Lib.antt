@@ -4,6 +4,7 @@ mod FirstWalks
 mod Followed
 mod InOrder
 mod Joined
+mod LayoutGiven
 mod Levels
 mod Loops
 mod Maps
@@ -13,5 +14,6 @@ mod Order
 pub mod RouteFound
 mod Routes
 mod Rows
+mod RowsBack
 mod Sound
 mod Uniques

@@ -1,9 +1,9 @@
 -- Where a walk leads, one leads that takes no edge twice, and so has at most as many edges as there are.
-use Rattle.std.proofs.Common.{◌≡◌, ◌≤◌, Bool, true, false, ◌||◌, IsSome, List, [], ◌∷◌, length, refl, sym, ap, subst, ◌∙◌, true≢false}
+use Rattle.std.proofs.Common.{◌≡◌, ◌≤◌, true, false, ◌||◌, IsSome, List, [], ◌∷◌, length, refl, sym, ap, subst, ◌∙◌, true≢false}
 use Rattle.std.specs.BTreeMap.{is_at}
 use Rattle.std.specs.FinMap as map
 use Rattle.std.specs.FinMap.{get-entries, len-entries}
-use Rattle.std.specs.List.{list_any, AllByRecursion, IsDistinct}
+use Rattle.std.specs.List.{list_any, IsDistinct}
 use Rattle.std.specs.Ordering.{eq_by_cmp}
 use Rattle.std.proofs.lemmas.Map.Keys.{IsDistinct-cons, IsDistinct-tail}
 use Rattle.std.proofs.lemmas.Map.Steps.{length-le_from_keys}
@@ -12,7 +12,7 @@ use Rattle.agv_header.specs.Name.{name_cmp}
 use Rattle.agv_layout.specs.declared.edge.Ends.{Ends}
 use Rattle.agv_layout.specs.Layout.{Layout, Name, IsEdge}
 use Rattle.agv_layout.specs.Walk.{IsWalk}
-use Rattle.agv_layout.proofs.Maps.{names_equiv, same_name, find-lookup}
+use Rattle.agv_layout.proofs.Maps.{all_fail, names_equiv, same_name, find-lookup}
 
 -- no two names are the same
 abbrev AreApart : List Name → Type 0
@@ -21,14 +21,6 @@ AreApart ids = IsDistinct (eq_by_cmp name_cmp) ids
 none_apart : AreApart []
 unfolding IsDistinct
 none_apart = tt
-
-either_false : (b c : Bool) → (b || c) ≡ false → (b ≡ false) × (c ≡ false)
-either_false true c h = absurd (true≢false h)
-either_false false c h = (refl, h)
-
-all_fail : (test : Name → Bool) (ids : List Name) → list_any test ids ≡ false → AllByRecursion (λ id. test id ≡ false) ids
-all_fail test [] none = tt
-all_fail test (id ∷ ids) none = let parts = either_false (test id) (list_any test ids) none in (parts.0, all_fail test ids parts.1)
 
 module _ (layout : Layout) (to : Name) where
   -- a walk that takes no edge twice

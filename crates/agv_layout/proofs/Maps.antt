@@ -1,5 +1,5 @@
 -- A finite map of a list of entries, and a `BTreeMap` of them, answer alike; so do sets. And the order of names.
-use Rattle.std.proofs.Common.{arith, ◌≡◌, ℕ, suc, ◌+◌, Bool, true, false, cond, not, ◌||◌, List, [], ◌∷◌, length, is_some, Some, None, Option, Ordering, IfSome, All, Contains, Decides, refl, sym, ap, subst, ◌∙◌}
+use Rattle.std.proofs.Common.{arith, ◌≡◌, ℕ, suc, ◌+◌, Bool, true, false, cond, not, ◌||◌, List, [], ◌∷◌, length, is_some, Some, None, Option, Ordering, IfSome, All, Contains, Decides, refl, sym, ap, subst, true≢false, ◌∙◌}
 use Rattle.std.specs.BTreeMap.{is_at}
 use Rattle.std.specs.Cmp.{IsTotalOrder, IsEquivalence, eq_by_cmp_equiv}
 use Rattle.std.specs.Cmp.Lexicographic.{nat_list_cmp_total}
@@ -45,9 +45,17 @@ pub contains-shown : (ks : List (List ℕ)) (q : List ℕ) → set.contains (set
 contains-shown ks q = contains-from_list names_total ks q
 
 -- ---- how many
-none_passes : {K : Type 0} (test : K → Bool) (ks : List K) → AllByRecursion (λ k. test k ≡ false) ks → list_any test ks ≡ false
+pub none_passes : {K : Type 0} (test : K → Bool) (ks : List K) → AllByRecursion (λ k. test k ≡ false) ks → list_any test ks ≡ false
 none_passes test [] h = refl
 none_passes test (k ∷ ks) h = ap (λ b. b || list_any test ks) h.0 ∙ none_passes test ks h.1
+
+either_false : (b c : Bool) → (b || c) ≡ false → (b ≡ false) × (c ≡ false)
+either_false true c h = absurd (true≢false h)
+either_false false c h = (refl, h)
+
+pub all_fail : {K : Type 0} (test : K → Bool) (ks : List K) → list_any test ks ≡ false → AllByRecursion (λ k. test k ≡ false) ks
+all_fail test [] none = tt
+all_fail test (k ∷ ks) none = let parts = either_false (test k) (list_any test ks) none in (parts.0, all_fail test ks parts.1)
 
 one_more : (held : Bool) (n m : ℕ) → held ≡ false → n ≡ m → cond held n (n + 1) ≡ suc m
 one_more true n m e same = cc

@@ -15,13 +15,13 @@ use Rattle.std.proofs.lemmas.Map.Made.{is_member-Decides, length-from_keys, IsDi
 use Rattle.agv_header.specs.Name.{IsName, name_cmp}
 use Rattle.agv_layout.specs.declared.row.LayoutRow.{LayoutRow}
 use Rattle.agv_layout.specs.declared.row.LayoutRow.TheVariants as row
-use Rattle.agv_layout.specs.Draft.{plan_of}
+use Rattle.agv_layout.specs.LayoutOf.{layout_in}
 use Rattle.agv_layout.specs.Layout.{Name, Layout, KeepsRules}
 use Rattle.agv_layout.specs.Rows.{node_in, edge_in, station_in, nodes_in, edges_in, stations_in, Differ, LeadsAmong, StandsAmong, AreNamed, id_in, IsEachOnce, IsOverLimit, IsSound, IsLayoutOf, IsReadAlike}
 use Rattle.agv_layout.proofs.Drafts.{same_parts}
 use Rattle.agv_layout.proofs.Maps.{names_total, names_apart, names_equiv, decides_name, len-distinct, set_len-distinct}
 use Rattle.agv_layout.proofs.Rows.{AreDistinct, distinct_from}
-use Rattle.agv_layout.proofs.Sound.{said, sayer, layout_of, sound_from}
+use Rattle.agv_layout.proofs.Sound.{said, sayer, is_layout_of, sound_from}
 
 -- ---- what is read of rows in another order
 one_more : {Y : Type 0} (o : Option Y) (ys : List Y) → length (cons_option o ys) ≡ cond (is_some o) 1 0 + length ys
@@ -135,7 +135,7 @@ one_layout rows one other is was =
     (same_values one.stations other.stations _ is.stations was.stations)
 
 -- ---- rows that a layout gives back
-within_limits : (rows : List LayoutRow) → AreDistinct rows → KeepsRules (plan_of rows) → IsOverLimit rows → ⊥
+within_limits : (rows : List LayoutRow) → AreDistinct rows → KeepsRules (layout_in rows) → IsOverLimit rows → ⊥
 within_limits rows d plan =
     let few_nodes = subst (λ n. n ≤ 500) (set_len-distinct (nodes_in rows) d.nodes) plan.few_nodes in
     let few_edges = subst (λ n. n ≤ 1500) (len-distinct (edges_in rows) d.edges) plan.few_edges in
@@ -152,7 +152,7 @@ each_named rows layout is plan (row.Station id node capacity) among = plan.stati
 
 pub rows_of_layout : (rows : List LayoutRow) (layout : Layout) → IsEachOnce rows → IsLayoutOf rows layout → KeepsRules layout → (¬ IsOverLimit rows) × IsSound rows × AreNamed rows
 rows_of_layout rows layout once is plan =
-    let kept : KeepsRules (plan_of rows) = subst KeepsRules (one_layout rows layout (plan_of rows) is (layout_of rows once)) plan in (
+    let kept : KeepsRules (layout_in rows) = subst KeepsRules (one_layout rows layout (layout_in rows) is (is_layout_of rows once)) plan in (
       within_limits rows (distinct_from rows once) kept,
       sound_from rows once (record { some = kept.some; leads = kept.leads; stands = kept.stands }),
       λ k d lt. each_named rows layout is plan _ (Contains-get_or rows k d lt),

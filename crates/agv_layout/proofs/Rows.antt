@@ -15,7 +15,8 @@ use Rattle.std.proofs.lemmas.Map.Views.{Contains-from_any}
 use Rattle.agv_header.specs.Name.{name_cmp}
 use Rattle.agv_layout.specs.declared.row.LayoutRow.{LayoutRow}
 use Rattle.agv_layout.specs.declared.row.LayoutRow.TheVariants as row
-use Rattle.agv_layout.specs.Draft.{plan_of, has_id, with_row}
+use Rattle.agv_layout.specs.Draft.{has_id, with_row}
+use Rattle.agv_layout.specs.LayoutOf.{layout_in}
 use Rattle.agv_layout.specs.Layout.{Name}
 use Rattle.agv_layout.specs.Rows.{node_in, edge_in, station_in, nodes_in, edges_in, stations_in, Differ, IsEachOnce}
 use Rattle.agv_layout.proofs.Drafts.{same_parts}
@@ -73,7 +74,7 @@ keys_pushed es k v new once =
     let absent = sym (ap is_some (get-shown es k) ∙ is_some-lookup (is_at (name_cmp k)) es) ∙ new in
     subst (IsDistinct (eq_by_cmp name_cmp)) (sym (keys_of-append es ((k, v) ∷ []))) (IsDistinct-push names_equiv (keys_of es) k once absent)
 
-pub plan_more : (rows : List LayoutRow) (r : LayoutRow) → has_id (plan_of rows) r ≡ false → plan_of (rows ++ r ∷ []) ≡ with_row (plan_of rows) r
+pub plan_more : (rows : List LayoutRow) (r : LayoutRow) → has_id (layout_in rows) r ≡ false → layout_in (rows ++ r ∷ []) ≡ with_row (layout_in rows) r
 plan_more rows (row.Node id) new =
     let r = row.Node id in
     same_parts _ _ _ _ _ _ (ap (set.from_list {R = name_cmp}) (this_kind node_in rows [] r id refl) ∙ set.from_list_push names_total names_apart (nodes_in rows) id)
@@ -93,7 +94,7 @@ distinct_ids ids = IsDistinct (eq_by_cmp name_cmp) ids
 distinct_keys : {X : Type 0} → List (Name × X) → Type 0
 distinct_keys es = IsDistinct (eq_by_cmp name_cmp) (keys_of es)
 
-pub distinct_more : (rows : List LayoutRow) (r : LayoutRow) → AreDistinct rows → has_id (plan_of rows) r ≡ false → AreDistinct (rows ++ r ∷ [])
+pub distinct_more : (rows : List LayoutRow) (r : LayoutRow) → AreDistinct rows → has_id (layout_in rows) r ≡ false → AreDistinct (rows ++ r ∷ [])
 unfolding distinct_ids distinct_keys
 distinct_more rows (row.Node id) d new =
     let r = row.Node id in
@@ -130,7 +131,7 @@ keys_not_again es more k v has differ =
     not_again (keys_of es) (keys_of more) k (sym (ap is_some (get-shown es k) ∙ is_some-lookup (is_at (name_cmp k)) es) ∙ has)
     (subst Differ (keys_of-append es ((k, v) ∷ more)) differ)
 
-pub twice : (rows more : List LayoutRow) (r : LayoutRow) → has_id (plan_of rows) r ≡ true → IsEachOnce (rows ++ r ∷ more) → ⊥
+pub twice : (rows more : List LayoutRow) (r : LayoutRow) → has_id (layout_in rows) r ≡ true → IsEachOnce (rows ++ r ∷ more) → ⊥
 twice rows more (row.Node id) has once =
     not_again (nodes_in rows) (nodes_in more) id (sym (contains-shown (nodes_in rows) id) ∙ has) (subst Differ (this_kind node_in rows more _ id refl) once.nodes)
 twice rows more (row.Edge id start finish) has once =

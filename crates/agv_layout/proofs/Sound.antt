@@ -8,7 +8,8 @@ use Rattle.agv_layout.specs.declared.edge.Ends.{Ends}
 use Rattle.agv_layout.specs.declared.row.LayoutRow.{LayoutRow}
 use Rattle.agv_layout.specs.declared.row.LayoutRow.TheVariants as row
 use Rattle.agv_layout.specs.declared.station.Spot.{Spot}
-use Rattle.agv_layout.specs.Draft.{plan_of, IsWhole}
+use Rattle.agv_layout.specs.Draft.{IsWhole}
+use Rattle.agv_layout.specs.LayoutOf.{layout_in}
 use Rattle.agv_layout.specs.Layout.{Name, Leads, Stands, KeepsRules}
 use Rattle.agv_layout.specs.Rows.{node_in, edge_in, station_in, nodes_in, edges_in, stations_in, LeadsAmong, StandsAmong, AreNamed, id_in, IsEachOnce, IsOverLimit, IsSound, IsLayoutOf}
 use Rattle.agv_layout.proofs.Maps.{contains-Decides, get_found, get_entry, each_found, all_values, len-distinct, set_len-distinct}
@@ -80,8 +81,8 @@ found_station : (rows : List LayoutRow) (id : Name) (spot : Spot) → Contains (
 found_station rows id spot among = let from = sayer station_in rows (id, spot) among in subst (Contains rows) (station_row from.0 id spot from.2) from.1
 
 -- ---- the layout of the rows
-pub layout_of : (rows : List LayoutRow) → IsEachOnce rows → IsLayoutOf rows (plan_of rows)
-layout_of rows once =
+pub is_layout_of : (rows : List LayoutRow) → IsEachOnce rows → IsLayoutOf rows (layout_in rows)
+is_layout_of rows once =
     let d = distinct_from rows once in
     record {
       nodes = λ id. (
@@ -98,19 +99,19 @@ layout_of rows once =
       );
     }
 
-leads_among : (rows : List LayoutRow) (ends : Ends) → Leads (plan_of rows) ends → LeadsAmong (nodes_in rows) ends
+leads_among : (rows : List LayoutRow) (ends : Ends) → Leads (layout_in rows) ends → LeadsAmong (nodes_in rows) ends
 leads_among rows ends leads = let at = contains-Decides (nodes_in rows) in ((at ends.start).0 leads.0, (at ends.finish).0 leads.1, leads.2)
 
-leads_in : (rows : List LayoutRow) (ends : Ends) → LeadsAmong (nodes_in rows) ends → Leads (plan_of rows) ends
+leads_in : (rows : List LayoutRow) (ends : Ends) → LeadsAmong (nodes_in rows) ends → Leads (layout_in rows) ends
 leads_in rows ends leads = let at = contains-Decides (nodes_in rows) in ((at ends.start).1 leads.0, (at ends.finish).1 leads.1, leads.2)
 
-stands_among : (rows : List LayoutRow) (spot : Spot) → Stands (plan_of rows) spot → StandsAmong (nodes_in rows) spot
+stands_among : (rows : List LayoutRow) (spot : Spot) → Stands (layout_in rows) spot → StandsAmong (nodes_in rows) spot
 stands_among rows spot stands = ((contains-Decides (nodes_in rows) spot.node).0 stands.0, stands.1, stands.2)
 
-stands_in : (rows : List LayoutRow) (spot : Spot) → StandsAmong (nodes_in rows) spot → Stands (plan_of rows) spot
+stands_in : (rows : List LayoutRow) (spot : Spot) → StandsAmong (nodes_in rows) spot → Stands (layout_in rows) spot
 stands_in rows spot stands = ((contains-Decides (nodes_in rows) spot.node).1 stands.0, stands.1, stands.2)
 
-pub sound_from : (rows : List LayoutRow) → IsEachOnce rows → IsWhole (plan_of rows) → IsSound rows
+pub sound_from : (rows : List LayoutRow) → IsEachOnce rows → IsWhole (layout_in rows) → IsSound rows
 sound_from rows once whole =
     let d = distinct_from rows once in
     record {
@@ -120,7 +121,7 @@ sound_from rows once whole =
       stands = all_values (StandsAmong (nodes_in rows)) (stations_in rows) d.stations (λ id spot is. stands_among rows spot (whole.stands id spot is));
     }
 
-pub whole_from : (rows : List LayoutRow) → IsSound rows → IsWhole (plan_of rows)
+pub whole_from : (rows : List LayoutRow) → IsSound rows → IsWhole (layout_in rows)
 whole_from rows sound =
     let d = distinct_from rows sound.once in
     record {
@@ -133,10 +134,10 @@ whole_from rows sound =
 within : (n most : ℕ) → (most < n → ⊥) → n ≤ most
 within n most few = omega arith
 
-pub plan_from : (rows : List LayoutRow) → (IsOverLimit rows → ⊥) → IsEachOnce rows → AreNamed rows → IsWhole (plan_of rows) → KeepsRules (plan_of rows)
+pub plan_from : (rows : List LayoutRow) → (IsOverLimit rows → ⊥) → IsEachOnce rows → AreNamed rows → IsWhole (layout_in rows) → KeepsRules (layout_in rows)
 plan_from rows few once named whole =
     let d = distinct_from rows once in
-    let is = layout_of rows once in
+    let is = is_layout_of rows once in
     let name = λ (r : LayoutRow) (among : Contains rows r). All-contains (λ x. IsName (id_in x)) rows r named among in
     record {
       some = whole.some;

@@ -1,5 +1,5 @@
 -- What is read of rows so far, as a layout's parts.
-use Rattle.std.specs.Prelude.{◌≤◌, Bool, ◌&&◌, not, nat_eq, nat_le, List, is_some}
+use Rattle.std.specs.Prelude.{◌≤◌, Bool, ◌&&◌, not, nat_eq, nat_le, is_some}
 use Rattle.std.specs.BTreeSet.{contains}
 use Rattle.std.specs.Cmp.Lexicographic.{pointwise}
 use Rattle.std.specs.FinMap as map
@@ -11,7 +11,6 @@ use Rattle.agv_layout.specs.declared.row.LayoutRow.{LayoutRow}
 use Rattle.agv_layout.specs.declared.row.LayoutRow.TheVariants as row
 use Rattle.agv_layout.specs.declared.station.Spot.{Spot}
 use Rattle.agv_layout.specs.Layout.{Name, Layout, IsEdge, IsStation, Leads, Stands}
-use Rattle.agv_layout.specs.Rows.{nodes_in, edges_in, stations_in}
 
 -- the parts of a draft
 abbrev pub drawn : Draft → Layout
@@ -19,14 +18,6 @@ drawn draft = record {
   nodes = set.from_list draft.nodes.keys;
   edges = map.from_entries draft.edges.entries;
   stations = map.from_entries draft.stations.entries;
-}
-
--- the parts that rows give, where no id is twice in its kind
-abbrev pub plan_of : List LayoutRow → Layout
-plan_of rows = record {
-  nodes = set.from_list (nodes_in rows);
-  edges = map.from_entries (edges_in rows);
-  stations = map.from_entries (stations_in rows);
 }
 
 -- whether something of the row's kind has its id already

@@ -9,3 +9,4 @@ pub mod Shown
 pub mod Walk
 pub mod Walking
 pub mod Ways
+pub mod LayoutOf

@@ -2,7 +2,8 @@
 ghost use Rattle.std.specs.Prelude.{◌≡◌, ◌↔◌, ◌&&◌, not, nat_eq, nat_le, [], Err, false, true, IsTrue, IfOk, IfErr, OnOk};
 ghost use Rattle.std.specs.Cmp.Lexicographic.{pointwise};
 ghost use Rattle.agv_layout.specs.declared.fault.LayoutFault.TheVariants as fault;
-ghost use Rattle.agv_layout.specs.Draft.{drawn, plan_of, has_id, with_row, leads_in_draft, stands_in_draft, HasNode, AllLead, AllStand, IsWhole};
+ghost use Rattle.agv_layout.specs.Draft.{drawn, has_id, with_row, leads_in_draft, stands_in_draft, HasNode, AllLead, AllStand, IsWhole};
+ghost use Rattle.agv_layout.specs.LayoutOf.{layout_in};
 ghost use Rattle.agv_header.specs.Name.{IsName};
 ghost use Rattle.agv_layout.specs.Rows.{AreNamed, IsEachOnce, id_in};
 
@@ -35,7 +36,7 @@ pub(crate) struct Draft {
 
 impl Draft {
     fn new(alloc: Global) -> Draft
-        ensures { drawn result ≡ plan_of [] }
+        ensures { drawn result ≡ layout_in [] }
     {
         Draft {
             nodes: BTreeSet::new(alloc),
@@ -80,7 +81,7 @@ impl Draft {
     // `Bad` where an id is twice in its kind.
     pub(crate) fn of_rows(alloc: Global, rows: &[LayoutRow]) -> Result<Draft, LayoutFault>
         ensures once { OnOk result (IsEachOnce rows.now) }
-        ensures drawn { IfOk result (λ draft. drawn draft ≡ plan_of rows.now) }
+        ensures drawn { IfOk result (λ draft. drawn draft ≡ layout_in rows.now) }
         ensures bad { result ≡ Err fault.Bad → ¬ (IsEachOnce rows.now) }
         ensures limit { result ≡ Err fault.Limit → ⊥ }
         ensures named { OnOk result (AreNamed rows.now) }

@@ -1,8 +1,10 @@
 //! What holds of the definitions that the contracts of this crate cite, whatever the code does.
 //! Each function does nothing: its clause is the law.
-ghost use Rattle.std.specs.Prelude.{◌≡◌, List, ◌++◌, Option, length, option_map};
+ghost use Rattle.std.specs.Prelude.{◌≡◌, List, ◌++◌, Ok, Option, length, option_map};
+ghost use Rattle.std.specs.FinSet as set;
 ghost use Rattle.agv_layout.specs.declared.row.LayoutRow.{LayoutRow};
-ghost use Rattle.agv_layout.specs.Layout.{Layout as Plan, Name as NameOf, IsNode, KeepsRules};
+ghost use Rattle.agv_layout.specs.Layout.{Layout as Plan, Name as NameOf, AreNodesInOrder, IsNode, KeepsRules};
+ghost use Rattle.agv_layout.specs.LayoutOf.{layout_of, nodes_of, rows_in};
 ghost use Rattle.agv_layout.specs.RouteOf.{route_of};
 ghost use Rattle.agv_layout.specs.Rows.{AreNamed, IsEachOnce, IsLayoutOf, IsOverLimit, IsReadAlike, IsSound};
 ghost use Rattle.std.specs.List.Sorted.{IsPermutation};
@@ -24,6 +26,26 @@ pub fn is_one_layout()
 pub fn gives_sound_rows()
     ensures { (rows : List LayoutRow) (layout : Plan) → IsEachOnce rows → IsLayoutOf rows layout → KeepsRules layout
         → (¬ IsOverLimit rows) × IsSound rows × AreNamed rows }
+{}
+
+/// The rows of a layout give it again.
+pub fn gives_itself()
+    ensures { (layout : Plan) → KeepsRules layout → layout_of (rows_in layout) ≡ Ok layout }
+{}
+
+/// The nodes of a layout are listed each once, in the order of their names.
+pub fn lists_its_nodes()
+    ensures { (layout : Plan) → AreNodesInOrder layout (nodes_of layout) }
+{}
+
+/// What rows give keeps the rules of a layout.
+pub fn keeps_rules()
+    ensures { (rows : List LayoutRow) (layout : Plan) → AreNamed rows → layout_of rows ≡ Ok layout → KeepsRules layout }
+{}
+
+/// The rows of what has no node give no layout.
+pub fn needs_a_node()
+    ensures { (empty layout : Plan) → empty.nodes ≡ set.empty → ¬ (layout_of (rows_in empty) ≡ Ok layout) }
 {}
 
 /// There is one way from a node to another, or none.

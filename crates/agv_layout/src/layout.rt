@@ -1,9 +1,10 @@
 //! Layouts, and what they say of a name.
-ghost use Rattle.std.specs.Prelude.{◌≡◌, ◌↔◌, Err, IfOk, option_map};
+ghost use Rattle.std.specs.Prelude.{◌≡◌, ◌≢◌, ◌↔◌, Ok, Err, IfOk, IfErr, option_map};
 ghost use Rattle.std.specs.FinMap as map;
 ghost use Rattle.std.specs.FinSet as set;
 ghost use Rattle.agv_layout.specs.declared.fault.LayoutFault.TheVariants as fault;
 ghost use Rattle.agv_layout.specs.Layout.{Layout as Plan, AreNodesInOrder, edge_of, station_of, KeepsRules};
+ghost use Rattle.agv_layout.specs.LayoutOf.{layout_of};
 ghost use Rattle.agv_layout.specs.Rows.{IsOverLimit, IsSound, IsLayoutOf};
 
 use crate::draft::Draft;
@@ -58,6 +59,8 @@ impl Layout {
         ensures ok { IfOk result (λ layout. (¬ (IsOverLimit rows.now)) × IsSound rows.now × IsLayoutOf rows.now layout) }
         ensures limit { (result ≡ Err fault.Limit) ↔ IsOverLimit rows.now }
         ensures bad { result ≡ Err fault.Bad → (¬ (IsOverLimit rows.now)) × (¬ (IsSound rows.now)) }
+        ensures given { IfOk result (λ layout. layout_of rows.now ≡ Ok layout) }
+        ensures refused { IfErr result (λ error. error ≢ fault.Memory → layout_of rows.now ≡ Err error) }
     {
         if are_over_limit(rows) {
             return Err(LayoutFault::Limit);

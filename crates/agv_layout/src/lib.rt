@@ -1,7 +1,8 @@
 //! The layout of one warehouse, and the routes on it.
 //!
 //! - A [`Layout`] has nodes, edges from node to node, and stations at nodes. [`Layout::of_rows`]
-//!   makes one of its rows, in any order, and refuses rows that are no layout.
+//!   makes one of its rows, in any order, and refuses rows that are no layout. [`Layout::rows`]
+//!   lists the rows again.
 //! - [`Layout::node`], [`Layout::edge`] and [`Layout::station`] look a name up, without memory.
 //! - [`Layout::nodes`], [`Layout::edges`] and [`Layout::stations`] go through a layout in the order of names, and
 //!   [`Layout::node_count`] and its like count, all without memory.
@@ -16,6 +17,7 @@ mod edge;
 mod fault;
 pub mod laws;
 mod layout;
+mod listed;
 mod route;
 mod row;
 mod station;

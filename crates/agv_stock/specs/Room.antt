@@ -1,6 +1,8 @@
 -- Where loads are, and how much room a station has left (this project's profile).
 use Rattle.std.specs.Prelude.{ℕ, ◌-◌, ◌&&◌, nat_eq, Bool, true, false, List, count_by}
 use Rattle.std.specs.Cmp.Lexicographic.{pointwise}
+use Rattle.agv_header.specs.KeyOrder.{key_eq}
+use Rattle.agv_header.specs.declared.key.VehicleKey.{VehicleKey}
 use Rattle.agv_layout.specs.declared.station.Station.{Station as StationOf}
 use Rattle.agv_stock.specs.Phase.{is_live}
 use Rattle.agv_stock.specs.declared.job.Job.{Job}
@@ -13,6 +15,13 @@ is_at name (Station id) = pointwise nat_eq id name
 is_at name (Vehicle key) = false
 is_at name Checking = false
 is_at name Left = false
+
+-- the place is this vehicle
+abbrev pub is_on : VehicleKey → Place → Bool
+is_on key (Station id) = false
+is_on key (Vehicle by) = key_eq by key
+is_on key Checking = false
+is_on key Left = false
 
 -- the place is the checking place
 abbrev pub is_checking : Place → Bool

@@ -1,9 +1,9 @@
 //! How much room a station has left.
 ghost use Rattle.std.specs.Prelude.{◌≡◌, ◌+◌, count_by};
-ghost use Rattle.agv_stock.specs.Room.{is_at, goes_to, room_left, room_of};
+ghost use Rattle.agv_stock.specs.Room.{is_at, is_on, goes_to, room_left, room_of};
 
 use crate::{Job, Place};
-use agv_header::Name;
+use agv_header::{Name, VehicleKey};
 use agv_layout::Station;
 
 impl Place {
@@ -14,6 +14,16 @@ impl Place {
         match self {
             Place::Station(id) => *id == name,
             Place::Vehicle(_) | Place::Checking | Place::Left => false,
+        }
+    }
+
+    /// Whether it is this vehicle.
+    pub fn is_on(&self, key: &VehicleKey) -> bool
+        ensures { result ≡ is_on key.now self.now }
+    {
+        match self {
+            Place::Vehicle(by) => *by == *key,
+            Place::Station(_) | Place::Checking | Place::Left => false,
         }
     }
 }

@@ -26,8 +26,8 @@ pub(crate) fn reported_node(state: &StateMessage) -> u32
     }
 }
 
-// The name of node k.
-pub(crate) fn node_at(trip: &Trip, k: u32) -> Option<Name>
+/// The name of node k of the trip's way: its start, and then the finish of each edge; none past the end.
+pub fn node_at(trip: &Trip, k: u32) -> Option<Name>
     ensures { result ≡ node_at trip.now k }
 {
     if k == 0 {
