@@ -1,5 +1,5 @@
 -- The entries of a finite map: at the key of each the map has its value.
-use Rattle.std.proofs.Common.{◌≡◌, ◌&&◌, Bool, true, false, cond, T, List, [], ◌∷◌, Some, None, Ordering, Less, Equal, Greater, is_eq, is_lt, unwrap_or, refl, ap, ◌∙◌}
+use Rattle.std.proofs.Common.{◌≡◌, ◌&&◌, Bool, true, false, cond, T, List, [], ◌∷◌, Option, Some, None, Ordering, Less, Equal, Greater, is_eq, is_lt, unwrap_or, refl, sym, ap, ◌∙◌}
 use Rattle.std.specs.Cmp.{IsTotalOrder, tied_itself, Equal-is}
 use Rattle.std.specs.FinMap.{FinMap, IsAntisymmetric, get, entries, find, get-entries, entries_sorted}
 use Rattle.std.specs.FinMap.Entries.{below_all, is_sorted}
@@ -11,6 +11,12 @@ no_more x e = cc
 
 pub same_Some : {A : Type 0} (x y : A) → Some x ≡ Some y → x ≡ y
 same_Some x y e = ap (λ o. unwrap_or o x) e
+
+-- two values that are there alike are one
+pub alike : {Y : Type 0} (x y : Option Y) → ((z : Y) → x ≡ Some z → y ≡ Some z) → ((z : Y) → y ≡ Some z → x ≡ Some z) → x ≡ y
+alike None None f g = refl
+alike None (Some y) f g = g y refl
+alike (Some x) y f g = sym (f x refl)
 
 left : (a b : Bool) → T (a && b) → T a
 left true b p = tt

@@ -17,10 +17,10 @@ use Rattle.agv_world.specs.Worlds.{Vehicle, World}
 use Rattle.agv_world.proofs.Entries.{no_more, same_Some, is_same}
 use Rattle.agv_world.proofs.Spreads.{IsApart, IsSpread, spread_is}
 
-abbrev has : Thing → List Thing → Bool
+abbrev pub has : Thing → List Thing → Bool
 has q things = list_any (eq_by_cmp thing_cmp q) things
 
-find-run : (key : VehicleKey) (q : Thing) (things : List Thing) → find thing_cmp q (map (λ thing. (thing, key)) things) ≡ cond (has q things) (Some key) None
+pub find-run : (key : VehicleKey) (q : Thing) (things : List Thing) → find thing_cmp q (map (λ thing. (thing, key)) things) ≡ cond (has q things) (Some key) None
 find-run key q [] = refl
 find-run key q (thing ∷ things) = elim (eq_by_cmp thing_cmp q thing) as (λ b. cond b (Some key) (find thing_cmp q (map (λ other. (other, key)) things)) ≡ cond (b || has q things) (Some key) None) [
   | true ↦ refl
@@ -31,20 +31,20 @@ if_has : (b : Bool) (v y : VehicleKey) → cond b (Some v) None ≡ Some y → (
 if_has true v y e = (refl, sym (same_Some v y e))
 if_has false v y e = absurd (no_more y e)
 
-held_at : (key : VehicleKey) (vehicle : Vehicle) (q : Thing) (y : VehicleKey) → find thing_cmp q (hold_rows key vehicle) ≡ Some y → Contains (footprint_of (standing_of vehicle)) q × (y ≡ key)
+pub held_at : (key : VehicleKey) (vehicle : Vehicle) (q : Thing) (y : VehicleKey) → find thing_cmp q (hold_rows key vehicle) ≡ Some y → Contains (footprint_of (standing_of vehicle)) q × (y ≡ key)
 held_at key vehicle q y e =
     let told = if_has (has q (footprint_of (standing_of vehicle))) key y (sym (find-run key q (footprint_of (standing_of vehicle))) ∙ e) in
     (Contains-from_any (is_same thing_cmp-IsAntisymmetric) q _ told.0, told.1)
 
-held : (key : VehicleKey) (vehicle : Vehicle) (q : Thing) → Contains (footprint_of (standing_of vehicle)) q → find thing_cmp q (hold_rows key vehicle) ≡ Some key
+pub held : (key : VehicleKey) (vehicle : Vehicle) (q : Thing) → Contains (footprint_of (standing_of vehicle)) q → find thing_cmp q (hold_rows key vehicle) ≡ Some key
 held key vehicle q among =
     find-run key q (footprint_of (standing_of vehicle)) ∙ ap (λ b. cond b (Some key) None) (list_any-from_Contains (eq_by_cmp_equiv thing_cmp-total) q _ among)
 
 module _ (world : World) (shares : SharesNothing world) where
-  holds_apart : IsApart thing_cmp hold_rows world.vehicles
+  pub holds_apart : IsApart thing_cmp hold_rows world.vehicles
   holds_apart k l x z q y w g h f e = shares k l q (x, g, (held_at k x q y f).0) (z, h, (held_at l z q w e).0)
 
-  holds_are : IsSpread thing_cmp hold_rows world.vehicles
+  pub holds_are : IsSpread thing_cmp hold_rows world.vehicles
   holds_are = spread_is key_cmp-total key_cmp-IsAntisymmetric thing_cmp thing_cmp-total hold_rows world.vehicles holds_apart
 
 -- the row of a node or edge has its holder

@@ -1,16 +1,34 @@
 -- A finite map of entries and the tree that keeps them answer alike; so do a finite set and its tree.
-use Rattle.std.proofs.Common.{◌≡◌, Bool, true, false, cond, ◌||◌, List, [], ◌∷◌, Some, None, Ordering, refl, sym, ap, ◌∙◌}
+use Rattle.std.proofs.Common.{◌≡◌, Bool, true, false, cond, ◌||◌, List, [], ◌∷◌, Some, None, Ordering, Less, refl, sym, ap, ◌∙◌}
 use Rattle.std.specs.BTreeMap.{is_at}
 use Rattle.std.specs.Cmp.{IsTotalOrder, eq_by_cmp_equiv}
-use Rattle.std.specs.FinMap.{IsAntisymmetric, get, insert, remove, from_entries, find, get-from_entries, get-insert, get-remove, same_map}
+use Rattle.std.specs.FinMap.{IsAntisymmetric, get, insert, remove, entries, from_entries, find, get-from_entries, get-insert, get-remove, entries-insert, len-entries, len-empty, same_map}
+use Rattle.std.specs.FinMap.Entries.{put, by_order}
 use Rattle.std.specs.FinSet as set
-use Rattle.std.specs.List.{list_any}
-use Rattle.std.specs.Map.{lookup}
+use Rattle.std.specs.List.{list_any, AllByRecursion}
+use Rattle.std.specs.List.Sorted.{IsStrictlySortedBy}
+use Rattle.std.specs.Map.{keys_of, lookup}
 use Rattle.std.specs.Ordering.{eq_by_cmp}
+use Rattle.std.proofs.lemmas.List.{nil_from_length}
+use Rattle.std.proofs.lemmas.Map.Keys.{sorted_head, sorted_tail}
 
 or-cond : (b c : Bool) → cond b true c ≡ (b || c)
 or-cond true c = refl
 or-cond false c = refl
+
+-- ---- maps in order
+module _ {K X : Type 0} {R : K → K → Ordering} (total : IsTotalOrder R) where
+  put_first : (k : K) (v : X) (es : List (K × X)) → AllByRecursion (λ y. R k y ≡ Less) (keys_of es) → put R k v es ≡ (k, v) ∷ es
+  put_first k v [] below = refl
+  put_first k v (e ∷ es) below = ap (λ o. by_order o ((k, v) ∷ e ∷ es) ((e.0, v) ∷ es) (e ∷ put R k v es)) below.0
+
+  -- the map of entries in order lists them
+  pub entries-shown : (es : List (K × X)) → IsStrictlySortedBy R (keys_of es) → entries (from_entries {R = R} es) ≡ es
+  entries-shown [] ordered = nil_from_length _ (sym (len-entries _) ∙ len-empty R X)
+  entries-shown (e ∷ es) ordered =
+      entries-insert total (from_entries es) e.0 e.1
+      ∙ ap (put R e.0 e.1) (entries-shown es (sorted_tail R e.0 (keys_of es) ordered))
+      ∙ put_first e.0 e.1 es (sorted_head R e.0 (keys_of es) ordered)
 
 -- ---- maps
 module _ {K X : Type 0} {R : K → K → Ordering} (total : IsTotalOrder R) where

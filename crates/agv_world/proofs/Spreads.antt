@@ -8,7 +8,7 @@ use Rattle.std.specs.Ordering.{eq_by_cmp}
 use Rattle.agv_world.specs.Spread.{spread}
 use Rattle.agv_world.proofs.Entries.{no_more, same_Some, is_same, entries_found}
 
-find-append : {Q Y : Type 0} (S : Q → Q → Ordering) (q : Q) (xs ys : List (Q × Y)) → find S q (xs ++ ys) ≡ option_or (find S q xs) (find S q ys)
+pub find-append : {Q Y : Type 0} (S : Q → Q → Ordering) (q : Q) (xs ys : List (Q × Y)) → find S q (xs ++ ys) ≡ option_or (find S q xs) (find S q ys)
 find-append S q [] ys = refl
 find-append S q (e ∷ xs) ys =
     elim (eq_by_cmp S q e.0) as (λ b. cond b (Some e.1) (find S q (xs ++ ys)) ≡ option_or (cond b (Some e.1) (find S q xs)) (find S q ys)) [

@@ -1,9 +1,8 @@
 -- The rows of a world in good order tell which world it is.
-use Rattle.std.proofs.Common.{◌≡◌, ◌||◌, ℕ, ◌+◌, Bool, true, false, List, [], ◌∷◌, ◌++◌, map, Option, Some, None, refl, sym, ap, subst, ◌∙◌}
+use Rattle.std.proofs.Common.{◌≡◌, ℕ, ◌+◌, List, [], ◌∷◌, Some, refl, sym, ap, subst, ◌∙◌}
 use Rattle.std.specs.FinMap.{FinMap, get, find, same_map}
 use Rattle.std.specs.FinSet as set
-use Rattle.std.specs.List.{AllByRecursion, list_any}
-use Rattle.std.specs.Ordering.{eq_by_cmp}
+use Rattle.std.specs.List.{AllByRecursion}
 use Rattle.agv_header.specs.Key.{key_cmp}
 use Rattle.agv_header.specs.KeyOrder.{key_cmp-total, key_cmp-IsAntisymmetric}
 use Rattle.agv_header.specs.Name.{name_cmp}
@@ -13,49 +12,29 @@ use Rattle.agv_layout.specs.declared.edge.Edge.{Edge}
 use Rattle.agv_layout.specs.declared.edge.Ends.{Ends}
 use Rattle.agv_order.specs.declared.trip.Trip.{Trip}
 use Rattle.agv_world.specs.GoodOrder.{InGoodOrder, HasTrip, IsOfLayout}
-use Rattle.agv_world.specs.KeyOrders.{leg_cmp-total, use_cmp-total}
-use Rattle.agv_world.specs.Keys.{leg_cmp, use_cmp}
-use Rattle.agv_world.specs.Rows.{Rows, rows_of, vehicle_rows, trip_rows, rows_of_trip, trip_row, leg_rows, legs_of_trip, used_names}
+use Rattle.agv_world.specs.KeyOrders.{leg_cmp-total}
+use Rattle.agv_world.specs.Keys.{leg_cmp}
+use Rattle.agv_world.specs.Rows.{Rows, rows_of, vehicle_rows, trip_rows, rows_of_trip, trip_row, leg_rows, legs_of_trip}
 use Rattle.agv_world.specs.Spread.{spread}
 use Rattle.agv_world.specs.Worlds.{Vehicle, World}
 use Rattle.agv_world.specs.declared.key.LegKey.{LegKey}
-use Rattle.agv_world.specs.declared.key.UseKey.{UseKey}
-use Rattle.agv_world.specs.declared.key.UseKind.TheVariants.{Order, Reference}
 use Rattle.agv_world.specs.declared.row.TripRow.{TripRow}
-use Rattle.agv_world.proofs.Entries.{no_more, same_Some}
+use Rattle.agv_world.proofs.Apart.{vehicles_apart, trips_apart, legs_apart}
+use Rattle.agv_world.proofs.Entries.{no_more, same_Some, alike}
 use Rattle.agv_world.proofs.Orders.{names_total, names_apart}
 use Rattle.agv_world.proofs.RowKeys.{one_key, own_key, trip_at, numbered, leg_at, number_key, leg_of, first_leg, later_leg}
-use Rattle.agv_world.proofs.Spreads.{IsApart, IsSpread, spread_is}
-
-alike : {Y : Type 0} (x y : Option Y) → ((z : Y) → x ≡ Some z → y ≡ Some z) → ((z : Y) → y ≡ Some z → x ≡ Some z) → x ≡ y
-alike None None f g = refl
-alike None (Some y) f g = g y refl
-alike (Some x) y f g = sym (f x refl)
+use Rattle.agv_world.proofs.UsedKeys.{order_key, reference_key, used_order, used_reference}
+use Rattle.agv_world.proofs.Spreads.{IsSpread, spread_is}
 
 -- ---- the tables that come from the vehicles
-vehicles_of : (world : World) → IsSpread key_cmp vehicle_rows world.vehicles
-vehicles_of world = spread_is key_cmp-total key_cmp-IsAntisymmetric key_cmp key_cmp-total vehicle_rows world.vehicles once
-  where
-    once : IsApart key_cmp vehicle_rows world.vehicles
-    once k l x z q y w g h f e = sym (one_key key_cmp-IsAntisymmetric q k x.row y f).0 ∙ (one_key key_cmp-IsAntisymmetric q l z.row w e).0
+pub vehicles_of : (world : World) → IsSpread key_cmp vehicle_rows world.vehicles
+vehicles_of world = spread_is key_cmp-total key_cmp-IsAntisymmetric key_cmp key_cmp-total vehicle_rows world.vehicles (vehicles_apart world)
 
-trips_of : (world : World) → InGoodOrder world → IsSpread name_cmp trip_rows world.vehicles
-trips_of world good = spread_is key_cmp-total key_cmp-IsAntisymmetric name_cmp names_total trip_rows world.vehicles once
-  where
-    once : IsApart name_cmp trip_rows world.vehicles
-    once k l x z q y w g h f e =
-        let a = trip_at k x.trip q y f in
-        let b = trip_at l z.trip q w e in
-        good.one_trip k l a.0 b.0 (x, g, a.1) (z, h, b.1) (sym a.2 ∙ b.2)
+pub trips_of : (world : World) → InGoodOrder world → IsSpread name_cmp trip_rows world.vehicles
+trips_of world good = spread_is key_cmp-total key_cmp-IsAntisymmetric name_cmp names_total trip_rows world.vehicles (trips_apart world good.one_trip)
 
-legs_of : (world : World) → InGoodOrder world → IsSpread leg_cmp leg_rows world.vehicles
-legs_of world good = spread_is key_cmp-total key_cmp-IsAntisymmetric leg_cmp leg_cmp-total leg_rows world.vehicles once
-  where
-    once : IsApart leg_cmp leg_rows world.vehicles
-    once k l x z q y w g h f e =
-        let a = leg_of x.trip q y f in
-        let b = leg_of z.trip q w e in
-        good.one_trip k l a.0 b.0 (x, g, a.1) (z, h, b.1) (sym a.2 ∙ b.2)
+pub legs_of : (world : World) → InGoodOrder world → IsSpread leg_cmp leg_rows world.vehicles
+legs_of world good = spread_is key_cmp-total key_cmp-IsAntisymmetric leg_cmp leg_cmp-total leg_rows world.vehicles (legs_apart world good.one_trip)
 
 -- ---- edges
 one_edge : (layout : Layout) (x y : Edge) → IsOfLayout layout x → IsOfLayout layout y → x.id ≡ y.id → x ≡ y
@@ -137,60 +116,6 @@ module _ (w v : World) (W : InGoodOrder w) (V : InGoodOrder v) (e : rows_of w �
       let trip : x.trip ≡ y.trip = alike x.trip y.trip (λ t s. trip_over w v W V e a x y t g at s) (λ t s. trip_over v w V W (sym e) a y x t at g s) in
       let vehicle : x ≡ y = λ i. record { row = row i; trip = trip i } in
       at ∙ ap Some (sym vehicle)
-
--- ---- used names
-abbrev order_key : List ℕ → UseKey
-order_key name = record { kind = Order; name = name }
-
-abbrev reference_key : List ℕ → UseKey
-reference_key name = record { kind = Reference; name = name }
-
-abbrev any_used : UseKey → List UseKey → Bool
-any_used key keys = list_any (eq_by_cmp use_cmp key) keys
-
-or_none : (b : Bool) → (b || false) ≡ b
-or_none true = refl
-or_none false = refl
-
-any-append : (key : UseKey) (xs ys : List UseKey) → any_used key (xs ++ ys) ≡ (any_used key xs || any_used key ys)
-any-append key [] ys = refl
-any-append key (x ∷ xs) ys = elim (eq_by_cmp use_cmp key x) as (λ b. (b || any_used key (xs ++ ys)) ≡ ((b || any_used key xs) || any_used key ys)) [
-  | true ↦ refl
-  | false ↦ any-append key xs ys
-]
-
-orders_any : (name : List ℕ) (names : List (List ℕ)) → any_used (order_key name) (map order_key names) ≡ list_any (eq_by_cmp name_cmp name) names
-orders_any name [] = refl
-orders_any name (x ∷ names) = ap (λ b. eq_by_cmp name_cmp name x || b) (orders_any name names)
-
-orders_none : (name : List ℕ) (names : List (List ℕ)) → any_used (order_key name) (map reference_key names) ≡ false
-orders_none name [] = refl
-orders_none name (x ∷ names) = orders_none name names
-
-references_any : (name : List ℕ) (names : List (List ℕ)) → any_used (reference_key name) (map reference_key names) ≡ list_any (eq_by_cmp name_cmp name) names
-references_any name [] = refl
-references_any name (x ∷ names) = ap (λ b. eq_by_cmp name_cmp name x || b) (references_any name names)
-
-references_none : (name : List ℕ) (names : List (List ℕ)) → any_used (reference_key name) (map order_key names) ≡ false
-references_none name [] = refl
-references_none name (x ∷ names) = references_none name names
-
-used_order : (world : World) (name : List ℕ) → set.contains (rows_of world).used (order_key name) ≡ set.contains world.orders name
-used_order world name =
-    set.contains-from_list use_cmp-total (used_names world) (order_key name)
-    ∙ any-append (order_key name) (map order_key (set.items world.orders)) (map reference_key (set.items world.references))
-    ∙ ap (λ b. any_used (order_key name) (map order_key (set.items world.orders)) || b) (orders_none name (set.items world.references))
-    ∙ or_none _
-    ∙ orders_any name (set.items world.orders)
-    ∙ sym (set.contains-items world.orders name)
-
-used_reference : (world : World) (name : List ℕ) → set.contains (rows_of world).used (reference_key name) ≡ set.contains world.references name
-used_reference world name =
-    set.contains-from_list use_cmp-total (used_names world) (reference_key name)
-    ∙ any-append (reference_key name) (map order_key (set.items world.orders)) (map reference_key (set.items world.references))
-    ∙ ap (λ b. b || any_used (reference_key name) (map reference_key (set.items world.references))) (references_none name (set.items world.orders))
-    ∙ references_any name (set.items world.references)
-    ∙ sym (set.contains-items world.references name)
 
 -- ---- worlds
 pub one_world : (w v : World) → InGoodOrder w → InGoodOrder v → rows_of w ≡ rows_of v → w ≡ v

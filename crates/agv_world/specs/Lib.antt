@@ -7,3 +7,8 @@ pub mod Rows
 pub mod Changes
 pub mod Kept
 pub mod GoodOrder
+pub mod Told
+pub mod Questions
+pub mod Fails
+pub mod VehicleChanges
+pub mod TableChanges

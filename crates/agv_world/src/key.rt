@@ -145,3 +145,15 @@ impl UseKind {
         }
     }
 }
+
+impl UseKey {
+    ghost use Rattle.std.specs.Prelude.{◌≡◌};
+    ghost use Rattle.agv_world.specs.Told.{is_in};
+
+    /// Whether it is of this kind.
+    pub fn is_in(&self, kind: UseKind) -> bool
+        ensures { result ≡ is_in kind self.now }
+    {
+        self.kind.rank() == kind.rank()
+    }
+}

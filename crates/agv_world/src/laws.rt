@@ -4,8 +4,11 @@ ghost use Rattle.std.specs.FinMap as map;
 ghost use Rattle.agv_header.specs.declared.key.Thing.{Thing};
 ghost use Rattle.agv_header.specs.declared.key.VehicleKey.{VehicleKey};
 ghost use Rattle.agv_world.specs.GoodOrder.{InGoodOrder, IsHolder, SharesNothing};
+ghost use Rattle.agv_world.specs.Kept.{Keeps};
 ghost use Rattle.agv_world.specs.Rows.{rows_of};
+ghost use Rattle.agv_world.specs.Told.{world_of};
 ghost use Rattle.agv_world.specs.Worlds.{World};
+ghost use Rattle.agv_world.specs.declared.world.World.{World as Tables};
 
 /// Where no node or edge is in the footprints of two vehicles, the table of holds has each vehicle's
 /// footprint, and nothing else.
@@ -18,4 +21,10 @@ pub fn holds_are_footprints()
 #[tactic(auto, using(crate::proofs::Unique::one_world))]
 pub fn rows_tell_the_world()
     ensures { (world other : World) → InGoodOrder world → InGoodOrder other → rows_of world ≡ rows_of other → world ≡ other }
+{}
+
+/// The tables of a world in good order tell that world.
+#[tactic(auto, using(crate::proofs::WorldTold::told_world))]
+pub fn tables_tell_the_world()
+    ensures { (tables : Tables) (world : World) → Keeps tables world → InGoodOrder world → world_of tables ≡ world }
 {}

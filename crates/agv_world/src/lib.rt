@@ -7,20 +7,33 @@
 //! - In memory a [`World`] is the tables of its rows, but for the holds, which follow from the others
 //!   (`specs/Kept.antt`). [`World::apply`] carries out changes: all of them, or none.
 //! - Rows tell the world, and the holds among them are the vehicles' footprints ([`laws`]).
+//! - The rows that change where a vehicle, loads, jobs, a name or the layout are written lead from the
+//!   rows of a world to the rows of the world with them ([`change_laws`]).
+//! - A [`Floor`] answers questions to what the desk knows, however it is kept. [`PlainFloor`] answers
+//!   them from a world in memory (`specs/Told.antt`).
+//! - Rows tell the world, tables tell it, and the holds among the rows are the vehicles' footprints
+//!   ([`laws`]).
 //! - A [`Fault`] says why a question to what the desk knows has no answer.
 #![tactic(auto)]
 
 mod change;
+pub mod change_laws;
 mod fault;
+mod floor;
 mod key;
 pub mod laws;
+mod plain_floor;
+mod questions;
 mod row;
 mod tables;
 mod world;
+mod world_layout;
 
 pub use change::Change;
 pub use fault::Fault;
+pub use floor::{Counted, Floor};
 pub use key::{LegKey, UseKey, UseKind};
+pub use plain_floor::PlainFloor;
 pub use row::{JobRow, Sent, TripRow, VehicleRow};
 pub use tables::{ByLeg, ByName, ByVehicle, Names, Row, UsedNames};
 pub use world::World;

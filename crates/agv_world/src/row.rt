@@ -1,4 +1,5 @@
 //! The rows of vehicles, trips and jobs, but for their keys.
+ghost use Rattle.std.specs.Prelude.{◌≡◌};
 
 use agv_header::{Moment, Name, VehicleKey};
 use agv_message::{InstantKind, Sequence};
@@ -34,7 +35,8 @@ pub struct VehicleRow {
     pub orders: Sent,
     /// Its instantActions messages.
     pub instants: Sent,
-    /// The action of the last instantActions message, until the vehicle has reported its end.
+    /// The action of the last instantActions message, until the vehicle has reported its end or a person has placed
+    /// the vehicle.
     pub pending: Option<InstantKind>,
 }
 
@@ -77,4 +79,22 @@ pub struct JobRow {
     pub origin: Name,
     pub target: Name,
     pub phase: Phase,
+}
+
+impl JobRow {
+    ghost use Rattle.agv_world.specs.Questions.{is_live_for, is_live_to};
+
+    /// Whether it is live and for this load.
+    pub fn is_live_for(&self, load: Name) -> bool
+        ensures { result ≡ is_live_for load self.now }
+    {
+        self.phase.is_live() && self.load == load
+    }
+
+    /// Whether it is live and goes to this station.
+    pub fn is_live_to(&self, station: Name) -> bool
+        ensures { result ≡ is_live_to station self.now }
+    {
+        self.phase.is_live() && self.target == station
+    }
 }

@@ -6,7 +6,7 @@ ghost use Rattle.std.specs.Option.{option_copied};
 use crate::LegKey;
 use agv_header::{Memory, Name};
 use std::alloc::Global;
-use std::collections::BTreeMap;
+use std::collections::{BTreeMap, btree_map};
 use std::marker::Model;
 
 /// The name of each edge of the open trips. In a clause it is the finite map of its rows.
@@ -43,6 +43,13 @@ impl ByLeg {
         ensures { option_copied result ≡ map.get self.now key }
     {
         self.kept.get(&key)
+    }
+
+    /// The rows with their keys, in the order of the keys.
+    pub fn iter(&self) -> btree_map::Iter<'_, LegKey, Name>
+        ensures { result ≡ map.entries self.now }
+    {
+        self.kept.iter()
     }
 
     /// Writes the row of a key, in place of the one that is there.

@@ -8,7 +8,7 @@ use agv_header::{Memory, Name};
 use agv_layout::{Ends, Spot};
 use agv_stock::Place;
 use std::alloc::Global;
-use std::collections::BTreeMap;
+use std::collections::{BTreeMap, btree_map};
 use std::marker::Model;
 
 /// What a table can keep: a row of which a clone is an equal row.
@@ -37,6 +37,14 @@ impl Row for Place {
 }
 
 impl Row for JobRow {
+    ghost same = { λ row clone e. e };
+}
+
+impl Row for Name {
+    ghost same = { λ row clone e. e };
+}
+
+impl Row for usize {
     ghost same = { λ row clone e. e };
 }
 
@@ -75,6 +83,20 @@ impl<V: Row> ByName<V> {
         self.kept.get(&key)
     }
 
+    /// How many rows there are.
+    pub fn len(&self) -> usize
+        ensures { result ≡ map.len self.now }
+    {
+        self.kept.len()
+    }
+
+    /// The rows with their keys, in the order of the keys.
+    pub fn iter(&self) -> btree_map::Iter<'_, Name, V>
+        ensures { result ≡ map.entries self.now }
+    {
+        self.kept.iter()
+    }
+
     /// Writes the row of a key, in place of the one that is there.
     ///
     /// `Memory` where an allocation was refused; then nothing has changed.
@@ -91,6 +113,19 @@ impl<V: Row> ByName<V> {
         ensures { self.new ≡ map.remove self.old key }
     {
         self.kept.remove(&key);
+    }
+
+    /// The rows with their names, in the order of the names.
+    ///
+    /// `Memory` where an allocation was refused.
+    pub fn list(&self, alloc: Global) -> Result<Vec<(Name, V)>, Memory>
+        ensures { IfOk result (λ list. list.items ≡ map.entries self.now) }
+    {
+        let mut list = Vec::new(alloc);
+        for (key, row) in self.kept.iter() {
+            list.push((*key, row.clone()?))?;
+        }
+        Ok(list)
     }
 
     /// A table equal to this one.

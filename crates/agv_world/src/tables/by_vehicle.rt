@@ -6,7 +6,7 @@ ghost use Rattle.std.specs.Option.{option_copied};
 use crate::Row;
 use agv_header::{Memory, VehicleKey};
 use std::alloc::Global;
-use std::collections::BTreeMap;
+use std::collections::{BTreeMap, btree_map};
 use std::marker::Model;
 
 /// A row for each vehicle. In a clause it is the finite map of its rows.
@@ -42,6 +42,20 @@ impl<V: Row> ByVehicle<V> {
         ensures { option_copied result ≡ map.get self.now key }
     {
         self.kept.get(&key)
+    }
+
+    /// How many rows there are.
+    pub fn len(&self) -> usize
+        ensures { result ≡ map.len self.now }
+    {
+        self.kept.len()
+    }
+
+    /// The rows with their keys, in the order of the keys.
+    pub fn iter(&self) -> btree_map::Iter<'_, VehicleKey, V>
+        ensures { result ≡ map.entries self.now }
+    {
+        self.kept.iter()
     }
 
     /// Writes the row of a key, in place of the one that is there.

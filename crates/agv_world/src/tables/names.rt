@@ -1,10 +1,12 @@
 //! The table of nodes.
 ghost use Rattle.std.specs.Prelude.{◌≡◌, IfOk, OnOk, OnErr};
 ghost use Rattle.std.specs.FinSet as set;
+ghost use Rattle.std.specs.List.Sorted.{IsStrictlySortedBy};
+ghost use Rattle.agv_header.specs.Name.{name_cmp};
 
 use agv_header::{Memory, Name};
 use std::alloc::Global;
-use std::collections::BTreeSet;
+use std::collections::{BTreeSet, btree_set};
 use std::marker::Model;
 
 /// The names of nodes. In a clause it is a finite set.
@@ -40,6 +42,14 @@ impl Names {
         ensures { result ≡ set.contains self.now key }
     {
         self.kept.contains(&key)
+    }
+
+    /// The names, in their order.
+    pub fn iter(&self) -> btree_set::Iter<'_, Name>
+        ensures ordered { IsStrictlySortedBy name_cmp result }
+        ensures all { set.from_list result ≡ self.now }
+    {
+        self.kept.iter()
     }
 
     /// Adds one, if it is none of them yet.

@@ -1,11 +1,13 @@
 //! The table of used names.
 ghost use Rattle.std.specs.Prelude.{◌≡◌, IfOk, OnOk, OnErr};
 ghost use Rattle.std.specs.FinSet as set;
+ghost use Rattle.std.specs.List.Sorted.{IsStrictlySortedBy};
+ghost use Rattle.agv_world.specs.Keys.{use_cmp};
 
 use crate::UseKey;
 use agv_header::Memory;
 use std::alloc::Global;
-use std::collections::BTreeSet;
+use std::collections::{BTreeSet, btree_set};
 use std::marker::Model;
 
 /// The names that were used, each in its kind. In a clause it is a finite set.
@@ -41,6 +43,14 @@ impl UsedNames {
         ensures { result ≡ set.contains self.now key }
     {
         self.kept.contains(&key)
+    }
+
+    /// The names, each in its kind, in the order of the keys.
+    pub fn iter(&self) -> btree_set::Iter<'_, UseKey>
+        ensures ordered { IsStrictlySortedBy use_cmp result }
+        ensures all { set.from_list result ≡ self.now }
+    {
+        self.kept.iter()
     }
 
     /// Adds one, if it is none of them yet.

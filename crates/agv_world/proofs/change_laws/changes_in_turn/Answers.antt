@@ -1,0 +1,5 @@
+use Rattle.agv_world.proofs.ChangeRuns.{changed-append}
+use Rattle.agv_world.proofs.change_laws.changes_in_turn.Goals as goal
+
+pub returns : goal.returns
+returns c = changed-append

@@ -1,0 +1,5 @@
+use Rattle.agv_world.proofs.Followed.{followed}
+use Rattle.agv_world.proofs.change_laws.follows_a_vehicle.Goals as goal
+
+pub returns : goal.returns
+returns c = followed

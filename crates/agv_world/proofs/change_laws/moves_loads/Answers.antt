@@ -1,0 +1,5 @@
+use Rattle.agv_world.proofs.Written.{loads_written}
+use Rattle.agv_world.proofs.change_laws.moves_loads.Goals as goal
+
+pub returns : goal.returns
+returns c = loads_written

@@ -1,0 +1,117 @@
+-- Which world the tables in memory tell, whatever rows they have (this project's profile).
+use Rattle.std.specs.Prelude.{ℕ, nat_eq, Bool, List, map, filter, filter_map, find, Option, option_map}
+use Rattle.std.specs.Cmp.Lexicographic.{pointwise}
+use Rattle.std.specs.FinMap as finite
+use Rattle.std.specs.FinSet as set
+use Rattle.std.specs.List.{list_any}
+use Rattle.agv_header.specs.Key.{key_cmp}
+use Rattle.agv_header.specs.KeyOrder.{key_eq}
+use Rattle.agv_header.specs.Name.{name_cmp}
+use Rattle.agv_header.specs.ThingOrder.{thing_eq}
+use Rattle.agv_header.specs.declared.key.Thing.{Thing}
+use Rattle.agv_header.specs.declared.key.VehicleKey.{VehicleKey}
+use Rattle.agv_layout.specs.Layout.{Layout, edge_of}
+use Rattle.agv_layout.specs.declared.edge.Edge.{Edge}
+use Rattle.agv_layout.specs.declared.edge.Ends.{Ends}
+use Rattle.agv_order.specs.declared.trip.Trip.{Trip}
+use Rattle.agv_track.specs.Footprints.{footprint_of}
+use Rattle.agv_world.specs.Keys.{use_rank}
+use Rattle.agv_world.specs.Rows.{standing_of}
+use Rattle.agv_world.specs.Worlds.{Vehicle, World}
+use Rattle.agv_world.specs.declared.key.LegKey.{LegKey}
+use Rattle.agv_world.specs.declared.key.UseKey.{UseKey}
+use Rattle.agv_world.specs.declared.key.UseKind.{UseKind}
+use Rattle.agv_world.specs.declared.key.UseKind.TheVariants.{Order, Reference}
+use Rattle.agv_world.specs.declared.row.TripRow.{TripRow}
+use Rattle.agv_world.specs.declared.row.VehicleRow.{VehicleRow}
+use Rattle.agv_world.specs.declared.world.World.{World as Tables}
+
+-- ---- the layout
+
+-- the layout, of its three tables
+abbrev pub layout_in : Tables → Layout
+layout_in tables = record { nodes = tables.nodes; edges = tables.edges; stations = tables.stations }
+
+-- ---- trips
+
+-- the edge of this name, with its ends in the layout; none where the layout has no such edge
+abbrev pub edge_named : finite.FinMap name_cmp Ends → List ℕ → Option Edge
+edge_named edges id = option_map (edge_of id) (finite.get edges id)
+
+-- the row is one of this order
+abbrev pub is_of_order : List ℕ → LegKey × List ℕ → Bool
+is_of_order order leg = pointwise nat_eq leg.0.order order
+
+-- the edges of an order: those of its rows, by their places on the way; one that the layout has not is left out
+unfoldable pub edges_of : Tables → List ℕ → List Edge
+edges_of tables order =
+    filter_map (λ (leg : LegKey × List ℕ). edge_named tables.edges leg.1) (filter (is_of_order order) (finite.entries tables.legs))
+
+-- the trip of a row, with its edges
+abbrev pub trip_in : Tables → List ℕ × TripRow → Trip
+trip_in tables entry = record {
+  order = entry.0;
+  vehicle = entry.1.vehicle;
+  start = entry.1.start;
+  edges = edges_of tables entry.0;
+  first = entry.1.first;
+  base = entry.1.base;
+  sent = entry.1.sent;
+  confirmed = entry.1.confirmed;
+  seen = entry.1.seen;
+  acts = entry.1.acts;
+}
+
+-- the row names this vehicle
+abbrev pub names_vehicle : VehicleKey → List ℕ × TripRow → Bool
+names_vehicle key entry = key_eq entry.1.vehicle key
+
+-- the trip of a vehicle: that of the first row, in the order of orders, that names it
+unfoldable pub open_trip : Tables → VehicleKey → Option Trip
+open_trip tables key = option_map (trip_in tables) (find (names_vehicle key) (finite.entries tables.trips))
+
+-- ---- vehicles
+
+-- a vehicle: its row, and its trip
+abbrev pub vehicle_in : Tables → VehicleKey → VehicleRow → Vehicle
+vehicle_in tables key row = record { row = row; trip = open_trip tables key }
+
+-- each row of the vehicle table, with the vehicle's trip
+abbrev pub vehicles_in : Tables → List (VehicleKey × VehicleRow) → List (VehicleKey × Vehicle)
+vehicles_in tables entries = map (λ (entry : VehicleKey × VehicleRow). (entry.0, vehicle_in tables entry.0 entry.1)) entries
+
+-- the vehicles
+unfoldable pub vehicles_of : Tables → finite.FinMap key_cmp Vehicle
+vehicles_of tables = finite.from_entries (vehicles_in tables (finite.entries tables.vehicles))
+
+-- the node or edge is in the footprint of the vehicle of this row
+abbrev pub is_held_by : Tables → Thing → VehicleKey × VehicleRow → Bool
+is_held_by tables thing entry =
+    list_any (λ (held : Thing). thing_eq held thing) (footprint_of (standing_of (vehicle_in tables entry.0 entry.1)))
+
+-- ---- used names
+
+-- the name was used in this kind
+abbrev pub is_in : UseKind → UseKey → Bool
+is_in kind key = nat_eq (use_rank key.kind) (use_rank kind)
+
+-- the names of these that were used in this kind
+abbrev pub names_in : UseKind → List UseKey → List (List ℕ)
+names_in kind keys = map (λ (key : UseKey). key.name) (filter (is_in kind) keys)
+
+-- the names that were used in this kind
+unfoldable pub names_of : Tables → UseKind → set.FinSet name_cmp
+names_of tables kind = set.from_list (names_in kind (set.items tables.used))
+
+-- ---- all of it
+
+-- the world that the tables tell; in good order it is the world whose rows they are
+abbrev pub world_of : Tables → World
+world_of tables = record {
+  layout = layout_in tables;
+  vehicles = vehicles_of tables;
+  places = tables.loads;
+  jobs = tables.jobs;
+  orders = names_of tables Order;
+  references = names_of tables Reference;
+}

@@ -1,0 +1,134 @@
+//! Answers from a world in memory.
+ghost use Rattle.std.specs.Prelude.{◌≡◌};
+
+use crate::{Counted, Fault, Floor, JobRow, UseKind, VehicleRow, World};
+use agv_header::{Name, Thing, VehicleKey};
+use agv_layout::{Layout, Spot};
+use agv_message::Sequence;
+use agv_order::Trip;
+use agv_stock::Place;
+use std::alloc::Global;
+
+/// A world in memory that answers questions. Between questions its tables may be changed, as by
+/// [`World::apply`].
+///
+/// It answers whatever its tables hold: the world that they tell (`specs/Told.antt`), which is the world
+/// that they keep, where that one is in good order. It never fails, save for want of memory. Vehicles,
+/// places, jobs, nodes, stations and used names are looked up by their keys; for the other questions it
+/// goes through tables, so it is for tests and small worlds.
+#[derive(Debug, Drop)]
+pub struct PlainFloor {
+    pub world: World,
+    /// How many loads a vehicle may be built for: 1 to 4.
+    pub seats: u32,
+    alloc: Global,
+}
+
+impl PlainFloor {
+    /// A floor that answers from this world, for vehicles of so many loads.
+    pub fn new(alloc: Global, world: World, seats: u32) -> PlainFloor
+        ensures world { result.world ≡ world }
+        ensures seats { result.seats ≡ seats }
+    {
+        PlainFloor {
+            world,
+            seats,
+            alloc,
+        }
+    }
+
+    /// The world again.
+    pub fn into_world(self) -> World
+        ensures { result ≡ self.world }
+    {
+        let PlainFloor {
+            world,
+            seats: _,
+            alloc: _,
+        } = self;
+        world
+    }
+}
+
+impl Floor for PlainFloor {
+    ghost use Rattle.std.specs.Prelude.{false};
+    ghost use Rattle.agv_world.specs.Told.{world_of};
+
+    ghost world = { λ floor. world_of floor.world };
+
+    ghost is_clean = { λ floor. Unit {0} };
+
+    ghost is_open = { λ floor. Unit {0} };
+
+    ghost failed = { λ floor. false };
+
+    ghost seats = { λ floor. floor.seats };
+
+    fn failed(&self) -> bool {
+        false
+    }
+
+    fn seats(&self) -> u32 {
+        self.seats
+    }
+
+    fn vehicle(&mut self, key: VehicleKey) -> Result<Option<VehicleRow>, Fault> {
+        Ok(self.world.vehicle(key))
+    }
+
+    fn trip(&mut self, key: VehicleKey) -> Result<Option<Trip>, Fault> {
+        Ok(self.world.trip(self.alloc, &key)?)
+    }
+
+    fn place(&mut self, load: Name) -> Result<Option<Place>, Fault> {
+        Ok(self.world.place(load))
+    }
+
+    fn job(&mut self, job: Name) -> Result<Option<JobRow>, Fault> {
+        Ok(self.world.job(job))
+    }
+
+    fn room(&mut self, station: Name) -> Result<Option<u32>, Fault> {
+        Ok(self.world.room(station))
+    }
+
+    fn holder(&mut self, thing: Thing) -> Result<Option<VehicleKey>, Fault> {
+        Ok(self.world.holder(self.alloc, thing)?)
+    }
+
+    fn node(&mut self, id: Name) -> Result<bool, Fault> {
+        Ok(self.world.nodes.contains(id))
+    }
+
+    fn station(&mut self, id: Name) -> Result<Option<Spot>, Fault> {
+        Ok(self.world.station(id))
+    }
+
+    fn used(&mut self, kind: UseKind, name: Name) -> Result<bool, Fault> {
+        Ok(self.world.is_used(kind, name))
+    }
+
+    fn layout(&mut self) -> Result<Option<Layout>, Fault> {
+        Ok(self.world.layout(self.alloc)?)
+    }
+
+    fn loads_at(&mut self, station: Name) -> Result<Sequence<Name>, Fault> {
+        Ok(self.world.loads_at(self.alloc, station)?)
+    }
+
+    fn loads_on(&mut self, key: VehicleKey) -> Result<usize, Fault> {
+        Ok(self.world.loads_on(key))
+    }
+
+    fn job_of(&mut self, load: Name) -> Result<Option<Name>, Fault> {
+        Ok(self.world.job_of(load))
+    }
+
+    fn reserved(&mut self, station: Name) -> Result<usize, Fault> {
+        Ok(self.world.reserved(station))
+    }
+
+    fn count(&mut self, counted: Counted) -> Result<usize, Fault> {
+        Ok(self.world.count(counted))
+    }
+}

@@ -1,0 +1,236 @@
+//! Answers of the world in memory to the questions of [`Floor`](crate::Floor).
+ghost use Rattle.std.specs.Prelude.{◌≡◌, length, IfOk};
+ghost use Rattle.std.specs.FinMap as map;
+ghost use Rattle.std.specs.FinSet as set;
+ghost use Rattle.agv_world.specs.Questions.{row_of, trip_of, room_at, holder_of, is_used, loads_at, loads_on, job_of, reserved, count_of};
+ghost use Rattle.agv_world.specs.Told.{world_of, edge_named, edges_of, trip_in, open_trip, names_of, is_held_by};
+
+use crate::{Counted, JobRow, TripRow, UseKey, UseKind, VehicleRow, World};
+use agv_header::{Memory, Name, Thing, VehicleKey};
+use agv_layout::{Edge, Spot};
+use agv_message::Sequence;
+use agv_order::Trip;
+use agv_stock::{Place, room_left};
+use agv_track::{Standing, footprint};
+use std::alloc::Global;
+
+impl World {
+    // The row of a vehicle; none where there is no such vehicle.
+    pub(crate) fn vehicle(&self, key: VehicleKey) -> Option<VehicleRow>
+        ensures { result ≡ row_of (world_of self.now) key }
+    {
+        self.vehicles.get(key).copied()
+    }
+
+    // Where a load is; none where it is unknown.
+    pub(crate) fn place(&self, load: Name) -> Option<Place>
+        ensures { result ≡ map.get self.now.loads load }
+    {
+        self.loads.get(load).copied()
+    }
+
+    // The row of a job; none where it is unknown.
+    pub(crate) fn job(&self, job: Name) -> Option<JobRow>
+        ensures { result ≡ map.get self.now.jobs job }
+    {
+        self.jobs.get(job).copied()
+    }
+
+    // Where a station is, and how many loads fit there; none where it is unknown.
+    pub(crate) fn station(&self, id: Name) -> Option<Spot>
+        ensures { result ≡ map.get self.now.stations id }
+    {
+        self.stations.get(id).copied()
+    }
+
+    // Whether a name was used, in its kind.
+    pub(crate) fn is_used(&self, kind: UseKind, name: Name) -> bool
+        ensures { result ≡ is_used (world_of self.now) kind name }
+    {
+        self.used.contains(UseKey { kind, name })
+    }
+
+    // The loads at a station, in the order of their names.
+    pub(crate) fn loads_at(&self, alloc: Global, station: Name) -> Result<Sequence<Name>, Memory>
+        ensures { IfOk result (λ loads. loads ≡ loads_at (world_of self.now) station) }
+    {
+        let mut loads = Vec::new(alloc);
+        for (load, place) in self.loads.iter() {
+            if place.is_at(station) {
+                loads.push(*load)?;
+            }
+        }
+        Ok(Sequence::from(loads))
+    }
+
+    // How many loads stand at a station.
+    fn load_count(&self, station: Name) -> usize
+        ensures { result ≡ length (loads_at (world_of self.now) station) }
+    {
+        self.loads
+            .iter()
+            .filter(|(_, place)| place.is_at(station))
+            .count()
+    }
+
+    // How many loads a vehicle has.
+    pub(crate) fn loads_on(&self, key: VehicleKey) -> usize
+        ensures { result ≡ loads_on (world_of self.now) key }
+    {
+        self.loads
+            .iter()
+            .filter(|(_, place)| place.is_on(&key))
+            .count()
+    }
+
+    // The live job of a load; none where it is in none.
+    pub(crate) fn job_of(&self, load: Name) -> Option<Name>
+        ensures { result ≡ job_of (world_of self.now) load }
+    {
+        for (name, job) in self.jobs.iter() {
+            if job.is_live_for(load) {
+                return Some(*name);
+            }
+        }
+        None
+    }
+
+    // How many live jobs go to a station.
+    pub(crate) fn reserved(&self, station: Name) -> usize
+        ensures { result ≡ reserved (world_of self.now) station }
+    {
+        self.jobs
+            .iter()
+            .filter(|(_, job)| job.is_live_to(station))
+            .count()
+    }
+
+    // How many loads more fit at a station; none where it is unknown.
+    pub(crate) fn room(&self, station: Name) -> Option<u32>
+        ensures { result ≡ room_at (world_of self.now) station }
+    {
+        let spot = self.station(station)?;
+        Some(room_left(
+            spot.capacity,
+            self.load_count(station),
+            self.reserved(station),
+        ))
+    }
+
+    // How many names were used in this kind.
+    fn used_count(&self, kind: UseKind) -> usize
+        ensures { result ≡ set.len (names_of self.now kind) }
+    {
+        self.used.iter().filter(|key| key.is_in(kind)).count()
+    }
+
+    // How many vehicles, loads, jobs, orders or references there are.
+    pub(crate) fn count(&self, counted: Counted) -> usize
+        ensures { result ≡ count_of (world_of self.now) counted }
+    {
+        match counted {
+            Counted::Vehicles => self.vehicles.len(),
+            Counted::Loads => self.loads.len(),
+            Counted::Jobs => self.jobs.len(),
+            Counted::Orders => self.used_count(UseKind::Order),
+            Counted::References => self.used_count(UseKind::Reference),
+        }
+    }
+
+    // The edge of this name, with its ends in the layout; none where the layout has none.
+    fn edge(&self, id: Name) -> Option<Edge>
+        ensures { result ≡ edge_named self.now.edges id }
+    {
+        let ends = self.edges.get(id)?;
+        Some(Edge {
+            id,
+            start: ends.start,
+            finish: ends.finish,
+        })
+    }
+
+    // The edges of an order, by their places on the way.
+    fn edges_of(&self, alloc: Global, order: Name) -> Result<Sequence<Edge>, Memory>
+        ensures { IfOk result (λ edges. edges ≡ edges_of self.now order) }
+    {
+        let edges: Vec<Edge> = self
+            .legs
+            .iter()
+            .filter(|(key, _)| key.order == order)
+            .filter_map(|(_, id)| self.edge(*id))
+            .collect(alloc)?;
+        Ok(Sequence::from(edges))
+    }
+
+    // The trip of a row, with its edges.
+    fn trip_in(&self, alloc: Global, order: Name, row: &TripRow) -> Result<Trip, Memory>
+        ensures { IfOk result (λ trip. trip ≡ trip_in self.now (order, row.now)) }
+    {
+        Ok(Trip {
+            order,
+            vehicle: row.vehicle,
+            start: row.start,
+            edges: self.edges_of(alloc, order)?,
+            first: row.first,
+            base: row.base,
+            sent: row.sent,
+            confirmed: row.confirmed,
+            seen: row.seen,
+            acts: row.acts.copy()?,
+        })
+    }
+
+    // The trip of a vehicle: that of the first row that names it.
+    fn open_trip(&self, alloc: Global, key: VehicleKey) -> Result<Option<Trip>, Memory>
+        ensures { IfOk result (λ trip. trip ≡ open_trip self.now key) }
+    {
+        for (order, row) in self.trips.iter() {
+            if row.vehicle == key {
+                let trip = self.trip_in(alloc, *order, row)?;
+                return Ok(Some(trip));
+            }
+        }
+        Ok(None)
+    }
+
+    // The open trip of a vehicle; none where it has none, or there is no such vehicle.
+    pub(crate) fn trip(&self, alloc: Global, key: &VehicleKey) -> Result<Option<Trip>, Memory>
+        ensures { IfOk result (λ trip. trip ≡ trip_of (world_of self.now) key.now) }
+    {
+        if self.vehicle(*key).is_none() {
+            return Ok(None);
+        }
+        self.open_trip(alloc, *key)
+    }
+
+    // Whether the node or edge is in the footprint of the vehicle of this row.
+    fn is_holder(
+        &self,
+        alloc: Global,
+        key: VehicleKey,
+        row: &VehicleRow,
+        thing: &Thing,
+    ) -> Result<bool, Memory>
+        ensures { IfOk result (λ held. held ≡ is_held_by self.now thing.now (key, row.now)) }
+    {
+        let standing = Standing {
+            node: row.node,
+            rest: row.rest,
+            trip: self.open_trip(alloc, key)?,
+        };
+        let things = footprint(alloc, &standing)?;
+        Ok(things.contains(thing))
+    }
+
+    // The vehicle in whose footprint a node or edge is; none where it is free.
+    pub(crate) fn holder(&self, alloc: Global, thing: Thing) -> Result<Option<VehicleKey>, Memory>
+        ensures { IfOk result (λ holder. holder ≡ holder_of (world_of self.now) thing) }
+    {
+        for (key, row) in self.vehicles.iter() {
+            if self.is_holder(alloc, *key, row, &thing)? {
+                return Ok(Some(*key));
+            }
+        }
+        Ok(None)
+    }
+}
