@@ -1,0 +1,29 @@
+mod Ladders
+mod Effects
+mod Given
+mod Known
+mod Steps
+mod PlainSteps
+mod OrderRows
+mod StateRows
+mod LayoutRows
+mod AllSteps
+mod MovesTold
+mod ActJobs
+mod Pairs
+mod Laying
+mod TripStates
+mod Deciding
+mod VehicleRows
+pub mod Each
+pub mod Plans
+mod SameNames
+mod CountedStations
+mod FoundLoads
+mod SeenLoads
+mod SettledLoads
+mod PlacedLoads
+mod CountedMoves
+mod CountedWhole
+mod InTurn
+mod StockLaws

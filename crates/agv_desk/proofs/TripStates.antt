@@ -1,0 +1,82 @@
+-- What is decided where a state of a trip is accepted.
+use Rattle.std.proofs.Common.{◌≡◌, ℕ, nat_eq, Bool, true, is_none, is_some, List, [], ◌++◌, map, Option, Some, Result, Ok, append_assoc, ap, sym, subst, ◌∙◌}
+use Rattle.std.proofs.lemmas.List.{append-nil}
+use Rattle.std.specs.Cmp.Lexicographic.{pointwise}
+use Rattle.std.specs.List.{zip}
+use Rattle.agv_header.specs.declared.key.VehicleKey.{VehicleKey}
+use Rattle.agv_header.specs.declared.refusal.Refusal.{Refusal}
+use Rattle.agv_header.specs.declared.refusal.Refusal.TheVariants as refusal
+use Rattle.agv_message.specs.declared.state.StateMessage.{StateMessage}
+use Rattle.agv_order.specs.declared.act.Act.{Act}
+use Rattle.agv_order.specs.declared.trip.Trip.{Trip}
+use Rattle.agv_track.specs.Judgements.{judged}
+use Rattle.agv_track.specs.declared.pending.Pending.{Pending}
+use Rattle.agv_track.specs.declared.progress.Progress.{Progress}
+use Rattle.agv_track.specs.declared.standing.Standing.{Standing}
+use Rattle.agv_world.specs.Worlds.{World}
+use Rattle.agv_world.specs.declared.change.Change.{Change}
+use Rattle.agv_world.specs.declared.change.Change.TheVariants as row
+use Rattle.agv_world.specs.declared.row.VehicleRow.{VehicleRow}
+use Rattle.agv_desk.specs.JobSteps.{Renewed, act_moves}
+use Rattle.agv_desk.specs.Outcomes.{Move, Outcome, branch, decided, require}
+use Rattle.agv_desk.specs.StateSteps.{fresh_state, idle_state, if_judged, pending_of, row_after, trip_left, trip_state}
+use Rattle.agv_desk.specs.declared.answer.Answer.TheVariants as answer
+use Rattle.agv_desk.specs.declared.answer.Decision.{Decision}
+use Rattle.agv_desk.proofs.ActJobs.{job_rows}
+use Rattle.agv_desk.proofs.VehicleRows.{stands, vehicle_rows}
+
+-- the rows of the loads that these acts move
+abbrev load_rows : VehicleKey → List ℕ → List Renewed → List Change
+load_rows key order acts = map (λ (move : Move). row.Load move.load move.place) (act_moves key order acts)
+
+-- one part after the other
+in_turn : (one two three : List Change) → (([] ++ one) ++ two) ++ three ≡ one ++ (two ++ (three ++ []))
+in_turn one two three = append_assoc one two three ∙ ap (λ rows. one ++ (two ++ rows)) (sym (append-nil three))
+
+-- what is judged decides
+if-ok : {X : Type 0} (judgement : Result X Refusal) (x : X) (rest : X → Outcome) (decision : Decision) → judgement ≡ Ok x → decision ≡ decided (rest x) → decision ≡ decided (if_judged judgement rest)
+unfolding if_judged
+if-ok judgement x rest decision is e = subst (λ r. decision ≡ decided (if_judged r rest)) (sym is) e
+
+module _ (world : World) (key : VehicleKey) (row : VehicleRow) (trip : Trip) (state : StateMessage) (progress : Progress) where
+  -- all rows, of a vehicle that stands and goes on so, and of these acts
+  abbrev rows_of : Standing → VehicleRow → Standing → List Act → Bool → List Change
+  rows_of old next new acts over = (([] ++ vehicle_rows key old next new) ++ load_rows key trip.order (zip acts progress.statuses)) ++ job_rows world over (zip acts progress.statuses)
+
+  -- the rows that are made, part by part
+  made : (old new : Standing) (next : VehicleRow) (acts : List Act) (over : Bool) (none vehicle loads all : List Change)
+      → none ≡ [] → vehicle ≡ none ++ vehicle_rows key old next new
+      → loads ≡ vehicle ++ load_rows key trip.order (zip acts progress.statuses) → all ≡ loads ++ job_rows world over (zip acts progress.statuses)
+      → all ≡ rows_of old next new acts over
+  made old new next acts over none vehicle loads all empty one two three =
+      let first = one ∙ ap (λ rows. rows ++ vehicle_rows key old next new) empty in
+      let second = two ∙ ap (λ rows. rows ++ load_rows key trip.order (zip acts progress.statuses)) first in
+      three ∙ ap (λ rows. rows ++ job_rows world over (zip acts progress.statuses)) second
+
+  pub trip_state_told : (pending : Option Pending) (old new : Standing) (next : VehicleRow) (left : Option Trip) (acts : List Act) (over : Bool) (none vehicle loads all : List Change) (decision : Decision)
+      → pending ≡ pending_of row → judged trip pending state ≡ Ok progress
+      → over ≡ is_some progress.«end» → acts ≡ trip.acts → next ≡ row_after row trip state progress → left ≡ trip_left trip progress
+      → old ≡ stands row (Some trip) → new ≡ stands next left
+      → none ≡ [] → vehicle ≡ none ++ vehicle_rows key old next new
+      → loads ≡ vehicle ++ load_rows key trip.order (zip acts progress.statuses) → all ≡ loads ++ job_rows world over (zip acts progress.statuses)
+      → decision.answer ≡ answer.Accepted true → decision.changes ≡ all
+      → decision ≡ decided (trip_state world key row trip state)
+  unfolding decided
+  trip_state_told pending old new next left acts over none vehicle loads all decision asked is ends same row_is left_is was stood empty one two three said changes =
+      let after = row_after row trip state progress in
+      let ended = is_some progress.«end» in
+      let steps = zip trip.acts progress.statuses in
+      let told = made old new next acts over none vehicle loads all empty one two three in
+      let stand : rows_of old next new acts over ≡ rows_of (stands row (Some trip)) next (stands next left) trip.acts ended = λ i. rows_of (was i) next (stood i) (same i) (ends i) in
+      let go_on : rows_of (stands row (Some trip)) next (stands next left) trip.acts ended ≡ rows_of (stands row (Some trip)) after (stands after (trip_left trip progress)) trip.acts ended =
+      λ i. rows_of (stands row (Some trip)) (row_is i) (stands (row_is i) (left_is i)) trip.acts ended in
+      let turn = in_turn (vehicle_rows key (stands row (Some trip)) after (stands after (trip_left trip progress))) (load_rows key trip.order steps) (job_rows world ended steps) in
+      let rows = changes ∙ told ∙ stand ∙ go_on ∙ turn in
+      if-ok (judged trip (pending_of row) state) progress _ decision (ap (λ p. judged trip p state) (sym asked) ∙ is) (λ i. record { answer = said i; changes = rows i })
+
+-- a state of the open trip's order is judged against the trip
+pub is_of_trip : (world : World) (key : VehicleKey) (row : VehicleRow) (found : Option Trip) (trip : Trip) (state : StateMessage) → found ≡ Some trip → pointwise nat_eq trip.order state.order_id ≡ true
+    → trip_state world key row trip state ≡ fresh_state world key row found state
+unfolding branch
+is_of_trip world key row found trip state is same =
+    sym (ap (λ test. branch test (trip_state world key row trip state) (require (is_none trip.confirmed) refusal.OtherOrder (idle_state key row state))) same) ∙ ap (λ trip. fresh_state world key row trip state) (sym is)

@@ -1,0 +1,18 @@
+use Rattle.std.proofs.Common.{rules, ◌≡◌, Some, ◌∙◌}
+use Rattle.agv_desk.specs.OrderSteps.{job_for}
+use Rattle.agv_desk.proofs.Each.{after-read}
+use Rattle.agv_desk.proofs.order_jobs.jobs_for.Goals as goal
+
+pub loop-stop-preserved : goal.loop-stop-preserved
+loop-stop-preserved g c =
+    let world = g.F.Floor.world c.args.floor.now in
+    record {
+      told = λ clean.
+          let before = c.loop-stop.invariant.told (c.in_ok-job.ensures.earlier clean).0 in
+          let asked = c.in_ok-job.ensures.told clean in
+          let read : job_for world c.stop-item.result ≡ Some c.in-Some.job = cc in
+          (asked.1 ∙ before.0, after-read (job_for world) _ _ _ _ _ _ _ c.loop-stop-test.true c.stop-item.is read c.in_ok-push.ensures.items before.1);
+      earlier = search rules;
+      fails = search rules;
+      same = search rules;
+    }

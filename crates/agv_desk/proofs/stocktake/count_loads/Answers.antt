@@ -1,0 +1,39 @@
+use Rattle.std.proofs.Common.{◌≡◌, ℕ, List, nat_lt, sym, ap, ◌∙◌}
+use Rattle.std.specs.FinMap as map
+use Rattle.std.specs.List.{list_any}
+use Rattle.std.proofs.lemmas.Bool.{lt-ltb}
+use Rattle.agv_stock.specs.declared.place.Place.{Place}
+use Rattle.agv_world.specs.Questions.{count_of}
+use Rattle.agv_world.specs.Worlds.{World}
+use Rattle.agv_world.specs.declared.floor.Counted.TheVariants as counted
+use Rattle.agv_desk.specs.CountParts.{all_have_room, counted_effect, moves_list}
+use Rattle.agv_desk.specs.LoadSteps.{most, is_in_job}
+use Rattle.agv_desk.specs.Outcomes.{Made, decided}
+use Rattle.agv_desk.proofs.CountedWhole.{passed}
+use Rattle.agv_desk.proofs.stocktake.count_loads.Goals as goal
+
+pub returns-clause-told : goal.returns-clause-told
+returns-clause-told g c = λ clean.
+    let start = g.F.Floor.world c.args.floor.now in
+    let stations = c.args.count.now.stations in
+    let found = c.args.count.now.found in
+    let seen = c.args.seen.now in
+    let moves = moves_list start stations found seen in
+    let counted_clean = (c.in_ok-count.ensures.earlier clean).0 in
+    let fit_clean = (c.in_ok-all_fit.ensures.earlier counted_clean).0 in
+    let job_clean = (c.in_ok-moves_in_job.ensures.earlier fit_clean).0 in
+    let moved = c.in_ok-moves.ensures.told job_clean in
+    let jobs = c.in_ok-moves_in_job.ensures.told fit_clean in
+    let fit = c.in_ok-all_fit.ensures.told counted_clean in
+    let used = c.in_ok-count.ensures.told clean in
+    let listed : c.deref.result.now ≡ moves = c.deref.ensures.value ∙ moved.0 in
+    let listed_again : c.deref-2.result.now ≡ moves = c.deref-2.ensures.value ∙ moved.0 in
+    let none_aboard = sym c.finds_aboard.ensures ∙ c.if-finds_aboard.false in
+    let none_in_job = sym (jobs.0 ∙ (λ i. list_any (λ (load : List ℕ × Place). is_in_job (moved.1 i) load.0) (listed i))) ∙ c.if-branch.false in
+    let room = sym (fit.0 ∙ ap (λ (w : World). all_have_room w seen (map.entries stations)) (jobs.1 ∙ moved.1)) ∙ c.if-not-branch.false in
+    let few = ap (λ n. nat_lt n most) (sym (used.0 ∙ ap (λ (w : World). count_of w counted.References) (fit.1 ∙ jobs.1 ∙ moved.1))) ∙ lt-ltb _ _ c.if-branch-ge-MOST_REFERENCES.false in (
+      c.in_ok-counted_decision.ensures
+          ∙ ap (λ (moves : List (List ℕ × Place)). decided (Made (counted_effect c.args.reference moves seen))) listed_again
+          ∙ ap decided (passed _ _ _ _ (Made (counted_effect c.args.reference moves seen)) none_aboard none_in_job room few),
+      used.1 ∙ fit.1 ∙ jobs.1 ∙ moved.1,
+    )

@@ -1,0 +1,153 @@
+-- What a stocktake finds out on its way: the stations that were counted, where each load was found, what is known of the found loads, and where the loads go.
+use Rattle.std.specs.Prelude.{◌≡◌, ℕ, ◌+◌, ◌&&◌, if◌then◌else◌, nat_eq, nat_le, nat_lt, not, length, Bool, true, false, count_by, List, [], ◌∷◌, ◌++◌, map, filter_map, flat_map, Option, None, Some}
+use Rattle.std.specs.Cmp.Lexicographic.{pointwise}
+use Rattle.std.specs.FinMap as finite
+use Rattle.std.specs.List.{list_all, list_any}
+use Rattle.std.specs.Option.{option_map}
+use Rattle.agv_header.specs.declared.refusal.Refusal.TheVariants as refusal
+use Rattle.agv_header.specs.Name.{name_cmp}
+use Rattle.agv_layout.specs.declared.station.Spot.{Spot}
+use Rattle.agv_stock.specs.declared.place.Place.{Place}
+use Rattle.agv_stock.specs.declared.place.Place.TheVariants as place
+use Rattle.agv_world.specs.Questions.{loads_at, reserved, count_of}
+use Rattle.agv_world.specs.Worlds.{World}
+use Rattle.agv_world.specs.declared.floor.Counted.TheVariants as counted
+use Rattle.agv_desk.specs.LoadSteps.{most, reference_key, is_in_job}
+use Rattle.agv_desk.specs.Outcomes.{Outcome, Effect, Made, require, told}
+use Rattle.agv_desk.specs.StocktakeSteps.{Row, are_known, count_move, has_twice, is_aboard, is_counted, is_here, new_place}
+use Rattle.agv_desk.specs.declared.answer.Answer.TheVariants as answer
+use Rattle.agv_desk.specs.declared.stocktake.sighting.Sighting.{Sighting}
+
+-- ---- the stations
+
+-- the stations that were counted, with what the layout says of each
+unfoldable pub stations_in : World → List Row → finite.FinMap name_cmp Spot
+stations_in world rows = finite.retain_keys world.layout.stations (is_counted rows)
+
+-- these are they; or one of the rows has a station that is not known
+abbrev pub AreCounted : World → List Row → Option (finite.FinMap name_cmp Spot) → Type 0
+AreCounted world rows None = are_known world rows ≡ false
+AreCounted world rows (Some stations) = (are_known world rows ≡ true) × (stations ≡ stations_in world rows)
+
+-- whether the station is known, by what is noted of it and by what the layout says, and the stations that are noted then
+abbrev pub noted_station : finite.FinMap name_cmp Spot → List ℕ → Option Spot → Option Spot → Bool × finite.FinMap name_cmp Spot
+noted_station stations station (Some noted) spot = (true, stations)
+noted_station stations station None None = (false, stations)
+noted_station stations station None (Some spot) = (true, finite.insert stations station spot)
+
+-- ---- the found loads
+
+-- the load of a row, and the station where it was found
+abbrev pub found_entry : List ℕ → Option (List ℕ) → Option (List ℕ × List ℕ)
+found_entry station None = None
+found_entry station (Some load) = Some (load, station)
+
+-- the found loads, and the station where each was found
+unfoldable pub found_in : List Row → finite.FinMap name_cmp (List ℕ)
+found_in rows = finite.from_entries (filter_map (λ (row : Row). found_entry row.0 row.1) rows)
+
+-- these are they; or a load stands on two rows
+abbrev pub AreFound : List Row → Option (finite.FinMap name_cmp (List ℕ)) → Type 0
+AreFound rows None = has_twice rows ≡ true
+AreFound rows (Some found) = (has_twice rows ≡ false) × (found ≡ found_in rows)
+
+-- whether the load of a row is new, by what is noted of it, and the loads that are noted then
+abbrev pub noted_anew : finite.FinMap name_cmp (List ℕ) → List ℕ → List ℕ → Option (List ℕ) → Bool × finite.FinMap name_cmp (List ℕ)
+noted_anew found station load (Some noted) = (false, found)
+noted_anew found station load None = (true, finite.insert found load station)
+
+abbrev pub noted_load : finite.FinMap name_cmp (List ℕ) → List ℕ → Option (List ℕ) → Bool × finite.FinMap name_cmp (List ℕ)
+noted_load found station None = (true, found)
+noted_load found station (Some load) = noted_anew found station load (finite.get found load)
+
+-- what a row says, with what is known of its load
+abbrev pub sighting : World → List ℕ → Option (List ℕ) → Option Sighting
+sighting world station None = None
+sighting world station (Some load) = Some (record { station = station; load = load; place = finite.get world.places load })
+
+-- all of them, in the order of the rows
+unfoldable pub sightings : World → List Row → List Sighting
+sightings world rows = filter_map (λ (row : Row). sighting world row.0 row.1) rows
+
+-- one more
+abbrev pub with_sighting : World → List Sighting → List ℕ → Option (List ℕ) → List Sighting
+with_sighting world seen station None = seen
+with_sighting world seen station (Some load) = seen ++ record { station = station; load = load; place = finite.get world.places load } ∷ []
+
+-- the load's name, if it is not known or has left
+abbrev pub unknown_one : Sighting → Option (List ℕ)
+unknown_one seen = if is_here seen.place then None else Some seen.load
+
+-- the known load was found at this station
+abbrev pub is_found_at : List ℕ → Sighting → Bool
+is_found_at station seen = pointwise nat_eq seen.station station && is_here seen.place
+
+-- how many known loads were found there
+abbrev pub seen_at : List Sighting → List ℕ → ℕ
+seen_at seen station = count_by (is_found_at station) seen
+
+-- as many as before, and one more where it was found
+abbrev pub counted_up : Sighting → ℕ → List ℕ → ℕ
+counted_up seen count station = if is_found_at station seen then count + 1 else count
+
+-- ---- where the loads go
+
+-- the load goes there, if it goes anywhere
+abbrev pub placed : finite.FinMap name_cmp Place → List ℕ → Option Place → finite.FinMap name_cmp Place
+placed places load None = places
+placed places load (Some to) = finite.insert places load to
+
+-- where some loads, of which it is known where they are, go
+unfoldable pub settled : (List ℕ → Bool) → finite.FinMap name_cmp (List ℕ) → finite.FinMap name_cmp Place → List (List ℕ × Place) → finite.FinMap name_cmp Place
+settled counted found places [] = places
+settled counted found places (load ∷ loads) = settled counted found (placed places load.0 (new_place counted (finite.get found load.0) load.1)) loads
+
+-- a load of which it is known where it is
+abbrev pub recorded_at : List ℕ → Option Place → Option (List ℕ × Place)
+recorded_at load recorded = option_map (λ (at : Place). (load, at)) recorded
+
+-- the found loads of which it is known where they are
+abbrev pub recorded : List Sighting → List (List ℕ × Place)
+recorded seen = filter_map (λ (one : Sighting). recorded_at one.load one.place) seen
+
+-- loads that stand at a station
+abbrev pub standing_at : List ℕ → List (List ℕ) → List (List ℕ × Place)
+standing_at station loads = map (λ (load : List ℕ). (load, place.Station station)) loads
+
+-- the loads that stand at these stations
+abbrev pub standing : World → List (List ℕ × Spot) → List (List ℕ × Place)
+standing world stations = flat_map (λ (station : List ℕ × Spot). standing_at station.0 (loads_at world station.0)) stations
+
+-- where all loads go: those that were found, and those that stand at counted stations
+unfoldable pub moves_in : World → finite.FinMap name_cmp Spot → finite.FinMap name_cmp (List ℕ) → List Sighting → finite.FinMap name_cmp Place
+moves_in world stations found seen =
+    settled (finite.contains_key stations) found (settled (finite.contains_key stations) found finite.empty (recorded seen)) (standing world (finite.entries stations))
+
+-- ---- whether they fit
+
+-- so many loads and so many jobs fit there
+abbrev pub has_room : ℕ → ℕ → Spot → Bool
+has_room found jobs spot = nat_le (found + jobs) spot.capacity
+
+-- at each of the stations there is room for the known loads that were found there and the live jobs to it
+abbrev pub all_have_room : World → List Sighting → List (List ℕ × Spot) → Bool
+all_have_room world seen stations = list_all (λ (station : List ℕ × Spot). has_room (seen_at seen station.0) (reserved world station.0) station.1) stations
+
+-- ---- the whole
+
+-- the loads that move, and their new places
+abbrev pub moves_list : World → finite.FinMap name_cmp Spot → finite.FinMap name_cmp (List ℕ) → List Sighting → List (List ℕ × Place)
+moves_list world stations found seen = finite.entries (moves_in world stations found seen)
+
+-- what is done with such moves
+abbrev pub counted_effect : List ℕ → List (List ℕ × Place) → List Sighting → Effect
+counted_effect reference moves seen = record (told (answer.Counted (length moves) (filter_map unknown_one seen))) { moves = map count_move moves; uses = reference_key reference ∷ [] }
+
+-- what a stocktake is answered once its stations and found loads are known, by these parts
+abbrev pub count_by_parts : World → List ℕ → finite.FinMap name_cmp Spot → finite.FinMap name_cmp (List ℕ) → List Sighting → Outcome
+count_by_parts world reference stations found seen =
+    require (not (list_any (λ (one : Sighting). is_aboard one.place) seen)) refusal.OnVehicle
+    (require (not (list_any (λ (load : List ℕ × Place). is_in_job world load.0) (moves_list world stations found seen))) refusal.InJob
+    (require (all_have_room world seen (finite.entries stations)) refusal.Full
+    (require (nat_lt (count_of world counted.References) most) refusal.Limit
+    (Made (counted_effect reference (moves_list world stations found seen) seen)))))

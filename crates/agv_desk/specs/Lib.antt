@@ -1,0 +1,15 @@
+pub mod Sizes
+pub mod Outcomes
+pub mod LayoutSteps
+pub mod LoadSteps
+pub mod JobSteps
+pub mod VehicleSteps
+pub mod OrderSteps
+pub mod StateSteps
+pub mod StocktakeSteps
+pub mod CountParts
+pub mod StockTaken
+pub mod ReadSteps
+pub mod Step
+pub mod InOrder
+pub mod Moves

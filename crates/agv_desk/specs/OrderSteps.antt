@@ -1,0 +1,177 @@
+-- The calls of orders: one is begun, and more of it is released (VDA 5050 2.0, order; this project's profile).
+use Rattle.std.specs.Prelude.{ℕ, ◌+◌, ◌==◌, ◌&&◌, nat_lt, nat_le, nat_eq, not, Bool, false, is_none, count_by, List, [], ◌∷◌, filter_map, Option, None, Some, Result, Ok, Err, length, if◌then◌else◌}
+use Rattle.std.specs.Cmp.Lexicographic.{pointwise}
+use Rattle.std.specs.FinMap as finite
+use Rattle.std.specs.List.{list_all, zip}
+use Rattle.std.specs.Option.{option_map}
+use Rattle.agv_header.specs.Each.{each}
+use Rattle.agv_header.specs.declared.key.VehicleKey.{VehicleKey}
+use Rattle.agv_header.specs.declared.refusal.Refusal.{Refusal}
+use Rattle.agv_header.specs.declared.refusal.Refusal.TheVariants as refusal
+use Rattle.agv_message.specs.declared.instant.InstantKind.{InstantKind}
+use Rattle.agv_order.specs.Plans.{planned}
+use Rattle.agv_order.specs.Releases.{released}
+use Rattle.agv_order.specs.StopPlaces.{is_pick}
+use Rattle.agv_order.specs.Stops.{stops_fit}
+use Rattle.agv_order.specs.declared.fault.PlanFault.{PlanFault}
+use Rattle.agv_order.specs.declared.fault.PlanFault.TheVariants as fault
+use Rattle.agv_order.specs.declared.stop.Stop.{Stop}
+use Rattle.agv_order.specs.declared.trip.Trip.{Trip}
+use Rattle.agv_stock.specs.declared.job.Job.{Job}
+use Rattle.agv_stock.specs.declared.job.Phase.TheVariants as phase
+use Rattle.agv_track.specs.Footprints.{footprint_of}
+use Rattle.agv_track.specs.Reports.{is_cancel}
+use Rattle.agv_world.specs.Questions.{row_of, trip_of, is_used, loads_on, layout_set, count_of}
+use Rattle.agv_world.specs.Worlds.{Vehicle, World}
+use Rattle.agv_world.specs.declared.floor.Counted.TheVariants as counted
+use Rattle.agv_world.specs.declared.key.UseKind.TheVariants as used
+use Rattle.agv_world.specs.declared.row.JobRow.{JobRow}
+use Rattle.agv_world.specs.declared.row.VehicleRow.{VehicleRow}
+use Rattle.agv_desk.specs.LoadSteps.{most, is_waiting}
+use Rattle.agv_desk.specs.Outcomes.{Effect, Outcome, Refused, Made, Put, require, found, told}
+use Rattle.agv_desk.specs.VehicleSteps.{if_free, next_sent}
+use Rattle.agv_desk.specs.declared.answer.Answer.TheVariants as answer
+
+-- ---- words
+
+-- a job with its name
+abbrev pub named : List ℕ → JobRow → Job
+named name row = record { name = name; load = row.load; origin = row.origin; target = row.target; phase = row.phase }
+
+-- the job of a stop
+abbrev pub job_for : World → Stop → Option Job
+job_for world stop = option_map (named stop.job) (finite.get world.jobs stop.job)
+
+-- the jobs of the stops, in their order, if each is known
+abbrev pub jobs_for : World → List Stop → Option (List Job)
+jobs_for world stops = each (job_for world) stops
+
+-- the job waits for a vehicle
+abbrev pub waits : Job → Bool
+waits job = is_waiting job.phase
+
+-- the vehicle has reported this order
+abbrev pub is_reported : Option (List ℕ) → List ℕ → Bool
+is_reported None order = false
+is_reported (Some name) order = pointwise nat_eq name order
+
+-- a cancelOrder is pending
+abbrev pub is_cancelling : Option InstantKind → Bool
+is_cancelling None = false
+is_cancelling (Some kind) = is_cancel kind
+
+-- why there is no plan
+abbrev pub plan_refusal : PlanFault → Refusal
+plan_refusal fault.NoWalk = refusal.NoWalk
+plan_refusal fault.TooLong = refusal.TooLong
+plan_refusal fault.Beyond = refusal.Beyond
+plan_refusal fault.Memory = refusal.Memory
+
+-- go on with the plan, or refuse for what there is none
+unfoldable pub if_planned : Result Trip PlanFault → (Trip → Outcome) → Outcome
+if_planned (Ok trip) rest = rest trip
+if_planned (Err why) rest = Refused (plan_refusal why)
+
+-- the job of a stop rides; each job is picked once
+abbrev pub riding_by : Stop × Job → Option (List ℕ × JobRow)
+riding_by served =
+    if is_pick served.0 then Some (served.1.name, record { load = served.1.load; origin = served.1.origin; target = served.1.target; phase = phase.Riding }) else None
+
+-- the jobs of an order ride
+abbrev pub riding : List Stop → List Job → List (List ℕ × JobRow)
+riding stops jobs = filter_map riding_by (zip stops jobs)
+
+-- the vehicle with an order message more, on a trip
+abbrev pub sent_on : VehicleRow → ℕ → ℕ → Option Trip → Vehicle
+sent_on row at number trip = record { row = record row { orders = record { count = number; at = at } }; trip = trip }
+
+-- ---- a new order
+
+-- the order is sent with this trip: its jobs ride, and its name is used
+abbrev pub order_sent : ℕ → List ℕ → VehicleKey → VehicleRow → List Stop → List Job → Option Trip → ℕ → Effect
+order_sent at order key row stops jobs trip number = record (told (answer.Update 0)) {
+  touched = Put key (Some (record { row = row; trip = None })) (sent_on row at number trip);
+  jobs = riding stops jobs;
+  uses = record { kind = used.Order; name = order } ∷ [];
+}
+
+-- it is sent, where what it is to hold is free: Held, Spent, Limit
+abbrev pub send_trip : World → ℕ → List ℕ → VehicleKey → VehicleRow → List Stop → List Job → Trip → Outcome
+send_trip world at order key row stops jobs trip =
+    if_free world key (footprint_of (record { node = row.node; rest = row.rest; trip = Some trip }))
+    (found (next_sent row.orders) refusal.Spent (λ number.
+    require (nat_lt (count_of world counted.Orders) most) refusal.Limit
+    (Made (order_sent at order key row stops jobs (Some trip) number))))
+
+-- its trip is planned: NoWalk, TooLong or Beyond; then as above
+abbrev pub send_order : World → ℕ → List ℕ → VehicleKey → VehicleRow → List Stop → List Job → ℕ → Outcome
+send_order world at order key row stops jobs edges =
+    found (layout_set world) refusal.NoWalk (λ layout.
+    if_planned (planned layout key jobs stops order row.node edges)
+    (send_trip world at order key row stops jobs))
+
+-- the vehicle can take it: OrderKnown where it reports this name, JobState where a job does not wait, Busy, Astray, Loaded, NotReady, InstantPending where a cancelOrder is pending; then as above
+abbrev pub take_order : World → ℕ → List ℕ → VehicleKey → VehicleRow → List Stop → List Job → ℕ → Outcome
+take_order world at order key row stops jobs edges =
+    require (not (is_reported row.reported order)) refusal.OrderKnown
+    (require (list_all waits jobs) refusal.JobState
+    (require (is_none (trip_of world key)) refusal.Busy
+    (require (is_none row.rest) refusal.Astray
+    (require (nat_le (loads_on world key + count_by is_pick stops) row.capacity) refusal.Loaded
+    (require row.ready refusal.NotReady
+    (require (not (is_cancelling row.pending)) refusal.InstantPending
+    (send_order world at order key row stops jobs edges)))))))
+
+-- POST /orders: Exists where the order's name was used, NoVehicle, BadStops, NoJob; then as above
+abbrev pub start_order : World → ℕ → List ℕ → VehicleKey → List Stop → ℕ → Outcome
+start_order world at order key stops edges =
+    require (not (is_used world used.Order order)) refusal.Exists
+    (found (row_of world key) refusal.NoVehicle (λ row.
+    require (stops_fit stops) refusal.BadStops
+    (found (jobs_for world stops) refusal.NoJob (λ jobs.
+    take_order world at order key row stops jobs edges))))
+
+-- ---- an update
+
+-- the open trip, where it is that of this order
+abbrev pub trip_for : Option Trip → List ℕ → Option Trip
+trip_for None order = None
+trip_for (Some trip) order = if pointwise nat_eq trip.order order then Some trip else None
+
+-- the vehicle has confirmed the last update that was sent
+abbrev pub is_confirmed : Option ℕ → ℕ → Bool
+is_confirmed None sent = false
+is_confirmed (Some update) sent = update == sent
+
+-- at least one edge is released, and the base does not pass the last node
+abbrev pub can_release : Trip → ℕ → Bool
+can_release trip edges = nat_lt 0 edges && nat_le (trip.base + edges) (length trip.edges)
+
+-- this update is sent: the trip has this much released
+abbrev pub update_sent : ℕ → VehicleKey → VehicleRow → Option Trip → Option Trip → ℕ → ℕ → Effect
+update_sent at key row old new update number =
+    record (told (answer.Update update)) { touched = Put key (Some (record { row = row; trip = old })) (sent_on row at number new) }
+
+-- it is sent, where what the vehicle is to hold is free: Beyond, Held, Spent
+abbrev pub send_update : World → ℕ → VehicleKey → VehicleRow → Trip → ℕ → ℕ → Outcome
+send_update world at key row trip update edges =
+    require (can_release trip edges) refusal.Beyond
+    (if_free world key (footprint_of (record { node = row.node; rest = row.rest; trip = Some (released trip edges) }))
+    (found (next_sent row.orders) refusal.Spent (λ number.
+    Made (update_sent at key row (Some trip) (Some (released trip edges)) update number))))
+
+-- the vehicle can take it: WrongUpdate where the number is not the next, NotConfirmed, NotReady, InstantPending where a cancelOrder is pending; then as above
+abbrev pub take_update : World → ℕ → VehicleKey → VehicleRow → Trip → ℕ → ℕ → Outcome
+take_update world at key row trip update edges =
+    require (update == trip.sent + 1) (refusal.WrongUpdate trip.sent)
+    (require (is_confirmed trip.confirmed trip.sent) refusal.NotConfirmed
+    (require row.ready refusal.NotReady
+    (require (not (is_cancelling row.pending)) refusal.InstantPending
+    (send_update world at key row trip update edges))))
+
+-- POST .../advance: NoVehicle, NoOrder where no trip of this order is open; then as above
+abbrev pub advance : World → ℕ → VehicleKey → List ℕ → ℕ → ℕ → Outcome
+advance world at key order update edges =
+    found (row_of world key) refusal.NoVehicle (λ row.
+    found (trip_for (trip_of world key) order) refusal.NoOrder (λ trip.
+    take_update world at key row trip update edges))

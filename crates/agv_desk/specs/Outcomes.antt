@@ -1,0 +1,160 @@
+-- What a call does: it is refused, or it changes the world and is answered. The checks stand in order, and the first that fails is the answer.
+use Rattle.std.specs.Prelude.{ℕ, Bool, true, false, List, [], ◌∷◌, ◌++◌, map, Option, None, Some, Ok, Err}
+use Rattle.std.specs.FinMap as finite
+use Rattle.agv_header.specs.Name.{name_cmp}
+use Rattle.agv_header.specs.declared.key.Thing.{Thing}
+use Rattle.agv_header.specs.declared.key.VehicleKey.{VehicleKey}
+use Rattle.agv_header.specs.declared.refusal.Refusal.{Refusal}
+use Rattle.agv_header.specs.declared.refusal.Refusal.TheVariants as refusal
+use Rattle.agv_layout.specs.Layout.{Layout}
+use Rattle.agv_message.specs.declared.order.ActKind.{ActKind}
+use Rattle.agv_stock.specs.Checks.{Checked}
+use Rattle.agv_stock.specs.declared.place.Place.{Place}
+use Rattle.agv_world.specs.Questions.{trip_of}
+use Rattle.agv_world.specs.TableChanges.{written, with_use, layout_changes, job_changes}
+use Rattle.agv_world.specs.VehicleChanges.{vehicle_changes, with_vehicle}
+use Rattle.agv_world.specs.Worlds.{Vehicle, World}
+use Rattle.agv_world.specs.declared.change.Change.{Change}
+use Rattle.agv_world.specs.declared.change.Change.TheVariants as row
+use Rattle.agv_world.specs.declared.key.UseKey.{UseKey}
+use Rattle.agv_world.specs.declared.row.JobRow.{JobRow}
+use Rattle.agv_world.specs.declared.row.VehicleRow.{VehicleRow}
+use Rattle.agv_desk.specs.declared.answer.Answer.{Answer}
+use Rattle.agv_desk.specs.declared.answer.Answer.TheVariants as answer
+use Rattle.agv_desk.specs.declared.answer.Decision.{Decision}
+
+-- ---- what is done
+
+-- why a load moves: it is registered, a person or a stocktake has recorded where it is, or an act of an order is finished
+pub data Cause : Type 0 where
+  Registered : Cause
+  Recorded : Cause
+  Acted : (kind : ActKind) → (order : List ℕ) → (job : List ℕ) → Cause
+
+-- a load is at this place from now on
+pub record Move : Type 0 where
+  pub load : List ℕ
+  pub place : Place
+  pub cause : Cause
+
+-- what becomes of the vehicles: nothing; the row of one changes, and it stands as before with the trip that it has; or one is written in place of the old one, and stands otherwise or its trip changes
+pub data Touched : Type 0 where
+  Nothing : Touched
+  Noted : (key : VehicleKey) → (row : VehicleRow) → Touched
+  Put : (key : VehicleKey) → (old : Option Vehicle) → (new : Vehicle) → Touched
+
+-- what a call does that is not refused: its answer; the layout, where it is set; the vehicle that it touches; the loads that it moves, in order; the jobs that it writes; and the names that it uses
+pub record Effect : Type 0 where
+  pub answer : Answer
+  pub layout : Option Layout
+  pub touched : Touched
+  pub moves : List Move
+  pub jobs : List (List ℕ × JobRow)
+  pub uses : List UseKey
+
+-- an answer, and nothing changes
+abbrev pub told : Answer → Effect
+told said = record { answer = said; layout = None; touched = Nothing; moves = []; jobs = []; uses = [] }
+
+-- a call is refused, or it has an effect
+pub data Outcome : Type 0 where
+  Refused : (why : Refusal) → Outcome
+  Made : (effect : Effect) → Outcome
+
+-- ---- checks
+
+-- go on where the test passes, else refuse
+unfoldable pub require : Bool → Refusal → Outcome → Outcome
+require true why rest = rest
+require false why rest = Refused why
+
+-- go on with what is there, else refuse
+unfoldable pub found : {X : Type 0} → Option X → Refusal → (X → Outcome) → Outcome
+found None why rest = Refused why
+found (Some x) why rest = rest x
+
+-- go on where the checks of a load pass, else refuse as they do
+unfoldable pub checked : Checked → Outcome → Outcome
+checked (Ok passed) rest = rest
+checked (Err why) rest = Refused why
+
+-- go on where no other vehicle holds any of the things, else refuse with the first that one holds
+unfoldable pub unheld : Option (Thing × VehicleKey) → Outcome → Outcome
+unheld None rest = rest
+unheld (Some held) rest = Refused (refusal.Held held.0 held.1)
+
+-- one way or the other
+unfoldable pub branch : Bool → Outcome → Outcome → Outcome
+branch true one other = one
+branch false one other = other
+
+-- ---- the world after a call
+
+-- the loads are at their new places
+abbrev pub moved : finite.FinMap name_cmp Place → List Move → finite.FinMap name_cmp Place
+moved places [] = places
+moved places (move ∷ moves) = moved (finite.insert places move.load move.place) moves
+
+-- the names are used
+abbrev pub with_uses : World → List UseKey → World
+with_uses world [] = world
+with_uses world (key ∷ keys) = with_uses (with_use world key.kind key.name) keys
+
+-- the vehicle is touched
+abbrev pub with_touched : World → Touched → World
+with_touched world Nothing = world
+with_touched world (Noted key row) = with_vehicle world key (record { row = row; trip = trip_of world key })
+with_touched world (Put key old new) = with_vehicle world key new
+
+-- the layout is set
+abbrev pub with_layout : World → Option Layout → World
+with_layout world None = world
+with_layout world (Some layout) = record world { layout = layout }
+
+-- the world after an effect
+abbrev pub with_effect : World → Effect → World
+with_effect world effect =
+    let touched = with_touched (with_layout world effect.layout) effect.touched in
+    with_uses (record touched { places = moved touched.places effect.moves; jobs = written touched.jobs effect.jobs }) effect.uses
+
+-- the world after a call; a refused call leaves it
+unfoldable pub after : World → Outcome → World
+after world (Refused why) = world
+after world (Made effect) = with_effect world effect
+
+-- the answer to a call
+unfoldable pub answer_of : Outcome → Answer
+answer_of (Refused why) = answer.Refused why
+answer_of (Made effect) = effect.answer
+
+-- the moves of a call
+unfoldable pub moves_of : Outcome → List Move
+moves_of (Refused why) = []
+moves_of (Made effect) = effect.moves
+
+-- ---- the rows that a call changes
+
+-- the rows of the layout
+abbrev pub laid_changes : Option Layout → List Change
+laid_changes None = []
+laid_changes (Some layout) = layout_changes layout
+
+-- the rows of the vehicle
+abbrev pub touched_changes : Touched → List Change
+touched_changes Nothing = []
+touched_changes (Noted key vehicle) = row.Vehicle key vehicle ∷ []
+touched_changes (Put key old new) = vehicle_changes key old new
+
+-- all rows
+abbrev pub changes_of : Effect → List Change
+changes_of effect =
+    laid_changes effect.layout
+    ++ (touched_changes effect.touched
+    ++ (map (λ (move : Move). row.Load move.load move.place) effect.moves
+    ++ (job_changes effect.jobs
+    ++ map (λ (key : UseKey). row.Used key) effect.uses)))
+
+-- what is decided: the answer, and the rows that change
+unfoldable pub decided : Outcome → Decision
+decided (Refused why) = record { answer = answer.Refused why; changes = [] }
+decided (Made effect) = record { answer = effect.answer; changes = changes_of effect }

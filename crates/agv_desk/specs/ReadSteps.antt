@@ -1,0 +1,60 @@
+-- The calls that only tell (this project's profile).
+use Rattle.std.specs.Prelude.{ℕ, List, Option, None, Some}
+use Rattle.std.specs.FinMap as finite
+use Rattle.std.specs.Option.{option_map}
+use Rattle.agv_header.specs.declared.key.VehicleKey.{VehicleKey}
+use Rattle.agv_header.specs.declared.refusal.Refusal.TheVariants as refusal
+use Rattle.agv_message.specs.declared.header.Header.{Header}
+use Rattle.agv_message.specs.declared.instant.InstantKind.{InstantKind}
+use Rattle.agv_order.specs.Messages.{message_of}
+use Rattle.agv_order.specs.declared.trip.Trip.{Trip}
+use Rattle.agv_world.specs.Questions.{row_of, trip_of, job_of}
+use Rattle.agv_world.specs.Worlds.{World}
+use Rattle.agv_world.specs.declared.row.Sent.{Sent}
+use Rattle.agv_world.specs.declared.row.VehicleRow.{VehicleRow}
+use Rattle.agv_desk.specs.Outcomes.{Outcome, Made, found, told}
+use Rattle.agv_desk.specs.declared.answer.Answer.{Answer}
+use Rattle.agv_desk.specs.declared.answer.Answer.TheVariants as answer
+use Rattle.agv_desk.specs.declared.answer.OpenOrder.{OpenOrder}
+
+-- what the last message of a topic begins with
+abbrev pub last_header : VehicleKey → Sent → Header
+last_header key sent = record { number = sent.count; at = sent.at; key = key }
+
+-- the last order message of an open trip
+abbrev pub order_told : VehicleKey → VehicleRow → Option Trip → Answer
+order_told key row None = answer.NoMessage
+order_told key row (Some trip) = answer.Order (last_header key row.orders) (message_of trip)
+
+-- the last instantActions message, while its action is pending
+abbrev pub instant_told : VehicleKey → VehicleRow → Option InstantKind → Answer
+instant_told key row None = answer.NoMessage
+instant_told key row (Some kind) = answer.Instant (last_header key row.instants) (record { kind = kind })
+
+-- GET .../order: NoVehicle
+abbrev pub get_order : World → VehicleKey → Outcome
+get_order world key =
+    found (row_of world key) refusal.NoVehicle (λ row.
+    Made (told (order_told key row (trip_of world key))))
+
+-- GET .../instantActions: NoVehicle
+abbrev pub get_instant : World → VehicleKey → Outcome
+get_instant world key =
+    found (row_of world key) refusal.NoVehicle (λ row.
+    Made (told (instant_told key row row.pending)))
+
+-- GET /loads/{load}: NoLoad
+abbrev pub get_load : World → List ℕ → Outcome
+get_load world load =
+    found (finite.get world.places load) refusal.NoLoad (λ place.
+    Made (told (answer.Load load place (job_of world load))))
+
+-- the open order of a trip
+abbrev pub open_order : Trip → OpenOrder
+open_order trip = record { order = trip.order; sent = trip.sent; confirmed = trip.confirmed }
+
+-- GET /vehicles/{m}/{s}: NoVehicle
+abbrev pub get_vehicle : World → VehicleKey → Outcome
+get_vehicle world key =
+    found (row_of world key) refusal.NoVehicle (λ row.
+    Made (told (answer.Vehicle key row (option_map open_order (trip_of world key)))))

@@ -1,0 +1,43 @@
+-- The sizes that an open trip has (this project's profile): a well-formed trip has them.
+use Rattle.std.specs.Prelude.{◌≤◌, length, Option, None, Some}
+use Rattle.agv_order.specs.declared.trip.Trip.{Trip}
+use Rattle.agv_world.specs.Questions.{trip_of}
+use Rattle.agv_world.specs.Worlds.{World}
+use Rattle.agv_desk.specs.declared.call.Call.{Call}
+use Rattle.agv_desk.specs.declared.call.Call.TheVariants as call
+
+-- a trip, if there is one, has at most 200 edges
+abbrev pub IsShort : Option Trip → Type 0
+IsShort None = Unit {0}
+IsShort (Some trip) = length trip.edges ≤ 200
+
+-- a trip, if there is one, has at most 200 edges and eight acts, and no more updates were sent than edges are released
+abbrev pub IsOfSize : Option Trip → Type 0
+IsOfSize None = Unit {0}
+IsOfSize (Some trip) = (length trip.edges ≤ 200) × (length trip.acts ≤ 8) × (trip.sent ≤ trip.base)
+
+-- so is the open trip of the vehicle, for a call that looks at how it goes on: an update, a place, a state, and the question for the last order message; the other calls ask for nothing
+abbrev pub IsServed : World → Call → Type 0
+IsServed world (call.SetLayout rows) = Unit {0}
+IsServed world (call.RegisterVehicle key node capacity) = Unit {0}
+IsServed world (call.RegisterLoad load station) = Unit {0}
+IsServed world (call.CorrectLoad load reference station) = Unit {0}
+IsServed world (call.LeaveLoad load reference) = Unit {0}
+IsServed world (call.AddJob job load to) = Unit {0}
+IsServed world (call.StopJob job) = Unit {0}
+IsServed world (call.StartOrder order key stops edges) = Unit {0}
+IsServed world (call.Advance key order update edges) = IsOfSize (trip_of world key)
+IsServed world (call.Cancel key) = Unit {0}
+IsServed world (call.Pause key) = Unit {0}
+IsServed world (call.Resume key) = Unit {0}
+IsServed world (call.PlaceVehicle key reference node) = IsOfSize (trip_of world key)
+IsServed world (call.Resync key) = Unit {0}
+IsServed world (call.State key state) = IsOfSize (trip_of world key)
+IsServed world (call.GetOrder key) = IsOfSize (trip_of world key)
+IsServed world (call.GetInstant key) = Unit {0}
+IsServed world (call.Stocktake reference rows) = Unit {0}
+IsServed world (call.GetLoad load) = Unit {0}
+IsServed world (call.GetVehicle key) = Unit {0}
+IsServed world call.StockReport = Unit {0}
+IsServed world call.HoldReport = Unit {0}
+IsServed world call.LoadsExport = Unit {0}

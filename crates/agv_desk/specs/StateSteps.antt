@@ -1,0 +1,97 @@
+-- A state message of a vehicle (VDA 5050 2.0, state; this project's profile). It looks at no place, room or holder.
+use Rattle.std.specs.Prelude.{ℕ, nat_lt, nat_eq, Bool, true, false, is_none, is_some, if◌then◌else◌, Option, None, Some, Result, Ok, Err}
+use Rattle.std.specs.Cmp.Lexicographic.{pointwise}
+use Rattle.std.specs.List.{zip}
+use Rattle.std.specs.Option.{option_map, unwrap_or}
+use Rattle.agv_header.specs.Name.{as_name}
+use Rattle.agv_header.specs.declared.key.VehicleKey.{VehicleKey}
+use Rattle.agv_header.specs.declared.refusal.Refusal.{Refusal}
+use Rattle.agv_header.specs.declared.refusal.Refusal.TheVariants as refusal
+use Rattle.agv_message.specs.declared.instant.InstantKind.{InstantKind}
+use Rattle.agv_message.specs.declared.state.StateMessage.{StateMessage}
+use Rattle.agv_order.specs.Trips.{node_at}
+use Rattle.agv_order.specs.declared.trip.Trip.{Trip}
+use Rattle.agv_track.specs.Idle.{judged_idle}
+use Rattle.agv_track.specs.Judgements.{judged}
+use Rattle.agv_track.specs.Progressed.{progressed}
+use Rattle.agv_track.specs.declared.pending.Pending.{Pending}
+use Rattle.agv_track.specs.declared.progress.Progress.{Progress}
+use Rattle.agv_world.specs.Questions.{row_of, trip_of}
+use Rattle.agv_world.specs.Worlds.{World}
+use Rattle.agv_world.specs.declared.row.VehicleRow.{VehicleRow}
+use Rattle.agv_desk.specs.JobSteps.{act_moves, act_jobs}
+use Rattle.agv_desk.specs.Outcomes.{Outcome, Refused, Made, Noted, Put, require, found, branch, told}
+use Rattle.agv_desk.specs.declared.answer.Answer.TheVariants as answer
+
+-- ---- words
+
+-- the state is newer than the last one that was accepted, if there was one
+abbrev pub is_fresh : Option ℕ → ℕ → Bool
+is_fresh None number = true
+is_fresh (Some last) number = nat_lt last number
+
+-- the pending action of a vehicle: its number is that of the last instantActions message
+abbrev pub pending_of : VehicleRow → Option Pending
+pending_of row = option_map (λ (kind : InstantKind). record { kind = kind; number = row.instants.count }) row.pending
+
+-- what an accepted state records: its number, its order where that is a name, whether the vehicle is ready and paused; and a pending action that is over is none
+abbrev pub heard : VehicleRow → StateMessage → Bool → VehicleRow
+heard row state over = record row {
+  last_header = Some state.header_id;
+  reported = as_name state.order_id;
+  ready = state.ready;
+  paused = state.paused;
+  pending = if over then None else row.pending;
+}
+
+-- go on with what is judged, or refuse as the judgement does
+unfoldable pub if_judged : {X : Type 0} → Result X Refusal → (X → Outcome) → Outcome
+if_judged (Ok x) rest = rest x
+if_judged (Err why) rest = Refused why
+
+-- ---- without a trip
+
+-- the state of an idle vehicle: ActionTwice, NotThere
+abbrev pub idle_state : VehicleKey → VehicleRow → StateMessage → Outcome
+idle_state key row state =
+    if_judged (judged_idle row.node (pending_of row) state) (λ over.
+    Made (record (told (answer.Accepted true)) { touched = Noted key (heard row state over) }))
+
+-- ---- on a trip
+
+-- the trip, where it has not ended
+abbrev pub trip_left : Trip → Progress → Option Trip
+trip_left trip progress = if is_some progress.«end» then None else Some (progressed trip progress)
+
+-- the vehicle has reached the node; where its trip is cancelled it may have gone on, to the next edge and node
+abbrev pub row_after : VehicleRow → Trip → StateMessage → Progress → VehicleRow
+row_after row trip state progress = record (heard row state progress.pending_over) {
+  node = unwrap_or (node_at trip progress.seen) row.node;
+  rest = progress.rest;
+}
+
+-- the state of a vehicle on its trip: the judgement's refusals, or the trip goes on or ends, the loads move by the acts that become finished, and the jobs are done or stop
+abbrev pub trip_state : World → VehicleKey → VehicleRow → Trip → StateMessage → Outcome
+trip_state world key row trip state =
+    if_judged (judged trip (pending_of row) state) (λ progress.
+    Made (record (told (answer.Accepted true)) {
+      touched = Put key (Some (record { row = row; trip = Some trip })) (record { row = row_after row trip state progress; trip = trip_left trip progress });
+      moves = act_moves key trip.order (zip trip.acts progress.statuses);
+      jobs = act_jobs world (is_some progress.«end») (zip trip.acts progress.statuses);
+    }))
+
+-- ---- the call
+
+-- a state is judged against the open trip where it speaks of its order; OtherOrder where it speaks of another one and the trip is confirmed; else the vehicle counts as idle
+abbrev pub fresh_state : World → VehicleKey → VehicleRow → Option Trip → StateMessage → Outcome
+fresh_state world key row None state = idle_state key row state
+fresh_state world key row (Some trip) state =
+    branch (pointwise nat_eq trip.order state.order_id) (trip_state world key row trip state)
+    (require (is_none trip.confirmed) refusal.OtherOrder (idle_state key row state))
+
+-- POST /uagv/v2/{m}/{s}/state: NoVehicle; an old state changes nothing; else as above
+abbrev pub take_state : World → VehicleKey → StateMessage → Outcome
+take_state world key state =
+    found (row_of world key) refusal.NoVehicle (λ row.
+    branch (is_fresh row.last_header state.header_id) (fresh_state world key row (trip_of world key) state)
+    (Made (told (answer.Accepted false))))

@@ -1,0 +1,20 @@
+-- What a stocktake leaves, in the words of a warehouse (this project's profile).
+use Rattle.std.specs.Prelude.{◌≡◌, ◌↔◌, ℕ, true, false, List, None, Some}
+use Rattle.std.specs.FinMap as finite
+use Rattle.agv_header.specs.Name.{name_cmp}
+use Rattle.agv_stock.specs.declared.place.Place.{Place}
+use Rattle.agv_stock.specs.declared.place.Place.TheVariants as place
+use Rattle.agv_world.specs.Worlds.{World}
+use Rattle.agv_desk.specs.StocktakeSteps.{Row, found_at, is_counted, is_here}
+
+-- the load stands at no station that was counted
+abbrev pub IsElsewhere : World → List Row → List ℕ → Type 0
+IsElsewhere world rows load = (station : List ℕ) → finite.get world.places load ≡ Some (place.Station station) → is_counted rows station ≡ false
+
+-- where the loads are afterwards, by what was counted: at a counted station just the loads that were found there, are registered and have not left; at the checking place each load that stood at a counted station and was not found; each other load where it was; and no load that is not registered or has left comes back
+pub record IsStockTaken (world : World) (rows : List Row) (places : finite.FinMap name_cmp Place) : Type 0 where
+  pub found : (station load : List ℕ) → is_counted rows station ≡ true
+      → (finite.get places load ≡ Some (place.Station station)) ↔ ((found_at rows load ≡ Some station) × (is_here (finite.get world.places load) ≡ true))
+  pub missed : (station load : List ℕ) → is_counted rows station ≡ true → finite.get world.places load ≡ Some (place.Station station) → found_at rows load ≡ None → finite.get places load ≡ Some place.Checking
+  pub others : (load : List ℕ) → found_at rows load ≡ None → IsElsewhere world rows load → finite.get places load ≡ finite.get world.places load
+  pub gone : (load : List ℕ) → is_here (finite.get world.places load) ≡ false → finite.get places load ≡ finite.get world.places load

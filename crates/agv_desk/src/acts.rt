@@ -1,0 +1,166 @@
+//! What becomes of the loads and the jobs of a trip, as its acts are carried out and as it ends.
+ghost use Rattle.std.specs.Prelude.{◌≡◌, ◌++◌, ◌∷◌, [], ℕ, true, List, map, IfOk, OnOk, OnErr};
+ghost use Rattle.std.specs.List.{zip};
+ghost use Rattle.std.specs.Option.{option_map};
+ghost use Rattle.agv_world.specs.Fails.{Fails};
+ghost use Rattle.agv_world.specs.declared.change.Change.TheVariants as row;
+ghost use Rattle.agv_world.specs.declared.row.JobRow.{JobRow as JobRowOf};
+ghost use Rattle.agv_desk.specs.JobSteps.{act_jobs, act_moves, as_it_is, becomes_finished, job_in, jobs_stopped, phase_by, taken_to};
+ghost use Rattle.agv_desk.specs.Outcomes.{Move};
+
+use agv_header::{Memory, VehicleKey};
+use agv_message::{ActKind, Status};
+use agv_order::{Act, Trip};
+use agv_stock::{Phase, Place};
+use agv_world::{Change, Fault, Floor, JobRow};
+
+// Whether the act becomes finished.
+fn becomes_finished(act: &Act, status: Status) -> bool
+    ensures { result ≡ becomes_finished (act.now, status) }
+{
+    matches!(status, Status::Finished) && !matches!(act.status, Status::Finished)
+}
+
+// Where the act takes its load: a pick to the vehicle, and a drop to the station.
+fn taken_to(key: &VehicleKey, act: &Act) -> Place
+    ensures { result ≡ taken_to key.now act.now.kind act.now.station }
+{
+    match act.kind {
+        ActKind::Pick => Place::Vehicle(*key),
+        ActKind::Drop => Place::Station(act.station),
+    }
+}
+
+// Moves the load of an act that becomes finished.
+fn move_load(
+    key: &VehicleKey,
+    act: &Act,
+    status: Status,
+    changes: &mut Vec<Change>,
+) -> Result<(), Memory>
+    ensures { (order : List ℕ) → OnOk result (changes.new.items ≡ changes.old.items ++ map (λ (move : Move). row.Load move.load move.place) (act_moves key.now order ((act.now, status) ∷ []))) }
+{
+    if becomes_finished(act, status) {
+        changes.push(Change::Load(act.load, taken_to(key, act)))?;
+    }
+    Ok(())
+}
+
+/// Moves the loads of the acts that become finished, in their order.
+pub(crate) fn move_loads(
+    key: &VehicleKey,
+    acts: &[Act],
+    statuses: &[Status],
+    changes: &mut Vec<Change>,
+) -> Result<(), Memory>
+    ensures { (order : List ℕ) → OnOk result (changes.new.items ≡ changes.old.items ++ map (λ (move : Move). row.Load move.load move.place) (act_moves key.now order (zip acts.now statuses.now))) }
+{
+    for (act, status) in acts.iter().zip(statuses) {
+        move_load(key, act, *status, changes)?;
+    }
+    Ok(())
+}
+
+// The phase that a job gets by its drop, if it changes; `ended` says whether the trip has.
+fn phase_by(ended: bool, act: &Act, status: Status) -> Option<Phase>
+    ensures { result ≡ phase_by ended (act.now, status) }
+{
+    if matches!(act.kind, ActKind::Pick) {
+        None
+    } else if becomes_finished(act, status) {
+        Some(Phase::Done)
+    } else if ended && !matches!(status, Status::Finished) {
+        Some(Phase::Stopped)
+    } else {
+        None
+    }
+}
+
+// The row of a job in this phase, if there is a phase and the job is there.
+fn job_in<F: Floor>(floor: &mut F, act: &Act, phase: Option<Phase>) -> Result<Option<JobRow>, Fault>
+    ensures told { F.is_clean floor.new → IfOk result (λ row. (option_map (λ (job : JobRowOf). (act.now.job, job)) row ≡ job_in (F.world floor.old) act.now.job phase) × (F.world floor.new ≡ F.world floor.old)) }
+    ensures left { F.is_clean floor.new → F.is_open floor.new → OnErr result (F.world floor.new ≡ F.world floor.old) }
+    ensures earlier { F.is_clean floor.new → F.is_clean floor.old × (F.is_open floor.new → F.is_open floor.old) }
+    ensures fails { Fails result (F.failed floor.old) (F.failed floor.new) }
+    ensures same { F.seats floor.new ≡ F.seats floor.old }
+{
+    let Some(phase) = phase else {
+        return Ok(None);
+    };
+    match floor.job(act.job)? {
+        Some(row) => Ok(Some(JobRow { phase, ..row })),
+        None => Ok(None),
+    }
+}
+
+// Writes the job of an act, where its phase changes; `ended` says whether the trip has.
+fn write_job<F: Floor>(
+    floor: &mut F,
+    ended: bool,
+    act: &Act,
+    status: Status,
+    changes: &mut Vec<Change>,
+) -> Result<(), Fault>
+    ensures told { F.is_clean floor.new → OnOk result ((changes.new.items ≡ changes.old.items ++ map (λ (job : List ℕ × JobRowOf). row.Job job.0 job.1) (act_jobs (F.world floor.old) ended ((act.now, status) ∷ []))) × (F.world floor.new ≡ F.world floor.old)) }
+    ensures left { F.is_clean floor.new → F.is_open floor.new → OnErr result (F.world floor.new ≡ F.world floor.old) }
+    ensures earlier { F.is_clean floor.new → F.is_clean floor.old × (F.is_open floor.new → F.is_open floor.old) }
+    ensures fails { Fails result (F.failed floor.old) (F.failed floor.new) }
+    ensures same { F.seats floor.new ≡ F.seats floor.old }
+{
+    if let Some(row) = job_in(floor, act, phase_by(ended, act, status))? {
+        changes.push(Change::Job(act.job, row))?;
+    }
+    Ok(())
+}
+
+/// Writes the jobs whose phase changes, in the order of the acts; `ended` says whether the trip has.
+pub(crate) fn write_jobs<F: Floor>(
+    floor: &mut F,
+    ended: bool,
+    acts: &[Act],
+    statuses: &[Status],
+    changes: &mut Vec<Change>,
+) -> Result<(), Fault>
+    ensures told { F.is_clean floor.new → OnOk result ((changes.new.items ≡ changes.old.items ++ map (λ (job : List ℕ × JobRowOf). row.Job job.0 job.1) (act_jobs (F.world floor.old) ended (zip acts.now statuses.now))) × (F.world floor.new ≡ F.world floor.old)) }
+    ensures left { F.is_clean floor.new → F.is_open floor.new → OnErr result (F.world floor.new ≡ F.world floor.old) }
+    ensures earlier { F.is_clean floor.new → F.is_clean floor.old × (F.is_open floor.new → F.is_open floor.old) }
+    ensures fails { Fails result (F.failed floor.old) (F.failed floor.new) }
+    ensures same { F.seats floor.new ≡ F.seats floor.old }
+{
+    for (act, status) in acts.iter().zip(statuses) {
+        write_job(floor, ended, act, *status, changes)?;
+    }
+    Ok(())
+}
+
+// Writes the jobs of acts that stay as they are, where a trip ends with them.
+fn stop_acts<F: Floor>(floor: &mut F, acts: &[Act], changes: &mut Vec<Change>) -> Result<(), Fault>
+    ensures told { F.is_clean floor.new → OnOk result ((changes.new.items ≡ changes.old.items ++ map (λ (job : List ℕ × JobRowOf). row.Job job.0 job.1) (act_jobs (F.world floor.old) true (map as_it_is acts.now))) × (F.world floor.new ≡ F.world floor.old)) }
+    ensures left { F.is_clean floor.new → F.is_open floor.new → OnErr result (F.world floor.new ≡ F.world floor.old) }
+    ensures earlier { F.is_clean floor.new → F.is_clean floor.old × (F.is_open floor.new → F.is_open floor.old) }
+    ensures fails { Fails result (F.failed floor.old) (F.failed floor.new) }
+    ensures same { F.seats floor.new ≡ F.seats floor.old }
+{
+    for act in acts {
+        write_job(floor, true, act, act.status, changes)?;
+    }
+    Ok(())
+}
+
+/// Writes the jobs that stop where a trip, if there is one, ends as it stands.
+pub(crate) fn stop_jobs<F: Floor>(
+    floor: &mut F,
+    trip: &Option<Trip>,
+    changes: &mut Vec<Change>,
+) -> Result<(), Fault>
+    ensures told { F.is_clean floor.new → OnOk result ((changes.new.items ≡ changes.old.items ++ map (λ (job : List ℕ × JobRowOf). row.Job job.0 job.1) (jobs_stopped (F.world floor.old) trip.now)) × (F.world floor.new ≡ F.world floor.old)) }
+    ensures left { F.is_clean floor.new → F.is_open floor.new → OnErr result (F.world floor.new ≡ F.world floor.old) }
+    ensures earlier { F.is_clean floor.new → F.is_clean floor.old × (F.is_open floor.new → F.is_open floor.old) }
+    ensures fails { Fails result (F.failed floor.old) (F.failed floor.new) }
+    ensures same { F.seats floor.new ≡ F.seats floor.old }
+{
+    match trip {
+        Some(trip) => stop_acts(floor, trip.acts.as_slice(), changes),
+        None => Ok(()),
+    }
+}

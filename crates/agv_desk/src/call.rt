@@ -1,0 +1,115 @@
+//! Calls.
+
+use agv_header::{Name, VehicleKey};
+use agv_layout::LayoutRow;
+use agv_message::{Sequence, StateMessage};
+use agv_order::Stop;
+
+/// What the desk is asked to do, or to tell.
+#[derive(Debug, Drop)]
+pub enum Call {
+    /// Sets the layout, once for good.
+    SetLayout {
+        rows: Sequence<LayoutRow>,
+    },
+    /// Registers a vehicle that stands at a node, and carries so many loads at once.
+    RegisterVehicle {
+        key: VehicleKey,
+        node: Name,
+        capacity: u32,
+    },
+    /// Registers a load that stands at a station, or else at the checking place.
+    RegisterLoad {
+        load: Name,
+        station: Option<Name>,
+    },
+    /// A person has found the load at this station, or else at the checking place.
+    CorrectLoad {
+        load: Name,
+        reference: Name,
+        station: Option<Name>,
+    },
+    /// A load leaves the warehouse.
+    LeaveLoad {
+        load: Name,
+        reference: Name,
+    },
+    /// A load is to be carried to a station.
+    AddJob {
+        job: Name,
+        load: Name,
+        to: Name,
+    },
+    /// A job that waits is taken back.
+    StopJob {
+        job: Name,
+    },
+    /// A vehicle gets an order that makes these stops, of which the first `edges` edges are released.
+    StartOrder {
+        order: Name,
+        key: VehicleKey,
+        stops: Sequence<Stop>,
+        edges: u32,
+    },
+    /// The update of this number releases so many edges more.
+    Advance {
+        key: VehicleKey,
+        order: Name,
+        update: u32,
+        edges: u32,
+    },
+    /// The order of a vehicle is to be cancelled.
+    Cancel {
+        key: VehicleKey,
+    },
+    /// A vehicle is to pause.
+    Pause {
+        key: VehicleKey,
+    },
+    /// A vehicle is to go on.
+    Resume {
+        key: VehicleKey,
+    },
+    /// A person has put the vehicle on this node; its order, if it has one, is over.
+    PlaceVehicle {
+        key: VehicleKey,
+        reference: Name,
+        node: Name,
+    },
+    /// The number of the vehicle's last state is forgotten, since the vehicle begins anew.
+    Resync {
+        key: VehicleKey,
+    },
+    /// A state message of a vehicle.
+    State {
+        key: VehicleKey,
+        state: StateMessage,
+    },
+    /// The last order message of the vehicle's open order.
+    GetOrder {
+        key: VehicleKey,
+    },
+    /// The last instantActions message, while its action is pending.
+    GetInstant {
+        key: VehicleKey,
+    },
+    /// What was counted: at each of these stations the load, or none. All stations of the rows were counted.
+    Stocktake {
+        reference: Name,
+        rows: Sequence<(Name, Option<Name>)>,
+    },
+    /// Where a load is, and its live job.
+    GetLoad {
+        load: Name,
+    },
+    /// What is known of a vehicle.
+    GetVehicle {
+        key: VehicleKey,
+    },
+    /// The stock report.
+    StockReport,
+    /// The hold report.
+    HoldReport,
+    /// The export of all loads.
+    LoadsExport,
+}

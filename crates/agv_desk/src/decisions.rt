@@ -1,0 +1,44 @@
+//! What is decided.
+ghost use Rattle.std.specs.Prelude.{◌≡◌, IfOk, [], ◌∷◌};
+ghost use Rattle.agv_desk.specs.Outcomes.{Made, Noted, Refused, decided, told};
+
+use crate::{Answer, Decision};
+use agv_header::{Memory, Refusal, VehicleKey};
+use agv_message::Sequence;
+use agv_world::{Change, VehicleRow};
+use std::alloc::Global;
+
+/// A call is refused, and changes nothing.
+pub(crate) fn refused(alloc: Global, why: Refusal) -> Decision
+    ensures { result ≡ decided (Refused why) }
+{
+    Decision {
+        answer: Answer::Refused(why),
+        changes: Sequence::from(Vec::new(alloc)),
+    }
+}
+
+/// An answer, and the rows that change.
+pub(crate) fn made(answer: Answer, changes: Vec<Change>) -> Decision
+    ensures answer { result.answer ≡ answer }
+    ensures changes { result.changes ≡ changes.items }
+{
+    Decision {
+        answer,
+        changes: Sequence::from(changes),
+    }
+}
+
+/// An answer, and the row of a vehicle that stands as before.
+pub(crate) fn noted(
+    alloc: Global,
+    answer: Answer,
+    key: VehicleKey,
+    row: VehicleRow,
+) -> Result<Decision, Memory>
+    ensures { IfOk result (λ decision. decision ≡ decided (Made (record (told answer) { touched = Noted key row }))) }
+{
+    let mut changes = Vec::new(alloc);
+    changes.push(Change::Vehicle(key, row))?;
+    Ok(made(answer, changes))
+}

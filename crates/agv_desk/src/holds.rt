@@ -1,0 +1,89 @@
+//! What vehicles hold.
+ghost use Rattle.std.specs.Prelude.{◌≡◌, IfOk, OnErr, OnOk, ◌++◌, map};
+ghost use Rattle.std.specs.FinMap as finite;
+ghost use Rattle.agv_header.specs.declared.key.Thing.{Thing as Held};
+ghost use Rattle.agv_track.specs.Holders.{gained};
+ghost use Rattle.agv_track.specs.Holds.{first_held, is_in, other_holder};
+ghost use Rattle.agv_world.specs.Fails.{Fails};
+ghost use Rattle.agv_world.specs.Rows.{rows_of};
+ghost use Rattle.agv_world.specs.VehicleChanges.{hold_changes};
+ghost use Rattle.agv_world.specs.declared.change.Change.TheVariants as row;
+
+use agv_header::{Memory, Thing, VehicleKey};
+use agv_world::{Change, Fault, Floor};
+
+// The vehicle that holds the node or edge, where it is another one than this.
+#[tactic(auto, unfolding(agv_world::specs::Questions::holder_of))]
+fn other_holder<F: Floor>(
+    floor: &mut F,
+    key: &VehicleKey,
+    thing: &Thing,
+) -> Result<Option<VehicleKey>, Fault>
+    ensures told { F.is_clean floor.new → IfOk result (λ by. (by ≡ other_holder key.now (finite.get (rows_of (F.world floor.old)).holds thing.now)) × (F.world floor.new ≡ F.world floor.old)) }
+    ensures left { F.is_clean floor.new → F.is_open floor.new → OnErr result (F.world floor.new ≡ F.world floor.old) }
+    ensures earlier { F.is_clean floor.new → F.is_clean floor.old × (F.is_open floor.new → F.is_open floor.old) }
+    ensures fails { Fails result (F.failed floor.old) (F.failed floor.new) }
+    ensures same { F.seats floor.new ≡ F.seats floor.old }
+{
+    match floor.holder(*thing)? {
+        Some(by) if by != *key => Ok(Some(by)),
+        _ => Ok(None),
+    }
+}
+
+/// The first node or edge of the list that another vehicle holds, and that vehicle.
+pub(crate) fn first_held<F: Floor>(
+    floor: &mut F,
+    key: &VehicleKey,
+    things: &[Thing],
+) -> Result<Option<(Thing, VehicleKey)>, Fault>
+    ensures told { F.is_clean floor.new → IfOk result (λ held. (held ≡ first_held (rows_of (F.world floor.old)).holds key.now things.now) × (F.world floor.new ≡ F.world floor.old)) }
+    ensures left { F.is_clean floor.new → F.is_open floor.new → OnErr result (F.world floor.new ≡ F.world floor.old) }
+    ensures earlier { F.is_clean floor.new → F.is_clean floor.old × (F.is_open floor.new → F.is_open floor.old) }
+    ensures fails { Fails result (F.failed floor.old) (F.failed floor.new) }
+    ensures same { F.seats floor.new ≡ F.seats floor.old }
+{
+    for thing in things {
+        if let Some(by) = other_holder(floor, key, thing)? {
+            return Ok(Some((*thing, by)));
+        }
+    }
+    Ok(None)
+}
+
+// Whether the node or edge is in the list.
+fn is_in(thing: &Thing, things: &[Thing]) -> bool
+    ensures { result ≡ is_in thing.now things.now }
+{
+    things.iter().any(|other| thing == other)
+}
+
+// Writes the holder of what is in the new list and not in the old one.
+fn write_gained(
+    old: &[Thing],
+    new: &[Thing],
+    holder: &Option<VehicleKey>,
+    changes: &mut Vec<Change>,
+) -> Result<(), Memory>
+    ensures { OnOk result (changes.new.items ≡ changes.old.items ++ map (λ (thing : Held). row.Hold thing holder.now) (gained old.now new.now)) }
+{
+    for thing in new {
+        if !is_in(thing, old) {
+            changes.push(Change::Hold(*thing, *holder))?;
+        }
+    }
+    Ok(())
+}
+
+/// Writes what a vehicle holds from now on that it did not hold, and what it does not hold any more.
+pub(crate) fn write_holds(
+    key: &VehicleKey,
+    old: &[Thing],
+    new: &[Thing],
+    changes: &mut Vec<Change>,
+) -> Result<(), Memory>
+    ensures { OnOk result (changes.new.items ≡ changes.old.items ++ hold_changes key.now old.now new.now) }
+{
+    write_gained(old, new, &Some(*key), changes)?;
+    write_gained(new, old, &None, changes)
+}

@@ -1,0 +1,114 @@
+//! The calls that give a vehicle an instant action: it is told to cancel, to pause or to go on.
+ghost use Rattle.std.specs.Prelude.{◌≡◌, IfOk, OnErr, Some};
+ghost use Rattle.agv_world.specs.Fails.{Fails};
+ghost use Rattle.agv_desk.specs.Outcomes.{decided};
+ghost use Rattle.agv_desk.specs.VehicleSteps.{cancel, instruct, next_sent, pause, resume};
+
+use crate::decisions::{noted, refused};
+use crate::{Answer, Decision};
+use agv_header::{Memory, Moment, Refusal, VehicleKey, next_number};
+use agv_message::InstantKind;
+use agv_world::{Fault, Floor, Sent, VehicleRow};
+use std::alloc::Global;
+
+// The number of the next message of the topic; none where the numbers are used up.
+fn next_sent(sent: Sent) -> Option<u32>
+    ensures { result ≡ next_sent sent }
+{
+    next_number(sent.count)
+}
+
+// The row of a vehicle that was sent this action.
+fn instructed(row: VehicleRow, at: Moment, number: u32, kind: InstantKind) -> VehicleRow
+    ensures { result ≡ record row { instants = record { count = number; at = at }; pending = Some kind } }
+{
+    VehicleRow {
+        instants: Sent { count: number, at },
+        pending: Some(kind),
+        ..row
+    }
+}
+
+// An instant action for the vehicle, where none is pending.
+fn instruct(
+    alloc: Global,
+    at: Moment,
+    key: &VehicleKey,
+    row: VehicleRow,
+    kind: InstantKind,
+) -> Result<Decision, Memory>
+    ensures { IfOk result (λ decision. decision ≡ decided (instruct at key.now row kind)) }
+{
+    if row.pending.is_some() {
+        return Ok(refused(alloc, Refusal::InstantPending));
+    }
+    let Some(number) = next_sent(row.instants) else {
+        return Ok(refused(alloc, Refusal::Spent));
+    };
+    noted(
+        alloc,
+        Answer::Instructed(number),
+        *key,
+        instructed(row, at, number, kind),
+    )
+}
+
+/// The open order of a vehicle is to be cancelled.
+pub(crate) fn cancel<F: Floor>(
+    alloc: Global,
+    floor: &mut F,
+    at: Moment,
+    key: &VehicleKey,
+) -> Result<Decision, Fault>
+    ensures told { F.is_clean floor.new → IfOk result (λ decision. (decision ≡ decided (cancel (F.world floor.old) at key.now)) × (F.world floor.new ≡ F.world floor.old)) }
+    ensures left { F.is_clean floor.new → F.is_open floor.new → OnErr result (F.world floor.new ≡ F.world floor.old) }
+    ensures earlier { F.is_clean floor.new → F.is_clean floor.old × (F.is_open floor.new → F.is_open floor.old) }
+    ensures fails { Fails result (F.failed floor.old) (F.failed floor.new) }
+    ensures same { F.seats floor.new ≡ F.seats floor.old }
+{
+    let Some(row) = floor.vehicle(*key)? else {
+        return Ok(refused(alloc, Refusal::NoVehicle));
+    };
+    if floor.trip(*key)?.is_none() {
+        return Ok(refused(alloc, Refusal::NoOrder));
+    }
+    Ok(instruct(alloc, at, key, row, InstantKind::CancelOrder)?)
+}
+
+/// A vehicle is to pause.
+pub(crate) fn pause<F: Floor>(
+    alloc: Global,
+    floor: &mut F,
+    at: Moment,
+    key: &VehicleKey,
+) -> Result<Decision, Fault>
+    ensures told { F.is_clean floor.new → IfOk result (λ decision. (decision ≡ decided (pause (F.world floor.old) at key.now)) × (F.world floor.new ≡ F.world floor.old)) }
+    ensures left { F.is_clean floor.new → F.is_open floor.new → OnErr result (F.world floor.new ≡ F.world floor.old) }
+    ensures earlier { F.is_clean floor.new → F.is_clean floor.old × (F.is_open floor.new → F.is_open floor.old) }
+    ensures fails { Fails result (F.failed floor.old) (F.failed floor.new) }
+    ensures same { F.seats floor.new ≡ F.seats floor.old }
+{
+    let Some(row) = floor.vehicle(*key)? else {
+        return Ok(refused(alloc, Refusal::NoVehicle));
+    };
+    Ok(instruct(alloc, at, key, row, InstantKind::StartPause)?)
+}
+
+/// A vehicle is to go on.
+pub(crate) fn resume<F: Floor>(
+    alloc: Global,
+    floor: &mut F,
+    at: Moment,
+    key: &VehicleKey,
+) -> Result<Decision, Fault>
+    ensures told { F.is_clean floor.new → IfOk result (λ decision. (decision ≡ decided (resume (F.world floor.old) at key.now)) × (F.world floor.new ≡ F.world floor.old)) }
+    ensures left { F.is_clean floor.new → F.is_open floor.new → OnErr result (F.world floor.new ≡ F.world floor.old) }
+    ensures earlier { F.is_clean floor.new → F.is_clean floor.old × (F.is_open floor.new → F.is_open floor.old) }
+    ensures fails { Fails result (F.failed floor.old) (F.failed floor.new) }
+    ensures same { F.seats floor.new ≡ F.seats floor.old }
+{
+    let Some(row) = floor.vehicle(*key)? else {
+        return Ok(refused(alloc, Refusal::NoVehicle));
+    };
+    Ok(instruct(alloc, at, key, row, InstantKind::StopPause)?)
+}

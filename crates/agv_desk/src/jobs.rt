@@ -1,0 +1,94 @@
+//! The calls of jobs.
+ghost use Rattle.std.specs.Prelude.{◌≡◌, IfOk, OnErr};
+ghost use Rattle.agv_world.specs.Fails.{Fails};
+ghost use Rattle.agv_desk.specs.LoadSteps.{station_in, is_waiting, add_job, stop_job};
+ghost use Rattle.agv_desk.specs.Outcomes.{decided};
+
+use crate::decisions::{made, refused};
+use crate::loads::{MOST, goal_at, is_in_job};
+use crate::{Answer, Decision};
+use agv_header::{Name, Refusal};
+use agv_stock::{Phase, Place, can_job};
+use agv_world::{Change, Counted, Fault, Floor, JobRow};
+use std::alloc::Global;
+
+// The station where a load stands.
+fn station_in(place: Option<Place>) -> Option<Name>
+    ensures { result ≡ station_in place }
+{
+    match place? {
+        Place::Station(id) => Some(id),
+        Place::Vehicle(_) | Place::Checking | Place::Left => None,
+    }
+}
+
+// Whether a job waits for a vehicle.
+pub(crate) fn is_waiting(phase: Phase) -> bool
+    ensures { result ≡ is_waiting phase }
+{
+    match phase {
+        Phase::Waiting => true,
+        Phase::Riding | Phase::Done | Phase::Stopped => false,
+    }
+}
+
+/// A load is to be carried to a station.
+pub(crate) fn add_job<F: Floor>(
+    alloc: Global,
+    floor: &mut F,
+    job: Name,
+    load: Name,
+    to: Name,
+) -> Result<Decision, Fault>
+    ensures told { F.is_clean floor.new → IfOk result (λ decision. (decision ≡ decided (add_job (F.world floor.old) job load to)) × (F.world floor.new ≡ F.world floor.old)) }
+    ensures left { F.is_clean floor.new → F.is_open floor.new → OnErr result (F.world floor.new ≡ F.world floor.old) }
+    ensures earlier { F.is_clean floor.new → F.is_clean floor.old × (F.is_open floor.new → F.is_open floor.old) }
+    ensures fails { Fails result (F.failed floor.old) (F.failed floor.new) }
+    ensures same { F.seats floor.new ≡ F.seats floor.old }
+{
+    let known = floor.job(job)?.is_some();
+    let place = floor.place(load)?;
+    let live = is_in_job(floor, load)?;
+    let goal = goal_at(to, floor.room(to)?);
+    if let Err(why) = can_job(known, place, live, goal) {
+        return Ok(refused(alloc, why));
+    }
+    let Some(origin) = station_in(place) else {
+        return Ok(refused(alloc, Refusal::Elsewhere));
+    };
+    if floor.count(Counted::Jobs)? >= MOST {
+        return Ok(refused(alloc, Refusal::Limit));
+    }
+    let row = JobRow {
+        load,
+        origin,
+        target: to,
+        phase: Phase::Waiting,
+    };
+    let mut changes = Vec::new(alloc);
+    changes.push(Change::Job(job, row))?;
+    Ok(made(Answer::Done, changes))
+}
+
+/// A job that waits is taken back.
+pub(crate) fn stop_job<F: Floor>(alloc: Global, floor: &mut F, job: Name) -> Result<Decision, Fault>
+    ensures told { F.is_clean floor.new → IfOk result (λ decision. (decision ≡ decided (stop_job (F.world floor.old) job)) × (F.world floor.new ≡ F.world floor.old)) }
+    ensures left { F.is_clean floor.new → F.is_open floor.new → OnErr result (F.world floor.new ≡ F.world floor.old) }
+    ensures earlier { F.is_clean floor.new → F.is_clean floor.old × (F.is_open floor.new → F.is_open floor.old) }
+    ensures fails { Fails result (F.failed floor.old) (F.failed floor.new) }
+    ensures same { F.seats floor.new ≡ F.seats floor.old }
+{
+    let Some(row) = floor.job(job)? else {
+        return Ok(refused(alloc, Refusal::NoJob));
+    };
+    if !is_waiting(row.phase) {
+        return Ok(refused(alloc, Refusal::JobState));
+    }
+    let stopped = JobRow {
+        phase: Phase::Stopped,
+        ..row
+    };
+    let mut changes = Vec::new(alloc);
+    changes.push(Change::Job(job, stopped))?;
+    Ok(made(Answer::Done, changes))
+}

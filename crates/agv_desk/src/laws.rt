@@ -1,0 +1,79 @@
+//! What holds of the rules, for every world and call. Each function says it by its clause alone.
+ghost use Rattle.std.specs.Prelude.{◌≡◌, ℕ, List, [], ◌++◌};
+ghost use Rattle.agv_header.specs.declared.key.VehicleKey.{VehicleKey};
+ghost use Rattle.agv_header.specs.declared.refusal.Refusal.{Refusal as RefusalOf};
+ghost use Rattle.agv_message.specs.declared.state.StateMessage.{StateMessage as Message};
+ghost use Rattle.agv_world.specs.Changes.{changed};
+ghost use Rattle.agv_world.specs.Rows.{rows_of};
+ghost use Rattle.agv_world.specs.Worlds.{World};
+ghost use Rattle.agv_desk.specs.InOrder.{IsInOrder};
+ghost use Rattle.agv_desk.specs.Moves.{moves_in, moves_made};
+ghost use Rattle.agv_desk.specs.Outcomes.{Effect, Refused, after, changes_of, decided};
+ghost use Rattle.agv_desk.specs.ReadSteps.{get_instant, get_load, get_order, get_vehicle};
+ghost use Rattle.agv_desk.specs.StateSteps.{take_state};
+ghost use Rattle.agv_desk.specs.Step.{step, steps, answers, moves};
+ghost use Rattle.agv_desk.specs.declared.call.Call.{Call};
+
+use agv_layout::laws::gives_itself;
+use agv_track::laws::{advances, lists_what_is_held};
+use agv_world::change_laws::{
+    follows_a_vehicle, keeps_apart_by_claim, keeps_apart_by_less, keeps_one_trip_further,
+    keeps_one_trip_new, keeps_one_trip_without, notes_a_vehicle, sets_the_layout, uses_a_name,
+};
+
+/// From a world in order, the rows that a call changes lead to the rows of the world after it.
+pub fn leads_to_the_rows()
+    ensures { (seats : ℕ) (world : World) (at : ℕ) (call : Call) → IsInOrder world
+        → changed (decided (step seats world at call)).changes (rows_of world) ≡ rows_of (after world (step seats world at call)) }
+{
+    gives_itself();
+    advances();
+    lists_what_is_held();
+    follows_a_vehicle();
+    notes_a_vehicle();
+    keeps_apart_by_claim();
+    keeps_apart_by_less();
+    keeps_one_trip_further();
+    keeps_one_trip_new();
+    keeps_one_trip_without();
+    sets_the_layout();
+    uses_a_name();
+}
+
+/// The rows of loads that a call changes are its moves, in their order.
+#[tactic(auto, using(crate::proofs::MovesTold::moves_told))]
+pub fn moves_are_told()
+    ensures { (effect : Effect) → moves_in (changes_of effect) ≡ moves_made effect }
+{}
+
+/// A call that is refused changes nothing.
+#[tactic(auto, unfolding(crate::specs::Outcomes::after))]
+pub fn refuses_without_change()
+    ensures world { (world : World) (why : RefusalOf) → after world (Refused why) ≡ world }
+    ensures rows { (why : RefusalOf) → (decided (Refused why)).changes ≡ [] }
+{}
+
+/// A call that only tells changes nothing.
+pub fn tells_without_change()
+    ensures order { (world : World) (key : VehicleKey) → after world (get_order world key) ≡ world }
+    ensures instant { (world : World) (key : VehicleKey) → after world (get_instant world key) ≡ world }
+    ensures load { (world : World) (load : List ℕ) → after world (get_load world load) ≡ world }
+    ensures vehicle { (world : World) (key : VehicleKey) → after world (get_vehicle world key) ≡ world }
+{}
+
+/// Calls are served one after the other: those that come later meet the world that the earlier ones have left.
+pub fn serves_in_turn()
+    ensures world { (seats : ℕ) (world : World) (calls others : List (ℕ × Call))
+        → steps seats world (calls ++ others) ≡ steps seats (steps seats world calls) others }
+    ensures answers { (seats : ℕ) (world : World) (calls others : List (ℕ × Call))
+        → answers seats world (calls ++ others) ≡ (answers seats world calls ++ answers seats (steps seats world calls) others) }
+    ensures moves { (seats : ℕ) (world : World) (calls others : List (ℕ × Call))
+        → moves seats world (calls ++ others) ≡ (moves seats world calls ++ moves seats (steps seats world calls) others) }
+{}
+
+/// A state looks at no load's place, no room and no holder: in two worlds with the same vehicles and the same jobs it is
+/// judged alike.
+pub fn states_look_at_vehicles_and_jobs()
+    ensures { (world other : World) (key : VehicleKey) (state : Message) → world.vehicles ≡ other.vehicles → world.jobs ≡ other.jobs
+        → take_state world key state ≡ take_state other key state }
+{}

@@ -1,0 +1,37 @@
+//! The rules of the desk: what each call is answered, and what it changes.
+//!
+//! - A [`Call`] is what the desk is asked. The table of calls is a definition (`specs/Step.antt`, with a file
+//!   beside it for each family of calls): a world, a moment and a call give an outcome, a refusal or an effect.
+//! - [`decide`] asks a floor what it needs to know, and gives a [`Decision`]: the [`Answer`] of that table, and the
+//!   rows that change. Each call is one private function, in a file for its family; `table` has them all.
+//! - [`moves_of`] tells which loads a decision moves, and where to, in their order.
+//! - [`laws`] says that the rows which change take the rows of the world to those of the world after the call.
+#![tactic(auto, unfolding(crate::specs::Outcomes::require, crate::specs::Outcomes::found, crate::specs::Outcomes::checked, crate::specs::Outcomes::unheld, crate::specs::Outcomes::branch, crate::specs::Outcomes::decided, crate::specs::StateSteps::if_judged))]
+
+mod acts;
+mod answer;
+mod call;
+mod decisions;
+mod holds;
+mod instants;
+mod jobs;
+pub mod laws;
+mod layouts;
+mod loads;
+mod moves;
+mod order_jobs;
+mod orders;
+mod put;
+mod reads;
+mod sizes;
+mod states;
+mod stocktake;
+pub mod stocktake_laws;
+mod table;
+mod updates;
+mod vehicles;
+
+pub use answer::{Answer, Decision, OpenOrder};
+pub use call::Call;
+pub use moves::moves_of;
+pub use table::decide;

@@ -1,0 +1,126 @@
+//! The jobs of an order.
+ghost use Rattle.std.specs.Prelude.{◌≡◌, ◌++◌, count_by, IfOk, OnErr, OnOk, List, ℕ, map};
+ghost use Rattle.agv_order.specs.StopPlaces.{is_pick};
+ghost use Rattle.agv_world.specs.Fails.{Fails};
+ghost use Rattle.agv_world.specs.declared.change.Change.TheVariants as row;
+ghost use Rattle.agv_world.specs.declared.row.JobRow.{JobRow as RowOf};
+ghost use Rattle.agv_desk.specs.OrderSteps.{job_for, jobs_for, named, riding, riding_by, waits};
+
+use agv_header::{Memory, Name};
+use agv_message::{ActKind, Sequence};
+use agv_order::Stop;
+use agv_stock::{Job, Phase};
+use agv_world::{Change, Fault, Floor, JobRow};
+use std::alloc::Global;
+
+// A job with its name.
+fn named(name: &Name, row: &JobRow) -> Job
+    ensures { result ≡ named name.now row.now }
+{
+    Job {
+        name: *name,
+        load: row.load,
+        origin: row.origin,
+        target: row.target,
+        phase: row.phase,
+    }
+}
+
+// The job of a stop.
+fn job_for<F: Floor>(floor: &mut F, stop: &Stop) -> Result<Option<Job>, Fault>
+    ensures told { F.is_clean floor.new → IfOk result (λ job. (job ≡ job_for (F.world floor.old) stop.now) × (F.world floor.new ≡ F.world floor.old)) }
+    ensures left { F.is_clean floor.new → F.is_open floor.new → OnErr result (F.world floor.new ≡ F.world floor.old) }
+    ensures earlier { F.is_clean floor.new → F.is_clean floor.old × (F.is_open floor.new → F.is_open floor.old) }
+    ensures fails { Fails result (F.failed floor.old) (F.failed floor.new) }
+    ensures same { F.seats floor.new ≡ F.seats floor.old }
+{
+    match floor.job(stop.job)? {
+        Some(row) => Ok(Some(named(&stop.job, &row))),
+        None => Ok(None),
+    }
+}
+
+/// The jobs of the stops, in their order; none where one of them is unknown.
+pub(crate) fn jobs_for<F: Floor>(
+    alloc: Global,
+    floor: &mut F,
+    stops: &[Stop],
+) -> Result<Option<Sequence<Job>>, Fault>
+    ensures told { F.is_clean floor.new → IfOk result (λ jobs. (jobs ≡ jobs_for (F.world floor.old) stops.now) × (F.world floor.new ≡ F.world floor.old)) }
+    ensures left { F.is_clean floor.new → F.is_open floor.new → OnErr result (F.world floor.new ≡ F.world floor.old) }
+    ensures earlier { F.is_clean floor.new → F.is_clean floor.old × (F.is_open floor.new → F.is_open floor.old) }
+    ensures fails { Fails result (F.failed floor.old) (F.failed floor.new) }
+    ensures same { F.seats floor.new ≡ F.seats floor.old }
+{
+    let mut jobs = Vec::new(alloc);
+    for stop in stops {
+        let Some(job) = job_for(floor, stop)? else {
+            return Ok(None);
+        };
+        jobs.push(job)?;
+    }
+    Ok(Some(Sequence::from(jobs)))
+}
+
+/// Whether the job waits for a vehicle.
+pub(crate) fn waits(job: &Job) -> bool
+    ensures { result ≡ waits job.now }
+{
+    matches!(job.phase, Phase::Waiting)
+}
+
+// Whether the load is picked at the stop.
+fn is_pick(stop: &Stop) -> bool
+    ensures { result ≡ is_pick stop.now }
+{
+    matches!(stop.kind, ActKind::Pick)
+}
+
+/// How many loads are picked.
+pub(crate) fn picks(stops: &[Stop]) -> usize
+    ensures { result ≡ count_by is_pick stops.now }
+{
+    stops.iter().filter(|stop| is_pick(stop)).count()
+}
+
+// The job of a stop rides; each job is picked once.
+fn riding_by(stop: &Stop, job: &Job) -> Option<(Name, JobRow)>
+    ensures { result ≡ riding_by (stop.now, job.now) }
+{
+    if !is_pick(stop) {
+        return None;
+    }
+    let row = JobRow {
+        load: job.load,
+        origin: job.origin,
+        target: job.target,
+        phase: Phase::Riding,
+    };
+    Some((job.name, row))
+}
+
+/// The jobs of an order, which ride.
+pub(crate) fn riding(
+    alloc: Global,
+    stops: &[Stop],
+    jobs: &[Job],
+) -> Result<Vec<(Name, JobRow)>, Memory>
+    ensures { IfOk result (λ rides. rides.items ≡ riding stops.now jobs.now) }
+{
+    let rides = stops
+        .iter()
+        .zip(jobs)
+        .filter_map(|(stop, job)| riding_by(stop, job))
+        .collect(alloc)?;
+    Ok(rides)
+}
+
+/// Writes the jobs.
+pub(crate) fn write_jobs(jobs: &[(Name, JobRow)], changes: &mut Vec<Change>) -> Result<(), Memory>
+    ensures { OnOk result (changes.new.items ≡ changes.old.items ++ map (λ (job : List ℕ × RowOf). row.Job job.0 job.1) jobs.now) }
+{
+    for (name, row) in jobs {
+        changes.push(Change::Job(*name, *row))?;
+    }
+    Ok(())
+}

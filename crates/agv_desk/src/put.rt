@@ -1,0 +1,109 @@
+//! The rows of a vehicle that is written.
+ghost use Rattle.std.specs.Prelude.{◌≡◌, ◌≤◌, ◌++◌, ◌∷◌, length, IfOk, OnOk};
+ghost use Rattle.agv_track.specs.Footprints.{footprint_of};
+ghost use Rattle.agv_world.specs.Rows.{trip_row};
+ghost use Rattle.agv_world.specs.VehicleChanges.{hold_changes, leg_removals, leg_writes, trip_changes};
+ghost use Rattle.agv_world.specs.declared.change.Change.TheVariants as row;
+ghost use Rattle.agv_desk.specs.Sizes.{IsShort};
+
+use crate::holds::write_holds;
+use agv_header::{Memory, Name, VehicleKey};
+use agv_layout::Edge;
+use agv_order::Trip;
+use agv_track::{Standing, footprint};
+use agv_world::{Change, LegKey, TripRow, VehicleRow};
+use std::alloc::Global;
+
+// Writes a row for each edge of a trip.
+fn write_legs(order: &Name, edges: &[Edge], changes: &mut Vec<Change>) -> Result<(), Memory>
+    requires { length edges.now ≤ 200 }
+    ensures { OnOk result (changes.new.items ≡ changes.old.items ++ leg_writes order.now edges.now) }
+{
+    for (k, edge) in edges.iter().enumerate() {
+        let key = LegKey {
+            order: *order,
+            k: k as u32,
+        };
+        changes.push(Change::Leg(key, Some(edge.id)))?;
+    }
+    Ok(())
+}
+
+// Removes the rows of the edges of a trip.
+fn remove_legs(order: &Name, edges: &[Edge], changes: &mut Vec<Change>) -> Result<(), Memory>
+    requires { length edges.now ≤ 200 }
+    ensures { OnOk result (changes.new.items ≡ changes.old.items ++ leg_removals order.now edges.now) }
+{
+    for (k, _) in edges.iter().enumerate() {
+        let key = LegKey {
+            order: *order,
+            k: k as u32,
+        };
+        changes.push(Change::Leg(key, None))?;
+    }
+    Ok(())
+}
+
+// The row of a trip.
+fn trip_row(key: &VehicleKey, trip: &Trip) -> Result<TripRow, Memory>
+    ensures { IfOk result (λ made. made ≡ trip_row key.now trip.now) }
+{
+    Ok(TripRow {
+        vehicle: *key,
+        start: trip.start,
+        first: trip.first,
+        base: trip.base,
+        sent: trip.sent,
+        confirmed: trip.confirmed,
+        seen: trip.seen,
+        acts: trip.acts.copy()?,
+    })
+}
+
+// Writes a trip that begins, ends or goes on.
+fn write_trip(
+    key: &VehicleKey,
+    old: &Option<Trip>,
+    new: &Option<Trip>,
+    changes: &mut Vec<Change>,
+) -> Result<(), Memory>
+    requires old_short { IsShort old.now }
+    requires new_short { IsShort new.now }
+    ensures { OnOk result (changes.new.items ≡ changes.old.items ++ trip_changes key.now old.now new.now) }
+{
+    match (old, new) {
+        (None, None) => Ok(()),
+        (None, Some(begun)) => {
+            changes.push(Change::Trip(begun.order, Some(trip_row(key, begun)?)))?;
+            write_legs(&begun.order, begun.edges.as_slice(), changes)
+        }
+        (Some(ended), None) => {
+            changes.push(Change::Trip(ended.order, None))?;
+            remove_legs(&ended.order, ended.edges.as_slice(), changes)
+        }
+        (Some(_), Some(on)) => {
+            changes.push(Change::Trip(on.order, Some(trip_row(key, on)?)))?;
+            Ok(())
+        }
+    }
+}
+
+/// Writes a vehicle in place of the old one: its row, its trip with the edges, and what it holds.
+pub(crate) fn write_vehicle(
+    alloc: Global,
+    key: &VehicleKey,
+    old: &Standing,
+    vehicle: VehicleRow,
+    new: &Standing,
+    changes: &mut Vec<Change>,
+) -> Result<(), Memory>
+    requires old_short { IsShort old.now.trip }
+    requires new_short { IsShort new.now.trip }
+    ensures { OnOk result (changes.new.items ≡ changes.old.items ++ (row.Vehicle key.now vehicle ∷ (trip_changes key.now old.now.trip new.now.trip ++ hold_changes key.now (footprint_of old.now) (footprint_of new.now)))) }
+{
+    let held = footprint(alloc, old)?;
+    let holds = footprint(alloc, new)?;
+    changes.push(Change::Vehicle(*key, vehicle))?;
+    write_trip(key, &old.trip, &new.trip, changes)?;
+    write_holds(key, &held, &holds, changes)
+}

@@ -1,0 +1,157 @@
+//! The calls that only tell.
+ghost use Rattle.std.specs.Prelude.{◌≡◌, IfOk, OnErr};
+ghost use Rattle.agv_world.specs.Fails.{Fails};
+ghost use Rattle.agv_world.specs.Questions.{trip_of};
+ghost use Rattle.agv_desk.specs.Outcomes.{decided, Made, told};
+ghost use Rattle.agv_desk.specs.ReadSteps.{last_header, instant_told, open_order, order_told, get_order, get_instant, get_load, get_vehicle};
+ghost use Rattle.agv_desk.specs.Sizes.{IsOfSize};
+
+use crate::decisions::{made, refused};
+use crate::sizes::is_of_size;
+use crate::{Answer, Decision, OpenOrder};
+use agv_header::{Memory, Name, Refusal, VehicleKey};
+use agv_message::{Header, InstantKind, InstantMessage};
+use agv_order::Trip;
+use agv_world::{Fault, Floor, Sent, VehicleRow};
+use std::alloc::Global;
+
+// An answer, and nothing changes.
+pub(crate) fn told(alloc: Global, answer: Answer) -> Decision
+    ensures { result ≡ decided (Made (told answer)) }
+{
+    made(answer, Vec::new(alloc))
+}
+
+// What the last message of a topic begins with.
+fn last_header(key: &VehicleKey, sent: &Sent) -> Header
+    ensures { result ≡ last_header key.now sent.now }
+{
+    Header {
+        number: sent.count,
+        at: sent.at,
+        key: *key,
+    }
+}
+
+// The last instantActions message, while its action is pending.
+fn instant_told(key: &VehicleKey, row: &VehicleRow) -> Answer
+    ensures { result ≡ instant_told key.now row.now row.now.pending }
+{
+    match row.pending {
+        Some(kind) => Answer::Instant {
+            header: last_header(key, &row.instants),
+            instant: InstantMessage { kind },
+        },
+        None => Answer::NoMessage,
+    }
+}
+
+// The last order message of an open trip. A trip that is too long for a message is open in no lawful world.
+fn order_told(
+    alloc: Global,
+    key: &VehicleKey,
+    row: &VehicleRow,
+    trip: &Option<Trip>,
+) -> Result<Answer, Memory>
+    ensures { IsOfSize trip.now → IfOk result (λ answer. answer ≡ order_told key.now row.now trip.now) }
+{
+    if !is_of_size(trip) {
+        return Ok(Answer::Refused(Refusal::Limit));
+    }
+    let Some(trip) = trip else {
+        return Ok(Answer::NoMessage);
+    };
+    Ok(Answer::Order {
+        header: last_header(key, &row.orders),
+        order: trip.message(alloc)?,
+    })
+}
+
+// The open order of a trip.
+fn open_order(trip: &Trip) -> OpenOrder
+    ensures { result ≡ open_order trip.now }
+{
+    OpenOrder {
+        order: trip.order,
+        sent: trip.sent,
+        confirmed: trip.confirmed,
+    }
+}
+
+/// The last order message of the vehicle's open order.
+pub(crate) fn get_order<F: Floor>(
+    alloc: Global,
+    floor: &mut F,
+    key: VehicleKey,
+) -> Result<Decision, Fault>
+    ensures told { F.is_clean floor.new → IfOk result (λ decision. (IsOfSize (trip_of (F.world floor.old) key) → decision ≡ decided (get_order (F.world floor.old) key)) × (F.world floor.new ≡ F.world floor.old)) }
+    ensures left { F.is_clean floor.new → F.is_open floor.new → OnErr result (F.world floor.new ≡ F.world floor.old) }
+    ensures earlier { F.is_clean floor.new → F.is_clean floor.old × (F.is_open floor.new → F.is_open floor.old) }
+    ensures fails { Fails result (F.failed floor.old) (F.failed floor.new) }
+    ensures same { F.seats floor.new ≡ F.seats floor.old }
+{
+    let Some(row) = floor.vehicle(key)? else {
+        return Ok(refused(alloc, Refusal::NoVehicle));
+    };
+    let trip = floor.trip(key)?;
+    Ok(told(alloc, order_told(alloc, &key, &row, &trip)?))
+}
+
+/// The last instantActions message of a vehicle, while its action is pending.
+pub(crate) fn get_instant<F: Floor>(
+    alloc: Global,
+    floor: &mut F,
+    key: VehicleKey,
+) -> Result<Decision, Fault>
+    ensures told { F.is_clean floor.new → IfOk result (λ decision. (decision ≡ decided (get_instant (F.world floor.old) key)) × (F.world floor.new ≡ F.world floor.old)) }
+    ensures left { F.is_clean floor.new → F.is_open floor.new → OnErr result (F.world floor.new ≡ F.world floor.old) }
+    ensures earlier { F.is_clean floor.new → F.is_clean floor.old × (F.is_open floor.new → F.is_open floor.old) }
+    ensures fails { Fails result (F.failed floor.old) (F.failed floor.new) }
+    ensures same { F.seats floor.new ≡ F.seats floor.old }
+{
+    let Some(row) = floor.vehicle(key)? else {
+        return Ok(refused(alloc, Refusal::NoVehicle));
+    };
+    Ok(told(alloc, instant_told(&key, &row)))
+}
+
+/// Where a load is, and its live job.
+pub(crate) fn get_load<F: Floor>(
+    alloc: Global,
+    floor: &mut F,
+    load: Name,
+) -> Result<Decision, Fault>
+    ensures told { F.is_clean floor.new → IfOk result (λ decision. (decision ≡ decided (get_load (F.world floor.old) load)) × (F.world floor.new ≡ F.world floor.old)) }
+    ensures left { F.is_clean floor.new → F.is_open floor.new → OnErr result (F.world floor.new ≡ F.world floor.old) }
+    ensures earlier { F.is_clean floor.new → F.is_clean floor.old × (F.is_open floor.new → F.is_open floor.old) }
+    ensures fails { Fails result (F.failed floor.old) (F.failed floor.new) }
+    ensures same { F.seats floor.new ≡ F.seats floor.old }
+{
+    let Some(place) = floor.place(load)? else {
+        return Ok(refused(alloc, Refusal::NoLoad));
+    };
+    let job = floor.job_of(load)?;
+    Ok(told(alloc, Answer::Load { load, place, job }))
+}
+
+/// What is known of a vehicle, and its open order.
+pub(crate) fn get_vehicle<F: Floor>(
+    alloc: Global,
+    floor: &mut F,
+    key: VehicleKey,
+) -> Result<Decision, Fault>
+    ensures told { F.is_clean floor.new → IfOk result (λ decision. (decision ≡ decided (get_vehicle (F.world floor.old) key)) × (F.world floor.new ≡ F.world floor.old)) }
+    ensures left { F.is_clean floor.new → F.is_open floor.new → OnErr result (F.world floor.new ≡ F.world floor.old) }
+    ensures earlier { F.is_clean floor.new → F.is_clean floor.old × (F.is_open floor.new → F.is_open floor.old) }
+    ensures fails { Fails result (F.failed floor.old) (F.failed floor.new) }
+    ensures same { F.seats floor.new ≡ F.seats floor.old }
+{
+    let Some(row) = floor.vehicle(key)? else {
+        return Ok(refused(alloc, Refusal::NoVehicle));
+    };
+    let order = match &floor.trip(key)? {
+        Some(trip) => Some(open_order(trip)),
+        None => None,
+    };
+    Ok(told(alloc, Answer::Vehicle { key, row, order }))
+}

@@ -1,0 +1,127 @@
+//! Stocktakes: what was counted, against what is recorded.
+ghost use Rattle.std.specs.Prelude.{◌≡◌, ◌++◌, ◌∷◌, [], true, map, filter_map, length, IfOk, OnErr};
+ghost use Rattle.agv_stock.specs.declared.place.Place.{Place as PlaceOf};
+ghost use Rattle.agv_world.specs.Fails.{Fails};
+ghost use Rattle.agv_world.specs.declared.change.Change.TheVariants as row;
+ghost use Rattle.agv_desk.specs.CountParts.{count_by_parts, counted_effect, found_in, sightings, stations_in};
+ghost use Rattle.agv_desk.specs.LoadSteps.{reference_key};
+ghost use Rattle.agv_desk.specs.Outcomes.{Made, decided};
+ghost use Rattle.agv_desk.specs.StocktakeSteps.{are_known, count_loads, take_stock};
+
+mod found;
+mod moves;
+mod room;
+mod sighting;
+mod sightings;
+mod stations;
+
+use crate::decisions::{made, refused};
+use crate::stocktake::found::found_loads;
+use crate::stocktake::moves::{Count, moves_in_job};
+use crate::stocktake::room::all_fit;
+use crate::stocktake::sighting::Sighting;
+use crate::stocktake::sightings::{finds_aboard, look_up, unknown};
+use crate::stocktake::stations::counted_stations;
+use crate::{Answer, Decision};
+use agv_header::{Memory, Name, Refusal};
+use agv_message::Sequence;
+use agv_stock::Place;
+use agv_world::{Change, Counted, Fault, Floor, UseKey, UseKind};
+use std::alloc::Global;
+
+/// The most references.
+const MOST_REFERENCES: usize = 1_000_000;
+
+// The loads are at their new places, and the reference is used.
+fn changes(alloc: Global, reference: Name, moves: &[(Name, Place)]) -> Result<Vec<Change>, Memory>
+    ensures { IfOk result (λ changes. changes.items ≡ map (λ move. row.Load move.0 move.1) moves.now ++ (row.Used (reference_key reference) ∷ [])) }
+{
+    let mut changes = Vec::new(alloc);
+    for (load, place) in moves {
+        changes.push(Change::Load(*load, *place))?;
+    }
+    changes.push(Change::Used(UseKey {
+        kind: UseKind::Reference,
+        name: reference,
+    }))?;
+    Ok(changes)
+}
+
+// What is done with these moves.
+fn counted_decision(
+    alloc: Global,
+    reference: Name,
+    moves: &[(Name, Place)],
+    seen: &[Sighting],
+) -> Result<Decision, Memory>
+    ensures { IfOk result (λ decision. decision ≡ decided (Made (counted_effect reference moves.now seen.now))) }
+{
+    let unknown = unknown(alloc, seen)?;
+    let changes = changes(alloc, reference, moves)?;
+    let answer = Answer::Counted {
+        moved: moves.len(),
+        unknown: Sequence::from(unknown),
+    };
+    Ok(made(answer, changes))
+}
+
+// What is answered once the stations and the found loads are known.
+fn count_loads<F: Floor>(
+    alloc: Global,
+    floor: &mut F,
+    reference: Name,
+    count: &Count,
+    seen: &[Sighting],
+) -> Result<Decision, Fault>
+    ensures told { F.is_clean floor.new → IfOk result (λ decision. (decision ≡ decided (count_by_parts (F.world floor.old) reference count.now.stations count.now.found seen.now)) × (F.world floor.new ≡ F.world floor.old)) }
+    ensures left { F.is_clean floor.new → F.is_open floor.new → OnErr result (F.world floor.new ≡ F.world floor.old) }
+    ensures earlier { F.is_clean floor.new → F.is_clean floor.old × (F.is_open floor.new → F.is_open floor.old) }
+    ensures fails { Fails result (F.failed floor.old) (F.failed floor.new) }
+    ensures same { F.seats floor.new ≡ F.seats floor.old }
+{
+    if finds_aboard(seen) {
+        return Ok(refused(alloc, Refusal::OnVehicle));
+    }
+    let moves = count.moves(alloc, floor, seen)?;
+    if moves_in_job(floor, &moves)? {
+        return Ok(refused(alloc, Refusal::InJob));
+    }
+    if !all_fit(alloc, floor, &count.stations, seen)? {
+        return Ok(refused(alloc, Refusal::Full));
+    }
+    if floor.count(Counted::References)? >= MOST_REFERENCES {
+        return Ok(refused(alloc, Refusal::Limit));
+    }
+    Ok(counted_decision(alloc, reference, &moves, seen)?)
+}
+
+/// Takes stock: each known load that was found at a counted station is there from now on, and each one that
+/// stood there and was not found is at the checking place.
+///
+/// The floor is asked once for each counted station, each found load and each load that moves. All else takes time
+/// in proportion to the rows and to the loads at the counted stations, times the logarithm of their number.
+pub(crate) fn take_stock<F: Floor>(
+    alloc: Global,
+    floor: &mut F,
+    reference: Name,
+    rows: &[(Name, Option<Name>)],
+) -> Result<Decision, Fault>
+    ensures told { F.is_clean floor.new → IfOk result (λ decision. (decision ≡ decided (take_stock (F.world floor.old) reference rows.now)) × (F.world floor.new ≡ F.world floor.old)) }
+    ensures left { F.is_clean floor.new → F.is_open floor.new → OnErr result (F.world floor.new ≡ F.world floor.old) }
+    ensures earlier { F.is_clean floor.new → F.is_clean floor.old × (F.is_open floor.new → F.is_open floor.old) }
+    ensures fails { Fails result (F.failed floor.old) (F.failed floor.new) }
+    ensures same { F.seats floor.new ≡ F.seats floor.old }
+{
+    if floor.used(UseKind::Reference, reference)? {
+        return Ok(refused(alloc, Refusal::RefUsed));
+    }
+    let Some(stations) = counted_stations(alloc, floor, rows)? else {
+        return Ok(refused(alloc, Refusal::NoStation));
+    };
+    let Some(found) = found_loads(alloc, rows)? else {
+        return Ok(refused(alloc, Refusal::CountTwice));
+    };
+    let seen = look_up(alloc, floor, rows)?;
+    let count = Count { stations, found };
+    count_loads(alloc, floor, reference, &count, &seen)
+}

@@ -1,0 +1,145 @@
+//! Where a stocktake puts the loads.
+ghost use Rattle.std.specs.Prelude.{◌≡◌, List, IfOk, OnErr, OnOk};
+ghost use Rattle.std.specs.FinMap as map;
+ghost use Rattle.std.specs.List.{list_any};
+ghost use Rattle.agv_world.specs.Fails.{Fails};
+ghost use Rattle.agv_desk.specs.CountParts.{moves_in, placed, recorded, settled, standing, standing_at};
+ghost use Rattle.agv_desk.specs.LoadSteps.{is_in_job};
+ghost use Rattle.agv_desk.specs.StocktakeSteps.{from_station, new_place};
+
+use crate::stocktake::sighting::Sighting;
+use agv_header::{Memory, Name};
+use agv_layout::Spot;
+use agv_stock::Place;
+use agv_world::{ByName, Fault, Floor};
+use std::alloc::Global;
+
+/// What was counted, and what was found there.
+#[derive(Drop)]
+pub(crate) struct Count {
+    /// The stations that were counted.
+    pub(crate) stations: ByName<Spot>,
+    /// The station where each found load was found.
+    pub(crate) found: ByName<Name>,
+}
+
+impl Count {
+    // Where a load goes that is recorded at this station, if it moves.
+    fn from_station(&self, load: Name, id: Name) -> Option<Place>
+        ensures { result ≡ from_station (map.contains_key self.now.stations id) id (map.get self.now.found load) }
+    {
+        match self.found.get(load).copied() {
+            Some(found) if found == id => None,
+            Some(found) => Some(Place::Station(found)),
+            None if self.stations.get(id).is_some() => Some(Place::Checking),
+            None => None,
+        }
+    }
+
+    // Where a load goes that is recorded at this place, if it moves.
+    fn new_place(&self, load: Name, place: Place) -> Option<Place>
+        ensures { result ≡ new_place (map.contains_key self.now.stations) (map.get self.now.found load) place }
+    {
+        match place {
+            Place::Station(id) => self.from_station(load, id),
+            Place::Checking => self.found.get(load).copied().map(Place::Station),
+            Place::Vehicle(_) | Place::Left => None,
+        }
+    }
+
+    // Notes where a load goes that is recorded at this place, if it moves.
+    fn settle(&self, moves: &mut ByName<Place>, load: Name, place: Place) -> Result<(), Memory>
+        ensures { OnOk result (moves.new ≡ placed moves.old load (new_place (map.contains_key self.now.stations) (map.get self.now.found load) place)) }
+    {
+        if let Some(to) = self.new_place(load, place) {
+            moves.insert(load, to)?;
+        }
+        Ok(())
+    }
+
+    // Notes where the found loads go.
+    #[tactic(auto, unfolding(crate::specs::CountParts::settled))]
+    fn settle_found(&self, moves: &mut ByName<Place>, seen: &[Sighting]) -> Result<(), Memory>
+        ensures { OnOk result (moves.new ≡ settled (map.contains_key self.now.stations) self.now.found moves.old (recorded seen.now)) }
+    {
+        for one in seen {
+            if let Some(place) = one.place {
+                self.settle(moves, one.load, place)?;
+            }
+        }
+        Ok(())
+    }
+
+    // Notes where loads go that stand at this station.
+    #[tactic(auto, unfolding(crate::specs::CountParts::settled))]
+    fn settle_station(
+        &self,
+        moves: &mut ByName<Place>,
+        station: Name,
+        loads: &[Name],
+    ) -> Result<(), Memory>
+        ensures { OnOk result (moves.new ≡ settled (map.contains_key self.now.stations) self.now.found moves.old (standing_at station loads.now)) }
+    {
+        for load in loads {
+            self.settle(moves, *load, Place::Station(station))?;
+        }
+        Ok(())
+    }
+
+    // Notes where the loads go that stand at these stations.
+    fn settle_standing<F: Floor>(
+        &self,
+        floor: &mut F,
+        moves: &mut ByName<Place>,
+        stations: &[(Name, Spot)],
+    ) -> Result<(), Fault>
+        ensures told { F.is_clean floor.new → OnOk result ((moves.new ≡ settled (map.contains_key self.now.stations) self.now.found moves.old (standing (F.world floor.old) stations.now)) × (F.world floor.new ≡ F.world floor.old)) }
+        ensures left { F.is_clean floor.new → F.is_open floor.new → OnErr result (F.world floor.new ≡ F.world floor.old) }
+        ensures earlier { F.is_clean floor.new → F.is_clean floor.old × (F.is_open floor.new → F.is_open floor.old) }
+        ensures fails { Fails result (F.failed floor.old) (F.failed floor.new) }
+        ensures same { F.seats floor.new ≡ F.seats floor.old }
+    {
+        for (station, _) in stations {
+            let loads = floor.loads_at(*station)?;
+            self.settle_station(moves, *station, loads.as_slice())?;
+        }
+        Ok(())
+    }
+
+    /// The loads that move, and their new places, in the order of the loads' names.
+    #[tactic(auto, unfolding(crate::specs::CountParts::moves_in))]
+    pub(crate) fn moves<F: Floor>(
+        &self,
+        alloc: Global,
+        floor: &mut F,
+        seen: &[Sighting],
+    ) -> Result<Vec<(Name, Place)>, Fault>
+        ensures told { F.is_clean floor.new → IfOk result (λ moves. (moves.items ≡ map.entries (moves_in (F.world floor.old) self.now.stations self.now.found seen.now)) × (F.world floor.new ≡ F.world floor.old)) }
+        ensures left { F.is_clean floor.new → F.is_open floor.new → OnErr result (F.world floor.new ≡ F.world floor.old) }
+        ensures earlier { F.is_clean floor.new → F.is_clean floor.old × (F.is_open floor.new → F.is_open floor.old) }
+        ensures fails { Fails result (F.failed floor.old) (F.failed floor.new) }
+        ensures same { F.seats floor.new ≡ F.seats floor.old }
+    {
+        let mut moves = ByName::new(alloc);
+        self.settle_found(&mut moves, seen)?;
+        let stations = self.stations.list(alloc)?;
+        self.settle_standing(floor, &mut moves, &stations)?;
+        Ok(moves.list(alloc)?)
+    }
+}
+
+/// Whether one of the loads that move has a live job.
+pub(crate) fn moves_in_job<F: Floor>(floor: &mut F, moves: &[(Name, Place)]) -> Result<bool, Fault>
+    ensures told { F.is_clean floor.new → IfOk result (λ found. (found ≡ list_any (λ load. is_in_job (F.world floor.old) load.0) moves.now) × (F.world floor.new ≡ F.world floor.old)) }
+    ensures left { F.is_clean floor.new → F.is_open floor.new → OnErr result (F.world floor.new ≡ F.world floor.old) }
+    ensures earlier { F.is_clean floor.new → F.is_clean floor.old × (F.is_open floor.new → F.is_open floor.old) }
+    ensures fails { Fails result (F.failed floor.old) (F.failed floor.new) }
+    ensures same { F.seats floor.new ≡ F.seats floor.old }
+{
+    for (load, _) in moves {
+        if floor.job_of(*load)?.is_some() {
+            return Ok(true);
+        }
+    }
+    Ok(false)
+}

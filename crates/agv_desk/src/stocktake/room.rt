@@ -1,0 +1,78 @@
+//! Whether what a stocktake has found fits.
+ghost use Rattle.std.specs.Prelude.{◌≡◌, ℕ, List, IfOk, OnErr};
+ghost use Rattle.std.specs.FinMap as map;
+ghost use Rattle.std.specs.List.{list_all};
+ghost use Rattle.std.specs.Option.{unwrap_or};
+ghost use Rattle.agv_world.specs.Fails.{Fails};
+ghost use Rattle.agv_world.specs.Questions.{reserved};
+ghost use Rattle.agv_desk.specs.CountParts.{has_room, all_have_room, seen_at};
+
+use crate::stocktake::sighting::Sighting;
+use crate::stocktake::sightings::counts;
+use agv_header::Name;
+use agv_layout::Spot;
+use agv_world::{ByName, Fault, Floor};
+use std::alloc::Global;
+
+// Whether so many loads and so many jobs fit there.
+fn has_room(found: usize, reserved: usize, spot: Spot) -> bool
+    ensures { result ≡ has_room found reserved spot }
+{
+    found.saturating_add(reserved) <= spot.capacity as usize
+}
+
+// Whether the loads that were found at a station fit there, with the live jobs to it.
+fn fits<F: Floor>(
+    floor: &mut F,
+    counts: &ByName<usize>,
+    station: Name,
+    spot: Spot,
+) -> Result<bool, Fault>
+    ensures told { F.is_clean floor.new → IfOk result (λ fits. (fits ≡ has_room (unwrap_or (map.get counts.now station) 0) (reserved (F.world floor.old) station) spot) × (F.world floor.new ≡ F.world floor.old)) }
+    ensures left { F.is_clean floor.new → F.is_open floor.new → OnErr result (F.world floor.new ≡ F.world floor.old) }
+    ensures earlier { F.is_clean floor.new → F.is_clean floor.old × (F.is_open floor.new → F.is_open floor.old) }
+    ensures fails { Fails result (F.failed floor.old) (F.failed floor.new) }
+    ensures same { F.seats floor.new ≡ F.seats floor.old }
+{
+    let found = counts.get(station).copied().unwrap_or(0);
+    let reserved = floor.reserved(station)?;
+    Ok(has_room(found, reserved, spot))
+}
+
+// Whether they fit at each of the stations.
+fn each_fits<F: Floor>(
+    floor: &mut F,
+    counts: &ByName<usize>,
+    stations: &[(Name, Spot)],
+) -> Result<bool, Fault>
+    ensures told { F.is_clean floor.new → IfOk result (λ fit. (fit ≡ list_all (λ station. has_room (unwrap_or (map.get counts.now station.0) 0) (reserved (F.world floor.old) station.0) station.1) stations.now) × (F.world floor.new ≡ F.world floor.old)) }
+    ensures left { F.is_clean floor.new → F.is_open floor.new → OnErr result (F.world floor.new ≡ F.world floor.old) }
+    ensures earlier { F.is_clean floor.new → F.is_clean floor.old × (F.is_open floor.new → F.is_open floor.old) }
+    ensures fails { Fails result (F.failed floor.old) (F.failed floor.new) }
+    ensures same { F.seats floor.new ≡ F.seats floor.old }
+{
+    for (station, spot) in stations {
+        if !fits(floor, counts, *station, *spot)? {
+            return Ok(false);
+        }
+    }
+    Ok(true)
+}
+
+/// Whether the known loads that were found at each of the stations fit there, with the live jobs to it.
+pub(crate) fn all_fit<F: Floor>(
+    alloc: Global,
+    floor: &mut F,
+    stations: &ByName<Spot>,
+    seen: &[Sighting],
+) -> Result<bool, Fault>
+    ensures told { F.is_clean floor.new → IfOk result (λ fit. (fit ≡ all_have_room (F.world floor.old) seen.now (map.entries stations.now)) × (F.world floor.new ≡ F.world floor.old)) }
+    ensures left { F.is_clean floor.new → F.is_open floor.new → OnErr result (F.world floor.new ≡ F.world floor.old) }
+    ensures earlier { F.is_clean floor.new → F.is_clean floor.old × (F.is_open floor.new → F.is_open floor.old) }
+    ensures fails { Fails result (F.failed floor.old) (F.failed floor.new) }
+    ensures same { F.seats floor.new ≡ F.seats floor.old }
+{
+    let counts = counts(alloc, seen)?;
+    let stations = stations.list(alloc)?;
+    each_fits(floor, &counts, &stations)
+}

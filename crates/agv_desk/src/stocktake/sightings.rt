@@ -1,0 +1,99 @@
+//! The loads that a stocktake has found, with what is known of each.
+ghost use Rattle.std.specs.Prelude.{◌≡◌, ℕ, ◌<◌, List, IfOk, OnErr, OnOk};
+ghost use Rattle.std.specs.FinMap as map;
+ghost use Rattle.std.specs.List.{list_any, filter_map};
+ghost use Rattle.std.specs.Option.{unwrap_or};
+ghost use Rattle.agv_world.specs.Fails.{Fails};
+ghost use Rattle.agv_desk.specs.CountParts.{sightings, unknown_one, counted_up, seen_at, with_sighting};
+ghost use Rattle.agv_desk.specs.StocktakeSteps.{is_aboard};
+
+use crate::stocktake::sighting::Sighting;
+use agv_header::{Memory, Name};
+use agv_world::{ByName, Fault, Floor};
+use std::alloc::Global;
+
+// Looks up the load of a row, if one was found.
+fn note_sighting<F: Floor>(
+    floor: &mut F,
+    seen: &mut Vec<Sighting>,
+    station: Name,
+    load: Option<Name>,
+) -> Result<(), Fault>
+    ensures told { F.is_clean floor.new → OnOk result ((seen.new.items ≡ with_sighting (F.world floor.old) seen.old.items station load) × (F.world floor.new ≡ F.world floor.old)) }
+    ensures left { F.is_clean floor.new → F.is_open floor.new → OnErr result (F.world floor.new ≡ F.world floor.old) }
+    ensures earlier { F.is_clean floor.new → F.is_clean floor.old × (F.is_open floor.new → F.is_open floor.old) }
+    ensures fails { Fails result (F.failed floor.old) (F.failed floor.new) }
+    ensures same { F.seats floor.new ≡ F.seats floor.old }
+{
+    if let Some(load) = load {
+        let place = floor.place(load)?;
+        seen.push(Sighting {
+            station,
+            load,
+            place,
+        })?;
+    }
+    Ok(())
+}
+
+/// Looks up the loads of the rows, in their order.
+pub(crate) fn look_up<F: Floor>(
+    alloc: Global,
+    floor: &mut F,
+    rows: &[(Name, Option<Name>)],
+) -> Result<Vec<Sighting>, Fault>
+    ensures told { F.is_clean floor.new → IfOk result (λ seen. (seen.items ≡ sightings (F.world floor.old) rows.now) × (F.world floor.new ≡ F.world floor.old)) }
+    ensures left { F.is_clean floor.new → F.is_open floor.new → OnErr result (F.world floor.new ≡ F.world floor.old) }
+    ensures earlier { F.is_clean floor.new → F.is_clean floor.old × (F.is_open floor.new → F.is_open floor.old) }
+    ensures fails { Fails result (F.failed floor.old) (F.failed floor.new) }
+    ensures same { F.seats floor.new ≡ F.seats floor.old }
+{
+    let mut seen = Vec::new(alloc);
+    for (station, load) in rows {
+        note_sighting(floor, &mut seen, *station, *load)?;
+    }
+    Ok(seen)
+}
+
+/// Whether one of the loads is recorded on a vehicle.
+pub(crate) fn finds_aboard(seen: &[Sighting]) -> bool
+    ensures { result ≡ list_any (λ one. is_aboard one.place) seen.now }
+{
+    seen.iter().any(|one| one.is_aboard())
+}
+
+/// The loads that are not known, or have left, in the order of the rows.
+pub(crate) fn unknown(alloc: Global, seen: &[Sighting]) -> Result<Vec<Name>, Memory>
+    ensures { IfOk result (λ names. names.items ≡ filter_map unknown_one seen.now) }
+{
+    let mut unknown = Vec::new(alloc);
+    for one in seen {
+        if !one.is_here() {
+            unknown.push(one.load)?;
+        }
+    }
+    Ok(unknown)
+}
+
+// Counts a load at the station where it was found, if it is known.
+fn count_up(counts: &mut ByName<usize>, one: &Sighting) -> Result<(), Memory>
+    requires { unwrap_or (map.get counts.old one.now.station) 0 < usize.MAX }
+    ensures { OnOk result ((station : List ℕ) → unwrap_or (map.get counts.new station) 0 ≡ counted_up one.now (unwrap_or (map.get counts.old station) 0) station) }
+{
+    if one.is_here() {
+        let count = counts.get(one.station).copied().unwrap_or(0);
+        counts.insert(one.station, count + 1)?;
+    }
+    Ok(())
+}
+
+/// How many known loads were found at each station.
+pub(crate) fn counts(alloc: Global, seen: &[Sighting]) -> Result<ByName<usize>, Memory>
+    ensures { IfOk result (λ counts. (station : List ℕ) → unwrap_or (map.get counts station) 0 ≡ seen_at seen.now station) }
+{
+    let mut counts = ByName::new(alloc);
+    for one in seen {
+        count_up(&mut counts, one)?;
+    }
+    Ok(counts)
+}

@@ -1,0 +1,53 @@
+//! The stations of a stocktake.
+ghost use Rattle.std.specs.Prelude.{◌≡◌, IfOk, OnErr};
+ghost use Rattle.std.specs.FinMap as map;
+ghost use Rattle.agv_world.specs.Fails.{Fails};
+ghost use Rattle.agv_desk.specs.CountParts.{AreCounted, noted_station};
+
+use agv_header::Name;
+use agv_layout::Spot;
+use agv_world::{ByName, Fault, Floor};
+use std::alloc::Global;
+
+// Whether the station is known; it is noted then. The floor is asked for a station that is not noted yet.
+fn note_station<F: Floor>(
+    floor: &mut F,
+    stations: &mut ByName<Spot>,
+    id: Name,
+) -> Result<bool, Fault>
+    ensures told { F.is_clean floor.new → IfOk result (λ known. ((known, stations.new) ≡ noted_station stations.old id (map.get stations.old id) (map.get (F.world floor.old).layout.stations id)) × (F.world floor.new ≡ F.world floor.old)) }
+    ensures left { F.is_clean floor.new → F.is_open floor.new → OnErr result (F.world floor.new ≡ F.world floor.old) }
+    ensures earlier { F.is_clean floor.new → F.is_clean floor.old × (F.is_open floor.new → F.is_open floor.old) }
+    ensures fails { Fails result (F.failed floor.old) (F.failed floor.new) }
+    ensures same { F.seats floor.new ≡ F.seats floor.old }
+{
+    if stations.get(id).is_some() {
+        return Ok(true);
+    }
+    let Some(spot) = floor.station(id)? else {
+        return Ok(false);
+    };
+    stations.insert(id, spot)?;
+    Ok(true)
+}
+
+/// The stations of the rows; none where one of them is not known.
+pub(crate) fn counted_stations<F: Floor>(
+    alloc: Global,
+    floor: &mut F,
+    rows: &[(Name, Option<Name>)],
+) -> Result<Option<ByName<Spot>>, Fault>
+    ensures told { F.is_clean floor.new → IfOk result (λ stations. AreCounted (F.world floor.old) rows.now stations × (F.world floor.new ≡ F.world floor.old)) }
+    ensures left { F.is_clean floor.new → F.is_open floor.new → OnErr result (F.world floor.new ≡ F.world floor.old) }
+    ensures earlier { F.is_clean floor.new → F.is_clean floor.old × (F.is_open floor.new → F.is_open floor.old) }
+    ensures fails { Fails result (F.failed floor.old) (F.failed floor.new) }
+    ensures same { F.seats floor.new ≡ F.seats floor.old }
+{
+    let mut stations = ByName::new(alloc);
+    for (station, _) in rows {
+        if !note_station(floor, &mut stations, *station)? {
+            return Ok(None);
+        }
+    }
+    Ok(Some(stations))
+}

@@ -1,0 +1,175 @@
+//! The call that releases more of an order.
+ghost use Rattle.std.specs.Prelude.{◌≡◌, ◌+◌, ◌==◌, IfOk, OnErr, if◌then◌else◌};
+ghost use Rattle.agv_order.specs.Releases.{released};
+ghost use Rattle.agv_world.specs.Fails.{Fails};
+ghost use Rattle.agv_world.specs.Questions.{trip_of};
+ghost use Rattle.agv_desk.specs.OrderSteps.{advance, can_release, is_confirmed, send_update, take_update, trip_for, update_sent};
+ghost use Rattle.agv_desk.specs.Outcomes.{Made, decided};
+ghost use Rattle.agv_desk.specs.Sizes.{IsOfSize, IsShort};
+
+use crate::decisions::{made, refused};
+use crate::holds::first_held;
+use crate::orders::{is_cancelling, sent_row, standing};
+use crate::put::write_vehicle;
+use crate::sizes::is_of_size;
+use crate::{Answer, Decision};
+use agv_header::{Memory, Moment, Name, Refusal, VehicleKey, next_number};
+use agv_order::Trip;
+use agv_track::{Standing, footprint};
+use agv_world::{Fault, Floor, VehicleRow};
+use std::alloc::Global;
+
+// The open trip, where it is that of this order.
+fn trip_for(found: Option<Trip>, order: &Name) -> Option<Trip>
+    ensures trip { result ≡ trip_for found order.now }
+    ensures size { IsOfSize found → IsOfSize result }
+{
+    match found {
+        Some(trip) if trip.order == *order => Some(trip),
+        _ => None,
+    }
+}
+
+// The trip with more of it released; none where so much can't be.
+fn release(trip: &Trip, edges: u32) -> Result<Option<Trip>, Memory>
+    requires { IsOfSize (Some trip.now) }
+    ensures { IfOk result (λ next. next ≡ (if can_release trip.now edges then Some (released trip.now edges) else None)) }
+{
+    let mut next = trip.copy()?;
+    match next.release(edges) {
+        Ok(()) => Ok(Some(next)),
+        Err(_) => Ok(None),
+    }
+}
+
+// Whether the vehicle has confirmed the last update that was sent.
+fn is_confirmed(confirmed: Option<u32>, sent: u32) -> bool
+    ensures { result ≡ is_confirmed confirmed sent }
+{
+    confirmed == Some(sent)
+}
+
+// This update is sent: the trip has this much released.
+fn update_sent(
+    alloc: Global,
+    at: Moment,
+    key: &VehicleKey,
+    row: &VehicleRow,
+    old: Option<Trip>,
+    new: Option<Trip>,
+    update: u32,
+    number: u32,
+) -> Result<Decision, Memory>
+    requires old_short { IsShort old }
+    requires new_short { IsShort new }
+    ensures { IfOk result (λ decision. decision ≡ decided (Made (update_sent at key.now row.now old new update number))) }
+{
+    let before = standing(row, old);
+    let after = standing(row, new);
+    let mut changes = Vec::new(alloc);
+    let sent = sent_row(row, at, number);
+    write_vehicle(alloc, key, &before, sent, &after, &mut changes)?;
+    Ok(made(Answer::Update(update), changes))
+}
+
+// It is sent, where what the vehicle is to hold is free.
+fn send_update<F: Floor>(
+    alloc: Global,
+    floor: &mut F,
+    at: Moment,
+    key: &VehicleKey,
+    row: &VehicleRow,
+    trip: Trip,
+    update: u32,
+    edges: u32,
+) -> Result<Decision, Fault>
+    requires { IsOfSize (Some trip) }
+    ensures told { F.is_clean floor.new → IfOk result (λ decision. (decision ≡ decided (send_update (F.world floor.old) at key.now row.now trip update edges)) × (F.world floor.new ≡ F.world floor.old)) }
+    ensures left { F.is_clean floor.new → F.is_open floor.new → OnErr result (F.world floor.new ≡ F.world floor.old) }
+    ensures earlier { F.is_clean floor.new → F.is_clean floor.old × (F.is_open floor.new → F.is_open floor.old) }
+    ensures fails { Fails result (F.failed floor.old) (F.failed floor.new) }
+    ensures same { F.seats floor.new ≡ F.seats floor.old }
+{
+    let Some(next) = release(&trip, edges)? else {
+        return Ok(refused(alloc, Refusal::Beyond));
+    };
+    let new = standing(row, Some(next));
+    let things = footprint(alloc, &new)?;
+    if let Some((what, by)) = first_held(floor, key, &things)? {
+        return Ok(refused(alloc, Refusal::Held { what, by }));
+    }
+    let Some(number) = next_number(row.orders.count) else {
+        return Ok(refused(alloc, Refusal::Spent));
+    };
+    let Standing { trip: next, .. } = new;
+    Ok(update_sent(alloc, at, key, row, Some(trip), next, update, number)?)
+}
+
+// Whether the update is the one after the last that was sent.
+fn is_next(update: u32, sent: u32) -> bool
+    ensures { result ≡ (update == sent + 1) }
+{
+    sent.checked_add(1) == Some(update)
+}
+
+// It is sent, where the vehicle can take it.
+fn take_update<F: Floor>(
+    alloc: Global,
+    floor: &mut F,
+    at: Moment,
+    key: &VehicleKey,
+    row: &VehicleRow,
+    trip: Trip,
+    update: u32,
+    edges: u32,
+) -> Result<Decision, Fault>
+    requires { IsOfSize (Some trip) }
+    ensures told { F.is_clean floor.new → IfOk result (λ decision. (decision ≡ decided (take_update (F.world floor.old) at key.now row.now trip update edges)) × (F.world floor.new ≡ F.world floor.old)) }
+    ensures left { F.is_clean floor.new → F.is_open floor.new → OnErr result (F.world floor.new ≡ F.world floor.old) }
+    ensures earlier { F.is_clean floor.new → F.is_clean floor.old × (F.is_open floor.new → F.is_open floor.old) }
+    ensures fails { Fails result (F.failed floor.old) (F.failed floor.new) }
+    ensures same { F.seats floor.new ≡ F.seats floor.old }
+{
+    if !is_next(update, trip.sent) {
+        return Ok(refused(alloc, Refusal::WrongUpdate { sent: trip.sent }));
+    }
+    if !is_confirmed(trip.confirmed, trip.sent) {
+        return Ok(refused(alloc, Refusal::NotConfirmed));
+    }
+    if !row.ready {
+        return Ok(refused(alloc, Refusal::NotReady));
+    }
+    if is_cancelling(row.pending) {
+        return Ok(refused(alloc, Refusal::InstantPending));
+    }
+    send_update(alloc, floor, at, key, row, trip, update, edges)
+}
+
+/// Releases so many edges more of an open order.
+pub(crate) fn advance<F: Floor>(
+    alloc: Global,
+    floor: &mut F,
+    at: Moment,
+    key: &VehicleKey,
+    order: &Name,
+    update: u32,
+    edges: u32,
+) -> Result<Decision, Fault>
+    ensures told { F.is_clean floor.new → IfOk result (λ decision. (IsOfSize (trip_of (F.world floor.old) key.now) → decision ≡ decided (advance (F.world floor.old) at key.now order.now update edges)) × (F.world floor.new ≡ F.world floor.old)) }
+    ensures left { F.is_clean floor.new → F.is_open floor.new → OnErr result (F.world floor.new ≡ F.world floor.old) }
+    ensures earlier { F.is_clean floor.new → F.is_clean floor.old × (F.is_open floor.new → F.is_open floor.old) }
+    ensures fails { Fails result (F.failed floor.old) (F.failed floor.new) }
+    ensures same { F.seats floor.new ≡ F.seats floor.old }
+{
+    let Some(row) = floor.vehicle(*key)? else {
+        return Ok(refused(alloc, Refusal::NoVehicle));
+    };
+    let found = floor.trip(*key)?;
+    if !is_of_size(&found) {
+        return Ok(refused(alloc, Refusal::Limit));
+    }
+    let Some(trip) = trip_for(found, order) else {
+        return Ok(refused(alloc, Refusal::NoOrder));
+    };
+    take_update(alloc, floor, at, key, &row, trip, update, edges)
+}
