@@ -12,7 +12,7 @@ use std::process::Abort;
 const TRACK: [&str; 7] = ["N1", "N2", "N3", "E12", "E21", "E23", "E32"];
 
 /// A node where the name begins with N, and else an edge.
-fn thing(rt: &impl Abort, id: &str) -> Thing {
+pub(crate) fn thing(rt: &impl Abort, id: &str) -> Thing {
     if id.starts_with('N') {
         Thing::Node(name(rt, id))
     } else {
@@ -28,7 +28,8 @@ fn things(rt: &impl Abort, alloc: Global, ids: &[&str]) -> Vec<Thing> {
     things
 }
 
-fn kit(rt: &impl Abort, serial: &str) -> VehicleKey {
+/// KIT's vehicle of this serial number.
+pub(crate) fn kit(rt: &impl Abort, serial: &str) -> VehicleKey {
     vehicle(rt, "KIT", serial)
 }
 

@@ -21,7 +21,7 @@ station,C,N3,2
 ";
 
 /// The rows of a layout file.
-fn rows(rt: &impl Abort, alloc: Global, file: &str) -> Vec<LayoutRow> {
+pub(crate) fn rows(rt: &impl Abort, alloc: Global, file: &str) -> Vec<LayoutRow> {
     read_layout(alloc, file.as_bytes()).expect(rt, file)
 }
 

@@ -56,7 +56,7 @@ fn jobs(rt: &impl Abort, alloc: Global, cases: &[JobCase]) -> Vec<Job> {
     jobs
 }
 
-fn stops(rt: &impl Abort, alloc: Global, cases: &[StopCase]) -> Vec<Stop> {
+pub(crate) fn stops(rt: &impl Abort, alloc: Global, cases: &[StopCase]) -> Vec<Stop> {
     let mut stops = Vec::new(alloc);
     for (kind, id) in cases {
         let job = name(rt, id);

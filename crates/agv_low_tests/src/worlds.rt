@@ -74,7 +74,7 @@ fn stock(rt: &impl Abort) -> [Change; 3] {
 }
 
 /// The world of a layout, a vehicle, a load and a job.
-fn world(rt: &impl Abort, alloc: Global) -> World {
+pub(crate) fn world(rt: &impl Abort, alloc: Global) -> World {
     let mut world = World::empty(alloc);
     world.apply(&layout(rt)).expect(rt, "memory");
     world.apply(&stock(rt)).expect(rt, "memory");
@@ -161,6 +161,22 @@ fn has_the_vehicle_the_load_and_the_job(rt: HostRuntime) {
     check(&rt, world.jobs.get(name(&rt, "L1")).is_none(), "no job L1");
 }
 
+/// The stations with a third one, in the order of their names.
+const STATIONS: &str = concat!(
+    "[(A, Spot { node: N1, capacity: 1 }), (AB, Spot { node: N2, capacity: 3 }), ",
+    "(B, Spot { node: N3, capacity: 2 })]",
+);
+
+#[test]
+fn lists_the_stations(rt: HostRuntime) {
+    let mut world = world(&rt, rt.alloc());
+    world
+        .apply(&[station(&rt, "AB", "N2", 3)])
+        .expect(&rt, "memory");
+    let stations = world.stations.list(rt.alloc()).expect(&rt, "memory");
+    check_debug(&rt, rt.alloc(), &stations, STATIONS, "stations");
+}
+
 /// The trip of order O1 from node N1, without acts.
 fn trip(rt: &impl Abort, alloc: Global) -> TripRow {
     TripRow {
@@ -175,12 +191,12 @@ fn trip(rt: &impl Abort, alloc: Global) -> TripRow {
     }
 }
 
-fn leg(rt: &impl Abort, k: u32) -> LegKey {
+pub(crate) fn leg(rt: &impl Abort, k: u32) -> LegKey {
     let order = name(rt, "O1");
     LegKey { order, k }
 }
 
-fn used(kind: UseKind, name: Name) -> UseKey {
+pub(crate) fn used(kind: UseKind, name: Name) -> UseKey {
     UseKey { kind, name }
 }
 

@@ -1,6 +1,6 @@
 //! What vehicles hold, with a trip and without one.
 
-use super::{ONE_EDGE, Way, there_and_back, trip};
+use super::ways::{ONE_EDGE, Way, there_and_back, trip};
 use crate::cases::{check_debug, name};
 use agv_header::Thing;
 use agv_track::{Standing, footprint};
