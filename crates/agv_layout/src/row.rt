@@ -17,8 +17,8 @@ pub enum LayoutRow {
 }
 
 impl LayoutRow {
-    // The id of a row is a name. It does nothing: a proof calls it for its clause.
-    pub(crate) fn is_named(&self)
+    /// The id of a row is a name. It does nothing: a proof calls it for its clause.
+    pub fn is_named(&self)
         ensures { IsName (id_in self.now) }
     {
         let _bytes = match self {

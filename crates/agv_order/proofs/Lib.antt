@@ -1,6 +1,7 @@
 mod Legs
 mod Messaging
 pub mod NewTrips
+mod PlanTests
 pub mod Releases
 mod Serving
 mod Stitching
@@ -9,3 +10,4 @@ pub mod Touring
 pub mod Updates
 mod Walked
 mod Ways
+pub mod WellFormedTests

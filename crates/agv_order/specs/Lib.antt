@@ -4,6 +4,7 @@ pub mod Served
 pub mod StopPlaces
 pub mod Trips
 pub mod WellFormed
+pub mod WellFormedTest
 pub mod Messages
 pub mod Releases
 pub mod Joins

@@ -1,4 +1,6 @@
 //! Acts: what a vehicle does on the way of a trip.
+ghost use Rattle.std.specs.Prelude.{◌≡◌};
+ghost use Rattle.agv_order.specs.Stops.{is_drop};
 
 use agv_header::Name;
 use agv_message::{ActKind, Status};
@@ -19,4 +21,11 @@ pub struct Act {
     pub place_at: u32,
     /// How far it is, as the vehicle has last said.
     pub status: Status,
+}
+
+/// Whether a load is dropped, and not picked.
+pub fn is_drop(kind: ActKind) -> bool
+    ensures { result ≡ is_drop kind }
+{
+    matches!(kind, ActKind::Drop)
 }

@@ -10,6 +10,7 @@ ghost use Rattle.agv_order.specs.declared.fault.PlanFault.TheVariants as fault;
 ghost use Rattle.agv_order.specs.Plans.{planned};
 ghost use Rattle.agv_order.specs.Tours.{MakesStops, IsPlanOf};
 ghost use Rattle.agv_order.specs.WellFormed.{IsWellFormed};
+ghost use Rattle.agv_order.specs.WellFormedTest.{is_well_formed};
 ghost use Rattle.agv_order.specs.declared.joining.Joined.TheVariants.{Taken, Same};
 ghost use Rattle.agv_order.specs.declared.joining.JoinRefusal.TheVariants as refusal;
 ghost use Rattle.agv_order.specs.declared.stop.Stop.{Stop as StopOf};
@@ -74,4 +75,9 @@ pub fn plans_go_by_routes()
 pub fn takes_the_first_message()
     ensures { (trip : TripOf) → trip.sent ≡ 0 → trip.first ≡ 0
         → join_of None (message_of trip) ≡ Ok (Taken (whole_of trip)) }
+{}
+
+/// The test of a well-formed trip says just what a well-formed trip is, on any layout.
+pub fn tests_well_formed()
+    ensures { (layout : LayoutOf) (trip : TripOf) → IsTrue (is_well_formed layout trip) ↔ IsWellFormed layout trip }
 {}

@@ -6,7 +6,8 @@
 //!   makes them, by the route from stop to stop; [`Trip::release`] releases more of it by an update.
 //! - [`Trip::message`] is the order message of the trip's last update, with the numbers of
 //!   [`node_seq`] and [`edge_seq`]; [`join`] is what a vehicle does with a message.
-//! - [`merge`] is the order of an action's statuses.
+//! - [`Trip::is_well_formed`] tests whether a trip is planned on a layout and under way.
+//! - [`merge`] is the order of an action's statuses; [`is_finished`] and [`is_final`] tell how far one is.
 //! - [`laws`] says what holds of the definitions behind these contracts: that the next update gives the
 //!   whole order, and that trips stay well formed.
 #![tactic(auto)]
@@ -19,17 +20,20 @@ mod leg;
 mod message;
 mod number;
 mod plan;
+mod planned;
 mod release;
 mod served;
 mod status;
 mod stitch;
 mod stop;
 mod trip;
+mod under_way;
+mod well_formed;
 
-pub use act::Act;
+pub use act::{Act, is_drop};
 pub use fault::PlanFault;
 pub use joining::{JoinRefusal, Joined, join};
 pub use number::{edge_seq, node_seq};
-pub use status::merge;
+pub use status::{is_final, is_finished, merge};
 pub use stop::{Stop, stops_fit};
 pub use trip::Trip;

@@ -9,7 +9,7 @@ use agv_message::ActKind;
 
 /// What the stops that were read do for the job.
 #[derive(Clone, Copy)]
-enum Served {
+pub(crate) enum Served {
     /// Nothing yet.
     Waiting,
     /// They pick its load.
@@ -22,7 +22,7 @@ enum Served {
 
 impl Served {
     /// The same after one more stop for the job.
-    fn then(self, kind: ActKind) -> Served
+    pub(crate) fn then(self, kind: ActKind) -> Served
         ensures { result ≡ served_then self kind }
     {
         match (self, kind) {
@@ -32,7 +32,7 @@ impl Served {
         }
     }
 
-    fn is_over(self) -> bool
+    pub(crate) fn is_over(self) -> bool
         ensures { result ≡ is_over self }
     {
         match self {

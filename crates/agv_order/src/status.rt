@@ -1,10 +1,10 @@
 //! The order of an action's statuses.
 ghost use Rattle.std.specs.Prelude.{◌≡◌};
-ghost use Rattle.agv_order.specs.Statuses.{merge, may_follow, is_waiting};
+ghost use Rattle.agv_order.specs.Statuses.{merge, may_follow, is_final, is_finished, is_waiting};
 
 use agv_message::Status;
 
-fn is_waiting(status: Status) -> bool
+pub(crate) fn is_waiting(status: Status) -> bool
     ensures { result ≡ is_waiting status }
 {
     match status {
@@ -15,6 +15,20 @@ fn is_waiting(status: Status) -> bool
         | Status::Finished
         | Status::Failed => false,
     }
+}
+
+/// Whether the action is finished: the load was picked or dropped.
+pub fn is_finished(status: Status) -> bool
+    ensures { result ≡ is_finished status }
+{
+    matches!(status, Status::Finished)
+}
+
+/// Whether nothing follows the status: the action is finished, or it has failed.
+pub fn is_final(status: Status) -> bool
+    ensures { result ≡ is_final status }
+{
+    matches!(status, Status::Finished | Status::Failed)
 }
 
 fn may_follow(old: Status, new: Status) -> bool

@@ -1,5 +1,6 @@
 //! Trips.
 ghost use Rattle.std.specs.Prelude.{◌≡◌, IfOk};
+ghost use Rattle.agv_order.specs.Trips.{node_at};
 
 use crate::Act;
 use agv_header::{Memory, Name, VehicleKey};
@@ -53,5 +54,16 @@ impl Trip {
             seen: self.seen,
             acts: self.acts.copy()?,
         })
+    }
+
+    /// The name of node `k` of the way: the start, and then the finish of each edge; none past the end.
+    pub fn node_at(&self, k: u32) -> Option<Name>
+        ensures { result ≡ node_at self.now k }
+    {
+        if k == 0 {
+            return Some(self.start);
+        }
+        let edge = self.edges.as_slice().get(k as usize - 1)?;
+        Some(edge.finish)
     }
 }

@@ -1,5 +1,4 @@
 pub mod Ids
-pub mod Ways
 pub mod Numbered
 pub mod Renewals
 pub mod Judged

@@ -11,20 +11,8 @@ ghost use Rattle.agv_track.specs.Judgements.{goes_back, is_running, is_carried_o
 ghost use Rattle.agv_track.specs.Acts.{is_pick_of};
 
 use agv_header::Name;
-use agv_message::{ActKind, Status};
-use agv_order::{Act, merge};
-
-fn is_finished(status: Status) -> bool
-    ensures { result ≡ is_finished status }
-{
-    matches!(status, Status::Finished)
-}
-
-fn is_final(status: Status) -> bool
-    ensures { result ≡ is_final status }
-{
-    matches!(status, Status::Finished | Status::Failed)
-}
+use agv_message::Status;
+use agv_order::{Act, is_drop, is_final, is_finished, merge};
 
 fn is_active(status: Status) -> bool
     ensures { result ≡ is_active status }
@@ -33,12 +21,6 @@ fn is_active(status: Status) -> bool
         status,
         Status::Initializing | Status::Running | Status::Paused
     )
-}
-
-fn is_drop(kind: ActKind) -> bool
-    ensures { result ≡ is_drop kind }
-{
-    matches!(kind, ActKind::Drop)
 }
 
 // Whether some new status can't follow the old one.

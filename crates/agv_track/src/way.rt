@@ -30,11 +30,7 @@ pub(crate) fn reported_node(state: &StateMessage) -> u32
 pub fn node_at(trip: &Trip, k: u32) -> Option<Name>
     ensures { result ≡ node_at trip.now k }
 {
-    if k == 0 {
-        return Some(trip.start);
-    }
-    let edge = trip.edges.as_slice().get(k as usize - 1)?;
-    Some(edge.finish)
+    trip.node_at(k)
 }
 
 // Whether the number is that of a node of the trip, and the name is the node's.

@@ -1,0 +1,128 @@
+//! Whether a trip is planned on a layout.
+ghost use Rattle.std.specs.Prelude.{◌≡◌, ◌&&◌, nat_eq};
+ghost use Rattle.std.specs.List.{list_all};
+ghost use Rattle.std.specs.Cmp.Lexicographic.{pointwise};
+ghost use Rattle.agv_order.specs.Stops.{kinds_of, is_pick_then_drop, stops_fit};
+ghost use Rattle.agv_order.specs.WellFormedTest.{is_edge_of, is_way_of, is_rising, is_at_station, is_planned, stops_of};
+
+use crate::served::Served;
+use crate::{Act, Trip};
+use agv_header::Name;
+use agv_layout::{Edge, Layout};
+
+/// The most edges of a trip.
+const MOST_EDGES: usize = 200;
+
+/// The most acts of a trip.
+const MOST_ACTS: usize = 8;
+
+/// Whether the edge leads as the layout says.
+fn is_edge_of(layout: &Layout, edge: &Edge) -> bool
+    ensures { result ≡ is_edge_of layout.now edge.now }
+{
+    match layout.edge(edge.id) {
+        Some(known) => known.start == edge.start && known.finish == edge.finish,
+        None => false,
+    }
+}
+
+/// Whether the edge starts at the node, and leads as the layout says.
+fn leads_on(layout: &Layout, at: Name, edge: &Edge) -> bool
+    ensures { result ≡ (pointwise nat_eq edge.now.start at && is_edge_of layout.now edge.now) }
+{
+    edge.start == at && is_edge_of(layout, edge)
+}
+
+/// Whether the edges lead on from the node, one after the other and as the layout says, to a node of it.
+fn is_way_of(layout: &Layout, start: Name, edges: &[Edge]) -> bool
+    ensures { result ≡ is_way_of layout.now start edges.now }
+{
+    let mut at = start;
+    for edge in edges {
+        if !leads_on(layout, at, edge) {
+            return false;
+        }
+        at = edge.finish;
+    }
+    layout.node(at)
+}
+
+/// Whether the acts for this job are a pick, and then a drop.
+fn is_carried(acts: &[Act], job: Name) -> bool
+    ensures { result ≡ is_pick_then_drop (kinds_of (stops_of acts.now) job) }
+{
+    let mut served = Served::Waiting;
+    for act in acts {
+        if act.job == job {
+            served = served.then(act.kind);
+        }
+    }
+    served.is_over()
+}
+
+/// Whether each job that an act names is picked and then dropped.
+fn are_all_carried(acts: &[Act]) -> bool
+    ensures { result ≡ list_all (λ act. is_pick_then_drop (kinds_of (stops_of acts.now) act.job)) acts.now }
+{
+    acts.iter().all(|act| is_carried(acts, act.job))
+}
+
+/// Whether the stops of the acts fit.
+fn acts_fit(acts: &[Act]) -> bool
+    ensures { result ≡ stops_fit (stops_of acts.now) }
+{
+    !acts.is_empty() && are_all_carried(acts)
+}
+
+/// Whether the places of the acts don't fall, and the last of them is this one.
+fn is_rising(acts: &[Act], end: usize) -> bool
+    ensures { result ≡ is_rising 0 acts.now end }
+{
+    let mut place = 0;
+    for act in acts {
+        if act.place_at < place {
+            return false;
+        }
+        place = act.place_at;
+    }
+    place as usize == end
+}
+
+impl Trip {
+    /// Whether the station of the act is at the node of its place.
+    fn is_at_station(&self, layout: &Layout, act: &Act) -> bool
+        ensures { result ≡ is_at_station layout.now self.now act.now }
+    {
+        let Some(node) = self.node_at(act.place_at) else {
+            return false;
+        };
+        let Some(station) = layout.station(act.station) else {
+            return false;
+        };
+        station.node == node
+    }
+
+    /// Whether the station of each act is at the node of its place.
+    fn are_at_stations(&self, layout: &Layout) -> bool
+        ensures { result ≡ list_all (is_at_station layout.now self.now) self.now.acts }
+    {
+        self.acts
+            .as_slice()
+            .iter()
+            .all(|act| self.is_at_station(layout, act))
+    }
+
+    /// Whether the trip is planned on the layout.
+    pub(crate) fn is_planned(&self, layout: &Layout) -> bool
+        ensures { result ≡ is_planned layout.now self.now }
+    {
+        let edges = self.edges.as_slice();
+        let acts = self.acts.as_slice();
+        edges.len() <= MOST_EDGES
+            && acts.len() <= MOST_ACTS
+            && is_way_of(layout, self.start, edges)
+            && acts_fit(acts)
+            && is_rising(acts, edges.len())
+            && self.are_at_stations(layout)
+    }
+}
