@@ -11,6 +11,7 @@ mod Puts
 mod Respreads
 mod Edits
 mod ChangeRuns
+mod SameRows
 mod VehicleTables
 mod Followed
 mod UsedKeys
@@ -23,3 +24,32 @@ mod Holding
 pub mod Unique
 mod EdgesTold
 pub mod WorldTold
+mod EachEntry
+mod SameNames
+mod LaidTests
+mod ToldVehicles
+mod ApartTests
+mod KeptTests
+mod KeepsTold
+mod VehicleRowTests
+mod FitTests
+mod VehicleTests
+mod VehicleTestsAgain
+mod ActPlaces
+mod PairCounts
+mod OtherLoads
+mod LadenCounts
+mod WorldErrands
+mod CargoTold
+mod CargoMade
+mod LawfulOrder
+mod EachElement
+mod RowsTold
+mod PlacesTold
+mod LiveJobsTold
+mod ActsTold
+mod RoomTold
+mod LadenTold
+mod LoadsTold
+mod Strangers
+mod LawfulTold

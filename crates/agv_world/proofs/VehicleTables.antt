@@ -5,7 +5,8 @@ use Rattle.std.specs.List.{enumerate_from}
 use Rattle.std.specs.Option.{option_or}
 use Rattle.std.specs.Ordering.{eq_by_cmp}
 use Rattle.std.proofs.lemmas.Map.Views.{any-filter_same}
-use Rattle.agv_header.specs.Key.{thing_cmp}
+use Rattle.agv_header.specs.Key.{key_cmp, thing_cmp}
+use Rattle.agv_header.specs.KeyOrder.{key_cmp-total}
 use Rattle.agv_header.specs.Name.{name_cmp}
 use Rattle.agv_header.specs.ThingOrder.{thing_cmp-total, thing_cmp-IsAntisymmetric}
 use Rattle.agv_header.specs.declared.key.Thing.{Thing}
@@ -16,13 +17,15 @@ use Rattle.agv_track.specs.Holders.{gained}
 use Rattle.agv_track.specs.Holds.{is_in}
 use Rattle.agv_world.specs.KeyOrders.{leg_cmp-total, leg_cmp-IsAntisymmetric}
 use Rattle.agv_world.specs.Keys.{leg_cmp}
-use Rattle.agv_world.specs.Rows.{Rows, rows_of_trip, trip_rows, trip_row, leg_rows, legs_of_trip, hold_rows}
-use Rattle.agv_world.specs.VehicleChanges.{GoesOn, trip_changes, hold_changes, trip_before, held_before}
+use Rattle.agv_world.specs.Rows.{Rows, rows_of_trip, trip_rows, trip_row, leg_rows, legs_of_trip, hold_rows, vehicle_rows}
+use Rattle.agv_world.specs.SameRows.{same_row, same_trip_row}
+use Rattle.agv_world.specs.VehicleChanges.{GoesOn, own_changes, trip_changes, hold_changes, row_before, trip_before, held_before}
 use Rattle.agv_world.specs.Changes.{changed}
 use Rattle.agv_world.specs.Worlds.{Vehicle}
 use Rattle.agv_world.specs.declared.change.Change.TheVariants as row
 use Rattle.agv_world.specs.declared.key.LegKey.{LegKey}
 use Rattle.agv_world.specs.declared.row.TripRow.{TripRow}
+use Rattle.agv_world.specs.declared.row.VehicleRow.{VehicleRow}
 use Rattle.agv_world.proofs.ChangeRuns.{changed-append, changed-legs, changed-holds}
 use Rattle.agv_world.proofs.Edits.{edit_all, edited, get-edit_all, edited-run}
 use Rattle.agv_world.proofs.Entries.{is_same}
@@ -30,14 +33,9 @@ use Rattle.agv_world.proofs.Holders.{find-run}
 use Rattle.agv_world.proofs.Orders.{names_total}
 use Rattle.agv_world.proofs.Respreads.{given, replaced, stays_same}
 use Rattle.agv_world.proofs.RowKeys.{numbered, leg_at, number_key}
+use Rattle.agv_world.proofs.SameRows.{row_stays, trip_row_stays}
 
--- ---- trips
-abbrev pub trip_table : VehicleKey → Option Trip → Option Trip → FinMap name_cmp TripRow → FinMap name_cmp TripRow
-trip_table key None None t = t
-trip_table key None (Some new) t = insert t new.order (trip_row key new)
-trip_table key (Some old) None t = remove t old.order
-trip_table key (Some old) (Some new) t = insert t new.order (trip_row key new)
-
+-- ---- a table with one row written or removed
 written : {Y : Type 0} (b : Bool) (y : Y) (stood : Option Y) → cond b (Some y) stood ≡ replaced (cond b (Some y) None) None stood
 written true y stood = refl
 written false y stood = refl
@@ -50,15 +48,65 @@ removed : {Y : Type 0} (b : Bool) (y : Y) (stood : Option Y) → cond b None sto
 removed true y stood = refl
 removed false y stood = refl
 
-pub trips_at : (key : VehicleKey) (old new : Option Trip) → GoesOn old new → (t : FinMap name_cmp TripRow) (q : List ℕ)
-    → get (trip_table key old new t) q ≡ replaced (find name_cmp q (rows_of_trip key new)) (find name_cmp q (rows_of_trip key old)) (get t q)
-trips_at key None None goes t q = refl
-trips_at key None (Some new) goes t q = get-insert names_total t new.order (trip_row key new) q ∙ written (eq_by_cmp name_cmp q new.order) (trip_row key new) (get t q)
-trips_at key (Some old) None goes t q = get-remove names_total t old.order q ∙ removed (eq_by_cmp name_cmp q old.order) (trip_row key old) (get t q)
-trips_at key (Some old) (Some new) goes t q =
+-- ---- own rows
+abbrev pub own_table : VehicleKey → Option VehicleRow → VehicleRow → FinMap key_cmp VehicleRow → FinMap key_cmp VehicleRow
+own_table key None new t = insert t key new
+own_table key (Some old) new t = cond (same_row old new) t (insert t key new)
+
+pub changed-own : (key : VehicleKey) (old : Option VehicleRow) (new : VehicleRow) (r : Rows) → changed (own_changes key old new) r ≡ record r { vehicles = own_table key old new r.vehicles }
+unfolding changed
+changed-own key None new r = refl
+changed-own key (Some old) new r =
+    elim (same_row old new) as (λ same. changed (cond same [] (row.Vehicle key new ∷ [])) r ≡ record r { vehicles = cond same r.vehicles (insert r.vehicles key new) }) [ true ↦ refl | false ↦ refl ]
+
+-- the old row stands, and the new one is there afterwards
+abbrev of_row : VehicleKey → VehicleKey → Option VehicleRow → Option VehicleRow
+of_row key q None = None
+of_row key q (Some old) = cond (eq_by_cmp key_cmp q key) (Some old) None
+
+own_went_on : (key : VehicleKey) (old new : VehicleRow) (t : FinMap key_cmp VehicleRow) (q : VehicleKey) → ((y : VehicleRow) → of_row key q (Some old) ≡ Some y → get t q ≡ Some y)
+    → (same : Bool) → same_row old new ≡ same → get (cond same t (insert t key new)) q ≡ replaced (cond (eq_by_cmp key_cmp q key) (Some new) None) (of_row key q (Some old)) (get t q)
+own_went_on key old new t q stood true is =
+    stays_same (of_row key q (Some old)) (get t q) stood
+    ∙ (λ i. replaced (cond (eq_by_cmp key_cmp q key) (Some (row_stays old new is i)) None) (of_row key q (Some old)) (get t q))
+own_went_on key old new t q stood false is = get-insert key_cmp-total t key new q ∙ rewritten (eq_by_cmp key_cmp q key) new old (get t q)
+
+pub own_at : (key : VehicleKey) (old : Option VehicleRow) (new : VehicleRow) (t : FinMap key_cmp VehicleRow) (q : VehicleKey) → ((y : VehicleRow) → of_row key q old ≡ Some y → get t q ≡ Some y)
+    → get (own_table key old new t) q ≡ replaced (cond (eq_by_cmp key_cmp q key) (Some new) None) (of_row key q old) (get t q)
+own_at key None new t q stood = get-insert key_cmp-total t key new q ∙ written (eq_by_cmp key_cmp q key) new (get t q)
+own_at key (Some old) new t q stood = own_went_on key old new t q stood (same_row old new) refl
+
+pub given_own : (key : VehicleKey) (o : Option Vehicle) (q : VehicleKey) → of_row key q (row_before o) ≡ given key_cmp vehicle_rows key o q
+given_own key None q = refl
+given_own key (Some old) q = refl
+
+-- ---- trips
+abbrev pub trip_table : VehicleKey → Option Trip → Option Trip → FinMap name_cmp TripRow → FinMap name_cmp TripRow
+trip_table key None None t = t
+trip_table key None (Some new) t = insert t new.order (trip_row key new)
+trip_table key (Some old) None t = remove t old.order
+trip_table key (Some old) (Some new) t = cond (same_trip_row old new) t (insert t new.order (trip_row key new))
+
+-- a trip that goes on: its row stays, or it is written
+went_on : (key : VehicleKey) (old new : Trip) → new.order ≡ old.order → (t : FinMap name_cmp TripRow) (q : List ℕ)
+    → ((y : TripRow) → find name_cmp q (rows_of_trip key (Some old)) ≡ Some y → get t q ≡ Some y) → (same : Bool) → same_trip_row old new ≡ same
+    → get (cond same t (insert t new.order (trip_row key new))) q
+    ≡ replaced (find name_cmp q (rows_of_trip key (Some new))) (find name_cmp q (rows_of_trip key (Some old))) (get t q)
+went_on key old new order t q stood true is =
+    stays_same (find name_cmp q (rows_of_trip key (Some old))) (get t q) stood
+    ∙ (λ i. replaced (cond (eq_by_cmp name_cmp q (sym order i)) (Some (trip_row_stays key old new is i)) None) (find name_cmp q (rows_of_trip key (Some old))) (get t q))
+went_on key old new order t q stood false is =
     get-insert names_total t new.order (trip_row key new) q
     ∙ rewritten (eq_by_cmp name_cmp q new.order) (trip_row key new) (trip_row key old) (get t q)
-    ∙ ap (λ o. replaced (cond (eq_by_cmp name_cmp q new.order) (Some (trip_row key new)) None) (cond (eq_by_cmp name_cmp q o) (Some (trip_row key old)) None) (get t q)) goes.0
+    ∙ ap (λ o. replaced (cond (eq_by_cmp name_cmp q new.order) (Some (trip_row key new)) None) (cond (eq_by_cmp name_cmp q o) (Some (trip_row key old)) None) (get t q)) order
+
+pub trips_at : (key : VehicleKey) (old new : Option Trip) → GoesOn old new → (t : FinMap name_cmp TripRow) (q : List ℕ)
+    → ((y : TripRow) → find name_cmp q (rows_of_trip key old) ≡ Some y → get t q ≡ Some y)
+    → get (trip_table key old new t) q ≡ replaced (find name_cmp q (rows_of_trip key new)) (find name_cmp q (rows_of_trip key old)) (get t q)
+trips_at key None None goes t q stood = refl
+trips_at key None (Some new) goes t q stood = get-insert names_total t new.order (trip_row key new) q ∙ written (eq_by_cmp name_cmp q new.order) (trip_row key new) (get t q)
+trips_at key (Some old) None goes t q stood = get-remove names_total t old.order q ∙ removed (eq_by_cmp name_cmp q old.order) (trip_row key old) (get t q)
+trips_at key (Some old) (Some new) goes t q stood = went_on key old new goes.0 t q stood (same_trip_row old new) refl
 
 pub given_trip : (key : VehicleKey) (o : Option Vehicle) (q : List ℕ) → find name_cmp q (rows_of_trip key (trip_before o)) ≡ given name_cmp trip_rows key o q
 given_trip key None q = refl
@@ -118,7 +166,8 @@ unfolding changed
 changed-trip key None None r = refl
 changed-trip key None (Some new) r = changed-legs (λ (n : ℕ × Edge). leg_at new.order n.0) (λ (n : ℕ × Edge). Some n.1.id) (enumerate_from 0 new.edges) (record r { trips = insert r.trips new.order (trip_row key new) })
 changed-trip key (Some old) None r = changed-legs (λ (n : ℕ × Edge). leg_at old.order n.0) (λ (n : ℕ × Edge). None) (enumerate_from 0 old.edges) (record r { trips = remove r.trips old.order })
-changed-trip key (Some old) (Some new) r = refl
+changed-trip key (Some old) (Some new) r = elim (same_trip_row old new) as (λ same. changed (cond same [] (row.Trip new.order (Some (trip_row key new)) ∷ [])) r
+    ≡ record r { trips = cond same r.trips (insert r.trips new.order (trip_row key new)) }) [ true ↦ refl | false ↦ refl ]
 
 -- ---- holds
 abbrev pub hold_table : VehicleKey → List Thing → List Thing → FinMap thing_cmp VehicleKey → FinMap thing_cmp VehicleKey

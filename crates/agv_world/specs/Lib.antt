@@ -10,5 +10,11 @@ pub mod GoodOrder
 pub mod Told
 pub mod Questions
 pub mod Fails
+pub mod SameRows
 pub mod VehicleChanges
 pub mod TableChanges
+pub mod Lawful
+pub mod Cargo
+pub mod Values
+pub mod LawfulTests
+pub mod LoadTests

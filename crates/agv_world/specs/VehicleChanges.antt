@@ -1,5 +1,5 @@
 -- The rows that change where a vehicle stands otherwise than before, or its trip changes; and what is the same where only its own row does.
-use Rattle.std.specs.Prelude.{◌≡◌, ℕ, List, [], ◌∷◌, ◌++◌, map, Option, None, Some}
+use Rattle.std.specs.Prelude.{◌≡◌, ℕ, List, [], ◌∷◌, ◌++◌, map, if◌then◌else◌, Option, None, Some}
 use Rattle.std.specs.FinMap as finite
 use Rattle.std.specs.List.{enumerate_from}
 use Rattle.agv_header.specs.declared.key.Thing.{Thing}
@@ -9,14 +9,23 @@ use Rattle.agv_order.specs.declared.trip.Trip.{Trip}
 use Rattle.agv_track.specs.Footprints.{footprint_of}
 use Rattle.agv_track.specs.Holders.{gained}
 use Rattle.agv_world.specs.Rows.{standing_of, trip_row}
+use Rattle.agv_world.specs.SameRows.{same_row, same_trip_row}
 use Rattle.agv_world.specs.Worlds.{Vehicle, World}
 use Rattle.agv_world.specs.declared.change.Change.{Change}
 use Rattle.agv_world.specs.declared.change.Change.TheVariants as row
+use Rattle.agv_world.specs.declared.row.VehicleRow.{VehicleRow}
 
 -- ---- the world with one vehicle written
 
 abbrev pub with_vehicle : World → VehicleKey → Vehicle → World
 with_vehicle world key vehicle = record world { vehicles = finite.insert world.vehicles key vehicle }
+
+-- ---- its own row
+
+-- it is written where it changes, or where there was none
+abbrev pub own_changes : VehicleKey → Option VehicleRow → VehicleRow → List Change
+own_changes key None new = row.Vehicle key new ∷ []
+own_changes key (Some old) new = if same_row old new then [] else row.Vehicle key new ∷ []
 
 -- ---- its trip
 
@@ -28,12 +37,12 @@ leg_writes order edges = map (λ (numbered : ℕ × Edge). row.Leg (record { ord
 abbrev pub leg_removals : List ℕ → List Edge → List Change
 leg_removals order edges = map (λ (numbered : ℕ × Edge). row.Leg (record { order = order; k = numbered.0 }) None) (enumerate_from 0 edges)
 
--- a trip begins, ends or goes on; one that goes on keeps its order and its edges
+-- a trip begins, ends or goes on; one that goes on keeps its order and its edges, and its row is written where it changes
 abbrev pub trip_changes : VehicleKey → Option Trip → Option Trip → List Change
 trip_changes key None None = []
 trip_changes key None (Some new) = row.Trip new.order (Some (trip_row key new)) ∷ leg_writes new.order new.edges
 trip_changes key (Some old) None = row.Trip old.order None ∷ leg_removals old.order old.edges
-trip_changes key (Some old) (Some new) = row.Trip new.order (Some (trip_row key new)) ∷ []
+trip_changes key (Some old) (Some new) = if same_trip_row old new then [] else row.Trip new.order (Some (trip_row key new)) ∷ []
 
 -- ---- what it holds
 
@@ -42,7 +51,11 @@ abbrev pub hold_changes : VehicleKey → List Thing → List Thing → List Chan
 hold_changes key old new =
     map (λ (thing : Thing). row.Hold thing (Some key)) (gained old new) ++ map (λ (thing : Thing). row.Hold thing None) (gained new old)
 
--- the trip and the footprint of a vehicle; a vehicle that is not there has neither
+-- the row, the trip and the footprint of a vehicle; a vehicle that is not there has none of them
+abbrev pub row_before : Option Vehicle → Option VehicleRow
+row_before None = None
+row_before (Some old) = Some old.row
+
 abbrev pub trip_before : Option Vehicle → Option Trip
 trip_before None = None
 trip_before (Some old) = old.trip
@@ -56,8 +69,8 @@ held_before (Some old) = footprint_of (standing_of old)
 -- the rows that change where this vehicle is written in place of the old one
 abbrev pub vehicle_changes : VehicleKey → Option Vehicle → Vehicle → List Change
 vehicle_changes key old new =
-    row.Vehicle key new.row
-    ∷ (trip_changes key (trip_before old) new.trip ++ hold_changes key (held_before old) (footprint_of (standing_of new)))
+    own_changes key (row_before old) new.row
+    ++ (trip_changes key (trip_before old) new.trip ++ hold_changes key (held_before old) (footprint_of (standing_of new)))
 
 -- a trip that goes on keeps its order and its edges
 abbrev pub GoesOn : Option Trip → Option Trip → Type 0

@@ -14,7 +14,7 @@ ghost use Rattle.agv_world.specs.Changes.{changed};
 ghost use Rattle.agv_world.specs.GoodOrder.{HasOneTripAnOrder, HasTrip, SharesNothing};
 ghost use Rattle.agv_world.specs.Rows.{Rows, rows_of, standing_of};
 ghost use Rattle.agv_world.specs.TableChanges.{job_changes, layout_changes, load_changes, written, with_use};
-ghost use Rattle.agv_world.specs.VehicleChanges.{GoesOn, StandsAsBefore, trip_before, vehicle_changes, with_vehicle};
+ghost use Rattle.agv_world.specs.VehicleChanges.{GoesOn, StandsAsBefore, own_changes, trip_before, vehicle_changes, with_vehicle};
 ghost use Rattle.agv_world.specs.Worlds.{Vehicle, World, empty_layout};
 ghost use Rattle.agv_world.specs.declared.change.Change.{Change};
 ghost use Rattle.agv_world.specs.declared.change.Change.TheVariants as row;
@@ -85,11 +85,11 @@ pub fn follows_a_vehicle()
         → changed (vehicle_changes key (finite.get world.vehicles key) vehicle) (rows_of world) ≡ rows_of (with_vehicle world key vehicle) }
 {}
 
-/// A vehicle is written that stands where it stood, with the trip that it had: its own row alone changes.
+/// A vehicle is written that stands where it stood, with the trip that it had: its own row alone changes, if it does.
 pub fn notes_a_vehicle()
     ensures { (world : World) (key : VehicleKey) (old new : Vehicle) → finite.get world.vehicles key ≡ Some old → StandsAsBefore old new
         → HasOneTripAnOrder world → SharesNothing world
-        → changed (row.Vehicle key new.row ∷ []) (rows_of world) ≡ rows_of (with_vehicle world key new) }
+        → changed (own_changes key (Some old.row) new.row) (rows_of world) ≡ rows_of (with_vehicle world key new) }
 {}
 
 /// Loads move, one after the other: a row of each changes.

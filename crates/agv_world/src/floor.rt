@@ -1,5 +1,5 @@
 //! Questions to what the desk knows, however it is kept.
-ghost use Rattle.std.specs.Prelude.{◌≡◌, ℕ, Bool, IfOk, OnErr};
+ghost use Rattle.std.specs.Prelude.{◌≡◌, ◌≤◌, ℕ, Bool, IfOk, OnErr};
 ghost use Rattle.std.specs.FinMap as map;
 ghost use Rattle.std.specs.FinSet as set;
 ghost use Rattle.agv_world.specs.Fails.{Fails};
@@ -54,7 +54,8 @@ pub trait Floor {
 
     /// How many loads a vehicle may be built for: 1 to 4.
     fn seats(&self) -> u32
-        ensures { result ≡ seats self.now };
+        ensures is { result ≡ seats self.now }
+        ensures few { (1 ≤ result) × (result ≤ 4) };
 
     /// The row of a vehicle; none where there is no such vehicle.
     fn vehicle(&mut self, key: VehicleKey) -> Result<Option<VehicleRow>, Fault>

@@ -1,5 +1,5 @@
 //! Answers from a world in memory.
-ghost use Rattle.std.specs.Prelude.{◌≡◌};
+ghost use Rattle.std.specs.Prelude.{◌≡◌, ◌≤◌};
 
 use crate::{Counted, Fault, Floor, JobRow, UseKind, VehicleRow, World};
 use agv_header::{Name, Thing, VehicleKey};
@@ -22,11 +22,13 @@ pub struct PlainFloor {
     /// How many loads a vehicle may be built for: 1 to 4.
     pub seats: u32,
     alloc: Global,
+    ghost few: { (1 ≤ seats) × (seats ≤ 4) },
 }
 
 impl PlainFloor {
-    /// A floor that answers from this world, for vehicles of so many loads.
+    /// A floor that answers from this world, for vehicles of so many loads: 1 to 4.
     pub fn new(alloc: Global, world: World, seats: u32) -> PlainFloor
+        requires { (1 ≤ seats) × (seats ≤ 4) }
         ensures world { result.world ≡ world }
         ensures seats { result.seats ≡ seats }
     {

@@ -118,7 +118,7 @@ impl World {
     }
 
     // How many names were used in this kind.
-    fn used_count(&self, kind: UseKind) -> usize
+    pub(crate) fn used_count(&self, kind: UseKind) -> usize
         ensures { result ≡ set.len (names_of self.now kind) }
     {
         self.used.iter().filter(|key| key.is_in(kind)).count()
@@ -163,7 +163,7 @@ impl World {
     }
 
     // The trip of a row, with its edges.
-    fn trip_in(&self, alloc: Global, order: Name, row: &TripRow) -> Result<Trip, Memory>
+    pub(crate) fn trip_in(&self, alloc: Global, order: Name, row: &TripRow) -> Result<Trip, Memory>
         ensures { IfOk result (λ trip. trip ≡ trip_in self.now (order, row.now)) }
     {
         Ok(Trip {
@@ -181,7 +181,7 @@ impl World {
     }
 
     // The trip of a vehicle: that of the first row that names it.
-    fn open_trip(&self, alloc: Global, key: VehicleKey) -> Result<Option<Trip>, Memory>
+    pub(crate) fn open_trip(&self, alloc: Global, key: VehicleKey) -> Result<Option<Trip>, Memory>
         ensures { IfOk result (λ trip. trip ≡ open_trip self.now key) }
     {
         for (order, row) in self.trips.iter() {

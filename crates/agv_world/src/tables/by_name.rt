@@ -1,7 +1,8 @@
 //! Tables with names for keys.
-ghost use Rattle.std.specs.Prelude.{◌≡◌, IfOk, OnOk, OnErr};
+ghost use Rattle.std.specs.Prelude.{◌≡◌, ℕ, List, Some, IfOk, OnOk, OnErr};
 ghost use Rattle.std.specs.FinMap as map;
 ghost use Rattle.std.specs.Option.{option_copied};
+ghost use Rattle.agv_header.specs.Name.{IsName};
 
 use crate::{JobRow, TripRow, VehicleRow};
 use agv_header::{Memory, Name};
@@ -95,6 +96,15 @@ impl<V: Row> ByName<V> {
         ensures { result ≡ map.entries self.now }
     {
         self.kept.iter()
+    }
+
+    /// Each key is a name. It does nothing: a proof calls it for its clause.
+    pub fn are_named(&self)
+        ensures { (id : List ℕ) (row : V) → map.get self.now id ≡ Some row → IsName id }
+    {
+        for (id, _) in self.iter() {
+            let _bytes = id.as_bytes();
+        }
     }
 
     /// Writes the row of a key, in place of the one that is there.

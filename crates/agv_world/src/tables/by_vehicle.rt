@@ -1,7 +1,9 @@
 //! Tables with vehicles for keys.
-ghost use Rattle.std.specs.Prelude.{◌≡◌, IfOk, OnOk, OnErr};
+ghost use Rattle.std.specs.Prelude.{◌≡◌, Some, IfOk, OnOk, OnErr};
 ghost use Rattle.std.specs.FinMap as map;
 ghost use Rattle.std.specs.Option.{option_copied};
+ghost use Rattle.agv_header.specs.declared.key.VehicleKey.{VehicleKey as Vehicle};
+ghost use Rattle.agv_world.specs.Lawful.{IsKey};
 
 use crate::Row;
 use agv_header::{Memory, VehicleKey};
@@ -56,6 +58,16 @@ impl<V: Row> ByVehicle<V> {
         ensures { result ≡ map.entries self.now }
     {
         self.kept.iter()
+    }
+
+    /// Each key is one of names. It does nothing: a proof calls it for its clause.
+    pub fn are_keys(&self)
+        ensures { (key : Vehicle) (row : V) → map.get self.now key ≡ Some row → IsKey key }
+    {
+        for (key, _) in self.iter() {
+            let _manufacturer = key.manufacturer.as_bytes();
+            let _serial = key.serial.as_bytes();
+        }
     }
 
     /// Writes the row of a key, in place of the one that is there.

@@ -1,8 +1,8 @@
 //! The table of nodes.
-ghost use Rattle.std.specs.Prelude.{◌≡◌, IfOk, OnOk, OnErr};
+ghost use Rattle.std.specs.Prelude.{◌≡◌, ℕ, true, List, IfOk, OnOk, OnErr};
 ghost use Rattle.std.specs.FinSet as set;
 ghost use Rattle.std.specs.List.Sorted.{IsStrictlySortedBy};
-ghost use Rattle.agv_header.specs.Name.{name_cmp};
+ghost use Rattle.agv_header.specs.Name.{IsName, name_cmp};
 
 use agv_header::{Memory, Name};
 use std::alloc::Global;
@@ -44,12 +44,28 @@ impl Names {
         self.kept.contains(&key)
     }
 
+    /// How many there are.
+    pub fn len(&self) -> usize
+        ensures { result ≡ set.len self.now }
+    {
+        self.kept.len()
+    }
+
     /// The names, in their order.
     pub fn iter(&self) -> btree_set::Iter<'_, Name>
         ensures ordered { IsStrictlySortedBy name_cmp result }
         ensures all { set.from_list result ≡ self.now }
     {
         self.kept.iter()
+    }
+
+    /// Each is a name. It does nothing: a proof calls it for its clause.
+    pub fn are_named(&self)
+        ensures { (id : List ℕ) → set.contains self.now id ≡ true → IsName id }
+    {
+        for id in self.iter() {
+            let _bytes = id.as_bytes();
+        }
     }
 
     /// Adds one, if it is none of them yet.

@@ -1,8 +1,10 @@
 //! The table of used names.
-ghost use Rattle.std.specs.Prelude.{◌≡◌, IfOk, OnOk, OnErr};
+ghost use Rattle.std.specs.Prelude.{◌≡◌, true, IfOk, OnOk, OnErr};
 ghost use Rattle.std.specs.FinSet as set;
 ghost use Rattle.std.specs.List.Sorted.{IsStrictlySortedBy};
+ghost use Rattle.agv_header.specs.Name.{IsName};
 ghost use Rattle.agv_world.specs.Keys.{use_cmp};
+ghost use Rattle.agv_world.specs.declared.key.UseKey.{UseKey as Used};
 
 use crate::UseKey;
 use agv_header::Memory;
@@ -51,6 +53,15 @@ impl UsedNames {
         ensures all { set.from_list result ≡ self.now }
     {
         self.kept.iter()
+    }
+
+    /// Each is a name. It does nothing: a proof calls it for its clause.
+    pub fn are_named(&self)
+        ensures { (key : Used) → set.contains self.now key ≡ true → IsName key.name }
+    {
+        for key in self.iter() {
+            let _bytes = key.name.as_bytes();
+        }
     }
 
     /// Adds one, if it is none of them yet.

@@ -1,0 +1,5 @@
+use Rattle.agv_world.proofs.ApartTests.{apart, apart_again}
+use Rattle.agv_world.proofs.test_laws.tests_footprints.Goals as goal
+
+pub returns : goal.returns
+returns c tables = (apart tables, apart_again tables)

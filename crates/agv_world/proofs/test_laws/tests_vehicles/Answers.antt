@@ -1,0 +1,19 @@
+use Rattle.std.proofs.Common.{subst, sym}
+use Rattle.agv_world.specs.Kept.{Keeps}
+use Rattle.agv_world.specs.Lawful.{HasLawfulVehicles}
+use Rattle.agv_world.proofs.FitTests.{Below}
+use Rattle.agv_world.proofs.VehicleTests.{each_passed, kept, lawful_vehicles}
+use Rattle.agv_world.proofs.VehicleTestsAgain.{told_again, vehicles_again}
+use Rattle.agv_world.proofs.test_laws.tests_vehicles.Goals as goal
+
+pub returns-clause-told : goal.returns-clause-told
+returns-clause-told c seats tables values all =
+    let below : Below = record { again = c.gives_itself.ensures; node = c.needs_a_node.ensures; fits = c.tests_well_formed.ensures } in
+    let passes = each_passed seats tables all in
+    (kept below seats tables values passes, lawful_vehicles below seats tables values passes)
+
+pub returns-clause-again : goal.returns-clause-again
+returns-clause-again c seats tables world keeps lawful =
+    let below : Below = record { again = c.gives_itself.ensures; node = c.needs_a_node.ensures; fits = c.tests_well_formed.ensures } in
+    let same = told_again seats tables world keeps lawful in
+    (same, vehicles_again below seats tables (subst (Keeps tables) (sym same) keeps) (subst (HasLawfulVehicles seats) (sym same) lawful))

@@ -1,0 +1,194 @@
+-- The joint invariant: what holds of the world of a desk after every list of calls (this project's profile). Each part has a name of its own.
+use Rattle.std.specs.Prelude.{◌≡◌, ◌↔◌, ◌⊎◌, ℕ, ◌+◌, ◌<◌, ◌≤◌, ◌&&◌, not, nat_eq, Bool, true, false, List, length, count_by, Option, None, Some, Contains}
+use Rattle.std.specs.Cmp.Lexicographic.{pointwise}
+use Rattle.std.specs.FinMap as finite
+use Rattle.std.specs.FinSet as set
+use Rattle.std.specs.List.{list_any}
+use Rattle.agv_header.specs.Name.{IsName}
+use Rattle.agv_header.specs.declared.key.VehicleKey.{VehicleKey}
+use Rattle.agv_layout.specs.Layout.{Layout, KeepsRules, IsNode, IsEdge, IsStation}
+use Rattle.agv_layout.specs.declared.station.Spot.{Spot}
+use Rattle.agv_message.specs.declared.instant.InstantKind.{InstantKind}
+use Rattle.agv_message.specs.declared.order.ActKind.{ActKind}
+use Rattle.agv_message.specs.declared.order.ActKind.TheVariants.{Pick, Drop}
+use Rattle.agv_order.specs.Statuses.{is_finished}
+use Rattle.agv_order.specs.Stops.{is_drop}
+use Rattle.agv_order.specs.Trips.{node_at}
+use Rattle.agv_order.specs.WellFormed.{IsWellFormed}
+use Rattle.agv_order.specs.declared.act.Act.{Act}
+use Rattle.agv_order.specs.declared.trip.Trip.{Trip}
+use Rattle.agv_stock.specs.Phase.{is_live}
+use Rattle.agv_stock.specs.Room.{is_on}
+use Rattle.agv_stock.specs.declared.job.Phase.TheVariants as phase
+use Rattle.agv_stock.specs.declared.place.Place.{Place}
+use Rattle.agv_stock.specs.declared.place.Place.TheVariants as place
+use Rattle.agv_world.specs.GoodOrder.{IsVehicle, HasTrip, HasOneTripAnOrder, SharesNothing}
+use Rattle.agv_world.specs.Questions.{loads_at, loads_on, reserved}
+use Rattle.agv_world.specs.Worlds.{Vehicle, World, empty_layout}
+use Rattle.agv_world.specs.declared.row.JobRow.{JobRow}
+use Rattle.agv_world.specs.declared.row.Sent.{Sent}
+use Rattle.agv_world.specs.declared.row.VehicleRow.{VehicleRow}
+
+-- ---- a vehicle by itself
+
+-- manufacturer and serial number are names
+abbrev pub IsKey : VehicleKey → Type 0
+IsKey key = IsName key.manufacturer × IsName key.serial
+
+-- the number and the moment of the last message of a topic: the moment lies before 2100, and is 0 where no message was sent
+pub record IsSent (sent : Sent) : Type 0 where
+  pub number : sent.count ≤ 4294967295
+  pub moment : sent.at ≤ 4102444799999
+  pub none : sent.count ≡ 0 → sent.at ≡ 0
+
+-- a rest is an edge that begins at the vehicle's node, with the node where it ends
+abbrev pub IsRestAt : Layout → List ℕ → Option (List ℕ × List ℕ) → Type 0
+IsRestAt layout node None = Unit {0}
+IsRestAt layout node (Some rest) = IsEdge layout rest.0 (record { start = node; finish = rest.1 })
+
+-- a vehicle has 1 to `seats` places for loads, stands at a node, may have gone on from there to a rest, and what was sent to it was numbered; an action is pending only where a message was sent
+pub record IsVehicleOf (seats : ℕ) (layout : Layout) (row : VehicleRow) : Type 0 where
+  pub carries : 1 ≤ row.capacity
+  pub seated : row.capacity ≤ seats
+  pub node : IsNode layout row.node
+  pub rest : IsRestAt layout row.node row.rest
+  pub header : (number : ℕ) → row.last_header ≡ Some number → number ≤ 4294967295
+  pub reported : (order : List ℕ) → row.reported ≡ Some order → IsName order
+  pub orders : IsSent row.orders
+  pub instants : IsSent row.instants
+  pub pending : (kind : InstantKind) → row.pending ≡ Some kind → 0 < row.instants.count
+
+-- ---- a vehicle and its open trip
+
+-- the act picks a load up
+abbrev pub picks : Act → Bool
+picks act = not (is_drop act.kind)
+
+-- the trip is well formed, names its vehicle, has at most as many jobs as the vehicle has places, and was sent; the vehicle stands at the node that it has seen last, and there is no rest
+pub record IsTripOf (layout : Layout) (key : VehicleKey) (row : VehicleRow) (trip : Trip) : Type 0 where
+  pub well_formed : IsWellFormed layout trip
+  pub own : trip.vehicle ≡ key
+  pub seated : count_by picks trip.acts ≤ row.capacity
+  pub sent : 0 < row.orders.count
+  pub stands : node_at trip trip.seen ≡ Some row.node
+  pub no_rest : row.rest ≡ None
+
+-- ---- the layout, the vehicles and their trips
+
+pub record HasLawfulVehicles (seats : ℕ) (world : World) : Type 0 where
+  -- the layout is not set yet, or keeps the rules of a layout
+  pub laid : (world.layout ≡ empty_layout) ⊎ KeepsRules world.layout
+  -- at most 100 vehicles, and 1,000,000 orders and references each, that are over counted
+  pub few_vehicles : finite.len world.vehicles ≤ 100
+  pub few_orders : set.len world.orders ≤ 1000000
+  pub few_references : set.len world.references ≤ 1000000
+  -- the names of vehicles, orders and references are names
+  pub vehicles_named : (key : VehicleKey) (vehicle : Vehicle) → IsVehicle world key vehicle → IsKey key
+  pub orders_named : (name : List ℕ) → set.contains world.orders name ≡ true → IsName name
+  pub references_named : (name : List ℕ) → set.contains world.references name ≡ true → IsName name
+  -- each vehicle, and each open trip with its vehicle, is as above
+  pub vehicles : (key : VehicleKey) (vehicle : Vehicle) → IsVehicle world key vehicle → IsVehicleOf seats world.layout vehicle.row
+  pub trips : (key : VehicleKey) (vehicle : Vehicle) (trip : Trip) → IsVehicle world key vehicle → vehicle.trip ≡ Some trip → IsTripOf world.layout key vehicle.row trip
+  -- the name of an open trip's order was used, and no order has two trips
+  pub used : (key : VehicleKey) (trip : Trip) → HasTrip world key trip → set.contains world.orders trip.order ≡ true
+  pub one_trip : HasOneTripAnOrder world
+  -- no node or edge is in the footprints of two vehicles
+  pub apart : SharesNothing world
+
+-- ---- loads and jobs
+
+-- the station or the vehicle of a place is known
+abbrev pub IsPlaceIn : World → Place → Type 0
+IsPlaceIn world (place.Station id) = (spot : Spot) × IsStation world.layout id spot
+IsPlaceIn world (place.Vehicle key) = (vehicle : Vehicle) × IsVehicle world key vehicle
+IsPlaceIn world place.Checking = Unit {0}
+IsPlaceIn world place.Left = Unit {0}
+
+-- the job is one of the world
+abbrev pub IsJob : World → List ℕ → JobRow → Type 0
+IsJob world job row = finite.get world.jobs job ≡ Some row
+
+-- the load and the stations of a job are known
+pub record IsJobIn (world : World) (row : JobRow) : Type 0 where
+  pub load : (place : Place) × (finite.get world.places row.load ≡ Some place)
+  pub origin : (spot : Spot) × IsStation world.layout row.origin spot
+  pub target : (spot : Spot) × IsStation world.layout row.target spot
+
+-- the vehicle has a trip open, and this is an act of it
+pub record HasAct (world : World) (key : VehicleKey) (trip : Trip) (act : Act) : Type 0 where
+  pub open_trip : HasTrip world key trip
+  pub among : Contains trip.acts act
+
+-- the job is still to be dropped: an open trip has its drop, which is not finished
+pub record IsToDrop (world : World) (job : List ℕ) : Type 0 where
+  pub key : VehicleKey
+  pub trip : Trip
+  pub act : Act
+  pub has : HasAct world key trip act
+  pub drop : act.kind ≡ Drop
+  pub of_job : act.job ≡ job
+  pub undone : is_finished act.status ≡ false
+
+-- the station where an act takes place: a pick at the job's origin, a drop at its target
+abbrev pub station_for : ActKind → JobRow → List ℕ
+station_for Pick row = row.origin
+station_for Drop row = row.target
+
+-- the act names the load and the station of its job
+pub record NamesItsJob (world : World) (act : Act) : Type 0 where
+  pub row : JobRow
+  pub job : IsJob world act.job row
+  pub load : row.load ≡ act.load
+  pub station : station_for act.kind row ≡ act.station
+
+-- where the load of a job that rides is: at the origin until its pick is finished, and then on the vehicle
+abbrev pub carried_at : VehicleKey → List ℕ → Bool → Place
+carried_at key origin false = place.Station origin
+carried_at key origin true = place.Vehicle key
+
+-- the act is a drop that is not finished
+abbrev pub is_to_drop : Act → Bool
+is_to_drop act = is_drop act.kind && not (is_finished act.status)
+
+-- the load is one that the trip is still to drop
+abbrev pub is_load_of : Trip → List ℕ → Bool
+is_load_of trip load = list_any (λ (act : Act). is_to_drop act && pointwise nat_eq act.load load) trip.acts
+
+-- how many loads are on the vehicle that belong to none of the trip's live jobs
+abbrev pub other_loads : World → VehicleKey → Trip → ℕ
+other_loads world key trip = count_by (λ (load : List ℕ × Place). is_on key load.1 && not (is_load_of trip load.0)) (finite.entries world.places)
+
+pub record HasLawfulLoads (world : World) : Type 0 where
+  -- at most 1,000,000 loads, those that have left counted, and 1,000,000 jobs
+  pub few_loads : finite.len world.places ≤ 1000000
+  pub few_jobs : finite.len world.jobs ≤ 1000000
+  -- the names of loads and jobs are names
+  pub loads_named : (load : List ℕ) (place : Place) → finite.get world.places load ≡ Some place → IsName load
+  pub jobs_named : (job : List ℕ) (row : JobRow) → IsJob world job row → IsName job
+  -- what a place or a job names is known
+  pub places : (load : List ℕ) (place : Place) → finite.get world.places load ≡ Some place → IsPlaceIn world place
+  pub jobs : (job : List ℕ) (row : JobRow) → IsJob world job row → IsJobIn world row
+  -- the loads at a station and the live jobs to it are together at most its capacity
+  pub room : (station : List ℕ) (spot : Spot) → IsStation world.layout station spot → length (loads_at world station) + reserved world station ≤ spot.capacity
+  -- a vehicle without a trip has at most as many loads as it has places; with a trip, its other loads and the trip's jobs that are not done are together at most that many
+  pub idle : (key : VehicleKey) (vehicle : Vehicle) → IsVehicle world key vehicle → vehicle.trip ≡ None → loads_on world key ≤ vehicle.row.capacity
+  pub laden : (key : VehicleKey) (vehicle : Vehicle) (trip : Trip) → IsVehicle world key vehicle → vehicle.trip ≡ Some trip → other_loads world key trip + count_by is_to_drop trip.acts ≤ vehicle.row.capacity
+  -- a load has at most one live job
+  pub one_job : (one other : List ℕ) (row further : JobRow) → IsJob world one row → IsJob world other further → is_live row.phase ≡ true → is_live further.phase ≡ true → row.load ≡ further.load → one ≡ other
+  -- a job rides exactly where an open trip has it and its drop is not finished; where the drop is finished, the job is done
+  pub riding : (job : List ℕ) (row : JobRow) → IsJob world job row → (row.phase ≡ phase.Riding) ↔ IsToDrop world job
+  pub done : (key : VehicleKey) (trip : Trip) (act : Act) (row : JobRow) → HasAct world key trip act → act.kind ≡ Drop → is_finished act.status ≡ true → IsJob world act.job row → row.phase ≡ phase.Done
+  -- a job stands in at most one open trip
+  pub one_vehicle : (one other : VehicleKey) (trip further : Trip) (act more : Act) → HasAct world one trip act → HasAct world other further more → act.job ≡ more.job → one ≡ other
+  -- the load of a job that waits is at the origin; the load of one that rides is there until its pick is finished, and then on the vehicle
+  pub waiting : (job : List ℕ) (row : JobRow) → IsJob world job row → row.phase ≡ phase.Waiting → finite.get world.places row.load ≡ Some (place.Station row.origin)
+  pub carried : (key : VehicleKey) (trip : Trip) (act : Act) (row : JobRow) → HasAct world key trip act → act.kind ≡ Pick → IsJob world act.job row → is_live row.phase ≡ true → finite.get world.places row.load ≡ Some (carried_at key row.origin (is_finished act.status))
+  -- each act of an open trip names the load and the station of its job
+  pub acts : (key : VehicleKey) (trip : Trip) (act : Act) → HasAct world key trip act → NamesItsJob world act
+
+-- ---- all of it
+
+-- the world is lawful, where vehicles have at most so many places for loads
+pub record IsLawful (seats : ℕ) (world : World) : Type 0 where
+  pub vehicles : HasLawfulVehicles seats world
+  pub loads : HasLawfulLoads world

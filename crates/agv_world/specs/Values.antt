@@ -1,0 +1,38 @@
+-- What holds of the values in every table in memory: a name is a name, and a number is in the range of its type.
+use Rattle.std.specs.Prelude.{◌≡◌, ℕ, ◌≤◌, true, List, Some}
+use Rattle.std.specs.FinMap as finite
+use Rattle.std.specs.FinSet as set
+use Rattle.agv_header.specs.Name.{IsName}
+use Rattle.agv_header.specs.declared.key.VehicleKey.{VehicleKey}
+use Rattle.agv_layout.specs.declared.edge.Ends.{Ends}
+use Rattle.agv_layout.specs.declared.station.Spot.{Spot}
+use Rattle.agv_stock.specs.declared.place.Place.{Place}
+use Rattle.agv_world.specs.Lawful.{IsKey}
+use Rattle.agv_world.specs.declared.key.UseKey.{UseKey}
+use Rattle.agv_world.specs.declared.row.JobRow.{JobRow}
+use Rattle.agv_world.specs.declared.row.Sent.{Sent}
+use Rattle.agv_world.specs.declared.row.VehicleRow.{VehicleRow}
+use Rattle.agv_world.specs.declared.world.World.{World as Tables}
+
+-- a number of 32 bits, and a moment before 2100
+pub record IsSentValue (sent : Sent) : Type 0 where
+  pub number : sent.count ≤ 4294967295
+  pub moment : sent.at ≤ 4102444799999
+
+-- the numbers and the names of a vehicle's row
+pub record IsVehicleValue (row : VehicleRow) : Type 0 where
+  pub header : (number : ℕ) → row.last_header ≡ Some number → number ≤ 4294967295
+  pub reported : (order : List ℕ) → row.reported ≡ Some order → IsName order
+  pub orders : IsSentValue row.orders
+  pub instants : IsSentValue row.instants
+
+-- the names and the numbers of the tables
+pub record HasValues (tables : Tables) : Type 0 where
+  pub nodes : (id : List ℕ) → set.contains tables.nodes id ≡ true → IsName id
+  pub edges : (id : List ℕ) (ends : Ends) → finite.get tables.edges id ≡ Some ends → IsName id
+  pub stations : (id : List ℕ) (spot : Spot) → finite.get tables.stations id ≡ Some spot → IsName id
+  pub keys : (key : VehicleKey) (row : VehicleRow) → finite.get tables.vehicles key ≡ Some row → IsKey key
+  pub vehicles : (key : VehicleKey) (row : VehicleRow) → finite.get tables.vehicles key ≡ Some row → IsVehicleValue row
+  pub loads : (load : List ℕ) (place : Place) → finite.get tables.loads load ≡ Some place → IsName load
+  pub jobs : (job : List ℕ) (row : JobRow) → finite.get tables.jobs job ≡ Some row → IsName job
+  pub used : (key : UseKey) → set.contains tables.used key ≡ true → IsName key.name

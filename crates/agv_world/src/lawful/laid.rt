@@ -1,0 +1,60 @@
+//! Whether the tables of the layout are empty, or keep the rules of a layout.
+ghost use Rattle.std.specs.Prelude.{◌≡◌};
+ghost use Rattle.agv_world.specs.LawfulTests.{does_lead, does_stand, is_in_limits, is_unset, all_lead, all_stand, is_laid};
+
+use crate::World;
+use agv_layout::{Ends, Spot};
+
+impl World {
+    // Whether the edge leads from a node to another node.
+    fn does_lead(&self, ends: Ends) -> bool
+        ensures { result ≡ does_lead self.now ends }
+    {
+        self.nodes.contains(ends.start)
+            && self.nodes.contains(ends.finish)
+            && ends.start != ends.finish
+    }
+
+    // Whether the station is at a node, and has room for 1 to 999 loads.
+    fn does_stand(&self, spot: Spot) -> bool
+        ensures { result ≡ does_stand self.now spot }
+    {
+        self.nodes.contains(spot.node) && 1 <= spot.capacity && spot.capacity <= 999
+    }
+
+    // Whether there are as many nodes, edges and stations as a layout may have.
+    fn is_in_limits(&self) -> bool
+        ensures { result ≡ is_in_limits self.now }
+    {
+        let nodes = self.nodes.len();
+        1 <= nodes && nodes <= 500 && self.edges.len() <= 1500 && self.stations.len() <= 500
+    }
+
+    // Whether the layout is not set.
+    fn is_unset(&self) -> bool
+        ensures { result ≡ is_unset self.now }
+    {
+        self.nodes.len() == 0 && self.edges.len() == 0 && self.stations.len() == 0
+    }
+
+    // Whether each edge leads from a node to another.
+    fn all_lead(&self) -> bool
+        ensures { result ≡ all_lead self.now }
+    {
+        self.edges.iter().all(|(_, ends)| self.does_lead(*ends))
+    }
+
+    // Whether each station stands at a node.
+    fn all_stand(&self) -> bool
+        ensures { result ≡ all_stand self.now }
+    {
+        self.stations.iter().all(|(_, spot)| self.does_stand(*spot))
+    }
+
+    // Whether the layout is not set, or keeps the rules of a layout.
+    pub(crate) fn is_laid(&self) -> bool
+        ensures { result ≡ is_laid self.now }
+    {
+        self.is_unset() || (self.is_in_limits() && self.all_lead() && self.all_stand())
+    }
+}

@@ -1,0 +1,196 @@
+//! Whether stations and vehicles have room for their loads and jobs.
+ghost use Rattle.std.specs.Prelude.{◌≡◌, count_by, IfOk, OnOk};
+ghost use Rattle.std.specs.FinMap as map;
+ghost use Rattle.agv_world.specs.Lawful.{is_to_drop};
+ghost use Rattle.agv_world.specs.LoadTests.{acts_of, are_laden, are_laden_among, have_room, is_aboard, is_laden_among, is_load_by, loads_aboard, one_on, strangers_among, tallied, tally_of, with_job, with_jobs, with_loads, with_one, with_place};
+
+use super::jobs::is_to_drop;
+use crate::{ByName, JobRow, VehicleRow, World};
+use agv_header::{Memory, Name, VehicleKey};
+use agv_order::Act;
+use agv_stock::Place;
+use std::alloc::Global;
+
+// More than any station has room for.
+const MORE_THAN_FITS: usize = 1000;
+
+// One more, up to 1000.
+fn one_on(n: usize) -> usize
+    ensures { result ≡ one_on n }
+{
+    if n < MORE_THAN_FITS { n + 1 } else { n }
+}
+
+// How often the name was counted.
+fn tallied(tally: &ByName<usize>, name: Name) -> usize
+    ensures { result ≡ tallied tally.now name }
+{
+    match tally.get(name) {
+        Some(count) => *count,
+        None => 0,
+    }
+}
+
+// Counts the name once more.
+fn add_one(tally: &mut ByName<usize>, name: Name) -> Result<(), Memory>
+    ensures { OnOk result (tally.new ≡ with_one tally.old name) }
+{
+    let count = one_on(tallied(tally, name));
+    tally.insert(name, count)
+}
+
+// Counts the station of a place.
+fn add_place(tally: &mut ByName<usize>, place: Place) -> Result<(), Memory>
+    ensures { OnOk result (tally.new ≡ with_place tally.old place) }
+{
+    match place {
+        Place::Station(id) => add_one(tally, id),
+        Place::Vehicle(_) | Place::Checking | Place::Left => Ok(()),
+    }
+}
+
+// Counts the target of a live job.
+fn add_job(tally: &mut ByName<usize>, row: &JobRow) -> Result<(), Memory>
+    ensures { OnOk result (tally.new ≡ with_job tally.old row.now) }
+{
+    if row.phase.is_live() {
+        add_one(tally, row.target)?;
+    }
+    Ok(())
+}
+
+// Whether the acts are to drop the load.
+fn is_load_by(load: Name, acts: &[Act]) -> bool
+    ensures { result ≡ is_load_by load acts.now }
+{
+    acts.iter().any(|act| is_to_drop(act) && act.load == load)
+}
+
+// How many drops are not finished.
+fn drop_count(acts: &[Act]) -> usize
+    ensures { result ≡ count_by is_to_drop acts.now }
+{
+    acts.iter().filter(|act| is_to_drop(act)).count()
+}
+
+// Whether the place is a vehicle.
+fn is_aboard(place: Place) -> bool
+    ensures { result ≡ is_aboard place }
+{
+    match place {
+        Place::Vehicle(_) => true,
+        Place::Station(_) | Place::Checking | Place::Left => false,
+    }
+}
+
+// How many of the loads are on the vehicle and none of those that the acts are to drop.
+fn strangers(loads: &[(Name, Place)], key: VehicleKey, acts: &[Act]) -> usize
+    ensures { result ≡ strangers_among loads.now key acts.now }
+{
+    loads
+        .iter()
+        .filter(|(load, place)| place.is_on(&key) && !is_load_by(*load, acts))
+        .count()
+}
+
+// Whether a vehicle has places for its other loads, among these, and for the jobs of its trip that are
+// not done.
+fn is_laden(loads: &[(Name, Place)], key: VehicleKey, row: &VehicleRow, acts: &[Act]) -> bool
+    ensures { result ≡ is_laden_among loads.now (key, row.now) acts.now }
+{
+    let capacity = row.capacity as usize;
+    let drops = drop_count(acts);
+    drops <= capacity && strangers(loads, key, acts) <= capacity - drops
+}
+
+impl World {
+    // Counts each load at its station.
+    fn add_loads(&self, tally: &mut ByName<usize>) -> Result<(), Memory>
+        ensures { OnOk result (tally.new ≡ with_loads tally.old (map.entries self.now.loads)) }
+    {
+        for (_, place) in self.loads.iter() {
+            add_place(tally, *place)?;
+        }
+        Ok(())
+    }
+
+    // Counts each live job at its target.
+    fn add_jobs(&self, tally: &mut ByName<usize>) -> Result<(), Memory>
+        ensures { OnOk result (tally.new ≡ with_jobs tally.old (map.entries self.now.jobs)) }
+    {
+        for (_, row) in self.jobs.iter() {
+            add_job(tally, row)?;
+        }
+        Ok(())
+    }
+
+    // The loads at stations and the live jobs to them, counted.
+    fn tally(&self, alloc: Global) -> Result<ByName<usize>, Memory>
+        ensures { IfOk result (λ tally. tally ≡ tally_of self.now) }
+    {
+        let mut tally = ByName::new(alloc);
+        self.add_loads(&mut tally)?;
+        self.add_jobs(&mut tally)?;
+        Ok(tally)
+    }
+
+    // Whether each station has room for the loads there and for those to come.
+    pub(crate) fn have_room(&self, alloc: Global) -> Result<bool, Memory>
+        ensures { IfOk result (λ have. have ≡ have_room self.now) }
+    {
+        let tally = self.tally(alloc)?;
+        let have = self.stations.iter().all(|(id, spot)| tallied(&tally, *id)
+            <= spot.capacity as usize);
+        Ok(have)
+    }
+
+    // The loads on vehicles.
+    fn loads_aboard(&self, alloc: Global) -> Result<Vec<(Name, Place)>, Memory>
+        ensures { IfOk result (λ loads. loads.items ≡ loads_aboard self.now) }
+    {
+        let mut loads = Vec::new(alloc);
+        for (load, place) in self.loads.iter() {
+            if is_aboard(*place) {
+                loads.push((*load, *place))?;
+            }
+        }
+        Ok(loads)
+    }
+
+    // The acts of a vehicle's trip.
+    fn acts_of(&self, key: VehicleKey) -> &[Act]
+        ensures { result.now ≡ acts_of self.now key }
+    {
+        for (_, row) in self.trips.iter() {
+            if row.vehicle == key {
+                return row.acts.as_slice();
+            }
+        }
+        &[]
+    }
+
+    // Whether a vehicle has places for its other loads, among these, and for the jobs of its trip that are
+    // not done.
+    fn is_vehicle_laden(&self, loads: &[(Name, Place)], key: &VehicleKey, row: &VehicleRow) -> bool
+        ensures { result ≡ is_laden_among loads.now (key.now, row.now) (acts_of self.now key.now) }
+    {
+        is_laden(loads, *key, row, self.acts_of(*key))
+    }
+
+    // Whether each vehicle has.
+    fn are_laden_among(&self, loads: &[(Name, Place)]) -> bool
+        ensures { result ≡ are_laden_among self.now loads.now }
+    {
+        self.vehicles
+            .iter()
+            .all(|(key, row)| self.is_vehicle_laden(loads, key, row))
+    }
+
+    // Whether each vehicle has places for its other loads and for the jobs of its trip that are not done.
+    pub(crate) fn are_laden(&self, alloc: Global) -> Result<bool, Memory>
+        ensures { IfOk result (λ are. are ≡ are_laden self.now) }
+    {
+        let loads = self.loads_aboard(alloc)?;
+        Ok(self.are_laden_among(loads.as_slice()))
+    }
+}

@@ -1,0 +1,52 @@
+//! What holds of the values in every table: names are names, and numbers are in their ranges. The functions
+//! change nothing: a proof calls them for their clauses.
+ghost use Rattle.std.specs.Prelude.{◌≡◌, Some};
+ghost use Rattle.std.specs.FinMap as map;
+ghost use Rattle.agv_header.specs.declared.key.VehicleKey.{VehicleKey as Vehicle};
+ghost use Rattle.agv_world.specs.Values.{HasValues, IsSentValue, IsVehicleValue};
+ghost use Rattle.agv_world.specs.declared.row.VehicleRow.{VehicleRow as Row};
+
+use crate::{Sent, VehicleRow, World};
+
+// The number and the moment of a topic's last message are in their ranges.
+fn sent_values(sent: Sent)
+    ensures { IsSentValue sent }
+{
+    let _moment = sent.at.ms();
+}
+
+// The numbers of a vehicle's row are in their ranges, and the order that it has reported is a name.
+fn row_values(row: VehicleRow)
+    ensures { IsVehicleValue row }
+{
+    sent_values(row.orders);
+    sent_values(row.instants);
+    if let Some(order) = row.reported {
+        let _bytes = order.as_bytes();
+    }
+}
+
+impl World {
+    // The values of each vehicle's row are as they should be.
+    fn vehicle_values(&self)
+        ensures { (key : Vehicle) (row : Row) → map.get self.now.vehicles key ≡ Some row → IsVehicleValue row }
+    {
+        for (_, row) in self.vehicles.iter() {
+            row_values(*row);
+        }
+    }
+
+    // The names and the numbers of the tables are as they should be.
+    pub(crate) fn has_values(&self)
+        ensures { HasValues self.now }
+    {
+        self.nodes.are_named();
+        self.edges.are_named();
+        self.stations.are_named();
+        self.vehicles.are_keys();
+        self.vehicle_values();
+        self.loads.are_named();
+        self.jobs.are_named();
+        self.used.are_named();
+    }
+}

@@ -1,0 +1,80 @@
+//! Whether the vehicles are lawful, each by itself.
+ghost use Rattle.std.specs.Prelude.{◌≡◌};
+ghost use Rattle.agv_world.specs.LawfulTests.{are_few, are_vehicles, is_counted, is_numbered, is_rest, is_seated, is_vehicle_row, leads_so};
+
+use crate::{Sent, UseKind, VehicleRow, World};
+use agv_header::Name;
+use agv_layout::Ends;
+
+// Whether the moment is 0 where no message was sent.
+fn is_counted(sent: Sent) -> bool
+    ensures { result ≡ is_counted sent }
+{
+    sent.count != 0 || sent.at.ms() == 0
+}
+
+// Whether the edge leads from this node to that one.
+fn leads_so(ends: Option<Ends>, start: Name, finish: Name) -> bool
+    ensures { result ≡ leads_so ends start finish }
+{
+    match ends {
+        Some(ends) => ends.start == start && ends.finish == finish,
+        None => false,
+    }
+}
+
+// Whether the vehicle has 1 to `seats` places for loads.
+fn is_seated(seats: u32, row: &VehicleRow) -> bool
+    ensures { result ≡ is_seated seats row.now }
+{
+    1 <= row.capacity && row.capacity <= seats
+}
+
+// Whether the messages are numbered, and an action is pending only where one was sent.
+fn is_numbered(row: &VehicleRow) -> bool
+    ensures { result ≡ is_numbered row.now }
+{
+    is_counted(row.orders)
+        && is_counted(row.instants)
+        && (row.pending.is_none() || 0 < row.instants.count)
+}
+
+impl World {
+    // Whether a rest is an edge from the vehicle's node to the node of the rest.
+    fn is_rest(&self, node: Name, rest: Option<(Name, Name)>) -> bool
+        ensures { result ≡ is_rest self.now node rest }
+    {
+        match rest {
+            None => true,
+            Some((edge, finish)) => leads_so(self.edges.get(edge).copied(), node, finish),
+        }
+    }
+
+    // Whether the row of a vehicle is as it should be, by itself.
+    fn is_vehicle_row(&self, seats: u32, row: &VehicleRow) -> bool
+        ensures { result ≡ is_vehicle_row seats self.now row.now }
+    {
+        is_seated(seats, row)
+            && self.nodes.contains(row.node)
+            && self.is_rest(row.node, row.rest)
+            && is_numbered(row)
+    }
+
+    // Whether each row of a vehicle is.
+    pub(crate) fn are_vehicles(&self, seats: u32) -> bool
+        ensures { result ≡ are_vehicles seats self.now }
+    {
+        self.vehicles
+            .iter()
+            .all(|(_, row)| self.is_vehicle_row(seats, row))
+    }
+
+    // Whether there are at most 100 vehicles, and 1,000,000 orders and references each.
+    pub(crate) fn are_few(&self) -> bool
+        ensures { result ≡ are_few self.now }
+    {
+        self.vehicles.len() <= 100
+            && self.used_count(UseKind::Order) <= 1_000_000
+            && self.used_count(UseKind::Reference) <= 1_000_000
+    }
+}

@@ -1,0 +1,27 @@
+//! What follows where a world is lawful, for every world. Each function does nothing: its clause is the law.
+ghost use Rattle.std.specs.Prelude.{◌↔◌, ℕ};
+ghost use Rattle.agv_world.specs.Cargo.{HasCargo};
+ghost use Rattle.agv_world.specs.GoodOrder.{InGoodOrder};
+ghost use Rattle.agv_world.specs.Lawful.{HasLawfulLoads, HasLawfulVehicles, IsLawful};
+ghost use Rattle.agv_world.specs.Worlds.{World, empty_world};
+
+use agv_order::laws::{fits_as_said, stops_twice};
+
+/// Where the vehicles are lawful, the loads and the jobs are lawful just where they, and what each vehicle
+/// is to carry, are joined as the proofs of the rules take them.
+pub fn loads_are_cargo()
+    ensures { (seats : ℕ) (world : World) → HasLawfulVehicles seats world → HasLawfulLoads world ↔ HasCargo world }
+{
+    fits_as_said();
+    stops_twice();
+}
+
+/// A lawful world is in good order: its rows tell it, and so do its tables.
+pub fn is_in_good_order()
+    ensures { (seats : ℕ) (world : World) → IsLawful seats world → InGoodOrder world }
+{}
+
+/// The world of a desk that knows nothing yet is lawful, whatever number of places a vehicle may have.
+pub fn begins_lawful()
+    ensures { (seats : ℕ) → IsLawful seats empty_world }
+{}
