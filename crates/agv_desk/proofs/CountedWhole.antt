@@ -28,10 +28,10 @@ use Rattle.agv_desk.proofs.SameNames.{same_name, name_itself, tie_turned}
 
 -- ---- tests of names that two lists share
 module _ {A : Type 0} (name : A → List ℕ) (test : List ℕ → Bool) where
-  abbrev names : List A → List ℕ → Bool
+  abbrev pub names : List A → List ℕ → Bool
   names xs q = list_any (λ x. pointwise nat_eq (name x) q) xs
 
-  passes : (xs : List A) (q : List ℕ) → list_all (λ x. test (name x)) xs ≡ true → names xs q ≡ true → test q ≡ true
+  pub passes : (xs : List A) (q : List ℕ) → list_all (λ x. test (name x)) xs ≡ true → names xs q ≡ true → test q ≡ true
   passes [] q all one = absurd (false≢true one)
   passes (x ∷ xs) q all one =
       let parts = and_parts (test (name x)) _ all in

@@ -18,7 +18,7 @@ use Rattle.agv_track.specs.declared.standing.Standing.{Standing}
 use Rattle.agv_world.specs.Changes.{changed}
 use Rattle.agv_world.specs.GoodOrder.{HasTrip, HasOneTripAnOrder, SharesNothing}
 use Rattle.agv_world.specs.Rows.{rows_of, standing_of}
-use Rattle.agv_world.specs.VehicleChanges.{GoesOn, StandsAsBefore, trip_before, vehicle_changes, with_vehicle}
+use Rattle.agv_world.specs.VehicleChanges.{GoesOn, StandsAsBefore, own_changes, trip_before, vehicle_changes, with_vehicle}
 use Rattle.agv_world.specs.TableChanges.{with_use}
 use Rattle.agv_world.specs.Worlds.{Vehicle, World, empty_layout}
 use Rattle.agv_world.specs.declared.change.Change.TheVariants as row
@@ -60,7 +60,7 @@ FollowsAVehicle = (world : World) (key : VehicleKey) (vehicle : Vehicle)
 abbrev pub NotesAVehicle : Type 0
 NotesAVehicle = (world : World) (key : VehicleKey) (old new : Vehicle) → finite.get world.vehicles key ≡ Some old → StandsAsBefore old new
     → HasOneTripAnOrder world → SharesNothing world
-    → changed (row.Vehicle key new.row ∷ []) (rows_of world) ≡ rows_of (with_vehicle world key new)
+    → changed (own_changes key (Some old.row) new.row) (rows_of world) ≡ rows_of (with_vehicle world key new)
 
 abbrev pub UsesAName : Type 0
 UsesAName = (world : World) (key : UseKey) → changed (row.Used key ∷ []) (rows_of world) ≡ rows_of (with_use world key.kind key.name)

@@ -28,6 +28,11 @@ module _ (P : Effect → Type 0) where
   made_checked (Ok passed) rest h = h
   made_checked (Err why) rest h = tt
 
+  pub made_passed : (check : Checked) (rest : Outcome) → (check ≡ Ok tt → IfMade P rest) → IfMade P (checked check rest)
+  unfolding checked
+  made_passed (Ok passed) rest h = h refl
+  made_passed (Err why) rest h = tt
+
   pub made_unheld : (held : Option (Thing × VehicleKey)) (rest : Outcome) → (held ≡ None → IfMade P rest) → IfMade P (unheld held rest)
   unfolding unheld
   made_unheld None rest h = h refl

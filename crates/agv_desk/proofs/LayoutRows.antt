@@ -14,14 +14,14 @@ use Rattle.agv_desk.proofs.Known.{none_some}
 use Rattle.agv_desk.proofs.Ladders.{IfMade, made_require}
 use Rattle.agv_desk.proofs.Steps.{missing, leads}
 
-made_given : (P : Effect → Type 0) (read : Result Layout LayoutFault) (rest : Layout → Outcome) → ((layout : Layout) → read ≡ Ok layout → IfMade P (rest layout)) → IfMade P (if_given read rest)
+pub made_given : (P : Effect → Type 0) (read : Result Layout LayoutFault) (rest : Layout → Outcome) → ((layout : Layout) → read ≡ Ok layout → IfMade P (rest layout)) → IfMade P (if_given read rest)
 unfolding if_given
 made_given P (Ok layout) rest h = h layout refl
 made_given P (Err why) rest h = tt
 
 module _ (given : Given) (world : World) (in_order : IsInOrder world) where
   -- where no layout is set, the layout is empty
-  is_empty : layout_set world ≡ None → (world.layout ≡ empty_layout) ⊎ KeepsRules world.layout → world.layout ≡ empty_layout
+  pub is_empty : layout_set world ≡ None → (world.layout ≡ empty_layout) ⊎ KeepsRules world.layout → world.layout ≡ empty_layout
   unfolding layout_set
   is_empty unset (inl empty) = empty
   is_empty unset (inr keeps) = none_some (sym unset ∙ ap set_where (given.gives world.layout keeps))

@@ -1,5 +1,5 @@
 -- The rows of loads among the rows that a call changes.
-use Rattle.std.proofs.Common.{◌≡◌, ℕ, List, [], ◌∷◌, ◌++◌, map, Option, None, Some, refl, ap, ◌∙◌}
+use Rattle.std.proofs.Common.{◌≡◌, ℕ, true, false, cond, List, [], ◌∷◌, ◌++◌, map, Option, None, Some, refl, ap, ◌∙◌}
 use Rattle.std.proofs.lemmas.List.Elements.{filter_map-append}
 use Rattle.std.specs.FinMap as finite
 use Rattle.std.specs.List.{enumerate_from, cons_option}
@@ -13,12 +13,14 @@ use Rattle.agv_layout.specs.declared.station.Spot.{Spot}
 use Rattle.agv_order.specs.declared.trip.Trip.{Trip}
 use Rattle.agv_track.specs.Footprints.{footprint_of}
 use Rattle.agv_track.specs.Holders.{gained}
-use Rattle.agv_world.specs.Rows.{standing_of}
-use Rattle.agv_world.specs.VehicleChanges.{trip_changes, hold_changes, trip_before, held_before}
+use Rattle.agv_world.specs.Rows.{standing_of, trip_row}
+use Rattle.agv_world.specs.SameRows.{same_row, same_trip_row}
+use Rattle.agv_world.specs.VehicleChanges.{own_changes, trip_changes, hold_changes, row_before, trip_before, held_before}
 use Rattle.agv_world.specs.declared.change.Change.{Change}
 use Rattle.agv_world.specs.declared.change.Change.TheVariants as row
 use Rattle.agv_world.specs.declared.key.UseKey.{UseKey}
 use Rattle.agv_world.specs.declared.row.JobRow.{JobRow}
+use Rattle.agv_world.specs.declared.row.VehicleRow.{VehicleRow}
 use Rattle.agv_desk.specs.Moves.{move_in, moves_in, moves_made}
 use Rattle.agv_desk.specs.Outcomes.{Effect, Move, Touched, Nothing, Noted, Put, laid_changes, touched_changes, changes_of}
 
@@ -52,6 +54,14 @@ layout_none (Some layout) =
     (both_none (none_of (λ (edge : List ℕ × Ends). row.Edge edge.0 edge.1) (λ edge. refl) (finite.entries layout.edges))
     (none_of (λ (station : List ℕ × Spot). row.Station station.0 station.1) (λ station. refl) (finite.entries layout.stations)))
 
+-- a vehicle's own row
+own_none : (key : VehicleKey) (old : Option VehicleRow) (new : VehicleRow) → HasNone (own_changes key old new)
+own_none key None new = record { none = refl }
+own_none key (Some old) new = elim (same_row old new) as (λ same. HasNone (cond same [] (row.Vehicle key new ∷ []))) [
+  | true ↦ record { none = refl }
+  | false ↦ record { none = refl }
+]
+
 -- a vehicle's trip
 trip_none : (key : VehicleKey) (old new : Option Trip) → HasNone (trip_changes key old new)
 trip_none key None None = record { none = refl }
@@ -61,7 +71,10 @@ trip_none key None (Some new) =
 trip_none key (Some old) None =
     let legs = none_of (λ (numbered : ℕ × Edge). row.Leg (record { order = old.order; k = numbered.0 }) None) (λ numbered. refl) (enumerate_from 0 old.edges) in
     record { none = legs.none }
-trip_none key (Some old) (Some new) = record { none = refl }
+trip_none key (Some old) (Some new) = elim (same_trip_row old new) as (λ same. HasNone (cond same [] (row.Trip new.order (Some (trip_row key new)) ∷ []))) [
+  | true ↦ record { none = refl }
+  | false ↦ record { none = refl }
+]
 
 -- what a vehicle holds
 hold_none : (key : VehicleKey) (old new : List Thing) → HasNone (hold_changes key old new)
@@ -72,10 +85,10 @@ hold_none key old new =
 -- the vehicle
 touched_none : (touched : Touched) → HasNone (touched_changes touched)
 touched_none Nothing = record { none = refl }
-touched_none (Noted key vehicle) = record { none = refl }
+touched_none (Noted key old new) = own_none key (Some old) new
 touched_none (Put key old new) =
-    let after = both_none (trip_none key (trip_before old) new.trip) (hold_none key (held_before old) (footprint_of (standing_of new))) in
-    record { none = after.none }
+    both_none (own_none key (row_before old) new.row)
+    (both_none (trip_none key (trip_before old) new.trip) (hold_none key (held_before old) (footprint_of (standing_of new))))
 
 pub moves_told : (effect : Effect) → moves_in (changes_of effect) ≡ moves_made effect
 moves_told effect =

@@ -1,11 +1,12 @@
 -- The calls of orders lead to the rows of the world after them.
-use Rattle.std.proofs.Common.{◌≡◌, ◌≢◌, ℕ, Bool, true, false, cond, List, Option, None, Some, Result, Ok, Err, nat_eq, nat_lt, length, refl, sym, ap, ◌∙◌}
+use Rattle.std.proofs.Common.{◌≡◌, ◌≢◌, ℕ, Bool, true, false, cond, List, Option, None, Some, Result, Ok, Err, nat_eq, nat_lt, length, refl, sym, ap, subst, ◌∙◌}
 use Rattle.std.specs.Cmp.Lexicographic.{pointwise}
 use Rattle.std.specs.FinSet as set
 use Rattle.agv_header.specs.declared.key.VehicleKey.{VehicleKey}
 use Rattle.agv_layout.specs.Layout.{Layout}
 use Rattle.agv_order.specs.Plans.{planned, trip_along, trip_over, legs_to, way_of}
 use Rattle.agv_order.specs.Releases.{released}
+use Rattle.agv_order.specs.Trips.{node_at}
 use Rattle.agv_order.specs.declared.fault.PlanFault.{PlanFault}
 use Rattle.agv_order.specs.declared.fault.PlanFault.TheVariants as fault
 use Rattle.agv_order.specs.declared.stop.Stop.{Stop}
@@ -38,16 +39,28 @@ two_tests true beyond one other made trip e = err_ok e
 two_tests false true one other made trip e = err_ok e
 two_tests false false one other made trip e = ap (λ (r : Result Trip PlanFault). elim r [ Ok t ↦ t | Err why ↦ made ]) e
 
-pub plan_of_order : (layout : Layout) (vehicle : VehicleKey) (jobs : List Job) (stops : List Stop) (order at : List ℕ) (base : ℕ) (trip : Trip)
-    → planned layout vehicle jobs stops order at base ≡ Ok trip → trip.order ≡ order
-plan_of_order layout vehicle jobs stops order at base trip =
-    elim (legs_to layout jobs at stops) as (λ legs. trip_along vehicle order at base legs ≡ Ok trip → trip.order ≡ order) [
+-- the trip is of this order and vehicle, which stands at this node
+pub record IsBegun (vehicle : VehicleKey) (order at : List ℕ) (trip : Trip) : Type 0 where
+  pub of_order : trip.order ≡ order
+  pub own : trip.vehicle ≡ vehicle
+  pub stands : node_at trip trip.seen ≡ Some at
+
+pub plan_begins : (layout : Layout) (vehicle : VehicleKey) (jobs : List Job) (stops : List Stop) (order at : List ℕ) (base : ℕ) (trip : Trip)
+    → planned layout vehicle jobs stops order at base ≡ Ok trip → IsBegun vehicle order at trip
+plan_begins layout vehicle jobs stops order at base trip =
+    elim (legs_to layout jobs at stops) as (λ legs. trip_along vehicle order at base legs ≡ Ok trip → IsBegun vehicle order at trip) [
       | None ↦ λ h. err_ok h
-      | Some legs ↦ λ h. sym (ap (λ (made : Trip). made.order) (two_tests (nat_lt 200 (length (way_of legs))) (nat_lt (length (way_of legs)) base) fault.TooLong fault.Beyond (trip_over vehicle order at base legs) trip h))
+      | Some legs ↦ λ h. subst (IsBegun vehicle order at)
+          (two_tests (nat_lt 200 (length (way_of legs))) (nat_lt (length (way_of legs)) base) fault.TooLong fault.Beyond (trip_over vehicle order at base legs) trip h)
+          (record { of_order = refl; own = refl; stands = refl })
     ]
 
+pub plan_of_order : (layout : Layout) (vehicle : VehicleKey) (jobs : List Job) (stops : List Stop) (order at : List ℕ) (base : ℕ) (trip : Trip)
+    → planned layout vehicle jobs stops order at base ≡ Ok trip → trip.order ≡ order
+plan_of_order layout vehicle jobs stops order at base trip h = (plan_begins layout vehicle jobs stops order at base trip h).of_order
+
 -- go on with the plan where there is one
-made_planned : (P : Effect → Type 0) (plan : Result Trip PlanFault) (rest : Trip → Outcome) → ((trip : Trip) → plan ≡ Ok trip → IfMade P (rest trip)) → IfMade P (if_planned plan rest)
+pub made_planned : (P : Effect → Type 0) (plan : Result Trip PlanFault) (rest : Trip → Outcome) → ((trip : Trip) → plan ≡ Ok trip → IfMade P (rest trip)) → IfMade P (if_planned plan rest)
 unfolding if_planned
 made_planned P (Ok trip) rest h = h trip refl
 made_planned P (Err why) rest h = tt
@@ -57,7 +70,7 @@ module _ (given : Given) (world : World) (in_order : IsInOrder world) where
   P = LeadsTo world
 
   -- a trip of an order whose name was not used is of no order that is open
-  fresh : (order : List ℕ) (trip : Trip) → is_used world used.Order order ≡ false → trip.order ≡ order → (other : VehicleKey) (more : Trip) → HasTrip world other more → trip.order ≢ more.order
+  pub fresh : (order : List ℕ) (trip : Trip) → is_used world used.Order order ≡ false → trip.order ≡ order → (other : VehicleKey) (more : Trip) → HasTrip world other more → trip.order ≢ more.order
   unfolding is_used
   fresh order trip unused named other more has same =
       apart (sym (in_order.used other more has) ∙ ap (set.contains world.orders) (sym same ∙ named) ∙ unused)
@@ -94,7 +107,7 @@ module _ (given : Given) (world : World) (in_order : IsInOrder world) where
       takes_order at order key row stops jobs edges (not_true _ unused) there))))
 
   -- the trip of an order is the open trip
-  trip_is : (there : Option Trip) (order : List ℕ) (trip : Trip) → trip_for there order ≡ Some trip → there ≡ Some trip
+  pub trip_is : (there : Option Trip) (order : List ℕ) (trip : Trip) → trip_for there order ≡ Some trip → there ≡ Some trip
   trip_is None order trip h = none_some h
   trip_is (Some other) order trip h = by_test (pointwise nat_eq other.order order) h
     where

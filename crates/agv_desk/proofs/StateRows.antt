@@ -77,7 +77,7 @@ module _ (trip : Trip) (progress : Progress) (step : Advances trip progress) whe
 
 -- ---- the call
 
-abbrev vehicle_after : VehicleRow → Trip → StateMessage → Progress → Vehicle
+abbrev pub vehicle_after : VehicleRow → Trip → StateMessage → Progress → Vehicle
 vehicle_after row trip state progress = record { row = row_after row trip state progress; trip = trip_left trip progress }
 
 -- a trip that goes on has not passed its base
@@ -94,14 +94,14 @@ module _ (given : Given) (world : World) (in_order : IsInOrder world) where
     is_open = in_order.open_trips key trip (has_trip world key trip same)
 
     -- what the vehicle holds afterwards it held before
-    holds_less : (progress : Progress) → Advances trip progress → (held : Thing)
+    pub holds_less : (progress : Progress) → Advances trip progress → (held : Thing)
         → Contains (footprint_of (standing_of (vehicle_after row trip state progress))) held → Contains (footprint_of (standing_of (vehicle_with row (Some trip)))) held
     holds_less progress step held among =
         let on = (given.lists (standing_of (vehicle_after row trip state progress)) (on_base trip progress step.released (is_some progress.«end»)) held).0 among in
         (given.lists (standing_of (vehicle_with row (Some trip))) is_open.under_way.seen_released held).1 (left_holds trip progress step row (is_some progress.«end») refl held on)
 
     -- no order has two trips afterwards
-    one_trip : (progress : Progress) (ended : Bool) → is_some progress.«end» ≡ ended → HasOneTripAnOrder (with_vehicle world key (vehicle_after row trip state progress))
+    pub one_trip : (progress : Progress) (ended : Bool) → is_some progress.«end» ≡ ended → HasOneTripAnOrder (with_vehicle world key (vehicle_after row trip state progress))
     one_trip progress true is = given.without world key (vehicle_after row trip state progress) in_order.one_trip (ap (λ b. cond b None (Some (progressed trip progress))) is)
     one_trip progress false is =
         given.further world key (vehicle_after row trip state progress) in_order.one_trip trip (progressed trip progress) (has_trip world key trip same) (ap (λ b. cond b None (Some (progressed trip progress))) is) refl

@@ -38,7 +38,7 @@ module _ (given : Given) (world : World) (in_order : IsInOrder world) where
   leads effect lays touches = leads_to (λ w key. given.uses w key) world effect lays touches
 
   -- the row of a vehicle changes that stands as before
-  pub notes : (key : VehicleKey) (row new : VehicleRow) → row_of world key ≡ Some row → new.node ≡ row.node → new.rest ≡ row.rest → TouchesRows world (Noted key new)
+  pub notes : (key : VehicleKey) (row new : VehicleRow) → row_of world key ≡ Some row → new.node ≡ row.node → new.rest ≡ row.rest → TouchesRows world (Noted key row new)
   notes key row new is node rest =
       given.notes world key (vehicle_with row (trip_of world key)) (vehicle_with new (trip_of world key)) (known world key row is) (record { node = node; rest = rest; trip = refl }) in_order.one_trip in_order.apart
 

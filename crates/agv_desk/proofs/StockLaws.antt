@@ -137,7 +137,7 @@ not_aboard world (row ∷ rows) load station none found =
     ] parts.0 found
 
 -- ---- the whole
-taken : (world : World) (rows : List Row) → list_any (λ (row : Row). finds_aboard world row.1) rows ≡ false → IsStockTaken world rows (moved world.places (count_moves world rows))
+pub taken : (world : World) (rows : List Row) → list_any (λ (row : Row). finds_aboard world row.1) rows ≡ false → IsStockTaken world rows (moved world.places (count_moves world rows))
 taken world rows ashore = record {
   found = λ station load counted.
       let is = get-after world rows load in (

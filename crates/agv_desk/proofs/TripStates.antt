@@ -41,15 +41,15 @@ if-ok judgement x rest decision is e = subst (λ r. decision ≡ decided (if_jud
 module _ (world : World) (key : VehicleKey) (row : VehicleRow) (trip : Trip) (state : StateMessage) (progress : Progress) where
   -- all rows, of a vehicle that stands and goes on so, and of these acts
   abbrev rows_of : Standing → VehicleRow → Standing → List Act → Bool → List Change
-  rows_of old next new acts over = (([] ++ vehicle_rows key old next new) ++ load_rows key trip.order (zip acts progress.statuses)) ++ job_rows world over (zip acts progress.statuses)
+  rows_of old next new acts over = (([] ++ vehicle_rows key row old next new) ++ load_rows key trip.order (zip acts progress.statuses)) ++ job_rows world over (zip acts progress.statuses)
 
   -- the rows that are made, part by part
   made : (old new : Standing) (next : VehicleRow) (acts : List Act) (over : Bool) (none vehicle loads all : List Change)
-      → none ≡ [] → vehicle ≡ none ++ vehicle_rows key old next new
+      → none ≡ [] → vehicle ≡ none ++ vehicle_rows key row old next new
       → loads ≡ vehicle ++ load_rows key trip.order (zip acts progress.statuses) → all ≡ loads ++ job_rows world over (zip acts progress.statuses)
       → all ≡ rows_of old next new acts over
   made old new next acts over none vehicle loads all empty one two three =
-      let first = one ∙ ap (λ rows. rows ++ vehicle_rows key old next new) empty in
+      let first = one ∙ ap (λ rows. rows ++ vehicle_rows key row old next new) empty in
       let second = two ∙ ap (λ rows. rows ++ load_rows key trip.order (zip acts progress.statuses)) first in
       three ∙ ap (λ rows. rows ++ job_rows world over (zip acts progress.statuses)) second
 
@@ -57,7 +57,7 @@ module _ (world : World) (key : VehicleKey) (row : VehicleRow) (trip : Trip) (st
       → pending ≡ pending_of row → judged trip pending state ≡ Ok progress
       → over ≡ is_some progress.«end» → acts ≡ trip.acts → next ≡ row_after row trip state progress → left ≡ trip_left trip progress
       → old ≡ stands row (Some trip) → new ≡ stands next left
-      → none ≡ [] → vehicle ≡ none ++ vehicle_rows key old next new
+      → none ≡ [] → vehicle ≡ none ++ vehicle_rows key row old next new
       → loads ≡ vehicle ++ load_rows key trip.order (zip acts progress.statuses) → all ≡ loads ++ job_rows world over (zip acts progress.statuses)
       → decision.answer ≡ answer.Accepted true → decision.changes ≡ all
       → decision ≡ decided (trip_state world key row trip state)
@@ -70,7 +70,7 @@ module _ (world : World) (key : VehicleKey) (row : VehicleRow) (trip : Trip) (st
       let stand : rows_of old next new acts over ≡ rows_of (stands row (Some trip)) next (stands next left) trip.acts ended = λ i. rows_of (was i) next (stood i) (same i) (ends i) in
       let go_on : rows_of (stands row (Some trip)) next (stands next left) trip.acts ended ≡ rows_of (stands row (Some trip)) after (stands after (trip_left trip progress)) trip.acts ended =
       λ i. rows_of (stands row (Some trip)) (row_is i) (stands (row_is i) (left_is i)) trip.acts ended in
-      let turn = in_turn (vehicle_rows key (stands row (Some trip)) after (stands after (trip_left trip progress))) (load_rows key trip.order steps) (job_rows world ended steps) in
+      let turn = in_turn (vehicle_rows key row (stands row (Some trip)) after (stands after (trip_left trip progress))) (load_rows key trip.order steps) (job_rows world ended steps) in
       let rows = changes ∙ told ∙ stand ∙ go_on ∙ turn in
       if-ok (judged trip (pending_of row) state) progress _ decision (ap (λ p. judged trip p state) (sym asked) ∙ is) (λ i. record { answer = said i; changes = rows i })
 

@@ -13,3 +13,7 @@ pub mod ReadSteps
 pub mod Step
 pub mod InOrder
 pub mod Moves
+pub mod WellTyped
+pub mod Histories
+pub mod ActedMoves
+pub mod FoundJobs

@@ -12,7 +12,7 @@ use Rattle.agv_stock.specs.Checks.{Checked}
 use Rattle.agv_stock.specs.declared.place.Place.{Place}
 use Rattle.agv_world.specs.Questions.{trip_of}
 use Rattle.agv_world.specs.TableChanges.{written, with_use, layout_changes, job_changes}
-use Rattle.agv_world.specs.VehicleChanges.{vehicle_changes, with_vehicle}
+use Rattle.agv_world.specs.VehicleChanges.{own_changes, vehicle_changes, with_vehicle}
 use Rattle.agv_world.specs.Worlds.{Vehicle, World}
 use Rattle.agv_world.specs.declared.change.Change.{Change}
 use Rattle.agv_world.specs.declared.change.Change.TheVariants as row
@@ -37,10 +37,10 @@ pub record Move : Type 0 where
   pub place : Place
   pub cause : Cause
 
--- what becomes of the vehicles: nothing; the row of one changes, and it stands as before with the trip that it has; or one is written in place of the old one, and stands otherwise or its trip changes
+-- what becomes of the vehicles: nothing; one has a new row in place of the old one, and stands as before with the trip that it has; or one is written in place of the old one, and stands otherwise or its trip changes
 pub data Touched : Type 0 where
   Nothing : Touched
-  Noted : (key : VehicleKey) → (row : VehicleRow) → Touched
+  Noted : (key : VehicleKey) → (old : VehicleRow) → (new : VehicleRow) → Touched
   Put : (key : VehicleKey) → (old : Option Vehicle) → (new : Vehicle) → Touched
 
 -- what a call does that is not refused: its answer; the layout, where it is set; the vehicle that it touches; the loads that it moves, in order; the jobs that it writes; and the names that it uses
@@ -103,7 +103,7 @@ with_uses world (key ∷ keys) = with_uses (with_use world key.kind key.name) ke
 -- the vehicle is touched
 abbrev pub with_touched : World → Touched → World
 with_touched world Nothing = world
-with_touched world (Noted key row) = with_vehicle world key (record { row = row; trip = trip_of world key })
+with_touched world (Noted key old new) = with_vehicle world key (record { row = new; trip = trip_of world key })
 with_touched world (Put key old new) = with_vehicle world key new
 
 -- the layout is set
@@ -139,10 +139,10 @@ abbrev pub laid_changes : Option Layout → List Change
 laid_changes None = []
 laid_changes (Some layout) = layout_changes layout
 
--- the rows of the vehicle
+-- the rows of the vehicle, those that change
 abbrev pub touched_changes : Touched → List Change
 touched_changes Nothing = []
-touched_changes (Noted key vehicle) = row.Vehicle key vehicle ∷ []
+touched_changes (Noted key old new) = own_changes key (Some old) new
 touched_changes (Put key old new) = vehicle_changes key old new
 
 -- all rows

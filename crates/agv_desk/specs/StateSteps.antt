@@ -55,7 +55,7 @@ if_judged (Err why) rest = Refused why
 abbrev pub idle_state : VehicleKey → VehicleRow → StateMessage → Outcome
 idle_state key row state =
     if_judged (judged_idle row.node (pending_of row) state) (λ over.
-    Made (record (told (answer.Accepted true)) { touched = Noted key (heard row state over) }))
+    Made (record (told (answer.Accepted true)) { touched = Noted key row (heard row state over) }))
 
 -- ---- on a trip
 

@@ -68,7 +68,7 @@ abbrev pub instruct : ℕ → VehicleKey → VehicleRow → InstantKind → Outc
 instruct at key row kind =
     require (is_none row.pending) refusal.InstantPending
     (found (next_sent row.instants) refusal.Spent (λ number.
-    Made (record (told (answer.Instructed number)) { touched = Noted key (record row { instants = record { count = number; at = at }; pending = Some kind }) })))
+    Made (record (told (answer.Instructed number)) { touched = Noted key row (record row { instants = record { count = number; at = at }; pending = Some kind }) })))
 
 -- POST .../cancel: NoVehicle, NoOrder where no trip is open, InstantPending, Spent
 abbrev pub cancel : World → ℕ → VehicleKey → Outcome
@@ -116,4 +116,4 @@ place_vehicle world key reference node =
 abbrev pub resync : World → VehicleKey → Outcome
 resync world key =
     found (row_of world key) refusal.NoVehicle (λ row.
-    Made (record (told answer.Done) { touched = Noted key (record row { last_header = None }) }))
+    Made (record (told answer.Done) { touched = Noted key row (record row { last_header = None }) }))

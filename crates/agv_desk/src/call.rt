@@ -1,4 +1,9 @@
 //! Calls.
+ghost use Rattle.std.specs.Prelude.{◌≤◌};
+ghost use Rattle.agv_header.specs.Name.{IsName};
+ghost use Rattle.agv_layout.specs.Rows.{AreNamed};
+ghost use Rattle.agv_world.specs.Lawful.{IsKey};
+ghost use Rattle.agv_desk.specs.WellTyped.{IsWellTyped};
 
 use agv_header::{Name, VehicleKey};
 use agv_layout::LayoutRow;
@@ -112,4 +117,65 @@ pub enum Call {
     HoldReport,
     /// The export of all loads.
     LoadsExport,
+}
+
+// Each of these functions does nothing: a proof calls it for its clause.
+
+fn is_name(name: &Name)
+    ensures { IsName name.now }
+{
+    let _bytes = name.as_bytes();
+}
+
+fn is_key(key: &VehicleKey)
+    ensures { IsKey key.now }
+{
+    is_name(&key.manufacturer);
+    is_name(&key.serial);
+}
+
+fn are_named(rows: &[LayoutRow])
+    ensures { AreNamed rows.now }
+{
+    for row in rows {
+        row.is_named();
+    }
+}
+
+fn is_number(number: u32)
+    ensures { number ≤ 4294967295 }
+{}
+
+impl Call {
+    /// The names that a call makes known are names, and the number of a state is in its range, since the parts of a
+    /// call are of their types. It does nothing: a proof calls it for its clause.
+    pub fn is_well_typed(&self)
+        ensures { IsWellTyped self.now }
+    {
+        match self {
+            Call::SetLayout { rows } => are_named(rows.as_slice()),
+            Call::RegisterVehicle { key, .. } => is_key(key),
+            Call::RegisterLoad { load, .. } => is_name(load),
+            Call::CorrectLoad { reference, .. } => is_name(reference),
+            Call::LeaveLoad { reference, .. } => is_name(reference),
+            Call::AddJob { job, .. } => is_name(job),
+            Call::StartOrder { order, .. } => is_name(order),
+            Call::PlaceVehicle { reference, .. } => is_name(reference),
+            Call::Stocktake { reference, .. } => is_name(reference),
+            Call::StopJob { .. } => {}
+            Call::Advance { .. } => {}
+            Call::Cancel { .. } => {}
+            Call::Pause { .. } => {}
+            Call::Resume { .. } => {}
+            Call::Resync { .. } => {}
+            Call::State { state, .. } => is_number(state.header_id),
+            Call::GetOrder { .. } => {}
+            Call::GetInstant { .. } => {}
+            Call::GetLoad { .. } => {}
+            Call::GetVehicle { .. } => {}
+            Call::StockReport => {}
+            Call::HoldReport => {}
+            Call::LoadsExport => {}
+        }
+    }
 }

@@ -2,6 +2,7 @@
 ghost use Rattle.std.specs.Prelude.{◌≡◌, IfOk, [], ◌∷◌};
 ghost use Rattle.agv_desk.specs.Outcomes.{Made, Noted, Refused, decided, told};
 
+use crate::put::write_row;
 use crate::{Answer, Decision};
 use agv_header::{Memory, Refusal, VehicleKey};
 use agv_message::Sequence;
@@ -29,16 +30,17 @@ pub(crate) fn made(answer: Answer, changes: Vec<Change>) -> Decision
     }
 }
 
-/// An answer, and the row of a vehicle that stands as before.
+/// An answer, and the row of a vehicle that stands as before, where it changes.
 pub(crate) fn noted(
     alloc: Global,
     answer: Answer,
-    key: VehicleKey,
-    row: VehicleRow,
+    key: &VehicleKey,
+    old: &VehicleRow,
+    new: VehicleRow,
 ) -> Result<Decision, Memory>
-    ensures { IfOk result (λ decision. decision ≡ decided (Made (record (told answer) { touched = Noted key row }))) }
+    ensures { IfOk result (λ decision. decision ≡ decided (Made (record (told answer) { touched = Noted key.now old.now new }))) }
 {
     let mut changes = Vec::new(alloc);
-    changes.push(Change::Vehicle(key, row))?;
+    write_row(key, old, new, &mut changes)?;
     Ok(made(answer, changes))
 }

@@ -19,13 +19,13 @@ fn next_sent(sent: Sent) -> Option<u32>
 }
 
 // The row of a vehicle that was sent this action.
-fn instructed(row: VehicleRow, at: Moment, number: u32, kind: InstantKind) -> VehicleRow
-    ensures { result ≡ record row { instants = record { count = number; at = at }; pending = Some kind } }
+fn instructed(row: &VehicleRow, at: Moment, number: u32, kind: InstantKind) -> VehicleRow
+    ensures { result ≡ record row.now { instants = record { count = number; at = at }; pending = Some kind } }
 {
     VehicleRow {
         instants: Sent { count: number, at },
         pending: Some(kind),
-        ..row
+        ..*row
     }
 }
 
@@ -34,10 +34,10 @@ fn instruct(
     alloc: Global,
     at: Moment,
     key: &VehicleKey,
-    row: VehicleRow,
+    row: &VehicleRow,
     kind: InstantKind,
 ) -> Result<Decision, Memory>
-    ensures { IfOk result (λ decision. decision ≡ decided (instruct at key.now row kind)) }
+    ensures { IfOk result (λ decision. decision ≡ decided (instruct at key.now row.now kind)) }
 {
     if row.pending.is_some() {
         return Ok(refused(alloc, Refusal::InstantPending));
@@ -48,7 +48,8 @@ fn instruct(
     noted(
         alloc,
         Answer::Instructed(number),
-        *key,
+        key,
+        row,
         instructed(row, at, number, kind),
     )
 }
@@ -72,7 +73,7 @@ pub(crate) fn cancel<F: Floor>(
     if floor.trip(*key)?.is_none() {
         return Ok(refused(alloc, Refusal::NoOrder));
     }
-    Ok(instruct(alloc, at, key, row, InstantKind::CancelOrder)?)
+    Ok(instruct(alloc, at, key, &row, InstantKind::CancelOrder)?)
 }
 
 /// A vehicle is to pause.
@@ -91,7 +92,7 @@ pub(crate) fn pause<F: Floor>(
     let Some(row) = floor.vehicle(*key)? else {
         return Ok(refused(alloc, Refusal::NoVehicle));
     };
-    Ok(instruct(alloc, at, key, row, InstantKind::StartPause)?)
+    Ok(instruct(alloc, at, key, &row, InstantKind::StartPause)?)
 }
 
 /// A vehicle is to go on.
@@ -110,5 +111,5 @@ pub(crate) fn resume<F: Floor>(
     let Some(row) = floor.vehicle(*key)? else {
         return Ok(refused(alloc, Refusal::NoVehicle));
     };
-    Ok(instruct(alloc, at, key, row, InstantKind::StopPause)?)
+    Ok(instruct(alloc, at, key, &row, InstantKind::StopPause)?)
 }

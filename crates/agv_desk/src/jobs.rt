@@ -1,11 +1,12 @@
 //! The calls of jobs.
-ghost use Rattle.std.specs.Prelude.{◌≡◌, IfOk, OnErr};
+ghost use Rattle.std.specs.Prelude.{◌≡◌, IfOk, OnErr, Some, is_some};
+ghost use Rattle.agv_stock.specs.Checks.{is_stored};
 ghost use Rattle.agv_world.specs.Fails.{Fails};
 ghost use Rattle.agv_desk.specs.LoadSteps.{station_in, is_waiting, add_job, stop_job};
 ghost use Rattle.agv_desk.specs.Outcomes.{decided};
 
 use crate::decisions::{made, refused};
-use crate::loads::{MOST, goal_at, is_in_job};
+use crate::loads::{MOST, goal_at, is_in_job, is_known};
 use crate::{Answer, Decision};
 use agv_header::{Name, Refusal};
 use agv_stock::{Phase, Place, can_job};
@@ -13,10 +14,11 @@ use agv_world::{Change, Counted, Fault, Floor, JobRow};
 use std::alloc::Global;
 
 // The station where a load stands.
-fn station_in(place: Option<Place>) -> Option<Name>
-    ensures { result ≡ station_in place }
+fn station_in(place: Place) -> Option<Name>
+    ensures is { result ≡ station_in (Some place) }
+    ensures stored { is_some result ≡ is_stored place }
 {
-    match place? {
+    match place {
         Place::Station(id) => Some(id),
         Place::Vehicle(_) | Place::Checking | Place::Left => None,
     }
@@ -46,16 +48,23 @@ pub(crate) fn add_job<F: Floor>(
     ensures fails { Fails result (F.failed floor.old) (F.failed floor.new) }
     ensures same { F.seats floor.new ≡ F.seats floor.old }
 {
-    let known = floor.job(job)?.is_some();
-    let place = floor.place(load)?;
-    let live = is_in_job(floor, load)?;
+    if floor.job(job)?.is_some() {
+        return Ok(refused(alloc, Refusal::Exists));
+    }
+    let Some(place) = floor.place(load)? else {
+        return Ok(refused(alloc, Refusal::NoLoad));
+    };
     let goal = goal_at(to, floor.room(to)?);
-    if let Err(why) = can_job(known, place, live, goal) {
-        return Ok(refused(alloc, why));
+    if !is_known(goal) {
+        return Ok(refused(alloc, Refusal::NoStation));
     }
     let Some(origin) = station_in(place) else {
         return Ok(refused(alloc, Refusal::Elsewhere));
     };
+    let live = is_in_job(floor, load)?;
+    if let Err(why) = can_job(false, Some(place), live, goal) {
+        return Ok(refused(alloc, why));
+    }
     if floor.count(Counted::Jobs)? >= MOST {
         return Ok(refused(alloc, Refusal::Limit));
     }

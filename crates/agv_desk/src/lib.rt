@@ -6,15 +6,20 @@
 //!   rows that change. Each call is one private function, in a file for its family; `table` has them all.
 //! - [`moves_of`] tells which loads a decision moves, and where to, in their order.
 //! - [`laws`] says that the rows which change take the rows of the world to those of the world after the call.
+//! - From a lawful world each call leads to a lawful world ([`lawful_laws`], of the halves [`vehicle_laws`] and
+//!   [`cargo_laws`]), and so does each list of calls; what else holds of lists is in [`history_laws`].
 #![tactic(auto, unfolding(crate::specs::Outcomes::require, crate::specs::Outcomes::found, crate::specs::Outcomes::checked, crate::specs::Outcomes::unheld, crate::specs::Outcomes::branch, crate::specs::Outcomes::decided, crate::specs::StateSteps::if_judged))]
 
 mod acts;
 mod answer;
 mod call;
+pub mod cargo_laws;
 mod decisions;
+pub mod history_laws;
 mod holds;
 mod instants;
 mod jobs;
+pub mod lawful_laws;
 pub mod laws;
 mod layouts;
 mod loads;
@@ -29,6 +34,7 @@ mod stocktake;
 pub mod stocktake_laws;
 mod table;
 mod updates;
+pub mod vehicle_laws;
 mod vehicles;
 
 pub use answer::{Answer, Decision, OpenOrder};

@@ -1,5 +1,7 @@
 //! The calls of loads.
 ghost use Rattle.std.specs.Prelude.{◌≡◌, ◌≢◌, IfOk, OnErr};
+ghost use Rattle.agv_stock.specs.Checks.{is_known};
+ghost use Rattle.agv_stock.specs.Room.{has_left};
 ghost use Rattle.agv_stock.specs.declared.goal.Goal.TheVariants as goals;
 ghost use Rattle.agv_world.specs.Fails.{Fails};
 ghost use Rattle.agv_world.specs.declared.change.Change.TheVariants as row;
@@ -39,6 +41,26 @@ fn goal_of<F: Floor>(floor: &mut F, station: Option<Name>) -> Result<Goal, Fault
         return Ok(Goal::Checking);
     };
     Ok(goal_at(station, floor.room(station)?))
+}
+
+// Whether it is not a station that is unknown.
+pub(crate) fn is_known(goal: Goal) -> bool
+    ensures { result ≡ is_known goal }
+{
+    match goal {
+        Goal::Checking | Goal::At(_, _) => true,
+        Goal::Unknown => false,
+    }
+}
+
+// Whether a load has left.
+fn has_left(place: Place) -> bool
+    ensures { result ≡ has_left place }
+{
+    match place {
+        Place::Left => true,
+        Place::Station(_) | Place::Vehicle(_) | Place::Checking => false,
+    }
 }
 
 // Where it is then.
@@ -97,6 +119,9 @@ pub(crate) fn register_load<F: Floor>(
     ensures same { F.seats floor.new ≡ F.seats floor.old }
 {
     let place = floor.place(load)?;
+    if place.is_some() {
+        return Ok(refused(alloc, Refusal::Exists));
+    }
     let goal = goal_of(floor, station)?;
     if let Err(why) = can_register(place, goal) {
         return Ok(refused(alloc, why));
@@ -126,10 +151,18 @@ pub(crate) fn correct_load<F: Floor>(
     if !is_new(floor, reference)? {
         return Ok(refused(alloc, Refusal::RefUsed));
     }
-    let place = floor.place(load)?;
-    let live = is_in_job(floor, load)?;
+    let Some(place) = floor.place(load)? else {
+        return Ok(refused(alloc, Refusal::NoLoad));
+    };
     let goal = goal_of(floor, station)?;
-    if let Err(why) = can_correct(place, live, goal) {
+    if !is_known(goal) {
+        return Ok(refused(alloc, Refusal::NoStation));
+    }
+    if has_left(place) {
+        return Ok(refused(alloc, Refusal::Elsewhere));
+    }
+    let live = is_in_job(floor, load)?;
+    if let Err(why) = can_correct(Some(place), live, goal) {
         return Ok(refused(alloc, why));
     }
     if floor.count(Counted::References)? >= MOST {
@@ -157,9 +190,14 @@ pub(crate) fn leave_load<F: Floor>(
     if !is_new(floor, reference)? {
         return Ok(refused(alloc, Refusal::RefUsed));
     }
-    let place = floor.place(load)?;
+    let Some(place) = floor.place(load)? else {
+        return Ok(refused(alloc, Refusal::NoLoad));
+    };
+    if has_left(place) {
+        return Ok(refused(alloc, Refusal::Elsewhere));
+    }
     let live = is_in_job(floor, load)?;
-    if let Err(why) = can_leave(place, live) {
+    if let Err(why) = can_leave(Some(place), live) {
         return Ok(refused(alloc, why));
     }
     if floor.count(Counted::References)? >= MOST {

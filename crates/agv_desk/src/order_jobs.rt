@@ -1,10 +1,12 @@
 //! The jobs of an order.
 ghost use Rattle.std.specs.Prelude.{◌≡◌, ◌++◌, count_by, IfOk, OnErr, OnOk, List, ℕ, map};
+ghost use Rattle.agv_order.specs.Plans.{job_named};
 ghost use Rattle.agv_order.specs.StopPlaces.{is_pick};
 ghost use Rattle.agv_world.specs.Fails.{Fails};
 ghost use Rattle.agv_world.specs.declared.change.Change.TheVariants as row;
 ghost use Rattle.agv_world.specs.declared.row.JobRow.{JobRow as RowOf};
 ghost use Rattle.agv_desk.specs.OrderSteps.{job_for, jobs_for, named, riding, riding_by, waits};
+ghost use Rattle.agv_desk.specs.FoundJobs.{AreFound};
 
 use agv_header::{Memory, Name};
 use agv_message::{ActKind, Sequence};
@@ -26,21 +28,36 @@ fn named(name: &Name, row: &JobRow) -> Job
     }
 }
 
-// The job of a stop.
-fn job_for<F: Floor>(floor: &mut F, stop: &Stop) -> Result<Option<Job>, Fault>
-    ensures told { F.is_clean floor.new → IfOk result (λ job. (job ≡ job_for (F.world floor.old) stop.now) × (F.world floor.new ≡ F.world floor.old)) }
+// The job of this name.
+fn job_named(jobs: &[Job], name: Name) -> Option<Job>
+    ensures { result ≡ job_named jobs.now name }
+{
+    for job in jobs {
+        if job.name == name {
+            return Some(*job);
+        }
+    }
+    None
+}
+
+// The job of a stop. It is one of those that were found, if it was asked for before.
+fn job_for<F: Floor>(floor: &mut F, jobs: &[Job], stop: &Stop) -> Result<Option<Job>, Fault>
+    ensures told { F.is_clean floor.new → IfOk result (λ job. (AreFound (F.world floor.old) jobs.now → job ≡ job_for (F.world floor.old) stop.now) × (F.world floor.new ≡ F.world floor.old)) }
     ensures left { F.is_clean floor.new → F.is_open floor.new → OnErr result (F.world floor.new ≡ F.world floor.old) }
     ensures earlier { F.is_clean floor.new → F.is_clean floor.old × (F.is_open floor.new → F.is_open floor.old) }
     ensures fails { Fails result (F.failed floor.old) (F.failed floor.new) }
     ensures same { F.seats floor.new ≡ F.seats floor.old }
 {
+    if let Some(job) = job_named(jobs, stop.job) {
+        return Ok(Some(job));
+    }
     match floor.job(stop.job)? {
         Some(row) => Ok(Some(named(&stop.job, &row))),
         None => Ok(None),
     }
 }
 
-/// The jobs of the stops, in their order; none where one of them is unknown.
+/// The jobs of the stops, in their order, each asked for once; none where one of them is unknown.
 pub(crate) fn jobs_for<F: Floor>(
     alloc: Global,
     floor: &mut F,
@@ -54,7 +71,7 @@ pub(crate) fn jobs_for<F: Floor>(
 {
     let mut jobs = Vec::new(alloc);
     for stop in stops {
-        let Some(job) = job_for(floor, stop)? else {
+        let Some(job) = job_for(floor, jobs.as_slice(), stop)? else {
             return Ok(None);
         };
         jobs.push(job)?;

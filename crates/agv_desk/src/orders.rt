@@ -1,5 +1,5 @@
 //! The calls of orders.
-ghost use Rattle.std.specs.Prelude.{◌≡◌, ◌≢◌, ℕ, ◌+◌, ◌++◌, ◌∷◌, [], nat_le, count_by, is_some, IfOk, OnErr, OnOk, List, Some, map};
+ghost use Rattle.std.specs.Prelude.{◌≡◌, ◌≢◌, ℕ, ◌+◌, ◌++◌, ◌∷◌, [], nat_le, count_by, is_some, not, IfOk, OnErr, OnOk, List, Some, map};
 ghost use Rattle.std.specs.List.{list_all};
 ghost use Rattle.agv_order.specs.StopPlaces.{is_pick};
 ghost use Rattle.agv_order.specs.declared.fault.PlanFault.TheVariants as fault;
@@ -25,6 +25,13 @@ use agv_stock::Job;
 use agv_track::{Standing, footprint};
 use agv_world::{Change, Counted, Fault, Floor, Sent, UseKey, UseKind, VehicleRow};
 use std::alloc::Global;
+
+/// Whether the desk is not in control of the vehicle, or the vehicle can't drive.
+pub(crate) fn is_unready(row: &VehicleRow) -> bool
+    ensures { result ≡ not row.now.ready }
+{
+    !row.ready
+}
 
 /// Whether a cancelOrder is pending.
 pub(crate) fn is_cancelling(pending: Option<InstantKind>) -> bool
@@ -106,7 +113,7 @@ fn order_sent(
     let new = standing(row, trip);
     let mut changes = Vec::new(alloc);
     let sent = sent_row(row, at, number);
-    write_vehicle(alloc, key, &old, sent, &new, &mut changes)?;
+    write_vehicle(alloc, key, row, &old, sent, &new, &mut changes)?;
     write_order(alloc, order, stops, jobs, &mut changes)?;
     Ok(made(Answer::Update(0), changes))
 }
@@ -239,7 +246,7 @@ fn take_order<F: Floor>(
     if !has_room(row, floor.loads_on(*key)?, stops) {
         return Ok(refused(alloc, Refusal::Loaded));
     }
-    if !row.ready {
+    if is_unready(row) {
         return Ok(refused(alloc, Refusal::NotReady));
     }
     if is_cancelling(row.pending) {

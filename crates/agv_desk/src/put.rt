@@ -1,9 +1,9 @@
 //! The rows of a vehicle that is written.
-ghost use Rattle.std.specs.Prelude.{◌≡◌, ◌≤◌, ◌++◌, ◌∷◌, length, IfOk, OnOk};
+ghost use Rattle.std.specs.Prelude.{◌≡◌, ◌≤◌, ◌++◌, Some, length, IfOk, OnOk};
 ghost use Rattle.agv_track.specs.Footprints.{footprint_of};
 ghost use Rattle.agv_world.specs.Rows.{trip_row};
-ghost use Rattle.agv_world.specs.VehicleChanges.{hold_changes, leg_removals, leg_writes, trip_changes};
-ghost use Rattle.agv_world.specs.declared.change.Change.TheVariants as row;
+ghost use Rattle.agv_world.specs.SameRows.{same_row, same_trip_row};
+ghost use Rattle.agv_world.specs.VehicleChanges.{hold_changes, leg_removals, leg_writes, own_changes, trip_changes};
 ghost use Rattle.agv_desk.specs.Sizes.{IsShort};
 
 use crate::holds::write_holds;
@@ -13,6 +13,28 @@ use agv_order::Trip;
 use agv_track::{Standing, footprint};
 use agv_world::{Change, LegKey, TripRow, VehicleRow};
 use std::alloc::Global;
+
+// Whether the row of a vehicle stays as it was.
+fn same_row(old: &VehicleRow, new: &VehicleRow) -> bool
+    ensures { result ≡ same_row old.now new.now }
+{
+    *old == *new
+}
+
+/// Writes the row of a vehicle in place of the old one, where it changes.
+pub(crate) fn write_row(
+    key: &VehicleKey,
+    old: &VehicleRow,
+    new: VehicleRow,
+    changes: &mut Vec<Change>,
+) -> Result<(), Memory>
+    ensures { OnOk result (changes.new.items ≡ changes.old.items ++ own_changes key.now (Some old.now) new) }
+{
+    if !same_row(old, &new) {
+        changes.push(Change::Vehicle(*key, new))?;
+    }
+    Ok(())
+}
 
 // Writes a row for each edge of a trip.
 fn write_legs(order: &Name, edges: &[Edge], changes: &mut Vec<Change>) -> Result<(), Memory>
@@ -60,6 +82,19 @@ fn trip_row(key: &VehicleKey, trip: &Trip) -> Result<TripRow, Memory>
     })
 }
 
+// Whether the row of a trip stays as it was.
+fn same_trip_row(old: &Trip, new: &Trip) -> bool
+    ensures { result ≡ same_trip_row old.now new.now }
+{
+    old.start == new.start
+        && old.first == new.first
+        && old.base == new.base
+        && old.sent == new.sent
+        && old.confirmed == new.confirmed
+        && old.seen == new.seen
+        && old.acts == new.acts
+}
+
 // Writes a trip that begins, ends or goes on.
 fn write_trip(
     key: &VehicleKey,
@@ -81,6 +116,7 @@ fn write_trip(
             changes.push(Change::Trip(ended.order, None))?;
             remove_legs(&ended.order, ended.edges.as_slice(), changes)
         }
+        (Some(was), Some(on)) if same_trip_row(was, on) => Ok(()),
         (Some(_), Some(on)) => {
             changes.push(Change::Trip(on.order, Some(trip_row(key, on)?)))?;
             Ok(())
@@ -88,10 +124,11 @@ fn write_trip(
     }
 }
 
-/// Writes a vehicle in place of the old one: its row, its trip with the edges, and what it holds.
+/// Writes a vehicle in place of the old one: its row, its trip with the edges, and what it holds, each where it changes.
 pub(crate) fn write_vehicle(
     alloc: Global,
     key: &VehicleKey,
+    before: &VehicleRow,
     old: &Standing,
     vehicle: VehicleRow,
     new: &Standing,
@@ -99,11 +136,11 @@ pub(crate) fn write_vehicle(
 ) -> Result<(), Memory>
     requires old_short { IsShort old.now.trip }
     requires new_short { IsShort new.now.trip }
-    ensures { OnOk result (changes.new.items ≡ changes.old.items ++ (row.Vehicle key.now vehicle ∷ (trip_changes key.now old.now.trip new.now.trip ++ hold_changes key.now (footprint_of old.now) (footprint_of new.now)))) }
+    ensures { OnOk result (changes.new.items ≡ changes.old.items ++ (own_changes key.now (Some before.now) vehicle ++ (trip_changes key.now old.now.trip new.now.trip ++ hold_changes key.now (footprint_of old.now) (footprint_of new.now)))) }
 {
     let held = footprint(alloc, old)?;
     let holds = footprint(alloc, new)?;
-    changes.push(Change::Vehicle(*key, vehicle))?;
+    write_row(key, before, vehicle, changes)?;
     write_trip(key, &old.trip, &new.trip, changes)?;
     write_holds(key, &held, &holds, changes)
 }

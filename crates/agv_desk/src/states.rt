@@ -1,5 +1,5 @@
 //! The states that vehicles send.
-ghost use Rattle.std.specs.Prelude.{◌≡◌, IfOk, OnErr, Some};
+ghost use Rattle.std.specs.Prelude.{◌≡◌, IfOk, OnErr, Some, is_some};
 ghost use Rattle.agv_track.specs.Progressed.{progressed};
 ghost use Rattle.agv_track.specs.Reports.{renewed};
 ghost use Rattle.agv_world.specs.Fails.{Fails};
@@ -26,6 +26,13 @@ fn is_fresh(last: Option<u32>, number: u32) -> bool
     ensures { result ≡ is_fresh last number }
 {
     agv_header::is_fresh(last, number)
+}
+
+// Whether the vehicle has confirmed an update of its trip.
+fn has_confirmed(trip: &Trip) -> bool
+    ensures { result ≡ is_some trip.now.confirmed }
+{
+    trip.confirmed.is_some()
 }
 
 // The pending action of a vehicle, which has the number of the last instantActions message.
@@ -60,7 +67,13 @@ fn idle_state(
     ensures { IfOk result (λ decision. decision ≡ decided (idle_state key.now row.now state.now)) }
 {
     match judge_idle(row.node, pending_of(row), state) {
-        Ok(over) => noted(alloc, Answer::Accepted(true), *key, heard(row, state, over)),
+        Ok(over) => noted(
+            alloc,
+            Answer::Accepted(true),
+            key,
+            row,
+            heard(row, state, over),
+        ),
         Err(why) => Ok(refused(alloc, why)),
     }
 }
@@ -146,7 +159,7 @@ fn trip_state<F: Floor>(
     let new = standing(&next, trip_left(alloc, &trip, &progress)?);
     let old = standing(row, Some(trip));
     let mut changes = Vec::new(alloc);
-    write_vehicle(alloc, key, &old, next, &new, &mut changes)?;
+    write_vehicle(alloc, key, row, &old, next, &new, &mut changes)?;
     move_loads(key, acts, &progress.statuses, &mut changes)?;
     write_jobs(floor, ended, acts, &progress.statuses, &mut changes)?;
     Ok(made(Answer::Accepted(true), changes))
@@ -174,7 +187,7 @@ fn fresh_state<F: Floor>(
     if trip.order.as_str() == state.order_id.as_str() {
         return trip_state(alloc, floor, key, row, trip, state);
     }
-    if trip.confirmed.is_some() {
+    if has_confirmed(&trip) {
         return Ok(refused(alloc, Refusal::OtherOrder));
     }
     Ok(idle_state(alloc, key, row, state)?)

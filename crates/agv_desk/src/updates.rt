@@ -9,7 +9,7 @@ ghost use Rattle.agv_desk.specs.Sizes.{IsOfSize, IsShort};
 
 use crate::decisions::{made, refused};
 use crate::holds::first_held;
-use crate::orders::{is_cancelling, sent_row, standing};
+use crate::orders::{is_cancelling, is_unready, sent_row, standing};
 use crate::put::write_vehicle;
 use crate::sizes::is_of_size;
 use crate::{Answer, Decision};
@@ -68,7 +68,7 @@ fn update_sent(
     let after = standing(row, new);
     let mut changes = Vec::new(alloc);
     let sent = sent_row(row, at, number);
-    write_vehicle(alloc, key, &before, sent, &after, &mut changes)?;
+    write_vehicle(alloc, key, row, &before, sent, &after, &mut changes)?;
     Ok(made(Answer::Update(update), changes))
 }
 
@@ -136,7 +136,7 @@ fn take_update<F: Floor>(
     if !is_confirmed(trip.confirmed, trip.sent) {
         return Ok(refused(alloc, Refusal::NotConfirmed));
     }
-    if !row.ready {
+    if is_unready(row) {
         return Ok(refused(alloc, Refusal::NotReady));
     }
     if is_cancelling(row.pending) {

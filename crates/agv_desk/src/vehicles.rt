@@ -138,7 +138,7 @@ fn put_down<F: Floor>(
     let old = standing(row, trip);
     let new = standing(&next, None);
     let mut changes = Vec::new(alloc);
-    write_vehicle(alloc, key, &old, next, &new, &mut changes)?;
+    write_vehicle(alloc, key, row, &old, next, &new, &mut changes)?;
     stop_jobs(floor, &old.trip, &mut changes)?;
     changes.push(reference_used(reference))?;
     Ok(made(Answer::Done, changes))
@@ -181,12 +181,12 @@ pub(crate) fn place_vehicle<F: Floor>(
 }
 
 // The row of a vehicle whose last state is forgotten.
-fn unheard(row: VehicleRow) -> VehicleRow
-    ensures { result ≡ record row { last_header = None } }
+fn unheard(row: &VehicleRow) -> VehicleRow
+    ensures { result ≡ record row.now { last_header = None } }
 {
     VehicleRow {
         last_header: None,
-        ..row
+        ..*row
     }
 }
 
@@ -205,5 +205,5 @@ pub(crate) fn resync<F: Floor>(
     let Some(row) = floor.vehicle(*key)? else {
         return Ok(refused(alloc, Refusal::NoVehicle));
     };
-    Ok(noted(alloc, Answer::Done, *key, unheard(row))?)
+    Ok(noted(alloc, Answer::Done, key, &row, unheard(&row))?)
 }

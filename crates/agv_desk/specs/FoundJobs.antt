@@ -1,0 +1,16 @@
+-- The jobs that are found stop by stop, of which none is asked for twice.
+use Rattle.std.specs.Prelude.{◌≡◌, ℕ, List, Option, Some}
+use Rattle.std.specs.FinMap as finite
+use Rattle.std.specs.Option.{option_map}
+use Rattle.agv_order.specs.Plans.{job_named}
+use Rattle.agv_stock.specs.declared.job.Job.{Job}
+use Rattle.agv_world.specs.Worlds.{World}
+use Rattle.agv_desk.specs.OrderSteps.{named}
+
+-- the job of this name in a world
+abbrev pub job_by : World → List ℕ → Option Job
+job_by world name = option_map (named name) (finite.get world.jobs name)
+
+-- what has a name among these jobs is the job of that name in the world
+pub record AreFound (world : World) (jobs : List Job) : Type 0 where
+  pub each : (name : List ℕ) (job : Job) → job_named jobs name ≡ Some job → job_by world name ≡ Some job

@@ -1,0 +1,45 @@
+-- What holds of every call, since its parts are of their types: the names that it makes known are names, and the number of a state is in its range.
+use Rattle.std.specs.Prelude.{ℕ, ◌≤◌, List, [], ◌∷◌}
+use Rattle.agv_header.specs.Name.{IsName}
+use Rattle.agv_layout.specs.Rows.{AreNamed}
+use Rattle.agv_world.specs.Lawful.{IsKey}
+use Rattle.agv_desk.specs.declared.call.Call.{Call}
+use Rattle.agv_desk.specs.declared.call.Call.TheVariants as call
+
+abbrev pub IsWellTyped : Call → Type 0
+IsWellTyped (call.SetLayout rows) = AreNamed rows
+IsWellTyped (call.RegisterVehicle key node capacity) = IsKey key
+IsWellTyped (call.RegisterLoad load station) = IsName load
+IsWellTyped (call.CorrectLoad load reference station) = IsName reference
+IsWellTyped (call.LeaveLoad load reference) = IsName reference
+IsWellTyped (call.AddJob job load to) = IsName job
+IsWellTyped (call.StopJob job) = Unit {0}
+IsWellTyped (call.StartOrder order key stops edges) = IsName order
+IsWellTyped (call.Advance key order update edges) = Unit {0}
+IsWellTyped (call.Cancel key) = Unit {0}
+IsWellTyped (call.Pause key) = Unit {0}
+IsWellTyped (call.Resume key) = Unit {0}
+IsWellTyped (call.PlaceVehicle key reference node) = IsName reference
+IsWellTyped (call.Resync key) = Unit {0}
+IsWellTyped (call.State key state) = state.header_id ≤ 4294967295
+IsWellTyped (call.GetOrder key) = Unit {0}
+IsWellTyped (call.GetInstant key) = Unit {0}
+IsWellTyped (call.Stocktake reference rows) = IsName reference
+IsWellTyped (call.GetLoad load) = Unit {0}
+IsWellTyped (call.GetVehicle key) = Unit {0}
+IsWellTyped call.StockReport = Unit {0}
+IsWellTyped call.HoldReport = Unit {0}
+IsWellTyped call.LoadsExport = Unit {0}
+
+-- the moment of a call lies before 2100
+abbrev pub IsMoment : ℕ → Type 0
+IsMoment at = at ≤ 4102444799999
+
+-- each call of a list is made at a moment, and is as above
+abbrev pub AreWellTyped : List (ℕ × Call) → Type 0
+AreWellTyped [] = Unit {0}
+AreWellTyped (made ∷ calls) = IsMoment made.0 × IsWellTyped made.1 × AreWellTyped calls
+
+-- vehicles may have places for at least one load, and for at most four
+abbrev pub IsSeats : ℕ → Type 0
+IsSeats seats = (1 ≤ seats) × (seats ≤ 4)
