@@ -8,8 +8,12 @@
 //!   becomes of loads, and `two_loads` orders over two jobs.
 //! - `cancels` has orders that are cancelled, and `instants` vehicles that pause and go on.
 //! - `refusals` has calls that are refused, each for its own reason.
+//! - `repeats` has states that come again.
 //! - `failing` has a store that fails at each question in turn.
+//! - `unlawful` has worlds that are not lawful: `alters` writes some of their rows by hand.
+ghost use Rattle.std.specs.Prelude.{◌≤◌};
 
+mod alters;
 mod asks;
 mod cancels;
 mod failing;
@@ -18,10 +22,12 @@ mod layouts;
 mod loads;
 mod orders;
 mod refusals;
+mod repeats;
 mod starts;
 mod stocktakes;
 mod trips;
 mod two_loads;
+mod unlawful;
 mod ways;
 
 use crate::cases::{check, check_text, name};
@@ -45,14 +51,19 @@ const TRACK: [&str; 7] = ["N1", "E12", "E21", "N2", "E23", "E32", "N3"];
 #[derive(Drop)]
 pub(crate) struct Desk {
     floor: PlainFloor,
+    /// The most loads that a vehicle may carry at once.
+    seats: u32,
     /// The moves of the last call.
     moves: Vec<(Name, Place)>,
 }
 
-/// A desk that knows nothing yet, for vehicles of so many loads.
-fn new_desk(alloc: Global, seats: u32) -> Desk {
+/// A desk that knows nothing yet, for vehicles of so many loads: 1 to 4.
+fn new_desk(alloc: Global, seats: u32) -> Desk
+    requires { (1 ≤ seats) × (seats ≤ 4) }
+{
     Desk {
         floor: PlainFloor::new(alloc, World::empty(alloc), seats),
+        seats,
         moves: Vec::new(alloc),
     }
 }
@@ -68,8 +79,14 @@ fn check_changes(rt: &impl Abort, decision: &Decision) {
     }
 }
 
+/// The world is lawful, where vehicles may be built for so many loads.
+fn check_lawful(rt: &impl Abort, alloc: Global, world: &World, seats: u32) {
+    let lawful = world.is_lawful(alloc, seats).expect(rt, "memory");
+    check(rt, lawful, "a lawful world");
+}
+
 impl Desk {
-    /// Decides a call, and carries out what changes.
+    /// Decides a call, and carries out what changes. The world is lawful then.
     fn serve(&mut self, rt: &impl Abort, alloc: Global, call: &Call) -> Answer {
         let decided = decide(alloc, &mut self.floor, moment(rt), call);
         let decision = decided.expect(rt, "memory");
@@ -77,6 +94,7 @@ impl Desk {
         self.moves = moves_of(alloc, &decision).expect(rt, "memory");
         let applied = self.floor.world.apply(decision.changes.as_slice());
         applied.expect(rt, "memory");
+        check_lawful(rt, alloc, &self.floor.world, self.seats);
         decision.answer
     }
 
@@ -141,8 +159,10 @@ fn play_lines(rt: &impl Abort, alloc: Global, desk: &mut Desk, lines: &[Line]) {
     }
 }
 
-/// Plays the parts of a script, for vehicles of so many loads.
-fn play_for(rt: &impl Abort, alloc: Global, seats: u32, parts: &[&[Line]]) {
+/// Plays the parts of a script, for vehicles of so many loads: 1 to 4.
+fn play_for(rt: &impl Abort, alloc: Global, seats: u32, parts: &[&[Line]])
+    requires { (1 ≤ seats) × (seats ≤ 4) }
+{
     let mut desk = new_desk(alloc, seats);
     for lines in parts {
         play_lines(rt, alloc, &mut desk, lines);
@@ -154,4 +174,14 @@ fn play_for(rt: &impl Abort, alloc: Global, seats: u32, parts: &[&[Line]]) {
 fn play(rt: &impl Abort, alloc: Global, parts: &[&[Line]]) {
     play_for(rt, alloc, 4, parts);
     play_for(rt, alloc, 1, parts);
+}
+
+/// The world after the lines.
+fn world_after(rt: &impl Abort, alloc: Global, seats: u32, lines: &[Line]) -> World
+    requires { (1 ≤ seats) × (seats ≤ 4) }
+{
+    let mut desk = new_desk(alloc, seats);
+    play_lines(rt, alloc, &mut desk, lines);
+    let Desk { floor, .. } = desk;
+    floor.world
 }

@@ -94,7 +94,7 @@ fn order_calls(rt: &impl Abort, alloc: Global) -> [Case; 2] {
         update: 1,
         edges: 2,
     };
-    [(start, 14, 15), (advance, 6, 9)]
+    [(start, 14, 14), (advance, 6, 9)]
 }
 
 fn instant_calls(rt: &impl Abort) -> [Case; 3] {
@@ -114,8 +114,8 @@ fn text(rt: &impl Abort, alloc: Global, text: &str) -> Text {
     Text::copy_of(alloc, text).expect(rt, "memory")
 }
 
-/// V050 has reached its second node.
-fn state(rt: &impl Abort, alloc: Global) -> StateMessage {
+/// V050 has reached this node, its place among the nodes and edges being `last_seq`.
+fn state(rt: &impl Abort, alloc: Global, last_node: &str, last_seq: u32) -> StateMessage {
     StateMessage {
         header_id: 1,
         at: Moment::of(1_700_000_000_000).expect(rt, "a moment"),
@@ -123,8 +123,8 @@ fn state(rt: &impl Abort, alloc: Global) -> StateMessage {
         serial: text(rt, alloc, "V050"),
         order_id: text(rt, alloc, "O050"),
         update: 0,
-        last_node: text(rt, alloc, "P251"),
-        last_seq: 2,
+        last_node: text(rt, alloc, last_node),
+        last_seq,
         node_seqs: Vec::new(alloc).into(),
         actions: Vec::new(alloc).into(),
         ready: true,
@@ -143,9 +143,60 @@ fn vehicle_calls(rt: &impl Abort, alloc: Global) -> [Case; 3] {
     };
     let state = Call::State {
         key: vehicle(rt, "KIT", "V050"),
-        state: state(rt, alloc),
+        state: state(rt, alloc, "P251", 2),
     };
     [(place, 12, 7), (resync, 1, 1), (state, 4, 2)]
+}
+
+/// A state that leaves the trip as it was, a place where the vehicle stands, and a resync where no number is recorded:
+/// the rows that stay are not written.
+fn idle_calls(rt: &impl Abort, alloc: Global) -> [Case; 3] {
+    let state = Call::State {
+        key: vehicle(rt, "KIT", "V050"),
+        state: state(rt, alloc, "P250", 0),
+    };
+    let place = Call::PlaceVehicle {
+        key: vehicle(rt, "KIT", "V000"),
+        reference: name(rt, "R1"),
+        node: name(rt, "P000"),
+    };
+    let resync = Call::Resync {
+        key: vehicle(rt, "KIT", "V051"),
+    };
+    [(state, 1, 2), (place, 1, 6), (resync, 0, 1)]
+}
+
+/// Calls of loads that are refused by what is asked first.
+fn refused_loads(rt: &impl Abort) -> [Case; 3] {
+    let register = Call::RegisterLoad {
+        load: name(rt, "L002"),
+        station: Some(name(rt, "S001")),
+    };
+    let correct = Call::CorrectLoad {
+        load: name(rt, "NEW"),
+        reference: name(rt, "R1"),
+        station: Some(name(rt, "S001")),
+    };
+    let leave = Call::LeaveLoad {
+        load: name(rt, "NEW"),
+        reference: name(rt, "R1"),
+    };
+    [(register, 0, 1), (correct, 0, 2), (leave, 0, 2)]
+}
+
+/// The job is known; the load is not; the station is not; and the load is on a vehicle.
+fn refused_jobs(rt: &impl Abort) -> [Case; 4] {
+    let add = |job: &str, load: &str, to: &str| Call::AddJob {
+        job: name(rt, job),
+        load: name(rt, load),
+        to: name(rt, to),
+    };
+    [
+        (add("J000", "L002", "S001"), 0, 1),
+        (add("J002", "NEW", "S001"), 0, 2),
+        (add("J002", "L002", "NEW"), 0, 3),
+        (add("J002", "L101", "S001"), 0, 3),
+    ]
 }
 
 /// At each of the 100 stations the load of the next one is found.
@@ -227,6 +278,9 @@ fn serve_each(rt: &impl Abort, alloc: Global, loads: u32) {
     serve_all(rt, alloc, &mut floor, &stocktake(rt, alloc));
     serve_all(rt, alloc, &mut floor, &questions(rt));
     serve_all(rt, alloc, &mut floor, &reports());
+    serve_all(rt, alloc, &mut floor, &idle_calls(rt, alloc));
+    serve_all(rt, alloc, &mut floor, &refused_loads(rt));
+    serve_all(rt, alloc, &mut floor, &refused_jobs(rt));
 }
 
 #[test]

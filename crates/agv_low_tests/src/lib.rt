@@ -19,7 +19,7 @@
 //! - `stocks` has the room of stations and the checks of what is done with loads.
 //! - `tracks` has states of vehicles on the way, and what vehicles hold.
 //! - `trips` has trips that are built by hand, their messages, and what a vehicle does with these; which
-//!   stops can be carried out; and how statuses follow one another.
+//!   stops can be carried out; which trips are well formed; and how statuses follow one another.
 //! - `worlds` has changes that are carried out on a world in memory.
 #![tactic(auto)]
 

@@ -4,8 +4,9 @@ mod joins;
 mod long;
 mod messages;
 mod stops;
+mod well_formed;
 
-use crate::cases::{check_debug, name, vehicle};
+use crate::cases::{check, check_debug, name, vehicle};
 use agv_layout::Edge;
 use agv_message::{ActKind, OrderMessage, Sequence, Status};
 use agv_order::{Act, Trip};
@@ -130,4 +131,18 @@ fn trips_are_copied(rt: HostRuntime) {
     let trip = trip(&rt, rt.alloc(), SECOND, &ONE_JOB);
     let copy = trip.copy().expect(&rt, "memory");
     check_debug(&rt, rt.alloc(), &copy, PRINTED, "a copy");
+}
+
+fn check_node(rt: &impl Abort, trip: &Trip, k: u32, wanted: &str) {
+    check(rt, trip.node_at(k) == Some(name(rt, wanted)), wanted);
+}
+
+#[test]
+fn nodes_of_a_trip(rt: HostRuntime) {
+    let trip = trip(&rt, rt.alloc(), FIRST, &ONE_JOB);
+    check_node(&rt, &trip, 0, "N1");
+    check_node(&rt, &trip, 1, "N2");
+    check_node(&rt, &trip, 2, "N3");
+    check(&rt, trip.node_at(3).is_none(), "past the end");
+    check(&rt, trip.node_at(u32::MAX).is_none(), "far past the end");
 }

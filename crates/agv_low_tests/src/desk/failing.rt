@@ -206,9 +206,17 @@ fn a_call_answers_the_fault_of_the_store(rt: HostRuntime) {
     let mut desk = new_desk(alloc, 4);
     for lines in [READY, A_TO_B, ONE_EDGE] {
         for line in lines {
-            let Desk { floor, moves } = desk;
+            let Desk {
+                floor,
+                seats,
+                moves,
+            } = desk;
             let floor = try_each(&rt, alloc, floor, &line.0);
-            desk = Desk { floor, moves };
+            desk = Desk {
+                floor,
+                seats,
+                moves,
+            };
             play_lines(&rt, alloc, &mut desk, &[*line]);
         }
     }

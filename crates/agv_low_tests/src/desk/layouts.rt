@@ -4,7 +4,7 @@ use super::asks::Ask::Layout;
 use super::asks::Line;
 use super::starts::READY;
 use super::{Desk, answer_text, new_desk, play};
-use crate::cases::{check_text, name};
+use crate::cases::{check, check_text, name};
 use crate::layouts::WAREHOUSE;
 use crate::routes::{add_node, numbered};
 use agv_desk::Call;
@@ -42,19 +42,35 @@ fn nodes_alone(rt: &impl Abort, alloc: Global, count: u32) -> Call {
     Call::SetLayout { rows: rows.into() }
 }
 
+fn key(rt: &impl Abort, alloc: Global, i: u32) -> VehicleKey {
+    VehicleKey {
+        manufacturer: name(rt, "KIT"),
+        serial: numbered(rt, alloc, 'V', i),
+    }
+}
+
 /// A vehicle is registered at a node of its own.
 fn register(rt: &impl Abort, alloc: Global, desk: &mut Desk, i: u32, wanted: &str) {
     let call = Call::RegisterVehicle {
-        key: VehicleKey {
-            manufacturer: name(rt, "KIT"),
-            serial: numbered(rt, alloc, 'V', i),
-        },
+        key: key(rt, alloc, i),
         node: numbered(rt, alloc, 'P', i),
         capacity: 1,
     };
     let answer = desk.serve(rt, alloc, &call);
     let found = answer_text(rt, alloc, &answer);
     check_text(rt, found.as_str(), wanted, "a vehicle");
+}
+
+/// The world is not lawful with one vehicle more, which is written by hand.
+fn check_one_more(rt: &impl Abort, alloc: Global, desk: &mut Desk) {
+    let world = &mut desk.floor.world;
+    let first = world.vehicles.get(key(rt, alloc, 0));
+    let mut row = *first.expect(rt, "a vehicle");
+    row.node = numbered(rt, alloc, 'P', 100);
+    let written = world.vehicles.insert(key(rt, alloc, 100), row);
+    written.expect(rt, "memory");
+    let lawful = world.is_lawful(alloc, 4).expect(rt, "memory");
+    check(rt, !lawful, "101 vehicles");
 }
 
 #[test]
@@ -66,4 +82,5 @@ fn there_are_at_most_100_vehicles(rt: HostRuntime) {
         register(&rt, alloc, &mut desk, i, "Done");
     }
     register(&rt, alloc, &mut desk, 100, "Refused(Limit)");
+    check_one_more(&rt, alloc, &mut desk);
 }

@@ -64,13 +64,14 @@ fn add_vehicle(
     alloc: Global,
     world: &mut World,
     number: u32,
+    heard: Option<u32>,
     pending: Option<InstantKind>,
 ) {
     let row = VehicleRow {
         capacity: 2,
         node: numbered(rt, alloc, 'P', number.saturating_mul(5)),
         rest: None,
-        last_header: None,
+        last_header: heard,
         reported: None,
         ready: true,
         paused: false,
@@ -106,7 +107,7 @@ fn add_layout(rt: &impl Abort, alloc: Global, world: &mut World) {
 /// A vehicle, a station and the load there for each of 100 numbers.
 fn add_hundred(rt: &impl Abort, alloc: Global, world: &mut World) {
     for i in 0..100 {
-        add_vehicle(rt, alloc, world, i, None);
+        add_vehicle(rt, alloc, world, i, Some(0), None);
         add_station(rt, alloc, world, i, i * 5 + 4);
         add_load(rt, alloc, world, i, station(rt, alloc, i));
     }
@@ -189,7 +190,8 @@ pub(crate) fn world(rt: &impl Abort, alloc: Global, loads: u32) -> World {
     let mut world = World::empty(alloc);
     add_layout(rt, alloc, &mut world);
     add_hundred(rt, alloc, &mut world);
-    add_vehicle(rt, alloc, &mut world, 51, Some(InstantKind::StartPause));
+    let pausing = Some(InstantKind::StartPause);
+    add_vehicle(rt, alloc, &mut world, 51, None, pausing);
     add_jobs(rt, &mut world);
     add_trip(rt, alloc, &mut world);
     for i in 102..loads {

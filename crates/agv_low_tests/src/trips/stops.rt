@@ -2,7 +2,7 @@
 
 use crate::cases::{check, name};
 use agv_message::{ActKind, Status};
-use agv_order::{Stop, edge_seq, merge, node_seq, stops_fit};
+use agv_order::{Stop, edge_seq, is_drop, is_final, is_finished, merge, node_seq, stops_fit};
 use std::alloc::Global;
 use std::process::Abort;
 
@@ -115,6 +115,34 @@ fn statuses_follow(rt: HostRuntime) {
     for (old, new, may) in &STATUSES {
         check_merge(&rt, *old, *new, *may);
     }
+}
+
+/// Each status, whether it says that the action is finished, and whether none follows it.
+const ENDS: [(Status, bool, bool); 6] = [
+    (Status::Waiting, false, false),
+    (Status::Initializing, false, false),
+    (Status::Running, false, false),
+    (Status::Paused, false, false),
+    (Status::Finished, true, true),
+    (Status::Failed, false, true),
+];
+
+fn check_end(rt: &impl Abort, status: Status, finished: bool, last: bool) {
+    check(rt, is_finished(status) == finished, "finished");
+    check(rt, is_final(status) == last, "final");
+}
+
+#[test]
+fn statuses_end(rt: HostRuntime) {
+    for (status, finished, last) in &ENDS {
+        check_end(&rt, *status, *finished, *last);
+    }
+}
+
+#[test]
+fn drops(rt: HostRuntime) {
+    check(&rt, is_drop(ActKind::Drop), "a drop");
+    check(&rt, !is_drop(ActKind::Pick), "a pick");
 }
 
 #[test]
