@@ -1,4 +1,8 @@
+pub mod CellLemmas
+pub mod ColumnsKept
+pub mod ColumnsWritten
 pub mod Creating
+pub mod DeskTablesMade
 pub mod Entries
 pub mod Failing
 pub mod Finding
@@ -9,4 +13,7 @@ pub mod Memory
 pub mod Registering
 pub mod Rows
 pub mod Running
+pub mod TableTexts
+pub mod TablesMaking
+pub mod TripLineLemmas
 pub mod Understood

@@ -1,6 +1,14 @@
+pub mod Cells
+pub mod Columns
+pub mod DeskTables
 pub mod Fault
 pub mod HeldLoads
 pub mod Insertion
 pub mod LoadTable
 pub mod RefusedRow
 pub mod Registered
+pub mod Schema
+pub mod SchemaTexts
+pub mod TablesMade
+pub mod TripLines
+pub mod TypedRows
