@@ -14,6 +14,7 @@ use Rattle.agv_world.specs.declared.row.VehicleRow.{VehicleRow}
 
 -- ---- fields
 
+-- the same name
 abbrev pub same_name : List ℕ → List ℕ → Bool
 same_name = pointwise nat_eq
 
