@@ -25,6 +25,7 @@ use Rattle.agv_desk.specs.JobSteps.{Renewed, act_move, act_moves}
 use Rattle.agv_desk.specs.Outcomes.{Acted, Cause, Move, moved}
 use Rattle.agv_desk.proofs.Errands.{AfterPicks, IsPicked, after, all_after, all_before, in_rest, stops_by, whole}
 use Rattle.agv_desk.proofs.FitStops.{Fit}
+use Rattle.agv_desk.proofs.KeptPlaces.{kept_place}
 use Rattle.agv_desk.proofs.Known.{none_some, same_some}
 use Rattle.agv_desk.proofs.WalkHeads.{Untouched, move_by, row_in, untouched_next}
 use Rattle.agv_desk.proofs.WalkSteps.{Fits, Now, an_errand, fits_here, on_vehicle}
@@ -114,6 +115,7 @@ module _ (layout : Layout) (carries : VehicleKey → List Errand) (capacity : Ve
         row = row.0;
         here = row.2;
         rides = h.stands.0;
+        kept = kept_place world job row.0 row.2 h.stands.0;
         load = h.load;
         from = h.stands.1 ∙ ap (λ name. Some (place.Station name)) (sym h.station);
         to = refl;
@@ -136,6 +138,7 @@ module _ (layout : Layout) (carries : VehicleKey → List Errand) (capacity : Ve
         row = row.0;
         here = row.2;
         rides = h.stands;
+        kept = kept_place world job row.0 row.2 h.stands;
         load = h.load;
         from = ap (finite.get places) (sym h.load ∙ p.load) ∙ aboard;
         to = ap place.Station (sym h.station);

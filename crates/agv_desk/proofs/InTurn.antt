@@ -13,6 +13,11 @@ unfolding found after
 tells world None why said = refl
 tells world (Some x) why said = refl
 
+-- what is only told changes nothing
+pub only_tells : (world : World) (said : Answer) → after world (Made (told said)) ≡ world
+unfolding after
+only_tells world said = refl
+
 module _ (seats : ℕ) where
   pub world_in_turn : (world : World) (calls others : List (ℕ × Call)) → steps seats world (calls ++ others) ≡ steps seats (steps seats world calls) others
   world_in_turn world [] others = refl

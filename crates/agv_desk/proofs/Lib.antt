@@ -78,6 +78,7 @@ mod QuietActs
 mod RepeatedStates
 mod RepeatedLists
 mod LawfulSteps
+mod KeptPlaces
 mod FoundActs
 mod FoundMoves
 mod CargoWhole

@@ -13,6 +13,7 @@ ghost use Rattle.agv_desk.specs.ReadSteps.{get_instant, get_load, get_order, get
 ghost use Rattle.agv_desk.specs.StateSteps.{take_state};
 ghost use Rattle.agv_desk.specs.Step.{step, steps, answers, moves};
 ghost use Rattle.agv_desk.specs.declared.call.Call.{Call};
+ghost use Rattle.agv_desk.specs.declared.call.Call.TheVariants as call;
 
 use agv_layout::laws::gives_itself;
 use agv_track::laws::{advances, lists_what_is_held};
@@ -59,6 +60,9 @@ pub fn tells_without_change()
     ensures instant { (world : World) (key : VehicleKey) → after world (get_instant world key) ≡ world }
     ensures load { (world : World) (load : List ℕ) → after world (get_load world load) ≡ world }
     ensures vehicle { (world : World) (key : VehicleKey) → after world (get_vehicle world key) ≡ world }
+    ensures stock { (seats : ℕ) (world : World) (at : ℕ) → after world (step seats world at call.StockReport) ≡ world }
+    ensures holds { (seats : ℕ) (world : World) (at : ℕ) → after world (step seats world at call.HoldReport) ≡ world }
+    ensures export { (seats : ℕ) (world : World) (at : ℕ) → after world (step seats world at call.LoadsExport) ≡ world }
 {}
 
 /// Calls are served one after the other: those that come later meet the world that the earlier ones have left.

@@ -58,8 +58,8 @@ impl World {
     /// loads (`specs/Lawful.antt`): it answers `true` just where there is such a world.
     ///
     /// `Memory` for want of memory alone. It takes time in proportion to the rows, times the logarithm of
-    /// their number, and to the loads on vehicles times the number of vehicles, of which there are at most
-    /// 100.
+    /// their number; but the edges of trips and the loads on vehicles are gone over some times for each vehicle,
+    /// of which there are at most 100.
     pub fn is_lawful(&self, alloc: Global, seats: u32) -> Result<bool, Memory>
         ensures { IfOk result (λ lawful. IsTrue lawful ↔ ((world : WorldOf) × Keeps self.now world × IsLawful seats world)) }
     {

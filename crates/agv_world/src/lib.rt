@@ -13,8 +13,6 @@
 //!   them from a world in memory (`specs/Told.antt`).
 //! - Rows tell the world, tables tell it, and the holds among the rows are the vehicles' footprints
 //!   ([`laws`]).
-//! - A world is lawful by `specs/Lawful.antt`; what follows from that is in [`lawful_laws`]. [`World::is_lawful`] tells
-//!   whether tables in memory are those of a lawful world, by tests that [`test_laws`] speaks of.
 //! - A world is lawful by `specs/Lawful.antt`; what follows from that is in [`lawful_laws`].
 //! - [`World::is_lawful`] tells whether tables, whatever rows they have, are those of a lawful world. It
 //!   looks rows up (`specs/LawfulTests.antt`, `specs/LoadTests.antt`); [`test_laws`] says what that tells.
