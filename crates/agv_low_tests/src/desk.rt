@@ -10,7 +10,8 @@
 //! - `refusals` has calls that are refused, each for its own reason.
 //! - `repeats` has states that come again.
 //! - `failing` has a store that fails at each question in turn.
-//! - `unlawful` has worlds that are not lawful: `alters` writes some of their rows by hand.
+//! - `unlawful` has worlds that are not lawful: `alters` writes some of their rows by hand. `most` has the most rows
+//!   of a lawful layout.
 ghost use Rattle.std.specs.Prelude.{◌≤◌};
 
 mod alters;
@@ -20,6 +21,7 @@ mod failing;
 mod instants;
 mod layouts;
 mod loads;
+mod most;
 mod orders;
 mod refusals;
 mod repeats;

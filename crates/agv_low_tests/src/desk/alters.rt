@@ -7,7 +7,9 @@ use agv_layout::{Ends, Spot};
 use agv_message::{InstantKind, Sequence, Status};
 use agv_order::Act;
 use agv_stock::{Phase, Place};
-use agv_world::{JobRow, LegKey, Names, Sent, TripRow, UsedNames, VehicleRow, World};
+use agv_world::{
+    JobRow, LegKey, Names, Sent, TripRow, UseKey, UseKind, UsedNames, VehicleRow, World,
+};
 use std::alloc::Global;
 use std::process::Abort;
 
@@ -44,6 +46,8 @@ pub(super) enum Alter {
     NoJob(&'static str),
     /// No name was used.
     NoneUsed,
+    /// The name of an order was used.
+    Used(&'static str),
 }
 
 /// A part of a vehicle's row.
@@ -88,14 +92,29 @@ fn sent(rt: &impl Abort, count: u32, at: i64) -> Sent {
     Sent { count, at }
 }
 
-fn with_field(rt: &impl Abort, row: &mut VehicleRow, field: &Field) {
+fn with_field(rt: &impl Abort, row: VehicleRow, field: &Field) -> VehicleRow {
     match *field {
-        Field::Capacity(capacity) => row.capacity = capacity,
-        Field::Node(node) => row.node = name(rt, node),
-        Field::Rest(edge, node) => row.rest = Some((name(rt, edge), name(rt, node))),
-        Field::Pending => row.pending = Some(InstantKind::StartPause),
-        Field::Orders(count, at) => row.orders = sent(rt, count, at),
-        Field::Instants(count, at) => row.instants = sent(rt, count, at),
+        Field::Capacity(capacity) => VehicleRow { capacity, ..row },
+        Field::Node(node) => VehicleRow {
+            node: name(rt, node),
+            ..row
+        },
+        Field::Rest(edge, node) => VehicleRow {
+            rest: Some((name(rt, edge), name(rt, node))),
+            ..row
+        },
+        Field::Pending => VehicleRow {
+            pending: Some(InstantKind::StartPause),
+            ..row
+        },
+        Field::Orders(count, at) => VehicleRow {
+            orders: sent(rt, count, at),
+            ..row
+        },
+        Field::Instants(count, at) => VehicleRow {
+            instants: sent(rt, count, at),
+            ..row
+        },
     }
 }
 
@@ -111,13 +130,22 @@ fn with_part(rt: &impl Abort, row: &mut TripRow, part: &Part) {
     }
 }
 
-fn with_bit(rt: &impl Abort, act: &mut Act, bit: &Bit) {
+fn with_bit(rt: &impl Abort, act: Act, bit: &Bit) -> Act {
     match *bit {
-        Bit::Job(job) => act.job = name(rt, job),
-        Bit::Load(load) => act.load = name(rt, load),
-        Bit::Station(station) => act.station = name(rt, station),
-        Bit::PlaceAt(place_at) => act.place_at = place_at,
-        Bit::Status(status) => act.status = status,
+        Bit::Job(job) => Act {
+            job: name(rt, job),
+            ..act
+        },
+        Bit::Load(load) => Act {
+            load: name(rt, load),
+            ..act
+        },
+        Bit::Station(station) => Act {
+            station: name(rt, station),
+            ..act
+        },
+        Bit::PlaceAt(place_at) => Act { place_at, ..act },
+        Bit::Status(status) => Act { status, ..act },
     }
 }
 
@@ -125,20 +153,21 @@ fn with_bit(rt: &impl Abort, act: &mut Act, bit: &Bit) {
 fn with_act(rt: &impl Abort, alloc: Global, acts: &[Act], n: usize, bit: &Bit) -> Sequence<Act> {
     let mut written = Vec::new(alloc);
     for (k, act) in acts.iter().enumerate() {
-        let mut act = *act;
-        if k == n {
-            with_bit(rt, &mut act, bit);
-        }
+        let act = if k == n {
+            with_bit(rt, *act, bit)
+        } else {
+            *act
+        };
         written.push(act).expect(rt, "memory");
     }
     written.into()
 }
 
 fn alter_vehicle(rt: &impl Abort, world: &mut World, serial: &str, field: &Field) {
-    let key = kit(rt, serial);
-    let mut row = *world.vehicles.get(key).expect(rt, serial);
-    with_field(rt, &mut row, field);
-    world.vehicles.insert(key, row).expect(rt, "memory");
+    let row = *world.vehicles.get(kit(rt, serial)).expect(rt, serial);
+    let row = with_field(rt, row, field);
+    let written = world.vehicles.insert(kit(rt, serial), row);
+    written.expect(rt, "memory");
 }
 
 fn trip_row(rt: &impl Abort, world: &World, order: &str) -> TripRow {
@@ -220,6 +249,12 @@ fn alter_layout(rt: &impl Abort, alloc: Global, world: &mut World, alter: &Alter
             written.expect(rt, "memory");
         }
         Alter::NoneUsed => world.used = UsedNames::new(alloc),
+        Alter::Used(order) => {
+            let name = name(rt, order);
+            let kind = UseKind::Order;
+            let written = world.used.insert(UseKey { kind, name });
+            written.expect(rt, "memory");
+        }
         _ => {}
     }
 }

@@ -2,7 +2,7 @@
 
 use super::alters::Alter::{
     Act, Edge, Job, Leg, LoadAt, LoadInCheck, LoadOn, NoJob, NoLeg, NoNodes, NoTrip, NoVehicle,
-    NoneUsed, SameTrip, Station, Trip, Vehicle,
+    NoneUsed, SameTrip, Station, Trip, Used, Vehicle,
 };
 use super::alters::{Alter, Bit, Field, Part, alter_world};
 use super::asks::{Ask, Line};
@@ -69,6 +69,20 @@ const DROPPING: &[Line] = &[
         ),
         "Accepted(true)",
     ),
+];
+
+/// KIT/0001 at N1 is to pick L1 there and to drop it at C, with no edge released; KIT/0002 is at N3.
+const WAITING: &[Line] = &[
+    (Ask::Layout(WAREHOUSE), "Done"),
+    (Ask::Vehicle("0001", "N1", 1), "Done"),
+    (Ask::Vehicle("0002", "N3", 1), "Done"),
+    (
+        Ask::State("0001", 1, ("", 0, "N1", 0), &[]),
+        "Accepted(true)",
+    ),
+    (Ask::Load("L1", "A"), "Done"),
+    (Ask::Job("J1", "L1", "C"), "Done"),
+    (Ask::Order("O1", "0001", J1, 0), "Update(0)"),
 ];
 
 const BOTH: &[StopCase] = &[(Pick, "J1"), (Pick, "J2"), (Drop, "J1"), (Drop, "J2")];
@@ -158,6 +172,22 @@ const TRIPS: &[Case] = &[
     (
         "not confirmed, and a load is picked",
         &[Trip("O1", Part::Confirmed(None))],
+    ),
+    (
+        "an update that releases nothing",
+        &[
+            Trip("O1", Part::First(1)),
+            Trip("O1", Part::Sent(1)),
+            Trip("O1", Part::Confirmed(Some(1))),
+        ],
+    ),
+    (
+        "past what is confirmed",
+        &[
+            Trip("O1", Part::Sent(1)),
+            Trip("O1", Part::Seen(1)),
+            Vehicle("0001", Field::Node("N2")),
+        ],
     ),
     ("farther than its vehicle", &[Trip("O1", Part::Seen(1))]),
     ("farther than released", &[Trip("O1", Part::Seen(2))]),
@@ -281,6 +311,24 @@ const LADEN: &[Case] = &[
     ),
 ];
 
+/// The job's order is given to the other vehicle too, which would come from N3 for the load.
+const TWO_VEHICLES: &[Case] = &[(
+    "a job of two vehicles",
+    &[
+        SameTrip("O1", "O3"),
+        Used("O3"),
+        Trip("O3", Part::Of("0002")),
+        Trip("O3", Part::Start("N3")),
+        Act("O3", 0, Bit::PlaceAt(2)),
+        Act("O3", 1, Bit::PlaceAt(4)),
+        Leg("O3", 0, "E32"),
+        Leg("O3", 1, "E21"),
+        Leg("O3", 2, "E12"),
+        Leg("O3", 3, "E23"),
+        Vehicle("0002", Field::Orders(1, 1)),
+    ],
+)];
+
 /// With these rows written over it the world is not lawful.
 fn check_broken(rt: &impl Abort, alloc: Global, world: &World, case: &Case) {
     let (what, alters) = case;
@@ -321,6 +369,11 @@ fn loads_and_jobs_are_looked_at(rt: HostRuntime) {
 #[test]
 fn what_a_vehicle_carries_is_looked_at(rt: HostRuntime) {
     check_all_broken(&rt, rt.alloc(), DROPPING, &[LADEN]);
+}
+
+#[test]
+fn jobs_of_two_vehicles_are_looked_for(rt: HostRuntime) {
+    check_all_broken(&rt, rt.alloc(), WAITING, &[TWO_VEHICLES]);
 }
 
 /// A vehicle for two loads is lawful only where there may be such.
