@@ -82,3 +82,4 @@ mod KeptPlaces
 mod FoundActs
 mod FoundMoves
 mod CargoWhole
+mod CausedMoves

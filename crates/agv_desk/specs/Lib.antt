@@ -7,6 +7,7 @@ pub mod VehicleSteps
 pub mod OrderSteps
 pub mod StateSteps
 pub mod StocktakeSteps
+pub mod Causes
 pub mod CountParts
 pub mod StockTaken
 pub mod ReadSteps

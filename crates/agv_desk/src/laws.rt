@@ -1,14 +1,16 @@
 //! What holds of the rules, for every world and call. Each function says it by its clause alone.
-ghost use Rattle.std.specs.Prelude.{◌≡◌, ℕ, List, [], ◌++◌};
+ghost use Rattle.std.specs.Prelude.{◌≡◌, ℕ, true, List, [], ◌++◌};
+ghost use Rattle.std.specs.List.{list_all};
 ghost use Rattle.agv_header.specs.declared.key.VehicleKey.{VehicleKey};
 ghost use Rattle.agv_header.specs.declared.refusal.Refusal.{Refusal as RefusalOf};
 ghost use Rattle.agv_message.specs.declared.state.StateMessage.{StateMessage as Message};
 ghost use Rattle.agv_world.specs.Changes.{changed};
 ghost use Rattle.agv_world.specs.Rows.{rows_of};
 ghost use Rattle.agv_world.specs.Worlds.{World};
+ghost use Rattle.agv_desk.specs.Causes.{is_refusal, moves_for};
 ghost use Rattle.agv_desk.specs.InOrder.{IsInOrder};
 ghost use Rattle.agv_desk.specs.Moves.{moves_in, moves_made};
-ghost use Rattle.agv_desk.specs.Outcomes.{Effect, Refused, after, changes_of, decided};
+ghost use Rattle.agv_desk.specs.Outcomes.{Effect, Move, Refused, after, answer_of, changes_of, decided, moves_of};
 ghost use Rattle.agv_desk.specs.ReadSteps.{get_instant, get_load, get_order, get_vehicle};
 ghost use Rattle.agv_desk.specs.StateSteps.{take_state};
 ghost use Rattle.agv_desk.specs.Step.{step, steps, answers, moves};
@@ -52,6 +54,19 @@ pub fn moves_are_told()
 pub fn refuses_without_change()
     ensures world { (world : World) (why : RefusalOf) → after world (Refused why) ≡ world }
     ensures rows { (why : RefusalOf) → (decided (Refused why)).changes ≡ [] }
+{}
+
+/// Nor does a call whose answer is a refusal.
+pub fn leaves_all_where_it_refuses()
+    ensures { (seats : ℕ) (world : World) (at : ℕ) (call : Call) → is_refusal (answer_of (step seats world at call)) ≡ true
+        → (after world (step seats world at call) ≡ world) × ((decided (step seats world at call)).changes ≡ []) }
+{}
+
+/// A registration registers a load, a correction, a leave and a stocktake record where loads are, a state finishes acts,
+/// and no other call moves a load.
+pub fn moves_for_its_cause()
+    ensures { (seats : ℕ) (world : World) (at : ℕ) (call : Call)
+        → list_all (λ (move : Move). moves_for call move.cause) (moves_of (step seats world at call)) ≡ true }
 {}
 
 /// A call that only tells changes nothing.
