@@ -1,18 +1,13 @@
 -- What an input asks, one request after another.
-use Rattle.std.proofs.Common.{◌≡◌, ◌||◌, ◌==◌, ℕ, Bool, cond, List, [], ◌∷◌, ◌++◌, true, false, not, map, Option, Some, None, refl, sym, ap, ap₂, ◌∙◌, subst, arith, append_assoc, append-nil, codes}
-use Rattle.std.specs.List.{list_any}
-use Rattle.std.proofs.lemmas.Bool.{and_parts}
-use Rattle.std.proofs.lemmas.Bool.Decides.{nat_tests}
+use Rattle.std.proofs.Common.{◌≡◌, ℕ, Bool, cond, List, [], ◌∷◌, ◌++◌, true, false, map, Option, Some, None, refl, sym, ap, ap₂, ◌∙◌, subst, append_assoc, append-nil}
 use Rattle.std.proofs.lemmas.List.{map-append}
 use Rattle.agv_header.specs.declared.refusal.Refusal.{Refusal}
 use Rattle.agv_face.specs.declared.call.Call.{Call}
-use Rattle.agv_face.specs.Lines.{same_word, values_of, has_line}
-use Rattle.agv_face.specs.Requests.{Request, IsRequest, IsFault, is_last, is_plain, elements_of}
-use Rattle.agv_face.specs.Cut.{Cut, at_end, faulty, no_more, a_fault, one_more}
+use Rattle.agv_http.specs.Requests.{Request, IsRequest, IsFault, is_last}
+use Rattle.agv_http.specs.Cut.{Cut, at_end, faulty, no_more, a_fault, one_more}
 use Rattle.agv_face.specs.Calls.{call_of, call_at, path_of}
 use Rattle.agv_face.specs.Asked.{Asks}
-use Rattle.agv_face.proofs.Values.{values_of-absent}
-use Rattle.agv_face.proofs.Cuts.{one_request, not_empty, one_cut}
+use Rattle.agv_http.proofs.Cuts.{one_request, not_empty, one_cut}
 
 -- ---- a call is no last request
 
@@ -22,29 +17,14 @@ same_some c d e = cc
 not_none : (c : Call) → ◌≡◌ {A = Option Call} None (Some c) → ⊥
 not_none c e = cc
 
-plain_call : (r : Request) (c : Call) (b : Bool) → is_plain r ≡ b → call_of r ≡ Some c → b ≡ true
-plain_call r c true is called = refl
-plain_call r c false is called =
-    let F : Bool → Option Call = λ b. cond b (call_at r.method (path_of r.target) r.body) None in
+goes_on : (r : Request) (c : Call) (b : Bool) → is_last r ≡ b → call_of r ≡ Some c → b ≡ false
+goes_on r c false is called = refl
+goes_on r c true is called =
+    let F : Bool → Option Call = λ b. cond b None (call_at r.method (path_of r.target) r.body) in
     absurd (not_none c (sym (ap F is) ∙ called))
 
-unnamed : (b : Bool) → not b ≡ true → b ≡ false
-unnamed true h = absurd (cc)
-unnamed false h = refl
-
-newer : (n : ℕ) → (n == 1) ≡ true → (n == 0) ≡ false
-newer n h = grind (arith, nat_tests)
-
-not_last : (a b : Bool) → a ≡ false → b ≡ false → (a || b) ≡ false
-not_last a b p q = cc
-
 pub call_goes_on : (r : Request) (c : Call) → call_of r ≡ Some c → is_last r ≡ false
-call_goes_on r c called =
-    let plain : is_plain r ≡ true = plain_call r c (is_plain r) refl called in
-    let parts = and_parts (r.minor == 1) (not (has_line (codes "connection") r.lines)) plain in
-    let absent : values_of (codes "connection") r.lines ≡ [] = values_of-absent (codes "connection") r.lines (unnamed (has_line (codes "connection") r.lines) parts.1) in
-    not_last (r.minor == 0) (list_any (λ value. list_any (same_word (codes "close")) (elements_of value)) (values_of (codes "connection") r.lines))
-    (newer r.minor parts.0) (ap (list_any (λ value. list_any (same_word (codes "close")) (elements_of value))) absent)
+call_goes_on r c called = goes_on r c (is_last r) refl called
 
 -- ---- more at the end
 

@@ -21,7 +21,7 @@ use Rattle.agv_face.specs.StoreFaults.{HasCauseBehind, IsRowRefusedBehind}
 use Rattle.agv_face.specs.Stepped.{IsReadOutcome, IsWriteOutcome, IsCallOutcome, IsNextOutcome, IsNextCall, KeptIfOpen, CarriedOut, KeptOrCarriedOut}
 use Rattle.agv_face.specs.Watched.{inner_of, failures_of, FailedNever}
 use Rattle.agv_face.specs.Asked.{AsksNext}
-use Rattle.agv_face.specs.Requests.{NeedsMore}
+use Rattle.agv_http.specs.Requests.{NeedsMore}
 use Rattle.agv_face.specs.StreamEnds.{IsStreamEnd, LackedMemory}
 use Rattle.agv_store.proofs.Later.{fault_later}
 use Rattle.agv_face.proofs.Streaming.{HasCome, so_far, all_so_far, at_other, asks_next, kept_on, unanswered_on, part_answered_on, part_answered_first, answered-none, answered-less, failed_then}

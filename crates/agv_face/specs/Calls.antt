@@ -8,7 +8,7 @@ use Rattle.serde_json.specs.Find.{get, as_str}
 use Rattle.agv_header.specs.Name.{as_name}
 use Rattle.agv_face.specs.declared.call.Call.{Call}
 use Rattle.agv_face.specs.declared.call.Call.TheVariants as call
-use Rattle.agv_face.specs.Requests.{Request, is_plain}
+use Rattle.agv_http.specs.Requests.{Request, is_last}
 
 -- where the query of a target begins
 abbrev pub question_mark : ℕ
@@ -60,6 +60,6 @@ call_at method path body =
     if bytes_eq method (codes "POST") && bytes_eq path (codes "/loads") then registration_of (load_in_body body)
     else (if bytes_eq method (codes "GET") then question_of (load_in_path path) else None)
 
--- only a request of HTTP/1.1 with no Connection line is a call, today
+-- only a request that leaves its stream open is a call, today
 abbrev pub call_of : Request → Option Call
-call_of request = if is_plain request then call_at request.method (path_of request.target) request.body else None
+call_of request = if is_last request then None else call_at request.method (path_of request.target) request.body

@@ -1,13 +1,8 @@
-pub mod Lines
-pub mod Requests
-pub mod Cut
 pub mod Calls
 pub mod Asked
 pub mod Answers
 pub mod Served
 pub mod Stepped
-pub mod Found
-pub mod Heard
 pub mod Stops
 pub mod Watched
 pub mod StoreFaults

@@ -10,10 +10,10 @@ use Rattle.agv_face.specs.declared.stream.Stop.TheVariants as stop
 use Rattle.agv_face.specs.declared.stream.Step.{Step}
 use Rattle.agv_face.specs.declared.stream.Step.TheVariants as step
 use Rattle.agv_face.specs.declared.watched.Watched.{Watched}
-use Rattle.agv_face.specs.Requests.{Request, IsRequest, NeedsMore, most_head, most_body}
+use Rattle.agv_http.specs.Requests.{Request, IsRequest, NeedsMore, most_head, most_body}
 use Rattle.agv_face.specs.Calls.{call_of}
 use Rattle.agv_face.specs.Asked.{BeginsWithNoCall}
-use Rattle.agv_face.specs.Heard.{Follows}
+use Rattle.agv_http.specs.Heard.{Follows}
 use Rattle.agv_face.specs.Served.{AreKept, AreAfter, IsAnswered, IsPartWritten, IsPartAnswered}
 use Rattle.agv_face.specs.StoreFaults.{HasCauseBehind}
 use Rattle.agv_face.specs.Watched.{inner_of, FailedOnce, FailedNever}

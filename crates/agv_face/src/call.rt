@@ -5,8 +5,8 @@ ghost use Rattle.serde_json.specs.Find.{get, as_str};
 ghost use Rattle.serde_json.specs.View.{view};
 ghost use Rattle.agv_face.specs.Calls.{path_of, member_count, only_load, load_in_body, load_in_path, call_at};
 
-use crate::request::LentRequest;
 use agv_header::Name;
+use agv_http::LentRequest;
 use serde_json::Value;
 use std::alloc::{AllocError, Global};
 
@@ -90,16 +90,16 @@ fn load_in_path(path: &[u8]) -> Option<Name>
 
 /// The call that the request is, or none where it is of another form.
 pub(crate) fn call_of(alloc: Global, request: &LentRequest<'_>) -> Result<Option<Call>, AllocError>
-    ensures { IfOk result (λ call. call ≡ (if request.now.is_plain then call_at request.now.method.now (path_of request.now.target.now) request.now.body.now else None)) }
+    ensures { IfOk result (λ call. call ≡ (if request.now.close then None else call_at request.now.method (path_of request.now.target.now) request.now.body.now)) }
 {
     let path = path_of(request.target);
-    if !request.is_plain {
+    if request.close {
         return Ok(None);
     }
-    if request.method == b"POST".as_slice() && path == b"/loads".as_slice() {
+    if request.method.as_str() == "POST" && path == b"/loads".as_slice() {
         return Ok(load_in_body(alloc, request.body)?.map(Call::Register));
     }
-    if request.method == b"GET".as_slice() {
+    if request.method.as_str() == "GET" {
         return Ok(load_in_path(path).map(Call::Show));
     }
     Ok(None)

@@ -1,24 +1,21 @@
 //! The face of the desk: from the bytes of a stream to calls, and from answers back to bytes.
 //!
-//! A reader gives bytes, cut as it likes. The next request is found in what has come so far; it is a
+//! A reader gives bytes, cut as it likes. `agv_http` finds the next request in what has come so far; it is a
 //! [`Call`] or none; the store carries the call out, which gives an [`Answer`]; and the answer's bytes
 //! are written before the next request is looked at. [`answer_calls`] does so up to the end of the
 //! input, and [`serve_loads`] is what the program calls. Both take their reader and their writer as
 //! [`Watched`], so that a clause can say why a stream ended.
 //!
-//! What the contracts mean is in `specs/`: `Lines` and `Requests` say what one request is, `Heard` what a
-//! buffer shows of the next one, `Cut` how an input is cut into requests, `Calls` which call a request is,
-//! `Asked` which calls an input asks, `Answers` the bytes of an answer, `Served` what is written for some
+//! What the contracts mean is in `specs/`, and for requests in those of `agv_http`: `Calls` says which call a
+//! request is, `Asked` which calls an input asks, `Answers` the bytes of an answer, `Served` what is written for some
 //! calls and what they make of the registered loads, and `StreamEnds` how a stream ends: the theorem of
-//! this crate. `Watched`, `Stops` and `StoreFaults` have its words on failures, `Found` and `Stepped` what
+//! this crate. `Watched`, `Stops` and `StoreFaults` have its words on failures, `Stepped` what
 //! private functions come to. The module [`laws`] has what holds of these definitions by themselves.
 #![tactic(auto)]
 
 mod answer;
 mod call;
 pub mod laws;
-mod lines;
-mod request;
 mod serve;
 mod stream;
 mod watched;

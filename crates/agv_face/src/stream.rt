@@ -11,9 +11,9 @@ ghost use Rattle.agv_face.specs.Watched.{HadCall, HadCallsAtMost};
 
 use crate::answer::{Answer, answer_bytes};
 use crate::call::{Call, call_of};
-use crate::request::{Heard, read_request};
 use crate::watched::Watched;
-use agv_header::{Name, Refusal};
+use agv_header::{Memory, Name, Refusal};
+use agv_http::{Heard, read_request};
 use agv_store::{Fault, Loads};
 use sqlite::Alter;
 use std::alloc::{AllocError, Global};
@@ -40,6 +40,16 @@ impl From<AllocError> for Stop {
     ghost from_gives = { λ _ stop. stop ≡ Stop.Memory };
 
     fn from(_: AllocError) -> Stop {
+        Stop::Memory
+    }
+}
+
+impl From<Memory> for Stop {
+    ghost use Rattle.agv_face.specs.declared.stream.Stop.TheVariants as Stop;
+
+    ghost from_gives = { λ _ stop. stop ≡ Stop.Memory };
+
+    fn from(_: Memory) -> Stop {
         Stop::Memory
     }
 }
@@ -200,10 +210,10 @@ fn answer_next<S: Alter + Drop, W: Write>(
     ensures later { IsLater S.Store loads.old loads.new }
     ensures ends { IsNextOutcome S.Store W.contents loads.old loads.new writer.old writer.new buf.now ended result }
 {
-    match read_request(buf, ended) {
+    match read_request(alloc, buf, ended)? {
         Heard::Need => Ok(Step::Need),
         Heard::End => Ok(Step::End),
-        Heard::Refused(_) => Err(Stop::Other),
+        Heard::Fault(_) => Err(Stop::Other),
         Heard::Request(request) => {
             let Some(call) = call_of(alloc, &request)? else {
                 return Err(Stop::Other);

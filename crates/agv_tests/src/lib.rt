@@ -2,6 +2,7 @@
 //! one over the store is linked for more than a minute. The expected bytes are written out by hand.
 //!
 //! - `loads` calls each public call of the store once, with ample memory.
+//! - `tables` makes the desk's tables in databases with and without others.
 //! - `streams` serves the worked examples as bytes, which `examples` has: whole, in pieces, with a reader or a
 //!   writer of `fakes` that fails, and with input of other forms behind them.
 //! - `beginnings` shows which beginnings of a request are waited for and which are refused at once.
@@ -20,3 +21,5 @@ mod fakes;
 mod loads;
 #[cfg(test)]
 mod streams;
+#[cfg(test)]
+mod tables;

@@ -4,8 +4,8 @@ use crate::cases::{check, check_answer_calls, check_serve_loads};
 use crate::examples::{AGAIN, AGAIN_ANSWERS, DONE, FIRST, FIRST_ANSWERS};
 use crate::fakes::{Drip, Patient, Tally, Trickle};
 use crate::loads::no_loads;
-use agv_face::laws::has_a_cut;
 use agv_face::{LoadsFault, Stop, Watched, answer_calls, serve_loads};
+use agv_http::laws::has_a_cut;
 use agv_store::Loads;
 use sqlite::MemStore;
 use std::alloc::Global;
@@ -179,7 +179,7 @@ fn failing_writer(rt: HostRuntime) {
 
 const OTHERS: [&[u8]; 9] = [
     b"GET /loads/L1 HTTP/1.0\r\n\r\n",
-    b"GET /loads/L1 HTTP/1.1\r\nConnection: keep-alive\r\n\r\n",
+    b"GET /loads/L1 HTTP/1.1\r\nConnection: keep-alive, Close\r\n\r\n",
     b"GET /loads/a%20b HTTP/1.1\r\n\r\n",
     b"POST /loads HTTP/1.1\r\n\r\n",
     b"POST /loads HTTP/1.1\r\nContent-Length: 13\r\n\r\n{\"loa",

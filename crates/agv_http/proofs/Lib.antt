@@ -1,0 +1,24 @@
+pub mod Readings
+pub mod Digits
+pub mod Values
+pub mod Heads
+pub mod Cuts
+pub mod Connections
+pub mod Starting
+pub mod Methods
+mod Appending
+mod Escapes
+mod LastWords
+mod Lengths
+mod Messages
+mod RefusalNames
+mod ShortRefusals
+mod Turning
+pub mod Apart
+pub mod Inserting
+pub mod Naming
+pub mod Patterns
+pub mod Seeking
+pub mod Served
+pub mod ServedLines
+pub mod Walks

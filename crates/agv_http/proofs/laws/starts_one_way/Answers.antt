@@ -1,0 +1,5 @@
+use Rattle.agv_http.proofs.Starting.{one_start}
+use Rattle.agv_http.proofs.laws.starts_one_way.Goals as goal
+
+pub returns : goal.returns
+returns c = one_start

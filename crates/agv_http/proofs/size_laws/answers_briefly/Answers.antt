@@ -1,0 +1,5 @@
+use Rattle.agv_http.proofs.Lengths.{brief}
+use Rattle.agv_http.proofs.size_laws.answers_briefly.Goals as goal
+
+pub returns : goal.returns
+returns c = brief

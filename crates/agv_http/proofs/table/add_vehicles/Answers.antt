@@ -1,0 +1,11 @@
+use Rattle.agv_http.proofs.Inserting.{next-in}
+use Rattle.agv_http.proofs.table.add_vehicles.Goals as goal
+
+pub returns : goal.returns
+returns c =
+    let t1 = c.in_ok-add_vehicle.ensures in
+    let t2 = next-in _ _ _ _ c.in_ok-add_vehicle-2.ensures t1 in
+    let t3 = next-in _ _ _ _ c.in_ok-add_vehicle-3.ensures t2 in
+    let t4 = next-in _ _ _ _ c.in_ok-add_vehicle-4.ensures t3 in
+    let t5 = next-in _ _ _ _ c.in_ok-add_vehicle-5.ensures t4 in
+    next-in _ _ _ _ c.in_ok-add_vehicle-6.ensures t5

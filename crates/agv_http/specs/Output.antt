@@ -1,0 +1,92 @@
+-- What is written for a whole input: its requests are served one after the other, each in the world that those before it have left, and the answer to each is written behind the one before.
+use Rattle.std.specs.Prelude.{◌≡◌, ℕ, ◌+◌, true, List, [], ◌∷◌, ◌++◌, map, Result, Ok, Err}
+use Rattle.std.specs.FinMap as finite
+use Rattle.std.specs.FinSet as set
+use Rattle.std.specs.Map.{keys_of}
+use Rattle.agv_header.specs.declared.refusal.Refusal.{Refusal}
+use Rattle.agv_layout.specs.declared.station.Spot.{Spot}
+use Rattle.agv_layout.specs.declared.station.Station.{Station}
+use Rattle.agv_count.specs.Reports.{stock_text, hold_text, loads_text}
+use Rattle.agv_world.specs.Questions.{reserved}
+use Rattle.agv_world.specs.Rows.{rows_of}
+use Rattle.agv_world.specs.Worlds.{World}
+use Rattle.agv_desk.specs.Outcomes.{Outcome, Refused, after, answer_of}
+use Rattle.agv_desk.specs.Step.{step}
+use Rattle.agv_desk.specs.declared.answer.Answer.{Answer}
+use Rattle.agv_desk.specs.declared.answer.Answer.TheVariants as answer
+use Rattle.agv_desk.specs.declared.call.Call.{Call}
+use Rattle.agv_http.specs.Answers.{answer_text}
+use Rattle.agv_http.specs.CallIn.{call_in}
+use Rattle.agv_http.specs.Cut.{Cut, Ending, at_end, closed, faulty}
+use Rattle.agv_http.specs.Requests.{Request, is_last}
+use Rattle.agv_http.specs.Table.{route_at}
+use Rattle.agv_http.specs.declared.route.Route.{Route}
+
+-- ---- one request
+
+-- the call of a route, with the request's body, or why there is none
+abbrev pub call_by : List ℕ → Result Route Refusal → Result Call Refusal
+call_by body (Err why) = Err why
+call_by body (Ok route) = call_in route body
+
+-- the call that a request is, or why it is refused before it is one
+unfoldable pub call_for : Request → Result Call Refusal
+call_for request = call_by request.body (route_at request.method request.target)
+
+-- what a call does, or that the request is refused
+abbrev pub outcome_by : ℕ → World → ℕ → Result Call Refusal → Outcome
+outcome_by seats world at (Err why) = Refused why
+outcome_by seats world at (Ok call) = step seats world at call
+
+-- what a request does in a world at a moment
+unfoldable pub outcome_for : ℕ → World → ℕ → Request → Outcome
+outcome_for seats world at request = outcome_by seats world at (call_for request)
+
+-- ---- reports
+
+-- a station with its name
+abbrev pub station_named : List ℕ × Spot → Station
+station_named spot = record { id = spot.0; node = spot.1.node; capacity = spot.1.capacity }
+
+-- the stations in the order of their names, each with the number of live jobs to it
+abbrev pub stations_told : World → List (Station × ℕ)
+stations_told world = map (λ (spot : List ℕ × Spot). (station_named spot, reserved world spot.0)) (finite.entries world.layout.stations)
+
+-- the report that an answer names, of this world: the stock report, the hold report or the export
+abbrev pub report_of : World → Answer → List ℕ
+report_of world answer.StockReport = stock_text (stations_told world) (finite.entries world.places) (keys_of (finite.entries world.vehicles))
+report_of world answer.HoldReport = hold_text (finite.entries (rows_of world).holds) (set.len world.layout.nodes + finite.len world.layout.edges)
+report_of world answer.LoadsExport = loads_text (finite.entries world.places)
+report_of world _ = []
+
+-- the bytes of an answer that is given in this world
+abbrev pub told_text : World → Answer → Request → List ℕ
+told_text world told request = answer_text told (report_of world told) (is_last request)
+
+-- ---- all requests
+
+-- the answers to some requests, one behind the other
+unfoldable pub answers_to : ℕ → World → ℕ → List Request → List ℕ
+answers_to seats world at [] = []
+answers_to seats world at (request ∷ requests) =
+    told_text world (answer_of (outcome_for seats world at request)) request
+    ++ answers_to seats (after world (outcome_for seats world at request)) at requests
+
+-- the world after some requests
+unfoldable pub world_after : ℕ → World → ℕ → List Request → World
+world_after seats world at [] = world
+world_after seats world at (request ∷ requests) = world_after seats (after world (outcome_for seats world at request)) at requests
+
+-- what is written at the end: where no request follows but a fault, its refusal, and that the stream ends
+abbrev pub last_text : Ending → List ℕ
+last_text at_end = []
+last_text closed = []
+last_text (faulty why) = answer_text (answer.Refused why) [] true
+
+-- this is written for the input, in a world at a moment, and that world is left
+pub record IsOutput (seats : ℕ) (world : World) (at : ℕ) (input out : List ℕ) (left : World) : Type 0 where
+  pub requests : List Request
+  pub ending : Ending
+  pub cut : Cut input requests ending
+  pub written : out ≡ answers_to seats world at requests ++ last_text ending
+  pub world_is : left ≡ world_after seats world at requests

@@ -1,0 +1,34 @@
+-- Paths by their segments, and the patterns that they fit (RFC 3986, section 3.3). Nothing is decoded.
+use Rattle.std.specs.Prelude.{ℕ, ◌==◌, List, [], ◌∷◌, Bool, Option, Some, None, option_map, bytes_eq, if◌then◌else◌}
+use Rattle.std.specs.List.{before_first, slice_split}
+use Rattle.agv_header.specs.Name.{is_name}
+
+-- the byte is a slash
+abbrev pub is_slash : ℕ → Bool
+is_slash b = b == 47
+
+-- the byte is a question mark
+abbrev pub is_question_mark : ℕ → Bool
+is_question_mark b = b == 63
+
+-- the path of a target is what stands before its first question mark
+abbrev pub path_of : List ℕ → List ℕ
+path_of target = before_first is_question_mark target
+
+-- a path begins with a slash, and its segments are what stands between slashes after it
+abbrev pub segments_of : List ℕ → Option (List (List ℕ))
+segments_of [] = None
+segments_of (b ∷ rest) = if is_slash b then Some (slice_split is_slash rest) else None
+
+-- a part of a pattern: a word that stands for itself, or a place for a name
+pub data Part : Type 0 where
+  Word : List ℕ → Part
+  AName : Part
+
+-- the names that the segments of a path have at a pattern's places, or none where they don't fit it
+abbrev pub names_in : List Part → List (List ℕ) → Option (List (List ℕ))
+names_in [] [] = Some []
+names_in [] (_ ∷ _) = None
+names_in (_ ∷ _) [] = None
+names_in (Word w ∷ parts) (s ∷ segments) = if bytes_eq s w then names_in parts segments else None
+names_in (AName ∷ parts) (s ∷ segments) = if is_name s then option_map (λ names. s ∷ names) (names_in parts segments) else None

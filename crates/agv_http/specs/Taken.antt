@@ -1,0 +1,32 @@
+-- What a match took from a path, and the names that it spells.
+use Rattle.std.specs.Prelude.{◌≡◌, ◌≤◌, ℕ, List, [], ◌∷◌, length, Option, Some, None, option_map, IsUtf8, if◌then◌else◌}
+use Rattle.agv_header.specs.Name.{is_name}
+
+-- the second parts of the pairs are these texts
+abbrev pub Spells : List (List ℕ × List ℕ) → List (List ℕ) → Type 0
+Spells [] [] = Unit {0}
+Spells [] (s ∷ ss) = ⊥
+Spells (x ∷ xs) [] = ⊥
+Spells (x ∷ xs) (s ∷ ss) = (x.1 ≡ s) × Spells xs ss
+
+-- each is text
+abbrev pub AreTexts : List (List ℕ) → Type 0
+AreTexts [] = Unit {0}
+AreTexts (s ∷ ss) = IsUtf8 s × AreTexts ss
+
+-- the same texts where each is a name
+abbrev pub all_names : List (List ℕ) → Option (List (List ℕ))
+all_names [] = Some []
+all_names (s ∷ rest) = if is_name s then option_map (λ names. s ∷ names) (all_names rest) else None
+
+-- the pairs are one or two texts, or none, with what stands before each
+pub record IsTaken (pairs : List (List ℕ × List ℕ)) (taken : List (List ℕ)) : Type 0 where
+  pub spelled : Spells pairs taken
+  pub texts : AreTexts taken
+  pub few : length taken ≤ 2
+
+-- the two names, where both are
+abbrev pub both : Option (List ℕ) → Option (List ℕ) → Option (List (List ℕ))
+both None second = None
+both (Some a) None = None
+both (Some a) (Some b) = Some (a ∷ b ∷ [])
