@@ -1,65 +1,87 @@
--- Each text defines its table, in a database with the tables before it and no other.
-use Rattle.std.proofs.Common.{ℕ, List, [], ◌∷◌, fold, get_or, refl}
-use Rattle.sqlite_schema.specs.declared.schema.Schema.{Schema}
-use Rattle.sqlite_schema.specs.declared.schema.Table.{Table}
-use Rattle.sqlite_catalog.specs.Change.{created}
+-- Each text of a table defines that table, and nothing else.
+use Rattle.std.proofs.Common.{ℕ, List, [], Ok, Err, get_or, refl}
+use Rattle.std.specs.List.{AllZip}
+use Rattle.sqlite_ast.specs.declared.CreateTable.{CreateTable}
+use Rattle.sqlite_ast.specs.declared.Statement.{Statement}
+use Rattle.sqlite_ast.specs.declared.Statement.TheVariants as written
+use Rattle.sqlite_syntax.specs.declared.statement.Parsed.{Parsed}
+use Rattle.sqlite_resolve.specs.Lowering.{Checked}
+use Rattle.sqlite_resolve.specs.Compile.{first}
 use Rattle.sqlite_tied.specs.Compute.{everything}
-use Rattle.sqlite.specs.Listing.{understood}
-use Rattle.agv_store.specs.LoadTable.{no_tables}
 use Rattle.agv_store.specs.Schema.{meta_table, node_table, edge_table, station_table, vehicle_table, trip_table, leg_table, place_table, job_table, hold_table, used_table, desk_tables}
-use Rattle.agv_store.specs.SchemaTexts.{table_texts, Defines, DefineInTurn}
+use Rattle.agv_store.specs.SchemaTexts.{table_texts, DefineTables}
+use Rattle.agv_store.proofs.Creations.{DefinesTable}
 
--- the schema with these tables
-abbrev with_tables : List Table → Schema
-with_tables = fold created no_tables
+pub all_defined : DefineTables
+unfolding everything
+all_defined = (refl, (refl, (refl, (refl, (refl, (refl, (refl, (refl, (refl, (refl, (refl, tt)))))))))))
+
+-- ---- the parts of a text
+
+abbrev parsed_or : Parsed → Checked Parsed → Parsed
+parsed_or p (Ok q) = q
+parsed_or p (Err e) = p
+
+abbrev pub parsed : List ℕ → Parsed
+parsed sql = parsed_or (record { statement = written.Empty; names = []; formats = []; start = 0; end = 0; tail = 0 }) (first sql)
+
+abbrev MakesTable : Statement → Type 0
+MakesTable (written.CreateTable def) = Unit {0}
+MakesTable _ = ⊥
+
+abbrev def_in : (x : Statement) → MakesTable x → CreateTable
+def_in (written.CreateTable def) h = def
+def_in _ h = absurd h
 
 -- the text at a place
 abbrev text_at : ℕ → List ℕ
 text_at i = get_or table_texts i []
 
-meta_defined : Defines (with_tables ([])) (text_at 0) meta_table
-unfolding understood everything
-meta_defined = record { command = refl; text = refl; defined = refl; plain = (refl, refl); uncounted = refl }
+-- ---- the texts
 
-node_defined : Defines (with_tables (meta_table ∷ [])) (text_at 1) node_table
-unfolding understood everything
-node_defined = record { command = refl; text = refl; defined = refl; plain = (refl, refl); uncounted = refl }
+meta_defined : DefinesTable (text_at 0) meta_table
+unfolding everything
+meta_defined = let p = parsed (text_at 0) in record { parsed = p; def = def_in p.statement tt; read = refl; untimed = refl; is = refl; name = refl; own = refl; defined = refl; known = refl; whole = refl; made = refl }
 
-edge_defined : Defines (with_tables (meta_table ∷ node_table ∷ [])) (text_at 2) edge_table
-unfolding understood everything
-edge_defined = record { command = refl; text = refl; defined = refl; plain = (refl, refl); uncounted = refl }
+node_defined : DefinesTable (text_at 1) node_table
+unfolding everything
+node_defined = let p = parsed (text_at 1) in record { parsed = p; def = def_in p.statement tt; read = refl; untimed = refl; is = refl; name = refl; own = refl; defined = refl; known = refl; whole = refl; made = refl }
 
-station_defined : Defines (with_tables (meta_table ∷ node_table ∷ edge_table ∷ [])) (text_at 3) station_table
-unfolding understood everything
-station_defined = record { command = refl; text = refl; defined = refl; plain = (refl, refl); uncounted = refl }
+edge_defined : DefinesTable (text_at 2) edge_table
+unfolding everything
+edge_defined = let p = parsed (text_at 2) in record { parsed = p; def = def_in p.statement tt; read = refl; untimed = refl; is = refl; name = refl; own = refl; defined = refl; known = refl; whole = refl; made = refl }
 
-vehicle_defined : Defines (with_tables (meta_table ∷ node_table ∷ edge_table ∷ station_table ∷ [])) (text_at 4) vehicle_table
-unfolding understood everything
-vehicle_defined = record { command = refl; text = refl; defined = refl; plain = (refl, refl); uncounted = refl }
+station_defined : DefinesTable (text_at 3) station_table
+unfolding everything
+station_defined = let p = parsed (text_at 3) in record { parsed = p; def = def_in p.statement tt; read = refl; untimed = refl; is = refl; name = refl; own = refl; defined = refl; known = refl; whole = refl; made = refl }
 
-trip_defined : Defines (with_tables (meta_table ∷ node_table ∷ edge_table ∷ station_table ∷ vehicle_table ∷ [])) (text_at 5) trip_table
-unfolding understood everything
-trip_defined = record { command = refl; text = refl; defined = refl; plain = (refl, refl); uncounted = refl }
+vehicle_defined : DefinesTable (text_at 4) vehicle_table
+unfolding everything
+vehicle_defined = let p = parsed (text_at 4) in record { parsed = p; def = def_in p.statement tt; read = refl; untimed = refl; is = refl; name = refl; own = refl; defined = refl; known = refl; whole = refl; made = refl }
 
-leg_defined : Defines (with_tables (meta_table ∷ node_table ∷ edge_table ∷ station_table ∷ vehicle_table ∷ trip_table ∷ [])) (text_at 6) leg_table
-unfolding understood everything
-leg_defined = record { command = refl; text = refl; defined = refl; plain = (refl, refl); uncounted = refl }
+trip_defined : DefinesTable (text_at 5) trip_table
+unfolding everything
+trip_defined = let p = parsed (text_at 5) in record { parsed = p; def = def_in p.statement tt; read = refl; untimed = refl; is = refl; name = refl; own = refl; defined = refl; known = refl; whole = refl; made = refl }
 
-place_defined : Defines (with_tables (meta_table ∷ node_table ∷ edge_table ∷ station_table ∷ vehicle_table ∷ trip_table ∷ leg_table ∷ [])) (text_at 7) place_table
-unfolding understood everything
-place_defined = record { command = refl; text = refl; defined = refl; plain = (refl, refl); uncounted = refl }
+leg_defined : DefinesTable (text_at 6) leg_table
+unfolding everything
+leg_defined = let p = parsed (text_at 6) in record { parsed = p; def = def_in p.statement tt; read = refl; untimed = refl; is = refl; name = refl; own = refl; defined = refl; known = refl; whole = refl; made = refl }
 
-job_defined : Defines (with_tables (meta_table ∷ node_table ∷ edge_table ∷ station_table ∷ vehicle_table ∷ trip_table ∷ leg_table ∷ place_table ∷ [])) (text_at 8) job_table
-unfolding understood everything
-job_defined = record { command = refl; text = refl; defined = refl; plain = (refl, refl); uncounted = refl }
+place_defined : DefinesTable (text_at 7) place_table
+unfolding everything
+place_defined = let p = parsed (text_at 7) in record { parsed = p; def = def_in p.statement tt; read = refl; untimed = refl; is = refl; name = refl; own = refl; defined = refl; known = refl; whole = refl; made = refl }
 
-hold_defined : Defines (with_tables (meta_table ∷ node_table ∷ edge_table ∷ station_table ∷ vehicle_table ∷ trip_table ∷ leg_table ∷ place_table ∷ job_table ∷ [])) (text_at 9) hold_table
-unfolding understood everything
-hold_defined = record { command = refl; text = refl; defined = refl; plain = (refl, refl); uncounted = refl }
+job_defined : DefinesTable (text_at 8) job_table
+unfolding everything
+job_defined = let p = parsed (text_at 8) in record { parsed = p; def = def_in p.statement tt; read = refl; untimed = refl; is = refl; name = refl; own = refl; defined = refl; known = refl; whole = refl; made = refl }
 
-used_defined : Defines (with_tables (meta_table ∷ node_table ∷ edge_table ∷ station_table ∷ vehicle_table ∷ trip_table ∷ leg_table ∷ place_table ∷ job_table ∷ hold_table ∷ [])) (text_at 10) used_table
-unfolding understood everything
-used_defined = record { command = refl; text = refl; defined = refl; plain = (refl, refl); uncounted = refl }
+hold_defined : DefinesTable (text_at 9) hold_table
+unfolding everything
+hold_defined = let p = parsed (text_at 9) in record { parsed = p; def = def_in p.statement tt; read = refl; untimed = refl; is = refl; name = refl; own = refl; defined = refl; known = refl; whole = refl; made = refl }
 
-pub all_defined : DefineInTurn no_tables table_texts desk_tables
-all_defined = (meta_defined, (node_defined, (edge_defined, (station_defined, (vehicle_defined, (trip_defined, (leg_defined, (place_defined, (job_defined, (hold_defined, (used_defined, tt)))))))))))
+used_defined : DefinesTable (text_at 10) used_table
+unfolding everything
+used_defined = let p = parsed (text_at 10) in record { parsed = p; def = def_in p.statement tt; read = refl; untimed = refl; is = refl; name = refl; own = refl; defined = refl; known = refl; whole = refl; made = refl }
+
+pub each_defined : AllZip DefinesTable table_texts desk_tables
+each_defined = (meta_defined, (node_defined, (edge_defined, (station_defined, (vehicle_defined, (trip_defined, (leg_defined, (place_defined, (job_defined, (hold_defined, (used_defined, tt)))))))))))

@@ -14,10 +14,10 @@ use Rattle.agv_world.specs.declared.row.TripRow.{TripRow}
 use Rattle.agv_store.specs.TripLines.{TellsTrip, acts_of, are_of_one_job, line_of, line_of_acts, line_with, trip_told}
 use Rattle.agv_store.specs.declared.trip_line.TripLine.{TripLine}
 
-same_name : (a b : List ℕ) → Decides (pointwise nat_eq a b) (a ≡ b)
+pub same_name : (a b : List ℕ) → Decides (pointwise nat_eq a b) (a ≡ b)
 same_name a b = slice_eq-Decides unsigned_Decides a b (pointwise nat_eq a b) refl
 
-own_name : (a : List ℕ) → pointwise nat_eq a a ≡ true
+pub own_name : (a : List ℕ) → pointwise nat_eq a a ≡ true
 own_name a = (same_name a a).1 refl
 
 pub line_kept : (line : TripLine) (job : JobRow) → line_of line.order (trip_told line job) ≡ Some line
@@ -26,11 +26,11 @@ line_kept line job = rw (own_name line.job, own_name job.load)
 some_same : {A : Type 0} {x y : A} → ◌≡◌ {A = Option A} (Some x) (Some y) → x ≡ y
 some_same e = cc e
 
-pick_kind : (kind : ActKind) → not (is_drop kind) ≡ true → Pick ≡ kind
+pub pick_kind : (kind : ActKind) → not (is_drop kind) ≡ true → Pick ≡ kind
 pick_kind Pick h = refl
 pick_kind Drop h = absurd (cc h)
 
-drop_kind : (kind : ActKind) → is_drop kind ≡ true → Drop ≡ kind
+pub drop_kind : (kind : ActKind) → is_drop kind ≡ true → Drop ≡ kind
 drop_kind Pick h = absurd (cc h)
 drop_kind Drop h = refl
 

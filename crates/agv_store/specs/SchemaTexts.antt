@@ -1,14 +1,11 @@
--- The texts of SQL that make the eleven tables, and what it is that they make them.
-use Rattle.std.specs.Prelude.{◌≡◌, ℕ, false, List, [], ◌∷◌, Ok, codes}
-use Rattle.sqlite_schema.specs.declared.command.Command.TheVariants.{CreateTable}
+-- The texts of SQL that make the desk's tables, and the steps of their making.
+use Rattle.std.specs.Prelude.{◌≡◌, ℕ, Bool, true, not, List, [], ◌∷◌, ◌++◌, map, Ok, codes}
+use Rattle.std.specs.List.{AllZip}
 use Rattle.sqlite_schema.specs.declared.schema.Schema.{Schema}
 use Rattle.sqlite_schema.specs.declared.schema.Table.{Table}
 use Rattle.sqlite_resolve.specs.Compile.{table_defined_by}
-use Rattle.sqlite_catalog.specs.Change.{created}
-use Rattle.sqlite.specs.Does.{lacks_sequence}
-use Rattle.sqlite.specs.Given.{IsPlain}
-use Rattle.sqlite.specs.Listing.{understood}
-use Rattle.sqlite.proofs.Callers.{command_of, statement_of}
+use Rattle.sqlite_catalog.specs.Change.{is_used}
+use Rattle.agv_store.specs.Schema.{desk_tables}
 
 -- one text for each table, in the order in which they are made
 abbrev pub table_texts : List (List ℕ)
@@ -25,17 +22,23 @@ table_texts =
     ∷ codes "CREATE TABLE hold (kind TEXT, id TEXT, manufacturer TEXT NOT NULL, serial TEXT NOT NULL, PRIMARY KEY (kind, id)) STRICT"
     ∷ codes "CREATE TABLE used (kind TEXT, id TEXT, PRIMARY KEY (kind, id)) STRICT" ∷ []
 
--- under this schema SQL takes the text for the definition of this table, and for nothing else
-pub record Defines (schema : Schema) (sql : List ℕ) (table : Table) : Type 0 where
-  pub command : command_of (understood schema sql) ≡ CreateTable
-  pub text : statement_of sql (understood schema sql) ≡ sql
-  pub defined : table_defined_by sql ≡ Ok table
-  pub plain : IsPlain (understood schema sql)
-  pub uncounted : lacks_sequence (created schema table) ≡ false
+-- the text that gives `meta` its row
+abbrev pub meta_text : List ℕ
+meta_text = codes "INSERT INTO meta (id, schema) VALUES (1, 1)"
 
--- each text defines its table, under the schema with the tables before it
-abbrev pub DefineInTurn : Schema → List (List ℕ) → List Table → Type 0
-DefineInTurn schema [] [] = Unit {0}
-DefineInTurn schema [] (table ∷ tables) = ⊥
-DefineInTurn schema (sql ∷ texts) [] = ⊥
-DefineInTurn schema (sql ∷ texts) (table ∷ tables) = Defines schema sql table × DefineInTurn (created schema table) texts tables
+-- each index by its name, and its text
+abbrev pub index_texts : List (List ℕ × List ℕ)
+index_texts =
+    (codes "load_station", codes "CREATE INDEX load_station ON load (station)")
+    ∷ (codes "load_vehicle", codes "CREATE INDEX load_vehicle ON load (manufacturer, serial)")
+    ∷ (codes "job_load", codes "CREATE INDEX job_load ON job (load, phase)")
+    ∷ (codes "job_target", codes "CREATE INDEX job_target ON job (target, phase)") ∷ []
+
+-- the steps of the making, each with whether it is carried out: an index is, unless its name is taken
+abbrev pub making_steps : Schema → List (Bool × List ℕ)
+making_steps schema =
+    map (λ text. (true, text)) table_texts ++ (map (λ (index : List ℕ × List ℕ). (not (is_used schema index.0), index.1)) index_texts ++ (true, meta_text) ∷ [])
+
+-- each text defines its table
+abbrev pub DefineTables : Type 0
+DefineTables = AllZip (λ text (table : Table). table_defined_by text ≡ Ok table) table_texts desk_tables

@@ -6,29 +6,66 @@
 //! - The schema of the whole desk is `specs/Schema.antt`: eleven tables and four plain indexes. How a row
 //!   of the world lies in the columns of its table, and which row columns tell, is `specs/Columns.antt`;
 //!   [`row_laws`] says that the two fit each other. [`TripLine`] is the row of an open trip of one job.
-//! - [`desk_tables`] makes the eleven tables in a database without tables, in one transaction; [`table_texts`]
-//!   has the texts of SQL.
-//! - [`Fault`] says why the machine failed, in place of an answer.
+//! - The rows of a world as one list of rows of SQL for each table, and what a change does to them, are
+//!   `specs/RowLists.antt`; [`row_list_laws`] says that the lists follow each change, and that they, and a
+//!   database that has them, tell one world alone where each vehicle has room for one load.
+//! - [`desk_tables`] makes the eleven tables, the row of `meta` and the indexes in one transaction, beside
+//!   whatever a database has, or refuses where one of the names is taken; [`table_texts`] has the texts of SQL.
+//!   [`making_laws`] says that what it makes is a desk for the statements, and that an opening finds it again.
+//! - Rows of the desk's tables are added, taken out, put in place of that of their key, and looked up, in any
+//!   database in which the eleven tables stand, whatever other tables and indexes it has: `row_writes`, `row_reads`,
+//!   in the words of `specs/DeskRows.antt`. [`TableName`] names a table, [`RowsBy`] a look-up by other columns.
+//! - [`change_running`] makes a list of changes of a world's rows in the tables, in one transaction (`specs/ChangesMade.antt`).
+//! - The questions of a floor are asked of the tables: by a key (`key_questions`), about loads and live jobs
+//!   (`load_questions`, `station_loads`), and for whole tables (`table_reading`). Each answers what the lawful world says
+//!   whose rows the tables have, in the words of `specs/WorldAnswers.antt`; [`ReadingFault`] says why there is no answer.
+//! - [`Fault`] says why the machine failed, in place of an answer, and [`MakingFault`] why the tables aren't made.
 //!
 //! What the table holds after each call is stated for a clean store: one whose disk has so far
 //! given back what was written to it (`specs/HeldLoads.antt`). A store in memory is always clean.
 #![tactic(auto)]
 
+mod asked_rows;
 mod cells;
+pub mod change_running;
+mod change_writes;
+pub mod desk_law;
 pub mod desk_tables;
 mod fault;
+mod hold_rows;
+mod key_questions;
+mod key_values;
 pub mod laws;
+mod load_questions;
+mod load_rows;
 mod loads;
+mod making_fault;
+pub mod making_laws;
+mod question_texts;
+mod reading_fault;
+pub mod row_fits;
 pub mod row_laws;
+pub mod row_list_laws;
+mod row_reads;
+mod row_texts;
 mod row_values;
+mod row_writes;
+mod rows_by;
 mod rows_told;
 mod statements;
-mod table_making;
+mod station_loads;
+mod step_running;
+pub mod table_name;
+mod table_reading;
 pub mod table_texts;
 pub mod trip_line;
 mod words;
 
 pub use fault::Fault;
 pub use loads::Loads;
+pub use making_fault::MakingFault;
+pub use reading_fault::ReadingFault;
+pub use rows_by::RowsBy;
+pub use table_name::TableName;
 pub use trip_line::TripLine;
 pub use words::{PlaceKind, ThingKind};

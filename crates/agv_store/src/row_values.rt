@@ -17,7 +17,7 @@ use agv_world::{JobRow, LegKey, UseKey, VehicleRow};
 use sqlite::types::{ToSql, ValueRef};
 
 // A name, as text.
-fn name_value(name: &Name) -> ValueRef<'_>
+pub(crate) fn name_value(name: &Name) -> ValueRef<'_>
     ensures { owned result ≡ Text name.now }
 {
     ValueRef::Text(name.as_bytes())

@@ -1,0 +1,150 @@
+-- What the statements on one row do to the desk's tables, wherever these stand.
+use Rattle.std.proofs.Common.{◌≡◌, ◌∙◌, inl, inr, ℕ, Bool, List, [], Result, Ok, Err, OnOk, OnErr, IfOk, IfErr, IsTrue, Vec, Global, false, true, not, filter, refl, sym, subst, IsPermutation}
+use Rattle.std.specs.List.{list_all}
+use Rattle.std.proofs.lemmas.Bool.{cases_Bool}
+use Rattle.sqlite_value.specs.Order.{Row}
+use Rattle.sqlite_sql.specs.Term.{Term}
+use Rattle.sqlite.specs.declared.error.Error.{Error}
+use Rattle.sqlite.specs.declared.error.Error.TheVariants.{SqliteFailure}
+use Rattle.sqlite.specs.declared.error.ErrorCode.TheVariants.{TransactionState}
+use Rattle.sqlite.specs.Listing.{understood}
+use Rattle.sqlite.specs.State.{State, Executes, ExecutesInside, Shown, Survives, CommitsShowing}
+use Rattle.sqlite.proofs.StateLemmas.{survives_weaker}
+use Rattle.sqlite.proofs.Callers.{IsPlain, never_commits}
+use Rattle.agv_store.specs.DeskRows.{Desk, IsDesk, HasNoDesk, Holds, on_table, table_at, place_of, width_of, has_key, with_row, without_key, with_put, rows_of_key, FitsTable, Makes, Answers}
+use Rattle.agv_store.specs.RowQuestions.{table_asked, columns_asked, equal_from, rows_asked, all_rows_of, question_text, all_rows_text}
+use Rattle.agv_store.specs.RowTexts.{insertion_text, deletion_text, look_up_text}
+use Rattle.agv_store.specs.declared.rows_by.RowsBy.{RowsBy}
+use Rattle.agv_store.specs.declared.table_name.TableName.{TableName}
+use Rattle.agv_store.specs.declared.table_name.TableName.TheVariants as the
+use Rattle.agv_store.proofs.DeskPlaces.{is_in}
+use Rattle.agv_store.proofs.EntryEdits.{filter_nothing}
+use Rattle.agv_store.proofs.QuestionMeanings.{Asks, question_terms, question_passes, question_within, question_asks, all_rows_asked}
+use Rattle.agv_store.proofs.QueryRows.{passes, reads_within}
+use Rattle.agv_store.proofs.RowForms.{rows_deleted, row_inserted, rows_shown}
+use Rattle.agv_store.proofs.RowMeanings.{key_terms, column_names, inserts, deletes, looks_up}
+use Rattle.agv_store.proofs.Running.{shown_open, shown_same}
+
+-- ---- keys
+
+key_passes : (name : TableName) (key : Row) → passes (key_terms name) key ≡ has_key name key
+key_passes the.Meta key = refl
+key_passes the.Node key = refl
+key_passes the.Edge key = refl
+key_passes the.Station key = refl
+key_passes the.Vehicle key = refl
+key_passes the.Trip key = refl
+key_passes the.Leg key = refl
+key_passes the.Load key = refl
+key_passes the.Job key = refl
+key_passes the.Hold key = refl
+key_passes the.Used key = refl
+
+within : (name : TableName) → list_all (reads_within (width_of name)) (key_terms name) ≡ true
+within the.Meta = refl
+within the.Node = refl
+within the.Edge = refl
+within the.Station = refl
+within the.Vehicle = refl
+within the.Trip = refl
+within the.Leg = refl
+within the.Load = refl
+within the.Job = refl
+within the.Hold = refl
+within the.Used = refl
+
+-- ---- inside a transaction
+
+-- what the call of a transaction says
+abbrev pub RunsInside : List ℕ → Row → State → State → Result ℕ Error → Type 0
+RunsInside sql params old new r = (old.in_transaction ≡ false → r ≡ Err (SqliteFailure TransactionState)) × (IsTrue old.in_transaction → ExecutesInside 0 sql params old new r)
+
+makes : (change : List (List Row) → List (List Row)) (sql : List ℕ) (params : Row) (old new : State) (r : Result ℕ Error)
+    → ((desk : Desk) → IsDesk desk → (count : ℕ) → Executes sql params old new (Ok count) → (lists : List (List Row)) → Holds desk old.now lists → Holds desk new.now (change lists))
+    → RunsInside sql params old new r → OnOk r (Makes change old new)
+makes change sql params old new (Err e) step ran = tt
+makes change sql params old new (Ok count) step ran = elim (cases_Bool old.in_transaction) [
+  | inl inside ↦ let it = ran.1 inside in record { made = λ desk is. step desk is count it.0; kept = it.1.committed_is; mode = it.1.mode }
+  | inr outside ↦ absurd (let e = ran.0 outside in cc)
+]
+
+pub inserts_row : (name : TableName) (sql : List ℕ) → sql ≡ insertion_text name → (row : Row) → FitsTable name row → (old new : State) (r : Result ℕ Error) → RunsInside sql row old new r → OnOk r (Makes (with_row name row) old new)
+inserts_row name sql text row fit old new r ran =
+    makes (with_row name row) (insertion_text name) row old new r
+    (λ desk is count done lists h. row_inserted desk is name old new h.schema_is (insertion_text name) row fit (inserts name desk.schema (is.stands name).at (desk.tree name) (is_in desk is name)) count done lists h)
+    (subst (λ t. RunsInside t row old new r) text ran)
+
+pub deletes_row : (name : TableName) (sql : List ℕ) → sql ≡ deletion_text name → (key : Row) (old new : State) (r : Result ℕ Error) → RunsInside sql key old new r → OnOk r (Makes (without_key name key) old new)
+deletes_row name sql text key old new r ran =
+    makes (without_key name key) (deletion_text name) key old new r
+    (λ desk is count done lists h.
+    subst (λ (p : Row → _). Holds desk new.now (on_table (place_of name) (filter (λ row. not (p row))) lists)) (key_passes name key)
+    (rows_deleted desk is name old new h.schema_is (deletion_text name) key (key_terms name) (within name) (deletes name desk.schema (is.stands name).at (desk.tree name) (is_in desk is name)) count done lists h))
+    (subst (λ t. RunsInside t key old new r) text ran)
+
+-- one change and then another
+pub makes_then : (f g : List (List Row) → List (List Row)) (a b c : State) → Makes f a b → Makes g b c → Makes (λ lists. g (f lists)) a c
+makes_then f g a b c p q = record { made = λ desk is lists h. q.made desk is (f lists) (p.made desk is lists h); kept = q.kept ∙ p.kept; mode = q.mode }
+
+pub puts_row : (name : TableName) (key row : Row) (a b c : State) (last : Result ℕ Error) → OnOk last (Makes (with_row name row) b c) → Makes (without_key name key) a b → OnOk last (Makes (with_put name key row) a c)
+puts_row name key row a b c (Ok count) added gone = makes_then (without_key name key) (with_row name row) a b c gone added
+puts_row name key row a b c (Err e) added gone = tt
+
+-- ---- queries
+
+-- a query that asks so, and its rows
+asked : (name : TableName) (terms : List Term) (sql : List ℕ) → Asks name sql terms → list_all (reads_within (width_of name)) terms ≡ true → (params : Row) (p : Row → Bool) → passes terms params ≡ p
+    → (old new : State) (r : Result (Vec Row Global) Error) → IfOk r (λ rows. Shown sql params old new rows.items)
+    → IfOk r (λ rows. Answers (λ lists. filter p (table_at (place_of name) lists)) old new rows.items)
+asked name terms sql asks alone params p is old new (Err e) shown = tt
+asked name terms sql asks alone params p is old new (Ok rows) shown = λ desk desk_is lists h.
+    let means = asks desk.schema (desk_is.stands name).at (desk.tree name) (is_in desk desk_is name) in (
+      subst (λ (q : Row → Bool). IsPermutation (filter q (table_at (place_of name) lists)) rows.items) is
+          (rows_shown desk desk_is name old new h.schema_is sql params terms (column_names name) alone means rows.items shown lists h),
+      shown_same sql params old new rows.items (subst (λ s. IsPlain (understood s sql)) (sym h.schema_is) means.plain) shown,
+    )
+
+-- it commits nothing where a desk stands
+commits_without_desk : (name : TableName) (terms : List Term) (sql : List ℕ) → Asks name sql terms → (params : Row) (old new : State) → Survives old new (CommitsShowing sql params old) → Survives old new (λ _. HasNoDesk old.now)
+commits_without_desk name terms sql asks params old new = survives_weaker old new _ _ (λ _ db commits desk is has.
+    let means = asks desk.schema (is.stands name).at (desk.tree name) (is_in desk is name) in
+    never_commits sql params old db (subst (λ s. IsPlain (understood s sql)) (sym has) means.plain) commits)
+
+pub on_failed : {X E B : Type 0} {P : E → Type 0} (r : Result X E) → ((e : E) → P e → B) → IfErr r P → OnErr r B
+on_failed (Ok x) f h = tt
+on_failed (Err e) f h = f e h
+
+module _ (params : Row) (old new : State) (r : Result (Vec Row Global) Error) (sql : List ℕ) where
+  -- an answer comes from an open store
+  pub shown_by_open : IfOk r (λ rows. Shown sql params old new rows.items) → OnOk r (IsTrue old.is_open × IsTrue new.is_open)
+  shown_by_open h = go r h
+    where
+      go : (r : Result (Vec Row Global) Error) → IfOk r (λ rows. Shown sql params old new rows.items) → OnOk r (IsTrue old.is_open × IsTrue new.is_open)
+      go (Ok rows) h = shown_open sql params old new rows.items h
+      go (Err e) h = tt
+
+  -- by the key
+  pub key_shown : (name : TableName) → sql ≡ look_up_text name → IfOk r (λ rows. Shown sql params old new rows.items) → IfOk r (λ rows. Answers (rows_of_key name params) old new rows.items)
+  key_shown name text = rw text (asked name (key_terms name) (look_up_text name) (looks_up name) (within name) params (has_key name params) (key_passes name params) old new r)
+
+  pub key_commits : (name : TableName) → sql ≡ look_up_text name → Survives old new (CommitsShowing sql params old) → Survives old new (λ _. HasNoDesk old.now)
+  key_commits name text = rw text (commits_without_desk name (key_terms name) (look_up_text name) (looks_up name) params old new)
+
+  -- by other columns
+  pub question_shown : (question : RowsBy) → sql ≡ question_text question → IfOk r (λ rows. Shown sql params old new rows.items) → IfOk r (λ rows. Answers (rows_asked question params) old new rows.items)
+  question_shown question text = rw text (asked (table_asked question) (question_terms question) (question_text question) (question_asks question) (question_within question) params (equal_from 0 (columns_asked question) params) (question_passes question params) old new r)
+
+  pub question_commits : (question : RowsBy) → sql ≡ question_text question → Survives old new (CommitsShowing sql params old) → Survives old new (λ _. HasNoDesk old.now)
+  question_commits question text = rw text (commits_without_desk (table_asked question) (question_terms question) (question_text question) (question_asks question) params old new)
+
+  -- all rows
+  whole_table : (name : TableName) → (lists : List (List Row)) → filter (λ _. true) (table_at (place_of name) lists) ≡ all_rows_of name lists
+  whole_table name lists = filter_nothing (table_at (place_of name) lists)
+
+  pub all_shown : (name : TableName) → sql ≡ all_rows_text name → IfOk r (λ rows. Shown sql params old new rows.items) → IfOk r (λ rows. Answers (all_rows_of name) old new rows.items)
+  all_shown name text shown =
+      subst (λ (f : List (List Row) → List Row). IfOk r (λ rows. Answers f old new rows.items)) (λ i lists. whole_table name lists i)
+      (asked name [] (all_rows_text name) (all_rows_asked name) refl params (λ _. true) refl old new r (subst (λ t. IfOk r (λ rows. Shown t params old new rows.items)) text shown))
+
+  pub all_commits : (name : TableName) → sql ≡ all_rows_text name → Survives old new (CommitsShowing sql params old) → Survives old new (λ _. HasNoDesk old.now)
+  all_commits name text = rw text (commits_without_desk name [] (all_rows_text name) (all_rows_asked name) params old new)

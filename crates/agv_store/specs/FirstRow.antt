@@ -1,0 +1,25 @@
+-- What the rows of a key tell.
+use Rattle.std.specs.Prelude.{List, [], ◌∷◌, Option, None, Some, Result, Ok, Err}
+use Rattle.sqlite_value.specs.Order.{Row}
+use Rattle.agv_store.specs.declared.reading_fault.ReadingFault.{ReadingFault}
+use Rattle.agv_store.specs.declared.reading_fault.ReadingFault.TheVariants as fault
+
+-- what a row tells beside its key; a row that tells nothing is damaged
+abbrev pub value_of : {K X : Type 0} → Option (K × X) → Result (Option X) ReadingFault
+value_of None = Err fault.Damaged
+value_of (Some entry) = Ok (Some entry.1)
+
+-- what the first of the rows tells, and none where there is no row
+abbrev pub first_in : {K X : Type 0} → (Row → Option (K × X)) → List Row → Result (Option X) ReadingFault
+first_in told [] = Ok None
+first_in told (row ∷ rows) = value_of (told row)
+
+-- the key that a row tells; a row that tells nothing is damaged
+abbrev pub key_of : {K X : Type 0} → Option (K × X) → Result (Option K) ReadingFault
+key_of None = Err fault.Damaged
+key_of (Some entry) = Ok (Some entry.0)
+
+-- the key that the first of the rows tells, and none where there is no row
+abbrev pub first_key_in : {K X : Type 0} → (Row → Option (K × X)) → List Row → Result (Option K) ReadingFault
+first_key_in told [] = Ok None
+first_key_in told (row ∷ rows) = key_of (told row)

@@ -1,0 +1,26 @@
+-- A new desk beside other tables, as the statements see it.
+use Rattle.std.specs.Prelude.{◌≡◌, ◌≢◌, true}
+use Rattle.sqlite_trees.specs.Tree.{IsAscending}
+use Rattle.sqlite_schema.specs.declared.schema.Schema.{Schema}
+use Rattle.sqlite_schema.specs.declared.schema.Table.{Table}
+use Rattle.sqlite.specs.Effect.{Database, IsDatabase}
+use Rattle.agv_store.specs.declared.table_name.TableName.{TableName}
+use Rattle.agv_store.specs.DeskRows.{Desk, IsDesk, Holds, table_for, is_unreferred}
+use Rattle.agv_store.specs.DeskTables.{MakesDesk, first_rows}
+
+-- tables that leave room for the desk's: none refers to one of its names, and no two have one tree
+pub record LeavesRoom (schema : Schema) : Type 0 where
+  pub unreferred : (name : TableName) → is_unreferred (table_for name).name schema.tables ≡ true
+  pub apart : IsAscending (λ (s t : Table). s.tree ≢ t.tree) schema.tables
+
+-- a desk stands in the database, with its first rows
+abbrev pub StandsNew : Database → Type 0
+StandsNew db = (desk : Desk) × IsDesk desk × Holds desk db first_rows
+
+-- an opening that finds the trees of the making finds a desk: for one, a connection that made them
+abbrev pub MadeDesksStand : Type 0
+MadeDesksStand = (old new found : Database) → LeavesRoom old.schema → MakesDesk old new → IsDatabase found → found.trees ≡ new.trees → StandsNew found
+
+-- and one that finds the trees from before it finds the tables from before it
+abbrev pub TreesTellTables : Type 0
+TreesTellTables = (old found : Database) → IsDatabase old → IsDatabase found → found.trees ≡ old.trees → found.schema.tables ≡ old.schema.tables

@@ -1,0 +1,52 @@
+//! Rows that are asked for, in the words of the world: those of a key, those with some values, and all of a table.
+ghost use Rattle.std.specs.Prelude.{IsPermutation};
+ghost use Rattle.sqlite.specs.Values.{bound};
+ghost use Rattle.agv_world.specs.Rows.{rows_of};
+ghost use Rattle.agv_store.specs.DeskRows.{rows_of_key, table_for};
+ghost use Rattle.agv_store.specs.RowLists.{row_lists};
+ghost use Rattle.agv_store.specs.RowQuestions.{FitsColumns, all_rows_of, columns_asked, rows_asked, table_asked};
+ghost use Rattle.agv_store.specs.WorldAnswers.{Tells};
+
+use crate::ReadingFault;
+use crate::row_reads::{find_all_rows, find_rows, find_rows_by};
+use crate::rows_by::RowsBy;
+use crate::table_name::TableName;
+use sqlite::types::ValueRef;
+use sqlite::{Alter, Connection, Row};
+
+/// The rows of that key.
+pub(crate) fn ask_rows<S: Alter>(
+    conn: &mut Connection<S>,
+    table: TableName,
+    key: &[ValueRef<'_>],
+) -> Result<Vec<Row>, ReadingFault>
+    requires { FitsColumns table (table_for table).primary (bound key.now) }
+    ensures { Tells S.Store conn.old conn.new result (λ world rows. IsPermutation (rows_of_key table (bound key.now) (row_lists (rows_of world))) rows.items) }
+{
+    let rows = find_rows(conn, table, key)?;
+    Ok(rows)
+}
+
+/// The rows with these values in the columns that are asked by.
+pub(crate) fn ask_rows_by<S: Alter>(
+    conn: &mut Connection<S>,
+    by: RowsBy,
+    values: &[ValueRef<'_>],
+) -> Result<Vec<Row>, ReadingFault>
+    requires { FitsColumns (table_asked by) (columns_asked by) (bound values.now) }
+    ensures { Tells S.Store conn.old conn.new result (λ world rows. IsPermutation (rows_asked by (bound values.now) (row_lists (rows_of world))) rows.items) }
+{
+    let rows = find_rows_by(conn, by, values)?;
+    Ok(rows)
+}
+
+/// All rows of a table.
+pub(crate) fn ask_all_rows<S: Alter>(
+    conn: &mut Connection<S>,
+    table: TableName,
+) -> Result<Vec<Row>, ReadingFault>
+    ensures { Tells S.Store conn.old conn.new result (λ world rows. IsPermutation (all_rows_of table (row_lists (rows_of world))) rows.items) }
+{
+    let rows = find_all_rows(conn, table)?;
+    Ok(rows)
+}

@@ -1,0 +1,60 @@
+//! Why the desk's tables aren't read.
+ghost use Rattle.std.specs.Prelude.{◌≡◌};
+ghost use Rattle.agv_store.specs.ReadingFault.{reading_fault_of};
+
+use crate::Fault;
+use agv_header::Memory;
+use sqlite::Error;
+use std::alloc::{AllocError, AllocFailed};
+
+/// Why the desk's tables aren't read.
+#[derive(Clone, Copy, Debug, PartialEq, Eq)]
+pub enum ReadingFault {
+    /// Want of memory.
+    Memory,
+    /// The store failed, or was shut by an earlier failure.
+    Storage,
+    /// A row of a table tells no row of the world. In tables that have the rows of a lawful world there is none.
+    Damaged,
+}
+
+impl From<Error> for ReadingFault {
+    ghost from_gives = { λ error fault. fault ≡ reading_fault_of error };
+
+    fn from(error: Error) -> ReadingFault {
+        match Fault::from(error) {
+            Fault::Memory => ReadingFault::Memory,
+            Fault::Storage => ReadingFault::Storage,
+        }
+    }
+}
+
+impl From<Memory> for ReadingFault {
+    ghost use Rattle.agv_store.specs.declared.reading_fault.ReadingFault.TheVariants as fault;
+
+    ghost from_gives = { λ _ made. made ≡ fault.Memory };
+
+    fn from(_error: Memory) -> ReadingFault {
+        ReadingFault::Memory
+    }
+}
+
+impl From<AllocError> for ReadingFault {
+    ghost use Rattle.agv_store.specs.declared.reading_fault.ReadingFault.TheVariants as fault;
+
+    ghost from_gives = { λ _ made. made ≡ fault.Memory };
+
+    fn from(_error: AllocError) -> ReadingFault {
+        ReadingFault::Memory
+    }
+}
+
+impl<T: Drop> From<AllocFailed<T>> for ReadingFault {
+    ghost use Rattle.agv_store.specs.declared.reading_fault.ReadingFault.TheVariants as fault;
+
+    ghost from_gives = { λ _ made. made ≡ fault.Memory };
+
+    fn from(_error: AllocFailed<T>) -> ReadingFault {
+        ReadingFault::Memory
+    }
+}

@@ -1,0 +1,18 @@
+//! The look-ups by columns that are not a table's key.
+
+/// Rows that are asked for by some of their columns.
+#[derive(Clone, Copy, Debug)]
+pub enum RowsBy {
+    /// The open trip of a vehicle.
+    VehicleTrip,
+    /// The edges of an open trip.
+    OrderLegs,
+    /// The loads at a station.
+    StationLoads,
+    /// The loads on a vehicle.
+    VehicleLoads,
+    /// The jobs of a load in a phase.
+    LoadJobs,
+    /// The jobs to a station in a phase.
+    TargetJobs,
+}

@@ -1,0 +1,17 @@
+//! The eleven tables of the desk, by name.
+
+/// A table of the desk's database. What it holds is in docs/TABLES.md.
+#[derive(Clone, Copy, Debug)]
+pub enum TableName {
+    Meta,
+    Node,
+    Edge,
+    Station,
+    Vehicle,
+    Trip,
+    Leg,
+    Load,
+    Job,
+    Hold,
+    Used,
+}
