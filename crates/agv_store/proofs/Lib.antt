@@ -41,6 +41,7 @@ pub mod Members
 pub mod Memory
 pub mod MetaRow
 pub mod NamesKept
+pub mod NewDesks
 pub mod NoReferences
 pub mod OneTable
 pub mod OneTableReads

@@ -4,9 +4,11 @@ use Rattle.sqlite_trees.specs.Tree.{IsAscending}
 use Rattle.sqlite_schema.specs.declared.schema.Schema.{Schema}
 use Rattle.sqlite_schema.specs.declared.schema.Table.{Table}
 use Rattle.sqlite.specs.Effect.{Database, IsDatabase}
+use Rattle.agv_world.specs.Worlds.{empty_world}
 use Rattle.agv_store.specs.declared.table_name.TableName.{TableName}
 use Rattle.agv_store.specs.DeskRows.{Desk, IsDesk, Holds, table_for, is_unreferred}
 use Rattle.agv_store.specs.DeskTables.{MakesDesk, first_rows}
+use Rattle.agv_store.specs.WorldAnswers.{HasWorld}
 
 -- tables that leave room for the desk's: none refers to one of its names, and no two have one tree
 pub record LeavesRoom (schema : Schema) : Type 0 where
@@ -16,6 +18,10 @@ pub record LeavesRoom (schema : Schema) : Type 0 where
 -- a desk stands in the database, with its first rows
 abbrev pub StandsNew : Database → Type 0
 StandsNew db = (desk : Desk) × IsDesk desk × Holds desk db first_rows
+
+-- a desk stands in the database, and its tables have the rows of the world of a desk that knows nothing yet
+abbrev pub KnowsNothing : Database → Type 0
+KnowsNothing db = (desk : Desk) × HasWorld desk db empty_world
 
 -- an opening that finds the trees of the making finds a desk: for one, a connection that made them
 abbrev pub MadeDesksStand : Type 0

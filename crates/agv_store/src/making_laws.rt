@@ -1,5 +1,13 @@
 //! Laws of the making of the desk's tables: what it gives is a desk for the statements, and an opening finds it again.
-ghost use Rattle.agv_store.specs.NewDesk.{MadeDesksStand, TreesTellTables};
+ghost use Rattle.std.specs.Prelude.{◌≡◌};
+ghost use Rattle.sqlite.specs.Effect.{Database};
+ghost use Rattle.agv_world.specs.Rows.{rows_of};
+ghost use Rattle.agv_world.specs.Worlds.{empty_world};
+ghost use Rattle.agv_store.specs.DeskTables.{first_rows};
+ghost use Rattle.agv_store.specs.NewDesk.{KnowsNothing, MadeDesksStand, StandsNew, TreesTellTables};
+ghost use Rattle.agv_store.specs.RowLists.{row_lists};
+
+use agv_world::lawful_laws::begins_lawful;
 
 /// Where the tables that were there leave room, what [`make_desk_tables`](crate::desk_tables::make_desk_tables)
 /// makes is a desk with its first rows, to the connection that made it and to each opening that finds those trees.
@@ -11,3 +19,12 @@ pub fn made_desks_stand()
 pub fn trees_tell_tables()
     ensures { TreesTellTables }
 {}
+
+/// A desk with its first rows knows nothing yet: these are the rows of the world of a new desk, which is lawful. So the
+/// questions to the tables, and the changes of them, may begin there.
+pub fn new_desks_know_nothing()
+    ensures rows { row_lists (rows_of empty_world) ≡ first_rows }
+    ensures world { (db : Database) → StandsNew db → KnowsNothing db }
+{
+    begins_lawful();
+}
