@@ -4,14 +4,13 @@ ghost use Rattle.sqlite.specs.State.{HasCleanDisk, Survives};
 ghost use Rattle.sqlite.specs.Held.{state};
 ghost use Rattle.agv_store.specs.ChangesMade.{ChangesWorlds, LeavesChanges, MakesChanges};
 
+use crate::Fault;
 use crate::change_writes::write_change;
 use agv_world::Change;
 use sqlite::{Alter, Connection, Error};
 
-/// Makes the changes in turn, in one transaction, in the tables of a desk, whatever else the database has.
-/// Where it succeeds all of them are committed, and the store is open; after an error that leaves the store open none
-/// is made; and a crash leaves the rows before them or after all of them.
-pub fn write_changes<S: Alter>(conn: &mut Connection<S>, changes: &[Change]) -> Result<(), Error>
+// Makes the changes in turn, and commits them.
+fn run_changes<S: Alter>(conn: &mut Connection<S>, changes: &[Change]) -> Result<(), Error>
     requires { conn.old.in_transaction ≡ false }
     ensures made { HasCleanDisk (state S.Store conn.new) → OnOk result (MakesChanges changes.now (state S.Store conn.old).now (state S.Store conn.new).committed) }
     ensures worlds { HasCleanDisk (state S.Store conn.new) → OnOk result (ChangesWorlds changes.now (state S.Store conn.old).now (state S.Store conn.new).committed) }
@@ -27,4 +26,25 @@ pub fn write_changes<S: Alter>(conn: &mut Connection<S>, changes: &[Change]) -> 
         write_change(&mut tx, change)?;
     }
     tx.commit()
+}
+
+/// Makes the changes in turn, in one transaction, in the tables of a desk, whatever else the database has.
+/// Where it succeeds all of them are committed, and the store is open; after an error that leaves the store open none
+/// is made; and a crash leaves the rows before them or after all of them.
+///
+/// # Errors
+/// A fault of the machine: none is the caller's.
+pub fn write_changes<S: Alter>(conn: &mut Connection<S>, changes: &[Change]) -> Result<(), Fault>
+    requires { conn.old.in_transaction ≡ false }
+    ensures made { HasCleanDisk (state S.Store conn.new) → OnOk result (MakesChanges changes.now (state S.Store conn.old).now (state S.Store conn.new).committed) }
+    ensures worlds { HasCleanDisk (state S.Store conn.new) → OnOk result (ChangesWorlds changes.now (state S.Store conn.old).now (state S.Store conn.new).committed) }
+    ensures same { HasCleanDisk (state S.Store conn.new) → OnOk result ((state S.Store conn.new).now ≡ (state S.Store conn.new).committed) }
+    ensures open { HasCleanDisk (state S.Store conn.new) → OnOk result (IsTrue (state S.Store conn.old).is_open × IsTrue (state S.Store conn.new).is_open) }
+    ensures undone { HasCleanDisk (state S.Store conn.new) → IsTrue (state S.Store conn.new).is_open
+        → OnErr result (((state S.Store conn.new).now ≡ (state S.Store conn.old).committed) × ((state S.Store conn.new).committed ≡ (state S.Store conn.old).committed)) }
+    ensures crash { Survives (state S.Store conn.old) (state S.Store conn.new) (LeavesChanges changes.now (state S.Store conn.old).now) }
+    ensures idle { conn.new.in_transaction ≡ false }
+{
+    run_changes(conn, changes)?;
+    Ok(())
 }

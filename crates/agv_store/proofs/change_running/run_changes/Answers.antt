@@ -6,7 +6,7 @@ use Rattle.sqlite.proofs.Callers.{survives_begin}
 use Rattle.agv_store.specs.ChangesMade.{LeavesChanges, MakesChanges}
 use Rattle.agv_store.proofs.ChangesRun.{all_made, makes_next, makes_none, worlds_changed}
 use Rattle.agv_store.proofs.StepsRun.{keeps_itself, keeps_then, on_err, on_ok, undone_to}
-use Rattle.agv_store.proofs.change_running.write_changes.Goals as goal
+use Rattle.agv_store.proofs.change_running.run_changes.Goals as goal
 
 pub loop-change-init : goal.loop-change-init
 loop-change-init g c = let first = state g.S.Store c.transaction-tx.result.conn.now in (refl, search rules, λ clean. (keeps_itself first, makes_none first (search rules)))

@@ -3,7 +3,7 @@ use Rattle.sqlite.specs.State.{HasCleanDisk, KeepsCommit, Survives}
 use Rattle.sqlite.specs.Held.{state}
 use Rattle.agv_store.specs.DeskRows.{Makes}
 use Rattle.agv_store.specs.RowLists.{listed_all}
-use Rattle.agv_store.proofs.change_running.write_changes.Given as goal
+use Rattle.agv_store.proofs.change_running.run_changes.Given as goal
 
 abbrev pub invariant-loop-change : goal.invariant-loop-change
 invariant-loop-change g l =
