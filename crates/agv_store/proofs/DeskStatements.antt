@@ -13,10 +13,12 @@ use Rattle.sqlite.proofs.StateLemmas.{survives_weaker}
 use Rattle.sqlite.proofs.Callers.{IsPlain, never_commits}
 use Rattle.agv_store.specs.DeskRows.{Desk, IsDesk, HasNoDesk, Holds, on_table, table_at, place_of, width_of, has_key, with_row, without_key, with_put, rows_of_key, FitsTable, Makes, Answers}
 use Rattle.agv_store.specs.RowQuestions.{table_asked, columns_asked, equal_from, rows_asked, all_rows_of, question_text, all_rows_text}
-use Rattle.agv_store.specs.RowTexts.{insertion_text, deletion_text, look_up_text}
+use Rattle.agv_store.specs.RowTexts.{insertion_text, deletion_text, look_up_text, table_written, table_looked_up}
+use Rattle.agv_store.specs.declared.row_of.RowOf.{RowOf}
 use Rattle.agv_store.specs.declared.rows_by.RowsBy.{RowsBy}
 use Rattle.agv_store.specs.declared.table_name.TableName.{TableName}
 use Rattle.agv_store.specs.declared.table_name.TableName.TheVariants as the
+use Rattle.agv_store.specs.declared.world_table.WorldTable.{WorldTable}
 use Rattle.agv_store.proofs.DeskPlaces.{is_in}
 use Rattle.agv_store.proofs.EntryEdits.{filter_nothing}
 use Rattle.agv_store.proofs.QuestionMeanings.{Asks, question_terms, question_passes, question_within, question_asks, all_rows_asked}
@@ -68,18 +70,20 @@ makes change sql params old new (Ok count) step ran = elim (cases_Bool old.in_tr
   | inr outside ↦ absurd (let e = ran.0 outside in cc)
 ]
 
-pub inserts_row : (name : TableName) (sql : List ℕ) → sql ≡ insertion_text name → (row : Row) → FitsTable name row → (old new : State) (r : Result ℕ Error) → RunsInside sql row old new r → OnOk r (Makes (with_row name row) old new)
-inserts_row name sql text row fit old new r ran =
-    makes (with_row name row) (insertion_text name) row old new r
-    (λ desk is count done lists h. row_inserted desk is name old new h.schema_is (insertion_text name) row fit (inserts name desk.schema (is.stands name).at (desk.tree name) (is_in desk is name)) count done lists h)
+pub inserts_row : (table : WorldTable) (sql : List ℕ) → sql ≡ insertion_text table → (row : Row) → FitsTable (table_written table) row → (old new : State) (r : Result ℕ Error) → RunsInside sql row old new r → OnOk r (Makes (with_row (table_written table) row) old new)
+inserts_row table sql text row fit old new r ran =
+    let name = table_written table in
+    makes (with_row name row) (insertion_text table) row old new r
+    (λ desk is count done lists h. row_inserted desk is name old new h.schema_is (insertion_text table) row fit (inserts table desk.schema (is.stands name).at (desk.tree name) (is_in desk is name)) count done lists h)
     (subst (λ t. RunsInside t row old new r) text ran)
 
-pub deletes_row : (name : TableName) (sql : List ℕ) → sql ≡ deletion_text name → (key : Row) (old new : State) (r : Result ℕ Error) → RunsInside sql key old new r → OnOk r (Makes (without_key name key) old new)
-deletes_row name sql text key old new r ran =
-    makes (without_key name key) (deletion_text name) key old new r
+pub deletes_row : (table : WorldTable) (sql : List ℕ) → sql ≡ deletion_text table → (key : Row) (old new : State) (r : Result ℕ Error) → RunsInside sql key old new r → OnOk r (Makes (without_key (table_written table) key) old new)
+deletes_row table sql text key old new r ran =
+    let name = table_written table in
+    makes (without_key name key) (deletion_text table) key old new r
     (λ desk is count done lists h.
     subst (λ (p : Row → _). Holds desk new.now (on_table (place_of name) (filter (λ row. not (p row))) lists)) (key_passes name key)
-    (rows_deleted desk is name old new h.schema_is (deletion_text name) key (key_terms name) (within name) (deletes name desk.schema (is.stands name).at (desk.tree name) (is_in desk is name)) count done lists h))
+    (rows_deleted desk is name old new h.schema_is (deletion_text table) key (key_terms name) (within name) (deletes table desk.schema (is.stands name).at (desk.tree name) (is_in desk is name)) count done lists h))
     (subst (λ t. RunsInside t key old new r) text ran)
 
 -- one change and then another
@@ -124,11 +128,13 @@ module _ (params : Row) (old new : State) (r : Result (Vec Row Global) Error) (s
       go (Err e) h = tt
 
   -- by the key
-  pub key_shown : (name : TableName) → sql ≡ look_up_text name → IfOk r (λ rows. Shown sql params old new rows.items) → IfOk r (λ rows. Answers (rows_of_key name params) old new rows.items)
-  key_shown name text = rw text (asked name (key_terms name) (look_up_text name) (looks_up name) (within name) params (has_key name params) (key_passes name params) old new r)
+  pub key_shown : (one : RowOf) → sql ≡ look_up_text one → IfOk r (λ rows. Shown sql params old new rows.items) → IfOk r (λ rows. Answers (rows_of_key (table_looked_up one) params) old new rows.items)
+  key_shown one text =
+      let name = table_looked_up one in
+      rw text (asked name (key_terms name) (look_up_text one) (looks_up one) (within name) params (has_key name params) (key_passes name params) old new r)
 
-  pub key_commits : (name : TableName) → sql ≡ look_up_text name → Survives old new (CommitsShowing sql params old) → Survives old new (λ _. HasNoDesk old.now)
-  key_commits name text = rw text (commits_without_desk name (key_terms name) (look_up_text name) (looks_up name) params old new)
+  pub key_commits : (one : RowOf) → sql ≡ look_up_text one → Survives old new (CommitsShowing sql params old) → Survives old new (λ _. HasNoDesk old.now)
+  key_commits one text = let name = table_looked_up one in rw text (commits_without_desk name (key_terms name) (look_up_text one) (looks_up one) params old new)
 
   -- by other columns
   pub question_shown : (question : RowsBy) → sql ≡ question_text question → IfOk r (λ rows. Shown sql params old new rows.items) → IfOk r (λ rows. Answers (rows_asked question params) old new rows.items)

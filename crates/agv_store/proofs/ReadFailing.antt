@@ -26,8 +26,10 @@ use Rattle.agv_store.proofs.OneTable.{Means, parsed, query_by, compiled_as}
 use Rattle.agv_store.proofs.DeskPlaces.{is_in}
 use Rattle.agv_store.proofs.Failing.{IsCaused, caused, is_statement}
 use Rattle.agv_store.proofs.Understood.{IsWhole}
-use Rattle.agv_store.specs.RowTexts.{look_up_text}
+use Rattle.agv_store.specs.RowTexts.{look_up_text, table_looked_up}
 use Rattle.agv_store.specs.RowQuestions.{table_asked, columns_asked, columns_at, FitsColumns, question_text, all_rows_text}
+use Rattle.agv_store.specs.declared.row_of.RowOf.{RowOf}
+use Rattle.agv_store.specs.declared.row_of.RowOf.TheVariants as keyed
 use Rattle.agv_store.specs.declared.rows_by.RowsBy.{RowsBy}
 use Rattle.agv_store.specs.declared.rows_by.RowsBy.TheVariants as by
 use Rattle.agv_store.proofs.QuestionMeanings.{Asks, question_terms, question_asks, all_rows_asked}
@@ -178,19 +180,15 @@ module _ (name : TableName) (terms : List Term) (sql : List ℕ) (asks : Asks na
 
 -- ---- the texts are one statement each
 
-key_whole : (name : TableName) → IsWholeText (look_up_text name) (length (columns_at name (table_for name).primary))
+key_whole : (one : RowOf) → IsWholeText (look_up_text one) (length (columns_at (table_looked_up one) (table_for (table_looked_up one)).primary))
 unfolding everything
-key_whole the.Meta = (lit≤ tt, refl)
-key_whole the.Node = (lit≤ tt, refl)
-key_whole the.Edge = (lit≤ tt, refl)
-key_whole the.Station = (lit≤ tt, refl)
-key_whole the.Vehicle = (lit≤ tt, refl)
-key_whole the.Trip = (lit≤ tt, refl)
-key_whole the.Leg = (lit≤ tt, refl)
-key_whole the.Load = (lit≤ tt, refl)
-key_whole the.Job = (lit≤ tt, refl)
-key_whole the.Hold = (lit≤ tt, refl)
-key_whole the.Used = (lit≤ tt, refl)
+key_whole keyed.Node = (lit≤ tt, refl)
+key_whole keyed.Station = (lit≤ tt, refl)
+key_whole keyed.Vehicle = (lit≤ tt, refl)
+key_whole keyed.Load = (lit≤ tt, refl)
+key_whole keyed.Job = (lit≤ tt, refl)
+key_whole keyed.Hold = (lit≤ tt, refl)
+key_whole keyed.Used = (lit≤ tt, refl)
 
 question_whole : (question : RowsBy) → IsWholeText (question_text question) (length (columns_at (table_asked question) (columns_asked question)))
 unfolding everything
@@ -223,9 +221,11 @@ on_err_all (Err e) f h = f e h
 
 module _ (params : Row) (old new : State) (r : Result (Vec Row Global) Error) (sql : List ℕ) (fails : IfErr r (FailsToQuery sql params old new)) where
   -- by the key
-  pub key_caused : (name : TableName) → sql ≡ look_up_text name → IfErr r (λ e. IsOfStore e → (desk : Desk) → IsDesk desk → old.now.schema ≡ desk.schema → FitsColumns name (table_for name).primary params → IsCaused old new)
-  key_caused name text = on_err_all r (λ e h stored desk is has fit.
-      read_caused name (key_terms name) (look_up_text name) (looks_up name) params (subst (IsWholeText (look_up_text name)) (sym (fits_length _ params fit)) (key_whole name)) (key_typed name params fit) old new e desk is has stored
+  pub key_caused : (one : RowOf) → sql ≡ look_up_text one
+      → IfErr r (λ e. IsOfStore e → (desk : Desk) → IsDesk desk → old.now.schema ≡ desk.schema → FitsColumns (table_looked_up one) (table_for (table_looked_up one)).primary params → IsCaused old new)
+  key_caused one text = on_err_all r (λ e h stored desk is has fit.
+      let name = table_looked_up one in
+      read_caused name (key_terms name) (look_up_text one) (looks_up one) params (subst (IsWholeText (look_up_text one)) (sym (fits_length _ params fit)) (key_whole one)) (key_typed name params fit) old new e desk is has stored
       (subst (λ t. FailsToQuery t params old new e) text h)) fails
 
   -- by other columns

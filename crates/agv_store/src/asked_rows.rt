@@ -5,9 +5,11 @@ ghost use Rattle.agv_world.specs.Rows.{rows_of};
 ghost use Rattle.agv_store.specs.DeskRows.{rows_of_key, table_for};
 ghost use Rattle.agv_store.specs.RowLists.{row_lists};
 ghost use Rattle.agv_store.specs.RowQuestions.{FitsColumns, all_rows_of, columns_asked, rows_asked, table_asked};
+ghost use Rattle.agv_store.specs.RowTexts.{table_looked_up};
 ghost use Rattle.agv_store.specs.WorldAnswers.{Tells};
 
 use crate::ReadingFault;
+use crate::row_of::RowOf;
 use crate::row_reads::{find_all_rows, find_rows, find_rows_by};
 use crate::rows_by::RowsBy;
 use crate::table_name::TableName;
@@ -17,13 +19,13 @@ use sqlite::{Alter, Connection, Row};
 /// The rows of that key.
 pub(crate) fn ask_rows<S: Alter>(
     conn: &mut Connection<S>,
-    table: TableName,
+    row: RowOf,
     key: &[ValueRef<'_>],
 ) -> Result<Vec<Row>, ReadingFault>
-    requires { FitsColumns table (table_for table).primary (bound key.now) }
-    ensures { Tells S.Store conn.old conn.new result (λ world rows. IsPermutation (rows_of_key table (bound key.now) (row_lists (rows_of world))) rows.items) }
+    requires { FitsColumns (table_looked_up row) (table_for (table_looked_up row)).primary (bound key.now) }
+    ensures { Tells S.Store conn.old conn.new result (λ world rows. IsPermutation (rows_of_key (table_looked_up row) (bound key.now) (row_lists (rows_of world))) rows.items) }
 {
-    let rows = find_rows(conn, table, key)?;
+    let rows = find_rows(conn, row, key)?;
     Ok(rows)
 }
 

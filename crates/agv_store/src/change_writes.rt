@@ -20,7 +20,7 @@ use crate::row_values::{
     trip_values, used_values, vehicle_values,
 };
 use crate::row_writes::{delete_row, put_row};
-use crate::table_name::TableName;
+use crate::world_table::WorldTable;
 use agv_header::{Name, Thing, VehicleKey};
 use agv_layout::{Ends, Spot};
 use agv_stock::Place;
@@ -35,7 +35,7 @@ fn write_node<S: Alter>(tx: &mut Transaction<'_, S>, id: &Name) -> Result<usize,
     ensures made { HasCleanDisk (state S.Store tx.new.conn.now)
         → OnOk result (Makes (listed (row.Node id.now)) (state S.Store tx.old.conn.now) (state S.Store tx.new.conn.now)) }
 {
-    put_row(tx, TableName::Node, &name_key_values(id), &node_values(id))
+    put_row(tx, WorldTable::Node, &name_key_values(id), &node_values(id))
 }
 
 // The edge has these ends.
@@ -48,7 +48,7 @@ fn write_edge<S: Alter>(tx: &mut Transaction<'_, S>, id: &Name, ends: &Ends) -> 
 {
     put_row(
         tx,
-        TableName::Edge,
+        WorldTable::Edge,
         &name_key_values(id),
         &edge_values(id, ends),
     )
@@ -68,7 +68,7 @@ fn write_station<S: Alter>(
 {
     put_row(
         tx,
-        TableName::Station,
+        WorldTable::Station,
         &name_key_values(id),
         &station_values(id, spot),
     )
@@ -88,7 +88,7 @@ fn write_vehicle<S: Alter>(
 {
     put_row(
         tx,
-        TableName::Vehicle,
+        WorldTable::Vehicle,
         &vehicle_key_values(key),
         &vehicle_values(key, vehicle),
     )
@@ -102,7 +102,7 @@ fn drop_trip<S: Alter>(tx: &mut Transaction<'_, S>, order: &Name) -> Result<usiz
     ensures made { HasCleanDisk (state S.Store tx.new.conn.now)
         → OnOk result (Makes (without_key the.Trip (name_key order.now)) (state S.Store tx.old.conn.now) (state S.Store tx.new.conn.now)) }
 {
-    delete_row(tx, TableName::Trip, &name_key_values(order))
+    delete_row(tx, WorldTable::Trip, &name_key_values(order))
 }
 
 // The order has the open trip of this line.
@@ -119,7 +119,7 @@ fn put_line<S: Alter>(
 {
     put_row(
         tx,
-        TableName::Trip,
+        WorldTable::Trip,
         &name_key_values(order),
         &trip_values(line),
     )
@@ -169,7 +169,7 @@ fn drop_leg<S: Alter>(tx: &mut Transaction<'_, S>, key: &LegKey) -> Result<usize
     ensures made { HasCleanDisk (state S.Store tx.new.conn.now)
         → OnOk result (Makes (listed (row.Leg key.now None)) (state S.Store tx.old.conn.now) (state S.Store tx.new.conn.now)) }
 {
-    delete_row(tx, TableName::Leg, &leg_key_values(key))
+    delete_row(tx, WorldTable::Leg, &leg_key_values(key))
 }
 
 // The edge on the way of an open trip, if it has one there.
@@ -188,7 +188,7 @@ fn write_leg<S: Alter>(
         None => drop_leg(tx, key),
         Some(edge) => put_row(
             tx,
-            TableName::Leg,
+            WorldTable::Leg,
             &leg_key_values(key),
             &leg_values(key, edge),
         ),
@@ -209,7 +209,7 @@ fn write_load<S: Alter>(
 {
     put_row(
         tx,
-        TableName::Load,
+        WorldTable::Load,
         &name_key_values(id),
         &load_values(id, place),
     )
@@ -225,7 +225,7 @@ fn write_job<S: Alter>(tx: &mut Transaction<'_, S>, id: &Name, job: &JobRow) -> 
 {
     put_row(
         tx,
-        TableName::Job,
+        WorldTable::Job,
         &name_key_values(id),
         &job_values(id, job),
     )
@@ -247,7 +247,7 @@ fn write_hold<S: Alter>(
         None => drop_hold(tx, thing),
         Some(key) => put_row(
             tx,
-            TableName::Hold,
+            WorldTable::Hold,
             &hold_key_values(thing),
             &hold_values(thing, key),
         ),
@@ -262,7 +262,7 @@ fn write_used<S: Alter>(tx: &mut Transaction<'_, S>, key: &UseKey) -> Result<usi
     ensures made { HasCleanDisk (state S.Store tx.new.conn.now)
         → OnOk result (Makes (listed (row.Used key.now)) (state S.Store tx.old.conn.now) (state S.Store tx.new.conn.now)) }
 {
-    put_row(tx, TableName::Used, &used_values(key), &used_values(key))
+    put_row(tx, WorldTable::Used, &used_values(key), &used_values(key))
 }
 
 /// Makes the change: its row is written in place of that of its key, or that row is removed.

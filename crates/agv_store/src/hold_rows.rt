@@ -10,7 +10,7 @@ ghost use Rattle.agv_store.specs.declared.table_name.TableName.TheVariants as th
 use crate::key_values::hold_key_values;
 use crate::row_values::hold_values;
 use crate::row_writes::{delete_row, insert_row};
-use crate::table_name::TableName;
+use crate::world_table::WorldTable;
 use agv_header::{Thing, VehicleKey};
 use sqlite::{Alter, Error, Transaction};
 
@@ -26,7 +26,7 @@ pub(crate) fn add_hold<S: Alter>(
     ensures made { HasCleanDisk (state S.Store tx.new.conn.now)
         → OnOk result (Makes (with_row the.Hold (hold_columns thing.now key.now)) (state S.Store tx.old.conn.now) (state S.Store tx.new.conn.now)) }
 {
-    insert_row(tx, TableName::Hold, &hold_values(thing, key))
+    insert_row(tx, WorldTable::Hold, &hold_values(thing, key))
 }
 
 /// No vehicle holds it.
@@ -40,5 +40,5 @@ pub(crate) fn drop_hold<S: Alter>(
     ensures made { HasCleanDisk (state S.Store tx.new.conn.now)
         → OnOk result (Makes (without_key the.Hold (hold_key thing.now)) (state S.Store tx.old.conn.now) (state S.Store tx.new.conn.now)) }
 {
-    delete_row(tx, TableName::Hold, &hold_key_values(thing))
+    delete_row(tx, WorldTable::Hold, &hold_key_values(thing))
 }

@@ -13,9 +13,9 @@ ghost use Rattle.agv_store.specs.WorldAnswers.{Tells};
 use crate::ReadingFault;
 use crate::asked_rows::ask_rows;
 use crate::key_values::{hold_key_values, name_key_values, vehicle_key_values};
+use crate::row_of::RowOf;
 use crate::row_values::used_values;
 use crate::rows_told::{hold_told, job_told, load_told, station_told, vehicle_told};
-use crate::table_name::TableName;
 use agv_header::{Name, Thing, VehicleKey};
 use agv_layout::Spot;
 use agv_stock::Place;
@@ -42,7 +42,7 @@ pub(crate) fn ask_vehicle<S: Alter>(
 ) -> Result<Option<VehicleRow>, ReadingFault>
     ensures { Tells S.Store conn.old conn.new result (λ world row. row ≡ row_of world key.now) }
 {
-    let rows = ask_rows(conn, TableName::Vehicle, &vehicle_key_values(key))?;
+    let rows = ask_rows(conn, RowOf::Vehicle, &vehicle_key_values(key))?;
     vehicle_in_rows(rows.as_slice())
 }
 
@@ -66,7 +66,7 @@ pub(crate) fn ask_place<S: Alter>(
 ) -> Result<Option<Place>, ReadingFault>
     ensures { Tells S.Store conn.old conn.new result (λ world place. place ≡ map.get world.places load.now) }
 {
-    let rows = ask_rows(conn, TableName::Load, &name_key_values(load))?;
+    let rows = ask_rows(conn, RowOf::Load, &name_key_values(load))?;
     place_in_rows(rows.as_slice())
 }
 
@@ -90,7 +90,7 @@ pub(crate) fn ask_job<S: Alter>(
 ) -> Result<Option<JobRow>, ReadingFault>
     ensures { Tells S.Store conn.old conn.new result (λ world row. row ≡ map.get world.jobs job.now) }
 {
-    let rows = ask_rows(conn, TableName::Job, &name_key_values(job))?;
+    let rows = ask_rows(conn, RowOf::Job, &name_key_values(job))?;
     job_in_rows(rows.as_slice())
 }
 
@@ -114,7 +114,7 @@ pub(crate) fn ask_station<S: Alter>(
 ) -> Result<Option<Spot>, ReadingFault>
     ensures { Tells S.Store conn.old conn.new result (λ world spot. spot ≡ map.get world.layout.stations id.now) }
 {
-    let rows = ask_rows(conn, TableName::Station, &name_key_values(id))?;
+    let rows = ask_rows(conn, RowOf::Station, &name_key_values(id))?;
     station_in_rows(rows.as_slice())
 }
 
@@ -153,7 +153,7 @@ pub(crate) fn ask_holder<S: Alter>(
     ensures { Tells S.Store conn.old conn.new result (λ world key. key ≡ holder_of world thing.now) }
 {
     thing_is_named(thing);
-    let rows = ask_rows(conn, TableName::Hold, &hold_key_values(thing))?;
+    let rows = ask_rows(conn, RowOf::Hold, &hold_key_values(thing))?;
     holder_in_rows(rows.as_slice())
 }
 
@@ -161,7 +161,7 @@ pub(crate) fn ask_holder<S: Alter>(
 pub(crate) fn ask_node<S: Alter>(conn: &mut Connection<S>, id: &Name) -> Result<bool, ReadingFault>
     ensures { Tells S.Store conn.old conn.new result (λ world known. known ≡ set.contains world.layout.nodes id.now) }
 {
-    let rows = ask_rows(conn, TableName::Node, &name_key_values(id))?;
+    let rows = ask_rows(conn, RowOf::Node, &name_key_values(id))?;
     Ok(!rows.is_empty())
 }
 
@@ -172,6 +172,6 @@ pub(crate) fn ask_used<S: Alter>(
 ) -> Result<bool, ReadingFault>
     ensures { Tells S.Store conn.old conn.new result (λ world known. known ≡ is_used world key.now.kind key.now.name) }
 {
-    let rows = ask_rows(conn, TableName::Used, &used_values(key))?;
+    let rows = ask_rows(conn, RowOf::Used, &used_values(key))?;
     Ok(!rows.is_empty())
 }

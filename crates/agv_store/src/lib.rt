@@ -14,7 +14,8 @@
 //!   [`making_laws`] says that what it makes is a desk for the statements, and that an opening finds it again.
 //! - Rows of the desk's tables are added, taken out, put in place of that of their key, and looked up, in any
 //!   database in which the eleven tables stand, whatever other tables and indexes it has: `row_writes`, `row_reads`,
-//!   in the words of `specs/DeskRows.antt`. [`TableName`] names a table, [`RowsBy`] a look-up by other columns.
+//!   in the words of `specs/DeskRows.antt`. [`TableName`] names a table, [`RowsBy`] a look-up by other columns; `WorldTable` is a table
+//!   that is written, and `RowOf` a look-up by the key. All texts of SQL are 63 (`row_texts`).
 //! - [`change_running`] makes a list of changes of a world's rows in the tables, in one transaction (`specs/ChangesMade.antt`).
 //! - The questions of a floor are asked of the tables: by a key (`key_questions`), about loads and live jobs
 //!   (`load_questions`, `station_loads`), and for whole tables (`table_reading`). Each answers what the lawful world says
@@ -46,6 +47,7 @@ mod reading_fault;
 pub mod row_fits;
 pub mod row_laws;
 pub mod row_list_laws;
+mod row_of;
 mod row_reads;
 mod row_texts;
 mod row_values;
@@ -60,6 +62,7 @@ mod table_reading;
 pub mod table_texts;
 pub mod trip_line;
 mod words;
+mod world_table;
 
 pub use fault::Fault;
 pub use loads::Loads;

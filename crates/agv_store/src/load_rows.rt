@@ -10,10 +10,11 @@ ghost use Rattle.agv_store.specs.RowKeys.{name_key};
 ghost use Rattle.agv_store.specs.declared.table_name.TableName.TheVariants as the;
 
 use crate::key_values::name_key_values;
+use crate::row_of::RowOf;
 use crate::row_reads::find_rows;
 use crate::row_values::load_values;
 use crate::row_writes::put_row;
-use crate::table_name::TableName;
+use crate::world_table::WorldTable;
 use agv_header::Name;
 use agv_stock::Place;
 use sqlite::{Alter, Connection, Error, Row, Transaction};
@@ -32,7 +33,7 @@ pub(crate) fn put_load<S: Alter>(
 {
     put_row(
         tx,
-        TableName::Load,
+        WorldTable::Load,
         &name_key_values(id),
         &load_values(id, place),
     )
@@ -52,5 +53,5 @@ pub(crate) fn find_load_rows<S: Alter>(
         → HasStorageCause S.Store conn.old conn.new) }
     ensures survives { Survives (state S.Store conn.old) (state S.Store conn.new) (λ _. HasNoDesk (state S.Store conn.old).now) }
 {
-    find_rows(conn, TableName::Load, &name_key_values(id))
+    find_rows(conn, RowOf::Load, &name_key_values(id))
 }

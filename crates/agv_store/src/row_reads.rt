@@ -11,8 +11,10 @@ ghost use Rattle.agv_store.specs.DeskRows.{Answers, Desk, HasNoDesk, IsDesk, row
 ghost use Rattle.agv_store.specs.Fault.{IsOfStore};
 ghost use Rattle.agv_store.specs.HeldLoads.{HasStorageCause};
 ghost use Rattle.agv_store.specs.RowQuestions.{FitsColumns, all_rows_of, columns_asked, rows_asked, table_asked};
+ghost use Rattle.agv_store.specs.RowTexts.{table_looked_up};
 
 use crate::question_texts::{all_rows, question};
+use crate::row_of::RowOf;
 use crate::row_texts::look_up;
 use crate::rows_by::RowsBy;
 use crate::table_name::TableName;
@@ -22,19 +24,19 @@ use sqlite::{Alter, Connection, Error, Row};
 /// The rows of that key: one at most, in tables whose keys are kept.
 pub(crate) fn find_rows<S: Alter>(
     conn: &mut Connection<S>,
-    table: TableName,
+    row: RowOf,
     key: &[ValueRef<'_>],
 ) -> Result<Vec<Row>, Error>
-    ensures shown { HasCleanDisk (state S.Store conn.new) → IfOk result (λ rows. Answers (rows_of_key table (bound key.now)) (state S.Store conn.old) (state S.Store conn.new) rows.items) }
+    ensures shown { HasCleanDisk (state S.Store conn.new) → IfOk result (λ rows. Answers (rows_of_key (table_looked_up row) (bound key.now)) (state S.Store conn.old) (state S.Store conn.new) rows.items) }
     ensures failed { HasCleanDisk (state S.Store conn.new)
         → OnErr result (IsUnchanged (state S.Store conn.old) (state S.Store conn.new) ⊎ IsRolledBack (state S.Store conn.old) (state S.Store conn.new)) }
     ensures answering { HasCleanDisk (state S.Store conn.new) → OnOk result (IsTrue (state S.Store conn.old).is_open × IsTrue (state S.Store conn.new).is_open) }
     ensures caused { HasCleanDisk (state S.Store conn.new) → IfErr result (λ e. IsOfStore e
-        → (desk : Desk) → IsDesk desk → (state S.Store conn.old).now.schema ≡ desk.schema → FitsColumns table (table_for table).primary (bound key.now)
+        → (desk : Desk) → IsDesk desk → (state S.Store conn.old).now.schema ≡ desk.schema → FitsColumns (table_looked_up row) (table_for (table_looked_up row)).primary (bound key.now)
         → HasStorageCause S.Store conn.old conn.new) }
     ensures survives { Survives (state S.Store conn.old) (state S.Store conn.new) (λ _. HasNoDesk (state S.Store conn.old).now) }
 {
-    conn.query_all(look_up(table), key)
+    conn.query_all(look_up(row), key)
 }
 
 /// The rows with these values in the columns that are asked by.

@@ -7,23 +7,24 @@ ghost use Rattle.sqlite.specs.State.{HasCleanDisk, KeepsCommit, Survives};
 ghost use Rattle.sqlite.specs.Held.{state};
 ghost use Rattle.sqlite.specs.Values.{bound};
 ghost use Rattle.agv_store.specs.DeskRows.{FitsTable, Makes, with_row, without_key, with_put};
+ghost use Rattle.agv_store.specs.RowTexts.{table_written};
 
 use crate::row_texts::{deletion, insertion};
-use crate::table_name::TableName;
+use crate::world_table::WorldTable;
 use sqlite::types::ValueRef;
 use sqlite::{Alter, Error, Transaction};
 
 /// Adds the row.
 pub(crate) fn insert_row<S: Alter>(
     tx: &mut Transaction<'_, S>,
-    table: TableName,
+    table: WorldTable,
     row: &[ValueRef<'_>],
 ) -> Result<usize, Error>
     ensures same_reference { tx.new.conn.ghost_name ≡ tx.old.conn.ghost_name }
     ensures survives { Survives (state S.Store tx.old.conn.now) (state S.Store tx.new.conn.now) (λ _. ⊥) }
     ensures kept { HasCleanDisk (state S.Store tx.new.conn.now) → KeepsCommit (state S.Store tx.old.conn.now) (state S.Store tx.new.conn.now) }
-    ensures made { HasCleanDisk (state S.Store tx.new.conn.now) → FitsTable table (bound row.now)
-        → OnOk result (Makes (with_row table (bound row.now)) (state S.Store tx.old.conn.now) (state S.Store tx.new.conn.now)) }
+    ensures made { HasCleanDisk (state S.Store tx.new.conn.now) → FitsTable (table_written table) (bound row.now)
+        → OnOk result (Makes (with_row (table_written table) (bound row.now)) (state S.Store tx.old.conn.now) (state S.Store tx.new.conn.now)) }
 {
     tx.execute(insertion(table), row)
 }
@@ -31,14 +32,14 @@ pub(crate) fn insert_row<S: Alter>(
 /// Takes out the row of that key, if there is one.
 pub(crate) fn delete_row<S: Alter>(
     tx: &mut Transaction<'_, S>,
-    table: TableName,
+    table: WorldTable,
     key: &[ValueRef<'_>],
 ) -> Result<usize, Error>
     ensures same_reference { tx.new.conn.ghost_name ≡ tx.old.conn.ghost_name }
     ensures survives { Survives (state S.Store tx.old.conn.now) (state S.Store tx.new.conn.now) (λ _. ⊥) }
     ensures kept { HasCleanDisk (state S.Store tx.new.conn.now) → KeepsCommit (state S.Store tx.old.conn.now) (state S.Store tx.new.conn.now) }
     ensures made { HasCleanDisk (state S.Store tx.new.conn.now)
-        → OnOk result (Makes (without_key table (bound key.now)) (state S.Store tx.old.conn.now) (state S.Store tx.new.conn.now)) }
+        → OnOk result (Makes (without_key (table_written table) (bound key.now)) (state S.Store tx.old.conn.now) (state S.Store tx.new.conn.now)) }
 {
     tx.execute(deletion(table), key)
 }
@@ -46,15 +47,15 @@ pub(crate) fn delete_row<S: Alter>(
 /// Puts the row in the place of that of its key, if there is one.
 pub(crate) fn put_row<S: Alter>(
     tx: &mut Transaction<'_, S>,
-    table: TableName,
+    table: WorldTable,
     key: &[ValueRef<'_>],
     row: &[ValueRef<'_>],
 ) -> Result<usize, Error>
     ensures same_reference { tx.new.conn.ghost_name ≡ tx.old.conn.ghost_name }
     ensures survives { Survives (state S.Store tx.old.conn.now) (state S.Store tx.new.conn.now) (λ _. ⊥) }
     ensures kept { HasCleanDisk (state S.Store tx.new.conn.now) → KeepsCommit (state S.Store tx.old.conn.now) (state S.Store tx.new.conn.now) }
-    ensures made { HasCleanDisk (state S.Store tx.new.conn.now) → FitsTable table (bound row.now)
-        → OnOk result (Makes (with_put table (bound key.now) (bound row.now)) (state S.Store tx.old.conn.now) (state S.Store tx.new.conn.now)) }
+    ensures made { HasCleanDisk (state S.Store tx.new.conn.now) → FitsTable (table_written table) (bound row.now)
+        → OnOk result (Makes (with_put (table_written table) (bound key.now) (bound row.now)) (state S.Store tx.old.conn.now) (state S.Store tx.new.conn.now)) }
 {
     delete_row(tx, table, key)?;
     insert_row(tx, table, row)

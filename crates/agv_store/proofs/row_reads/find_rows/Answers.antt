@@ -7,16 +7,16 @@ use Rattle.agv_store.proofs.row_reads.find_rows.Goals as goal
 
 pub returns-clause-shown : goal.returns-clause-shown
 returns-clause-shown g c clean =
-    key_shown (bound c.args.key.now) (state g.S.Store c.args.conn.now) (state g.S.Store c.query_all.new.self) c.query_all.result c.look_up.result.now c.args.table c.look_up.ensures (c.query_all.ensures.ok clean)
+    key_shown (bound c.args.key.now) (state g.S.Store c.args.conn.now) (state g.S.Store c.query_all.new.self) c.query_all.result c.look_up.result.now c.args.row c.look_up.ensures (c.query_all.ensures.ok clean)
 
 pub returns-clause-failed : goal.returns-clause-failed
 returns-clause-failed g c clean = on_failed c.query_all.result (λ e. query_fails _ _ _ _ e) (c.query_all.ensures.err clean)
 
 pub returns-clause-survives : goal.returns-clause-survives
-returns-clause-survives g c = key_commits (bound c.args.key.now) (state g.S.Store c.args.conn.now) (state g.S.Store c.query_all.new.self) c.query_all.result c.look_up.result.now c.args.table c.look_up.ensures c.query_all.ensures.survives
+returns-clause-survives g c = key_commits (bound c.args.key.now) (state g.S.Store c.args.conn.now) (state g.S.Store c.query_all.new.self) c.query_all.result c.look_up.result.now c.args.row c.look_up.ensures c.query_all.ensures.survives
 
 pub returns-clause-answering : goal.returns-clause-answering
 returns-clause-answering g c clean = shown_by_open (bound c.args.key.now) (state g.S.Store c.args.conn.now) (state g.S.Store c.query_all.new.self) c.query_all.result _ (c.query_all.ensures.ok clean)
 
 pub returns-clause-caused : goal.returns-clause-caused
-returns-clause-caused g c clean = key_caused (bound c.args.key.now) (state g.S.Store c.args.conn.now) (state g.S.Store c.query_all.new.self) c.query_all.result c.look_up.result.now (c.query_all.ensures.err clean) c.args.table c.look_up.ensures
+returns-clause-caused g c clean = key_caused (bound c.args.key.now) (state g.S.Store c.args.conn.now) (state g.S.Store c.query_all.new.self) c.query_all.result c.look_up.result.now (c.query_all.ensures.err clean) c.args.row c.look_up.ensures

@@ -1,0 +1,13 @@
+//! Look-ups by the key of a table.
+
+/// A row that is asked for by the key of its table.
+#[derive(Clone, Copy, Debug)]
+pub(crate) enum RowOf {
+    Node,
+    Station,
+    Vehicle,
+    Load,
+    Job,
+    Hold,
+    Used,
+}
