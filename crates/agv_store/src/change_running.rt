@@ -45,6 +45,7 @@ pub fn write_changes<S: Alter>(conn: &mut Connection<S>, changes: &[Change]) -> 
     ensures crash { Survives (state S.Store conn.old) (state S.Store conn.new) (LeavesChanges changes.now (state S.Store conn.old).now) }
     ensures idle { conn.new.in_transaction ≡ false }
 {
-    run_changes(conn, changes)?;
+    let done = run_changes(conn, changes);
+    done?;
     Ok(())
 }
