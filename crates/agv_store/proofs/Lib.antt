@@ -55,6 +55,7 @@ pub mod RowForms
 pub mod RowMeanings
 pub mod Rows
 pub mod Running
+pub mod SchemasTold
 pub mod SpreadRows
 pub mod StationLoads
 pub mod StepsRun

@@ -1,5 +1,5 @@
 -- A new desk beside other tables, as the statements see it.
-use Rattle.std.specs.Prelude.{◌≡◌, ◌≢◌, true}
+use Rattle.std.specs.Prelude.{◌≡◌, ◌≢◌, ◌⊎◌, true, false}
 use Rattle.sqlite_trees.specs.Tree.{IsAscending}
 use Rattle.sqlite_schema.specs.declared.schema.Schema.{Schema}
 use Rattle.sqlite_schema.specs.declared.schema.Table.{Table}
@@ -7,7 +7,8 @@ use Rattle.sqlite.specs.Effect.{Database, IsDatabase}
 use Rattle.agv_world.specs.Worlds.{empty_world}
 use Rattle.agv_store.specs.declared.table_name.TableName.{TableName}
 use Rattle.agv_store.specs.DeskRows.{Desk, IsDesk, Holds, table_for, is_unreferred}
-use Rattle.agv_store.specs.DeskTables.{MakesDesk, first_rows}
+use Rattle.agv_store.specs.DeskSchema.{is_name_taken}
+use Rattle.agv_store.specs.DeskTables.{LeavesDesk, MakesDesk, first_rows}
 use Rattle.agv_store.specs.WorldAnswers.{HasWorld}
 
 -- tables that leave room for the desk's: none refers to one of its names, and no two have one tree
@@ -22,6 +23,20 @@ StandsNew db = (desk : Desk) × IsDesk desk × Holds desk db first_rows
 -- a desk stands in the database, and its tables have the rows of the world of a desk that knows nothing yet
 abbrev pub KnowsNothing : Database → Type 0
 KnowsNothing db = (desk : Desk) × HasWorld desk db empty_world
+
+-- trees tell the whole schema, its indexes and views too
+abbrev pub TreesTellSchemas : Type 0
+TreesTellSchemas = (old found : Database) → IsDatabase old → IsDatabase found → found.trees ≡ old.trees → found.schema ≡ old.schema
+
+-- so an opening that finds the trees from before the making finds a name of the desk's taken where one was, and only there
+abbrev pub TreesTellNames : Type 0
+TreesTellNames = (old found : Database) → IsDatabase old → IsDatabase found → found.trees ≡ old.trees → is_name_taken found.schema ≡ is_name_taken old.schema
+
+-- after a crash of the making an opening finds either: no name of the desk's is taken, or a new desk stands
+abbrev pub OpeningsFindEither : Type 0
+OpeningsFindEither =
+    (old found : Database) → IsDatabase old → LeavesRoom old.schema → is_name_taken old.schema ≡ false → IsDatabase found → (found.trees ≡ old.trees) ⊎ LeavesDesk old found.trees
+    → (is_name_taken found.schema ≡ false) ⊎ StandsNew found
 
 -- an opening that finds the trees of the making finds a desk: for one, a connection that made them
 abbrev pub MadeDesksStand : Type 0

@@ -4,7 +4,7 @@ ghost use Rattle.sqlite.specs.Effect.{Database};
 ghost use Rattle.agv_world.specs.Rows.{rows_of};
 ghost use Rattle.agv_world.specs.Worlds.{empty_world};
 ghost use Rattle.agv_store.specs.DeskTables.{first_rows};
-ghost use Rattle.agv_store.specs.NewDesk.{KnowsNothing, MadeDesksStand, StandsNew, TreesTellTables};
+ghost use Rattle.agv_store.specs.NewDesk.{KnowsNothing, MadeDesksStand, OpeningsFindEither, StandsNew, TreesTellNames, TreesTellSchemas, TreesTellTables};
 ghost use Rattle.agv_store.specs.RowLists.{row_lists};
 
 use agv_world::lawful_laws::begins_lawful;
@@ -13,6 +13,19 @@ use agv_world::lawful_laws::begins_lawful;
 /// makes is a desk with its first rows, to the connection that made it and to each opening that finds those trees.
 pub fn made_desks_stand()
     ensures { MadeDesksStand }
+{}
+
+/// Trees tell the whole schema of a database that has them. So, where a crash left nothing of the making, an opening finds
+/// each name free that was.
+pub fn trees_tell_schemas()
+    ensures schema { TreesTellSchemas }
+    ensures names { TreesTellNames }
+{}
+
+/// After a crash of the making, where the desk's names were free and the tables that were there leave room, an opening finds
+/// none of the names taken, or a desk with its first rows.
+pub fn openings_find_either()
+    ensures { OpeningsFindEither }
 {}
 
 /// Trees tell which tables lie in them: an opening that finds the trees of a database finds its tables.
