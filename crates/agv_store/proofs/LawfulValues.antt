@@ -121,7 +121,7 @@ few_enough n low = omega arith
 -- ---- values
 
 module _ (world : World) (lawful : IsLawful 1 world) where
-  node_rules : (id : List ℕ) → IsNode world.layout id → KeepsRules world.layout
+  pub node_rules : (id : List ℕ) → IsNode world.layout id → KeepsRules world.layout
   node_rules id is = elim lawful.vehicles.laid [
     | inl none ↦ absurd (let there = subst (λ (layout : Layout). set.contains layout.nodes id ≡ true) none is in let not = set.contains-empty name_cmp id in cc)
     | inr rules ↦ rules

@@ -31,6 +31,7 @@ pub mod KeyedRows
 pub mod KeysShown
 pub mod Later
 pub mod LawfulSingle
+pub mod LawfulTrips
 pub mod LawfulValues
 pub mod ListsFollow
 pub mod ListsHeld
@@ -62,5 +63,7 @@ pub mod TableReading
 pub mod TableTexts
 pub mod TablesKept
 pub mod TablesMade
+pub mod TripAnswers
 pub mod TripLineLemmas
+pub mod TripsTell
 pub mod Understood

@@ -25,5 +25,6 @@ pub mod Schema
 pub mod SchemaTexts
 pub mod TextsRun
 pub mod TripLines
+pub mod TripsTold
 pub mod TypedRows
 pub mod WorldAnswers

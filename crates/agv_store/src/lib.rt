@@ -16,9 +16,11 @@
 //!   database in which the eleven tables stand, whatever other tables and indexes it has: `row_writes`, `row_reads`,
 //!   in the words of `specs/DeskRows.antt`. [`TableName`] names a table, [`RowsBy`] a look-up by other columns.
 //! - [`change_running`] makes a list of changes of a world's rows in the tables, in one transaction (`specs/ChangesMade.antt`).
-//! - The questions of a floor are asked of the tables: by a key (`key_questions`), about loads and live jobs
-//!   (`load_questions`, `station_loads`), and for whole tables (`table_reading`). Each answers what the lawful world says
-//!   whose rows the tables have, in the words of `specs/WorldAnswers.antt`; [`ReadingFault`] says why there is no answer.
+//! - [`trip_laws`] says that the row of a trip, that of its job and those of its edges tell an open trip whole.
+//! - The questions of a floor are asked of the tables: by a key (`key_questions`), for the open trip of a vehicle
+//!   (`trip_questions`), about loads and live jobs (`load_questions`, `station_loads`), and for whole tables
+//!   (`table_reading`). Each answers what the lawful world says whose rows the tables have, in the words of
+//!   `specs/WorldAnswers.antt`; [`ReadingFault`] says why there is no answer.
 //! - [`Fault`] says why the machine failed, in place of an answer, and [`MakingFault`] why the tables aren't made.
 //!
 //! What the table holds after each call is stated for a clean store: one whose disk has so far
@@ -58,7 +60,9 @@ mod step_running;
 pub mod table_name;
 mod table_reading;
 pub mod table_texts;
+pub mod trip_laws;
 pub mod trip_line;
+mod trip_questions;
 mod words;
 
 pub use fault::Fault;
