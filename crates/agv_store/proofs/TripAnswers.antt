@@ -103,7 +103,7 @@ edge_at world leg = edge_named world.layout.edges leg.1
 abbrev pub Goes : List Edge → List (LegKey × List ℕ) → List ℕ → World → Unit {0} → Type 0
 Goes edges rest order world nothing = (edges ++ filter_map (edge_at world) rest ≡ edges_of (tables_of (rows_of world)) order) × AllByRecursion (IsKnown world) rest
 
-all_of : {A : Type 0} (P Q : A → Type 0) → ((a : A) → P a → Q a) → (xs : List A) → AllByRecursion P xs → AllByRecursion Q xs
+pub all_of : {A : Type 0} (P Q : A → Type 0) → ((a : A) → P a → Q a) → (xs : List A) → AllByRecursion P xs → AllByRecursion Q xs
 all_of P Q so [] h = tt
 all_of P Q so (x ∷ xs) h = (so x h.0, all_of P Q so xs h.1)
 

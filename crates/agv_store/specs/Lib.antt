@@ -23,6 +23,7 @@ pub mod RowQuestions
 pub mod RowTexts
 pub mod Schema
 pub mod SchemaTexts
+pub mod TablesRead
 pub mod TextsRun
 pub mod TripLines
 pub mod TripsTold

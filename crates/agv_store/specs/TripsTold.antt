@@ -1,8 +1,10 @@
 -- The open trip of a vehicle, as the tables of rows tell it: its line, the row of its job, and the edges of its order.
-use Rattle.std.specs.Prelude.{List, ℕ, Option}
+use Rattle.std.specs.Prelude.{List, ℕ, Option, Some}
 use Rattle.std.specs.FinMap as finite
 use Rattle.std.specs.List.{find}
 use Rattle.std.specs.Option.{option_and_then, option_map}
+use Rattle.sqlite_value.specs.Order.{Row}
+use Rattle.agv_header.specs.Name.{name_cmp}
 use Rattle.agv_header.specs.declared.key.VehicleKey.{VehicleKey}
 use Rattle.agv_order.specs.declared.trip.Trip.{Trip}
 use Rattle.agv_world.specs.Rows.{Rows}
@@ -10,6 +12,8 @@ use Rattle.agv_world.specs.Told.{names_vehicle, trip_in}
 use Rattle.agv_world.specs.declared.row.JobRow.{JobRow}
 use Rattle.agv_world.specs.declared.row.TripRow.{TripRow}
 use Rattle.agv_world.specs.declared.world.World.{World as Tables}
+use Rattle.agv_store.specs.Cells.{if_some}
+use Rattle.agv_store.specs.Columns as columns
 use Rattle.agv_store.specs.TripLines.{line_of, trip_told}
 use Rattle.agv_store.specs.declared.trip_line.TripLine.{TripLine}
 
@@ -38,3 +42,7 @@ line_for rows key = option_and_then (λ (entry : List ℕ × TripRow). line_of e
 -- the trip of a line, where its job is known: with the row of the job, and the edges of the order
 abbrev pub told_by_line : Rows → TripLine → Option Trip
 told_by_line rows line = option_map (λ (job : JobRow). trip_in (tables_of rows) (line.order, trip_told line job)) (finite.get rows.jobs line.job)
+
+-- the order and the trip that a row of SQL tells, where its job is one of these
+abbrev pub trip_with : finite.FinMap name_cmp JobRow → Row → Option (List ℕ × TripRow)
+trip_with jobs row = if_some (columns.trip_in row) (λ line. if_some (finite.get jobs line.job) (λ job. Some (line.order, trip_told line job)))

@@ -18,9 +18,12 @@
 //! - [`change_running`] makes a list of changes of a world's rows in the tables, in one transaction (`specs/ChangesMade.antt`).
 //! - [`trip_laws`] says that the row of a trip, that of its job and those of its edges tell an open trip whole.
 //! - The questions of a floor are asked of the tables: by a key (`key_questions`), for the open trip of a vehicle
-//!   (`trip_questions`), about loads and live jobs (`load_questions`, `station_loads`), and for whole tables
-//!   (`table_reading`). Each answers what the lawful world says whose rows the tables have, in the words of
+//!   (`trip_questions`), about loads and live jobs (`load_questions`, `station_loads`), and for the layout
+//!   (`layout_reading`). Each answers what the lawful world says whose rows the tables have, in the words of
 //!   `specs/WorldAnswers.antt`; [`ReadingFault`] says why there is no answer.
+//! - Whole tables are read (`table_reading`, `trip_reading`, `world_reading`) into the tables of a world in memory. What
+//!   is read has just the rows that the tables have, whatever these are (`specs/TablesRead.antt`): a row that tells
+//!   nothing, or a key that is told twice, is damaged.
 //! - [`Fault`] says why the machine failed, in place of an answer, and [`MakingFault`] why the tables aren't made.
 //!
 //! What the table holds after each call is stated for a clean store: one whose disk has so far
@@ -38,6 +41,7 @@ mod hold_rows;
 mod key_questions;
 mod key_values;
 pub mod laws;
+mod layout_reading;
 mod load_questions;
 mod load_rows;
 mod loads;
@@ -49,6 +53,7 @@ pub mod row_fits;
 pub mod row_laws;
 pub mod row_list_laws;
 mod row_reads;
+mod row_tables;
 mod row_texts;
 mod row_values;
 mod row_writes;
@@ -63,7 +68,9 @@ pub mod table_texts;
 pub mod trip_laws;
 pub mod trip_line;
 mod trip_questions;
+mod trip_reading;
 mod words;
+mod world_reading;
 
 pub use fault::Fault;
 pub use loads::Loads;

@@ -2,28 +2,26 @@
 //!
 //! Each question answers what the lawful world says whose rows the tables have (`specs/WorldAnswers.antt`).
 ghost use Rattle.std.specs.Prelude.{◌≡◌};
-ghost use Rattle.std.specs.FinMap as map;
 ghost use Rattle.agv_world.specs.Questions.{trip_of};
 ghost use Rattle.agv_world.specs.Rows.{rows_of};
 ghost use Rattle.agv_world.specs.Told.{edges_of};
-ghost use Rattle.agv_store.specs.Columns.{leg_in, trip_in};
+ghost use Rattle.agv_store.specs.Columns.{trip_in};
 ghost use Rattle.agv_store.specs.FirstRow.{first_whole_in};
-ghost use Rattle.agv_store.specs.ReadTables.{Reads, read_rows};
 ghost use Rattle.agv_store.specs.TripsTold.{line_for, tables_of, told_by_line};
 ghost use Rattle.agv_store.specs.WorldAnswers.{Tells};
 
 use crate::asked_rows::ask_rows_by;
 use crate::key_questions::{ask_edge, ask_job};
 use crate::key_values::{name_key_values, vehicle_key_values};
+use crate::row_tables::legs_in_rows;
 use crate::rows_by::RowsBy;
-use crate::rows_told::{leg_told, trip_told};
+use crate::rows_told::trip_told;
 use crate::trip_laws::rows_tell_trips;
 use crate::{ReadingFault, TripLine};
 use agv_header::{Name, VehicleKey};
 use agv_layout::Edge;
 use agv_message::Sequence;
 use agv_order::Trip;
-use agv_world::ByLeg;
 use agv_world::lawful_laws::is_in_good_order;
 use sqlite::{Alter, Connection, Row};
 use std::alloc::Global;
@@ -51,20 +49,6 @@ fn ask_line<S: Alter>(
     rows_tell_trips();
     let rows = ask_rows_by(conn, RowsBy::VehicleTrip, &vehicle_key_values(key))?;
     line_in_rows(rows.as_slice())
-}
-
-// The table that these rows tell.
-pub(crate) fn legs_in_rows(alloc: Global, rows: &[Row]) -> Result<ByLeg, ReadingFault>
-    ensures { Reads result (read_rows leg_in map.empty rows.now) }
-{
-    let mut table = ByLeg::new(alloc);
-    for row in rows {
-        match leg_told(row) {
-            None => return Err(ReadingFault::Damaged),
-            Some((key, edge)) => table.insert(key, edge)?,
-        }
-    }
-    Ok(table)
 }
 
 // The edges of an order, by their places on the way; each is looked up in the layout.
