@@ -25,7 +25,7 @@ use Rattle.agv_store.proofs.Later.{later_by, fault_later}
 
 -- ---- states
 
-unchanged_then : (a b c : State) → IsUnchanged a b → IsUnchanged b c → IsUnchanged a c
+pub unchanged_then : (a b c : State) → IsUnchanged a b → IsUnchanged b c → IsUnchanged a c
 unchanged_then a b c one two = (
   record {
     was_open = one.0.was_open;

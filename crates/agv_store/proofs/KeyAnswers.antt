@@ -8,6 +8,7 @@ use Rattle.sqlite_value.specs.Order.{Row}
 use Rattle.agv_header.specs.declared.key.Thing.{Thing}
 use Rattle.agv_header.specs.declared.key.Thing.TheVariants as thing
 use Rattle.agv_header.specs.declared.key.VehicleKey.{VehicleKey}
+use Rattle.agv_layout.specs.declared.edge.Ends.{Ends}
 use Rattle.agv_layout.specs.declared.station.Spot.{Spot}
 use Rattle.agv_stock.specs.declared.place.Place.{Place}
 use Rattle.agv_world.specs.Lawful.{IsLawful}
@@ -17,7 +18,7 @@ use Rattle.agv_world.specs.Worlds.{World}
 use Rattle.agv_world.specs.declared.key.UseKey.{UseKey}
 use Rattle.agv_world.specs.declared.row.JobRow.{JobRow}
 use Rattle.agv_world.specs.declared.row.VehicleRow.{VehicleRow}
-use Rattle.agv_store.specs.Columns.{hold_columns, hold_in, job_columns, job_in, load_columns, load_in, node_columns, station_columns, station_in, used_columns, vehicle_columns, vehicle_in}
+use Rattle.agv_store.specs.Columns.{edge_columns, edge_in, hold_columns, hold_in, job_columns, job_in, load_columns, load_in, node_columns, station_columns, station_in, used_columns, vehicle_columns, vehicle_in}
 use Rattle.agv_store.specs.DeskRows.{rows_of_key, table_for}
 use Rattle.agv_store.specs.FirstRow.{first_in, value_of}
 use Rattle.agv_store.specs.RowKeys.{hold_key, name_key, vehicle_key}
@@ -27,9 +28,9 @@ use Rattle.agv_store.specs.TypedRows.{IsThing}
 use Rattle.agv_store.specs.declared.reading_fault.ReadingFault.{ReadingFault}
 use Rattle.agv_store.specs.declared.table_name.TableName.TheVariants as the
 use Rattle.agv_store.proofs.Asking.{Follows}
-use Rattle.agv_store.proofs.ColumnsKept.{station_kept, vehicle_kept, load_kept, job_kept, hold_kept}
-use Rattle.agv_store.proofs.KeysShown.{hold_shown, job_shown, load_shown, node_shown, station_shown, used_shown, vehicle_shown}
-use Rattle.agv_store.proofs.LawfulValues.{holder_value, job_value, place_value, row_at, spot_value, station_named, used_is, vehicle_value}
+use Rattle.agv_store.proofs.ColumnsKept.{edge_kept, station_kept, vehicle_kept, load_kept, job_kept, hold_kept}
+use Rattle.agv_store.proofs.KeysShown.{edge_shown, hold_shown, job_shown, load_shown, node_shown, station_shown, used_shown, vehicle_shown}
+use Rattle.agv_store.proofs.LawfulValues.{edge_named, ends_value, holder_value, job_value, place_value, row_at, spot_value, station_named, used_is, vehicle_value}
 use Rattle.agv_store.proofs.ListsHeld.{alike_itself}
 
 -- ---- rows of a key
@@ -89,6 +90,12 @@ module _ (world : World) (lawful : IsLawful 1 world) where
   tells_station id key is rows shown =
       tells_it station_in (station_columns id) id (finite.get world.layout.stations id) (λ spot at. station_kept id spot (station_named world lawful id spot at) (spot_value world lawful id spot at))
       (rows_of_key the.Station key lists) rows (ap (λ k. rows_of_key the.Station k lists) is ∙ station_shown lists (rows_of world) its_own id) shown
+
+  pub tells_ends : (id : List ℕ) (key : Row) → key ≡ name_key id → (rows : List Row) → IsPermutation (rows_of_key the.Edge key lists) rows
+      → (r : Result (Option Ends) ReadingFault) → r ≡ first_in edge_in rows → Follows r (λ ends. ends ≡ finite.get world.layout.edges id)
+  tells_ends id key is rows shown =
+      tells_it edge_in (edge_columns id) id (finite.get world.layout.edges id) (λ ends at. edge_kept id ends (edge_named world lawful id ends at) (ends_value world lawful id ends at))
+      (rows_of_key the.Edge key lists) rows (ap (λ k. rows_of_key the.Edge k lists) is ∙ edge_shown lists (rows_of world) its_own id) shown
 
   pub tells_vehicle : (id : VehicleKey) (key : Row) → key ≡ vehicle_key id → (rows : List Row) → IsPermutation (rows_of_key the.Vehicle key lists) rows
       → (r : Result (Option VehicleRow) ReadingFault) → r ≡ first_in vehicle_in rows → Follows r (λ row. row ≡ row_of world id)

@@ -119,7 +119,7 @@ trip_single world key trip pair named =
 
 -- ---- all rows
 
-of_one : {Y : Type 0} (q k : List ℕ) (x y : Y) → finite.find name_cmp q ((k, x) ∷ []) ≡ Some y → (q ≡ k) × (x ≡ y)
+pub of_one : {Y : Type 0} (q k : List ℕ) (x y : Y) → finite.find name_cmp q ((k, x) ∷ []) ≡ Some y → (q ≡ k) × (x ≡ y)
 of_one q k x y found =
     elim (eq_by_cmp name_cmp q k) as (λ b. eq_by_cmp name_cmp q k ≡ b → cond b (Some x) None ≡ Some y → (q ≡ k) × (x ≡ y)) [
       | true ↦ λ t is. (names_apart q k ((Equal-is (name_cmp q k)).0 t), same_Some x y is)

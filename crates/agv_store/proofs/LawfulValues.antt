@@ -121,7 +121,7 @@ few_enough n low = omega arith
 -- ---- values
 
 module _ (world : World) (lawful : IsLawful 1 world) where
-  node_rules : (id : List ℕ) → IsNode world.layout id → KeepsRules world.layout
+  pub node_rules : (id : List ℕ) → IsNode world.layout id → KeepsRules world.layout
   node_rules id is = elim lawful.vehicles.laid [
     | inl none ↦ absurd (let there = subst (λ (layout : Layout). set.contains layout.nodes id ≡ true) none is in let not = set.contains-empty name_cmp id in cc)
     | inr rules ↦ rules
@@ -203,3 +203,9 @@ module _ (world : World) (lawful : IsLawful 1 world) where
   holder_value thing key is =
       let from = spread_from key_cmp-total thing_cmp thing_cmp-total hold_rows world.vehicles thing key is in
       subst IsKey (holder_found thing from.0 key (footprint_of (standing_of from.1)) from.3) (lawful.vehicles.vehicles_named from.0 from.1 from.2)
+
+  -- a used name is a name
+  pub used_named : (kind : UseKind) (name : List ℕ) → is_used world kind name ≡ true → IsName name
+  unfolding is_used
+  used_named used.Order name is = lawful.vehicles.orders_named name is
+  used_named used.Reference name is = lawful.vehicles.references_named name is

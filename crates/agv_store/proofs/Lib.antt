@@ -1,5 +1,6 @@
 pub mod AskedShown
 pub mod Asking
+pub mod AskingAll
 pub mod CellLemmas
 pub mod ChangesRun
 pub mod ColumnValues
@@ -31,7 +32,9 @@ pub mod KeyedRows
 pub mod KeysShown
 pub mod Later
 pub mod LawfulSingle
+pub mod LawfulTrips
 pub mod LawfulValues
+pub mod LayoutAnswers
 pub mod ListsFollow
 pub mod ListsHeld
 pub mod ListsTell
@@ -62,7 +65,11 @@ pub mod StepsRun
 pub mod TableAnswers
 pub mod TableReading
 pub mod TableTexts
+pub mod TablesBack
 pub mod TablesKept
 pub mod TablesMade
+pub mod TripAnswers
 pub mod TripLineLemmas
+pub mod TripTableAnswers
+pub mod TripsTell
 pub mod Understood

@@ -183,6 +183,7 @@ module _ (name : TableName) (terms : List Term) (sql : List ℕ) (asks : Asks na
 key_whole : (one : RowOf) → IsWholeText (look_up_text one) (length (columns_at (table_looked_up one) (table_for (table_looked_up one)).primary))
 unfolding everything
 key_whole keyed.Node = (lit≤ tt, refl)
+key_whole keyed.Edge = (lit≤ tt, refl)
 key_whole keyed.Station = (lit≤ tt, refl)
 key_whole keyed.Vehicle = (lit≤ tt, refl)
 key_whole keyed.Load = (lit≤ tt, refl)

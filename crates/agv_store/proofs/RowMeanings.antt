@@ -145,6 +145,13 @@ looks_up keyed.Node s at tree stands =
     (record { with = refl; others = refl; order = refl; limit = refl; offset = refl })
     (record { source = head_of (out-Core (out-Select sel).first).from tt; from = refl; origin = refl; alias = refl; on = refl; using = refl; inner = refl; group = refl; having = refl; repeats = refl })
     (key_terms the.Node) (column_terms the.Node) (column_names the.Node) (collations the.Node) refl refl refl refl refl
+looks_up keyed.Edge s at tree stands =
+    let p = parsed (look_up_text keyed.Edge) in
+    let sel = selection p.statement tt in
+    select_means s (codes "edge") (with_tree the.Edge tree) at stands (look_up_text keyed.Edge) p refl refl sel refl
+    (record { with = refl; others = refl; order = refl; limit = refl; offset = refl })
+    (record { source = head_of (out-Core (out-Select sel).first).from tt; from = refl; origin = refl; alias = refl; on = refl; using = refl; inner = refl; group = refl; having = refl; repeats = refl })
+    (key_terms the.Edge) (column_terms the.Edge) (column_names the.Edge) (collations the.Edge) refl refl refl refl refl
 looks_up keyed.Station s at tree stands =
     let p = parsed (look_up_text keyed.Station) in
     let sel = selection p.statement tt in

@@ -1,7 +1,7 @@
 -- The loads at a station as a table of their own, which their rows give.
-use Rattle.std.proofs.Common.{Ok, Err, Result, ◌≡◌, ◌&&◌, ℕ, Bool, true, false, cond, T, List, [], ◌∷◌, filter, Option, Some, Ordering, IsPermutation, is_lt, refl, sym, ap, subst, ◌∙◌}
+use Rattle.std.proofs.Common.{Ok, Err, Result, ◌≡◌, ◌&&◌, ℕ, Bool, true, false, cond, T, List, [], ◌∷◌, filter, Some, Ordering, IsPermutation, refl, sym, ap, subst, ◌∙◌}
 use Rattle.std.proofs.lemmas.Option.{same_Some}
-use Rattle.std.specs.Cmp.{Equal-is}
+use Rattle.std.specs.Cmp.{Equal-is, IsTotalOrder}
 use Rattle.std.specs.Cmp.Lexicographic.{nat_list_cmp_total}
 use Rattle.std.specs.FinMap as finite
 use Rattle.std.specs.FinMap.Entries.{below_all}
@@ -58,10 +58,10 @@ module _ {K X : Type 0} (R : K → K → Ordering) (p : K × X → Bool) where
 abbrev pub passing : {K X : Type 0} {R : K → K → Ordering} → (K × X → Bool) → finite.FinMap R X → finite.FinMap R X
 passing p m = finite.from_sorted (filter p (finite.entries m))
 
-entries-passing : {K X : Type 0} {R : K → K → Ordering} (p : K × X → Bool) (m : finite.FinMap R X) → finite.entries (passing p m) ≡ filter p (finite.entries m)
+pub entries-passing : {K X : Type 0} {R : K → K → Ordering} (p : K × X → Bool) (m : finite.FinMap R X) → finite.entries (passing p m) ≡ filter p (finite.entries m)
 entries-passing {K} {X} {R} p m = finite.entries-from_sorted R (filter p (finite.entries m)) (is_sorted-filter R p (finite.entries m) (finite.entries_sorted m))
 
-all-filter : {A : Type 0} (P : A → Type 0) (p : A → Bool) (xs : List A) → AllByRecursion P xs → AllByRecursion P (filter p xs)
+pub all-filter : {A : Type 0} (P : A → Type 0) (p : A → Bool) (xs : List A) → AllByRecursion P xs → AllByRecursion P (filter p xs)
 all-filter P p [] h = tt
 all-filter {A} P p (x ∷ xs) h = elim (p x) as (λ b. AllByRecursion P (cond b (x ∷ filter p xs) (filter p xs))) [ true ↦ (h.0, all-filter P p xs h.1) | false ↦ all-filter P p xs h.1 ]
 
@@ -73,6 +73,13 @@ found_from {K} {X} R P k x (e ∷ es) h is =
       | false ↦ λ _ more. found_from R P k x es h.1 more
     ] refl is
 
+-- what the passing entries have at a key is what the map has
+pub get-passing : {K X : Type 0} {R : K → K → Ordering} → IsTotalOrder R → finite.IsAntisymmetric R → (p : K × X → Bool) (m : finite.FinMap R X) (k : K) (x : X) → finite.get (passing p m) k ≡ Some x → finite.get m k ≡ Some x
+get-passing {K} {X} {R} total apart p m k x at =
+    let found = sym (finite.get-entries (passing p m) k ∙ ap (finite.find R k) (entries-passing p m)) ∙ at in
+    let from = found_from R (λ (e : K × X). finite.get m e.0 ≡ Some e.1) k x (filter p (finite.entries m)) (all-filter (λ (e : K × X). finite.get m e.0 ≡ Some e.1) p (finite.entries m) (entries_found total m)) found in
+    ap (finite.get m) (apart k from.0 ((Equal-is (R k from.0)).0 from.1)) ∙ from.2
+
 module _ (world : World) (lawful : IsLawful 1 world) (station : List ℕ) where
   abbrev pub is_there : List ℕ × Place → Bool
   is_there load = is_at station load.1
@@ -81,10 +88,7 @@ module _ (world : World) (lawful : IsLawful 1 world) (station : List ℕ) where
   loads_there = passing is_there world.places
 
   place_of : (id : List ℕ) (where_is : Place) → finite.get loads_there id ≡ Some where_is → finite.get world.places id ≡ Some where_is
-  place_of id where_is at =
-      let found = sym (finite.get-entries loads_there id ∙ ap (finite.find name_cmp id) (entries-passing is_there world.places)) ∙ at in
-      let from = found_from name_cmp (λ (e : List ℕ × Place). finite.get world.places e.0 ≡ Some e.1) id where_is (filter is_there (finite.entries world.places)) (all-filter (λ (e : List ℕ × Place). finite.get world.places e.0 ≡ Some e.1) is_there (finite.entries world.places) (entries_found nat_list_cmp_total world.places)) found in
-      ap (finite.get world.places) (names_apart id from.0 ((Equal-is (name_cmp id from.0)).0 from.1)) ∙ from.2
+  place_of id where_is at = get-passing nat_list_cmp_total names_apart is_there world.places id where_is at
 
   -- the rows of the loads at a station give the table of them
   pub reads_there : (rows : List Row) → IsPermutation (loads_shown (filter is_there (finite.entries world.places))) rows → read_rows load_in finite.empty rows ≡ Some loads_there

@@ -23,3 +23,13 @@ key_of (Some entry) = Ok (Some entry.0)
 abbrev pub first_key_in : {K X : Type 0} → (Row → Option (K × X)) → List Row → Result (Option K) ReadingFault
 first_key_in told [] = Ok None
 first_key_in told (row ∷ rows) = key_of (told row)
+
+-- the whole that a row tells; a row that tells nothing is damaged
+abbrev pub whole_of : {A : Type 0} → Option A → Result (Option A) ReadingFault
+whole_of None = Err fault.Damaged
+whole_of (Some a) = Ok (Some a)
+
+-- the whole that the first of the rows tells, and none where there is no row
+abbrev pub first_whole_in : {A : Type 0} → (Row → Option A) → List Row → Result (Option A) ReadingFault
+first_whole_in told [] = Ok None
+first_whole_in told (row ∷ rows) = whole_of (told row)

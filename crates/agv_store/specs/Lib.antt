@@ -23,7 +23,9 @@ pub mod RowQuestions
 pub mod RowTexts
 pub mod Schema
 pub mod SchemaTexts
+pub mod TablesRead
 pub mod TextsRun
 pub mod TripLines
+pub mod TripsTold
 pub mod TypedRows
 pub mod WorldAnswers

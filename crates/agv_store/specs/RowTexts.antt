@@ -22,6 +22,7 @@ table_written world.Used = the.Used
 
 abbrev pub table_looked_up : RowOf → TableName
 table_looked_up keyed.Node = the.Node
+table_looked_up keyed.Edge = the.Edge
 table_looked_up keyed.Station = the.Station
 table_looked_up keyed.Vehicle = the.Vehicle
 table_looked_up keyed.Load = the.Load
@@ -58,6 +59,7 @@ deletion_text world.Used = codes "DELETE FROM used WHERE kind = ?1 AND id = ?2"
 -- the parameters are the columns of the key
 abbrev pub look_up_text : RowOf → List ℕ
 look_up_text keyed.Node = codes "SELECT id FROM node WHERE id = ?1"
+look_up_text keyed.Edge = codes "SELECT id, start, finish FROM edge WHERE id = ?1"
 look_up_text keyed.Station = codes "SELECT id, node, capacity FROM station WHERE id = ?1"
 look_up_text keyed.Vehicle = codes "SELECT manufacturer, serial, node, rest_edge, rest_node, last_header, reported, ready, paused, order_header, order_at, instant_header, instant_at, pending FROM vehicle WHERE manufacturer = ?1 AND serial = ?2"
 look_up_text keyed.Load = codes "SELECT id, kind, station, manufacturer, serial FROM load WHERE id = ?1"

@@ -6,6 +6,7 @@ ghost use Rattle.agv_store.specs.DeskRows.{rows_of_key, table_for};
 ghost use Rattle.agv_store.specs.RowLists.{row_lists};
 ghost use Rattle.agv_store.specs.RowQuestions.{FitsColumns, all_rows_of, columns_asked, rows_asked, table_asked};
 ghost use Rattle.agv_store.specs.RowTexts.{table_looked_up};
+ghost use Rattle.agv_store.specs.TablesRead.{TellsAll};
 ghost use Rattle.agv_store.specs.WorldAnswers.{Tells};
 
 use crate::ReadingFault;
@@ -47,7 +48,9 @@ pub(crate) fn ask_all_rows<S: Alter>(
     conn: &mut Connection<S>,
     table: TableName,
 ) -> Result<Vec<Row>, ReadingFault>
-    ensures { Tells S.Store conn.old conn.new result (λ world rows. IsPermutation (all_rows_of table (row_lists (rows_of world))) rows.items) }
+    ensures { TellsAll S.Store conn.old conn.new result
+        (λ world rows. IsPermutation (all_rows_of table (row_lists (rows_of world))) rows.items)
+        (λ lists rows. IsPermutation (all_rows_of table lists) rows.items) }
 {
     let rows = find_all_rows(conn, table)?;
     Ok(rows)

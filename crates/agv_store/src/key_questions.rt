@@ -1,11 +1,11 @@
-//! Questions to the tables by a key: a vehicle, a load's place, a job, a station, a node, a holder, a used name.
+//! Questions to the tables by a key: a vehicle, a load's place, a job, a station, an edge, a node, a holder, a used name.
 //!
 //! Each answers what the lawful world says whose rows the tables have (`specs/WorldAnswers.antt`).
 ghost use Rattle.std.specs.Prelude.{◌≡◌};
 ghost use Rattle.std.specs.FinMap as map;
 ghost use Rattle.std.specs.FinSet as set;
 ghost use Rattle.agv_world.specs.Questions.{row_of, holder_of, is_used};
-ghost use Rattle.agv_store.specs.Columns.{hold_in, job_in, load_in, station_in, used_columns, vehicle_in};
+ghost use Rattle.agv_store.specs.Columns.{edge_in, hold_in, job_in, load_in, station_in, used_columns, vehicle_in};
 ghost use Rattle.agv_store.specs.FirstRow.{first_in};
 ghost use Rattle.agv_store.specs.TypedRows.{IsThing};
 ghost use Rattle.agv_store.specs.WorldAnswers.{Tells};
@@ -15,9 +15,9 @@ use crate::asked_rows::ask_rows;
 use crate::key_values::{hold_key_values, name_key_values, vehicle_key_values};
 use crate::row_of::RowOf;
 use crate::row_values::used_values;
-use crate::rows_told::{hold_told, job_told, load_told, station_told, vehicle_told};
+use crate::rows_told::{edge_told, hold_told, job_told, load_told, station_told, vehicle_told};
 use agv_header::{Name, Thing, VehicleKey};
-use agv_layout::Spot;
+use agv_layout::{Ends, Spot};
 use agv_stock::Place;
 use agv_world::{JobRow, UseKey, VehicleRow};
 use sqlite::{Alter, Connection, Row};
@@ -116,6 +116,30 @@ pub(crate) fn ask_station<S: Alter>(
 {
     let rows = ask_rows(conn, RowOf::Station, &name_key_values(id))?;
     station_in_rows(rows.as_slice())
+}
+
+// The ends of an edge that the rows of its name tell.
+fn ends_in_rows(rows: &[Row]) -> Result<Option<Ends>, ReadingFault>
+    ensures { result ≡ first_in edge_in rows.now }
+{
+    match rows.first() {
+        None => Ok(None),
+        Some(row) => match edge_told(row) {
+            None => Err(ReadingFault::Damaged),
+            Some((_, ends)) => Ok(Some(ends)),
+        },
+    }
+}
+
+/// Where an edge leads; none where it is unknown.
+pub(crate) fn ask_edge<S: Alter>(
+    conn: &mut Connection<S>,
+    id: &Name,
+) -> Result<Option<Ends>, ReadingFault>
+    ensures { Tells S.Store conn.old conn.new result (λ world ends. ends ≡ map.get world.layout.edges id.now) }
+{
+    let rows = ask_rows(conn, RowOf::Edge, &name_key_values(id))?;
+    ends_in_rows(rows.as_slice())
 }
 
 // The holder that the rows of a node or an edge tell.

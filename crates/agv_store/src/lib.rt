@@ -15,11 +15,16 @@
 //! - Rows of the desk's tables are added, taken out, put in place of that of their key, and looked up, in any
 //!   database in which the eleven tables stand, whatever other tables and indexes it has: `row_writes`, `row_reads`,
 //!   in the words of `specs/DeskRows.antt`. [`TableName`] names a table, [`RowsBy`] a look-up by other columns; `WorldTable` is a table
-//!   that is written, and `RowOf` a look-up by the key. All texts of SQL are 63 (`row_texts`).
+//!   that is written, and `RowOf` a look-up by the key. All texts of SQL are 64 (`row_texts`).
 //! - [`change_running`] makes a list of changes of a world's rows in the tables, in one transaction (`specs/ChangesMade.antt`).
-//! - The questions of a floor are asked of the tables: by a key (`key_questions`), about loads and live jobs
-//!   (`load_questions`, `station_loads`), and for whole tables (`table_reading`). Each answers what the lawful world says
-//!   whose rows the tables have, in the words of `specs/WorldAnswers.antt`; [`ReadingFault`] says why there is no answer.
+//! - [`trip_laws`] says that the row of a trip, that of its job and those of its edges tell an open trip whole.
+//! - The questions of a floor are asked of the tables: by a key (`key_questions`), for the open trip of a vehicle
+//!   (`trip_questions`), about loads and live jobs (`load_questions`, `station_loads`), and for the layout
+//!   (`layout_reading`). Each answers what the lawful world says whose rows the tables have, in the words of
+//!   `specs/WorldAnswers.antt`; [`ReadingFault`] says why there is no answer.
+//! - Whole tables are read (`table_reading`, `trip_reading`, `world_reading`) into the tables of a world in memory. What
+//!   is read has just the rows that the tables have, whatever these are (`specs/TablesRead.antt`): a row that tells
+//!   nothing, or a key that is told twice, is damaged.
 //! - [`Fault`] says why the machine failed, in place of an answer, and [`MakingFault`] why the tables aren't made.
 //!
 //! What the table holds after each call is stated for a clean store: one whose disk has so far
@@ -37,6 +42,7 @@ mod hold_rows;
 mod key_questions;
 mod key_values;
 pub mod laws;
+mod layout_reading;
 mod load_questions;
 mod load_rows;
 mod loads;
@@ -49,6 +55,7 @@ pub mod row_laws;
 pub mod row_list_laws;
 mod row_of;
 mod row_reads;
+mod row_tables;
 mod row_texts;
 mod row_values;
 mod row_writes;
@@ -60,8 +67,12 @@ mod step_running;
 pub mod table_name;
 mod table_reading;
 pub mod table_texts;
+pub mod trip_laws;
 pub mod trip_line;
+mod trip_questions;
+mod trip_reading;
 mod words;
+mod world_reading;
 mod world_table;
 
 pub use fault::Fault;

@@ -4,6 +4,7 @@
 #[derive(Clone, Copy, Debug)]
 pub(crate) enum RowOf {
     Node,
+    Edge,
     Station,
     Vehicle,
     Load,

@@ -2,7 +2,7 @@
 //!
 //! There is none that nothing asks for: `meta` is written once, by a text of its own, and edges, trips and legs are
 //! not looked up by their key. So there are 27 here; with the 17 of `question_texts`, the 16 of `table_texts` and the 3 of
-//! `statements` the crate has 63 texts of SQL.
+//! `statements` the crate has 64 texts of SQL.
 ghost use Rattle.std.specs.Prelude.{◌≡◌};
 ghost use Rattle.agv_store.specs.RowTexts.{insertion_text, deletion_text, look_up_text};
 
@@ -56,6 +56,7 @@ pub(crate) fn look_up(row: RowOf) -> &'static str
 {
     match row {
         RowOf::Node => "SELECT id FROM node WHERE id = ?1",
+        RowOf::Edge => "SELECT id, start, finish FROM edge WHERE id = ?1",
         RowOf::Station => "SELECT id, node, capacity FROM station WHERE id = ?1",
         RowOf::Vehicle =>
             "SELECT manufacturer, serial, node, rest_edge, rest_node, last_header, reported, ready, paused, order_header, order_at, instant_header, instant_at, pending FROM vehicle WHERE manufacturer = ?1 AND serial = ?2",

@@ -1,109 +1,38 @@
-//! Whole tables are read: the places of all loads, all jobs, all stations and all edges.
+//! Whole tables are read, but those of the trips and of what is held.
 //!
-//! Each answers what the lawful world says whose rows the tables have (`specs/WorldAnswers.antt`).
-ghost use Rattle.std.specs.Prelude.{◌≡◌};
-ghost use Rattle.std.specs.FinMap as map;
-ghost use Rattle.agv_store.specs.Columns.{edge_in, job_in, load_in, station_in};
-ghost use Rattle.agv_store.specs.ReadTables.{Reads, read_rows};
-ghost use Rattle.agv_store.specs.WorldAnswers.{Tells};
+//! Each answers what the lawful world says whose rows the tables have (`specs/WorldAnswers.antt`); and whatever rows
+//! they have, what is read has just these (`specs/TablesRead.antt`).
+ghost use Rattle.std.specs.Prelude.{◌≡◌, IsPermutation};
+ghost use Rattle.agv_world.specs.Rows.{rows_of};
+ghost use Rattle.agv_store.specs.Columns.{edge_columns, job_columns, leg_columns, load_columns, node_columns, station_columns, used_columns, vehicle_columns};
+ghost use Rattle.agv_store.specs.DeskRows.{place_of, table_at};
+ghost use Rattle.agv_store.specs.RowLists.{rows_for, rows_in};
+ghost use Rattle.agv_store.specs.TablesRead.{TellsAll};
+ghost use Rattle.agv_store.specs.declared.table_name.TableName.TheVariants as the;
 
 use crate::ReadingFault;
 use crate::asked_rows::ask_all_rows;
-use crate::rows_told::{edge_told, job_told, load_told, station_told};
+use crate::row_tables::{
+    edges_in_rows, jobs_in_rows, legs_in_rows, nodes_in_rows, places_in_rows, stations_in_rows,
+    used_in_rows, vehicles_in_rows,
+};
 use crate::table_name::TableName;
 use agv_layout::{Ends, Spot};
 use agv_stock::Place;
-use agv_world::{ByName, JobRow};
-use sqlite::{Alter, Connection, Row};
+use agv_world::lawful_laws::is_in_good_order;
+use agv_world::{ByLeg, ByName, ByVehicle, JobRow, Names, UsedNames, VehicleRow};
+use sqlite::{Alter, Connection};
 use std::alloc::Global;
 
-// The table that these rows tell.
-pub(crate) fn places_in_rows(alloc: Global, rows: &[Row]) -> Result<ByName<Place>, ReadingFault>
-    ensures { Reads result (read_rows load_in map.empty rows.now) }
-{
-    let mut table = ByName::new(alloc);
-    for row in rows {
-        match load_told(row) {
-            None => return Err(ReadingFault::Damaged),
-            Some((id, value)) => table.insert(id, value)?,
-        }
-    }
-    Ok(table)
-}
-
-/// The place of each load.
-pub(crate) fn ask_places<S: Alter>(
+/// The nodes of the layout.
+pub(crate) fn ask_nodes<S: Alter>(
     alloc: Global,
     conn: &mut Connection<S>,
-) -> Result<ByName<Place>, ReadingFault>
-    ensures { Tells S.Store conn.old conn.new result (λ world table. table ≡ world.places) }
+) -> Result<Names, ReadingFault>
+    ensures { TellsAll S.Store conn.old conn.new result (λ world table. table ≡ world.layout.nodes) (λ lists table. IsPermutation (table_at (place_of the.Node) lists) (rows_for node_columns table)) }
 {
-    let rows = ask_all_rows(conn, TableName::Load)?;
-    places_in_rows(alloc, rows.as_slice())
-}
-
-// The table that these rows tell.
-fn jobs_in_rows(alloc: Global, rows: &[Row]) -> Result<ByName<JobRow>, ReadingFault>
-    ensures { Reads result (read_rows job_in map.empty rows.now) }
-{
-    let mut table = ByName::new(alloc);
-    for row in rows {
-        match job_told(row) {
-            None => return Err(ReadingFault::Damaged),
-            Some((id, value)) => table.insert(id, value)?,
-        }
-    }
-    Ok(table)
-}
-
-/// The jobs.
-pub(crate) fn ask_jobs<S: Alter>(
-    alloc: Global,
-    conn: &mut Connection<S>,
-) -> Result<ByName<JobRow>, ReadingFault>
-    ensures { Tells S.Store conn.old conn.new result (λ world table. table ≡ world.jobs) }
-{
-    let rows = ask_all_rows(conn, TableName::Job)?;
-    jobs_in_rows(alloc, rows.as_slice())
-}
-
-// The table that these rows tell.
-fn stations_in_rows(alloc: Global, rows: &[Row]) -> Result<ByName<Spot>, ReadingFault>
-    ensures { Reads result (read_rows station_in map.empty rows.now) }
-{
-    let mut table = ByName::new(alloc);
-    for row in rows {
-        match station_told(row) {
-            None => return Err(ReadingFault::Damaged),
-            Some((id, value)) => table.insert(id, value)?,
-        }
-    }
-    Ok(table)
-}
-
-/// The stations of the layout.
-pub(crate) fn ask_stations<S: Alter>(
-    alloc: Global,
-    conn: &mut Connection<S>,
-) -> Result<ByName<Spot>, ReadingFault>
-    ensures { Tells S.Store conn.old conn.new result (λ world table. table ≡ world.layout.stations) }
-{
-    let rows = ask_all_rows(conn, TableName::Station)?;
-    stations_in_rows(alloc, rows.as_slice())
-}
-
-// The table that these rows tell.
-fn edges_in_rows(alloc: Global, rows: &[Row]) -> Result<ByName<Ends>, ReadingFault>
-    ensures { Reads result (read_rows edge_in map.empty rows.now) }
-{
-    let mut table = ByName::new(alloc);
-    for row in rows {
-        match edge_told(row) {
-            None => return Err(ReadingFault::Damaged),
-            Some((id, value)) => table.insert(id, value)?,
-        }
-    }
-    Ok(table)
+    let rows = ask_all_rows(conn, TableName::Node)?;
+    nodes_in_rows(alloc, rows.as_slice())
 }
 
 /// The edges of the layout.
@@ -111,8 +40,75 @@ pub(crate) fn ask_edges<S: Alter>(
     alloc: Global,
     conn: &mut Connection<S>,
 ) -> Result<ByName<Ends>, ReadingFault>
-    ensures { Tells S.Store conn.old conn.new result (λ world table. table ≡ world.layout.edges) }
+    ensures { TellsAll S.Store conn.old conn.new result (λ world table. table ≡ world.layout.edges) (λ lists table. IsPermutation (table_at (place_of the.Edge) lists) (rows_in edge_columns table)) }
 {
     let rows = ask_all_rows(conn, TableName::Edge)?;
     edges_in_rows(alloc, rows.as_slice())
+}
+
+/// The stations of the layout.
+pub(crate) fn ask_stations<S: Alter>(
+    alloc: Global,
+    conn: &mut Connection<S>,
+) -> Result<ByName<Spot>, ReadingFault>
+    ensures { TellsAll S.Store conn.old conn.new result (λ world table. table ≡ world.layout.stations) (λ lists table. IsPermutation (table_at (place_of the.Station) lists) (rows_in station_columns table)) }
+{
+    let rows = ask_all_rows(conn, TableName::Station)?;
+    stations_in_rows(alloc, rows.as_slice())
+}
+
+/// The vehicles, but for their open trips.
+pub(crate) fn ask_vehicles<S: Alter>(
+    alloc: Global,
+    conn: &mut Connection<S>,
+) -> Result<ByVehicle<VehicleRow>, ReadingFault>
+    ensures { TellsAll S.Store conn.old conn.new result (λ world table. table ≡ (rows_of world).vehicles) (λ lists table. IsPermutation (table_at (place_of the.Vehicle) lists) (rows_in vehicle_columns table)) }
+{
+    let rows = ask_all_rows(conn, TableName::Vehicle)?;
+    vehicles_in_rows(alloc, rows.as_slice())
+}
+
+/// The edges of all open trips.
+pub(crate) fn ask_legs<S: Alter>(
+    alloc: Global,
+    conn: &mut Connection<S>,
+) -> Result<ByLeg, ReadingFault>
+    ensures { TellsAll S.Store conn.old conn.new result (λ world table. table ≡ (rows_of world).legs) (λ lists table. IsPermutation (table_at (place_of the.Leg) lists) (rows_in leg_columns table)) }
+{
+    is_in_good_order();
+    let rows = ask_all_rows(conn, TableName::Leg)?;
+    legs_in_rows(alloc, rows.as_slice())
+}
+
+/// The place of each load.
+pub(crate) fn ask_places<S: Alter>(
+    alloc: Global,
+    conn: &mut Connection<S>,
+) -> Result<ByName<Place>, ReadingFault>
+    ensures { TellsAll S.Store conn.old conn.new result (λ world table. table ≡ world.places) (λ lists table. IsPermutation (table_at (place_of the.Load) lists) (rows_in load_columns table)) }
+{
+    let rows = ask_all_rows(conn, TableName::Load)?;
+    places_in_rows(alloc, rows.as_slice())
+}
+
+/// The jobs.
+pub(crate) fn ask_jobs<S: Alter>(
+    alloc: Global,
+    conn: &mut Connection<S>,
+) -> Result<ByName<JobRow>, ReadingFault>
+    ensures { TellsAll S.Store conn.old conn.new result (λ world table. table ≡ world.jobs) (λ lists table. IsPermutation (table_at (place_of the.Job) lists) (rows_in job_columns table)) }
+{
+    let rows = ask_all_rows(conn, TableName::Job)?;
+    jobs_in_rows(alloc, rows.as_slice())
+}
+
+/// The names that were used, each in its kind.
+pub(crate) fn ask_used<S: Alter>(
+    alloc: Global,
+    conn: &mut Connection<S>,
+) -> Result<UsedNames, ReadingFault>
+    ensures { TellsAll S.Store conn.old conn.new result (λ world table. table ≡ (rows_of world).used) (λ lists table. IsPermutation (table_at (place_of the.Used) lists) (rows_for used_columns table)) }
+{
+    let rows = ask_all_rows(conn, TableName::Used)?;
+    used_in_rows(alloc, rows.as_slice())
 }

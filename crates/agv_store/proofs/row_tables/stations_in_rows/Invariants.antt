@@ -2,7 +2,7 @@ use Rattle.std.proofs.Common.{◌≡◌, drop}
 use Rattle.std.specs.FinMap as map
 use Rattle.agv_store.specs.Columns.{station_in}
 use Rattle.agv_store.specs.ReadTables.{read_rows}
-use Rattle.agv_store.proofs.table_reading.stations_in_rows.Given as goal
+use Rattle.agv_store.proofs.row_tables.stations_in_rows.Given as goal
 
 -- what is read, and what is left, make all
 abbrev pub invariant-loop-row : goal.invariant-loop-row
