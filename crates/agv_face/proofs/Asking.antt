@@ -2,10 +2,10 @@
 use Rattle.std.proofs.Common.{◌≡◌, ℕ, Bool, cond, List, [], ◌∷◌, ◌++◌, true, false, map, Option, Some, None, refl, sym, ap, ap₂, ◌∙◌, subst, append_assoc, append-nil}
 use Rattle.std.proofs.lemmas.List.{map-append}
 use Rattle.agv_header.specs.declared.refusal.Refusal.{Refusal}
-use Rattle.agv_face.specs.declared.call.Call.{Call}
+use Rattle.agv_desk.specs.declared.call.Call.{Call}
 use Rattle.agv_http.specs.Requests.{Request, IsRequest, IsFault, is_last}
 use Rattle.agv_http.specs.Cut.{Cut, at_end, faulty, no_more, a_fault, one_more}
-use Rattle.agv_face.specs.Calls.{call_of, call_at, path_of}
+use Rattle.agv_face.specs.Calls.{call_of, call_at}
 use Rattle.agv_face.specs.Asked.{Asks}
 use Rattle.agv_http.proofs.Cuts.{one_request, not_empty, one_cut}
 
@@ -20,7 +20,7 @@ not_none c e = cc
 goes_on : (r : Request) (c : Call) (b : Bool) → is_last r ≡ b → call_of r ≡ Some c → b ≡ false
 goes_on r c false is called = refl
 goes_on r c true is called =
-    let F : Bool → Option Call = λ b. cond b None (call_at r.method (path_of r.target) r.body) in
+    let F : Bool → Option Call = λ b. cond b None (call_at r.method r.target r.body) in
     absurd (not_none c (sym (ap F is) ∙ called))
 
 pub call_goes_on : (r : Request) (c : Call) → call_of r ≡ Some c → is_last r ≡ false

@@ -1,4 +1,4 @@
-pub mod Bodies
 pub mod Asking
 pub mod Streaming
 pub mod Steps
+pub mod AsTheDesk

@@ -8,14 +8,12 @@ use Rattle.agv_store.specs.HeldLoads.{IsClean, IsLater, HoldsLoads, HoldsIfOpen}
 use Rattle.agv_store.specs.Registered.{Registered}
 use Rattle.agv_store.specs.declared.fault.Fault.{Fault}
 use Rattle.agv_store.specs.declared.fault.Fault.TheVariants as fault
-use Rattle.agv_face.specs.declared.answer.Answer.{Answer}
-use Rattle.agv_face.specs.declared.call.Call.{Call}
-use Rattle.agv_face.specs.declared.call.Call.TheVariants as variant
+use Rattle.agv_desk.specs.declared.answer.Answer.{Answer}
+use Rattle.agv_desk.specs.declared.call.Call.{Call}
 use Rattle.agv_face.specs.declared.stream.Stop.{Stop}
 use Rattle.agv_face.specs.declared.stream.Stop.TheVariants as stop
 use Rattle.agv_face.specs.declared.watched.Watched.{Watched}
-use Rattle.agv_face.specs.Answers.{answer_bytes}
-use Rattle.agv_face.specs.Served.{answer_to, after, after_all, IsAnswered}
+use Rattle.agv_face.specs.Served.{answer_bytes, answer_to, after, after_all, IsAnswered}
 use Rattle.agv_face.specs.Stops.{stop_of}
 use Rattle.agv_face.specs.StoreFaults.{HasCauseBehind, IsRowRefusedBehind}
 use Rattle.agv_face.specs.Stepped.{IsReadOutcome, IsWriteOutcome, IsCallOutcome, IsNextOutcome, IsNextCall, KeptIfOpen, CarriedOut, KeptOrCarriedOut}
@@ -96,8 +94,14 @@ module _ {S R W : Type 0} (g : Ghosts S) (remaining : R → Option (List ℕ)) (
       inr (calls, next.1, asks_next _ _ _ _ next.0 calls next.1 come next.2, λ is. unanswered_on (HoldsLoads g loads) (HoldsLoads g loads_mid) (HoldsLoads g loads_then) _ _ _ calls next.1 (now.0 (later.clean is)) (ap (λ (w : Watched W). contents (inner_of w)) same) (next.3 is))
 
   refused_behind : (calls : List Call) (call : Call) (old new : Option (List ℕ)) → IsAnswered (HoldsLoads g loads) (HoldsLoads g loads_mid) old new calls → IsRowRefusedBehind g loads_mid loads_then [] call → IsRowRefusedBehind g loads loads_then calls call
-  refused_behind calls (variant.Register load) old new answered refused = (refused.0, (λ known held. refused.1 (after_all known calls) (answered known held).1), refused.2)
-  refused_behind calls (variant.Show load) old new answered refused = absurd refused
+  refused_behind calls call old new answered refused = record {
+    load = refused.load;
+    station = refused.station;
+    next_is = refused.next_is;
+    named = refused.named;
+    is_new = λ known held. refused.is_new (after_all known calls) (answered known held).1;
+    refused = refused.refused;
+  }
 
   cause_behind : (ended : Bool) (buf : List ℕ) (calls : List Call) → HasCome (remaining (inner_of reader)) (remaining (inner_of reader_mid)) ended buf calls → Answering g contents loads loads_mid reader reader_mid writer writer_mid calls
       → IsLater g loads loads_mid → IsLater g loads_mid loads_then → HasCauseBehind g loads_mid loads_then [] (λ next. (len : ℕ) × IsNextCall buf len next)

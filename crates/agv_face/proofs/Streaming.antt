@@ -4,14 +4,13 @@ use Rattle.std.specs.Io.KnownBytes.{Appends, Consumes, IsAtEnd, Keeps}
 use Rattle.std.proofs.KnownBytes.{Appends-trans, Appends-nil, Appends-kept, Consumes-nil, Consumes-trans, Consumes-kept}
 use Rattle.std.proofs.Math.ListN.{length-drop}
 use Rattle.agv_store.specs.Registered.{Registered}
-use Rattle.agv_face.specs.declared.call.Call.{Call}
+use Rattle.agv_desk.specs.declared.call.Call.{Call}
 use Rattle.agv_http.specs.Requests.{Request, NeedsMore, is_last}
-use Rattle.agv_face.specs.Calls.{call_of, call_at, path_of}
+use Rattle.agv_face.specs.Calls.{call_of, call_at}
 use Rattle.agv_http.specs.declared.request.LentRequest.{LentRequest}
 use Rattle.agv_face.specs.Asked.{Asks, AsksFirst, AsksNext, AsksSoFar, AsksUpToOther, BeginsWithNoCall}
-use Rattle.agv_face.specs.declared.answer.Answer.{Answer}
-use Rattle.agv_face.specs.Answers.{answer_bytes}
-use Rattle.agv_face.specs.Served.{answer_to, after, after_all, output, AreKept, AreAfter, IsAnswered, IsUnanswered, IsPartWritten, IsPartAnswered}
+use Rattle.agv_desk.specs.declared.answer.Answer.{Answer}
+use Rattle.agv_face.specs.Served.{answer_bytes, answer_to, after, after_all, output, AreKept, AreAfter, IsAnswered, IsUnanswered, IsPartWritten, IsPartAnswered}
 use Rattle.agv_http.specs.Heard.{IsLent, HasRequest}
 use Rattle.agv_face.specs.Stepped.{IsNextCall, IsOther}
 use Rattle.agv_face.specs.declared.watched.Watched.{Watched}
@@ -164,21 +163,21 @@ keeps-nil (Some xs) (Some ys) took = took ∙ append-nil xs
 
 -- ---- the call that lent parts are
 
-lent_call : (r : Request) (lent : LentRequest) (found : Option Call) → IsLent r lent → found ≡ cond lent.close None (call_at lent.method (path_of lent.target.now) lent.body.now) → call_of r ≡ found
+lent_call : (r : Request) (lent : LentRequest) (found : Option Call) → IsLent r lent → found ≡ cond lent.close None (call_at lent.method lent.target.now lent.body.now) → call_of r ≡ found
 lent_call r lent found is e = sym (
-    e ∙ ap (λ (b : Bool). cond b None (call_at lent.method (path_of lent.target.now) lent.body.now)) is.close
-    ∙ ap (λ (m : List ℕ). cond (is_last r) None (call_at m (path_of lent.target.now) lent.body.now)) is.method
-    ∙ ap (λ (t : List ℕ). cond (is_last r) None (call_at r.method (path_of t) lent.body.now)) is.target
-    ∙ ap (λ (b : List ℕ). cond (is_last r) None (call_at r.method (path_of r.target) b)) is.body)
+    e ∙ ap (λ (b : Bool). cond b None (call_at lent.method lent.target.now lent.body.now)) is.close
+    ∙ ap (λ (m : List ℕ). cond (is_last r) None (call_at m lent.target.now lent.body.now)) is.method
+    ∙ ap (λ (t : List ℕ). cond (is_last r) None (call_at r.method t lent.body.now)) is.target
+    ∙ ap (λ (b : List ℕ). cond (is_last r) None (call_at r.method r.target b)) is.body)
 
 -- the request that is heard is a call
 pub heard_call : (buf : List ℕ) (lent : LentRequest) (found : Option Call) (c : Call) → HasRequest buf lent.len (λ r. IsLent r lent)
-    → found ≡ cond lent.close None (call_at lent.method (path_of lent.target.now) lent.body.now) → found ≡ Some c → IsNextCall buf lent.len c
+    → found ≡ cond lent.close None (call_at lent.method lent.target.now lent.body.now) → found ≡ Some c → IsNextCall buf lent.len c
 heard_call buf lent found c heard e is = (heard.0, heard.1, heard.2, heard.3, lent_call heard.2 lent found heard.4 e ∙ is)
 
 -- it is none
 pub heard_other : (buf : List ℕ) (ended : Bool) (lent : LentRequest) (found : Option Call) → HasRequest buf lent.len (λ r. IsLent r lent)
-    → found ≡ cond lent.close None (call_at lent.method (path_of lent.target.now) lent.body.now) → found ≡ None → IsOther buf ended
+    → found ≡ cond lent.close None (call_at lent.method lent.target.now lent.body.now) → found ≡ None → IsOther buf ended
 heard_other buf ended lent found heard e is more follows =
     let part : buf ≡ take lent.len buf ++ drop lent.len buf = sym (take-append-drop lent.len buf) in
     inr (

@@ -1,7 +1,7 @@
 -- What an input asks of the desk.
 use Rattle.std.specs.Prelude.{◌≡◌, ◌⊎◌, ℕ, List, [], ◌∷◌, ◌++◌, map, None, Some}
 use Rattle.agv_header.specs.declared.refusal.Refusal.{Refusal}
-use Rattle.agv_face.specs.declared.call.Call.{Call}
+use Rattle.agv_desk.specs.declared.call.Call.{Call}
 use Rattle.agv_http.specs.Requests.{Request, IsRequest, IsFault, NeedsMore}
 use Rattle.agv_http.specs.Cut.{Cut, at_end}
 use Rattle.agv_face.specs.Calls.{call_of}

@@ -1,9 +1,9 @@
 pub mod Calls
 pub mod Asked
-pub mod Answers
 pub mod Served
 pub mod Stepped
 pub mod Stops
 pub mod Watched
 pub mod StoreFaults
 pub mod StreamEnds
+pub mod AsTheDesk

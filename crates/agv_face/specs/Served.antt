@@ -1,34 +1,40 @@
 -- What the desk answers to calls, and what they make of the registered loads.
-use Rattle.std.specs.Prelude.{◌≡◌, ℕ, ◌<◌, ◌++◌, Bool, List, [], ◌∷◌, length, Option, Result, Ok, Err, if◌then◌else◌}
+use Rattle.std.specs.Prelude.{◌≡◌, ℕ, ◌<◌, ◌++◌, Bool, false, List, [], ◌∷◌, length, Option, None, Result, Ok, Err, if◌then◌else◌}
 use Rattle.std.specs.FinSet as set
 use Rattle.std.specs.Io.KnownBytes.{Appends}
 use Rattle.agv_header.specs.declared.refusal.Refusal.{Refusal}
 use Rattle.agv_header.specs.declared.refusal.Refusal.TheVariants as refusal
 use Rattle.agv_store.specs.Registered.{Registered, registration_result, after_registration}
-use Rattle.agv_face.specs.declared.answer.Answer.{Answer}
-use Rattle.agv_face.specs.declared.answer.Answer.TheVariants as answer
-use Rattle.agv_face.specs.declared.call.Call.{Call}
-use Rattle.agv_face.specs.declared.call.Call.TheVariants as call
-use Rattle.agv_face.specs.Answers.{answer_bytes}
+use Rattle.agv_stock.specs.declared.place.Place.TheVariants as place
+use Rattle.agv_desk.specs.declared.answer.Answer.{Answer}
+use Rattle.agv_desk.specs.declared.answer.Answer.TheVariants as answer
+use Rattle.agv_desk.specs.declared.call.Call.{Call}
+use Rattle.agv_desk.specs.declared.call.Call.TheVariants as call
+use Rattle.agv_http.specs.Answers.{answer_text}
 
 -- a registration, as an answer
 abbrev pub registration_answer : Result (Unit {0}) Refusal → Answer
 registration_answer (Ok done) = answer.Done
 registration_answer (Err refused) = answer.Refused refused
 
--- where a load stands, if it is known
+-- a load that is known stands at the checking place, and has no live job
 abbrev pub place_answer : Bool → List ℕ → Answer
-place_answer known load = if known then answer.AtChecking load else answer.Refused refusal.NoLoad
+place_answer known load = if known then answer.Load load place.Checking None else answer.Refused refusal.NoLoad
 
--- what the desk says to a call
+-- what the desk says to a call; no request is a call of another kind
 abbrev pub answer_to : Registered → Call → Answer
-answer_to loads (call.Register load) = registration_answer (registration_result loads load)
-answer_to loads (call.Show load) = place_answer (set.contains loads load) load
+answer_to loads (call.RegisterLoad load station) = registration_answer (registration_result loads load)
+answer_to loads (call.GetLoad load) = place_answer (set.contains loads load) load
+answer_to loads _ = answer.Refused refusal.NoPath
 
 -- the registered loads after a call
 abbrev pub after : Registered → Call → Registered
-after loads (call.Register load) = after_registration loads load
-after loads (call.Show load) = loads
+after loads (call.RegisterLoad load station) = after_registration loads load
+after loads _ = loads
+
+-- the bytes of an answer that has no report and leaves the stream open
+abbrev pub answer_bytes : Answer → List ℕ
+answer_bytes a = answer_text a [] false
 
 -- the registered loads after some calls
 abbrev pub after_all : Registered → List Call → Registered

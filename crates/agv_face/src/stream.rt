@@ -2,18 +2,18 @@
 ghost use Rattle.std.specs.Prelude.{◌≡◌, ◌≤◌, ◌+◌, drop, vec_len, vec_capacity, [], IfOk, IfErr, OnOk, OnErr};
 ghost use Rattle.agv_store.specs.HeldLoads.{IsClean, IsOpen, IsLater, HoldsLoads, KeepsLoads};
 ghost use Rattle.agv_store.specs.Registered.{Registered};
-ghost use Rattle.agv_face.specs.Answers.{answer_bytes};
 ghost use Rattle.agv_face.specs.StreamEnds.{IsStreamEnd};
-ghost use Rattle.agv_face.specs.Served.{answer_to, after, registration_answer, place_answer};
+ghost use Rattle.agv_face.specs.Served.{answer_bytes, answer_to, after, registration_answer, place_answer};
 ghost use Rattle.agv_face.specs.Stepped.{IsReadOutcome, IsWriteOutcome, IsCallOutcome, IsNextOutcome};
 ghost use Rattle.agv_face.specs.StoreFaults.{HasCauseBehind};
 ghost use Rattle.agv_face.specs.Watched.{HadCall, HadCallsAtMost};
 
-use crate::answer::{Answer, answer_bytes};
-use crate::call::{Call, call_of};
+use crate::call::call_of;
 use crate::watched::Watched;
+use agv_desk::{Answer, Call};
 use agv_header::{Memory, Name, Refusal};
-use agv_http::{Heard, read_request};
+use agv_http::{Heard, Routes, answer_bytes, read_request};
+use agv_stock::Place;
 use agv_store::{Fault, Loads};
 use sqlite::Alter;
 use std::alloc::{AllocError, Global};
@@ -148,28 +148,33 @@ fn registration_answer(registration: Result<(), Refusal>) -> Answer
     }
 }
 
-/// Where a load stands, if it is known.
+/// Where a load stands, if it is known: at the checking place, with no live job.
 fn place_answer(known: bool, load: Name) -> Answer
     ensures { result ≡ place_answer known load }
 {
     if known {
-        Answer::AtChecking(load)
+        Answer::Load {
+            load,
+            place: Place::Checking,
+            job: None,
+        }
     } else {
         Answer::Refused(Refusal::NoLoad)
     }
 }
 
 /// Carries a call out, and gives its answer.
-fn carry_out<S: Alter + Drop>(loads: &mut Loads<S>, call: Call) -> Result<Answer, Fault>
+fn carry_out<S: Alter + Drop>(loads: &mut Loads<S>, call: &Call) -> Result<Answer, Fault>
     ensures later { IsLater S.Store loads.old loads.new }
     ensures carried { IsClean S.Store loads.new → IfOk result (λ answer. (known : Registered) → HoldsLoads S.Store loads.old known
-        → (answer ≡ answer_to known call) × HoldsLoads S.Store loads.new (after known call)) }
+        → (answer ≡ answer_to known call.now) × HoldsLoads S.Store loads.new (after known call.now)) }
     ensures failed { IsClean S.Store loads.new → IsOpen S.Store loads.new → OnErr result (KeepsLoads S.Store loads.old loads.new) }
-    ensures caused { IfErr result (λ fault. fault ≡ Fault.Storage → HasCauseBehind S.Store loads.old loads.new [] (λ next. next ≡ call)) }
+    ensures caused { IfErr result (λ fault. fault ≡ Fault.Storage → HasCauseBehind S.Store loads.old loads.new [] (λ next. next ≡ call.now)) }
 {
     match call {
-        Call::Register(load) => Ok(registration_answer(loads.register(load)?)),
-        Call::Show(load) => Ok(place_answer(loads.known(load)?, load)),
+        Call::RegisterLoad { load, .. } => Ok(registration_answer(loads.register(*load)?)),
+        Call::GetLoad { load } => Ok(place_answer(loads.known(*load)?, *load)),
+        _ => Ok(Answer::Refused(Refusal::NoPath)),
     }
 }
 
@@ -181,7 +186,7 @@ fn write_answer<W: Write>(
 ) -> Result<(), Stop>
     ensures ends { IsWriteOutcome W.contents writer.old writer.new (answer_bytes answer.now) result }
 {
-    let bytes = answer_bytes(alloc, answer)?;
+    let bytes = answer_bytes(alloc, answer, &[], false)?;
     write_whole(writer, &bytes)
 }
 
@@ -189,11 +194,11 @@ fn write_answer<W: Write>(
 fn answer_call<S: Alter + Drop, W: Write>(
     alloc: Global,
     loads: &mut Loads<S>,
-    call: Call,
+    call: &Call,
     writer: &mut Watched<W>,
 ) -> Result<(), Stop>
     ensures later { IsLater S.Store loads.old loads.new }
-    ensures ends { IsCallOutcome S.Store W.contents loads.old loads.new writer.old writer.new call result }
+    ensures ends { IsCallOutcome S.Store W.contents loads.old loads.new writer.old writer.new call.now result }
 {
     let answer = carry_out(loads, call)?;
     write_answer(alloc, &answer, writer)
@@ -202,6 +207,7 @@ fn answer_call<S: Alter + Drop, W: Write>(
 /// Answers the next request of the buffer, where it has come whole.
 fn answer_next<S: Alter + Drop, W: Write>(
     alloc: Global,
+    routes: &Routes,
     loads: &mut Loads<S>,
     buf: &[u8],
     ended: bool,
@@ -215,10 +221,10 @@ fn answer_next<S: Alter + Drop, W: Write>(
         Heard::End => Ok(Step::End),
         Heard::Fault(_) => Err(Stop::Other),
         Heard::Request(request) => {
-            let Some(call) = call_of(alloc, &request)? else {
+            let Some(call) = call_of(alloc, routes, &request)? else {
                 return Err(Stop::Other);
             };
-            answer_call(alloc, loads, call, writer)?;
+            answer_call(alloc, loads, &call, writer)?;
             Ok(Step::Answered(request.len))
         }
     }
@@ -240,12 +246,13 @@ pub fn answer_calls<S: Alter + Drop, R: Read, W: Write>(
     // It needs 16,777,216 reads at most.
     ensures reads { HadCallsAtMost 16777216 reader.old reader.new }
 {
+    let routes = Routes::new(alloc)?;
     let mut buf = Vec::with_capacity(alloc, ROOM)?;
     let mut ended = false;
     let mut reads = 0;
     let mut answers = 0;
     loop {
-        match answer_next(alloc, loads, &buf, ended, writer)? {
+        match answer_next(alloc, &routes, loads, &buf, ended, writer)? {
             Step::End => return Ok(answers),
             Step::Answered(len) => {
                 drop_front(&mut buf, len);

@@ -183,7 +183,7 @@ const OTHERS: [&[u8]; 9] = [
     b"GET /loads/a%20b HTTP/1.1\r\n\r\n",
     b"POST /loads HTTP/1.1\r\n\r\n",
     b"POST /loads HTTP/1.1\r\nContent-Length: 13\r\n\r\n{\"loa",
-    b"POST /loads HTTP/1.1\r\nContent-Length: 23\r\n\r\n{\"load\":\"L1\",\"at\":null}",
+    b"POST /loads HTTP/1.1\r\nContent-Length: 27\r\n\r\n{\"load\":\"L1\",\"station\":\"A\"}",
     b"POST /loads HTTP/1.1\r\nContent-Length: 15\r\n\r\n{\"load\":\"a b\"} ",
     b"PUT /loads HTTP/1.1\r\nContent-Length: 0\r\n\r\n",
     b"\r\nGET /loads",

@@ -37,6 +37,15 @@ returns-in_err-buf-clause-ends g c =
     let holds = HoldsLoads g.S.Store c.args.loads.now in
     let old = g.W.Write.contents c.args.writer.now.inner in
     let Ended : Result ℕ Stop → Type 0 = λ result. IsStreamEnd g.S.Store g.R.Read.remaining g.W.Write.contents c.args.loads.now c.args.loads.now c.args.reader.now c.args.reader.now c.args.writer.now c.args.writer.now result in
+    of_same_err c.from_residual-in_err-buf.result _ Ended c.from_residual-in_err-buf.ensures.1
+    (inl ([], so_far _ _ _ _ [] (at_start (g.R.Read.remaining c.args.reader.now.inner)), λ _. answered-less holds holds (HoldsIfOpen g.S.Store c.args.loads.now) old old [] (λ _ held _. held) (none_answered holds old)), (refl, refl))
+
+-- nor for the table of calls
+pub returns-in_err-routes-clause-ends : goal.returns-in_err-routes-clause-ends
+returns-in_err-routes-clause-ends g c =
+    let holds = HoldsLoads g.S.Store c.args.loads.now in
+    let old = g.W.Write.contents c.args.writer.now.inner in
+    let Ended : Result ℕ Stop → Type 0 = λ result. IsStreamEnd g.S.Store g.R.Read.remaining g.W.Write.contents c.args.loads.now c.args.loads.now c.args.reader.now c.args.reader.now c.args.writer.now c.args.writer.now result in
     of_same_err c.from_residual.result _ Ended c.from_residual.ensures.1
     (inl ([], so_far _ _ _ _ [] (at_start (g.R.Read.remaining c.args.reader.now.inner)), λ _. answered-less holds holds (HoldsIfOpen g.S.Store c.args.loads.now) old old [] (λ _ held _. held) (none_answered holds old)), (refl, refl))
 
