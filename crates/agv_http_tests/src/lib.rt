@@ -6,6 +6,7 @@
 //! - `routes` has paths and methods, and the line of the table of calls that each is.
 //! - `bodies` has the bodies of requests, and the calls that they say.
 //! - `answers` has the bytes of answers.
+//! - `repeated` reads one request often, and puts one answer often, for `examples/measure-requests`.
 //! - `stream` has whole streams of requests to a desk that keeps its world in memory.
 #![tactic(auto)]
 
@@ -15,6 +16,8 @@ mod answers;
 mod bodies;
 #[cfg(test)]
 mod cases;
+#[cfg(test)]
+mod repeated;
 #[cfg(test)]
 mod requests;
 #[cfg(test)]

@@ -3,12 +3,16 @@
 //!
 //! - `loads` calls each public call of the store once, with ample memory.
 //! - `tables` makes the desk's tables in databases with and without others.
+//! - `asked` asks the desk's tables in a file with 1,000 loads and with 100,000.
+//! - `written` writes the changes of a worked example to the tables, on a disk too, and reads the rows back.
 //! - `streams` serves the worked examples as bytes, which `examples` has: whole, in pieces, with a reader or a
 //!   writer of `fakes` that fails, and with input of other forms behind them.
 //! - `beginnings` shows which beginnings of a request are waited for and which are refused at once.
 //! - `cases` compares what is found with what is wanted.
 #![tactic(auto)]
 
+#[cfg(test)]
+mod asked;
 #[cfg(test)]
 mod beginnings;
 #[cfg(test)]
@@ -23,3 +27,5 @@ mod loads;
 mod streams;
 #[cfg(test)]
 mod tables;
+#[cfg(test)]
+mod written;

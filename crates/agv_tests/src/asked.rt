@@ -1,0 +1,246 @@
+//! Questions to the desk's tables, and a commit, in a file with 1,000 loads and 1,000 jobs that have ended, and in one with
+//! 100,000 of each: `docs/PERFORMANCE.md` has what they cost.
+//!
+//! The vehicle KIT/0001 stands at N1, with the load V1. At the station A are the loads A1 and A2, and A1 has a live job to B.
+
+use crate::cases::check;
+use agv_header::{Moment, Name, Thing, VehicleKey};
+use agv_layout::{Ends, Spot};
+use agv_stock::{Phase, Place};
+use agv_store::change_running::write_changes;
+use agv_store::desk_tables::make_desk_tables;
+use agv_store::key_questions::{
+    ask_holder, ask_job, ask_node, ask_place, ask_station, ask_used, ask_vehicle,
+};
+use agv_store::load_questions::{ask_job_of, ask_loads_on, ask_reserved, ask_room};
+use agv_store::station_loads::ask_loads_at;
+use agv_world::{Change, JobRow, Sent, UseKey, UseKind, VehicleRow};
+use sqlite::{Alter, Connection};
+use std::alloc::Global;
+use std::process::Abort;
+
+/// The most rows of one transaction.
+const MOST: u32 = 1000;
+
+fn name(rt: &impl Abort, text: &str) -> Name {
+    Name::read(text).expect(rt, text)
+}
+
+/// A letter and a number.
+fn numbered(rt: &impl Abort, alloc: Global, letter: char, number: u32) -> Name {
+    let text = format!(in alloc; "{letter}{number:06}").expect(rt, "memory");
+    name(rt, text.as_str())
+}
+
+fn vehicle(rt: &impl Abort) -> VehicleKey {
+    VehicleKey {
+        manufacturer: name(rt, "KIT"),
+        serial: name(rt, "0001"),
+    }
+}
+
+fn write<S: Alter>(rt: &impl Abort, conn: &mut Connection<S>, changes: &[Change]) {
+    assert!(rt; conn.is_autocommit(), "idle");
+    write_changes(conn, changes).expect(rt, "a commit");
+}
+
+fn spot(rt: &impl Abort, node: &str) -> Spot {
+    Spot {
+        node: name(rt, node),
+        capacity: 4,
+    }
+}
+
+fn vehicle_row(rt: &impl Abort) -> VehicleRow {
+    let at = Moment::of(0).expect(rt, "a moment");
+    VehicleRow {
+        capacity: 1,
+        node: name(rt, "N1"),
+        rest: None,
+        last_header: None,
+        reported: None,
+        ready: true,
+        paused: false,
+        orders: Sent { count: 0, at },
+        instants: Sent { count: 0, at },
+        pending: None,
+    }
+}
+
+fn order_key(rt: &impl Abort, order: &str) -> UseKey {
+    UseKey {
+        kind: UseKind::Order,
+        name: name(rt, order),
+    }
+}
+
+fn job(rt: &impl Abort, load: Name, phase: Phase) -> JobRow {
+    JobRow {
+        load,
+        origin: name(rt, "A"),
+        target: name(rt, "B"),
+        phase,
+    }
+}
+
+/// The layout, the vehicle with what it holds and carries, two loads at A, and the job of one of them.
+fn write_few<S: Alter>(rt: &impl Abort, conn: &mut Connection<S>) {
+    let ends = Ends {
+        start: name(rt, "N1"),
+        finish: name(rt, "N2"),
+    };
+    let station = Place::Station(name(rt, "A"));
+    let changes = [
+        Change::Node(name(rt, "N1")),
+        Change::Node(name(rt, "N2")),
+        Change::Edge(name(rt, "E12"), ends),
+        Change::Station(name(rt, "A"), spot(rt, "N1")),
+        Change::Station(name(rt, "B"), spot(rt, "N2")),
+        Change::Vehicle(vehicle(rt), vehicle_row(rt)),
+        Change::Hold(Thing::Node(name(rt, "N1")), Some(vehicle(rt))),
+        Change::Used(order_key(rt, "O1")),
+        Change::Load(name(rt, "A1"), station),
+        Change::Load(name(rt, "A2"), station),
+        Change::Load(name(rt, "V1"), Place::Vehicle(vehicle(rt))),
+        Change::Job(name(rt, "J1"), job(rt, name(rt, "A1"), Phase::Waiting)),
+    ];
+    write(rt, conn, &changes);
+}
+
+/// Loads at the checking place with these numbers, each with a job that is done.
+fn write_some<S: Alter>(
+    rt: &impl Abort,
+    alloc: Global,
+    conn: &mut Connection<S>,
+    first: u32,
+    last: u32,
+) {
+    let mut changes = Vec::new(alloc);
+    for number in first..last {
+        let load = numbered(rt, alloc, 'L', number);
+        let ended = Change::Job(numbered(rt, alloc, 'E', number), job(rt, load, Phase::Done));
+        changes
+            .push(Change::Load(load, Place::Checking))
+            .expect(rt, "memory");
+        changes.push(ended).expect(rt, "memory");
+    }
+    write(rt, conn, changes.as_slice());
+}
+
+/// So many thousands of them.
+fn write_many<S: Alter>(rt: &impl Abort, alloc: Global, conn: &mut Connection<S>, thousands: u32) {
+    for thousand in 0..thousands {
+        let first = thousand.saturating_mul(MOST);
+        write_some(rt, alloc, conn, first, first.saturating_add(MOST));
+    }
+}
+
+/// Asks by each key for what is there.
+fn ask_known<S: Alter>(rt: &impl Abort, alloc: Global, conn: &mut Connection<S>, number: u32) {
+    let row = ask_vehicle(conn, &vehicle(rt));
+    check(rt, row == Ok(Some(vehicle_row(rt))), "the vehicle");
+    let load = numbered(rt, alloc, 'L', number);
+    let place = ask_place(conn, &load);
+    check(rt, place == Ok(Some(Place::Checking)), "the place");
+    let ended = ask_job(conn, &numbered(rt, alloc, 'E', number));
+    let wanted = job(rt, load, Phase::Done);
+    check(rt, ended == Ok(Some(wanted)), "the job");
+    let station = ask_station(conn, &name(rt, "A"));
+    check(rt, station == Ok(Some(spot(rt, "N1"))), "the station");
+    let holder = ask_holder(conn, &Thing::Node(name(rt, "N1")));
+    check(rt, holder == Ok(Some(vehicle(rt))), "the holder");
+    let node = ask_node(conn, &name(rt, "N2"));
+    check(rt, node == Ok(true), "the node");
+    let used = ask_used(conn, &order_key(rt, "O1"));
+    check(rt, used == Ok(true), "the order");
+}
+
+/// Asks by each key for what is not there.
+fn ask_unknown<S: Alter>(rt: &impl Abort, conn: &mut Connection<S>) {
+    let other = VehicleKey {
+        manufacturer: name(rt, "0001"),
+        serial: name(rt, "KIT"),
+    };
+    check(rt, ask_vehicle(conn, &other) == Ok(None), "a vehicle");
+    let load = name(rt, "J1");
+    check(rt, ask_place(conn, &load) == Ok(None), "a place");
+    check(rt, ask_job(conn, &name(rt, "A1")) == Ok(None), "a job");
+    let node = name(rt, "N1");
+    check(rt, ask_station(conn, &node) == Ok(None), "a station");
+    let edge = Thing::Edge(node);
+    check(rt, ask_holder(conn, &edge) == Ok(None), "a holder");
+    check(rt, ask_node(conn, &load) == Ok(false), "a node");
+    let used = ask_used(conn, &order_key(rt, "J1"));
+    check(rt, used == Ok(false), "an order");
+}
+
+/// Asks for the loads and the live jobs of what has some.
+fn ask_some<S: Alter>(rt: &impl Abort, alloc: Global, conn: &mut Connection<S>) {
+    let aboard = ask_loads_on(conn, &vehicle(rt));
+    check(rt, aboard == Ok(1), "the loads on the vehicle");
+    let coming = ask_reserved(conn, &name(rt, "B"));
+    check(rt, coming == Ok(1), "the live jobs to B");
+    let live = ask_job_of(conn, &name(rt, "A1"));
+    check(rt, live == Ok(Some(name(rt, "J1"))), "the live job of A1");
+    let room = ask_room(conn, &name(rt, "A"));
+    check(rt, room == Ok(Some(2)), "the room of A");
+    let loads = ask_loads_at(alloc, conn, &name(rt, "A")).expect(rt, "the loads at A");
+    let wanted = [name(rt, "A1"), name(rt, "A2")];
+    check(rt, loads.as_slice() == wanted.as_slice(), "the loads at A");
+}
+
+/// Asks for the loads and the live jobs of what has none, though many jobs have ended there.
+fn ask_none<S: Alter>(rt: &impl Abort, alloc: Global, conn: &mut Connection<S>, number: u32) {
+    let other = VehicleKey {
+        manufacturer: name(rt, "0001"),
+        serial: name(rt, "KIT"),
+    };
+    check(rt, ask_loads_on(conn, &other) == Ok(0), "no loads on it");
+    let coming = ask_reserved(conn, &name(rt, "A"));
+    check(rt, coming == Ok(0), "no live jobs to A");
+    let live = ask_job_of(conn, &numbered(rt, alloc, 'L', number));
+    check(rt, live == Ok(None), "no live job");
+    let room = ask_room(conn, &name(rt, "C"));
+    check(rt, room == Ok(None), "no station C");
+    let loads = ask_loads_at(alloc, conn, &name(rt, "B")).expect(rt, "the loads at B");
+    check(rt, loads.as_slice().is_empty(), "no loads at B");
+}
+
+/// Asks each question for what is there and for what isn't.
+fn ask_all<S: Alter>(rt: &impl Abort, alloc: Global, conn: &mut Connection<S>, number: u32) {
+    ask_known(rt, alloc, conn, number);
+    ask_unknown(rt, conn);
+    ask_some(rt, alloc, conn);
+    ask_none(rt, alloc, conn, number);
+}
+
+/// Fills the database with so many thousands of loads and of jobs that have ended, asks each question, and makes a change.
+fn check_asked<S: Alter>(
+    rt: &impl Abort,
+    alloc: Global,
+    conn: &mut Connection<S>,
+    thousands: u32,
+    number: u32,
+) {
+    assert!(rt; conn.is_autocommit(), "idle");
+    make_desk_tables(conn).expect(rt, "tables");
+    write_few(rt, conn);
+    write_many(rt, alloc, conn, thousands);
+    ask_all(rt, alloc, conn, number);
+    let load = numbered(rt, alloc, 'L', number);
+    write(rt, conn, &[Change::Load(load, Place::Left)]);
+    let place = ask_place(conn, &load);
+    check(rt, place == Ok(Some(Place::Left)), "the place then");
+}
+
+#[test]
+fn with_1_000_loads(rt: HostRuntime) {
+    let mut conn = Connection::open(&rt, "with_1_000_loads.db").expect(&rt, "a file");
+    check_asked(&rt, rt.alloc(), &mut conn, 1, 500);
+}
+
+#[test]
+fn with_100_000_loads(rt: HostRuntime) {
+    let mut conn = Connection::open(&rt, "with_100_000_loads.db").expect(&rt, "a file");
+    check_asked(&rt, rt.alloc(), &mut conn, 100, 50_000);
+}
