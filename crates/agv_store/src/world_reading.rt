@@ -50,10 +50,7 @@ fn ask_stock_tables<S: Alter>(
 }
 
 /// All tables but those of the schema's number and of what is held.
-pub(crate) fn read_tables<S: Alter>(
-    alloc: Global,
-    conn: &mut Connection<S>,
-) -> Result<World, ReadingFault>
+pub fn read_tables<S: Alter>(alloc: Global, conn: &mut Connection<S>) -> Result<World, ReadingFault>
     ensures { TellsAll S.Store conn.old conn.new result (λ world tables. Keeps tables world) (λ lists tables. HaveTables lists tables) }
 {
     let layout = ask_layout_tables(alloc, conn)?;
