@@ -173,7 +173,7 @@ module _ (world : World) (lawful : IsLawful 1 world) where
         target = station_named job.target known.target.0 known.target.1;
       }
 
-  rest_value : (node : List ℕ) (rest : Option (List ℕ × List ℕ)) → IsRestAt world.layout node rest → (one : List ℕ × List ℕ) → rest ≡ Some one → IsName one.0 × IsName one.1
+  pub rest_value : (node : List ℕ) (rest : Option (List ℕ × List ℕ)) → IsRestAt world.layout node rest → (one : List ℕ × List ℕ) → rest ≡ Some one → IsName one.0 × IsName one.1
   rest_value node None at one is = absurd (cc is)
   rest_value node (Some rest) at one is =
       let same : rest ≡ one = cc is in

@@ -31,6 +31,7 @@ pub mod KeyedEntries
 pub mod KeyedRows
 pub mod KeysShown
 pub mod Later
+pub mod LawfulHolds
 pub mod LawfulSingle
 pub mod LawfulTrips
 pub mod LawfulValues
@@ -42,6 +43,7 @@ pub mod LoadAnswers
 pub mod MapEntries
 pub mod Members
 pub mod Memory
+pub mod MetaAnswers
 pub mod MetaRow
 pub mod NamesKept
 pub mod NewDesks
@@ -53,6 +55,7 @@ pub mod OneTableWrites
 pub mod QueryRows
 pub mod QuestionMeanings
 pub mod ReadFailing
+pub mod ReadWorld
 pub mod Registering
 pub mod RowForms
 pub mod RowMeanings

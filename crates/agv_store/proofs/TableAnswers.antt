@@ -4,9 +4,11 @@ use Rattle.std.specs.Cmp.Lexicographic.{nat_list_cmp_total}
 use Rattle.std.specs.FinMap as finite
 use Rattle.std.specs.FinSet as set
 use Rattle.sqlite_value.specs.Order.{Row}
-use Rattle.agv_header.specs.Key.{key_cmp}
+use Rattle.agv_header.specs.Key.{key_cmp, thing_cmp}
 use Rattle.agv_header.specs.KeyOrder.{key_cmp-IsAntisymmetric, key_cmp-total}
 use Rattle.agv_header.specs.Name.{name_cmp}
+use Rattle.agv_header.specs.ThingOrder.{thing_cmp-IsAntisymmetric, thing_cmp-total}
+use Rattle.agv_header.specs.declared.key.VehicleKey.{VehicleKey}
 use Rattle.agv_layout.specs.declared.edge.Ends.{Ends}
 use Rattle.agv_layout.specs.declared.station.Spot.{Spot}
 use Rattle.agv_stock.specs.declared.place.Place.{Place}
@@ -18,7 +20,7 @@ use Rattle.agv_world.specs.Rows.{rows_of}
 use Rattle.agv_world.specs.Worlds.{World}
 use Rattle.agv_world.specs.declared.row.JobRow.{JobRow}
 use Rattle.agv_world.specs.declared.row.VehicleRow.{VehicleRow}
-use Rattle.agv_store.specs.Columns.{edge_columns, edge_in, job_columns, job_in, leg_columns, leg_in, load_columns, load_in, node_columns, node_in, station_columns, station_in, used_columns, used_in, vehicle_columns, vehicle_in}
+use Rattle.agv_store.specs.Columns.{edge_columns, edge_in, hold_columns, hold_in, job_columns, job_in, leg_columns, leg_in, load_columns, load_in, node_columns, node_in, station_columns, station_in, used_columns, used_in, vehicle_columns, vehicle_in}
 use Rattle.agv_store.specs.ReadTables.{Reads, read_members, read_rows}
 use Rattle.agv_store.specs.RowLists.{row_lists}
 use Rattle.agv_store.specs.RowQuestions.{all_rows_of}
@@ -26,9 +28,10 @@ use Rattle.agv_store.specs.declared.reading_fault.ReadingFault.{ReadingFault}
 use Rattle.agv_store.specs.declared.table_name.TableName.TheVariants as the
 use Rattle.agv_store.proofs.Asking.{Follows}
 use Rattle.agv_store.proofs.CellLemmas.{name_kept}
-use Rattle.agv_store.proofs.ColumnsKept.{edge_kept, job_kept, leg_kept, load_kept, station_kept, used_kept, vehicle_kept}
+use Rattle.agv_store.proofs.ColumnsKept.{edge_kept, hold_kept, job_kept, leg_kept, load_kept, station_kept, used_kept, vehicle_kept}
+use Rattle.agv_store.proofs.LawfulHolds.{held_value}
 use Rattle.agv_store.proofs.LawfulTrips.{leg_value}
-use Rattle.agv_store.proofs.LawfulValues.{edge_named, ends_value, job_value, node_named, place_value, row_at, spot_value, station_named, used_is, used_named, vehicle_value}
+use Rattle.agv_store.proofs.LawfulValues.{edge_named, ends_value, holder_value, job_value, node_named, place_value, row_at, spot_value, station_named, used_is, used_named, vehicle_value}
 use Rattle.agv_store.proofs.ListsFollow.{names_apart}
 use Rattle.agv_store.proofs.TableReading.{reads_all, reads_it}
 use Rattle.agv_store.proofs.TablesBack.{reads_members}
@@ -76,3 +79,10 @@ module _ (world : World) (lawful : IsLawful 1 world) (good : InGoodOrder world) 
       let legs = (rows_of world).legs in
       reads_it legs r (read_rows leg_in finite.empty rows) read
       (reads_all leg_cmp-total leg_cmp-IsAntisymmetric legs leg_columns leg_in (λ key id at. let its = leg_value world lawful good key id at in leg_kept key id its.0 its.1) rows shown)
+
+  pub tells_holds : IsPermutation (all_rows_of the.Hold (row_lists (rows_of world))) rows → (r : Result (finite.FinMap thing_cmp VehicleKey) ReadingFault) → Reads r (read_rows hold_in finite.empty rows) → Follows r (λ table. table ≡ (rows_of world).holds)
+  unfolding row_lists
+  tells_holds shown r read =
+      let holds = (rows_of world).holds in
+      reads_it holds r (read_rows hold_in finite.empty rows) read
+      (reads_all thing_cmp-total thing_cmp-IsAntisymmetric holds hold_columns hold_in (λ thing key at. hold_kept thing key (held_value world lawful good thing key at) (holder_value world lawful thing key at)) rows shown)

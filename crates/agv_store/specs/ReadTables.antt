@@ -1,10 +1,11 @@
 -- What all rows of a table tell: each tells one entry, and no two tell one key.
-use Rattle.std.specs.Prelude.{◌≡◌, if◌then◌else◌, List, [], ◌∷◌, Option, None, Some, Result, Ok, Err}
+use Rattle.std.specs.Prelude.{◌≡◌, ℕ, nat_eq, ◌&&◌, Bool, false, if◌then◌else◌, List, [], ◌∷◌, Option, None, Some, Result, Ok, Err}
 use Rattle.std.specs.FinMap.{FinMap, get, insert}
 use Rattle.std.specs.FinSet as set
 use Rattle.std.specs.declared.cmp.Ordering.{Ordering}
 use Rattle.sqlite_value.specs.Order.{Row}
 use Rattle.agv_store.specs.Cells.{if_some}
+use Rattle.agv_store.specs.Columns.{meta_in}
 use Rattle.agv_store.specs.declared.reading_fault.ReadingFault.{ReadingFault}
 use Rattle.agv_store.specs.declared.reading_fault.ReadingFault.TheVariants as fault
 
@@ -29,3 +30,14 @@ Reads (Ok table) given = given ≡ Some table
 Reads (Err fault.Memory) given = Unit {0}
 Reads (Err fault.Storage) given = ⊥
 Reads (Err fault.Damaged) given = given ≡ None
+
+-- the row of `meta` of this schema
+abbrev pub is_first_meta : Option (ℕ × ℕ) → Bool
+is_first_meta None = false
+is_first_meta (Some told) = nat_eq told.0 1 && nat_eq told.1 1
+
+-- the rows are that one row
+abbrev pub meta_read : List Row → Result (Unit {0}) ReadingFault
+meta_read [] = Err fault.Damaged
+meta_read (row ∷ []) = if is_first_meta (meta_in row) then Ok tt else Err fault.Damaged
+meta_read (row ∷ (other ∷ rows)) = Err fault.Damaged

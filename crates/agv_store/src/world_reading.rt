@@ -1,4 +1,4 @@
-//! The world is read whole: all tables but those of the schema's number and of what is held.
+//! The world is read whole.
 //!
 //! It answers as the other readings do (`specs/TablesRead.antt`).
 ghost use Rattle.std.specs.Prelude.{◌≡◌, IsPermutation};
@@ -7,14 +7,16 @@ ghost use Rattle.agv_world.specs.Rows.{rows_of};
 ghost use Rattle.agv_store.specs.Columns.{leg_columns, load_columns, used_columns, vehicle_columns};
 ghost use Rattle.agv_store.specs.DeskRows.{place_of, table_at};
 ghost use Rattle.agv_store.specs.RowLists.{rows_for, rows_in};
-ghost use Rattle.agv_store.specs.TablesRead.{HaveTables, TellsAll};
+ghost use Rattle.agv_store.specs.TablesRead.{HaveAll, HaveTables, TellsAll};
 ghost use Rattle.agv_store.specs.declared.table_name.TableName.TheVariants as the;
 
 use crate::ReadingFault;
+use crate::hold_reading::{ask_holds, ask_meta};
 use crate::layout_reading::ask_layout_tables;
 use crate::table_reading::{ask_legs, ask_places, ask_used, ask_vehicles};
 use crate::trip_reading::ask_trips;
 use agv_stock::Place;
+use agv_track::HoldTable;
 use agv_world::{ByLeg, ByName, ByVehicle, UsedNames, VehicleRow, World};
 use sqlite::{Alter, Connection};
 use std::alloc::Global;
@@ -72,4 +74,19 @@ pub fn read_tables<S: Alter>(alloc: Global, conn: &mut Connection<S>) -> Result<
         jobs,
         used,
     })
+}
+
+/// All tables: those of the world in memory, and who holds what. The row of `meta` is that of this schema.
+pub(crate) fn read_world<S: Alter>(
+    alloc: Global,
+    conn: &mut Connection<S>,
+) -> Result<(World, HoldTable), ReadingFault>
+    ensures { TellsAll S.Store conn.old conn.new result
+        (λ world read. Keeps read.0 world × (read.1 ≡ (rows_of world).holds))
+        (λ lists read. HaveAll lists read.0 read.1) }
+{
+    ask_meta(conn)?;
+    let tables = read_tables(alloc, conn)?;
+    let holds = ask_holds(alloc, conn)?;
+    Ok((tables, holds))
 }

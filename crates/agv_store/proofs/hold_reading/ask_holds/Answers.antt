@@ -1,0 +1,21 @@
+use Rattle.std.proofs.Common.{subst}
+use Rattle.std.specs.FinMap as map
+use Rattle.agv_header.specs.ThingOrder.{thing_cmp-IsAntisymmetric, thing_cmp-total}
+use Rattle.agv_store.specs.Columns.{hold_columns, hold_in}
+use Rattle.agv_store.specs.ReadTables.{Reads, read_rows}
+use Rattle.agv_store.proofs.AskingAll.{all_follows, all_passes}
+use Rattle.agv_store.proofs.ColumnsWritten.{hold_written}
+use Rattle.agv_store.proofs.TableAnswers.{tells_holds}
+use Rattle.agv_store.proofs.TablesBack.{shows_table}
+use Rattle.agv_store.proofs.hold_reading.ask_holds.Goals as goal
+
+pub returns-in_err-rows : goal.returns-in_err-rows
+returns-in_err-rows g c = all_passes g.S.Store c.args.conn.now c.ask_all_rows.new.conn c.in_err-rows.field-0.0 _ _ _ _ c.from_residual.result c.from_residual.ensures.1 c.in_err-rows.ensures
+
+pub returns : goal.returns
+returns g c =
+    let read = subst (λ rows. Reads c.holds_in_rows.result (read_rows hold_in map.empty rows)) c.as_slice.ensures.value c.holds_in_rows.ensures in
+    all_follows g.S.Store c.args.conn.now c.ask_all_rows.new.conn c.in_ok-rows.rows _ _ _ _ c.holds_in_rows.result
+    (λ world lawful shown. tells_holds world lawful (c.is_in_good_order.ensures 1 world lawful) c.in_ok-rows.rows.items shown c.holds_in_rows.result read)
+    (λ lists shown. shows_table thing_cmp-total thing_cmp-IsAntisymmetric hold_columns hold_in hold_written _ c.in_ok-rows.rows.items c.holds_in_rows.result read shown)
+    c.in_ok-rows.ensures

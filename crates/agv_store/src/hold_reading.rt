@@ -1,0 +1,95 @@
+//! What is held, and the row of `meta`, are read whole.
+//!
+//! They answer as the other readings do (`specs/TablesRead.antt`).
+ghost use Rattle.std.specs.Prelude.{◌≡◌, None, IfErr, IsPermutation, OnOk};
+ghost use Rattle.std.specs.FinMap as map;
+ghost use Rattle.agv_world.specs.Rows.{rows_of};
+ghost use Rattle.agv_store.specs.Columns.{hold_columns, hold_in, meta_columns, meta_in};
+ghost use Rattle.agv_store.specs.DeskRows.{place_of, table_at};
+ghost use Rattle.agv_store.specs.ReadTables.{Reads, is_first_meta, meta_read, read_rows};
+ghost use Rattle.agv_store.specs.RowLists.{rows_in};
+ghost use Rattle.agv_store.specs.TablesRead.{TellsAll, first_meta};
+ghost use Rattle.agv_store.specs.declared.reading_fault.ReadingFault.TheVariants as fault;
+ghost use Rattle.agv_store.specs.declared.table_name.TableName.TheVariants as the;
+
+use crate::ReadingFault;
+use crate::asked_rows::ask_all_rows;
+use crate::rows_told::{hold_told, meta_told};
+use crate::table_name::TableName;
+use agv_header::{Thing, VehicleKey};
+use agv_track::{ClaimFault, HoldTable};
+use agv_world::lawful_laws::is_in_good_order;
+use sqlite::{Alter, Connection, Row};
+use std::alloc::Global;
+
+// Notes that the vehicle holds the thing, which nobody holds so far.
+fn note_hold(holds: &mut HoldTable, thing: &Thing, key: &VehicleKey) -> Result<(), ReadingFault>
+    requires { map.get holds.old thing.now ≡ None }
+    ensures noted { OnOk result (holds.new ≡ map.insert holds.old thing.now key.now) }
+    ensures memory { IfErr result (λ why. why ≡ fault.Memory) }
+{
+    match holds.claim(*key, &[*thing]) {
+        Ok(()) => Ok(()),
+        Err(ClaimFault::Held { .. }) => Err(ReadingFault::Damaged),
+        Err(ClaimFault::Memory) => Err(ReadingFault::Memory),
+    }
+}
+
+// The table that these rows tell.
+fn holds_in_rows(alloc: Global, rows: &[Row]) -> Result<HoldTable, ReadingFault>
+    ensures { Reads result (read_rows hold_in map.empty rows.now) }
+{
+    let mut table = HoldTable::new(alloc);
+    for row in rows {
+        match hold_told(row) {
+            None => return Err(ReadingFault::Damaged),
+            Some((thing, key)) => {
+                if table.holder(&thing).is_some() {
+                    return Err(ReadingFault::Damaged);
+                }
+                note_hold(&mut table, &thing, &key)?;
+            }
+        }
+    }
+    Ok(table)
+}
+
+/// The vehicle that holds a node or an edge, for each that is held.
+pub(crate) fn ask_holds<S: Alter>(
+    alloc: Global,
+    conn: &mut Connection<S>,
+) -> Result<HoldTable, ReadingFault>
+    ensures { TellsAll S.Store conn.old conn.new result (λ world table. table ≡ (rows_of world).holds) (λ lists table. IsPermutation (table_at (place_of the.Hold) lists) (rows_in hold_columns table)) }
+{
+    is_in_good_order();
+    let rows = ask_all_rows(conn, TableName::Hold)?;
+    holds_in_rows(alloc, rows.as_slice())
+}
+
+// Whether it is the row of `meta` of this schema.
+fn is_meta(row: &Row) -> bool
+    ensures { result ≡ is_first_meta (meta_in row.now) }
+{
+    match meta_told(row) {
+        None => false,
+        Some((id, schema)) => id == 1 && schema == 1,
+    }
+}
+
+// That these are just the row of `meta` of this schema.
+fn meta_in_rows(rows: &[Row]) -> Result<(), ReadingFault>
+    ensures { result ≡ meta_read rows.now }
+{
+    match rows {
+        [row] if is_meta(row) => Ok(()),
+        _ => Err(ReadingFault::Damaged),
+    }
+}
+
+/// The table `meta` has the one row of this schema.
+pub(crate) fn ask_meta<S: Alter>(conn: &mut Connection<S>) -> Result<(), ReadingFault>
+    ensures { TellsAll S.Store conn.old conn.new result (λ world nothing. Unit {0}) (λ lists nothing. IsPermutation (table_at (place_of the.Meta) lists) (rows_in meta_columns first_meta)) }
+{
+    let rows = ask_all_rows(conn, TableName::Meta)?;
+    meta_in_rows(rows.as_slice())
+}
