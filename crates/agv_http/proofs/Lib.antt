@@ -22,3 +22,9 @@ pub mod Seeking
 pub mod Served
 pub mod ServedLines
 pub mod Walks
+mod RecordSizes
+mod CountSizes
+mod Ladders
+mod Outcomes
+mod SaidCounts
+mod Fitting
