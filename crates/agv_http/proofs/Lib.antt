@@ -10,9 +10,10 @@ mod Appending
 mod Escapes
 mod LastWords
 mod Lengths
-mod Messages
 mod RefusalNames
 mod ShortRefusals
+mod Stamps
+mod Texts
 mod Turning
 pub mod Apart
 pub mod Inserting
