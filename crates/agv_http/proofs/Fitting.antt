@@ -49,7 +49,7 @@ told_outcome seats world at made more =
     outcome_of IsTold (record { refused = λ why. refl; done = refl; update = λ n. refl; instructed = λ n. refl; accepted = λ newer. refl }) world seats at made more (told_count world made)
 
 -- there is room for it
-abbrev HasRoom : Answer → Type 0
+abbrev pub HasRoom : Answer → Type 0
 HasRoom a = (outcome_room a ≤ most_answer) × IsFew a
 
 counted_room : (world : World) (made : Call) (n : ℕ) → n ≤ most_body + 1 → CountsWithin n made → IsOfCount HasRoom world made
@@ -79,7 +79,7 @@ counted_room world call.StockReport n less h = tt
 counted_room world call.HoldReport n less h = tt
 counted_room world call.LoadsExport n less h = tt
 
-has_room : (seats : ℕ) (world : World) (at : ℕ) (line : Route) (body : List ℕ) (made : Call) → call_in line body ≡ Ok made → length body ≤ most_body → only_tells made ≡ false
+pub has_room : (seats : ℕ) (world : World) (at : ℕ) (line : Route) (body : List ℕ) (made : Call) → call_in line body ≡ Ok made → length body ≤ most_body → only_tells made ≡ false
     → HasRoom (answer_of (step seats world at made))
 has_room seats world at line body made is short more =
     outcome_of HasRoom

@@ -29,3 +29,4 @@ mod Ladders
 mod Outcomes
 mod SaidCounts
 mod Fitting
+mod Requested

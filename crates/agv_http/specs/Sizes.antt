@@ -1,5 +1,5 @@
 -- How long answers are; for the room that an answer needs.
-use Rattle.std.specs.Prelude.{◌<◌, ◌+◌, ◌^◌, ℕ, Bool, true, false, List, length, Option, Some, None}
+use Rattle.std.specs.Prelude.{◌<◌, ◌+◌, ◌^◌, ℕ, Bool, true, false, List, length, Option, Some, None, Result, Ok, Err}
 use Rattle.std.specs.List.{sum_by}
 use Rattle.agv_header.specs.Key.{thing_name}
 use Rattle.agv_header.specs.Name.{IsName}
@@ -91,3 +91,8 @@ only_tells call.StockReport = true
 only_tells call.HoldReport = true
 only_tells call.LoadsExport = true
 only_tells _ = false
+
+-- what a request is, where it is a call, asks only to be told something; a refused one is told why
+abbrev pub only_asks : Result Call Refusal → Bool
+only_asks (Err why) = false
+only_asks (Ok made) = only_tells made

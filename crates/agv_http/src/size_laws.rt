@@ -15,8 +15,9 @@ ghost use Rattle.agv_world.specs.Worlds.{World};
 ghost use Rattle.agv_http.specs.Answers.{answer_text};
 ghost use Rattle.agv_http.specs.CallIn.{call_in};
 ghost use Rattle.agv_http.specs.declared.route.Route.{Route};
-ghost use Rattle.agv_http.specs.Requests.{most_body};
-ghost use Rattle.agv_http.specs.Sizes.{IsBrief, IsNameIfAny, IsOrderShort, IsVehicleShort, is_outcome, most_answer, names_size, only_tells, outcome_room};
+ghost use Rattle.agv_http.specs.Output.{call_for, outcome_for};
+ghost use Rattle.agv_http.specs.Requests.{IsRequest, Request, most_body};
+ghost use Rattle.agv_http.specs.Sizes.{IsBrief, IsNameIfAny, IsOrderShort, IsVehicleShort, is_outcome, most_answer, names_size, only_asks, only_tells, outcome_room};
 
 use crate::outcome::is_outcome as tells_outcome;
 use agv_desk::Answer;
@@ -67,6 +68,22 @@ pub fn outcomes_fit(answer: &Answer)
     ensures { (seats : ℕ) (world : World) (at : ℕ) (route : Route) (body : List ℕ) (made : Call) (report : List ℕ) (close : Bool)
         → call_in route body ≡ Ok made → length body ≤ most_body → only_tells made ≡ false
         → answer.now ≡ answer_of (step seats world at made)
+        → length (answer_text answer.now report close) ≤ most_answer }
+{
+    let _told = tells_outcome(answer);
+}
+
+/// The body of a request has at most 65,536 bytes.
+pub fn bodies_fit()
+    ensures { (bytes : List ℕ) (request : Request) → IsRequest bytes request → length request.body ≤ most_body }
+{}
+
+/// An answer that is the one to a request which does not only ask has at most 131,072 bytes: its call is served, or the
+/// request is refused before it is a call. It does nothing: a proof calls it for its clause.
+pub fn answers_fit(answer: &Answer)
+    ensures { (seats : ℕ) (world : World) (at : ℕ) (bytes : List ℕ) (request : Request) (report : List ℕ) (close : Bool)
+        → IsRequest bytes request → only_asks (call_for request) ≡ false
+        → answer.now ≡ answer_of (outcome_for seats world at request)
         → length (answer_text answer.now report close) ≤ most_answer }
 {
     let _told = tells_outcome(answer);
