@@ -93,6 +93,12 @@ second_refused e u r v0 v1 v2 a b rest text fails first h whole =
     let within : length a + length b ≤ length text = omega (arith, length-append a (b ++ rest), length-append b rest, ap length whole) in
     refused_then e r v0 v1 v2 a b text fails (so_far_first u v0 v1 a first) h within
 
+-- the third text was refused
+pub third_refused : (e : Memory) (u w : Unit {0}) (r : Result (Unit {0}) Memory) (v0 v1 v2 v3 : Vec ℕ Global) (a b c rest text : List ℕ)
+    → IsErr r → Appended (Ok u) v0 v1 a → Appended (Ok w) v1 v2 b → Appended (Err e) v2 v3 c → a ++ (b ++ (c ++ rest)) ≡ text → Appended r v0 v3 text
+third_refused e u w r v0 v1 v2 v3 a b c rest text fails first second h whole =
+    second_refused e u r v0 v2 v3 (a ++ b) c rest text fails (two_texts u (Ok w) v0 v1 v2 a b (a ++ b) first second refl) h (append_assoc a b (c ++ rest) ∙ whole)
+
 -- the text is there
 pub appended_whole : (u : Unit {0}) (v0 v1 : Vec ℕ Global) (text : List ℕ) → v1.items ≡ v0.items ++ text → vec_capacity v0 ≤ vec_capacity v1 → Appended (Ok u) v0 v1 text
 appended_whole u v0 v1 text e grown = record { whole = e; part = (text, e); fits = λ room. refl; grown = grown }

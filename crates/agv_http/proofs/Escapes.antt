@@ -13,6 +13,7 @@ use Rattle.serde_json.specs.View.{items_of}
 use Rattle.serde_json.specs.Written.{compact_text, items_text}
 use Rattle.agv_header.specs.Name.{IsName, is_name_byte}
 use Rattle.agv_message.specs.Json.{text}
+use Rattle.agv_message.specs.Order.{act_id}
 use Rattle.agv_http.specs.Pieces.{more_names}
 
 plain_byte : (b : ℕ) → is_name_byte b ≡ true → escape_byte b ≡ b ∷ []
@@ -61,3 +62,11 @@ pub names_text : (first : List ℕ) (more names : List (List ℕ)) → names ≡
 names_text first more names is =
     ap (λ (l : List ℕ). 91 ∷ (compact_text (text first) ++ l)) (more_names-items more)
     ∙ ap (λ (all : List (List ℕ)). 91 ∷ items_text false (items_of (map text all))) (sym is)
+
+-- an action of an order between quotes
+pub act_id_text : (order : List ℕ) (n : ℕ) → IsName order → n < 2 ^ 64 → 34 ∷ (order ++ (46 ∷ (decimal n ++ 34 ∷ []))) ≡ compact_text (text (act_id order n))
+unfolding escape_byte
+act_id_text order n h small =
+    let plain : escape (act_id order n) ≡ order ++ (46 ∷ decimal n) =
+    ap escape (append_assoc order (46 ∷ []) (decimal n)) ∙ flat_map-append escape_byte order (46 ∷ decimal n) ∙ ap₂ ◌++◌ (escape-name order h) (ap (λ (l : List ℕ). 46 ∷ l) (escape-decimal n small)) in
+    ap (λ (l : List ℕ). 34 ∷ l) (sym (append_assoc order (46 ∷ decimal n) (34 ∷ [])) ∙ ap (λ (l : List ℕ). l ++ 34 ∷ []) (sym plain))

@@ -10,9 +10,10 @@ mod Appending
 mod Escapes
 mod LastWords
 mod Lengths
-mod Messages
 mod RefusalNames
 mod ShortRefusals
+mod Stamps
+mod Texts
 mod Turning
 pub mod Apart
 pub mod Inserting
@@ -22,3 +23,10 @@ pub mod Seeking
 pub mod Served
 pub mod ServedLines
 pub mod Walks
+mod RecordSizes
+mod CountSizes
+mod Ladders
+mod Outcomes
+mod SaidCounts
+mod Fitting
+mod Requested

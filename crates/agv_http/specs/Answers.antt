@@ -1,5 +1,5 @@
 -- The desk's answers, to the byte (this project's table of calls; RFC 9112, section 6).
-use Rattle.std.specs.Prelude.{ℕ, Bool, true, false, List, [], ◌++◌, length, codes, Option, Some, None}
+use Rattle.std.specs.Prelude.{ℕ, Bool, List, [], ◌++◌, length, codes, Option, Some, None}
 use Rattle.serde_json.specs.Data.{Data}
 use Rattle.serde_json.specs.Written.{compact_text}
 use Rattle.agv_header.specs.Refusal.{status_of}
@@ -56,12 +56,6 @@ content_text nothing report = []
 content_text (json d) report = compact_text d
 content_text plain report = report
 content_text csv report = report
-
--- the answer is a message, whose text takes memory to make
-abbrev pub is_message : Answer → Bool
-is_message (answer.Order header order) = true
-is_message (answer.Instant header instant) = true
-is_message _ = false
 
 -- the method that alone serves the path, where the request's method doesn't
 abbrev pub allowed : Answer → Option Verb

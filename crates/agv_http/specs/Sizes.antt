@@ -1,5 +1,5 @@
 -- How long answers are; for the room that an answer needs.
-use Rattle.std.specs.Prelude.{◌<◌, ◌+◌, ◌^◌, ℕ, Bool, true, false, List, length, Option, Some, None}
+use Rattle.std.specs.Prelude.{◌<◌, ◌+◌, ◌^◌, ℕ, Bool, true, false, List, length, Option, Some, None, Result, Ok, Err}
 use Rattle.std.specs.List.{sum_by}
 use Rattle.agv_header.specs.Key.{thing_name}
 use Rattle.agv_header.specs.Name.{IsName}
@@ -10,6 +10,8 @@ use Rattle.agv_world.specs.declared.row.VehicleRow.{VehicleRow}
 use Rattle.agv_desk.specs.declared.answer.OpenOrder.{OpenOrder}
 use Rattle.agv_desk.specs.declared.answer.Answer.{Answer}
 use Rattle.agv_desk.specs.declared.answer.Answer.TheVariants as answer
+use Rattle.agv_desk.specs.declared.call.Call.{Call}
+use Rattle.agv_desk.specs.declared.call.Call.TheVariants as call
 
 -- what is told of a refusal has names, and a number of 32 bits
 abbrev pub IsToldBriefly : Refusal → Type 0
@@ -74,3 +76,23 @@ pub record IsVehicleShort (key : VehicleKey) (row : VehicleRow) : Type 0 where
 abbrev pub IsOrderShort : Option OpenOrder → Type 0
 IsOrderShort None = Unit {0}
 IsOrderShort (Some order) = IsName order.order × (order.sent < 2 ^ 32) × IsShortIfAny order.confirmed
+
+-- the most bytes of the answer to a call that may change something
+abbrev pub most_answer : ℕ
+most_answer = 131072
+
+-- the call asks only to be told something; each other call may change something
+abbrev pub only_tells : Call → Bool
+only_tells (call.GetOrder key) = true
+only_tells (call.GetInstant key) = true
+only_tells (call.GetLoad load) = true
+only_tells (call.GetVehicle key) = true
+only_tells call.StockReport = true
+only_tells call.HoldReport = true
+only_tells call.LoadsExport = true
+only_tells _ = false
+
+-- what a request is, where it is a call, asks only to be told something; a refused one is told why
+abbrev pub only_asks : Result Call Refusal → Bool
+only_asks (Err why) = false
+only_asks (Ok made) = only_tells made

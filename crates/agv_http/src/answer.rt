@@ -1,37 +1,16 @@
 //! From an answer to its bytes.
-ghost use Rattle.std.specs.Prelude.{◌≡◌, ◌≤◌, ◌+◌, ◌++◌, false, length, IfOk, IsOk, OnOk, OnErr, vec_len, vec_capacity};
-ghost use Rattle.agv_http.specs.Answers.{answer_text, is_message};
-ghost use Rattle.agv_http.specs.Given.{AppendedUnless};
+ghost use Rattle.std.specs.Prelude.{◌≡◌, ◌≤◌, ◌+◌, ◌++◌, length, IfOk, IsOk, OnOk, OnErr, vec_len, vec_capacity};
+ghost use Rattle.agv_http.specs.Answers.{answer_text};
 
-use crate::content::put_given;
+use crate::content::put_parts;
 use agv_desk::Answer;
 use agv_header::Memory;
-use agv_message::{instant_text, order_text};
 use std::alloc::Global;
-
-/// Appends an answer, or a part of it where memory is refused.
-fn put_any(out: &mut Vec<u8>, answer: &Answer, report: &[u8], close: bool) -> Result<(), Memory>
-    ensures { AppendedUnless (is_message answer.now) result out.old out.new
-        (answer_text answer.now report.now close) }
-{
-    match answer {
-        Answer::Order { header, order } => {
-            let text = order_text(*out.allocator(), header, order)?;
-            put_given(out, answer, &text, close)
-        }
-        Answer::Instant { header, instant } => {
-            let text = instant_text(*out.allocator(), header, instant)?;
-            put_given(out, answer, &text, close)
-        }
-        _ => put_given(out, answer, report, close),
-    }
-}
 
 /// Appends the bytes of an answer. The report is the body of the answers that give one; no other looks at it. With
 /// `close` the answer says that the stream ends after it.
 ///
-/// `Memory` where an allocation was refused; `out` then has what it had. No memory is taken where the answer
-/// fits, unless it is an order or instantActions message.
+/// `Memory` where an allocation was refused; `out` then has what it had. No memory is taken where the answer fits.
 pub fn put_answer(
     answer: &Answer,
     report: &[u8],
@@ -40,12 +19,11 @@ pub fn put_answer(
 ) -> Result<(), Memory>
     ensures text { OnOk result (out.new.items ≡ out.old.items ++ answer_text answer.now report.now close) }
     ensures kept { OnErr result (out.new.items ≡ out.old.items) }
-    ensures fits { is_message answer.now ≡ false
-        → vec_len out.old + length (answer_text answer.now report.now close) ≤ vec_capacity out.old → IsOk result }
+    ensures fits { vec_len out.old + length (answer_text answer.now report.now close) ≤ vec_capacity out.old → IsOk result }
     ensures grown { vec_capacity out.old ≤ vec_capacity out.new }
 {
     let start = out.len();
-    match put_any(out, answer, report, close) {
+    match put_parts(out, answer, report, close) {
         Ok(()) => Ok(()),
         Err(refused) => {
             out.truncate(start);

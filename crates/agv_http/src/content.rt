@@ -1,11 +1,13 @@
 //! The parts of an answer.
 ghost use Rattle.std.specs.Prelude.{◌≡◌, ◌+◌, ◌<◌, ◌≤◌, option_map, vec_len, vec_capacity};
-ghost use Rattle.agv_http.specs.Answers.{allowed, answer_content, answer_status, media_type};
-ghost use Rattle.agv_http.specs.Given.{body_of, head_of, turned, with_body};
+ghost use Rattle.agv_http.specs.Answers.{allowed, answer_content, answer_status, answer_text, content_text, media_type};
+ghost use Rattle.agv_http.specs.Given.{head_of, turned};
 ghost use Rattle.agv_http.specs.Pieces.{Appended};
 
 use crate::body::{put_accepted, put_counted, put_instructed, put_load, put_refusal, put_update};
 use crate::head::put_head;
+use crate::instant_message::put_instant;
+use crate::order_message::put_order;
 use crate::vehicle_body::put_vehicle;
 use crate::words::put_bytes;
 use agv_desk::Answer;
@@ -43,9 +45,9 @@ fn allowed_by(answer: &Answer) -> Option<Verb>
     }
 }
 
-/// Appends the body of an answer, where that of a message or a report is given.
-fn put_content(out: &mut Vec<u8>, answer: &Answer, given: &[u8]) -> Result<(), Memory>
-    ensures { Appended result out.old out.new (body_of answer.now given.now) }
+/// Appends the body of an answer. The report is the body of the answers that give one.
+fn put_content(out: &mut Vec<u8>, answer: &Answer, report: &[u8]) -> Result<(), Memory>
+    ensures { Appended result out.old out.new (content_text (answer_content answer.now) report.now) }
 {
     match answer {
         Answer::Refused(refusal) => put_refusal(out, refusal),
@@ -54,14 +56,14 @@ fn put_content(out: &mut Vec<u8>, answer: &Answer, given: &[u8]) -> Result<(), M
         Answer::Instructed(n) => put_instructed(out, *n),
         Answer::Accepted(accepted) => put_accepted(out, *accepted),
         Answer::NoMessage => put_bytes(out, b""),
-        Answer::Order { .. } => put_bytes(out, given),
-        Answer::Instant { .. } => put_bytes(out, given),
+        Answer::Order { header, order } => put_order(out, header, order),
+        Answer::Instant { header, instant } => put_instant(out, header, instant),
         Answer::Counted { moved, unknown } => put_counted(out, *moved, unknown.as_slice()),
         Answer::Load { load, place, job } => put_load(out, load, place, job),
         Answer::Vehicle { key, row, order } => put_vehicle(out, key, row, order),
-        Answer::StockReport => put_bytes(out, given),
-        Answer::HoldReport => put_bytes(out, given),
-        Answer::LoadsExport => put_bytes(out, given),
+        Answer::StockReport => put_bytes(out, report),
+        Answer::HoldReport => put_bytes(out, report),
+        Answer::LoadsExport => put_bytes(out, report),
     }
 }
 
@@ -85,18 +87,18 @@ fn turn(out: &mut Vec<u8>, start: usize, len: usize)
     tail.rotate_left(len);
 }
 
-/// Appends an answer, where the body of a message or a report is given: first its body and then its head, which
-/// then change places.
-pub fn put_given(
+/// Appends an answer, or a part of it where memory is refused: first its body and then its head, which then change
+/// places.
+pub fn put_parts(
     out: &mut Vec<u8>,
     answer: &Answer,
-    given: &[u8],
+    report: &[u8],
     close: bool,
 ) -> Result<(), Memory>
-    ensures { Appended result out.old out.new (with_body answer.now (body_of answer.now given.now) close) }
+    ensures { Appended result out.old out.new (answer_text answer.now report.now close) }
 {
     let start = out.len();
-    put_content(out, answer, given)?;
+    put_content(out, answer, report)?;
     let len = out.len() - start;
     put_head_of(out, answer, len, close)?;
     turn(out, start, len);

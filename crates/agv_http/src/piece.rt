@@ -6,10 +6,12 @@ ghost use Rattle.agv_message.specs.Instant.{instant_name};
 ghost use Rattle.agv_message.specs.Json.{text, truth};
 ghost use Rattle.agv_http.specs.Pieces.{piece_text, maybe_number, maybe_name, maybe_kind, Appended};
 
+use crate::stamp::put_stamp;
 use crate::words::{
-    put_action_id, put_bytes, put_key, put_name, put_names, put_number, put_place, put_thing,
+    put_act_id, put_action_id, put_bytes, put_key, put_name, put_names, put_number, put_place,
+    put_thing,
 };
-use agv_header::{Memory, Name, Thing, VehicleKey};
+use agv_header::{Memory, Moment, Name, Thing, VehicleKey};
 use agv_message::InstantKind;
 use agv_stock::Place;
 
@@ -37,6 +39,10 @@ pub enum Piece<'a> {
     Thing(&'a Thing),
     /// `"instant-1"`
     ActionId(u32),
+    /// `"O1.2"`
+    ActId(&'a Name, u32),
+    /// `"1991-03-11T11:40:03.12Z"`
+    Stamp(Moment),
 }
 
 /// Appends `true` or `false`.
@@ -108,6 +114,8 @@ fn put_piece(out: &mut Vec<u8>, piece: &Piece<'_>) -> Result<(), Memory>
         Piece::Key(key) => put_key(out, key),
         Piece::Thing(thing) => put_thing(out, thing),
         Piece::ActionId(n) => put_action_id(out, *n),
+        Piece::ActId(order, n) => put_act_id(out, order, *n),
+        Piece::Stamp(at) => put_stamp(out, *at),
     }
 }
 

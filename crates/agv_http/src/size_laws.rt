@@ -1,19 +1,30 @@
 //! How long answers are, so that who keeps room can tell that none will lack it.
-ghost use Rattle.std.specs.Prelude.{◌≤◌, ◌<◌, ◌+◌, ◌^◌, ℕ, Bool, List, All, Option, length};
+ghost use Rattle.std.specs.Prelude.{◌≡◌, ◌≤◌, ◌<◌, ◌+◌, ◌^◌, ℕ, Bool, true, false, List, All, Option, Ok, length};
 ghost use Rattle.agv_count.specs.ExportRecords.{IsPlaceNamed};
 ghost use Rattle.agv_desk.specs.declared.answer.OpenOrder.{OpenOrder};
 ghost use Rattle.agv_header.specs.declared.key.VehicleKey.{VehicleKey};
 ghost use Rattle.agv_stock.specs.declared.place.Place.{Place};
 ghost use Rattle.agv_world.specs.declared.row.VehicleRow.{VehicleRow};
-ghost use Rattle.agv_desk.specs.declared.answer.Answer.{Answer};
+ghost use Rattle.agv_desk.specs.declared.answer.Answer.{Answer as AnswerOf};
 ghost use Rattle.agv_desk.specs.declared.answer.Answer.TheVariants as answer;
+ghost use Rattle.agv_desk.specs.declared.call.Call.{Call};
+ghost use Rattle.agv_desk.specs.Outcomes.{answer_of};
+ghost use Rattle.agv_desk.specs.Step.{step};
 ghost use Rattle.agv_header.specs.Name.{IsName};
+ghost use Rattle.agv_world.specs.Worlds.{World};
 ghost use Rattle.agv_http.specs.Answers.{answer_text};
-ghost use Rattle.agv_http.specs.Sizes.{IsBrief, IsNameIfAny, IsOrderShort, IsVehicleShort, names_size};
+ghost use Rattle.agv_http.specs.CallIn.{call_in};
+ghost use Rattle.agv_http.specs.declared.route.Route.{Route};
+ghost use Rattle.agv_http.specs.Output.{call_for, outcome_for};
+ghost use Rattle.agv_http.specs.Requests.{IsRequest, Request, most_body};
+ghost use Rattle.agv_http.specs.Sizes.{IsBrief, IsNameIfAny, IsOrderShort, IsVehicleShort, is_outcome, most_answer, names_size, only_asks, only_tells, outcome_room};
+
+use crate::outcome::is_outcome as tells_outcome;
+use agv_desk::Answer;
 
 /// An answer that tells only what was done, or why not, has at most 1,024 bytes.
 pub fn answers_briefly()
-    ensures { (a : Answer) (report : List ℕ) (close : Bool) → IsBrief a → length (answer_text a report close) ≤ 1024 }
+    ensures { (a : AnswerOf) (report : List ℕ) (close : Bool) → IsBrief a → length (answer_text a report close) ≤ 1024 }
 {}
 
 /// The answer to a stocktake has at most 1,024 bytes, and three for each unknown name besides its own bytes.
@@ -36,3 +47,44 @@ pub fn tells_vehicles_briefly()
         → IsVehicleShort key row → IsOrderShort order
         → length (answer_text (answer.Vehicle key row order) report close) ≤ 1024 }
 {}
+
+/// A call that does not only ask is answered by what was done, or why not, in every world and at every moment.
+pub fn tells_outcomes()
+    ensures { (seats : ℕ) (world : World) (at : ℕ) (made : Call)
+        → only_tells made ≡ false → is_outcome (answer_of (step seats world at made)) ≡ true }
+{}
+
+/// There is room for that answer in 131,072 bytes, where the call is what a body of at most 65,536 bytes says: a
+/// stocktake names no more unknown loads than stand in its file.
+pub fn outcomes_have_room()
+    ensures { (seats : ℕ) (world : World) (at : ℕ) (route : Route) (body : List ℕ) (made : Call)
+        → call_in route body ≡ Ok made → length body ≤ most_body → only_tells made ≡ false
+        → outcome_room (answer_of (step seats world at made)) ≤ most_answer }
+{}
+
+/// An answer that is the one to such a call has at most 131,072 bytes, with its head, whether or not the stream ends
+/// after it. It does nothing: a proof calls it for its clause.
+pub fn outcomes_fit(answer: &Answer)
+    ensures { (seats : ℕ) (world : World) (at : ℕ) (route : Route) (body : List ℕ) (made : Call) (report : List ℕ) (close : Bool)
+        → call_in route body ≡ Ok made → length body ≤ most_body → only_tells made ≡ false
+        → answer.now ≡ answer_of (step seats world at made)
+        → length (answer_text answer.now report close) ≤ most_answer }
+{
+    let _told = tells_outcome(answer);
+}
+
+/// The body of a request has at most 65,536 bytes.
+pub fn bodies_fit()
+    ensures { (bytes : List ℕ) (request : Request) → IsRequest bytes request → length request.body ≤ most_body }
+{}
+
+/// An answer that is the one to a request which does not only ask has at most 131,072 bytes: its call is served, or the
+/// request is refused before it is a call. It does nothing: a proof calls it for its clause.
+pub fn answers_fit(answer: &Answer)
+    ensures { (seats : ℕ) (world : World) (at : ℕ) (bytes : List ℕ) (request : Request) (report : List ℕ) (close : Bool)
+        → IsRequest bytes request → only_asks (call_for request) ≡ false
+        → answer.now ≡ answer_of (outcome_for seats world at request)
+        → length (answer_text answer.now report close) ≤ most_answer }
+{
+    let _told = tells_outcome(answer);
+}

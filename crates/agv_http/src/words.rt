@@ -6,6 +6,7 @@ ghost use Rattle.serde_json.specs.Written.{compact_text};
 ghost use Rattle.agv_count.specs.Reports.{key_text, thing_text};
 ghost use Rattle.agv_message.specs.Instant.{instant_id};
 ghost use Rattle.agv_message.specs.Json.{list, text};
+ghost use Rattle.agv_message.specs.Order.{act_id};
 ghost use Rattle.agv_http.specs.Bodies.{place_words};
 ghost use Rattle.agv_http.specs.Pieces.{Appended, more_names, word_text};
 
@@ -22,7 +23,7 @@ pub fn put_bytes(out: &mut Vec<u8>, bytes: &[u8]) -> Result<(), Memory>
 }
 
 /// Appends words, with nothing between them.
-fn put_words(out: &mut Vec<u8>, words: &[&[u8]]) -> Result<(), Memory>
+pub fn put_words(out: &mut Vec<u8>, words: &[&[u8]]) -> Result<(), Memory>
     ensures { Appended result out.old out.new (flat_map word_text words.now) }
 {
     for word in words {
@@ -105,6 +106,22 @@ pub fn put_action_id(out: &mut Vec<u8>, n: u32) -> Result<(), Memory>
     put_words(
         out,
         &[b"\"instant-", Buffer::new().format(n).as_bytes(), b"\""],
+    )
+}
+
+/// Appends `"O1.2"`: an action of the order O1.
+pub fn put_act_id(out: &mut Vec<u8>, order: &Name, n: u32) -> Result<(), Memory>
+    ensures { Appended result out.old out.new (compact_text (text (act_id order.now n))) }
+{
+    put_words(
+        out,
+        &[
+            b"\"",
+            order.as_bytes(),
+            b".",
+            Buffer::new().format(n).as_bytes(),
+            b"\"",
+        ],
     )
 }
 
