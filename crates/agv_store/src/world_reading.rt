@@ -77,7 +77,7 @@ pub fn read_tables<S: Alter>(alloc: Global, conn: &mut Connection<S>) -> Result<
 }
 
 /// All tables: those of the world in memory, and who holds what. The row of `meta` is that of this schema.
-pub(crate) fn read_world<S: Alter>(
+pub fn read_world<S: Alter>(
     alloc: Global,
     conn: &mut Connection<S>,
 ) -> Result<(World, HoldTable), ReadingFault>

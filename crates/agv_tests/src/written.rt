@@ -1,21 +1,28 @@
 //! A worked example whose changes are written to the desk's tables, call by call, and read back with SQL: what the
 //! tables then hold is written out by hand.
 //!
+//! What is read of them as a world is what the desk has in memory, and rows that are none are told.
+//!
 //! The database is new, or has another table and other indexes on the desk's tables, or has none of the desk's indexes; it is
 //! in memory, or on a disk in memory, which is closed and opened again.
 
 use crate::cases::check;
 use agv_desk::{Call, decide};
-use agv_header::Moment;
+use agv_header::{Moment, Name, Thing, VehicleKey};
 use agv_http::{Routes, call_of};
+use agv_store::ReadingFault;
 use agv_store::change_running::write_changes;
 use agv_store::desk_tables::make_desk_tables;
-use agv_world::{PlainFloor, World};
+use agv_store::layout_reading::ask_layout;
+use agv_store::trip_questions::ask_trip;
+use agv_store::world_reading::read_world;
+use agv_world::{Floor, PlainFloor, World};
 use http::Method;
 use sqlite::types::ValueRef;
 use sqlite::{Alter, Connection, FileStore, Files, Options, Row};
 use sqlite_disk::Memory;
 use std::alloc::Global;
+use std::fmt::Debug;
 use std::process::Abort;
 use std::str;
 
@@ -240,6 +247,45 @@ fn check_rows<S: Alter>(rt: &impl Abort, alloc: Global, conn: &mut Connection<S>
     check(rt, text.as_str() == wanted, text.as_str());
 }
 
+fn name(rt: &impl Abort, text: &str) -> Name {
+    Name::read(text).expect(rt, text)
+}
+
+fn vehicle(rt: &impl Abort) -> VehicleKey {
+    VehicleKey {
+        manufacturer: name(rt, "KIT"),
+        serial: name(rt, "0001"),
+    }
+}
+
+/// Compares two values by how they are printed.
+fn check_same(rt: &impl Abort, alloc: Global, found: &impl Debug, wanted: &impl Debug) {
+    let found = format!(in alloc; "{found:?}").expect(rt, "memory");
+    let wanted = format!(in alloc; "{wanted:?}").expect(rt, "memory");
+    check(rt, found.as_str() == wanted.as_str(), found.as_str());
+}
+
+/// Reads the world, the layout and the vehicle's trip, and compares them with what the floor has in memory.
+fn check_read<S: Alter>(
+    rt: &impl Abort,
+    alloc: Global,
+    floor: &mut PlainFloor,
+    conn: &mut Connection<S>,
+) {
+    let (tables, holds) = read_world(alloc, conn).expect(rt, "the world");
+    check_same(rt, alloc, &tables, &floor.world);
+    let lawful = tables.is_lawful(alloc, 1).expect(rt, "memory");
+    check(rt, lawful, "it is lawful");
+    let node = Thing::Node(name(rt, "N2"));
+    let holder = floor.holder(node).expect(rt, "memory");
+    check(rt, holds.holder(&node) == holder, "the holder of N2");
+    let layout = ask_layout(alloc, conn).expect(rt, "the layout");
+    check_same(rt, alloc, &layout, &floor.layout().expect(rt, "memory"));
+    let trip = ask_trip(alloc, conn, &vehicle(rt)).expect(rt, "the trip");
+    let wanted = floor.trip(vehicle(rt)).expect(rt, "memory");
+    check(rt, trip == wanted, "the trip");
+}
+
 /// Makes the desk's tables.
 fn make<S: Alter>(rt: &impl Abort, conn: &mut Connection<S>) {
     assert!(rt; conn.is_autocommit(), "idle");
@@ -264,8 +310,10 @@ fn check_beside(rt: &impl Abort, alloc: Global, before: &[&str], after: &[&str])
     let mut floor = new_floor(alloc);
     write_calls(rt, alloc, &mut floor, &mut conn, PICKED);
     check_rows(rt, alloc, &mut conn, PICKED_ROWS);
+    check_read(rt, alloc, &mut floor, &mut conn);
     write_calls(rt, alloc, &mut floor, &mut conn, DROPPED);
     check_rows(rt, alloc, &mut conn, DROPPED_ROWS);
+    check_read(rt, alloc, &mut floor, &mut conn);
 }
 
 /// In a database that has nothing else.
@@ -298,6 +346,44 @@ fn without_indexes(rt: HostRuntime) {
         "DROP INDEX job_target",
     ];
     check_beside(&rt, rt.alloc(), &[], &after);
+}
+
+/// What makes a row that is none of the world, of each kind: a word that isn't one, a value that is wanting or too many, a
+/// number that is too large, a name that is none, a schema of another number or of none.
+const DAMAGES: [&str; 10] = [
+    "UPDATE load SET kind = 'lost' WHERE id = 'L2'",
+    "UPDATE load SET station = 'A' WHERE id = 'L1'",
+    "UPDATE vehicle SET rest_edge = 'E12'",
+    "UPDATE vehicle SET last_header = 4294967296",
+    "UPDATE job SET phase = ''",
+    "UPDATE node SET id = 'no name' WHERE id = 'N3'",
+    "UPDATE trip SET pick_status = 'finished'",
+    "UPDATE meta SET schema = 2",
+    "DELETE FROM meta",
+    "UPDATE used SET kind = 'job'",
+];
+
+/// Writes the example, damages a row and reads.
+fn check_damaged(rt: &impl Abort, alloc: Global, damage: &str) {
+    let mut conn = Connection::open_in_memory(alloc).expect(rt, "memory");
+    make(rt, &mut conn);
+    let mut floor = new_floor(alloc);
+    write_calls(rt, alloc, &mut floor, &mut conn, PICKED);
+    let changed = conn.execute(damage, &[]).expect(rt, damage);
+    check(rt, changed > 0, damage);
+    let told = match read_world(alloc, &mut conn) {
+        Ok(_) => None,
+        Err(why) => Some(why),
+    };
+    check(rt, told == Some(ReadingFault::Damaged), damage);
+}
+
+/// A row that is none of the world is told.
+#[test]
+fn damaged(rt: HostRuntime) {
+    for damage in &DAMAGES {
+        check_damaged(&rt, rt.alloc(), damage);
+    }
 }
 
 /// A database on a disk in memory.
