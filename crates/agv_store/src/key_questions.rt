@@ -36,7 +36,9 @@ fn vehicle_in_rows(rows: &[Row]) -> Result<Option<VehicleRow>, ReadingFault>
 }
 
 /// The row of a vehicle; none where there is no such vehicle.
-pub(crate) fn ask_vehicle<S: Alter>(
+///
+/// It fails as [`ReadingFault`] says.
+pub fn ask_vehicle<S: Alter>(
     conn: &mut Connection<S>,
     key: &VehicleKey,
 ) -> Result<Option<VehicleRow>, ReadingFault>
@@ -60,7 +62,9 @@ fn place_in_rows(rows: &[Row]) -> Result<Option<Place>, ReadingFault>
 }
 
 /// Where a load is; none where it is unknown.
-pub(crate) fn ask_place<S: Alter>(
+///
+/// It fails as [`ReadingFault`] says.
+pub fn ask_place<S: Alter>(
     conn: &mut Connection<S>,
     load: &Name,
 ) -> Result<Option<Place>, ReadingFault>
@@ -84,7 +88,9 @@ fn job_in_rows(rows: &[Row]) -> Result<Option<JobRow>, ReadingFault>
 }
 
 /// The row of a job; none where it is unknown.
-pub(crate) fn ask_job<S: Alter>(
+///
+/// It fails as [`ReadingFault`] says.
+pub fn ask_job<S: Alter>(
     conn: &mut Connection<S>,
     job: &Name,
 ) -> Result<Option<JobRow>, ReadingFault>
@@ -108,7 +114,9 @@ fn station_in_rows(rows: &[Row]) -> Result<Option<Spot>, ReadingFault>
 }
 
 /// Where a station is, and how many loads fit there; none where it is unknown.
-pub(crate) fn ask_station<S: Alter>(
+///
+/// It fails as [`ReadingFault`] says.
+pub fn ask_station<S: Alter>(
     conn: &mut Connection<S>,
     id: &Name,
 ) -> Result<Option<Spot>, ReadingFault>
@@ -132,10 +140,9 @@ fn ends_in_rows(rows: &[Row]) -> Result<Option<Ends>, ReadingFault>
 }
 
 /// Where an edge leads; none where it is unknown.
-pub(crate) fn ask_edge<S: Alter>(
-    conn: &mut Connection<S>,
-    id: &Name,
-) -> Result<Option<Ends>, ReadingFault>
+///
+/// It fails as [`ReadingFault`] says.
+pub fn ask_edge<S: Alter>(conn: &mut Connection<S>, id: &Name) -> Result<Option<Ends>, ReadingFault>
     ensures { Tells S.Store conn.old conn.new result (λ world ends. ends ≡ map.get world.layout.edges id.now) }
 {
     let rows = ask_rows(conn, TableName::Edge, &name_key_values(id))?;
@@ -170,7 +177,9 @@ fn thing_is_named(thing: &Thing)
 }
 
 /// The vehicle that holds a node or an edge; none where it is free.
-pub(crate) fn ask_holder<S: Alter>(
+///
+/// It fails as [`ReadingFault`] says.
+pub fn ask_holder<S: Alter>(
     conn: &mut Connection<S>,
     thing: &Thing,
 ) -> Result<Option<VehicleKey>, ReadingFault>
@@ -182,7 +191,9 @@ pub(crate) fn ask_holder<S: Alter>(
 }
 
 /// Whether it is a node of the layout.
-pub(crate) fn ask_node<S: Alter>(conn: &mut Connection<S>, id: &Name) -> Result<bool, ReadingFault>
+///
+/// It fails as [`ReadingFault`] says.
+pub fn ask_node<S: Alter>(conn: &mut Connection<S>, id: &Name) -> Result<bool, ReadingFault>
     ensures { Tells S.Store conn.old conn.new result (λ world known. known ≡ set.contains world.layout.nodes id.now) }
 {
     let rows = ask_rows(conn, TableName::Node, &name_key_values(id))?;
@@ -190,10 +201,9 @@ pub(crate) fn ask_node<S: Alter>(conn: &mut Connection<S>, id: &Name) -> Result<
 }
 
 /// Whether a name was used, in its kind.
-pub(crate) fn ask_used<S: Alter>(
-    conn: &mut Connection<S>,
-    key: &UseKey,
-) -> Result<bool, ReadingFault>
+///
+/// It fails as [`ReadingFault`] says.
+pub fn ask_used<S: Alter>(conn: &mut Connection<S>, key: &UseKey) -> Result<bool, ReadingFault>
     ensures { Tells S.Store conn.old conn.new result (λ world known. known ≡ is_used world key.now.kind key.now.name) }
 {
     let rows = ask_rows(conn, TableName::Used, &used_values(key))?;

@@ -17,13 +17,13 @@
 //!   in the words of `specs/DeskRows.antt`. [`TableName`] names a table, [`RowsBy`] a look-up by other columns.
 //! - [`change_running`] makes a list of changes of a world's rows in the tables, in one transaction (`specs/ChangesMade.antt`).
 //! - [`trip_laws`] says that the row of a trip, that of its job and those of its edges tell an open trip whole.
-//! - The questions of a floor are asked of the tables: by a key (`key_questions`), for the open trip of a vehicle
-//!   (`trip_questions`), about loads and live jobs (`load_questions`, `station_loads`), and for the layout
-//!   (`layout_reading`). Each answers what the lawful world says whose rows the tables have, in the words of
+//! - The questions of a floor are asked of the tables: by a key ([`key_questions`]), for the open trip of a vehicle
+//!   ([`trip_questions`]), about loads and live jobs ([`load_questions`], [`station_loads`]), and for the layout
+//!   ([`layout_reading`]). Each answers what the lawful world says whose rows the tables have, in the words of
 //!   `specs/WorldAnswers.antt`; [`ReadingFault`] says why there is no answer.
-//! - Whole tables are read (`table_reading`, `trip_reading`, `world_reading`) into the tables of a world in memory. What
-//!   is read has just the rows that the tables have, whatever these are (`specs/TablesRead.antt`): a row that tells
-//!   nothing, or a key that is told twice, is damaged.
+//! - All tables are read into the tables of a world in memory, and what is held beside it ([`world_reading`]). What is
+//!   read has just the rows that the tables have, whatever these are (`specs/TablesRead.antt`): a row that tells
+//!   nothing, or a key that is told twice, is damaged. [`reading_laws`] says when the database has the rows of a world.
 //! - [`Fault`] says why the machine failed, in place of an answer, and [`MakingFault`] why the tables aren't made.
 //!
 //! What the table holds after each call is stated for a clean store: one whose disk has so far
@@ -39,11 +39,11 @@ pub mod desk_tables;
 mod fault;
 mod hold_reading;
 mod hold_rows;
-mod key_questions;
+pub mod key_questions;
 mod key_values;
 pub mod laws;
-mod layout_reading;
-mod load_questions;
+pub mod layout_reading;
+pub mod load_questions;
 mod load_rows;
 mod loads;
 mod making_fault;
@@ -62,17 +62,17 @@ mod row_writes;
 mod rows_by;
 mod rows_told;
 mod statements;
-mod station_loads;
+pub mod station_loads;
 mod step_running;
 pub mod table_name;
 mod table_reading;
 pub mod table_texts;
 pub mod trip_laws;
 pub mod trip_line;
-mod trip_questions;
+pub mod trip_questions;
 mod trip_reading;
 mod words;
-mod world_reading;
+pub mod world_reading;
 
 pub use fault::Fault;
 pub use loads::Loads;

@@ -35,7 +35,9 @@ fn name_and_phase_values(name: &Name, phase: Phase) -> [ValueRef<'_>; 2]
 }
 
 /// How many loads a vehicle has.
-pub(crate) fn ask_loads_on<S: Alter>(
+///
+/// It fails as [`ReadingFault`] says.
+pub fn ask_loads_on<S: Alter>(
     conn: &mut Connection<S>,
     key: &VehicleKey,
 ) -> Result<usize, ReadingFault>
@@ -71,7 +73,9 @@ fn ask_jobs_to<S: Alter>(
 }
 
 /// How many live jobs go to a station, each of which keeps a place there.
-pub(crate) fn ask_reserved<S: Alter>(
+///
+/// It fails as [`ReadingFault`] says.
+pub fn ask_reserved<S: Alter>(
     conn: &mut Connection<S>,
     station: &Name,
 ) -> Result<usize, ReadingFault>
@@ -110,7 +114,9 @@ fn ask_job_in<S: Alter>(
 }
 
 /// The live job of a load; none where it is in none.
-pub(crate) fn ask_job_of<S: Alter>(
+///
+/// It fails as [`ReadingFault`] says.
+pub fn ask_job_of<S: Alter>(
     conn: &mut Connection<S>,
     load: &Name,
 ) -> Result<Option<Name>, ReadingFault>
@@ -135,7 +141,9 @@ fn ask_room_left<S: Alter>(
 }
 
 /// How many loads more fit at a station; none where it is unknown.
-pub(crate) fn ask_room<S: Alter>(
+///
+/// It fails as [`ReadingFault`] says.
+pub fn ask_room<S: Alter>(
     conn: &mut Connection<S>,
     station: &Name,
 ) -> Result<Option<u32>, ReadingFault>

@@ -108,7 +108,9 @@ fn ask_told_trip<S: Alter>(
 }
 
 /// The open trip of a vehicle, with its edges; none where it has none, or there is no such vehicle.
-pub(crate) fn ask_trip<S: Alter>(
+///
+/// It fails as [`ReadingFault`] says.
+pub fn ask_trip<S: Alter>(
     alloc: Global,
     conn: &mut Connection<S>,
     key: &VehicleKey,

@@ -80,7 +80,9 @@ pub(crate) fn read_tables<S: Alter>(
 }
 
 /// All tables: those of the world in memory, and who holds what. The row of `meta` is that of this schema.
-pub(crate) fn read_world<S: Alter>(
+///
+/// It fails as [`ReadingFault`] says.
+pub fn read_world<S: Alter>(
     alloc: Global,
     conn: &mut Connection<S>,
 ) -> Result<(World, HoldTable), ReadingFault>
