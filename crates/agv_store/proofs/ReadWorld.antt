@@ -1,5 +1,5 @@
 -- The rows of tables that were read are those of the world whose tables they are.
-use Rattle.std.proofs.Common.{◌≡◌, ℕ, zero, suc, List, [], ◌∷◌, length, IsPermutation, subst, refl, ap}
+use Rattle.std.proofs.Common.{◌≡◌, ℕ, suc, List, [], ◌∷◌, length, IsPermutation, subst, refl}
 use Rattle.std.specs.List.{AllZip}
 use Rattle.sqlite_value.specs.Order.{Row}
 use Rattle.sqlite.specs.Effect.{Database}
@@ -9,10 +9,9 @@ use Rattle.agv_world.specs.Rows.{rows_of}
 use Rattle.agv_world.specs.Worlds.{World}
 use Rattle.agv_world.specs.declared.world.World.{World as Tables}
 use Rattle.agv_store.specs.Columns.{edge_columns, hold_columns, job_columns, leg_columns, load_columns, node_columns, station_columns, used_columns, vehicle_columns}
-use Rattle.agv_store.specs.DeskRows.{Desk, HaveRows, Holds, place_of, table_at, table_names, width_of}
+use Rattle.agv_store.specs.DeskRows.{Desk, HaveRows, Holds, table_at, table_names, width_of}
 use Rattle.agv_store.specs.RowLists.{AreAlike, HoldsWorld, TellRows, row_lists, rows_for, rows_in, trip_rows}
 use Rattle.agv_store.specs.TablesRead.{HaveAll}
-use Rattle.agv_store.specs.declared.table_name.TableName.{TableName}
 use Rattle.agv_store.proofs.ListsHeld.{held_alike}
 
 -- from a place on, the lists have the same rows as these, in some order

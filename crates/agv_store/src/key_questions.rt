@@ -36,6 +36,8 @@ fn vehicle_in_rows(rows: &[Row]) -> Result<Option<VehicleRow>, ReadingFault>
 }
 
 /// The row of a vehicle; none where there is no such vehicle.
+///
+/// It fails as [`ReadingFault`] says.
 pub fn ask_vehicle<S: Alter>(
     conn: &mut Connection<S>,
     key: &VehicleKey,
@@ -60,6 +62,8 @@ fn place_in_rows(rows: &[Row]) -> Result<Option<Place>, ReadingFault>
 }
 
 /// Where a load is; none where it is unknown.
+///
+/// It fails as [`ReadingFault`] says.
 pub fn ask_place<S: Alter>(
     conn: &mut Connection<S>,
     load: &Name,
@@ -84,6 +88,8 @@ fn job_in_rows(rows: &[Row]) -> Result<Option<JobRow>, ReadingFault>
 }
 
 /// The row of a job; none where it is unknown.
+///
+/// It fails as [`ReadingFault`] says.
 pub fn ask_job<S: Alter>(
     conn: &mut Connection<S>,
     job: &Name,
@@ -108,6 +114,8 @@ fn station_in_rows(rows: &[Row]) -> Result<Option<Spot>, ReadingFault>
 }
 
 /// Where a station is, and how many loads fit there; none where it is unknown.
+///
+/// It fails as [`ReadingFault`] says.
 pub fn ask_station<S: Alter>(
     conn: &mut Connection<S>,
     id: &Name,
@@ -132,6 +140,8 @@ fn ends_in_rows(rows: &[Row]) -> Result<Option<Ends>, ReadingFault>
 }
 
 /// Where an edge leads; none where it is unknown.
+///
+/// It fails as [`ReadingFault`] says.
 pub fn ask_edge<S: Alter>(conn: &mut Connection<S>, id: &Name) -> Result<Option<Ends>, ReadingFault>
     ensures { Tells S.Store conn.old conn.new result (λ world ends. ends ≡ map.get world.layout.edges id.now) }
 {
@@ -167,6 +177,8 @@ fn thing_is_named(thing: &Thing)
 }
 
 /// The vehicle that holds a node or an edge; none where it is free.
+///
+/// It fails as [`ReadingFault`] says.
 pub fn ask_holder<S: Alter>(
     conn: &mut Connection<S>,
     thing: &Thing,
@@ -179,6 +191,8 @@ pub fn ask_holder<S: Alter>(
 }
 
 /// Whether it is a node of the layout.
+///
+/// It fails as [`ReadingFault`] says.
 pub fn ask_node<S: Alter>(conn: &mut Connection<S>, id: &Name) -> Result<bool, ReadingFault>
     ensures { Tells S.Store conn.old conn.new result (λ world known. known ≡ set.contains world.layout.nodes id.now) }
 {
@@ -187,6 +201,8 @@ pub fn ask_node<S: Alter>(conn: &mut Connection<S>, id: &Name) -> Result<bool, R
 }
 
 /// Whether a name was used, in its kind.
+///
+/// It fails as [`ReadingFault`] says.
 pub fn ask_used<S: Alter>(conn: &mut Connection<S>, key: &UseKey) -> Result<bool, ReadingFault>
     ensures { Tells S.Store conn.old conn.new result (λ world known. known ≡ is_used world key.now.kind key.now.name) }
 {

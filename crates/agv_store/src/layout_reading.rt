@@ -47,6 +47,8 @@ fn layout_in_tables(alloc: Global, tables: World) -> Result<Option<Layout>, Read
 }
 
 /// A copy of the layout; none before it is set.
+///
+/// It fails as [`ReadingFault`] says.
 pub fn ask_layout<S: Alter>(
     alloc: Global,
     conn: &mut Connection<S>,

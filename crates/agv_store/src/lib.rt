@@ -22,9 +22,9 @@
 //!   ([`trip_questions`]), about loads and live jobs ([`load_questions`], [`station_loads`]), and for the layout
 //!   ([`layout_reading`]). Each answers what the lawful world says whose rows the tables have, in the words of
 //!   `specs/WorldAnswers.antt`; [`ReadingFault`] says why there is no answer.
-//! - Whole tables are read (`table_reading`, `trip_reading`, `world_reading`) into the tables of a world in memory. What
-//!   is read has just the rows that the tables have, whatever these are (`specs/TablesRead.antt`): a row that tells
-//!   nothing, or a key that is told twice, is damaged.
+//! - All tables are read into the tables of a world in memory, and what is held beside it ([`world_reading`]). What is
+//!   read has just the rows that the tables have, whatever these are (`specs/TablesRead.antt`): a row that tells
+//!   nothing, or a key that is told twice, is damaged. [`reading_laws`] says when the database has the rows of a world.
 //! - [`Fault`] says why the machine failed, in place of an answer, and [`MakingFault`] why the tables aren't made.
 //!
 //! What the table holds after each call is stated for a clean store: one whose disk has so far

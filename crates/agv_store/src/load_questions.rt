@@ -35,6 +35,8 @@ fn name_and_phase_values(name: &Name, phase: Phase) -> [ValueRef<'_>; 2]
 }
 
 /// How many loads a vehicle has.
+///
+/// It fails as [`ReadingFault`] says.
 pub fn ask_loads_on<S: Alter>(
     conn: &mut Connection<S>,
     key: &VehicleKey,
@@ -71,6 +73,8 @@ fn ask_jobs_to<S: Alter>(
 }
 
 /// How many live jobs go to a station, each of which keeps a place there.
+///
+/// It fails as [`ReadingFault`] says.
 pub fn ask_reserved<S: Alter>(
     conn: &mut Connection<S>,
     station: &Name,
@@ -110,6 +114,8 @@ fn ask_job_in<S: Alter>(
 }
 
 /// The live job of a load; none where it is in none.
+///
+/// It fails as [`ReadingFault`] says.
 pub fn ask_job_of<S: Alter>(
     conn: &mut Connection<S>,
     load: &Name,
@@ -135,6 +141,8 @@ fn ask_room_left<S: Alter>(
 }
 
 /// How many loads more fit at a station; none where it is unknown.
+///
+/// It fails as [`ReadingFault`] says.
 pub fn ask_room<S: Alter>(
     conn: &mut Connection<S>,
     station: &Name,

@@ -14,7 +14,9 @@ pub enum ReadingFault {
     Memory,
     /// The store failed, or was shut by an earlier failure.
     Storage,
-    /// A row of a table tells no row of the world. In tables that have the rows of a lawful world there is none.
+    /// A row of a table tells no row of the world, or what it tells is told already or stands on a row that isn't there:
+    /// a key that another row has, a trip without its job or its edges. Tables that have the rows of a lawful world
+    /// are never damaged.
     Damaged,
 }
 

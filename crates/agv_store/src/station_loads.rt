@@ -29,6 +29,8 @@ fn names_of(alloc: Global, table: &ByName<Place>) -> Result<Sequence<Name>, Memo
 }
 
 /// The loads at a station, in the order of their names.
+///
+/// It fails as [`ReadingFault`] says.
 pub fn ask_loads_at<S: Alter>(
     alloc: Global,
     conn: &mut Connection<S>,

@@ -108,6 +108,8 @@ fn ask_told_trip<S: Alter>(
 }
 
 /// The open trip of a vehicle, with its edges; none where it has none, or there is no such vehicle.
+///
+/// It fails as [`ReadingFault`] says.
 pub fn ask_trip<S: Alter>(
     alloc: Global,
     conn: &mut Connection<S>,

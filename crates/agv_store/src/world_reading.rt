@@ -77,6 +77,8 @@ pub fn read_tables<S: Alter>(alloc: Global, conn: &mut Connection<S>) -> Result<
 }
 
 /// All tables: those of the world in memory, and who holds what. The row of `meta` is that of this schema.
+///
+/// It fails as [`ReadingFault`] says.
 pub fn read_world<S: Alter>(
     alloc: Global,
     conn: &mut Connection<S>,
