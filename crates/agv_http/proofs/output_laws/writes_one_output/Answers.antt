@@ -1,4 +1,4 @@
-use Rattle.std.proofs.Common.{◌≡◌, ◌++◌, ap, sym, ◌∙◌}
+use Rattle.std.proofs.Common.{◌++◌, ap, sym, ◌∙◌}
 use Rattle.agv_http.specs.Output.{answers_to, last_text, world_after}
 use Rattle.agv_http.proofs.output_laws.writes_one_output.Goals as goal
 
