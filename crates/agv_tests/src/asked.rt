@@ -51,6 +51,10 @@ fn spot(rt: &impl Abort, node: &str) -> Spot {
     }
 }
 
+fn at_a(rt: &impl Abort) -> Place {
+    Place::Station(name(rt, "A"))
+}
+
 fn vehicle_row(rt: &impl Abort) -> VehicleRow {
     let at = Moment::of(0).expect(rt, "a moment");
     VehicleRow {
@@ -89,7 +93,6 @@ fn write_few<S: Alter>(rt: &impl Abort, conn: &mut Connection<S>) {
         start: name(rt, "N1"),
         finish: name(rt, "N2"),
     };
-    let station = Place::Station(name(rt, "A"));
     let changes = [
         Change::Node(name(rt, "N1")),
         Change::Node(name(rt, "N2")),
@@ -99,8 +102,8 @@ fn write_few<S: Alter>(rt: &impl Abort, conn: &mut Connection<S>) {
         Change::Vehicle(vehicle(rt), vehicle_row(rt)),
         Change::Hold(Thing::Node(name(rt, "N1")), Some(vehicle(rt))),
         Change::Used(order_key(rt, "O1")),
-        Change::Load(name(rt, "A1"), station),
-        Change::Load(name(rt, "A2"), station),
+        Change::Load(name(rt, "A1"), at_a(rt)),
+        Change::Load(name(rt, "A2"), at_a(rt)),
         Change::Load(name(rt, "V1"), Place::Vehicle(vehicle(rt))),
         Change::Job(name(rt, "J1"), job(rt, name(rt, "A1"), Phase::Waiting)),
     ];
