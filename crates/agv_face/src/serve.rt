@@ -60,8 +60,8 @@ impl From<Stop> for LoadsFault {
 /// Serves the registered loads: reads requests up to the end of the input, and writes the answer
 /// to each before it looks at the next. It gives the number of answers.
 ///
-/// Two calls of the desk are served, each by a request of HTTP/1.1 with no `close` in a Connection line: the registration
-/// of a load that names no station, as `POST /loads` with `{"load":LOAD}`, and `GET /loads/LOAD`. At anything else the answers so far stay written,
+/// Two requests are served, as HTTP/1.1 with no `close` in a Connection line: `POST /loads` with the
+/// body `{"load":LOAD}`, and `GET /loads/LOAD`. At anything else the answers so far stay written,
 /// nothing more is written, and the fault is `Read`; [`answer_calls`] tells that from a reader
 /// that fails.
 pub fn serve_loads<S: Alter + Drop, R: Read, W: Write>(

@@ -1,20 +1,25 @@
 //! Questions to the desk's tables, and a commit, in a file with 1,000 loads and 1,000 jobs that have ended, and in one with
 //! 100,000 of each: `docs/PERFORMANCE.md` has what they cost.
 //!
-//! The vehicle KIT/0001 stands at N1, with the load V1. At the station A are the loads A1 and A2, and A1 has a live job to B.
+//! The vehicle KIT/0001 stands at N1, with the load V1, and has a trip of ten edges, there and back. At the station A are the
+//! loads A1 and A2, and A1 has a live job to B, which the trip is for.
 
 use crate::cases::check;
 use agv_header::{Moment, Name, Thing, VehicleKey};
 use agv_layout::{Ends, Spot};
+use agv_message::{ActKind, Sequence, Status};
+use agv_order::Act;
 use agv_stock::{Phase, Place};
 use agv_store::change_running::write_changes;
 use agv_store::desk_tables::make_desk_tables;
 use agv_store::key_questions::{
-    ask_holder, ask_job, ask_node, ask_place, ask_station, ask_used, ask_vehicle,
+    ask_edge, ask_holder, ask_job, ask_node, ask_place, ask_station, ask_used, ask_vehicle,
 };
+use agv_store::layout_reading::ask_layout;
 use agv_store::load_questions::{ask_job_of, ask_loads_on, ask_reserved, ask_room};
 use agv_store::station_loads::ask_loads_at;
-use agv_world::{Change, JobRow, Sent, UseKey, UseKind, VehicleRow};
+use agv_store::trip_questions::ask_trip;
+use agv_world::{Change, JobRow, LegKey, Sent, TripRow, UseKey, UseKind, VehicleRow};
 use sqlite::{Alter, Connection};
 use std::alloc::Global;
 use std::process::Abort;
@@ -87,16 +92,71 @@ fn job(rt: &impl Abort, load: Name, phase: Phase) -> JobRow {
     }
 }
 
+fn ends(rt: &impl Abort, start: &str, finish: &str) -> Ends {
+    Ends {
+        start: name(rt, start),
+        finish: name(rt, finish),
+    }
+}
+
+fn act(rt: &impl Abort, kind: ActKind, station: &str, place_at: u32) -> Act {
+    Act {
+        kind,
+        job: name(rt, "J1"),
+        load: name(rt, "A1"),
+        station: name(rt, station),
+        place_at,
+        status: Status::Waiting,
+    }
+}
+
+/// A trip that picks at its start and drops at its end.
+fn trip_row(rt: &impl Abort, alloc: Global) -> TripRow {
+    let mut acts = Vec::new(alloc);
+    acts.push(act(rt, ActKind::Pick, "A", 0))
+        .expect(rt, "memory");
+    acts.push(act(rt, ActKind::Drop, "B", 10))
+        .expect(rt, "memory");
+    TripRow {
+        vehicle: vehicle(rt),
+        start: name(rt, "N1"),
+        first: 0,
+        base: 0,
+        sent: 0,
+        confirmed: None,
+        seen: 0,
+        acts: Sequence::from(acts),
+    }
+}
+
+/// An edge of the trip, there or back.
+fn leg(rt: &impl Abort, k: u32) -> Change {
+    let key = LegKey {
+        order: name(rt, "O1"),
+        k,
+    };
+    let edge = if k % 2 == 0 { "E12" } else { "E21" };
+    Change::Leg(key, Some(name(rt, edge)))
+}
+
+/// The trip and its ten edges.
+fn write_trip<S: Alter>(rt: &impl Abort, alloc: Global, conn: &mut Connection<S>) {
+    let mut changes = Vec::new(alloc);
+    let trip = Change::Trip(name(rt, "O1"), Some(trip_row(rt, alloc)));
+    changes.push(trip).expect(rt, "memory");
+    for k in 0..10 {
+        changes.push(leg(rt, k)).expect(rt, "memory");
+    }
+    write(rt, conn, changes.as_slice());
+}
+
 /// The layout, the vehicle with what it holds and carries, two loads at A, and the job of one of them.
 fn write_few<S: Alter>(rt: &impl Abort, conn: &mut Connection<S>) {
-    let ends = Ends {
-        start: name(rt, "N1"),
-        finish: name(rt, "N2"),
-    };
     let changes = [
         Change::Node(name(rt, "N1")),
         Change::Node(name(rt, "N2")),
-        Change::Edge(name(rt, "E12"), ends),
+        Change::Edge(name(rt, "E12"), ends(rt, "N1", "N2")),
+        Change::Edge(name(rt, "E21"), ends(rt, "N2", "N1")),
         Change::Station(name(rt, "A"), spot(rt, "N1")),
         Change::Station(name(rt, "B"), spot(rt, "N2")),
         Change::Vehicle(vehicle(rt), vehicle_row(rt)),
@@ -156,10 +216,23 @@ fn ask_known<S: Alter>(rt: &impl Abort, alloc: Global, conn: &mut Connection<S>,
     check(rt, node == Ok(true), "the node");
     let used = ask_used(conn, &order_key(rt, "O1"));
     check(rt, used == Ok(true), "the order");
+    let edge = ask_edge(conn, &name(rt, "E21"));
+    check(rt, edge == Ok(Some(ends(rt, "N2", "N1"))), "the edge");
+}
+
+/// Asks for the trip of the vehicle, and for the layout.
+fn ask_whole<S: Alter>(rt: &impl Abort, alloc: Global, conn: &mut Connection<S>) {
+    let trip = ask_trip(alloc, conn, &vehicle(rt)).expect(rt, "the trip");
+    let trip = trip.expect(rt, "a trip");
+    check(rt, trip.order == name(rt, "O1"), "its order");
+    check(rt, trip.edges.as_slice().len() == 10, "its edges");
+    check(rt, trip.acts.as_slice().len() == 2, "its acts");
+    let layout = ask_layout(alloc, conn).expect(rt, "the layout");
+    check(rt, layout.is_some(), "a layout");
 }
 
 /// Asks by each key for what is not there.
-fn ask_unknown<S: Alter>(rt: &impl Abort, conn: &mut Connection<S>) {
+fn ask_unknown<S: Alter>(rt: &impl Abort, alloc: Global, conn: &mut Connection<S>) {
     let other = VehicleKey {
         manufacturer: name(rt, "0001"),
         serial: name(rt, "KIT"),
@@ -175,6 +248,9 @@ fn ask_unknown<S: Alter>(rt: &impl Abort, conn: &mut Connection<S>) {
     check(rt, ask_node(conn, &load) == Ok(false), "a node");
     let used = ask_used(conn, &order_key(rt, "J1"));
     check(rt, used == Ok(false), "an order");
+    check(rt, ask_edge(conn, &node) == Ok(None), "an edge");
+    let trip = ask_trip(alloc, conn, &other).expect(rt, "no trip");
+    check(rt, trip.is_none(), "no trip");
 }
 
 /// Asks for the loads and the live jobs of what has some.
@@ -212,7 +288,8 @@ fn ask_none<S: Alter>(rt: &impl Abort, alloc: Global, conn: &mut Connection<S>, 
 /// Asks each question for what is there and for what isn't.
 fn ask_all<S: Alter>(rt: &impl Abort, alloc: Global, conn: &mut Connection<S>, number: u32) {
     ask_known(rt, alloc, conn, number);
-    ask_unknown(rt, conn);
+    ask_unknown(rt, alloc, conn);
+    ask_whole(rt, alloc, conn);
     ask_some(rt, alloc, conn);
     ask_none(rt, alloc, conn, number);
 }
@@ -228,6 +305,7 @@ fn check_asked<S: Alter>(
     assert!(rt; conn.is_autocommit(), "idle");
     make_desk_tables(conn).expect(rt, "tables");
     write_few(rt, conn);
+    write_trip(rt, alloc, conn);
     write_many(rt, alloc, conn, thousands);
     ask_all(rt, alloc, conn, number);
     let load = numbered(rt, alloc, 'L', number);
