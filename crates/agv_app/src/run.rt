@@ -2,7 +2,7 @@
 ghost use Rattle.std.specs.Prelude.{◌≡◌, List, length, map, string_bytes, IfOk, IfErr, IfSome};
 ghost use Rattle.std.specs.Io.KnownBytes.{Appends};
 ghost use Rattle.agv_store.specs.Registered.{no_loads};
-ghost use Rattle.agv_face.specs.declared.call.Call.{Call};
+ghost use Rattle.agv_desk.specs.declared.call.Call.{Call};
 ghost use Rattle.agv_face.specs.Asked.{Asks};
 ghost use Rattle.agv_face.specs.Served.{output};
 ghost use Rattle.agv_face.specs.Watched.{inner_of};

@@ -6,6 +6,9 @@
 //! The database is new, or has another table and other indexes on the desk's tables, or has none of the desk's indexes; it is
 //! in memory, or on a disk in memory, which is closed and opened again.
 
+ghost use Rattle.std.specs.Prelude.{IsTrue};
+ghost use Rattle.sqlite_disk.specs.Memory.{memory_is_usable};
+
 use crate::cases::check;
 use agv_desk::{Call, decide};
 use agv_header::{Moment, Name, Thing, VehicleKey};
@@ -387,14 +390,20 @@ fn damaged(rt: HostRuntime) {
 }
 
 /// A database on a disk in memory.
-fn open(rt: &impl Abort, alloc: Global, files: Files<Memory>) -> Connection<FileStore<Memory>> {
+fn open(rt: &impl Abort, alloc: Global, files: Files<Memory>) -> Connection<FileStore<Memory>>
+    requires log { IsTrue (memory_is_usable files.log) }
+    requires db { IsTrue (memory_is_usable files.db) }
+{
     match Connection::open_files(alloc, files, Options::new(7)) {
         Ok(conn) => conn,
         Err(_) => panic!(rt; "the files open"),
     }
 }
 
-fn close(rt: &impl Abort, conn: Connection<FileStore<Memory>>) -> Files<Memory> {
+fn close(rt: &impl Abort, conn: Connection<FileStore<Memory>>) -> Files<Memory>
+    ensures log { IsTrue (memory_is_usable result.log) }
+    ensures db { IsTrue (memory_is_usable result.db) }
+{
     match conn.close_files() {
         Ok(files) => files,
         Err(_) => panic!(rt; "the files close"),
