@@ -20,6 +20,8 @@ pub mod Failing
 pub mod FewEntries
 pub mod Finding
 pub mod FittingRows
+pub mod HeldFootprints
+pub mod HeldRead
 pub mod Holding
 pub mod IndexTexts
 pub mod IndexesMade

@@ -8,6 +8,7 @@ pub mod DeskSchema
 pub mod DeskTables
 pub mod Fault
 pub mod FirstRow
+pub mod HeldFootprints
 pub mod HeldLoads
 pub mod Insertion
 pub mod LoadTable

@@ -6,6 +6,8 @@ use Rattle.std.specs.declared.cmp.Ordering.{Ordering}
 use Rattle.sqlite_value.specs.Order.{Row}
 use Rattle.agv_store.specs.Cells.{if_some}
 use Rattle.agv_store.specs.Columns.{meta_in}
+use Rattle.agv_track.specs.Holds.{Holds}
+use Rattle.agv_store.specs.declared.held_things.HeldThings.{HeldThings}
 use Rattle.agv_store.specs.declared.reading_fault.ReadingFault.{ReadingFault}
 use Rattle.agv_store.specs.declared.reading_fault.ReadingFault.TheVariants as fault
 
@@ -41,3 +43,8 @@ abbrev pub meta_read : List Row → Result (Unit {0}) ReadingFault
 meta_read [] = Err fault.Damaged
 meta_read (row ∷ []) = if is_first_meta (meta_in row) then Ok tt else Err fault.Damaged
 meta_read (row ∷ (other ∷ rows)) = Err fault.Damaged
+
+-- the table, where what is held was read
+abbrev pub table_read : Result HeldThings ReadingFault → Result Holds ReadingFault
+table_read (Ok held) = Ok held.table
+table_read (Err why) = Err why

@@ -6,7 +6,7 @@ ghost use Rattle.std.specs.FinMap as map;
 ghost use Rattle.agv_world.specs.Rows.{rows_of};
 ghost use Rattle.agv_store.specs.Columns.{hold_columns, hold_in, meta_columns, meta_in};
 ghost use Rattle.agv_store.specs.DeskRows.{place_of, table_at};
-ghost use Rattle.agv_store.specs.ReadTables.{Reads, is_first_meta, meta_read, read_rows};
+ghost use Rattle.agv_store.specs.ReadTables.{Reads, is_first_meta, meta_read, read_rows, table_read};
 ghost use Rattle.agv_store.specs.RowLists.{rows_in};
 ghost use Rattle.agv_store.specs.TablesRead.{TellsAll, first_meta};
 ghost use Rattle.agv_store.specs.declared.reading_fault.ReadingFault.TheVariants as fault;
@@ -14,6 +14,7 @@ ghost use Rattle.agv_store.specs.declared.table_name.TableName.TheVariants as th
 
 use crate::ReadingFault;
 use crate::asked_rows::ask_all_rows;
+use crate::held_things::HeldThings;
 use crate::rows_told::{hold_told, meta_told};
 use crate::table_name::TableName;
 use agv_header::{Thing, VehicleKey};
@@ -35,11 +36,12 @@ fn note_hold(holds: &mut HoldTable, thing: &Thing, key: &VehicleKey) -> Result<(
     }
 }
 
-// The table that these rows tell.
-fn holds_in_rows(alloc: Global, rows: &[Row]) -> Result<HoldTable, ReadingFault>
-    ensures { Reads result (read_rows hold_in map.empty rows.now) }
+// What these rows tell, as a table and as a list.
+fn holds_in_rows(alloc: Global, rows: &[Row]) -> Result<HeldThings, ReadingFault>
+    ensures { Reads (table_read result) (read_rows hold_in map.empty rows.now) }
 {
     let mut table = HoldTable::new(alloc);
+    let mut pairs = Vec::new(alloc);
     for row in rows {
         match hold_told(row) {
             None => return Err(ReadingFault::Damaged),
@@ -48,18 +50,19 @@ fn holds_in_rows(alloc: Global, rows: &[Row]) -> Result<HoldTable, ReadingFault>
                     return Err(ReadingFault::Damaged);
                 }
                 note_hold(&mut table, &thing, &key)?;
+                pairs.push((thing, key))?;
             }
         }
     }
-    Ok(table)
+    Ok(HeldThings { table, pairs })
 }
 
 /// The vehicle that holds a node or an edge, for each that is held.
 pub(crate) fn ask_holds<S: Alter>(
     alloc: Global,
     conn: &mut Connection<S>,
-) -> Result<HoldTable, ReadingFault>
-    ensures { TellsAll S.Store conn.old conn.new result (λ world table. table ≡ (rows_of world).holds) (λ lists table. IsPermutation (table_at (place_of the.Hold) lists) (rows_in hold_columns table)) }
+) -> Result<HeldThings, ReadingFault>
+    ensures { TellsAll S.Store conn.old conn.new result (λ world held. held.table ≡ (rows_of world).holds) (λ lists held. IsPermutation (table_at (place_of the.Hold) lists) (rows_in hold_columns held.table)) }
 {
     is_in_good_order();
     let rows = ask_all_rows(conn, TableName::Hold)?;

@@ -24,7 +24,8 @@
 //!   `specs/WorldAnswers.antt`; [`ReadingFault`] says why there is no answer.
 //! - All tables are read into the tables of a world in memory, and what is held beside it ([`world_reading`]). What is
 //!   read has just the rows that the tables have, whatever these are (`specs/TablesRead.antt`): a row that tells
-//!   nothing, or a key that is told twice, is damaged. [`reading_laws`] says when the database has the rows of a world.
+//!   nothing, or a key that is told twice, is damaged. [`HeldThings`] is what is held, and tells whether that is what the
+//!   vehicles of a world hold. [`reading_laws`] says when the database has the rows of a world.
 //! - [`Fault`] says why the machine failed, in place of an answer, and [`MakingFault`] why the tables aren't made.
 //!
 //! What the table holds after each call is stated for a clean store: one whose disk has so far
@@ -38,6 +39,7 @@ mod change_writes;
 pub mod desk_law;
 pub mod desk_tables;
 mod fault;
+mod held_things;
 mod hold_reading;
 mod hold_rows;
 pub mod key_questions;
@@ -78,6 +80,7 @@ pub mod world_reading;
 mod world_table;
 
 pub use fault::Fault;
+pub use held_things::HeldThings;
 pub use loads::Loads;
 pub use making_fault::MakingFault;
 pub use reading_fault::ReadingFault;

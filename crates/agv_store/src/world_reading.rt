@@ -11,12 +11,12 @@ ghost use Rattle.agv_store.specs.TablesRead.{HaveAll, HaveTables, TellsAll};
 ghost use Rattle.agv_store.specs.declared.table_name.TableName.TheVariants as the;
 
 use crate::ReadingFault;
+use crate::held_things::HeldThings;
 use crate::hold_reading::{ask_holds, ask_meta};
 use crate::layout_reading::ask_layout_tables;
 use crate::table_reading::{ask_legs, ask_places, ask_used, ask_vehicles};
 use crate::trip_reading::ask_trips;
 use agv_stock::Place;
-use agv_track::HoldTable;
 use agv_world::{ByLeg, ByName, ByVehicle, UsedNames, VehicleRow, World};
 use sqlite::{Alter, Connection};
 use std::alloc::Global;
@@ -78,14 +78,17 @@ pub fn read_tables<S: Alter>(alloc: Global, conn: &mut Connection<S>) -> Result<
 
 /// All tables: those of the world in memory, and who holds what. The row of `meta` is that of this schema.
 ///
+/// Where [`World::is_lawful`](agv_world::World::is_lawful) and [`HeldThings::are_footprints`] both answer `true`, the database has
+/// the rows of a lawful world (`reading_laws`); where one answers `false`, it has those of none.
+///
 /// It fails as [`ReadingFault`] says.
 pub fn read_world<S: Alter>(
     alloc: Global,
     conn: &mut Connection<S>,
-) -> Result<(World, HoldTable), ReadingFault>
+) -> Result<(World, HeldThings), ReadingFault>
     ensures { TellsAll S.Store conn.old conn.new result
-        (λ world read. Keeps read.0 world × (read.1 ≡ (rows_of world).holds))
-        (λ lists read. HaveAll lists read.0 read.1) }
+        (λ world read. Keeps read.0 world × (read.1.table ≡ (rows_of world).holds))
+        (λ lists read. HaveAll lists read.0 read.1.table) }
 {
     ask_meta(conn)?;
     let tables = read_tables(alloc, conn)?;

@@ -1,10 +1,15 @@
-use Rattle.std.proofs.Common.{subst}
+use Rattle.std.proofs.Common.{◌≡◌, IsPermutation, subst}
 use Rattle.std.specs.FinMap as map
 use Rattle.agv_header.specs.ThingOrder.{thing_cmp-IsAntisymmetric, thing_cmp-total}
+use Rattle.agv_world.specs.Rows.{rows_of}
 use Rattle.agv_store.specs.Columns.{hold_columns, hold_in}
-use Rattle.agv_store.specs.ReadTables.{Reads, read_rows}
+use Rattle.agv_store.specs.DeskRows.{place_of, table_at}
+use Rattle.agv_store.specs.ReadTables.{Reads, read_rows, table_read}
+use Rattle.agv_store.specs.RowLists.{rows_in}
+use Rattle.agv_store.specs.declared.table_name.TableName.TheVariants as the
 use Rattle.agv_store.proofs.AskingAll.{all_follows, all_passes}
 use Rattle.agv_store.proofs.ColumnsWritten.{hold_written}
+use Rattle.agv_store.proofs.HeldRead.{table_follows, table_if_ok}
 use Rattle.agv_store.proofs.TableAnswers.{tells_holds}
 use Rattle.agv_store.proofs.TablesBack.{shows_table}
 use Rattle.agv_store.proofs.hold_reading.ask_holds.Goals as goal
@@ -14,8 +19,8 @@ returns-in_err-rows g c = all_passes g.S.Store c.args.conn.now c.ask_all_rows.ne
 
 pub returns : goal.returns
 returns g c =
-    let read = subst (λ rows. Reads c.holds_in_rows.result (read_rows hold_in map.empty rows)) c.as_slice.ensures.value c.holds_in_rows.ensures in
+    let read = subst (λ rows. Reads (table_read c.holds_in_rows.result) (read_rows hold_in map.empty rows)) c.as_slice.ensures.value c.holds_in_rows.ensures in
     all_follows g.S.Store c.args.conn.now c.ask_all_rows.new.conn c.in_ok-rows.rows _ _ _ _ c.holds_in_rows.result
-    (λ world lawful shown. tells_holds world lawful (c.is_in_good_order.ensures 1 world lawful) c.in_ok-rows.rows.items shown c.holds_in_rows.result read)
-    (λ lists shown. shows_table thing_cmp-total thing_cmp-IsAntisymmetric hold_columns hold_in hold_written _ c.in_ok-rows.rows.items c.holds_in_rows.result read shown)
+    (λ world lawful shown. table_follows c.holds_in_rows.result (λ table. table ≡ (rows_of world).holds) (tells_holds world lawful (c.is_in_good_order.ensures 1 world lawful) c.in_ok-rows.rows.items shown (table_read c.holds_in_rows.result) read))
+    (λ lists shown. table_if_ok c.holds_in_rows.result (λ table. IsPermutation (table_at (place_of the.Hold) lists) (rows_in hold_columns table)) (shows_table thing_cmp-total thing_cmp-IsAntisymmetric hold_columns hold_in hold_written _ c.in_ok-rows.rows.items (table_read c.holds_in_rows.result) read shown))
     c.in_ok-rows.ensures
