@@ -32,16 +32,16 @@ module _ {S A : Type 0} (g : Ghosts S) (old new : Held S) (result : Result A Rea
   pub record Tells : Type 0 where
     -- the answer is what the world says whose rows the tables have
     pub told : HasCleanDisk (state g new) → IfOk result (λ answer. (desk : Desk) (world : World) → HasWorld desk (state g old).now world → says world answer)
-    -- with an answer nothing is changed, whatever rows the tables have
+    -- an answer changes nothing, whatever rows the tables have
     pub kept : HasCleanDisk (state g new) → OnOk result ((desk : Desk) → IsDesk desk → (lists : List (List Row)) → Holds desk (state g old).now lists → IsUnchanged (state g old) (state g new))
     -- an answer comes only from an open store
     pub answering : HasCleanDisk (state g new) → OnOk result (IsTrue (state g old).is_open × IsTrue (state g new).is_open)
     -- only tables that have no lawful world are damaged
     pub damaged : HasCleanDisk (state g new) → IfErr result (λ why. why ≡ fault.Damaged → HasNoWorld (state g old).now)
-    -- a failure changes nothing, but that it may end the transaction, whatever rows the tables have
+    -- a failure that leaves the store open changes nothing, but that it may end the transaction and so undo it, whatever rows the tables have
     pub failed : HasCleanDisk (state g new)
         → OnErr result ((desk : Desk) → IsDesk desk → (lists : List (List Row)) → Holds desk (state g old).now lists → IsUnchanged (state g old) (state g new) ⊎ IsRolledBack (state g old) (state g new))
     -- a fault of the store comes only where the store failed, had been shut, or limits the steps of a query
     pub caused : HasCleanDisk (state g new) → IfErr result (λ why. why ≡ fault.Storage → (desk : Desk) (world : World) → HasWorld desk (state g old).now world → HasStorageCause g old new)
-    -- nothing is committed where the desk's tables stand
+    -- where the desk's tables stand nothing is committed: a crash leaves what it could leave before
     pub survives : Survives (state g old) (state g new) (λ _. HasNoTables (state g old).now)
