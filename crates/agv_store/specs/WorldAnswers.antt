@@ -1,12 +1,13 @@
--- What a question to the desk's tables gives: what a lawful world says, where the tables have its rows.
-use Rattle.std.specs.Prelude.{◌≡◌, ◌⊎◌, Result, IfOk, IfErr, OnOk, OnErr, IsTrue}
+-- What a question to the desk's tables gives: what a lawful world says, where the tables have its rows; and what it leaves, whatever rows they have.
+use Rattle.std.specs.Prelude.{◌≡◌, ◌⊎◌, List, Result, IfOk, IfErr, OnOk, OnErr, IsTrue}
+use Rattle.sqlite_value.specs.Order.{Row}
 use Rattle.sqlite_trees.specs.declared.store.Store.{Ghosts}
 use Rattle.sqlite.specs.Effect.{Database}
 use Rattle.sqlite.specs.Held.{Held, state}
 use Rattle.sqlite.specs.State.{HasCleanDisk, IsUnchanged, IsRolledBack, Survives}
 use Rattle.agv_world.specs.Lawful.{IsLawful}
 use Rattle.agv_world.specs.Worlds.{World}
-use Rattle.agv_store.specs.DeskRows.{Desk, IsDesk}
+use Rattle.agv_store.specs.DeskRows.{Desk, Holds, IsDesk}
 use Rattle.agv_store.specs.HeldLoads.{HasStorageCause}
 use Rattle.agv_store.specs.RowLists.{HoldsWorld}
 use Rattle.agv_store.specs.declared.reading_fault.ReadingFault.{ReadingFault}
@@ -22,19 +23,25 @@ pub record HasWorld (desk : Desk) (db : Database) (world : World) : Type 0 where
 abbrev pub HasNoWorld : Database → Type 0
 HasNoWorld db = (desk : Desk) (world : World) → ¬ HasWorld desk db world
 
+-- no desk's tables stand in the database, whatever rows they would have
+abbrev pub HasNoTables : Database → Type 0
+HasNoTables db = (desk : Desk) → IsDesk desk → (lists : List (List Row)) → ¬ Holds desk db lists
+
 module _ {S A : Type 0} (g : Ghosts S) (old new : Held S) (result : Result A ReadingFault) (says : World → A → Type 0) where
   -- how a question ends that is asked of the tables
   pub record Tells : Type 0 where
-    -- the answer is what the world says whose rows the tables have, and nothing is changed
-    pub told : HasCleanDisk (state g new) → IfOk result (λ answer. (desk : Desk) (world : World) → HasWorld desk (state g old).now world → says world answer × IsUnchanged (state g old) (state g new))
+    -- the answer is what the world says whose rows the tables have
+    pub told : HasCleanDisk (state g new) → IfOk result (λ answer. (desk : Desk) (world : World) → HasWorld desk (state g old).now world → says world answer)
+    -- an answer changes nothing, whatever rows the tables have
+    pub kept : HasCleanDisk (state g new) → OnOk result ((desk : Desk) → IsDesk desk → (lists : List (List Row)) → Holds desk (state g old).now lists → IsUnchanged (state g old) (state g new))
     -- an answer comes only from an open store
     pub answering : HasCleanDisk (state g new) → OnOk result (IsTrue (state g old).is_open × IsTrue (state g new).is_open)
     -- only tables that have no lawful world are damaged
     pub damaged : HasCleanDisk (state g new) → IfErr result (λ why. why ≡ fault.Damaged → HasNoWorld (state g old).now)
-    -- a failure changes nothing, but that it may end the transaction
+    -- a failure that leaves the store open changes nothing, but that it may end the transaction and so undo it, whatever rows the tables have
     pub failed : HasCleanDisk (state g new)
-        → OnErr result ((desk : Desk) (world : World) → HasWorld desk (state g old).now world → IsUnchanged (state g old) (state g new) ⊎ IsRolledBack (state g old) (state g new))
+        → OnErr result ((desk : Desk) → IsDesk desk → (lists : List (List Row)) → Holds desk (state g old).now lists → IsUnchanged (state g old) (state g new) ⊎ IsRolledBack (state g old) (state g new))
     -- a fault of the store comes only where the store failed, had been shut, or limits the steps of a query
     pub caused : HasCleanDisk (state g new) → IfErr result (λ why. why ≡ fault.Storage → (desk : Desk) (world : World) → HasWorld desk (state g old).now world → HasStorageCause g old new)
-    -- nothing is committed
-    pub survives : Survives (state g old) (state g new) (λ _. HasNoWorld (state g old).now)
+    -- where the desk's tables stand nothing is committed: a crash leaves what it could leave before
+    pub survives : Survives (state g old) (state g new) (λ _. HasNoTables (state g old).now)

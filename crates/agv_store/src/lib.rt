@@ -21,7 +21,8 @@
 //! - The questions of a floor are asked of the tables: by a key ([`key_questions`]), for the open trip of a vehicle
 //!   ([`trip_questions`]), about loads and live jobs ([`load_questions`], [`station_loads`]), and for the layout
 //!   ([`layout_reading`]). Each answers what the lawful world says whose rows the tables have, in the words of
-//!   `specs/WorldAnswers.antt`; [`ReadingFault`] says why there is no answer.
+//!   `specs/WorldAnswers.antt`; [`ReadingFault`] says why there is no answer. Whatever rows the tables have, an answer
+//!   changes nothing, and a failure that leaves the store open nothing but that it may end the transaction and so undo it.
 //! - All tables are read into the tables of a world in memory, and what is held beside it ([`world_reading`]). What is
 //!   read has just the rows that the tables have, whatever these are (`specs/TablesRead.antt`): a row that tells
 //!   nothing, or a key that is told twice, is damaged. [`HeldThings`] is what is held, and tells whether that is what the

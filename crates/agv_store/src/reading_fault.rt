@@ -8,6 +8,9 @@ use sqlite::Error;
 use std::alloc::{AllocError, AllocFailed};
 
 /// Why the desk's tables aren't read.
+///
+/// Wherever these tables stand, whatever rows they have, a question that fails so and leaves the store open changes
+/// nothing, but that it may end the transaction and so undo it.
 #[derive(Clone, Copy, Debug, PartialEq, Eq)]
 pub enum ReadingFault {
     /// Want of memory.
