@@ -281,7 +281,7 @@ fn check_read<S: Alter>(
     check(rt, lawful, "it is lawful");
     let node = Thing::Node(name(rt, "N2"));
     let holder = floor.holder(node).expect(rt, "memory");
-    check(rt, holds.holder(&node) == holder, "the holder of N2");
+    check(rt, holds.table.holder(&node) == holder, "the holder of N2");
     let layout = ask_layout(alloc, conn).expect(rt, "the layout");
     check_same(rt, alloc, &layout, &floor.layout().expect(rt, "memory"));
     let trip = ask_trip(alloc, conn, &vehicle(rt)).expect(rt, "the trip");
