@@ -17,6 +17,7 @@
 //!   in the words of `specs/DeskRows.antt`. [`TableName`] names a table, [`RowsBy`] a look-up by other columns; `WorldTable` is a table
 //!   that is written, and `RowOf` a look-up by the key. All texts of SQL are 64 (`row_texts`).
 //! - [`change_running`] makes a list of changes of a world's rows in the tables, in one transaction (`specs/ChangesMade.antt`).
+//!   [`change_laws`] says what an opening finds after a crash of it.
 //! - [`trip_laws`] says that the row of a trip, that of its job and those of its edges tell an open trip whole.
 //! - The questions of a floor are asked of the tables: by a key ([`key_questions`]), for the open trip of a vehicle
 //!   ([`trip_questions`]), about loads and live jobs ([`load_questions`], [`station_loads`]), and for the layout
@@ -33,6 +34,7 @@
 
 mod asked_rows;
 mod cells;
+pub mod change_laws;
 pub mod change_running;
 mod change_writes;
 pub mod desk_law;
