@@ -47,7 +47,6 @@ mod key_values;
 pub mod laws;
 pub mod layout_reading;
 pub mod load_questions;
-mod load_rows;
 mod loads;
 mod making_fault;
 pub mod making_laws;
