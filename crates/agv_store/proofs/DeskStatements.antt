@@ -4,14 +4,17 @@ use Rattle.std.specs.List.{list_all}
 use Rattle.std.proofs.lemmas.Bool.{cases_Bool}
 use Rattle.sqlite_value.specs.Order.{Row}
 use Rattle.sqlite_sql.specs.Term.{Term}
+use Rattle.sqlite_trees.proofs.ListLemmas.{all_of}
+use Rattle.sqlite_rules.proofs.ListLemmas.{all_from, all_has}
 use Rattle.sqlite.specs.declared.error.Error.{Error}
 use Rattle.sqlite.specs.declared.error.Error.TheVariants.{SqliteFailure}
 use Rattle.sqlite.specs.declared.error.ErrorCode.TheVariants.{TransactionState}
+use Rattle.sqlite.specs.Effect.{Database}
 use Rattle.sqlite.specs.Listing.{understood}
 use Rattle.sqlite.specs.State.{State, Executes, ExecutesInside, Shown, Survives, CommitsShowing}
 use Rattle.sqlite.proofs.StateLemmas.{survives_weaker}
 use Rattle.sqlite.proofs.Callers.{IsPlain, never_commits}
-use Rattle.agv_store.specs.DeskRows.{Desk, IsDesk, HasNoDesk, Holds, on_table, table_at, place_of, width_of, has_key, with_row, without_key, with_put, rows_of_key, FitsTable, Makes, Answers}
+use Rattle.agv_store.specs.DeskRows.{Desk, IsDesk, HasNoDesk, KeepsOthers, on_table, table_at, place_of, width_of, has_key, with_row, without_key, with_put, rows_of_key, FitsTable, Makes, Answers}
 use Rattle.agv_store.specs.RowQuestions.{table_asked, columns_asked, equal_from, rows_asked, all_rows_of, question_text, all_rows_text}
 use Rattle.agv_store.specs.RowTexts.{insertion_text, deletion_text, look_up_text, table_written, table_looked_up}
 use Rattle.agv_store.specs.declared.row_of.RowOf.{RowOf}
@@ -23,7 +26,7 @@ use Rattle.agv_store.proofs.DeskPlaces.{is_in}
 use Rattle.agv_store.proofs.EntryEdits.{filter_nothing}
 use Rattle.agv_store.proofs.QuestionMeanings.{Asks, question_terms, question_passes, question_within, question_asks, all_rows_asked}
 use Rattle.agv_store.proofs.QueryRows.{passes, reads_within}
-use Rattle.agv_store.proofs.RowForms.{rows_deleted, row_inserted, rows_shown}
+use Rattle.agv_store.proofs.RowForms.{Lands, rows_deleted, row_inserted, rows_shown}
 use Rattle.agv_store.proofs.RowMeanings.{key_terms, column_names, inserts, deletes, looks_up}
 use Rattle.agv_store.proofs.Running.{shown_open, shown_same}
 
@@ -62,11 +65,17 @@ abbrev pub RunsInside : List ℕ → Row → State → State → Result ℕ Erro
 RunsInside sql params old new r = (old.in_transaction ≡ false → r ≡ Err (SqliteFailure TransactionState)) × (IsTrue old.in_transaction → ExecutesInside 0 sql params old new r)
 
 makes : (change : List (List Row) → List (List Row)) (sql : List ℕ) (params : Row) (old new : State) (r : Result ℕ Error)
-    → ((desk : Desk) → IsDesk desk → (count : ℕ) → Executes sql params old new (Ok count) → (lists : List (List Row)) → Holds desk old.now lists → Holds desk new.now (change lists))
+    → ((desk : Desk) → IsDesk desk → old.now.schema ≡ desk.schema → (count : ℕ) → Executes sql params old new (Ok count) → Lands desk old.now new.now change)
     → RunsInside sql params old new r → OnOk r (Makes change old new)
 makes change sql params old new (Err e) step ran = tt
 makes change sql params old new (Ok count) step ran = elim (cases_Bool old.in_transaction) [
-  | inl inside ↦ let it = ran.1 inside in record { made = λ desk is. step desk is count it.0; kept = it.1.committed_is; mode = it.1.mode }
+  | inl inside ↦ let it = ran.1 inside in record {
+    made = λ desk is lists h. (step desk is h.schema_is count it.0).rows lists h;
+    others = λ desk is has. (step desk is has count it.0).others;
+    listed = λ desk is has _. (step desk is has count it.0).listed;
+    kept = it.1.committed_is;
+    mode = it.1.mode;
+  }
   | inr outside ↦ absurd (let e = ran.0 outside in cc)
 ]
 
@@ -74,21 +83,38 @@ pub inserts_row : (table : WorldTable) (sql : List ℕ) → sql ≡ insertion_te
 inserts_row table sql text row fit old new r ran =
     let name = table_written table in
     makes (with_row name row) (insertion_text table) row old new r
-    (λ desk is count done lists h. row_inserted desk is name old new h.schema_is (insertion_text table) row fit (inserts table desk.schema (is.stands name).at (desk.tree name) (is_in desk is name)) count done lists h)
+    (λ desk is has. row_inserted desk is name old new has (insertion_text table) row fit (inserts table desk.schema (is.stands name).at (desk.tree name) (is_in desk is name)))
     (subst (λ t. RunsInside t row old new r) text ran)
 
 pub deletes_row : (table : WorldTable) (sql : List ℕ) → sql ≡ deletion_text table → (key : Row) (old new : State) (r : Result ℕ Error) → RunsInside sql key old new r → OnOk r (Makes (without_key (table_written table) key) old new)
 deletes_row table sql text key old new r ran =
     let name = table_written table in
     makes (without_key name key) (deletion_text table) key old new r
-    (λ desk is count done lists h.
-    subst (λ (p : Row → _). Holds desk new.now (on_table (place_of name) (filter (λ row. not (p row))) lists)) (key_passes name key)
-    (rows_deleted desk is name old new h.schema_is (deletion_text table) key (key_terms name) (within name) (deletes table desk.schema (is.stands name).at (desk.tree name) (is_in desk is name)) count done lists h))
+    (λ desk is has count done.
+    subst (λ (p : Row → _). Lands desk old.now new.now (on_table (place_of name) (filter (λ row. not (p row))))) (key_passes name key)
+    (rows_deleted desk is name old new has (deletion_text table) key (key_terms name) (within name) (deletes table desk.schema (is.stands name).at (desk.tree name) (is_in desk is name)) count done))
     (subst (λ t. RunsInside t key old new r) text ran)
+
+-- the other tables stay where nothing is done, and through one change and then another
+pub keeps_others_as_is : (desk : Desk) (db : Database) → KeepsOthers desk db db
+keeps_others_as_is desk db = record { schema_is = refl; rows = all_of _ (λ t none. refl) desk.schema.tables }
+
+pub keeps_others_then : (desk : Desk) (a b c : Database) → KeepsOthers desk a b → KeepsOthers desk b c → KeepsOthers desk a c
+keeps_others_then desk a b c p q =
+    let tables = desk.schema.tables in
+    record { schema_is = q.schema_is ∙ p.schema_is; rows = all_from _ tables (λ t there none. all_has _ tables t q.rows there none ∙ all_has _ tables t p.rows there none) }
 
 -- one change and then another
 pub makes_then : (f g : List (List Row) → List (List Row)) (a b c : State) → Makes f a b → Makes g b c → Makes (λ lists. g (f lists)) a c
-makes_then f g a b c p q = record { made = λ desk is lists h. q.made desk is (f lists) (p.made desk is lists h); kept = q.kept ∙ p.kept; mode = q.mode }
+makes_then f g a b c p q =
+    let then = λ (desk : Desk) (is : IsDesk desk) (has : a.now.schema ≡ desk.schema). (p.others desk is has).schema_is ∙ has in
+    record {
+      made = λ desk is lists h. q.made desk is (f lists) (p.made desk is lists h);
+      others = λ desk is has. keeps_others_then desk a.now b.now c.now (p.others desk is has) (q.others desk is (then desk is has));
+      listed = λ desk is has whole. q.listed desk is (then desk is has) (p.listed desk is has whole);
+      kept = q.kept ∙ p.kept;
+      mode = q.mode;
+    }
 
 pub puts_row : (name : TableName) (key row : Row) (a b c : State) (last : Result ℕ Error) → OnOk last (Makes (with_row name row) b c) → Makes (without_key name key) a b → OnOk last (Makes (with_put name key row) a c)
 puts_row name key row a b c (Ok count) added gone = makes_then (without_key name key) (with_row name row) a b c gone added

@@ -2,6 +2,7 @@ pub mod AskedShown
 pub mod Asking
 pub mod AskingAll
 pub mod CellLemmas
+pub mod ChangesFound
 pub mod ChangesRun
 pub mod ColumnValues
 pub mod ColumnsKept

@@ -216,7 +216,7 @@ all_whole the.Used = (lit≤ tt, refl)
 
 -- ---- the look-ups
 
-pub on_err_all : {X : Type 0} {P Q : Error → Type 0} (r : Result X Error) → ((e : Error) → P e → Q e) → IfErr r P → IfErr r Q
+on_err_all : {X : Type 0} {P Q : Error → Type 0} (r : Result X Error) → ((e : Error) → P e → Q e) → IfErr r P → IfErr r Q
 on_err_all (Ok x) f h = tt
 on_err_all (Err e) f h = f e h
 

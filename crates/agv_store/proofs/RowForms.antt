@@ -17,17 +17,18 @@ use Rattle.sqlite_schema.specs.declared.command.Command.{Command}
 use Rattle.sqlite_schema.specs.declared.command.Command.TheVariants.{Insert, Delete, Select}
 use Rattle.sqlite_schema.specs.declared.command.Source.TheVariants.{Values}
 use Rattle.sqlite_rules.specs.Cast.{cast, cast_all}
+use Rattle.sqlite_rules.proofs.ListLemmas.{all_from, all_has}
 use Rattle.sqlite_rules.specs.Edit.{id_in, next_rowid, taken_by, Edit, edit_of, Applies, put_all, are_fresh, is_taken}
 use Rattle.sqlite_rules.specs.Action.{works}
 use Rattle.sqlite_rules.specs.Calls.{ids_of}
 use Rattle.sqlite_rules.specs.declared.error.Rowids.TheVariants.{Chosen, Above, Given}
 use Rattle.sqlite_rules.specs.declared.error.Rowids.{Rowids}
-use Rattle.sqlite.specs.Effect.{Database, value_rows}
+use Rattle.sqlite.specs.Effect.{Database, IsDatabase, value_rows}
 use Rattle.sqlite.specs.Rows.{Written, Task, Edited, stamped, rowids_for, count_of}
 use Rattle.sqlite.specs.Does.{Tally, OnRows, Concludes, AtPlace}
 use Rattle.sqlite.specs.State.{State, mode_of, Executes, Shown}
 use Rattle.sqlite.proofs.Callers.{runs_as, reads_as, one_step}
-use Rattle.agv_store.specs.DeskRows.{width_of, table_for, place_of, Desk, table_in, IsDesk, first_columns, columns_in, HaveRows, Holds, table_at, on_table, FitsTable}
+use Rattle.agv_store.specs.DeskRows.{width_of, table_for, place_of, Desk, table_in, IsDesk, first_columns, columns_in, HaveRows, Holds, KeepsOthers, table_at, on_table, FitsTable}
 use Rattle.agv_store.specs.declared.table_name.TableName.{TableName}
 use Rattle.agv_store.specs.declared.table_name.TableName.TheVariants as the
 use Rattle.agv_store.proofs.OneTable.{Means, query_by}
@@ -133,7 +134,18 @@ second : (P Q : Type 0) (b c : Bool) → b ≡ false → MatchBool (cond b c fal
 second P Q true c h x = absurd (cc)
 second P Q false c h x = x
 
+-- what holds of each table but one of the desk's holds of each that is none of them
+of_fewer : (tree : TableName → ℕ) (name : TableName) (P : Table → Type 0) (tables : List Table) → AllByRecursion (λ (t : Table). t.tree ≢ tree name → P t) tables
+    → AllByRecursion (λ (t : Table). ((n : TableName) → t.tree ≢ tree n) → P t) tables
+of_fewer tree name P tables h = all_from _ tables (λ t there none. all_has _ tables t h there (none name))
+
 -- ---- the statements
+
+-- what a statement that changes the desk's rows does
+pub record Lands (desk : Desk) (old new : Database) (change : List (List Row) → List (List Row)) : Type 0 where
+  pub rows : (lists : List (List Row)) → Holds desk old lists → Holds desk new (change lists)
+  pub others : KeepsOthers desk old new
+  pub listed : IsDatabase new
 
 module _ (desk : Desk) (is : IsDesk desk) (name : TableName) (old new : State) (has : old.now.schema ≡ desk.schema) where
   abbrev table : Table
@@ -168,17 +180,19 @@ module _ (desk : Desk) (is : IsDesk desk) (name : TableName) (old new : State) (
 
   lands : (edit : Edit) (next : Trees) (f : List Row → List Row) → edit.table ≡ table → Applies old.now.schema Enforced old.now.trees edit next
       → ((rows : List Row) → HaveRows width (old.now.trees table.tree) rows → HaveRows width (next table.tree) (f rows))
-      → new.now ≡ record { schema = old.now.schema; trees = next } → (lists : List (List Row)) → Holds desk old.now lists → Holds desk new.now (on_table (place_of name) f lists)
-  lands edit next f here a step now lists h = rw now (record {
-    schema_is = has;
-    rows = table_changes desk is name old.now.trees next f step (subst (λ s. AllByRecursion (λ (t : Table). t.tree ≢ table.tree → next t.tree ≡ old.now.trees t.tree) s.tables) has (rw here at a.tables)) lists h.rows;
-  })
+      → new.now ≡ record { schema = old.now.schema; trees = next } → IsDatabase new.now → Lands desk old.now new.now (on_table (place_of name) f)
+  lands edit next f here a step now listed =
+      let same = subst (λ s. AllByRecursion (λ (t : Table). t.tree ≢ table.tree → next t.tree ≡ old.now.trees t.tree) s.tables) has (rw here at a.tables) in
+      record {
+        rows = λ lists h. rw now (record { schema_is = has; rows = table_changes desk is name old.now.trees next f step same lists h.rows });
+        others = rw now (record { schema_is = refl; rows = of_fewer desk.tree name (λ t. next t.tree ≡ old.now.trees t.tree) desk.schema.tables same });
+        listed = listed;
+      }
 
   pub rows_deleted : (sql : List ℕ) (params : Row) (terms : List Term) → list_all (reads_within width) terms ≡ true
       → Means desk.schema sql (Delete at (record { lets = []; body = query_by table.tree terms (col 1 0 ∷ []) }))
-      → (count : ℕ) → Executes sql params old new (Ok count) → (lists : List (List Row)) → Holds desk old.now lists
-      → Holds desk new.now (on_table (place_of name) (filter (λ row. not (passes terms params row))) lists)
-  rows_deleted sql params terms within means count ran lists h =
+      → (count : ℕ) → Executes sql params old new (Ok count) → Lands desk old.now new.now (on_table (place_of name) (filter (λ row. not (passes terms params row))))
+  rows_deleted sql params terms within means count ran =
       let command = Delete at (record { lets = []; body = query_by table.tree terms (col 1 0 ∷ []) }) in
       let db = old.now.trees in
       let w = runs_as sql params old new desk.schema has command means.is means.plain count ran in
@@ -193,13 +207,12 @@ module _ (desk : Desk) (is : IsDesk desk) (name : TableName) (old new : State) (
       let now : new.now ≡ record { schema = old.now.schema; trees = next } = settled (task_for params) old done.0 w.tally new.now done.2 ∙ ap (λ (t : Trees). record { schema = old.now.schema; trees = t }) trees in
       let found = answered_by table.tree terms (col 1 0 ∷ []) db params queried.0 (queried.1.answer Null) in
       lands edit next (filter (λ row. not (passes terms params row))) refl a (λ rows was.
-      rw a.rows (fewer_rows width (passes terms params) (db table.tree) rows was gone (same_ids width terms params within (db table.tree) queried.0 found))) now lists h
+      rw a.rows (fewer_rows width (passes terms params) (db table.tree) rows was gone (same_ids width terms params within (db table.tree) queried.0 found))) now w.sound
 
   pub row_inserted : (sql : List ℕ) (row : Row) → FitsTable name row
       → Means desk.schema sql (Insert at (Values (row_terms name) (suc width)))
-      → (count : ℕ) → Executes sql row old new (Ok count) → (lists : List (List Row)) → Holds desk old.now lists
-      → Holds desk new.now (on_table (place_of name) (λ rows. row ∷ rows) lists)
-  row_inserted sql row fit means count ran lists h =
+      → (count : ℕ) → Executes sql row old new (Ok count) → Lands desk old.now new.now (on_table (place_of name) (λ rows. row ∷ rows))
+  row_inserted sql row fit means count ran =
       let command = Insert at (Values (row_terms name) (suc width)) in
       let db = old.now.trees in
       let w = runs_as sql row old new desk.schema has command means.is means.plain count ran in
@@ -226,7 +239,7 @@ module _ (desk : Desk) (is : IsDesk desk) (name : TableName) (old new : State) (
       lands edit mid (λ rows. row ∷ rows) refl a (λ rows was.
       subst (λ es. HaveRows width es (row ∷ rows)) (sym (a.rows ∙ ap (put_all (db table.tree)) news))
       (subst (λ r. HaveRows width (put_all (db table.tree) (entry ∷ [])) (r ∷ rows)) whole
-      (one_more_row width entry (db table.tree) rows (fresh_one (db table.tree) entry (subst (λ ns. are_fresh (db table.tree) ns ≡ true) news a.fresh)) refl was))) now lists h
+      (one_more_row width entry (db table.tree) rows (fresh_one (db table.tree) entry (subst (λ ns. are_fresh (db table.tree) ns ≡ true) news a.fresh)) refl was))) now w.sound
 
   -- the rows that pass, in some order
   pub rows_shown : (sql : List ℕ) (params : Row) (terms : List Term) (names : List (List ℕ)) → list_all (reads_within width) terms ≡ true

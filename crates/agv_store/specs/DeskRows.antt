@@ -18,7 +18,7 @@ use Rattle.sqlite_schema.specs.declared.schema.Reference.{Reference}
 use Rattle.sqlite_schema.specs.declared.schema.Schema.{Schema}
 use Rattle.sqlite_schema.specs.declared.schema.Table.{Table}
 use Rattle.sqlite_rules.specs.Edit.{id_in}
-use Rattle.sqlite.specs.Effect.{Database}
+use Rattle.sqlite.specs.Effect.{Database, IsDatabase}
 use Rattle.sqlite.specs.State.{State, IsUnchanged}
 use Rattle.agv_store.specs.Schema.{meta_table, node_table, edge_table, station_table, vehicle_table, trip_table, leg_table, place_table, job_table, hold_table, used_table}
 use Rattle.agv_store.specs.declared.table_name.TableName.{TableName}
@@ -121,6 +121,12 @@ pub record Holds (desk : Desk) (db : Database) (lists : List (List Row)) : Type 
   pub schema_is : db.schema ≡ desk.schema
   pub rows : AllZip (λ name rows. HaveRows (width_of name) (db.trees (desk.tree name)) rows) table_names lists
 
+-- all but the desk's tables is as it was
+pub record KeepsOthers (desk : Desk) (old new : Database) : Type 0 where
+  pub schema_is : new.schema ≡ old.schema
+  -- a table that is none of the desk's has the rows that it had
+  pub rows : AllByRecursion (λ (t : Table). ((name : TableName) → t.tree ≢ desk.tree name) → new.trees t.tree ≡ old.trees t.tree) desk.schema.tables
+
 -- ---- what is done to the rows
 
 -- the list at a place, and the lists with that one changed
@@ -181,6 +187,10 @@ FitsTable name row = fits (table_for name).columns row ≡ true
 -- inside a transaction, whatever the tables hold and whatever stands beside them, the change is made, and nothing is committed
 pub record Makes (change : List (List Row) → List (List Row)) (old new : State) : Type 0 where
   pub made : (desk : Desk) → IsDesk desk → (lists : List (List Row)) → Holds desk old.now lists → Holds desk new.now (change lists)
+  -- all else is as it was
+  pub others : (desk : Desk) → IsDesk desk → old.now.schema ≡ desk.schema → KeepsOthers desk old.now new.now
+  -- its trees still list its schema
+  pub listed : (desk : Desk) → IsDesk desk → old.now.schema ≡ desk.schema → IsDatabase old.now → IsDatabase new.now
   pub kept : new.committed ≡ old.committed
   pub mode : IsTrue new.in_transaction
 

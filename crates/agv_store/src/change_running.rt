@@ -29,11 +29,14 @@ fn run_changes<S: Alter>(conn: &mut Connection<S>, changes: &[Change]) -> Result
 }
 
 /// Makes the changes in turn, in one transaction, in the tables of a desk, whatever else the database has.
-/// Where it succeeds all of them are committed, and the store is open; after an error that leaves the store open none
-/// is made; and a crash leaves the rows before them or after all of them.
+/// Where it succeeds all of them are committed, every other table has the rows that it had, the schema is as it was,
+/// and the store is open; after an error that leaves the store open none is made. A crash leaves the rows before them or
+/// after all of them, and an opening finds these ([`change_laws`](crate::change_laws)).
 ///
 /// # Errors
-/// A fault of the machine: none is the caller's.
+/// [`Fault::Memory`] for want of memory, and [`Fault::Storage`] for any other error of the database. No clause says that
+/// the disk has failed then: SQL refuses a row too, where the changes would give two open trips one vehicle or one job, or
+/// where a unique index that isn't the desk's forbids it.
 pub fn write_changes<S: Alter>(conn: &mut Connection<S>, changes: &[Change]) -> Result<(), Fault>
     requires { conn.old.in_transaction ≡ false }
     ensures made { HasCleanDisk (state S.Store conn.new) → OnOk result (MakesChanges changes.now (state S.Store conn.old).now (state S.Store conn.new).committed) }

@@ -54,7 +54,8 @@ fn make_tables<S: Alter>(conn: &mut Connection<S>) -> Result<(), Error>
 ///
 /// # Errors
 /// [`MakingFault::Taken`] where a table, a view or an index has the name of one of the tables, and only
-/// there: nothing is touched then. Else a fault of the machine.
+/// there: nothing is touched then. Else [`MakingFault::Memory`] for want of memory, and [`MakingFault::Storage`] for any
+/// other error of the database.
 pub fn make_desk_tables<S: Alter>(conn: &mut Connection<S>) -> Result<(), MakingFault>
     requires idle { conn.old.in_transaction ≡ false }
     ensures taken { (result ≡ Err fault.Taken) ↔ (is_name_taken (state S.Store conn.old).now.schema ≡ true) }

@@ -1,15 +1,16 @@
-//! Faults of the machine.
+//! Faults: the errors of the database.
 ghost use Rattle.std.specs.Prelude.{◌≡◌};
 ghost use Rattle.agv_store.specs.Fault.{fault_of};
 
 use sqlite::{Error, ErrorCode};
 
-/// Why the machine couldn't carry out a call. No fault is the caller's.
+/// Why a call wasn't carried out: the database answered with an error.
 #[derive(Clone, Copy, Debug, PartialEq, Eq)]
 pub enum Fault {
     /// Want of memory.
     Memory,
-    /// The store failed, or was shut by an earlier failure.
+    /// Any other error: the store failed or was shut by an earlier failure, the connection limits the steps of its
+    /// queries, or SQL refused what was to be written, which needs no fault of the disk.
     Storage,
 }
 

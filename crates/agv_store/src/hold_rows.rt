@@ -1,33 +1,16 @@
-//! What is held: a row is added, and taken out by its key, inside a transaction.
+//! What is held no longer: its row is taken out by its key, inside a transaction.
 ghost use Rattle.std.specs.Prelude.{◌≡◌, OnOk};
 ghost use Rattle.sqlite.specs.State.{HasCleanDisk, KeepsCommit, Survives};
 ghost use Rattle.sqlite.specs.Held.{state};
-ghost use Rattle.agv_store.specs.Columns.{hold_columns};
-ghost use Rattle.agv_store.specs.DeskRows.{Makes, with_row, without_key};
+ghost use Rattle.agv_store.specs.DeskRows.{Makes, without_key};
 ghost use Rattle.agv_store.specs.RowKeys.{hold_key};
 ghost use Rattle.agv_store.specs.declared.table_name.TableName.TheVariants as the;
 
 use crate::key_values::hold_key_values;
-use crate::row_values::hold_values;
-use crate::row_writes::{delete_row, insert_row};
+use crate::row_writes::delete_row;
 use crate::world_table::WorldTable;
-use agv_header::{Thing, VehicleKey};
+use agv_header::Thing;
 use sqlite::{Alter, Error, Transaction};
-
-/// The vehicle holds it.
-pub(crate) fn add_hold<S: Alter>(
-    tx: &mut Transaction<'_, S>,
-    thing: &Thing,
-    key: &VehicleKey,
-) -> Result<usize, Error>
-    ensures same_reference { tx.new.conn.ghost_name ≡ tx.old.conn.ghost_name }
-    ensures survives { Survives (state S.Store tx.old.conn.now) (state S.Store tx.new.conn.now) (λ _. ⊥) }
-    ensures kept { HasCleanDisk (state S.Store tx.new.conn.now) → KeepsCommit (state S.Store tx.old.conn.now) (state S.Store tx.new.conn.now) }
-    ensures made { HasCleanDisk (state S.Store tx.new.conn.now)
-        → OnOk result (Makes (with_row the.Hold (hold_columns thing.now key.now)) (state S.Store tx.old.conn.now) (state S.Store tx.new.conn.now)) }
-{
-    insert_row(tx, WorldTable::Hold, &hold_values(thing, key))
-}
 
 /// No vehicle holds it.
 pub(crate) fn drop_hold<S: Alter>(

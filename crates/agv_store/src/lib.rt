@@ -17,6 +17,7 @@
 //!   in the words of `specs/DeskRows.antt`. [`TableName`] names a table, [`RowsBy`] a look-up by other columns; `WorldTable` is a table
 //!   that is written, and `RowOf` a look-up by the key. All texts of SQL are 64 (`row_texts`).
 //! - [`change_running`] makes a list of changes of a world's rows in the tables, in one transaction (`specs/ChangesMade.antt`).
+//!   The other tables keep their rows, and [`change_laws`] says what an opening finds after a crash.
 //! - [`trip_laws`] says that the row of a trip, that of its job and those of its edges tell an open trip whole.
 //! - The questions of a floor are asked of the tables: by a key ([`key_questions`]), for the open trip of a vehicle
 //!   ([`trip_questions`]), about loads and live jobs ([`load_questions`], [`station_loads`]), and for the layout
@@ -27,7 +28,7 @@
 //!   read has just the rows that the tables have, whatever these are (`specs/TablesRead.antt`): a row that tells
 //!   nothing, or a key that is told twice, is damaged. [`HeldThings`] is what is held, and tells whether that is what the
 //!   vehicles of a world hold. [`reading_laws`] says when the database has the rows of a world.
-//! - [`Fault`] says why the machine failed, in place of an answer, and [`MakingFault`] why the tables aren't made.
+//! - [`Fault`] says why there is no answer, and [`MakingFault`] why the tables aren't made: an error of the database.
 //!
 //! What the table holds after each call is stated for a clean store: one whose disk has so far
 //! given back what was written to it (`specs/HeldLoads.antt`). A store in memory is always clean.
@@ -35,6 +36,7 @@
 
 mod asked_rows;
 mod cells;
+pub mod change_laws;
 pub mod change_running;
 mod change_writes;
 pub mod desk_law;
@@ -48,7 +50,6 @@ mod key_values;
 pub mod laws;
 pub mod layout_reading;
 pub mod load_questions;
-mod load_rows;
 mod loads;
 mod making_fault;
 pub mod making_laws;

@@ -11,7 +11,7 @@ pub enum MakingFault {
     Taken,
     /// Want of memory.
     Memory,
-    /// The store failed, or was shut by an earlier failure.
+    /// Any other error of the database, as that the store failed or was shut by an earlier failure.
     Storage,
 }
 

@@ -5,7 +5,7 @@ ghost use Rattle.sqlite_value.specs.Value.{owned};
 ghost use Rattle.sqlite_value.specs.declared.value.Value.TheVariants.{Null, Text};
 ghost use Rattle.agv_message.specs.Instant.{instant_name};
 ghost use Rattle.agv_store.specs.Cells.{number_cell};
-ghost use Rattle.agv_store.specs.Columns.{meta_columns, node_columns, edge_columns, station_columns, vehicle_columns, trip_columns, leg_columns, load_columns, job_columns, hold_columns, used_columns};
+ghost use Rattle.agv_store.specs.Columns.{node_columns, edge_columns, station_columns, vehicle_columns, trip_columns, leg_columns, load_columns, job_columns, hold_columns, used_columns};
 
 use crate::TripLine;
 use crate::words::{phase_text, use_text};
@@ -62,13 +62,6 @@ fn instant_value(kind: Option<InstantKind>) -> ValueRef<'static>
         Some(kind) => kind.name().to_sql(),
         None => ValueRef::Null,
     }
-}
-
-/// The row of `meta`.
-pub(crate) fn meta_values(id: u32, schema: u32) -> [ValueRef<'static>; 2]
-    ensures { bound result ≡ meta_columns id schema }
-{
-    [id.to_sql(), schema.to_sql()]
 }
 
 /// The row of a node.
