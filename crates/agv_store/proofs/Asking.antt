@@ -1,5 +1,5 @@
 -- Questions to the tables: one alone, one after the other, and what is told of the answer.
-use Rattle.std.proofs.Common.{◌≡◌, ◌⊎◌, List, Ok, Err, Result, IsTrue, IsPermutation, Vec, Global, inl, inr, refl, sym, subst, ◌∙◌, arith}
+use Rattle.std.proofs.Common.{◌≡◌, ◌⊎◌, false, List, Ok, Err, Result, IsTrue, IsPermutation, Vec, Global, inl, inr, refl, sym, subst, ◌∙◌, arith}
 use Rattle.std.specs.Result.{IsErrAnd}
 use Rattle.sqlite_value.specs.Order.{Row}
 use Rattle.sqlite_trees.specs.declared.store.Store.{Ghosts}
@@ -81,11 +81,12 @@ module _ {S : Type 0} (g : Ghosts S) (old new : Held S) (asked : List (List Row)
 
   -- rows that are shown
   pub tells_rows : (rows : Vec Row Global) → (HasCleanDisk (state g new) → Answers asked (state g old) (state g new) rows.items) → (HasCleanDisk (state g new) → IsTrue (state g old).is_open × IsTrue (state g new).is_open)
-      → Survives (state g old) (state g new) (λ _. HasNoDesk (state g old).now) → Tells g old new (Ok rows) Says
-  tells_rows rows shown opened saved = record {
+      → (old.in_transaction ≡ false → new.in_transaction ≡ false) → Survives (state g old) (state g new) (λ _. HasNoDesk (state g old).now) → Tells g old new (Ok rows) Says
+  tells_rows rows shown opened at_rest saved = record {
     told = λ clean desk world has. (shown clean desk has.stands (row_lists (rows_of world)) has.rows).0;
     kept = λ clean desk is lists held. (shown clean desk is lists held).1;
     answering = opened;
+    idle = at_rest;
     damaged = λ _. tt;
     failed = λ _. tt;
     caused = λ _. tt;
@@ -95,12 +96,13 @@ module _ {S : Type 0} (g : Ghosts S) (old new : Held S) (asked : List (List Row)
   -- an error of the database
   pub tells_error : {A : Type 0} (says : World → A → Type 0) (r : Result A ReadingFault) (e : Error) → IsErrAnd r (λ why. why ≡ reading_fault_of e) → (HasCleanDisk (state g new) → IsUnchanged (state g old) (state g new) ⊎ IsRolledBack (state g old) (state g new))
       → (HasCleanDisk (state g new) → IsOfStore e → (desk : Desk) → IsDesk desk → (state g old).now.schema ≡ desk.schema → HasStorageCause g old new)
-      → Survives (state g old) (state g new) (λ _. HasNoDesk (state g old).now) → Tells g old new r says
-  tells_error says (Ok x) e is failed why saved = absurd is
-  tells_error says (Err f) e is failed why saved = record {
+      → (old.in_transaction ≡ false → new.in_transaction ≡ false) → Survives (state g old) (state g new) (λ _. HasNoDesk (state g old).now) → Tells g old new r says
+  tells_error says (Ok x) e is failed why at_rest saved = absurd is
+  tells_error says (Err f) e is failed why at_rest saved = record {
     told = λ _. tt;
     kept = λ _. tt;
     answering = λ _. tt;
+    idle = at_rest;
     damaged = λ _ broken. absurd (sound_of (fault_of e) (sym is ∙ broken));
     failed = λ clean desk is lists held. failed clean;
     caused = λ clean stored desk world has. why clean (storage_of (fault_of e) (sym is ∙ stored)) desk has.stands has.rows.schema_is;
@@ -124,6 +126,7 @@ module _ {S : Type 0} (g : Ghosts S) (old : Held S) where
     told = λ _. tt;
     kept = λ _. tt;
     answering = λ _. tt;
+    idle = asked.idle;
     damaged = λ clean broken. asked.damaged clean (sym is ∙ broken);
     failed = asked.failed;
     caused = λ clean stored. asked.caused clean (sym is ∙ stored);
@@ -137,6 +140,7 @@ module _ {S : Type 0} (g : Ghosts S) (old : Held S) where
     told = λ clean desk world has. so world has.lawful (asked.told clean desk world has);
     kept = asked.kept;
     answering = asked.answering;
+    idle = asked.idle;
     damaged = λ _. tt;
     failed = λ _. tt;
     caused = λ _. tt;
@@ -146,6 +150,7 @@ module _ {S : Type 0} (g : Ghosts S) (old : Held S) where
     told = λ _. tt;
     kept = λ _. tt;
     answering = λ _. tt;
+    idle = asked.idle;
     damaged = λ _ is. absurd (cc is);
     failed = λ clean desk is lists held. inl (asked.kept clean desk is lists held);
     caused = λ _ is. absurd (cc is);
@@ -155,6 +160,7 @@ module _ {S : Type 0} (g : Ghosts S) (old : Held S) where
     told = λ _. tt;
     kept = λ _. tt;
     answering = λ _. tt;
+    idle = asked.idle;
     damaged = λ _ is. absurd (cc is);
     failed = λ clean desk is lists held. inl (asked.kept clean desk is lists held);
     caused = λ clean is desk world has. absurd (so world has.lawful (asked.told clean desk world has));
@@ -164,6 +170,7 @@ module _ {S : Type 0} (g : Ghosts S) (old : Held S) where
     told = λ _. tt;
     kept = λ _. tt;
     answering = λ _. tt;
+    idle = asked.idle;
     damaged = λ clean _ desk world has. so world has.lawful (asked.told clean desk world has);
     failed = λ clean desk is lists held. inl (asked.kept clean desk is lists held);
     caused = λ clean is desk world has. absurd (so world has.lawful (asked.told clean desk world has));
@@ -197,6 +204,7 @@ module _ {S : Type 0} (g : Ghosts S) (old : Held S) where
       kept = λ clean desk is lists held.
           unchanged_then (state g old) (state g mid) (state g new) (kept (Ok b) means next clean desk is lists held) (next.kept clean desk is lists (moved (Ok b) means next clean desk is lists held));
       answering = λ clean. ((first.answering (earlier (Ok b) means next clean)).0, (next.answering clean).1);
+      idle = λ was. next.idle (first.idle was);
       damaged = λ _. tt;
       failed = λ _. tt;
       caused = λ _. tt;
@@ -206,6 +214,7 @@ module _ {S : Type 0} (g : Ghosts S) (old : Held S) where
       told = λ _. tt;
       kept = λ _. tt;
       answering = λ _. tt;
+      idle = λ was. next.idle (first.idle was);
       damaged = λ clean is desk world has. next.damaged clean is desk world (passed (Err f) means next clean desk world has);
       failed = λ clean desk is lists held.
           failed_then (state g old) (state g mid) (state g new) (kept (Err f) means next clean desk is lists held) (next.failed clean desk is lists (moved (Err f) means next clean desk is lists held));

@@ -1,5 +1,5 @@
 -- What a question to the desk's tables gives: what a lawful world says, where the tables have its rows; and what it leaves, whatever rows they have.
-use Rattle.std.specs.Prelude.{◌≡◌, ◌⊎◌, List, Result, IfOk, IfErr, OnOk, OnErr, IsTrue}
+use Rattle.std.specs.Prelude.{◌≡◌, ◌⊎◌, false, List, Result, IfOk, IfErr, OnOk, OnErr, IsTrue}
 use Rattle.sqlite_value.specs.Order.{Row}
 use Rattle.sqlite_trees.specs.declared.store.Store.{Ghosts}
 use Rattle.sqlite.specs.Effect.{Database}
@@ -43,5 +43,7 @@ module _ {S A : Type 0} (g : Ghosts S) (old new : Held S) (result : Result A Rea
         → OnErr result ((desk : Desk) → IsDesk desk → (lists : List (List Row)) → Holds desk (state g old).now lists → IsUnchanged (state g old) (state g new) ⊎ IsRolledBack (state g old) (state g new))
     -- a fault of the store comes only where the store failed, had been shut, or limits the steps of a query
     pub caused : HasCleanDisk (state g new) → IfErr result (λ why. why ≡ fault.Storage → (desk : Desk) (world : World) → HasWorld desk (state g old).now world → HasStorageCause g old new)
+    -- outside a transaction it leaves none open, whatever the store did
+    pub idle : old.in_transaction ≡ false → new.in_transaction ≡ false
     -- where the desk's tables stand nothing is committed: a crash leaves what it could leave before
     pub survives : Survives (state g old) (state g new) (λ _. HasNoTables (state g old).now)

@@ -3,7 +3,7 @@
 //! Each clause speaks of any database in which the desk's tables stand (`specs/DeskRows.antt`). Rows come in no
 //! order. An error that is a fault of the store comes only where the store failed, had been shut, or limits the steps
 //! of a query.
-ghost use Rattle.std.specs.Prelude.{◌≡◌, ◌⊎◌, IfErr, IfOk, IsTrue, OnErr, OnOk};
+ghost use Rattle.std.specs.Prelude.{◌≡◌, ◌⊎◌, false, IfErr, IfOk, IsTrue, OnErr, OnOk};
 ghost use Rattle.sqlite.specs.State.{HasCleanDisk, IsUnchanged, IsRolledBack, Survives};
 ghost use Rattle.sqlite.specs.Held.{state};
 ghost use Rattle.sqlite.specs.Values.{bound};
@@ -34,6 +34,7 @@ pub(crate) fn find_rows<S: Alter>(
     ensures caused { HasCleanDisk (state S.Store conn.new) → IfErr result (λ e. IsOfStore e
         → (desk : Desk) → IsDesk desk → (state S.Store conn.old).now.schema ≡ desk.schema → FitsColumns (table_looked_up row) (table_for (table_looked_up row)).primary (bound key.now)
         → HasStorageCause S.Store conn.old conn.new) }
+    ensures idle { conn.old.in_transaction ≡ false → conn.new.in_transaction ≡ false }
     ensures survives { Survives (state S.Store conn.old) (state S.Store conn.new) (λ _. HasNoDesk (state S.Store conn.old).now) }
 {
     conn.query_all(look_up(row), key)
@@ -52,6 +53,7 @@ pub(crate) fn find_rows_by<S: Alter>(
     ensures caused { HasCleanDisk (state S.Store conn.new) → IfErr result (λ e. IsOfStore e
         → (desk : Desk) → IsDesk desk → (state S.Store conn.old).now.schema ≡ desk.schema → FitsColumns (table_asked by) (columns_asked by) (bound values.now)
         → HasStorageCause S.Store conn.old conn.new) }
+    ensures idle { conn.old.in_transaction ≡ false → conn.new.in_transaction ≡ false }
     ensures survives { Survives (state S.Store conn.old) (state S.Store conn.new) (λ _. HasNoDesk (state S.Store conn.old).now) }
 {
     conn.query_all(question(by), values)
@@ -69,6 +71,7 @@ pub(crate) fn find_all_rows<S: Alter>(
     ensures caused { HasCleanDisk (state S.Store conn.new) → IfErr result (λ e. IsOfStore e
         → (desk : Desk) → IsDesk desk → (state S.Store conn.old).now.schema ≡ desk.schema
         → HasStorageCause S.Store conn.old conn.new) }
+    ensures idle { conn.old.in_transaction ≡ false → conn.new.in_transaction ≡ false }
     ensures survives { Survives (state S.Store conn.old) (state S.Store conn.new) (λ _. HasNoDesk (state S.Store conn.old).now) }
 {
     conn.query_all(all_rows(table), &[])

@@ -20,3 +20,6 @@ returns-clause-answering g c clean = shown_by_open _ (state g.S.Store c.args.con
 
 pub returns-clause-caused : goal.returns-clause-caused
 returns-clause-caused g c clean = all_caused _ (state g.S.Store c.args.conn.now) (state g.S.Store c.query_all.new.self) c.query_all.result c.all_rows.result.now (c.query_all.ensures.err clean) c.args.table refl c.all_rows.ensures
+
+pub returns-clause-idle : goal.returns-clause-idle
+returns-clause-idle g c = c.query_all.ensures.mode

@@ -20,3 +20,6 @@ returns-clause-answering g c clean = shown_by_open (bound c.args.key.now) (state
 
 pub returns-clause-caused : goal.returns-clause-caused
 returns-clause-caused g c clean = key_caused (bound c.args.key.now) (state g.S.Store c.args.conn.now) (state g.S.Store c.query_all.new.self) c.query_all.result c.look_up.result.now (c.query_all.ensures.err clean) c.args.row c.look_up.ensures
+
+pub returns-clause-idle : goal.returns-clause-idle
+returns-clause-idle g c = c.query_all.ensures.mode

@@ -20,3 +20,6 @@ returns-clause-answering g c clean = shown_by_open (bound c.args.values.now) (st
 
 pub returns-clause-caused : goal.returns-clause-caused
 returns-clause-caused g c clean = question_caused (bound c.args.values.now) (state g.S.Store c.args.conn.now) (state g.S.Store c.query_all.new.self) c.query_all.result c.question.result.now (c.query_all.ensures.err clean) c.args.by c.question.ensures
+
+pub returns-clause-idle : goal.returns-clause-idle
+returns-clause-idle g c = c.query_all.ensures.mode
