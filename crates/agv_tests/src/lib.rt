@@ -4,7 +4,11 @@
 //! - `loads` calls each public call of the store once, with ample memory.
 //! - `tables` makes the desk's tables in databases with and without others.
 //! - `asked` asks the desk's tables in a file with 1,000 loads and with 100,000.
-//! - `written` writes the changes of a worked example to the tables, on a disk too, and reads the rows back.
+//! - `written` writes the changes of a worked example to the tables, on a disk and in a file too, and reads the rows back.
+//! - `two_vehicles` does so with an example of two vehicles, of which one is cancelled on its way.
+//! - `damages` damages the rows of the worked example, and shows what is then told.
+//! - `refused_changes` writes a list of changes of which SQL refuses one.
+//! - `table_cases` writes and reads the tables for these four.
 //! - `streams` serves the worked examples as bytes, which `examples` has: whole, in pieces, with a reader or a
 //!   writer of `fakes` that fails, and with input of other forms behind them.
 //! - `beginnings` shows which beginnings of a request are waited for and which are refused at once.
@@ -18,14 +22,22 @@ mod beginnings;
 #[cfg(test)]
 mod cases;
 #[cfg(test)]
+mod damages;
+#[cfg(test)]
 mod examples;
 #[cfg(test)]
 mod fakes;
 #[cfg(test)]
 mod loads;
 #[cfg(test)]
+mod refused_changes;
+#[cfg(test)]
 mod streams;
 #[cfg(test)]
+mod table_cases;
+#[cfg(test)]
 mod tables;
+#[cfg(test)]
+mod two_vehicles;
 #[cfg(test)]
 mod written;

@@ -16,7 +16,7 @@ type Case = (
 );
 
 /// The keys of the eleven tables have thirteen indexes, and the desk four more.
-const CASES: [Case; 7] = [
+const CASES: [Case; 8] = [
     (&[], Ok(()), 11, 17),
     (&["CREATE TABLE other (a TEXT)"], Ok(()), 12, 17),
     (
@@ -51,6 +51,15 @@ const CASES: [Case; 7] = [
         Err(MakingFault::Taken),
         1,
         1,
+    ),
+    (
+        &[
+            "CREATE TABLE other (a TEXT)",
+            "CREATE VIEW trip AS SELECT a FROM other",
+        ],
+        Err(MakingFault::Taken),
+        1,
+        0,
     ),
     (
         &["CREATE TABLE other (a TEXT)", "CREATE TABLE LEG (a TEXT)"],

@@ -1,52 +1,20 @@
 //! A worked example whose changes are written to the desk's tables, call by call, and read back with SQL: what the
 //! tables then hold is written out by hand.
 //!
-//! What is read of them as a world is what the desk has in memory, and rows that are none are told.
+//! What is read of them as a world after each call is what the desk has in memory, with who holds what.
 //!
 //! The database is new, or has another table and other indexes on the desk's tables, or has none of the desk's indexes; it is
-//! in memory, or on a disk in memory, which is closed and opened again.
+//! in memory, on a disk in memory or in a file, which are closed and opened again.
 
 ghost use Rattle.std.specs.Prelude.{IsTrue};
 ghost use Rattle.sqlite_disk.specs.Memory.{memory_is_usable};
 
-use crate::cases::check;
-use agv_desk::{Call, decide};
-use agv_header::{Moment, Name, Thing, VehicleKey};
-use agv_http::{Routes, call_of};
-use agv_store::ReadingFault;
-use agv_store::change_running::write_changes;
-use agv_store::desk_tables::make_desk_tables;
-use agv_store::layout_reading::ask_layout;
-use agv_store::trip_questions::ask_trip;
-use agv_store::world_reading::read_world;
-use agv_world::{Floor, PlainFloor, World};
-use http::Method;
-use sqlite::types::ValueRef;
-use sqlite::{Alter, Connection, FileStore, Files, Options, Row};
+use crate::table_cases::{LAYOUT, Request, check_read, check_rows, make, new_floor, write_calls};
+use agv_world::PlainFloor;
+use sqlite::{Alter, Connection, FileStore, Files, Options};
 use sqlite_disk::Memory;
 use std::alloc::Global;
-use std::fmt::Debug;
 use std::process::Abort;
-use std::str;
-
-/// The moment of all calls, in milliseconds.
-const MOMENT: i64 = 1_700_000_000_000;
-
-/// A method, a target and a body.
-type Request = (&'static str, &'static str, &'static str);
-
-const LAYOUT: &str = "kind,id,from,to
-node,N1,,
-node,N2,,
-node,N3,,
-edge,E12,N1,N2
-edge,E21,N2,N1
-edge,E23,N2,N3
-edge,E32,N3,N2
-station,A,N1,1
-station,B,N3,1
-station,C,N3,2
-";
 
 /// The vehicle is ready at N1.
 const STATE_1: &str = concat!(
@@ -77,7 +45,7 @@ const STATE_3: &str = concat!(
 
 /// A load is picked at A, on its way to B; another one came to the checking place, and a third has left. The vehicle is to
 /// pause.
-const PICKED: &[Request] = &[
+pub(crate) const PICKED: &[Request] = &[
     ("PUT", "/layout", LAYOUT),
     (
         "POST",
@@ -100,7 +68,7 @@ const PICKED: &[Request] = &[
 ];
 
 /// What the tables then hold: the vehicle holds its node, the first edge and the node behind it.
-const PICKED_ROWS: &str = "meta 1 1
+pub(crate) const PICKED_ROWS: &str = "meta 1 1
 node N1
 node N2
 node N3
@@ -163,143 +131,6 @@ used ref R1
 used ref R2
 ";
 
-/// The name of each table, and all its rows in the order of its key.
-const TABLES: [(&str, &str); 11] = [
-    ("meta", "SELECT * FROM meta ORDER BY id"),
-    ("node", "SELECT * FROM node ORDER BY id"),
-    ("edge", "SELECT * FROM edge ORDER BY id"),
-    ("station", "SELECT * FROM station ORDER BY id"),
-    (
-        "vehicle",
-        "SELECT * FROM vehicle ORDER BY manufacturer, serial",
-    ),
-    ("trip", "SELECT * FROM trip ORDER BY order_id"),
-    ("leg", "SELECT * FROM leg ORDER BY order_id, k"),
-    ("load", "SELECT * FROM load ORDER BY id"),
-    ("job", "SELECT * FROM job ORDER BY id"),
-    ("hold", "SELECT * FROM hold ORDER BY kind, id"),
-    ("used", "SELECT * FROM used ORDER BY kind, id"),
-];
-
-/// The call that the request is.
-fn call_in(rt: &impl Abort, alloc: Global, routes: &Routes, request: &Request) -> Call {
-    let (method, target, body) = *request;
-    let method = Method::from_bytes(alloc, method.as_bytes()).expect(rt, "a method");
-    let route = routes
-        .route_of(&method, target.as_bytes())
-        .expect(rt, target);
-    call_of(alloc, &route, body.as_bytes()).expect(rt, target)
-}
-
-/// Writes what the calls change, each in a transaction of its own.
-fn write_calls<S: Alter>(
-    rt: &impl Abort,
-    alloc: Global,
-    floor: &mut PlainFloor,
-    conn: &mut Connection<S>,
-    requests: &[Request],
-) {
-    let routes = Routes::new(alloc).expect(rt, "memory");
-    let at = Moment::of(MOMENT).expect(rt, "a moment");
-    for request in requests {
-        let call = call_in(rt, alloc, &routes, request);
-        let decision = decide(alloc, floor, at, &call).expect(rt, "memory");
-        check(rt, !decision.changes.as_slice().is_empty(), request.1);
-        let applied = floor.world.apply(decision.changes.as_slice());
-        applied.expect(rt, "memory");
-        assert!(rt; conn.is_autocommit(), "idle");
-        write_changes(conn, decision.changes.as_slice()).expect(rt, request.1);
-    }
-}
-
-/// Appends a value.
-fn put_value(rt: &impl Abort, alloc: Global, text: &mut String, value: ValueRef<'_>) {
-    match value {
-        ValueRef::Null => text.push_str(" NULL").expect(rt, "memory"),
-        ValueRef::Int(n) => {
-            let digits = format!(in alloc; " {n}").expect(rt, "memory");
-            text.push_str(digits.as_str()).expect(rt, "memory");
-        }
-        ValueRef::Text(bytes) => {
-            text.push_str(" ").expect(rt, "memory");
-            let word = str::from_utf8(bytes).expect(rt, "a text");
-            text.push_str(word).expect(rt, "memory");
-        }
-        ValueRef::Real(_) | ValueRef::Blob(_) => panic!(rt; "no value of the desk"),
-    }
-}
-
-/// Appends a row of a table.
-fn put_row(rt: &impl Abort, alloc: Global, text: &mut String, table: &str, row: &Row) {
-    text.push_str(table).expect(rt, "memory");
-    for at in 0..row.column_count() {
-        put_value(rt, alloc, text, row.get_ref(at).expect(rt, table));
-    }
-    text.push_str("\n").expect(rt, "memory");
-}
-
-/// Compares the rows of all tables with these.
-fn check_rows<S: Alter>(rt: &impl Abort, alloc: Global, conn: &mut Connection<S>, wanted: &str) {
-    let mut text = String::new(alloc);
-    for (table, sql) in &TABLES {
-        let rows = conn.query_all(sql, &[]).expect(rt, sql);
-        for row in &rows {
-            put_row(rt, alloc, &mut text, table, row);
-        }
-    }
-    check(rt, text.as_str() == wanted, text.as_str());
-}
-
-fn name(rt: &impl Abort, text: &str) -> Name {
-    Name::read(text).expect(rt, text)
-}
-
-fn vehicle(rt: &impl Abort) -> VehicleKey {
-    VehicleKey {
-        manufacturer: name(rt, "KIT"),
-        serial: name(rt, "0001"),
-    }
-}
-
-/// Compares two values by how they are printed.
-fn check_same(rt: &impl Abort, alloc: Global, found: &impl Debug, wanted: &impl Debug) {
-    let found = format!(in alloc; "{found:?}").expect(rt, "memory");
-    let wanted = format!(in alloc; "{wanted:?}").expect(rt, "memory");
-    check(rt, found.as_str() == wanted.as_str(), found.as_str());
-}
-
-/// Reads the world, the layout and the vehicle's trip, and compares them with what the floor has in memory.
-fn check_read<S: Alter>(
-    rt: &impl Abort,
-    alloc: Global,
-    floor: &mut PlainFloor,
-    conn: &mut Connection<S>,
-) {
-    let (tables, holds) = read_world(alloc, conn).expect(rt, "the world");
-    check_same(rt, alloc, &tables, &floor.world);
-    let lawful = tables.is_lawful(alloc, 1).expect(rt, "memory");
-    check(rt, lawful, "it is lawful");
-    let node = Thing::Node(name(rt, "N2"));
-    let holder = floor.holder(node).expect(rt, "memory");
-    check(rt, holds.table.holder(&node) == holder, "the holder of N2");
-    let layout = ask_layout(alloc, conn).expect(rt, "the layout");
-    check_same(rt, alloc, &layout, &floor.layout().expect(rt, "memory"));
-    let trip = ask_trip(alloc, conn, &vehicle(rt)).expect(rt, "the trip");
-    let wanted = floor.trip(vehicle(rt)).expect(rt, "memory");
-    check(rt, trip == wanted, "the trip");
-}
-
-/// Makes the desk's tables.
-fn make<S: Alter>(rt: &impl Abort, conn: &mut Connection<S>) {
-    assert!(rt; conn.is_autocommit(), "idle");
-    make_desk_tables(conn).expect(rt, "tables");
-}
-
-/// A desk with room for one load on each vehicle.
-fn new_floor(alloc: Global) -> PlainFloor {
-    PlainFloor::new(alloc, World::empty(alloc), 1)
-}
-
 /// Makes the tables beside what the first texts make, carries out the second texts, and writes the example.
 fn check_beside(rt: &impl Abort, alloc: Global, before: &[&str], after: &[&str]) {
     let mut conn = Connection::open_in_memory(alloc).expect(rt, "memory");
@@ -313,10 +144,8 @@ fn check_beside(rt: &impl Abort, alloc: Global, before: &[&str], after: &[&str])
     let mut floor = new_floor(alloc);
     write_calls(rt, alloc, &mut floor, &mut conn, PICKED);
     check_rows(rt, alloc, &mut conn, PICKED_ROWS);
-    check_read(rt, alloc, &mut floor, &mut conn);
     write_calls(rt, alloc, &mut floor, &mut conn, DROPPED);
     check_rows(rt, alloc, &mut conn, DROPPED_ROWS);
-    check_read(rt, alloc, &mut floor, &mut conn);
 }
 
 /// In a database that has nothing else.
@@ -349,44 +178,6 @@ fn without_indexes(rt: HostRuntime) {
         "DROP INDEX job_target",
     ];
     check_beside(&rt, rt.alloc(), &[], &after);
-}
-
-/// What makes a row that is none of the world, of each kind: a word that isn't one, a value that is wanting or too many, a
-/// number that is too large, a name that is none, a schema of another number or of none.
-const DAMAGES: [&str; 10] = [
-    "UPDATE load SET kind = 'lost' WHERE id = 'L2'",
-    "UPDATE load SET station = 'A' WHERE id = 'L1'",
-    "UPDATE vehicle SET rest_edge = 'E12'",
-    "UPDATE vehicle SET last_header = 4294967296",
-    "UPDATE job SET phase = ''",
-    "UPDATE node SET id = 'no name' WHERE id = 'N3'",
-    "UPDATE trip SET pick_status = 'finished'",
-    "UPDATE meta SET schema = 2",
-    "DELETE FROM meta",
-    "UPDATE used SET kind = 'job'",
-];
-
-/// Writes the example, damages a row and reads.
-fn check_damaged(rt: &impl Abort, alloc: Global, damage: &str) {
-    let mut conn = Connection::open_in_memory(alloc).expect(rt, "memory");
-    make(rt, &mut conn);
-    let mut floor = new_floor(alloc);
-    write_calls(rt, alloc, &mut floor, &mut conn, PICKED);
-    let changed = conn.execute(damage, &[]).expect(rt, damage);
-    check(rt, changed > 0, damage);
-    let told = match read_world(alloc, &mut conn) {
-        Ok(_) => None,
-        Err(why) => Some(why),
-    };
-    check(rt, told == Some(ReadingFault::Damaged), damage);
-}
-
-/// A row that is none of the world is told.
-#[test]
-fn damaged(rt: HostRuntime) {
-    for damage in &DAMAGES {
-        check_damaged(&rt, rt.alloc(), damage);
-    }
 }
 
 /// A database on a disk in memory.
@@ -428,4 +219,60 @@ fn on_a_disk(rt: HostRuntime) {
     write_calls(&rt, alloc, &mut floor, &mut conn, DROPPED);
     let mut conn = open(&rt, alloc, close(&rt, conn));
     check_rows(&rt, alloc, &mut conn, DROPPED_ROWS);
+}
+
+/// Compares the rows, writes the calls and compares the rows again.
+fn check_part<S: Alter>(
+    rt: &impl Abort,
+    alloc: Global,
+    floor: &mut PlainFloor,
+    conn: &mut Connection<S>,
+    before: &str,
+    requests: &[Request],
+    after: &str,
+) {
+    check_rows(rt, alloc, conn, before);
+    write_calls(rt, alloc, floor, conn, requests);
+    check_rows(rt, alloc, conn, after);
+}
+
+/// The row of a new desk.
+const NO_ROWS: &str = "meta 1 1\n";
+
+/// In a file, which is closed and opened again between the writes.
+#[test]
+fn in_a_file(rt: HostRuntime) {
+    let alloc = rt.alloc();
+    let mut floor = new_floor(alloc);
+    {
+        let mut conn = Connection::open(&rt, "written.db").expect(&rt, "a file");
+        make(&rt, &mut conn);
+    }
+    {
+        let mut conn = Connection::open(&rt, "written.db").expect(&rt, "a file");
+        check_part(
+            &rt,
+            alloc,
+            &mut floor,
+            &mut conn,
+            NO_ROWS,
+            PICKED,
+            PICKED_ROWS,
+        );
+    }
+    {
+        let mut conn = Connection::open(&rt, "written.db").expect(&rt, "a file");
+        check_part(
+            &rt,
+            alloc,
+            &mut floor,
+            &mut conn,
+            PICKED_ROWS,
+            DROPPED,
+            DROPPED_ROWS,
+        );
+    }
+    let mut conn = Connection::open(&rt, "written.db").expect(&rt, "a file");
+    check_rows(&rt, alloc, &mut conn, DROPPED_ROWS);
+    check_read(&rt, alloc, &mut floor, &mut conn);
 }

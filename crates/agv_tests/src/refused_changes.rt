@@ -1,0 +1,60 @@
+//! A list of changes of which SQL refuses one, for an index that a stranger put on the desk's tables: none is made.
+
+use crate::cases::check;
+use crate::table_cases::{MOMENT, call_in, check_read, check_rows, make, new_floor, write_calls};
+use crate::written::{PICKED, PICKED_ROWS};
+use agv_desk::{Decision, decide};
+use agv_header::Moment;
+use agv_http::Routes;
+use agv_store::Fault;
+use agv_store::change_running::write_changes;
+use agv_world::PlainFloor;
+use sqlite::{Connection, MemStore};
+use std::alloc::Global;
+use std::process::Abort;
+
+/// L3 has left, and no two loads may be in places of one kind.
+const INDEX: &str = "CREATE UNIQUE INDEX one_of_a_kind ON load (kind)";
+
+/// What the desk decides where L2 leaves: that its place is written, and the reference.
+fn leaving(rt: &impl Abort, alloc: Global, floor: &mut PlainFloor) -> Decision {
+    let routes = Routes::new(alloc).expect(rt, "memory");
+    let at = Moment::of(MOMENT).expect(rt, "a moment");
+    let request = ("POST", "/loads/L2/leave", r#"{"ref":"R2"}"#);
+    let call = call_in(rt, alloc, &routes, &request);
+    decide(alloc, floor, at, &call).expect(rt, "memory")
+}
+
+/// Writes what is decided, and compares how that ends.
+fn check_written(
+    rt: &impl Abort,
+    conn: &mut Connection<MemStore>,
+    decision: &Decision,
+    end: Result<(), Fault>,
+) {
+    check(rt, decision.changes.as_slice().len() == 2, "two changes");
+    assert!(rt; conn.is_autocommit(), "idle");
+    let written = write_changes(conn, decision.changes.as_slice());
+    check(rt, written == end, "how it ends");
+}
+
+fn check_refused(rt: &impl Abort, alloc: Global) {
+    let mut conn = Connection::open_in_memory(alloc).expect(rt, "memory");
+    make(rt, &mut conn);
+    let mut floor = new_floor(alloc);
+    write_calls(rt, alloc, &mut floor, &mut conn, PICKED);
+    conn.execute(INDEX, &[]).expect(rt, INDEX);
+    let decision = leaving(rt, alloc, &mut floor);
+    check_written(rt, &mut conn, &decision, Err(Fault::Storage));
+    check_rows(rt, alloc, &mut conn, PICKED_ROWS);
+    check_read(rt, alloc, &mut floor, &mut conn);
+    conn.execute("DROP INDEX one_of_a_kind", &[])
+        .expect(rt, "no index");
+    check_written(rt, &mut conn, &decision, Ok(()));
+}
+
+/// The list is refused whole, and the rows are as before; without the index it is written.
+#[test]
+fn refused_whole(rt: HostRuntime) {
+    check_refused(&rt, rt.alloc());
+}

@@ -1,0 +1,225 @@
+//! What examples on the desk's tables share: their calls are decided and written, and the rows are compared with texts, the
+//! world that is read of them with the one in memory, and who holds what with the answers of the floor.
+
+use crate::cases::check;
+use agv_desk::{Call, decide};
+use agv_header::{Moment, Name, Thing, VehicleKey};
+use agv_http::{Routes, call_of};
+use agv_store::change_running::write_changes;
+use agv_store::desk_tables::make_desk_tables;
+use agv_store::layout_reading::ask_layout;
+use agv_store::trip_questions::ask_trip;
+use agv_store::world_reading::read_world;
+use agv_track::HoldTable;
+use agv_world::{Floor, PlainFloor, World};
+use http::Method;
+use sqlite::types::ValueRef;
+use sqlite::{Alter, Connection, Row};
+use std::alloc::Global;
+use std::fmt::Debug;
+use std::process::Abort;
+use std::str;
+
+/// The moment of all calls, in milliseconds.
+pub(crate) const MOMENT: i64 = 1_700_000_000_000;
+
+/// A method, a target and a body.
+pub(crate) type Request = (&'static str, &'static str, &'static str);
+
+/// A line of three nodes, with an edge in each direction.
+pub(crate) const LAYOUT: &str = "kind,id,from,to
+node,N1,,
+node,N2,,
+node,N3,,
+edge,E12,N1,N2
+edge,E21,N2,N1
+edge,E23,N2,N3
+edge,E32,N3,N2
+station,A,N1,1
+station,B,N3,1
+station,C,N3,2
+";
+
+/// Its nodes.
+const NODES: [&str; 3] = ["N1", "N2", "N3"];
+
+/// Its edges.
+const EDGES: [&str; 4] = ["E12", "E21", "E23", "E32"];
+
+/// The name of each table, and all its rows in the order of its key.
+const TABLES: [(&str, &str); 11] = [
+    ("meta", "SELECT * FROM meta ORDER BY id"),
+    ("node", "SELECT * FROM node ORDER BY id"),
+    ("edge", "SELECT * FROM edge ORDER BY id"),
+    ("station", "SELECT * FROM station ORDER BY id"),
+    (
+        "vehicle",
+        "SELECT * FROM vehicle ORDER BY manufacturer, serial",
+    ),
+    ("trip", "SELECT * FROM trip ORDER BY order_id"),
+    ("leg", "SELECT * FROM leg ORDER BY order_id, k"),
+    ("load", "SELECT * FROM load ORDER BY id"),
+    ("job", "SELECT * FROM job ORDER BY id"),
+    ("hold", "SELECT * FROM hold ORDER BY kind, id"),
+    ("used", "SELECT * FROM used ORDER BY kind, id"),
+];
+
+/// The call that the request is.
+pub(crate) fn call_in(rt: &impl Abort, alloc: Global, routes: &Routes, request: &Request) -> Call {
+    let (method, target, body) = *request;
+    let method = Method::from_bytes(alloc, method.as_bytes()).expect(rt, "a method");
+    let route = routes
+        .route_of(&method, target.as_bytes())
+        .expect(rt, target);
+    call_of(alloc, &route, body.as_bytes()).expect(rt, target)
+}
+
+/// Writes what the calls change, each in a transaction of its own, and reads the world after each.
+pub(crate) fn write_calls<S: Alter>(
+    rt: &impl Abort,
+    alloc: Global,
+    floor: &mut PlainFloor,
+    conn: &mut Connection<S>,
+    requests: &[Request],
+) {
+    let routes = Routes::new(alloc).expect(rt, "memory");
+    let at = Moment::of(MOMENT).expect(rt, "a moment");
+    for request in requests {
+        let call = call_in(rt, alloc, &routes, request);
+        let decision = decide(alloc, floor, at, &call).expect(rt, "memory");
+        check(rt, !decision.changes.as_slice().is_empty(), request.1);
+        let applied = floor.world.apply(decision.changes.as_slice());
+        applied.expect(rt, "memory");
+        assert!(rt; conn.is_autocommit(), "idle");
+        write_changes(conn, decision.changes.as_slice()).expect(rt, request.1);
+        check_read(rt, alloc, floor, conn);
+    }
+}
+
+/// Appends a value.
+fn put_value(rt: &impl Abort, alloc: Global, text: &mut String, value: ValueRef<'_>) {
+    match value {
+        ValueRef::Null => text.push_str(" NULL").expect(rt, "memory"),
+        ValueRef::Int(n) => {
+            let digits = format!(in alloc; " {n}").expect(rt, "memory");
+            text.push_str(digits.as_str()).expect(rt, "memory");
+        }
+        ValueRef::Text(bytes) => {
+            text.push_str(" ").expect(rt, "memory");
+            let word = str::from_utf8(bytes).expect(rt, "a text");
+            text.push_str(word).expect(rt, "memory");
+        }
+        ValueRef::Real(_) | ValueRef::Blob(_) => panic!(rt; "no value of the desk"),
+    }
+}
+
+/// Appends a row of a table.
+fn put_row(rt: &impl Abort, alloc: Global, text: &mut String, table: &str, row: &Row) {
+    text.push_str(table).expect(rt, "memory");
+    for at in 0..row.column_count() {
+        put_value(rt, alloc, text, row.get_ref(at).expect(rt, table));
+    }
+    text.push_str("\n").expect(rt, "memory");
+}
+
+/// Compares the rows of all tables with these.
+pub(crate) fn check_rows<S: Alter>(
+    rt: &impl Abort,
+    alloc: Global,
+    conn: &mut Connection<S>,
+    wanted: &str,
+) {
+    let mut text = String::new(alloc);
+    for (table, sql) in &TABLES {
+        let rows = conn.query_all(sql, &[]).expect(rt, sql);
+        for row in &rows {
+            put_row(rt, alloc, &mut text, table, row);
+        }
+    }
+    check(rt, text.as_str() == wanted, text.as_str());
+}
+
+pub(crate) fn name(rt: &impl Abort, text: &str) -> Name {
+    Name::read(text).expect(rt, text)
+}
+
+fn vehicle(rt: &impl Abort, serial: &str) -> VehicleKey {
+    VehicleKey {
+        manufacturer: name(rt, "KIT"),
+        serial: name(rt, serial),
+    }
+}
+
+/// Compares two values by how they are printed.
+fn check_same(rt: &impl Abort, alloc: Global, found: &impl Debug, wanted: &impl Debug) {
+    let found = format!(in alloc; "{found:?}").expect(rt, "memory");
+    let wanted = format!(in alloc; "{wanted:?}").expect(rt, "memory");
+    check(rt, found.as_str() == wanted.as_str(), found.as_str());
+}
+
+/// Whether a vehicle holds this in the table, and no other one or none, just where the floor answers so.
+pub(crate) fn is_held_as(
+    rt: &impl Abort,
+    floor: &mut PlainFloor,
+    holds: &HoldTable,
+    thing: Thing,
+) -> bool {
+    let holder = floor.holder(thing).expect(rt, "memory");
+    holds.holder(&thing) == holder
+}
+
+/// Compares who holds each node and each edge of the layout.
+fn check_holds(rt: &impl Abort, floor: &mut PlainFloor, holds: &HoldTable) {
+    for node in &NODES {
+        let same = is_held_as(rt, floor, holds, Thing::Node(name(rt, node)));
+        check(rt, same, node);
+    }
+    for edge in &EDGES {
+        let same = is_held_as(rt, floor, holds, Thing::Edge(name(rt, edge)));
+        check(rt, same, edge);
+    }
+}
+
+/// Compares the open trip of a vehicle.
+fn check_trip<S: Alter>(
+    rt: &impl Abort,
+    alloc: Global,
+    floor: &mut PlainFloor,
+    conn: &mut Connection<S>,
+    serial: &str,
+) {
+    let trip = ask_trip(alloc, conn, &vehicle(rt, serial)).expect(rt, "the trip");
+    let wanted = floor.trip(vehicle(rt, serial)).expect(rt, "memory");
+    check(rt, trip == wanted, serial);
+}
+
+/// Reads the world, who holds what, the layout and the vehicles' trips, and compares them with what the floor has in memory.
+pub(crate) fn check_read<S: Alter>(
+    rt: &impl Abort,
+    alloc: Global,
+    floor: &mut PlainFloor,
+    conn: &mut Connection<S>,
+) {
+    let (tables, holds) = read_world(alloc, conn).expect(rt, "the world");
+    check_same(rt, alloc, &tables, &floor.world);
+    let lawful = tables.is_lawful(alloc, 1).expect(rt, "memory");
+    check(rt, lawful, "it is lawful");
+    check_holds(rt, floor, &holds.table);
+    let fit = holds.are_footprints(alloc, floor).expect(rt, "memory");
+    check(rt, fit, "what is held is what the vehicles hold");
+    let layout = ask_layout(alloc, conn).expect(rt, "the layout");
+    check_same(rt, alloc, &layout, &floor.layout().expect(rt, "memory"));
+    check_trip(rt, alloc, floor, conn, "0001");
+    check_trip(rt, alloc, floor, conn, "0002");
+}
+
+/// Makes the desk's tables.
+pub(crate) fn make<S: Alter>(rt: &impl Abort, conn: &mut Connection<S>) {
+    assert!(rt; conn.is_autocommit(), "idle");
+    make_desk_tables(conn).expect(rt, "tables");
+}
+
+/// A desk with room for one load on each vehicle.
+pub(crate) fn new_floor(alloc: Global) -> PlainFloor {
+    PlainFloor::new(alloc, World::empty(alloc), 1)
+}
