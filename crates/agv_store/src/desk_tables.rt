@@ -39,6 +39,7 @@ fn make_tables<S: Alter>(conn: &mut Connection<S>) -> Result<(), Error>
     requires free { is_name_taken (state S.Store conn.old).now.schema ≡ false }
     ensures made { HasCleanDisk (state S.Store conn.new) → OnOk result (MakesDesk (state S.Store conn.old).now (state S.Store conn.new).committed) }
     ensures same { HasCleanDisk (state S.Store conn.new) → OnOk result ((state S.Store conn.new).now ≡ (state S.Store conn.new).committed) }
+    ensures open { HasCleanDisk (state S.Store conn.new) → OnOk result (IsTrue (state S.Store conn.old).is_open × IsTrue (state S.Store conn.new).is_open) }
     ensures undone { HasCleanDisk (state S.Store conn.new) → IsTrue (state S.Store conn.new).is_open
         → OnErr result (((state S.Store conn.new).now ≡ (state S.Store conn.old).committed) × ((state S.Store conn.new).committed ≡ (state S.Store conn.old).committed)) }
     ensures crash { Survives (state S.Store conn.old) (state S.Store conn.new) (LeavesDesk (state S.Store conn.old).now) }
@@ -49,8 +50,8 @@ fn make_tables<S: Alter>(conn: &mut Connection<S>) -> Result<(), Error>
 }
 
 /// Makes the eleven tables, the row of `meta` and the indexes in one transaction, beside whatever the
-/// database has; an index whose name is taken is left out. Where it succeeds all of it is committed; after
-/// an error that leaves the store open nothing is; and a crash leaves none of it or all.
+/// database has; an index whose name is taken is left out. Where it succeeds all of it is committed, and the
+/// store was open and is; after an error that leaves the store open nothing is; and a crash leaves none of it or all.
 ///
 /// # Errors
 /// [`MakingFault::Taken`] where a table, a view or an index has the name of one of the tables, and only
@@ -62,6 +63,7 @@ pub fn make_desk_tables<S: Alter>(conn: &mut Connection<S>) -> Result<(), Making
     ensures refused { result ≡ Err fault.Taken → conn.new ≡ conn.old }
     ensures made { HasCleanDisk (state S.Store conn.new) → OnOk result (MakesDesk (state S.Store conn.old).now (state S.Store conn.new).committed) }
     ensures same { HasCleanDisk (state S.Store conn.new) → OnOk result ((state S.Store conn.new).now ≡ (state S.Store conn.new).committed) }
+    ensures open { HasCleanDisk (state S.Store conn.new) → OnOk result (IsTrue (state S.Store conn.old).is_open × IsTrue (state S.Store conn.new).is_open) }
     ensures undone { HasCleanDisk (state S.Store conn.new) → IsTrue (state S.Store conn.new).is_open
         → IfErr result (λ why. why ≢ fault.Taken → ((state S.Store conn.new).now ≡ (state S.Store conn.old).committed) × ((state S.Store conn.new).committed ≡ (state S.Store conn.old).committed)) }
     ensures crash { Survives (state S.Store conn.old) (state S.Store conn.new) (LeavesDesk (state S.Store conn.old).now) }

@@ -96,7 +96,8 @@ impl HeldThings {
         floor: &mut PlainFloor,
         vehicles: &ByVehicle<VehicleRow>,
     ) -> Result<bool, Memory>
-        ensures { IfOk result (λ own. own ≡ hold_their_own self.now.table self.now.pairs.items (world_of floor.old.world) (map.entries vehicles.now)) }
+        ensures told { IfOk result (λ own. own ≡ hold_their_own self.now.table self.now.pairs.items (world_of floor.old.world) (map.entries vehicles.now)) }
+        ensures same { OnOk result (world_of floor.new.world ≡ world_of floor.old.world) }
     {
         for (key, row) in vehicles.iter() {
             let things = things_of(alloc, floor, *key, row)?;
@@ -108,11 +109,14 @@ impl HeldThings {
     }
 
     /// Whether what is held is what the vehicles of the floor's world hold: each its footprint, and nothing else. It answers so
-    /// where the floor's tables are those of a lawful world.
+    /// where the floor's tables are those of a lawful world with one place on each vehicle. The floor's world
+    /// is then as it was.
     ///
-    /// `Memory` for want of memory alone. It takes time in proportion to the vehicles times what is held.
+    /// `Memory` for want of memory alone. It takes time in proportion to the vehicles times what is held and what is open, and
+    /// for each thing that is held it looks over the footprint of its vehicle.
     pub fn are_footprints(&self, alloc: Global, floor: &mut PlainFloor) -> Result<bool, Memory>
-        ensures { IfOk result (λ are. (world : World) → Keeps floor.old.world world → IsLawful 1 world → IsTrue are ↔ (self.now.table ≡ (rows_of world).holds)) }
+        ensures told { IfOk result (λ are. (world : World) → Keeps floor.old.world world → IsLawful 1 world → IsTrue are ↔ (self.now.table ≡ (rows_of world).holds)) }
+        ensures same { OnOk result (world_of floor.new.world ≡ world_of floor.old.world) }
     {
         is_in_good_order();
         holds_are_footprints();

@@ -78,8 +78,9 @@ pub fn read_tables<S: Alter>(alloc: Global, conn: &mut Connection<S>) -> Result<
 
 /// All tables: those of the world in memory, and who holds what. The row of `meta` is that of this schema.
 ///
-/// Where [`World::is_lawful`](agv_world::World::is_lawful) and [`HeldThings::are_footprints`] both answer `true`, the database has
-/// the rows of a lawful world (`reading_laws`); where one answers `false`, it has those of none.
+/// Where [`World::is_lawful`](agv_world::World::is_lawful), asked with one place on each vehicle (`is_lawful(alloc, 1)`), and
+/// [`HeldThings::are_footprints`] both answer `true`, the database has the rows of a lawful world with one place on each vehicle
+/// (`reading_laws`); where one answers `false`, it has those of none.
 ///
 /// It fails as [`ReadingFault`] says.
 pub fn read_world<S: Alter>(

@@ -1,4 +1,4 @@
-use Rattle.std.proofs.Common.{◌≡◌, ◌<◌, length, OnOk, map, take, take_all, List, Bool, false, ℕ, [], Bor, refl, sym, subst, ◌∙◌, arith, rules}
+use Rattle.std.proofs.Common.{◌≡◌, ◌<◌, length, IsTrue, OnOk, map, take, take_all, List, Bool, false, ℕ, [], Bor, refl, sym, subst, ◌∙◌, arith, rules}
 use Rattle.sqlite.specs.State.{HasCleanDisk, IsRolledBack, Survives}
 use Rattle.sqlite.specs.Held.{state}
 use Rattle.sqlite.proofs.StateLemmas.{survives_then}
@@ -58,6 +58,18 @@ returns-clause-ran g c clean =
     let all : RunSteps steps old.now last.now = rw c.transaction-tx.ensures.begun at (subst (λ ss. RunSteps (map told ss) first.now last.now) whole (c.loop-step.invariant.2 early).1.ran) in
     subst (λ h. OnOk c.commit.result (RunSteps steps old.now (state g.S.Store h).committed)) same
     (on_ok c.commit.result (λ it. subst (RunSteps steps old.now) (sym it.1.committed_is) all) (c.commit.ensures.ok late))
+
+pub returns-clause-open : goal.returns-clause-open
+returns-clause-open g c clean =
+    let old = state g.S.Store c.args.conn.now in
+    let first = state g.S.Store c.transaction-tx.result.conn.now in
+    let last = state g.S.Store c.loop-step.tx.conn.now in
+    let same : c.commit.new.self.0 ≡ c.conn-2-1.given.0 = search rules in
+    let late : HasCleanDisk (state g.S.Store c.commit.new.self.0) = search rules in
+    let early : HasCleanDisk last = omega (arith, c.commit.ensures.survives.clean) in
+    let kept = rw c.transaction-tx.ensures.begun at (c.loop-step.invariant.2 early).0 in
+    subst (λ h. OnOk c.commit.result (IsTrue old.is_open × IsTrue (state g.S.Store h).is_open)) same
+    (on_ok c.commit.result (λ it. (kept.was_open it.1.was_open, it.1.is_open)) (c.commit.ensures.ok late))
 
 pub returns-clause-crash : goal.returns-clause-crash
 returns-clause-crash g c =
