@@ -77,8 +77,9 @@ impl Layout {
     }
 
     /// What holds of every layout: it has a node, edges lead from a node to another, stations are
-    /// at nodes, and there are at most 500 nodes, 1,500 edges and 500 stations. It does nothing: a
-    /// proof calls it for its clause, which the type's invariant gives where a field is looked at.
+    /// at nodes and hold 1 to 999 loads, all ids are names, and there are at most 500 nodes, 1,500
+    /// edges and 500 stations. It does nothing: a proof calls it for its clause, which the type's
+    /// invariant gives where a field is looked at.
     pub fn keeps_rules(&self)
         ensures { KeepsRules self.now }
     {
