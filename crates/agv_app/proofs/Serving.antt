@@ -6,8 +6,8 @@ use Rattle.sqlite_trees.specs.declared.memory.MemStore.{MemStore}
 use Rattle.sqlite.specs.Held.{Held}
 use Rattle.sqlite.specs.Steps.{over_memory}
 use Rattle.sqlite.proofs.Callers.{memory_is_clean}
-use Rattle.agv_store.specs.HeldLoads.{HoldsLoads}
-use Rattle.agv_store.specs.Registered.{no_loads}
+use Rattle.agv_tables.specs.loads.HeldLoads.{HoldsLoads}
+use Rattle.agv_tables.specs.loads.Registered.{no_loads}
 use Rattle.agv_desk.specs.declared.call.Call.{Call}
 use Rattle.agv_face.specs.declared.serve.LoadsFault.{LoadsFault}
 use Rattle.agv_face.specs.declared.watched.Watched.{Watched}

@@ -3,8 +3,9 @@ use Rattle.std.specs.Prelude.{◌≡◌, ◌⊎◌, ℕ, ◌++◌, List, [], Opt
 use Rattle.sqlite_trees.specs.declared.memory.MemStore.{MemStore}
 use Rattle.sqlite.specs.Held.{Held}
 use Rattle.sqlite.specs.Steps.{over_memory}
-use Rattle.agv_store.specs.Registered.{no_loads}
-use Rattle.agv_store.specs.HeldLoads.{HoldsLoads, IsLater}
+use Rattle.agv_tables.specs.loads.Registered.{no_loads}
+use Rattle.agv_tables.specs.sql.Connections.{IsLater}
+use Rattle.agv_tables.specs.loads.HeldLoads.{HoldsLoads}
 use Rattle.agv_face.specs.declared.serve.LoadsFault.{LoadsFault}
 use Rattle.agv_face.specs.declared.serve.LoadsFault.TheVariants as fault
 use Rattle.agv_face.specs.declared.watched.Watched.{Watched}

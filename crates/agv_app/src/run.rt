@@ -1,7 +1,7 @@
 //! What the program does with its words, its input and its output.
 ghost use Rattle.std.specs.Prelude.{◌≡◌, List, length, map, string_bytes, IfOk, IfErr, IfSome};
 ghost use Rattle.std.specs.Io.KnownBytes.{Appends};
-ghost use Rattle.agv_store.specs.Registered.{no_loads};
+ghost use Rattle.agv_tables.specs.loads.Registered.{no_loads};
 ghost use Rattle.agv_desk.specs.declared.call.Call.{Call};
 ghost use Rattle.agv_face.specs.Asked.{Asks};
 ghost use Rattle.agv_face.specs.Served.{output};
@@ -11,7 +11,7 @@ ghost use Rattle.agv_app.specs.Runs.{IsNewStore, IsOfNewStore, IsOutcome, IsServ
 use crate::line::{Line, LineFault, line_of};
 use crate::outcome::Outcome;
 use agv_face::{LoadsFault, Stop, Watched, serve_loads};
-use agv_store::Loads;
+use agv_tables::Loads;
 use sqlite::{Connection, MemStore};
 use std::alloc::Global;
 use std::io::{Read, Write};

@@ -127,7 +127,7 @@ stays_by P (move ∷ moves) places all load at there = elim (same_or_other names
 ]
 
 -- known loads alone move, so there are as many
-len_by : (moves : List Move) (places : Places) → Each (λ move. IsKnown places move.load) moves → finite.len (moved places moves) ≡ finite.len places
+pub len_by : (moves : List Move) (places : Places) → Each (λ move. IsKnown places move.load) moves → finite.len (moved places moves) ≡ finite.len places
 len_by [] places all = refl
 len_by (move ∷ moves) places all =
     len_by moves (finite.insert places move.load move.place) (each_of (λ one. IsKnown places one.load) (λ one. IsKnown (finite.insert places move.load move.place) one.load) (λ one known. still one.load known) moves all.1)
@@ -211,6 +211,12 @@ module _ (world : World) (rows : List Row) (known : AreKnown world rows rows) wh
   all_moves : Each (IsCountMove world rows) (count_moves world rows)
   all_moves = count_moves_by (finite.entries world.places) (entries_found names_total world.places)
 
+  -- so there are as many loads
+  pub as_many_loads : finite.len (moved world.places (count_moves world rows)) ≡ finite.len world.places
+  as_many_loads =
+      len_by (count_moves world rows) world.places
+      (each_of (IsCountMove world rows) (λ move. IsKnown world.places move.load) (λ move is. is.known) (count_moves world rows) all_moves)
+
   free_moves : (moves : List Move) → list_any (λ (move : Move). is_in_job world move.load) moves ≡ false → Each (λ move. IsFree world.jobs move.load) moves
   free_moves [] none = tt
   free_moves (move ∷ moves) none = let parts = or_parts (is_in_job world move.load) _ none in (free_if world move.load parts.0, free_moves moves parts.1)
@@ -272,7 +278,7 @@ module _ (world : World) (cargo : HasCargo world) where
       record {
         cargo = places_kept world.layout (errands_of world) (capacity_of world) world.places world.jobs cargo (record {
           after = moved world.places moves;
-          few = subst (λ n. n ≤ 1000000) (sym (len_by moves world.places (each_of (IsCountMove world rows) (λ move. IsKnown world.places move.load) (λ move is. is.known) moves all))) cargo.few_loads;
+          few = subst (λ n. n ≤ 1000000) (sym (as_many_loads world rows known)) cargo.few_loads;
           came = λ load at there. elim (came_by (IsCountMove world rows) moves world.places all load at there) [
             | inl old ↦ inl old
             | inr new ↦ inr (subst IsName new.1 (cargo.loads_named new.0.load new.2.known.0 new.2.known.1), subst (IsSpot world.layout) new.3 (spot_of world rows known new.0.place new.2.comes))

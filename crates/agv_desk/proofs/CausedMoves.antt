@@ -15,15 +15,14 @@ use Rattle.agv_world.specs.Worlds.{World}
 use Rattle.agv_world.specs.declared.row.VehicleRow.{VehicleRow}
 use Rattle.agv_desk.specs.Causes.{is_acted, is_recorded, is_refusal, moves_for}
 use Rattle.agv_desk.specs.JobSteps.{Renewed, becomes_finished, taken_to, act_move, act_moves}
-use Rattle.agv_desk.specs.LayoutSteps.{if_given, set_layout}
-use Rattle.agv_desk.specs.LoadSteps.{register_load, correct_load, leave_load, add_job, stop_job}
+use Rattle.agv_desk.specs.LayoutSteps.{if_given}
 use Rattle.agv_desk.specs.OrderSteps.{if_planned, start_order, advance}
 use Rattle.agv_desk.specs.Outcomes.{Acted, Effect, Made, Move, Outcome, Refused, after, answer_of, decided, moves_of}
-use Rattle.agv_desk.specs.ReadSteps.{instant_told, order_told, get_order, get_instant, get_load, get_vehicle}
+use Rattle.agv_desk.specs.ReadSteps.{instant_told, order_told}
 use Rattle.agv_desk.specs.StateSteps.{idle_state, trip_state, fresh_state, take_state}
 use Rattle.agv_desk.specs.Step.{step}
-use Rattle.agv_desk.specs.StocktakeSteps.{Row, count_move, new_places, take_stock}
-use Rattle.agv_desk.specs.VehicleSteps.{register_vehicle, instruct, cancel, pause, resume, place_vehicle, resync}
+use Rattle.agv_desk.specs.StocktakeSteps.{count_move, new_places}
+use Rattle.agv_desk.specs.VehicleSteps.{register_vehicle, instruct, place_vehicle}
 use Rattle.agv_desk.specs.declared.call.Call.{Call}
 use Rattle.agv_desk.specs.declared.call.Call.TheVariants as call
 use Rattle.agv_desk.proofs.Known.{none_some, same_some}

@@ -1,10 +1,12 @@
 -- The stations of the rows are noted from row to row.
-use Rattle.std.proofs.Common.{◌≡◌, ℕ, Bool, true, false, cond, ◌&&◌, ◌||◌, nat_eq, Option, Some, None, is_some, List, [], ◌∷◌, length, drop, ◌≤◌, refl, sym, ap, ◌∙◌}
+use Rattle.std.proofs.Common.{◌≡◌, ℕ, Bool, true, false, cond, ◌&&◌, ◌||◌, nat_eq, Option, Some, None, is_some, List, [], ◌∷◌, length, drop, ◌<◌, ◌≤◌, get_or, refl, sym, ap, ◌∙◌}
 use Rattle.std.specs.Cmp.Lexicographic.{pointwise}
 use Rattle.std.specs.FinMap as map
 use Rattle.std.specs.List.{list_all}
 use Rattle.std.proofs.Math.Bool.{or_assoc}
+use Rattle.std.proofs.lemmas.Bool.{false≢true}
 use Rattle.std.proofs.lemmas.List.{at_drop_all}
+use Rattle.std.proofs.lemmas.List.Folds.{list_all_at}
 use Rattle.std.proofs.lemmas.Option.{cond_some}
 use Rattle.agv_header.specs.Name.{name_cmp}
 use Rattle.agv_layout.specs.declared.station.Spot.{Spot}
@@ -100,3 +102,15 @@ pub all_noted : (world : World) (rows : List Row) (noted : Spots) (i : ℕ) → 
 all_noted world rows noted i past is =
     let found = cond_some (are_known world rows) (stations_in world rows) noted (sym (gathered_all world rows) ∙ sym is ∙ at_drop_all (gathered world.layout.stations noted) rows i past) in
     (found.0, sym found.1)
+
+not_there : (noted after : Spots) (id : List ℕ) (here there : Option Spot) (known : Bool) → (known, after) ≡ noted_station noted id here there → known ≡ false → is_some there ≡ false
+not_there noted after id (Some spot) there known is missing = absurd (false≢true (sym missing ∙ ap (λ (p : Bool × Spots). p.0) is))
+not_there noted after id None None known is missing = refl
+not_there noted after id None (Some spot) known is missing = absurd (false≢true (sym missing ∙ ap (λ (p : Bool × Spots). p.0) is))
+
+-- a row whose station is not known
+pub unknown_row : (world : World) (rows : List Row) (noted after : Spots) (i : ℕ) (row : Row) (known : Bool) → i < length rows → row ≡ get_or rows i row
+    → (known, after) ≡ noted_station noted row.0 (map.get noted row.0) (map.get world.layout.stations row.0) → known ≡ false → are_known world rows ≡ false
+unknown_row world rows noted after i row known within at is missing =
+    let knows : Row → Bool = λ row. is_some (map.get world.layout.stations row.0) in
+    list_all_at knows rows i row within (ap knows (sym at) ∙ not_there noted after row.0 (map.get noted row.0) (map.get world.layout.stations row.0) known is missing)

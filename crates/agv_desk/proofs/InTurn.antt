@@ -1,22 +1,9 @@
--- Calls one after the other, and calls that only tell.
-use Rattle.std.proofs.Common.{◌≡◌, ℕ, List, [], ◌∷◌, ◌++◌, Option, None, Some, append_assoc, refl, sym, ap, ◌∙◌}
-use Rattle.agv_header.specs.declared.refusal.Refusal.{Refusal}
+-- Calls one after the other.
+use Rattle.std.proofs.Common.{◌≡◌, ℕ, List, [], ◌∷◌, ◌++◌, append_assoc, refl, sym, ap, ◌∙◌}
 use Rattle.agv_world.specs.Worlds.{World}
-use Rattle.agv_desk.specs.Outcomes.{Made, told, found, after, answer_of, moves_of}
+use Rattle.agv_desk.specs.Outcomes.{after, answer_of, moves_of}
 use Rattle.agv_desk.specs.Step.{step, steps, answers, moves}
-use Rattle.agv_desk.specs.declared.answer.Answer.{Answer}
 use Rattle.agv_desk.specs.declared.call.Call.{Call}
-
--- what is only told changes nothing, found or not
-pub tells : {X : Type 0} (world : World) (there : Option X) (why : Refusal) (said : X → Answer) → after world (found there why (λ x. Made (told (said x)))) ≡ world
-unfolding found after
-tells world None why said = refl
-tells world (Some x) why said = refl
-
--- what is only told changes nothing
-pub only_tells : (world : World) (said : Answer) → after world (Made (told said)) ≡ world
-unfolding after
-only_tells world said = refl
 
 module _ (seats : ℕ) where
   pub world_in_turn : (world : World) (calls others : List (ℕ × Call)) → steps seats world (calls ++ others) ≡ steps seats (steps seats world calls) others

@@ -10,6 +10,7 @@ mod LayoutRows
 mod AllSteps
 mod MovesTold
 mod ActJobs
+mod AskedInTurn
 mod Pairs
 mod Laying
 mod TripStates
@@ -27,7 +28,10 @@ mod PlacedLoads
 mod CountedMoves
 mod CountedWhole
 mod InTurn
+mod Unchanged
+mod RefusedCalls
 mod StockLaws
+mod StockMoved
 mod Keeping
 mod LawfulVehiclesWritten
 mod LawfulVehiclesRows
@@ -83,3 +87,6 @@ mod FoundActs
 mod FoundMoves
 mod CargoWhole
 mod CausedMoves
+mod Grown
+mod CountSteps
+mod FoundInTurn

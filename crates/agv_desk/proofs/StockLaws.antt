@@ -23,16 +23,16 @@ use Rattle.agv_desk.proofs.SameNames.{same_name, tie_turned}
 refused_made : (why : Refusal) (effect : Effect) → Refused why ≡ Made effect → ⊥
 refused_made why effect e = cc
 
-same_made : (one other : Effect) → Made one ≡ Made other → one ≡ other
+pub same_made : (one other : Effect) → Made one ≡ Made other → one ≡ other
 same_made one other e = cc
 
-require_made : (test : Bool) (why : Refusal) (rest : Outcome) (effect : Effect) → require test why rest ≡ Made effect → (test ≡ true) × (rest ≡ Made effect)
+pub require_made : (test : Bool) (why : Refusal) (rest : Outcome) (effect : Effect) → require test why rest ≡ Made effect → (test ≡ true) × (rest ≡ Made effect)
 unfolding require
 require_made true why rest effect e = (refl, e)
 require_made false why rest effect e = absurd (refused_made why effect e)
 
 -- ---- the places after moves in the order of names
-abbrev or_else : Option Place → Option Place → Option Place
+abbrev pub or_else : Option Place → Option Place → Option Place
 or_else None other = other
 or_else (Some one) other = Some one
 
@@ -63,10 +63,10 @@ get-moved (load ∷ moves) h places q =
     ∙ hidden (eq_by_cmp name_cmp q load.0) load.1 (find name_cmp q moves) (finite.get places q)
 
 -- where a load is afterwards, by which stations were counted, where it was found, and where it was
-abbrev after : (List ℕ → Bool) → Option (List ℕ) → Option Place → Option Place
+abbrev pub after : (List ℕ → Bool) → Option (List ℕ) → Option Place → Option Place
 after counted found at = or_else (option_and_then (new_place counted found) at) at
 
-get-after : (world : World) (rows : List Row) (q : List ℕ) → finite.get (moved world.places (count_moves world rows)) q ≡ after (is_counted rows) (found_at rows q) (finite.get world.places q)
+pub get-after : (world : World) (rows : List Row) (q : List ℕ) → finite.get (moved world.places (count_moves world rows)) q ≡ after (is_counted rows) (found_at rows q) (finite.get world.places q)
 get-after world rows q =
     get-moved (new_places world rows) (sorted_moved (recounted rows) (finite.entries world.places) (finite.entries_sorted world.places)) world.places q
     ∙ ap (λ o. or_else o (finite.get world.places q)) (find_moved (recounted rows) (finite.entries world.places) (finite.entries_sorted world.places) q ∙ ap (option_and_then (recounted rows q)) (sym (finite.get-entries world.places q)))

@@ -12,25 +12,24 @@ use Rattle.agv_order.specs.declared.trip.Trip.{Trip}
 use Rattle.agv_track.specs.Judgements.{judged}
 use Rattle.agv_track.specs.declared.pending.Pending.{Pending}
 use Rattle.agv_track.specs.declared.progress.Progress.{Progress}
-use Rattle.agv_track.specs.declared.standing.Standing.{Standing}
+use Rattle.agv_world.specs.VehicleChanges.{vehicle_changes}
 use Rattle.agv_world.specs.Worlds.{World}
 use Rattle.agv_world.specs.declared.change.Change.{Change}
 use Rattle.agv_world.specs.declared.change.Change.TheVariants as row
 use Rattle.agv_world.specs.declared.row.VehicleRow.{VehicleRow}
 use Rattle.agv_desk.specs.JobSteps.{Renewed, act_moves}
 use Rattle.agv_desk.specs.Outcomes.{Move, Outcome, branch, decided, require}
-use Rattle.agv_desk.specs.StateSteps.{fresh_state, idle_state, if_judged, pending_of, row_after, trip_left, trip_state}
+use Rattle.agv_desk.specs.StateSteps.{driven, fresh_state, idle_state, if_judged, pending_of, trip_state}
 use Rattle.agv_desk.specs.declared.answer.Answer.TheVariants as answer
 use Rattle.agv_desk.specs.declared.answer.Decision.{Decision}
 use Rattle.agv_desk.proofs.ActJobs.{job_rows}
-use Rattle.agv_desk.proofs.VehicleRows.{stands, vehicle_rows}
 
 -- the rows of the loads that these acts move
 abbrev load_rows : VehicleKey → List ℕ → List Renewed → List Change
 load_rows key order acts = map (λ (move : Move). row.Load move.load move.place) (act_moves key order acts)
 
 -- one part after the other
-in_turn : (one two three : List Change) → (([] ++ one) ++ two) ++ three ≡ one ++ (two ++ (three ++ []))
+in_turn : (one two three : List Change) → (one ++ two) ++ three ≡ one ++ (two ++ (three ++ []))
 in_turn one two three = append_assoc one two three ∙ ap (λ rows. one ++ (two ++ rows)) (sym (append-nil three))
 
 -- what is judged decides
@@ -39,39 +38,27 @@ unfolding if_judged
 if-ok judgement x rest decision is e = subst (λ r. decision ≡ decided (if_judged r rest)) (sym is) e
 
 module _ (world : World) (key : VehicleKey) (row : VehicleRow) (trip : Trip) (state : StateMessage) (progress : Progress) where
-  -- all rows, of a vehicle that stands and goes on so, and of these acts
-  abbrev rows_of : Standing → VehicleRow → Standing → List Act → Bool → List Change
-  rows_of old next new acts over = (([] ++ vehicle_rows key row old next new) ++ load_rows key trip.order (zip acts progress.statuses)) ++ job_rows world over (zip acts progress.statuses)
+  -- the rows of the vehicle
+  abbrev vehicle_rows : List Change
+  vehicle_rows = vehicle_changes key (Some (record { row = row; trip = Some trip })) (driven row trip state progress)
 
-  -- the rows that are made, part by part
-  made : (old new : Standing) (next : VehicleRow) (acts : List Act) (over : Bool) (none vehicle loads all : List Change)
-      → none ≡ [] → vehicle ≡ none ++ vehicle_rows key row old next new
-      → loads ≡ vehicle ++ load_rows key trip.order (zip acts progress.statuses) → all ≡ loads ++ job_rows world over (zip acts progress.statuses)
-      → all ≡ rows_of old next new acts over
-  made old new next acts over none vehicle loads all empty one two three =
-      let first = one ∙ ap (λ rows. rows ++ vehicle_rows key row old next new) empty in
-      let second = two ∙ ap (λ rows. rows ++ load_rows key trip.order (zip acts progress.statuses)) first in
-      three ∙ ap (λ rows. rows ++ job_rows world over (zip acts progress.statuses)) second
+  -- all rows, of these acts
+  abbrev rows_of : List Act → Bool → List Change
+  rows_of acts over = (vehicle_rows ++ load_rows key trip.order (zip acts progress.statuses)) ++ job_rows world over (zip acts progress.statuses)
 
-  pub trip_state_told : (pending : Option Pending) (old new : Standing) (next : VehicleRow) (left : Option Trip) (acts : List Act) (over : Bool) (none vehicle loads all : List Change) (decision : Decision)
-      → pending ≡ pending_of row → judged trip pending state ≡ Ok progress
-      → over ≡ is_some progress.«end» → acts ≡ trip.acts → next ≡ row_after row trip state progress → left ≡ trip_left trip progress
-      → old ≡ stands row (Some trip) → new ≡ stands next left
-      → none ≡ [] → vehicle ≡ none ++ vehicle_rows key row old next new
-      → loads ≡ vehicle ++ load_rows key trip.order (zip acts progress.statuses) → all ≡ loads ++ job_rows world over (zip acts progress.statuses)
+  pub trip_state_told : (pending : Option Pending) (acts : List Act) (over : Bool) (first all : List Change) (decision : Decision)
+      → pending ≡ pending_of row → judged trip pending state ≡ Ok progress → over ≡ is_some progress.«end» → acts ≡ trip.acts
+      → first ≡ vehicle_rows ++ load_rows key trip.order (zip acts progress.statuses) → all ≡ first ++ job_rows world over (zip acts progress.statuses)
       → decision.answer ≡ answer.Accepted true → decision.changes ≡ all
       → decision ≡ decided (trip_state world key row trip state)
   unfolding decided
-  trip_state_told pending old new next left acts over none vehicle loads all decision asked is ends same row_is left_is was stood empty one two three said changes =
-      let after = row_after row trip state progress in
+  trip_state_told pending acts over first all decision asked is ends same one two said changes =
       let ended = is_some progress.«end» in
       let steps = zip trip.acts progress.statuses in
-      let told = made old new next acts over none vehicle loads all empty one two three in
-      let stand : rows_of old next new acts over ≡ rows_of (stands row (Some trip)) next (stands next left) trip.acts ended = λ i. rows_of (was i) next (stood i) (same i) (ends i) in
-      let go_on : rows_of (stands row (Some trip)) next (stands next left) trip.acts ended ≡ rows_of (stands row (Some trip)) after (stands after (trip_left trip progress)) trip.acts ended =
-      λ i. rows_of (stands row (Some trip)) (row_is i) (stands (row_is i) (left_is i)) trip.acts ended in
-      let turn = in_turn (vehicle_rows key row (stands row (Some trip)) after (stands after (trip_left trip progress))) (load_rows key trip.order steps) (job_rows world ended steps) in
-      let rows = changes ∙ told ∙ stand ∙ go_on ∙ turn in
+      let told : all ≡ rows_of acts over = two ∙ ap (λ rows. rows ++ job_rows world over (zip acts progress.statuses)) one in
+      let stand : rows_of acts over ≡ rows_of trip.acts ended = λ i. rows_of (same i) (ends i) in
+      let turn = in_turn vehicle_rows (load_rows key trip.order steps) (job_rows world ended steps) in
+      let rows = changes ∙ told ∙ stand ∙ turn in
       if-ok (judged trip (pending_of row) state) progress _ decision (ap (λ p. judged trip p state) (sym asked) ∙ is) (λ i. record { answer = said i; changes = rows i })
 
 -- a state of the open trip's order is judged against the trip

@@ -1,10 +1,11 @@
 -- Where the load of an act is when the act becomes finished (VDA 5050 2.0, actionStates; this project's profile).
-use Rattle.std.specs.Prelude.{◌≡◌, ◌≤◌, ℕ, List, ◌∷◌, ◌++◌, Some}
+use Rattle.std.specs.Prelude.{◌≡◌, ◌≤◌, ℕ, true, List, ◌∷◌, ◌++◌, Some}
 use Rattle.std.specs.FinMap as finite
 use Rattle.agv_header.specs.declared.key.VehicleKey.{VehicleKey}
 use Rattle.agv_message.specs.declared.order.ActKind.{ActKind}
 use Rattle.agv_message.specs.declared.order.ActKind.TheVariants.{Pick, Drop}
 use Rattle.agv_order.specs.declared.trip.Trip.{Trip}
+use Rattle.agv_stock.specs.Phase.{is_live}
 use Rattle.agv_stock.specs.declared.job.Phase.TheVariants as phase
 use Rattle.agv_stock.specs.declared.place.Place.{Place}
 use Rattle.agv_stock.specs.declared.place.Place.TheVariants as place
@@ -15,7 +16,9 @@ use Rattle.agv_world.specs.Questions.{reserved}
 use Rattle.agv_world.specs.Worlds.{World}
 use Rattle.agv_world.specs.declared.row.JobRow.{JobRow}
 use Rattle.agv_desk.specs.JobSteps.{taken_to}
-use Rattle.agv_desk.specs.Outcomes.{Acted, Effect, Move, moved}
+use Rattle.agv_desk.specs.Outcomes.{Acted, Effect, Made, Move, moved}
+use Rattle.agv_desk.specs.Step.{moves, step, steps}
+use Rattle.agv_desk.specs.declared.call.Call.{Call}
 
 -- a pick finds the load at the job's origin, and a drop finds it on the vehicle
 abbrev pub found_at : ActKind → VehicleKey → JobRow → Place
@@ -40,3 +43,38 @@ pub record FindsItsLoad (world : World) (places : Places) (move : Move) (kind : 
 pub record FindsLoads (world : World) (effect : Effect) : Type 0 where
   pub finds : (before after : List Move) (move : Move) (kind : ActKind) (order job : List ℕ) → effect.moves ≡ before ++ (move ∷ after) → move.cause ≡ Acted kind order job
       → FindsItsLoad world (moved world.places before) move kind order job
+
+-- the job that is dropped is live, since it rides; it is for the load that moves, and goes to the station where the load is put
+pub record DropsForItsJob (world : World) (move : Move) (job : List ℕ) : Type 0 where
+  pub row : JobRow
+  pub here : IsJob world job row
+  pub rides : row.phase ≡ phase.Riding
+  pub live : is_live row.phase ≡ true
+  pub load : row.load ≡ move.load
+  pub to : move.place ≡ place.Station row.target
+
+-- each drop that becomes finished is for its own job
+pub record DropsLoads (world : World) (effect : Effect) : Type 0 where
+  pub drops : (before after : List Move) (move : Move) (order job : List ℕ) → effect.moves ≡ before ++ (move ∷ after) → move.cause ≡ Acted Drop order job
+      → DropsForItsJob world move job
+
+-- ---- over a list of calls
+
+-- among these calls, after the earlier ones, is one that has this effect in the world to which they have led
+pub record HasEffectAfter (seats : ℕ) (world : World) (calls earlier : List (ℕ × Call)) (effect : Effect) : Type 0 where
+  pub at : ℕ
+  pub made : Call
+  pub later : List (ℕ × Call)
+  pub among : calls ≡ earlier ++ (at, made) ∷ later
+  pub effects : step seats (steps seats world earlier) at made ≡ Made effect
+
+-- the move is one of the effect of a call among these, behind the moves of the earlier calls and the first ones of that call; and when that call is served, the act finds its load where the moves before have left the loads
+pub record IsFoundIn (seats : ℕ) (world : World) (calls : List (ℕ × Call)) (before : List Move) (move : Move) (kind : ActKind) (order job : List ℕ) : Type 0 where
+  pub earlier : List (ℕ × Call)
+  pub effect : Effect
+  pub served : HasEffectAfter seats world calls earlier effect
+  pub first : List Move
+  pub rest : List Move
+  pub among : effect.moves ≡ first ++ (move ∷ rest)
+  pub behind : before ≡ moves seats world earlier ++ first
+  pub finds : FindsItsLoad (steps seats world earlier) (moved world.places before) move kind order job

@@ -12,9 +12,12 @@ pub mod CountParts
 pub mod StockTaken
 pub mod ReadSteps
 pub mod Step
+pub mod Unchanged
+pub mod Refusals
 pub mod InOrder
 pub mod Moves
 pub mod WellTyped
 pub mod Histories
 pub mod ActedMoves
 pub mod FoundJobs
+pub mod Counts

@@ -14,7 +14,8 @@ use Rattle.agv_world.specs.Worlds.{World}
 use Rattle.agv_world.specs.declared.floor.Counted.TheVariants as counted
 use Rattle.agv_world.specs.declared.key.UseKey.{UseKey}
 use Rattle.agv_world.specs.declared.key.UseKind.TheVariants as used
-use Rattle.agv_desk.specs.Outcomes.{Outcome, Made, Move, Cause, Registered, Recorded, require, found, checked, told}
+use Rattle.agv_world.specs.declared.row.JobRow.{JobRow}
+use Rattle.agv_desk.specs.Outcomes.{Outcome, Effect, Made, Move, Cause, Registered, Recorded, require, found, checked, told}
 use Rattle.agv_desk.specs.declared.answer.Answer.TheVariants as answer
 
 -- ---- words
@@ -56,12 +57,20 @@ move_to load to why = record { load = load; place = to; cause = why }
 
 -- ---- loads
 
+-- the load is registered there
+abbrev pub registered : List ℕ → Place → Effect
+registered load to = record (told answer.Done) { moves = move_to load to Registered ∷ [] }
+
+-- the load is recorded there, and the reference is used
+abbrev pub recorded : List ℕ → Place → List ℕ → Effect
+recorded load to reference = record (told answer.Done) { moves = move_to load to Recorded ∷ []; uses = reference_key reference ∷ [] }
+
 -- POST /loads: Exists, NoStation, Full, Limit
 abbrev pub register_load : World → List ℕ → Option (List ℕ) → Outcome
 register_load world load station =
     checked (register_check (finite.get world.places load) (goal_of world station))
     (require (nat_lt (count_of world counted.Loads) most) refusal.Limit
-    (Made (record (told answer.Done) { moves = move_to load (place_of station) Registered ∷ [] })))
+    (Made (registered load (place_of station))))
 
 -- POST /loads/{load}/correct: RefUsed, NoLoad, NoStation, Elsewhere, InJob, SameStation, Full, Limit
 abbrev pub correct_load : World → List ℕ → List ℕ → Option (List ℕ) → Outcome
@@ -69,7 +78,7 @@ correct_load world load reference station =
     require (is_new world reference) refusal.RefUsed
     (checked (correct_check (finite.get world.places load) (is_in_job world load) (goal_of world station))
     (require (nat_lt (count_of world counted.References) most) refusal.Limit
-    (Made (record (told answer.Done) { moves = move_to load (place_of station) Recorded ∷ []; uses = reference_key reference ∷ [] }))))
+    (Made (recorded load (place_of station) reference))))
 
 -- POST /loads/{load}/leave: RefUsed, NoLoad, Elsewhere, InJob, Limit
 abbrev pub leave_load : World → List ℕ → List ℕ → Outcome
@@ -77,9 +86,13 @@ leave_load world load reference =
     require (is_new world reference) refusal.RefUsed
     (checked (leave_check (finite.get world.places load) (is_in_job world load))
     (require (nat_lt (count_of world counted.References) most) refusal.Limit
-    (Made (record (told answer.Done) { moves = move_to load place.Left Recorded ∷ []; uses = reference_key reference ∷ [] }))))
+    (Made (recorded load place.Left reference))))
 
 -- ---- jobs
+
+-- the job is written
+abbrev pub job_written : List ℕ → JobRow → Effect
+job_written job row = record (told answer.Done) { jobs = (job, row) ∷ [] }
 
 -- the station where a load stands
 abbrev pub station_in : Option Place → Option (List ℕ)
@@ -102,11 +115,11 @@ add_job world job load to =
     checked (job_check (is_some (finite.get world.jobs job)) (finite.get world.places load) (is_in_job world load) (goal_of world (Some to)))
     (found (station_in (finite.get world.places load)) refusal.Elsewhere (λ origin.
     require (nat_lt (count_of world counted.Jobs) most) refusal.Limit
-    (Made (record (told answer.Done) { jobs = (job, record { load = load; origin = origin; target = to; phase = phase.Waiting }) ∷ [] }))))
+    (Made (job_written job (record { load = load; origin = origin; target = to; phase = phase.Waiting })))))
 
 -- DELETE /jobs/{job}: NoJob, JobState where it does not wait
 abbrev pub stop_job : World → List ℕ → Outcome
 stop_job world job =
     found (finite.get world.jobs job) refusal.NoJob (λ row.
     require (is_waiting row.phase) refusal.JobState
-    (Made (record (told answer.Done) { jobs = (job, record row { phase = phase.Stopped }) ∷ [] })))
+    (Made (job_written job (record row { phase = phase.Stopped }))))

@@ -17,7 +17,7 @@ use Rattle.agv_track.specs.Progressed.{progressed}
 use Rattle.agv_track.specs.declared.pending.Pending.{Pending}
 use Rattle.agv_track.specs.declared.progress.Progress.{Progress}
 use Rattle.agv_world.specs.Questions.{row_of, trip_of}
-use Rattle.agv_world.specs.Worlds.{World}
+use Rattle.agv_world.specs.Worlds.{Vehicle, World}
 use Rattle.agv_world.specs.declared.row.VehicleRow.{VehicleRow}
 use Rattle.agv_desk.specs.JobSteps.{act_moves, act_jobs}
 use Rattle.agv_desk.specs.Outcomes.{Outcome, Refused, Made, Noted, Put, require, found, branch, told}
@@ -70,12 +70,16 @@ row_after row trip state progress = record (heard row state progress.pending_ove
   rest = progress.rest;
 }
 
+-- the vehicle then
+abbrev pub driven : VehicleRow → Trip → StateMessage → Progress → Vehicle
+driven row trip state progress = record { row = row_after row trip state progress; trip = trip_left trip progress }
+
 -- the state of a vehicle on its trip: the judgement's refusals, or the trip goes on or ends, the loads move by the acts that become finished, and the jobs are done or stop
 abbrev pub trip_state : World → VehicleKey → VehicleRow → Trip → StateMessage → Outcome
 trip_state world key row trip state =
     if_judged (judged trip (pending_of row) state) (λ progress.
     Made (record (told (answer.Accepted true)) {
-      touched = Put key (Some (record { row = row; trip = Some trip })) (record { row = row_after row trip state progress; trip = trip_left trip progress });
+      touched = Put key (Some (record { row = row; trip = Some trip })) (driven row trip state progress);
       moves = act_moves key trip.order (zip trip.acts progress.statuses);
       jobs = act_jobs world (is_some progress.«end») (zip trip.acts progress.statuses);
     }))

@@ -17,7 +17,7 @@ use Rattle.agv_world.specs.declared.row.Sent.{Sent}
 use Rattle.agv_world.specs.declared.row.VehicleRow.{VehicleRow}
 use Rattle.agv_desk.specs.JobSteps.{jobs_stopped}
 use Rattle.agv_desk.specs.LoadSteps.{most, is_new, reference_key}
-use Rattle.agv_desk.specs.Outcomes.{Outcome, Made, Noted, Put, require, found, unheld, told}
+use Rattle.agv_desk.specs.Outcomes.{Outcome, Effect, Made, Noted, Put, require, found, unheld, told}
 use Rattle.agv_desk.specs.declared.answer.Answer.TheVariants as answer
 
 -- ---- words
@@ -54,6 +54,10 @@ new_vehicle capacity node = record {
 
 -- ---- the calls
 
+-- the vehicle is registered, and not heard of yet
+abbrev pub registered : VehicleKey → List ℕ → ℕ → Effect
+registered key node capacity = record (told answer.Done) { touched = Put key None (new_vehicle capacity node) }
+
 -- POST /vehicles: Exists, NoNode, Held, Limit where there are 100, or the capacity is 0 or above the seats
 abbrev pub register_vehicle : ℕ → World → VehicleKey → List ℕ → ℕ → Outcome
 register_vehicle seats world key node capacity =
@@ -61,7 +65,7 @@ register_vehicle seats world key node capacity =
     (require (set.contains world.layout.nodes node) refusal.NoNode
     (if_free world key (thing.Node node ∷ [])
     (require (nat_lt (count_of world counted.Vehicles) 100 && (nat_lt 0 capacity && nat_le capacity seats)) refusal.Limit
-    (Made (record (told answer.Done) { touched = Put key None (new_vehicle capacity node) })))))
+    (Made (registered key node capacity)))))
 
 -- an instant action for the vehicle: InstantPending where any is pending, Spent
 abbrev pub instruct : ℕ → VehicleKey → VehicleRow → InstantKind → Outcome

@@ -1,8 +1,8 @@
 //! What becomes of the loads and the jobs of a trip, as its acts are carried out and as it ends.
-ghost use Rattle.std.specs.Prelude.{◌≡◌, ◌++◌, ◌∷◌, [], ℕ, true, List, map, IfOk, OnOk, OnErr};
+ghost use Rattle.std.specs.Prelude.{◌≡◌, ◌++◌, ◌∷◌, [], ℕ, true, List, map, OnOk};
 ghost use Rattle.std.specs.List.{zip};
 ghost use Rattle.std.specs.Option.{option_map};
-ghost use Rattle.agv_world.specs.Fails.{Fails};
+ghost use Rattle.agv_world.specs.Asks.{Asks};
 ghost use Rattle.agv_world.specs.declared.change.Change.TheVariants as row;
 ghost use Rattle.agv_world.specs.declared.row.JobRow.{JobRow as JobRowOf};
 ghost use Rattle.agv_desk.specs.JobSteps.{act_jobs, act_moves, as_it_is, becomes_finished, job_in, jobs_stopped, phase_by, taken_to};
@@ -78,11 +78,7 @@ fn phase_by(ended: bool, act: &Act, status: Status) -> Option<Phase>
 
 // The row of a job in this phase, if there is a phase and the job is there.
 fn job_in<F: Floor>(floor: &mut F, act: &Act, phase: Option<Phase>) -> Result<Option<JobRow>, Fault>
-    ensures told { F.is_clean floor.new → IfOk result (λ row. (option_map (λ (job : JobRowOf). (act.now.job, job)) row ≡ job_in (F.world floor.old) act.now.job phase) × (F.world floor.new ≡ F.world floor.old)) }
-    ensures left { F.is_clean floor.new → F.is_open floor.new → OnErr result (F.world floor.new ≡ F.world floor.old) }
-    ensures earlier { F.is_clean floor.new → F.is_clean floor.old × (F.is_open floor.new → F.is_open floor.old) }
-    ensures fails { Fails result (F.failed floor.old) (F.failed floor.new) }
-    ensures same { F.seats floor.new ≡ F.seats floor.old }
+    ensures { Asks F.facts floor.old floor.new result (λ world row. option_map (λ (job : JobRowOf). (act.now.job, job)) row ≡ job_in world act.now.job phase) }
 {
     let Some(phase) = phase else {
         return Ok(None);
@@ -101,11 +97,7 @@ fn write_job<F: Floor>(
     status: Status,
     changes: &mut Vec<Change>,
 ) -> Result<(), Fault>
-    ensures told { F.is_clean floor.new → OnOk result ((changes.new.items ≡ changes.old.items ++ map (λ (job : List ℕ × JobRowOf). row.Job job.0 job.1) (act_jobs (F.world floor.old) ended ((act.now, status) ∷ []))) × (F.world floor.new ≡ F.world floor.old)) }
-    ensures left { F.is_clean floor.new → F.is_open floor.new → OnErr result (F.world floor.new ≡ F.world floor.old) }
-    ensures earlier { F.is_clean floor.new → F.is_clean floor.old × (F.is_open floor.new → F.is_open floor.old) }
-    ensures fails { Fails result (F.failed floor.old) (F.failed floor.new) }
-    ensures same { F.seats floor.new ≡ F.seats floor.old }
+    ensures { Asks F.facts floor.old floor.new result (λ world done. changes.new.items ≡ changes.old.items ++ map (λ (job : List ℕ × JobRowOf). row.Job job.0 job.1) (act_jobs world ended ((act.now, status) ∷ []))) }
 {
     if let Some(row) = job_in(floor, act, phase_by(ended, act, status))? {
         changes.push(Change::Job(act.job, row))?;
@@ -121,11 +113,7 @@ pub(crate) fn write_jobs<F: Floor>(
     statuses: &[Status],
     changes: &mut Vec<Change>,
 ) -> Result<(), Fault>
-    ensures told { F.is_clean floor.new → OnOk result ((changes.new.items ≡ changes.old.items ++ map (λ (job : List ℕ × JobRowOf). row.Job job.0 job.1) (act_jobs (F.world floor.old) ended (zip acts.now statuses.now))) × (F.world floor.new ≡ F.world floor.old)) }
-    ensures left { F.is_clean floor.new → F.is_open floor.new → OnErr result (F.world floor.new ≡ F.world floor.old) }
-    ensures earlier { F.is_clean floor.new → F.is_clean floor.old × (F.is_open floor.new → F.is_open floor.old) }
-    ensures fails { Fails result (F.failed floor.old) (F.failed floor.new) }
-    ensures same { F.seats floor.new ≡ F.seats floor.old }
+    ensures { Asks F.facts floor.old floor.new result (λ world done. changes.new.items ≡ changes.old.items ++ map (λ (job : List ℕ × JobRowOf). row.Job job.0 job.1) (act_jobs world ended (zip acts.now statuses.now))) }
 {
     for (act, status) in acts.iter().zip(statuses) {
         write_job(floor, ended, act, *status, changes)?;
@@ -135,11 +123,7 @@ pub(crate) fn write_jobs<F: Floor>(
 
 // Writes the jobs of acts that stay as they are, where a trip ends with them.
 fn stop_acts<F: Floor>(floor: &mut F, acts: &[Act], changes: &mut Vec<Change>) -> Result<(), Fault>
-    ensures told { F.is_clean floor.new → OnOk result ((changes.new.items ≡ changes.old.items ++ map (λ (job : List ℕ × JobRowOf). row.Job job.0 job.1) (act_jobs (F.world floor.old) true (map as_it_is acts.now))) × (F.world floor.new ≡ F.world floor.old)) }
-    ensures left { F.is_clean floor.new → F.is_open floor.new → OnErr result (F.world floor.new ≡ F.world floor.old) }
-    ensures earlier { F.is_clean floor.new → F.is_clean floor.old × (F.is_open floor.new → F.is_open floor.old) }
-    ensures fails { Fails result (F.failed floor.old) (F.failed floor.new) }
-    ensures same { F.seats floor.new ≡ F.seats floor.old }
+    ensures { Asks F.facts floor.old floor.new result (λ world done. changes.new.items ≡ changes.old.items ++ map (λ (job : List ℕ × JobRowOf). row.Job job.0 job.1) (act_jobs world true (map as_it_is acts.now))) }
 {
     for act in acts {
         write_job(floor, true, act, act.status, changes)?;
@@ -153,11 +137,7 @@ pub(crate) fn stop_jobs<F: Floor>(
     trip: &Option<Trip>,
     changes: &mut Vec<Change>,
 ) -> Result<(), Fault>
-    ensures told { F.is_clean floor.new → OnOk result ((changes.new.items ≡ changes.old.items ++ map (λ (job : List ℕ × JobRowOf). row.Job job.0 job.1) (jobs_stopped (F.world floor.old) trip.now)) × (F.world floor.new ≡ F.world floor.old)) }
-    ensures left { F.is_clean floor.new → F.is_open floor.new → OnErr result (F.world floor.new ≡ F.world floor.old) }
-    ensures earlier { F.is_clean floor.new → F.is_clean floor.old × (F.is_open floor.new → F.is_open floor.old) }
-    ensures fails { Fails result (F.failed floor.old) (F.failed floor.new) }
-    ensures same { F.seats floor.new ≡ F.seats floor.old }
+    ensures { Asks F.facts floor.old floor.new result (λ world done. changes.new.items ≡ changes.old.items ++ map (λ (job : List ℕ × JobRowOf). row.Job job.0 job.1) (jobs_stopped world trip.now)) }
 {
     match trip {
         Some(trip) => stop_acts(floor, trip.acts.as_slice(), changes),

@@ -1,11 +1,12 @@
 //! What holds of lists of calls, for every lawful world and every list. Each function says it by its clause alone.
-ghost use Rattle.std.specs.Prelude.{◌≡◌, ◌≤◌, ◌⊎◌, ℕ, List, []};
+ghost use Rattle.std.specs.Prelude.{◌≡◌, ◌≤◌, ◌⊎◌, ℕ, List, [], ◌∷◌, ◌++◌};
 ghost use Rattle.std.specs.FinMap as finite;
 ghost use Rattle.agv_header.specs.declared.key.VehicleKey.{VehicleKey};
 ghost use Rattle.agv_message.specs.declared.order.ActKind.{ActKind};
 ghost use Rattle.agv_message.specs.declared.state.StateMessage.{StateMessage as Message};
+ghost use Rattle.agv_desk.specs.ActedMoves.{DropsLoads, FindsLoads, HasEffectAfter, IsFoundIn};
 ghost use Rattle.agv_desk.specs.Histories.{CancelsSince, HasNoResync, IsRepeated, last_place, later_of, times};
-ghost use Rattle.agv_desk.specs.Outcomes.{after, moved, moves_of};
+ghost use Rattle.agv_desk.specs.Outcomes.{Acted, Effect, Move, after, moved, moves_of};
 ghost use Rattle.agv_desk.specs.Step.{moves, step, steps};
 ghost use Rattle.agv_desk.specs.WellTyped.{AreWellTyped, IsSeats};
 ghost use Rattle.agv_desk.specs.declared.call.Call.{Call};
@@ -14,7 +15,7 @@ ghost use Rattle.agv_world.specs.Lawful.{IsLawful};
 ghost use Rattle.agv_world.specs.Rows.{rows_of};
 ghost use Rattle.agv_world.specs.Worlds.{World};
 
-use crate::lawful_laws::keeps_lawful;
+use crate::lawful_laws::{finds_each_load, keeps_lawful};
 use agv_order::laws::fits_as_said;
 use agv_track::laws::advances;
 use agv_world::laws::holds_are_footprints;
@@ -35,6 +36,22 @@ pub fn stays_lawful()
     keeps_lawful();
     advances();
     fits_as_said();
+}
+
+/// In a list of calls from a lawful world each pick that becomes finished finds its load at the origin of its job, and
+/// each drop finds it on the vehicle, where the moves before it have left the loads. The job of a drop is live then, is
+/// for the load, and goes to the station where the load is put.
+pub fn finds_each_load_in_turn()
+    ensures calls { (seats : ℕ) → IsSeats seats → (world : World) (calls earlier : List (ℕ × Call)) (effect : Effect) → IsLawful seats world → AreWellTyped calls
+        → HasEffectAfter seats world calls earlier effect → FindsLoads (steps seats world earlier) effect }
+    ensures drops { (seats : ℕ) → IsSeats seats → (world : World) (calls earlier : List (ℕ × Call)) (effect : Effect) → IsLawful seats world → AreWellTyped calls
+        → HasEffectAfter seats world calls earlier effect → DropsLoads (steps seats world earlier) effect }
+    ensures moves { (seats : ℕ) → IsSeats seats → (world : World) (calls : List (ℕ × Call)) (before after : List Move) (move : Move) (kind : ActKind) (order job : List ℕ)
+        → IsLawful seats world → AreWellTyped calls → moves seats world calls ≡ before ++ (move ∷ after) → move.cause ≡ Acted kind order job
+        → IsFoundIn seats world calls before move kind order job }
+{
+    finds_each_load();
+    stays_lawful();
 }
 
 /// In a list of calls from a lawful world each order picks the load of a job at most once, and drops it at most once.

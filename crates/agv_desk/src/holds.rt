@@ -1,10 +1,10 @@
 //! What vehicles hold.
-ghost use Rattle.std.specs.Prelude.{◌≡◌, IfOk, OnErr, OnOk, ◌++◌, map};
+ghost use Rattle.std.specs.Prelude.{◌≡◌, OnOk, ◌++◌, map};
 ghost use Rattle.std.specs.FinMap as finite;
 ghost use Rattle.agv_header.specs.declared.key.Thing.{Thing as Held};
 ghost use Rattle.agv_track.specs.Holders.{gained};
 ghost use Rattle.agv_track.specs.Holds.{first_held, is_in, other_holder};
-ghost use Rattle.agv_world.specs.Fails.{Fails};
+ghost use Rattle.agv_world.specs.Asks.{Asks};
 ghost use Rattle.agv_world.specs.Rows.{rows_of};
 ghost use Rattle.agv_world.specs.VehicleChanges.{hold_changes};
 ghost use Rattle.agv_world.specs.declared.change.Change.TheVariants as row;
@@ -19,11 +19,7 @@ fn other_holder<F: Floor>(
     key: &VehicleKey,
     thing: &Thing,
 ) -> Result<Option<VehicleKey>, Fault>
-    ensures told { F.is_clean floor.new → IfOk result (λ by. (by ≡ other_holder key.now (finite.get (rows_of (F.world floor.old)).holds thing.now)) × (F.world floor.new ≡ F.world floor.old)) }
-    ensures left { F.is_clean floor.new → F.is_open floor.new → OnErr result (F.world floor.new ≡ F.world floor.old) }
-    ensures earlier { F.is_clean floor.new → F.is_clean floor.old × (F.is_open floor.new → F.is_open floor.old) }
-    ensures fails { Fails result (F.failed floor.old) (F.failed floor.new) }
-    ensures same { F.seats floor.new ≡ F.seats floor.old }
+    ensures { Asks F.facts floor.old floor.new result (λ world by. by ≡ other_holder key.now (finite.get (rows_of world).holds thing.now)) }
 {
     match floor.holder(*thing)? {
         Some(by) if by != *key => Ok(Some(by)),
@@ -37,11 +33,7 @@ pub(crate) fn first_held<F: Floor>(
     key: &VehicleKey,
     things: &[Thing],
 ) -> Result<Option<(Thing, VehicleKey)>, Fault>
-    ensures told { F.is_clean floor.new → IfOk result (λ held. (held ≡ first_held (rows_of (F.world floor.old)).holds key.now things.now) × (F.world floor.new ≡ F.world floor.old)) }
-    ensures left { F.is_clean floor.new → F.is_open floor.new → OnErr result (F.world floor.new ≡ F.world floor.old) }
-    ensures earlier { F.is_clean floor.new → F.is_clean floor.old × (F.is_open floor.new → F.is_open floor.old) }
-    ensures fails { Fails result (F.failed floor.old) (F.failed floor.new) }
-    ensures same { F.seats floor.new ≡ F.seats floor.old }
+    ensures { Asks F.facts floor.old floor.new result (λ world held. held ≡ first_held (rows_of world).holds key.now things.now) }
 {
     for thing in things {
         if let Some(by) = other_holder(floor, key, thing)? {

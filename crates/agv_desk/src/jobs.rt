@@ -1,14 +1,14 @@
 //! The calls of jobs.
-ghost use Rattle.std.specs.Prelude.{◌≡◌, IfOk, OnErr, Some, is_some};
+ghost use Rattle.std.specs.Prelude.{◌≡◌, IfOk, Some, is_some};
 ghost use Rattle.agv_stock.specs.Checks.{is_stored};
-ghost use Rattle.agv_world.specs.Fails.{Fails};
-ghost use Rattle.agv_desk.specs.LoadSteps.{station_in, is_waiting, add_job, stop_job};
-ghost use Rattle.agv_desk.specs.Outcomes.{decided};
+ghost use Rattle.agv_world.specs.Asks.{Asks};
+ghost use Rattle.agv_desk.specs.LoadSteps.{station_in, is_waiting, add_job, job_written, stop_job};
+ghost use Rattle.agv_desk.specs.Outcomes.{Made, decided};
 
 use crate::decisions::{made, refused};
 use crate::loads::{MOST, goal_at, is_in_job, is_known};
 use crate::{Answer, Decision};
-use agv_header::{Name, Refusal};
+use agv_header::{Memory, Name, Refusal};
 use agv_stock::{Phase, Place, can_job};
 use agv_world::{Change, Counted, Fault, Floor, JobRow};
 use std::alloc::Global;
@@ -34,6 +34,15 @@ pub(crate) fn is_waiting(phase: Phase) -> bool
     }
 }
 
+// A job is written.
+fn job_written(alloc: Global, job: Name, row: JobRow) -> Result<Decision, Memory>
+    ensures { IfOk result (λ decision. decision ≡ decided (Made (job_written job row))) }
+{
+    let mut changes = Vec::new(alloc);
+    changes.push(Change::Job(job, row))?;
+    Ok(made(Answer::Done, changes))
+}
+
 /// A load is to be carried to a station.
 pub(crate) fn add_job<F: Floor>(
     alloc: Global,
@@ -42,11 +51,7 @@ pub(crate) fn add_job<F: Floor>(
     load: Name,
     to: Name,
 ) -> Result<Decision, Fault>
-    ensures told { F.is_clean floor.new → IfOk result (λ decision. (decision ≡ decided (add_job (F.world floor.old) job load to)) × (F.world floor.new ≡ F.world floor.old)) }
-    ensures left { F.is_clean floor.new → F.is_open floor.new → OnErr result (F.world floor.new ≡ F.world floor.old) }
-    ensures earlier { F.is_clean floor.new → F.is_clean floor.old × (F.is_open floor.new → F.is_open floor.old) }
-    ensures fails { Fails result (F.failed floor.old) (F.failed floor.new) }
-    ensures same { F.seats floor.new ≡ F.seats floor.old }
+    ensures { Asks F.facts floor.old floor.new result (λ world decision. decision ≡ decided (add_job world job load to)) }
 {
     if floor.job(job)?.is_some() {
         return Ok(refused(alloc, Refusal::Exists));
@@ -74,18 +79,12 @@ pub(crate) fn add_job<F: Floor>(
         target: to,
         phase: Phase::Waiting,
     };
-    let mut changes = Vec::new(alloc);
-    changes.push(Change::Job(job, row))?;
-    Ok(made(Answer::Done, changes))
+    Ok(job_written(alloc, job, row)?)
 }
 
 /// A job that waits is taken back.
 pub(crate) fn stop_job<F: Floor>(alloc: Global, floor: &mut F, job: Name) -> Result<Decision, Fault>
-    ensures told { F.is_clean floor.new → IfOk result (λ decision. (decision ≡ decided (stop_job (F.world floor.old) job)) × (F.world floor.new ≡ F.world floor.old)) }
-    ensures left { F.is_clean floor.new → F.is_open floor.new → OnErr result (F.world floor.new ≡ F.world floor.old) }
-    ensures earlier { F.is_clean floor.new → F.is_clean floor.old × (F.is_open floor.new → F.is_open floor.old) }
-    ensures fails { Fails result (F.failed floor.old) (F.failed floor.new) }
-    ensures same { F.seats floor.new ≡ F.seats floor.old }
+    ensures { Asks F.facts floor.old floor.new result (λ world decision. decision ≡ decided (stop_job world job)) }
 {
     let Some(row) = floor.job(job)? else {
         return Ok(refused(alloc, Refusal::NoJob));
@@ -97,7 +96,5 @@ pub(crate) fn stop_job<F: Floor>(alloc: Global, floor: &mut F, job: Name) -> Res
         phase: Phase::Stopped,
         ..row
     };
-    let mut changes = Vec::new(alloc);
-    changes.push(Change::Job(job, stopped))?;
-    Ok(made(Answer::Done, changes))
+    Ok(job_written(alloc, job, stopped)?)
 }

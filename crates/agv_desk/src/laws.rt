@@ -1,5 +1,5 @@
 //! What holds of the rules, for every world and call. Each function says it by its clause alone.
-ghost use Rattle.std.specs.Prelude.{◌≡◌, ℕ, true, List, [], ◌++◌};
+ghost use Rattle.std.specs.Prelude.{◌≡◌, ℕ, true, false, List, [], ◌++◌};
 ghost use Rattle.std.specs.List.{list_all};
 ghost use Rattle.agv_header.specs.declared.key.VehicleKey.{VehicleKey};
 ghost use Rattle.agv_header.specs.declared.refusal.Refusal.{Refusal as RefusalOf};
@@ -11,9 +11,11 @@ ghost use Rattle.agv_desk.specs.Causes.{is_refusal, moves_for};
 ghost use Rattle.agv_desk.specs.InOrder.{IsInOrder};
 ghost use Rattle.agv_desk.specs.Moves.{moves_in, moves_made};
 ghost use Rattle.agv_desk.specs.Outcomes.{Effect, Move, Refused, after, answer_of, changes_of, decided, moves_of};
-ghost use Rattle.agv_desk.specs.ReadSteps.{get_instant, get_load, get_order, get_vehicle};
+ghost use Rattle.agv_desk.specs.Refusals.{IsOfCall};
 ghost use Rattle.agv_desk.specs.StateSteps.{take_state};
 ghost use Rattle.agv_desk.specs.Step.{step, steps, answers, moves};
+ghost use Rattle.agv_desk.specs.Unchanged.{ChangesNothing, IsOld, only_tells};
+ghost use Rattle.agv_desk.specs.declared.answer.Answer.TheVariants as answer;
 ghost use Rattle.agv_desk.specs.declared.call.Call.{Call};
 ghost use Rattle.agv_desk.specs.declared.call.Call.TheVariants as call;
 
@@ -59,7 +61,12 @@ pub fn refuses_without_change()
 /// Nor does a call whose answer is a refusal.
 pub fn leaves_all_where_it_refuses()
     ensures { (seats : ℕ) (world : World) (at : ℕ) (call : Call) → is_refusal (answer_of (step seats world at call)) ≡ true
-        → (after world (step seats world at call) ≡ world) × ((decided (step seats world at call)).changes ≡ []) }
+        → ChangesNothing world (step seats world at call) }
+{}
+
+/// The refusal of a call is one of calls, never one of a request that is no call, nor of the machine.
+pub fn refuses_as_calls_are_refused()
+    ensures { (seats : ℕ) (world : World) (at : ℕ) (call : Call) (why : RefusalOf) → answer_of (step seats world at call) ≡ answer.Refused why → IsOfCall why }
 {}
 
 /// A registration registers a load, a correction, a leave and a stocktake record where loads are, a state finishes acts,
@@ -71,13 +78,13 @@ pub fn moves_for_its_cause()
 
 /// A call that only tells changes nothing.
 pub fn tells_without_change()
-    ensures order { (world : World) (key : VehicleKey) → after world (get_order world key) ≡ world }
-    ensures instant { (world : World) (key : VehicleKey) → after world (get_instant world key) ≡ world }
-    ensures load { (world : World) (load : List ℕ) → after world (get_load world load) ≡ world }
-    ensures vehicle { (world : World) (key : VehicleKey) → after world (get_vehicle world key) ≡ world }
-    ensures stock { (seats : ℕ) (world : World) (at : ℕ) → after world (step seats world at call.StockReport) ≡ world }
-    ensures holds { (seats : ℕ) (world : World) (at : ℕ) → after world (step seats world at call.HoldReport) ≡ world }
-    ensures export { (seats : ℕ) (world : World) (at : ℕ) → after world (step seats world at call.LoadsExport) ≡ world }
+    ensures { (seats : ℕ) (world : World) (at : ℕ) (call : Call) → only_tells call ≡ true → ChangesNothing world (step seats world at call) }
+{}
+
+/// Nor does a state that is no newer than the last one of its vehicle that was accepted: it is answered so.
+pub fn leaves_all_for_an_old_state()
+    ensures { (seats : ℕ) (world : World) (at : ℕ) (key : VehicleKey) (state : Message) → IsOld world key state
+        → (answer_of (step seats world at (call.State key state)) ≡ answer.Accepted false) × ChangesNothing world (step seats world at (call.State key state)) }
 {}
 
 /// Calls are served one after the other: those that come later meet the world that the earlier ones have left.

@@ -1,6 +1,6 @@
 //! The call that sets the layout.
-ghost use Rattle.std.specs.Prelude.{◌≡◌, IfOk, IfErr, OnErr, map};
-ghost use Rattle.agv_world.specs.Fails.{Fails};
+ghost use Rattle.std.specs.Prelude.{◌≡◌, IfOk, IfErr, map};
+ghost use Rattle.agv_world.specs.Asks.{Asks};
 ghost use Rattle.agv_world.specs.TableChanges.{layout_changes};
 ghost use Rattle.agv_desk.specs.LayoutSteps.{IsWhy, lay, row_written, set_layout};
 ghost use Rattle.agv_desk.specs.Outcomes.{decided};
@@ -89,11 +89,7 @@ pub(crate) fn set_layout<F: Floor>(
     floor: &mut F,
     rows: &[LayoutRow],
 ) -> Result<Decision, Fault>
-    ensures told { F.is_clean floor.new → IfOk result (λ decision. (decision ≡ decided (set_layout (F.world floor.old) rows.now)) × (F.world floor.new ≡ F.world floor.old)) }
-    ensures left { F.is_clean floor.new → F.is_open floor.new → OnErr result (F.world floor.new ≡ F.world floor.old) }
-    ensures earlier { F.is_clean floor.new → F.is_clean floor.old × (F.is_open floor.new → F.is_open floor.old) }
-    ensures fails { Fails result (F.failed floor.old) (F.failed floor.new) }
-    ensures same { F.seats floor.new ≡ F.seats floor.old }
+    ensures { Asks F.facts floor.old floor.new result (λ world decision. decision ≡ decided (set_layout world rows.now)) }
 {
     if floor.layout()?.is_some() {
         return Ok(refused(alloc, Refusal::LayoutSet));

@@ -5,6 +5,7 @@
 //! - [`decide`] asks a floor what it needs to know, and gives a [`Decision`]: the [`Answer`] of that table, and the
 //!   rows that change. Each call is one private function, in a file for its family; `table` has them all.
 //! - [`moves_of`] tells which loads a decision moves, and where to, in their order.
+//! - [`counted_by`] tells to which count a call has added one; the counts follow it ([`count_laws`]).
 //! - [`laws`] says that the rows which change take the rows of the world to those of the world after the call.
 //! - From a lawful world each call leads to a lawful world ([`lawful_laws`], of the halves [`vehicle_laws`] and
 //!   [`cargo_laws`]), and so does each list of calls; what else holds of lists is in [`history_laws`].
@@ -14,6 +15,8 @@ mod acts;
 mod answer;
 mod call;
 pub mod cargo_laws;
+pub mod count_laws;
+mod counts;
 mod decisions;
 pub mod history_laws;
 mod holds;
@@ -39,5 +42,6 @@ mod vehicles;
 
 pub use answer::{Answer, Decision, OpenOrder};
 pub use call::Call;
+pub use counts::counted_by;
 pub use moves::moves_of;
 pub use table::decide;

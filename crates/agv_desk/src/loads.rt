@@ -1,16 +1,16 @@
 //! The calls of loads.
-ghost use Rattle.std.specs.Prelude.{◌≡◌, ◌≢◌, IfOk, OnErr};
+ghost use Rattle.std.specs.Prelude.{◌≡◌, ◌≢◌, IfOk};
 ghost use Rattle.agv_stock.specs.Checks.{is_known};
 ghost use Rattle.agv_stock.specs.Room.{has_left};
 ghost use Rattle.agv_stock.specs.declared.goal.Goal.TheVariants as goals;
-ghost use Rattle.agv_world.specs.Fails.{Fails};
+ghost use Rattle.agv_world.specs.Asks.{Asks};
 ghost use Rattle.agv_world.specs.declared.change.Change.TheVariants as row;
-ghost use Rattle.agv_desk.specs.LoadSteps.{goal_at, goal_of, is_in_job, is_new, place_of, reference_key, register_load, correct_load, leave_load};
-ghost use Rattle.agv_desk.specs.Outcomes.{decided};
+ghost use Rattle.agv_desk.specs.LoadSteps.{goal_at, goal_of, is_in_job, is_new, place_of, reference_key, register_load, correct_load, leave_load, recorded, registered};
+ghost use Rattle.agv_desk.specs.Outcomes.{Made, decided};
 
 use crate::decisions::{made, refused};
 use crate::{Answer, Decision};
-use agv_header::{Name, Refusal};
+use agv_header::{Memory, Name, Refusal};
 use agv_stock::{Goal, Place, can_correct, can_leave, can_register};
 use agv_world::{Change, Counted, Fault, Floor, UseKey, UseKind};
 use std::alloc::Global;
@@ -31,11 +31,7 @@ pub(crate) fn goal_at(station: Name, room: Option<u32>) -> Goal
 
 // Where a load is to go, with what is known of the place.
 fn goal_of<F: Floor>(floor: &mut F, station: Option<Name>) -> Result<Goal, Fault>
-    ensures told { F.is_clean floor.new → IfOk result (λ goal. (goal ≡ goal_of (F.world floor.old) station) × (F.world floor.new ≡ F.world floor.old)) }
-    ensures left { F.is_clean floor.new → F.is_open floor.new → OnErr result (F.world floor.new ≡ F.world floor.old) }
-    ensures earlier { F.is_clean floor.new → F.is_clean floor.old × (F.is_open floor.new → F.is_open floor.old) }
-    ensures fails { Fails result (F.failed floor.old) (F.failed floor.new) }
-    ensures same { F.seats floor.new ≡ F.seats floor.old }
+    ensures { Asks F.facts floor.old floor.new result (λ world goal. goal ≡ goal_of world station) }
 {
     let Some(station) = station else {
         return Ok(Goal::Checking);
@@ -75,22 +71,14 @@ fn place_of(station: Option<Name>) -> Place
 
 // Whether a reference was not used yet.
 pub(crate) fn is_new<F: Floor>(floor: &mut F, reference: Name) -> Result<bool, Fault>
-    ensures told { F.is_clean floor.new → IfOk result (λ new. (new ≡ is_new (F.world floor.old) reference) × (F.world floor.new ≡ F.world floor.old)) }
-    ensures left { F.is_clean floor.new → F.is_open floor.new → OnErr result (F.world floor.new ≡ F.world floor.old) }
-    ensures earlier { F.is_clean floor.new → F.is_clean floor.old × (F.is_open floor.new → F.is_open floor.old) }
-    ensures fails { Fails result (F.failed floor.old) (F.failed floor.new) }
-    ensures same { F.seats floor.new ≡ F.seats floor.old }
+    ensures { Asks F.facts floor.old floor.new result (λ world new. new ≡ is_new world reference) }
 {
     Ok(!floor.used(UseKind::Reference, reference)?)
 }
 
 // Whether a load is in a live job.
 pub(crate) fn is_in_job<F: Floor>(floor: &mut F, load: Name) -> Result<bool, Fault>
-    ensures told { F.is_clean floor.new → IfOk result (λ live. (live ≡ is_in_job (F.world floor.old) load) × (F.world floor.new ≡ F.world floor.old)) }
-    ensures left { F.is_clean floor.new → F.is_open floor.new → OnErr result (F.world floor.new ≡ F.world floor.old) }
-    ensures earlier { F.is_clean floor.new → F.is_clean floor.old × (F.is_open floor.new → F.is_open floor.old) }
-    ensures fails { Fails result (F.failed floor.old) (F.failed floor.new) }
-    ensures same { F.seats floor.new ≡ F.seats floor.old }
+    ensures { Asks F.facts floor.old floor.new result (λ world live. live ≡ is_in_job world load) }
 {
     Ok(floor.job_of(load)?.is_some())
 }
@@ -105,6 +93,25 @@ pub(crate) fn reference_used(reference: Name) -> Change
     })
 }
 
+// A load is registered there.
+fn registered(alloc: Global, load: Name, to: Place) -> Result<Decision, Memory>
+    ensures { IfOk result (λ decision. decision ≡ decided (Made (registered load to))) }
+{
+    let mut changes = Vec::new(alloc);
+    changes.push(Change::Load(load, to))?;
+    Ok(made(Answer::Done, changes))
+}
+
+// A load is recorded there, and the reference is used.
+fn recorded(alloc: Global, load: Name, to: Place, reference: Name) -> Result<Decision, Memory>
+    ensures { IfOk result (λ decision. decision ≡ decided (Made (recorded load to reference))) }
+{
+    let mut changes = Vec::new(alloc);
+    changes.push(Change::Load(load, to))?;
+    changes.push(reference_used(reference))?;
+    Ok(made(Answer::Done, changes))
+}
+
 /// Registers a load.
 pub(crate) fn register_load<F: Floor>(
     alloc: Global,
@@ -112,11 +119,7 @@ pub(crate) fn register_load<F: Floor>(
     load: Name,
     station: Option<Name>,
 ) -> Result<Decision, Fault>
-    ensures told { F.is_clean floor.new → IfOk result (λ decision. (decision ≡ decided (register_load (F.world floor.old) load station)) × (F.world floor.new ≡ F.world floor.old)) }
-    ensures left { F.is_clean floor.new → F.is_open floor.new → OnErr result (F.world floor.new ≡ F.world floor.old) }
-    ensures earlier { F.is_clean floor.new → F.is_clean floor.old × (F.is_open floor.new → F.is_open floor.old) }
-    ensures fails { Fails result (F.failed floor.old) (F.failed floor.new) }
-    ensures same { F.seats floor.new ≡ F.seats floor.old }
+    ensures { Asks F.facts floor.old floor.new result (λ world decision. decision ≡ decided (register_load world load station)) }
 {
     let place = floor.place(load)?;
     if place.is_some() {
@@ -129,9 +132,7 @@ pub(crate) fn register_load<F: Floor>(
     if floor.count(Counted::Loads)? >= MOST {
         return Ok(refused(alloc, Refusal::Limit));
     }
-    let mut changes = Vec::new(alloc);
-    changes.push(Change::Load(load, place_of(station)))?;
-    Ok(made(Answer::Done, changes))
+    Ok(registered(alloc, load, place_of(station))?)
 }
 
 /// Corrects where a load is recorded.
@@ -142,11 +143,7 @@ pub(crate) fn correct_load<F: Floor>(
     reference: Name,
     station: Option<Name>,
 ) -> Result<Decision, Fault>
-    ensures told { F.is_clean floor.new → IfOk result (λ decision. (decision ≡ decided (correct_load (F.world floor.old) load reference station)) × (F.world floor.new ≡ F.world floor.old)) }
-    ensures left { F.is_clean floor.new → F.is_open floor.new → OnErr result (F.world floor.new ≡ F.world floor.old) }
-    ensures earlier { F.is_clean floor.new → F.is_clean floor.old × (F.is_open floor.new → F.is_open floor.old) }
-    ensures fails { Fails result (F.failed floor.old) (F.failed floor.new) }
-    ensures same { F.seats floor.new ≡ F.seats floor.old }
+    ensures { Asks F.facts floor.old floor.new result (λ world decision. decision ≡ decided (correct_load world load reference station)) }
 {
     if !is_new(floor, reference)? {
         return Ok(refused(alloc, Refusal::RefUsed));
@@ -168,10 +165,7 @@ pub(crate) fn correct_load<F: Floor>(
     if floor.count(Counted::References)? >= MOST {
         return Ok(refused(alloc, Refusal::Limit));
     }
-    let mut changes = Vec::new(alloc);
-    changes.push(Change::Load(load, place_of(station)))?;
-    changes.push(reference_used(reference))?;
-    Ok(made(Answer::Done, changes))
+    Ok(recorded(alloc, load, place_of(station), reference)?)
 }
 
 /// A load leaves the warehouse.
@@ -181,11 +175,7 @@ pub(crate) fn leave_load<F: Floor>(
     load: Name,
     reference: Name,
 ) -> Result<Decision, Fault>
-    ensures told { F.is_clean floor.new → IfOk result (λ decision. (decision ≡ decided (leave_load (F.world floor.old) load reference)) × (F.world floor.new ≡ F.world floor.old)) }
-    ensures left { F.is_clean floor.new → F.is_open floor.new → OnErr result (F.world floor.new ≡ F.world floor.old) }
-    ensures earlier { F.is_clean floor.new → F.is_clean floor.old × (F.is_open floor.new → F.is_open floor.old) }
-    ensures fails { Fails result (F.failed floor.old) (F.failed floor.new) }
-    ensures same { F.seats floor.new ≡ F.seats floor.old }
+    ensures { Asks F.facts floor.old floor.new result (λ world decision. decision ≡ decided (leave_load world load reference)) }
 {
     if !is_new(floor, reference)? {
         return Ok(refused(alloc, Refusal::RefUsed));
@@ -203,8 +193,5 @@ pub(crate) fn leave_load<F: Floor>(
     if floor.count(Counted::References)? >= MOST {
         return Ok(refused(alloc, Refusal::Limit));
     }
-    let mut changes = Vec::new(alloc);
-    changes.push(Change::Load(load, Place::Left))?;
-    changes.push(reference_used(reference))?;
-    Ok(made(Answer::Done, changes))
+    Ok(recorded(alloc, load, Place::Left, reference)?)
 }

@@ -1,8 +1,8 @@
 //! The jobs of an order.
-ghost use Rattle.std.specs.Prelude.{◌≡◌, ◌++◌, count_by, IfOk, OnErr, OnOk, List, ℕ, map};
+ghost use Rattle.std.specs.Prelude.{◌≡◌, ◌++◌, count_by, IfOk, OnOk, List, ℕ, map};
 ghost use Rattle.agv_order.specs.Plans.{job_named};
 ghost use Rattle.agv_order.specs.StopPlaces.{is_pick};
-ghost use Rattle.agv_world.specs.Fails.{Fails};
+ghost use Rattle.agv_world.specs.Asks.{Asks};
 ghost use Rattle.agv_world.specs.declared.change.Change.TheVariants as row;
 ghost use Rattle.agv_world.specs.declared.row.JobRow.{JobRow as RowOf};
 ghost use Rattle.agv_desk.specs.OrderSteps.{job_for, jobs_for, named, riding, riding_by, waits};
@@ -42,11 +42,7 @@ fn job_named(jobs: &[Job], name: Name) -> Option<Job>
 
 // The job of a stop. It is one of those that were found, if it was asked for before.
 fn job_for<F: Floor>(floor: &mut F, jobs: &[Job], stop: &Stop) -> Result<Option<Job>, Fault>
-    ensures told { F.is_clean floor.new → IfOk result (λ job. (AreFound (F.world floor.old) jobs.now → job ≡ job_for (F.world floor.old) stop.now) × (F.world floor.new ≡ F.world floor.old)) }
-    ensures left { F.is_clean floor.new → F.is_open floor.new → OnErr result (F.world floor.new ≡ F.world floor.old) }
-    ensures earlier { F.is_clean floor.new → F.is_clean floor.old × (F.is_open floor.new → F.is_open floor.old) }
-    ensures fails { Fails result (F.failed floor.old) (F.failed floor.new) }
-    ensures same { F.seats floor.new ≡ F.seats floor.old }
+    ensures { Asks F.facts floor.old floor.new result (λ world job. AreFound world jobs.now → job ≡ job_for world stop.now) }
 {
     if let Some(job) = job_named(jobs, stop.job) {
         return Ok(Some(job));
@@ -63,11 +59,7 @@ pub(crate) fn jobs_for<F: Floor>(
     floor: &mut F,
     stops: &[Stop],
 ) -> Result<Option<Sequence<Job>>, Fault>
-    ensures told { F.is_clean floor.new → IfOk result (λ jobs. (jobs ≡ jobs_for (F.world floor.old) stops.now) × (F.world floor.new ≡ F.world floor.old)) }
-    ensures left { F.is_clean floor.new → F.is_open floor.new → OnErr result (F.world floor.new ≡ F.world floor.old) }
-    ensures earlier { F.is_clean floor.new → F.is_clean floor.old × (F.is_open floor.new → F.is_open floor.old) }
-    ensures fails { Fails result (F.failed floor.old) (F.failed floor.new) }
-    ensures same { F.seats floor.new ≡ F.seats floor.old }
+    ensures { Asks F.facts floor.old floor.new result (λ world jobs. jobs ≡ jobs_for world stops.now) }
 {
     let mut jobs = Vec::new(alloc);
     for stop in stops {

@@ -1,6 +1,6 @@
 //! The calls that only tell.
-ghost use Rattle.std.specs.Prelude.{◌≡◌, IfOk, OnErr};
-ghost use Rattle.agv_world.specs.Fails.{Fails};
+ghost use Rattle.std.specs.Prelude.{◌≡◌, IfOk};
+ghost use Rattle.agv_world.specs.Asks.{Asks};
 ghost use Rattle.agv_world.specs.Questions.{trip_of};
 ghost use Rattle.agv_desk.specs.Outcomes.{decided, Made, told};
 ghost use Rattle.agv_desk.specs.ReadSteps.{last_header, instant_told, open_order, order_told, get_order, get_instant, get_load, get_vehicle};
@@ -84,11 +84,7 @@ pub(crate) fn get_order<F: Floor>(
     floor: &mut F,
     key: VehicleKey,
 ) -> Result<Decision, Fault>
-    ensures told { F.is_clean floor.new → IfOk result (λ decision. (IsOfSize (trip_of (F.world floor.old) key) → decision ≡ decided (get_order (F.world floor.old) key)) × (F.world floor.new ≡ F.world floor.old)) }
-    ensures left { F.is_clean floor.new → F.is_open floor.new → OnErr result (F.world floor.new ≡ F.world floor.old) }
-    ensures earlier { F.is_clean floor.new → F.is_clean floor.old × (F.is_open floor.new → F.is_open floor.old) }
-    ensures fails { Fails result (F.failed floor.old) (F.failed floor.new) }
-    ensures same { F.seats floor.new ≡ F.seats floor.old }
+    ensures { Asks F.facts floor.old floor.new result (λ world decision. IsOfSize (trip_of world key) → decision ≡ decided (get_order world key)) }
 {
     let Some(row) = floor.vehicle(key)? else {
         return Ok(refused(alloc, Refusal::NoVehicle));
@@ -103,11 +99,7 @@ pub(crate) fn get_instant<F: Floor>(
     floor: &mut F,
     key: VehicleKey,
 ) -> Result<Decision, Fault>
-    ensures told { F.is_clean floor.new → IfOk result (λ decision. (decision ≡ decided (get_instant (F.world floor.old) key)) × (F.world floor.new ≡ F.world floor.old)) }
-    ensures left { F.is_clean floor.new → F.is_open floor.new → OnErr result (F.world floor.new ≡ F.world floor.old) }
-    ensures earlier { F.is_clean floor.new → F.is_clean floor.old × (F.is_open floor.new → F.is_open floor.old) }
-    ensures fails { Fails result (F.failed floor.old) (F.failed floor.new) }
-    ensures same { F.seats floor.new ≡ F.seats floor.old }
+    ensures { Asks F.facts floor.old floor.new result (λ world decision. decision ≡ decided (get_instant world key)) }
 {
     let Some(row) = floor.vehicle(key)? else {
         return Ok(refused(alloc, Refusal::NoVehicle));
@@ -121,11 +113,7 @@ pub(crate) fn get_load<F: Floor>(
     floor: &mut F,
     load: Name,
 ) -> Result<Decision, Fault>
-    ensures told { F.is_clean floor.new → IfOk result (λ decision. (decision ≡ decided (get_load (F.world floor.old) load)) × (F.world floor.new ≡ F.world floor.old)) }
-    ensures left { F.is_clean floor.new → F.is_open floor.new → OnErr result (F.world floor.new ≡ F.world floor.old) }
-    ensures earlier { F.is_clean floor.new → F.is_clean floor.old × (F.is_open floor.new → F.is_open floor.old) }
-    ensures fails { Fails result (F.failed floor.old) (F.failed floor.new) }
-    ensures same { F.seats floor.new ≡ F.seats floor.old }
+    ensures { Asks F.facts floor.old floor.new result (λ world decision. decision ≡ decided (get_load world load)) }
 {
     let Some(place) = floor.place(load)? else {
         return Ok(refused(alloc, Refusal::NoLoad));
@@ -140,11 +128,7 @@ pub(crate) fn get_vehicle<F: Floor>(
     floor: &mut F,
     key: VehicleKey,
 ) -> Result<Decision, Fault>
-    ensures told { F.is_clean floor.new → IfOk result (λ decision. (decision ≡ decided (get_vehicle (F.world floor.old) key)) × (F.world floor.new ≡ F.world floor.old)) }
-    ensures left { F.is_clean floor.new → F.is_open floor.new → OnErr result (F.world floor.new ≡ F.world floor.old) }
-    ensures earlier { F.is_clean floor.new → F.is_clean floor.old × (F.is_open floor.new → F.is_open floor.old) }
-    ensures fails { Fails result (F.failed floor.old) (F.failed floor.new) }
-    ensures same { F.seats floor.new ≡ F.seats floor.old }
+    ensures { Asks F.facts floor.old floor.new result (λ world decision. decision ≡ decided (get_vehicle world key)) }
 {
     let Some(row) = floor.vehicle(key)? else {
         return Ok(refused(alloc, Refusal::NoVehicle));

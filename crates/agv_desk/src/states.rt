@@ -1,12 +1,16 @@
 //! The states that vehicles send.
-ghost use Rattle.std.specs.Prelude.{◌≡◌, IfOk, OnErr, Some, is_some};
+ghost use Rattle.std.specs.Prelude.{◌≡◌, ◌++◌, IfOk, List, ℕ, Some, is_some, map};
+ghost use Rattle.std.specs.List.{zip};
 ghost use Rattle.agv_track.specs.Progressed.{progressed};
 ghost use Rattle.agv_track.specs.Reports.{renewed};
-ghost use Rattle.agv_world.specs.Fails.{Fails};
+ghost use Rattle.agv_world.specs.Asks.{Asks};
 ghost use Rattle.agv_world.specs.Questions.{trip_of};
-ghost use Rattle.agv_desk.specs.Outcomes.{decided};
-ghost use Rattle.agv_desk.specs.Sizes.{IsOfSize};
-ghost use Rattle.agv_desk.specs.StateSteps.{fresh_state, heard, idle_state, is_fresh, pending_of, row_after, take_state, trip_left, trip_state};
+ghost use Rattle.agv_world.specs.VehicleChanges.{vehicle_changes};
+ghost use Rattle.agv_world.specs.declared.change.Change.TheVariants as change;
+ghost use Rattle.agv_desk.specs.JobSteps.{act_moves};
+ghost use Rattle.agv_desk.specs.Outcomes.{Move, decided};
+ghost use Rattle.agv_desk.specs.Sizes.{IsOfSize, IsShort};
+ghost use Rattle.agv_desk.specs.StateSteps.{driven, fresh_state, heard, idle_state, is_fresh, pending_of, row_after, take_state, trip_left, trip_state};
 
 use crate::acts::{move_loads, write_jobs};
 use crate::decisions::{made, noted, refused};
@@ -18,7 +22,7 @@ use agv_header::{Memory, Name, Refusal, VehicleKey};
 use agv_message::{Sequence, StateMessage, Status};
 use agv_order::{Act, Trip};
 use agv_track::{Pending, Progress, judge, judge_idle, node_at};
-use agv_world::{Fault, Floor, VehicleRow};
+use agv_world::{Change, Fault, Floor, VehicleRow};
 use std::alloc::Global;
 
 // Whether the state is newer than the last one that was accepted.
@@ -132,6 +136,28 @@ fn row_after(row: &VehicleRow, trip: &Trip, state: &StateMessage, progress: &Pro
     }
 }
 
+// The rows of a vehicle that has driven on, and of the loads that the acts move which become finished.
+fn driven(
+    alloc: Global,
+    key: &VehicleKey,
+    row: &VehicleRow,
+    trip: Trip,
+    acts: &[Act],
+    state: &StateMessage,
+    progress: &Progress,
+) -> Result<Vec<Change>, Memory>
+    requires { IsShort (Some trip) }
+    ensures { IfOk result (λ changes. changes.items ≡ vehicle_changes key.now (Some (record { row = row.now; trip = Some trip })) (driven row.now trip state.now progress.now) ++ map (λ (move : Move). change.Load move.load move.place) (act_moves key.now trip.order (zip acts.now progress.now.statuses))) }
+{
+    let next = row_after(row, &trip, state, progress);
+    let new = standing(&next, trip_left(alloc, &trip, progress)?);
+    let old = standing(row, Some(trip));
+    let mut changes = Vec::new(alloc);
+    write_vehicle(alloc, key, row, &old, next, &new, &mut changes)?;
+    move_loads(key, acts, &progress.statuses, &mut changes)?;
+    Ok(changes)
+}
+
 // The state of a vehicle on its trip.
 fn trip_state<F: Floor>(
     alloc: Global,
@@ -142,11 +168,7 @@ fn trip_state<F: Floor>(
     state: &StateMessage,
 ) -> Result<Decision, Fault>
     requires { IsOfSize (Some trip) }
-    ensures told { F.is_clean floor.new → IfOk result (λ decision. (decision ≡ decided (trip_state (F.world floor.old) key.now row.now trip state.now)) × (F.world floor.new ≡ F.world floor.old)) }
-    ensures left { F.is_clean floor.new → F.is_open floor.new → OnErr result (F.world floor.new ≡ F.world floor.old) }
-    ensures earlier { F.is_clean floor.new → F.is_clean floor.old × (F.is_open floor.new → F.is_open floor.old) }
-    ensures fails { Fails result (F.failed floor.old) (F.failed floor.new) }
-    ensures same { F.seats floor.new ≡ F.seats floor.old }
+    ensures { Asks F.facts floor.old floor.new result (λ world decision. decision ≡ decided (trip_state world key.now row.now trip state.now)) }
 {
     let progress = match judge(&trip, pending_of(row), state) {
         Ok(progress) => progress,
@@ -155,12 +177,7 @@ fn trip_state<F: Floor>(
     let ended = progress.end.is_some();
     let copied = trip.acts.copy()?;
     let acts = copied.as_slice();
-    let next = row_after(row, &trip, state, &progress);
-    let new = standing(&next, trip_left(alloc, &trip, &progress)?);
-    let old = standing(row, Some(trip));
-    let mut changes = Vec::new(alloc);
-    write_vehicle(alloc, key, row, &old, next, &new, &mut changes)?;
-    move_loads(key, acts, &progress.statuses, &mut changes)?;
+    let mut changes = driven(alloc, key, row, trip, acts, state, &progress)?;
     write_jobs(floor, ended, acts, &progress.statuses, &mut changes)?;
     Ok(made(Answer::Accepted(true), changes))
 }
@@ -175,11 +192,7 @@ fn fresh_state<F: Floor>(
     state: &StateMessage,
 ) -> Result<Decision, Fault>
     requires { IsOfSize trip }
-    ensures told { F.is_clean floor.new → IfOk result (λ decision. (decision ≡ decided (fresh_state (F.world floor.old) key.now row.now trip state.now)) × (F.world floor.new ≡ F.world floor.old)) }
-    ensures left { F.is_clean floor.new → F.is_open floor.new → OnErr result (F.world floor.new ≡ F.world floor.old) }
-    ensures earlier { F.is_clean floor.new → F.is_clean floor.old × (F.is_open floor.new → F.is_open floor.old) }
-    ensures fails { Fails result (F.failed floor.old) (F.failed floor.new) }
-    ensures same { F.seats floor.new ≡ F.seats floor.old }
+    ensures { Asks F.facts floor.old floor.new result (λ world decision. decision ≡ decided (fresh_state world key.now row.now trip state.now)) }
 {
     let Some(trip) = trip else {
         return Ok(idle_state(alloc, key, row, state)?);
@@ -200,11 +213,7 @@ pub(crate) fn take_state<F: Floor>(
     key: &VehicleKey,
     state: &StateMessage,
 ) -> Result<Decision, Fault>
-    ensures told { F.is_clean floor.new → IfOk result (λ decision. (IsOfSize (trip_of (F.world floor.old) key.now) → decision ≡ decided (take_state (F.world floor.old) key.now state.now)) × (F.world floor.new ≡ F.world floor.old)) }
-    ensures left { F.is_clean floor.new → F.is_open floor.new → OnErr result (F.world floor.new ≡ F.world floor.old) }
-    ensures earlier { F.is_clean floor.new → F.is_clean floor.old × (F.is_open floor.new → F.is_open floor.old) }
-    ensures fails { Fails result (F.failed floor.old) (F.failed floor.new) }
-    ensures same { F.seats floor.new ≡ F.seats floor.old }
+    ensures { Asks F.facts floor.old floor.new result (λ world decision. IsOfSize (trip_of world key.now) → decision ≡ decided (take_state world key.now state.now)) }
 {
     let Some(row) = floor.vehicle(*key)? else {
         return Ok(refused(alloc, Refusal::NoVehicle));

@@ -1,7 +1,7 @@
 //! Stocktakes: what was counted, against what is recorded.
-ghost use Rattle.std.specs.Prelude.{◌≡◌, ◌++◌, ◌∷◌, [], true, map, filter_map, length, IfOk, OnErr};
+ghost use Rattle.std.specs.Prelude.{◌≡◌, ◌++◌, ◌∷◌, [], true, map, filter_map, length, IfOk};
 ghost use Rattle.agv_stock.specs.declared.place.Place.{Place as PlaceOf};
-ghost use Rattle.agv_world.specs.Fails.{Fails};
+ghost use Rattle.agv_world.specs.Asks.{Asks};
 ghost use Rattle.agv_world.specs.declared.change.Change.TheVariants as row;
 ghost use Rattle.agv_desk.specs.CountParts.{count_by_parts, counted_effect, found_in, sightings, stations_in};
 ghost use Rattle.agv_desk.specs.LoadSteps.{reference_key};
@@ -73,11 +73,7 @@ fn count_loads<F: Floor>(
     count: &Count,
     seen: &[Sighting],
 ) -> Result<Decision, Fault>
-    ensures told { F.is_clean floor.new → IfOk result (λ decision. (decision ≡ decided (count_by_parts (F.world floor.old) reference count.now.stations count.now.found seen.now)) × (F.world floor.new ≡ F.world floor.old)) }
-    ensures left { F.is_clean floor.new → F.is_open floor.new → OnErr result (F.world floor.new ≡ F.world floor.old) }
-    ensures earlier { F.is_clean floor.new → F.is_clean floor.old × (F.is_open floor.new → F.is_open floor.old) }
-    ensures fails { Fails result (F.failed floor.old) (F.failed floor.new) }
-    ensures same { F.seats floor.new ≡ F.seats floor.old }
+    ensures { Asks F.facts floor.old floor.new result (λ world decision. decision ≡ decided (count_by_parts world reference count.now.stations count.now.found seen.now)) }
 {
     if finds_aboard(seen) {
         return Ok(refused(alloc, Refusal::OnVehicle));
@@ -106,11 +102,7 @@ pub(crate) fn take_stock<F: Floor>(
     reference: Name,
     rows: &[(Name, Option<Name>)],
 ) -> Result<Decision, Fault>
-    ensures told { F.is_clean floor.new → IfOk result (λ decision. (decision ≡ decided (take_stock (F.world floor.old) reference rows.now)) × (F.world floor.new ≡ F.world floor.old)) }
-    ensures left { F.is_clean floor.new → F.is_open floor.new → OnErr result (F.world floor.new ≡ F.world floor.old) }
-    ensures earlier { F.is_clean floor.new → F.is_clean floor.old × (F.is_open floor.new → F.is_open floor.old) }
-    ensures fails { Fails result (F.failed floor.old) (F.failed floor.new) }
-    ensures same { F.seats floor.new ≡ F.seats floor.old }
+    ensures { Asks F.facts floor.old floor.new result (λ world decision. decision ≡ decided (take_stock world reference rows.now)) }
 {
     if floor.used(UseKind::Reference, reference)? {
         return Ok(refused(alloc, Refusal::RefUsed));

@@ -1,7 +1,7 @@
 //! What a call is answered, and the rows that it changes.
-ghost use Rattle.std.specs.Prelude.{◌≡◌, IfOk, OnOk, OnErr};
+ghost use Rattle.std.specs.Prelude.{◌≡◌};
 ghost use Rattle.agv_world.specs.Changes.{changed};
-ghost use Rattle.agv_world.specs.Fails.{Fails};
+ghost use Rattle.agv_world.specs.Asks.{Asks};
 ghost use Rattle.agv_world.specs.Rows.{rows_of};
 ghost use Rattle.agv_desk.specs.InOrder.{IsInOrder};
 ghost use Rattle.agv_desk.specs.Outcomes.{after, decided};
@@ -31,11 +31,7 @@ fn decide_each<F: Floor>(
     at: Moment,
     call: &Call,
 ) -> Result<Decision, Fault>
-    ensures told { F.is_clean floor.new → IfOk result (λ decision. (IsServed (F.world floor.old) call.now → decision ≡ decided (step (F.seats floor.old) (F.world floor.old) at call.now)) × (F.world floor.new ≡ F.world floor.old)) }
-    ensures left { F.is_clean floor.new → F.is_open floor.new → OnErr result (F.world floor.new ≡ F.world floor.old) }
-    ensures earlier { F.is_clean floor.new → F.is_clean floor.old × (F.is_open floor.new → F.is_open floor.old) }
-    ensures fails { Fails result (F.failed floor.old) (F.failed floor.new) }
-    ensures same { F.seats floor.new ≡ F.seats floor.old }
+    ensures { Asks F.facts floor.old floor.new result (λ world decision. IsServed world call.now → decision ≡ decided (step (F.facts.seats floor.old) world at call.now)) }
 {
     match call {
         Call::SetLayout { rows } => set_layout(alloc, floor, rows.as_slice()),
@@ -91,11 +87,12 @@ fn decide_each<F: Floor>(
 /// What a call is answered at a moment in the world of a floor, and the rows that it changes.
 ///
 /// The answer is that of the table of calls (`specs/Step.antt`), and from a world in order the changes take the rows of
-/// the world to the rows of the world after the call; a call that is refused or only tells changes nothing. The floor is
-/// asked, and its world stays as it is, but after a fault that has shut the floor. All this holds where the floor's
-/// store has given back what was written to it. An update, a place, a state and the question for the last order message
-/// are answered so where the vehicle's trip has at most 200 edges and eight acts, and no more updates than released
-/// edges, as every trip of a lawful world; else with `Limit`.
+/// the world to the rows of the world after the call; a call that is refused or only tells changes nothing. An update, a
+/// place, a state and the question for the last order message are answered so where the vehicle's trip has at most 200
+/// edges and eight acts, and no more updates than released edges, as every trip of a lawful world.
+///
+/// The floor is only asked (`Asks`). So after an answer its world is the same, and after a fault too where the floor is
+/// still open; that holds, and the answer is so, where the floor's store has given back what was written to it.
 ///
 /// `Memory` where an allocation was refused, `Storage` where the floor has failed.
 #[tactic(auto, using(crate::proofs::Deciding::of_size))]
@@ -105,15 +102,10 @@ pub fn decide<F: Floor>(
     at: Moment,
     call: &Call,
 ) -> Result<Decision, Fault>
-    ensures decides { F.is_clean floor.new → IsServed (F.world floor.old) call.now
-        → IfOk result (λ decision. decision ≡ decided (step (F.seats floor.old) (F.world floor.old) at call.now)) }
-    ensures changes { F.is_clean floor.new → IsInOrder (F.world floor.old)
-        → IfOk result (λ decision. changed decision.changes (rows_of (F.world floor.old)) ≡ rows_of (after (F.world floor.old) (step (F.seats floor.old) (F.world floor.old) at call.now))) }
-    ensures kept { F.is_clean floor.new → OnOk result (F.world floor.new ≡ F.world floor.old) }
-    ensures left { F.is_clean floor.new → F.is_open floor.new → OnErr result (F.world floor.new ≡ F.world floor.old) }
-    ensures earlier { F.is_clean floor.new → F.is_clean floor.old × (F.is_open floor.new → F.is_open floor.old) }
-    ensures fails { Fails result (F.failed floor.old) (F.failed floor.new) }
-    ensures same { F.seats floor.new ≡ F.seats floor.old }
+    ensures decides { Asks F.facts floor.old floor.new result (λ world decision.
+        IsServed world call.now → decision ≡ decided (step (F.facts.seats floor.old) world at call.now)) }
+    ensures changes { Asks F.facts floor.old floor.new result (λ world decision.
+        IsInOrder world → changed decision.changes (rows_of world) ≡ rows_of (after world (step (F.facts.seats floor.old) world at call.now))) }
 {
     leads_to_the_rows();
     decide_each(alloc, floor, at, call)

@@ -1,7 +1,7 @@
 //! The call that releases more of an order.
-ghost use Rattle.std.specs.Prelude.{◌≡◌, ◌+◌, ◌==◌, IfOk, OnErr, if◌then◌else◌};
+ghost use Rattle.std.specs.Prelude.{◌≡◌, ◌+◌, ◌==◌, IfOk, if◌then◌else◌};
 ghost use Rattle.agv_order.specs.Releases.{released};
-ghost use Rattle.agv_world.specs.Fails.{Fails};
+ghost use Rattle.agv_world.specs.Asks.{Asks};
 ghost use Rattle.agv_world.specs.Questions.{trip_of};
 ghost use Rattle.agv_desk.specs.OrderSteps.{advance, can_release, is_confirmed, send_update, take_update, trip_for, update_sent};
 ghost use Rattle.agv_desk.specs.Outcomes.{Made, decided};
@@ -84,11 +84,7 @@ fn send_update<F: Floor>(
     edges: u32,
 ) -> Result<Decision, Fault>
     requires { IsOfSize (Some trip) }
-    ensures told { F.is_clean floor.new → IfOk result (λ decision. (decision ≡ decided (send_update (F.world floor.old) at key.now row.now trip update edges)) × (F.world floor.new ≡ F.world floor.old)) }
-    ensures left { F.is_clean floor.new → F.is_open floor.new → OnErr result (F.world floor.new ≡ F.world floor.old) }
-    ensures earlier { F.is_clean floor.new → F.is_clean floor.old × (F.is_open floor.new → F.is_open floor.old) }
-    ensures fails { Fails result (F.failed floor.old) (F.failed floor.new) }
-    ensures same { F.seats floor.new ≡ F.seats floor.old }
+    ensures { Asks F.facts floor.old floor.new result (λ world decision. decision ≡ decided (send_update world at key.now row.now trip update edges)) }
 {
     let Some(next) = release(&trip, edges)? else {
         return Ok(refused(alloc, Refusal::Beyond));
@@ -124,11 +120,7 @@ fn take_update<F: Floor>(
     edges: u32,
 ) -> Result<Decision, Fault>
     requires { IsOfSize (Some trip) }
-    ensures told { F.is_clean floor.new → IfOk result (λ decision. (decision ≡ decided (take_update (F.world floor.old) at key.now row.now trip update edges)) × (F.world floor.new ≡ F.world floor.old)) }
-    ensures left { F.is_clean floor.new → F.is_open floor.new → OnErr result (F.world floor.new ≡ F.world floor.old) }
-    ensures earlier { F.is_clean floor.new → F.is_clean floor.old × (F.is_open floor.new → F.is_open floor.old) }
-    ensures fails { Fails result (F.failed floor.old) (F.failed floor.new) }
-    ensures same { F.seats floor.new ≡ F.seats floor.old }
+    ensures { Asks F.facts floor.old floor.new result (λ world decision. decision ≡ decided (take_update world at key.now row.now trip update edges)) }
 {
     if !is_next(update, trip.sent) {
         return Ok(refused(alloc, Refusal::WrongUpdate { sent: trip.sent }));
@@ -155,11 +147,7 @@ pub(crate) fn advance<F: Floor>(
     update: u32,
     edges: u32,
 ) -> Result<Decision, Fault>
-    ensures told { F.is_clean floor.new → IfOk result (λ decision. (IsOfSize (trip_of (F.world floor.old) key.now) → decision ≡ decided (advance (F.world floor.old) at key.now order.now update edges)) × (F.world floor.new ≡ F.world floor.old)) }
-    ensures left { F.is_clean floor.new → F.is_open floor.new → OnErr result (F.world floor.new ≡ F.world floor.old) }
-    ensures earlier { F.is_clean floor.new → F.is_clean floor.old × (F.is_open floor.new → F.is_open floor.old) }
-    ensures fails { Fails result (F.failed floor.old) (F.failed floor.new) }
-    ensures same { F.seats floor.new ≡ F.seats floor.old }
+    ensures { Asks F.facts floor.old floor.new result (λ world decision. IsOfSize (trip_of world key.now) → decision ≡ decided (advance world at key.now order.now update edges)) }
 {
     let Some(row) = floor.vehicle(*key)? else {
         return Ok(refused(alloc, Refusal::NoVehicle));

@@ -1,11 +1,10 @@
 //! The calls of a vehicle: it is registered, placed by a person, or begins anew.
-ghost use Rattle.std.specs.Prelude.{◌≡◌, ◌++◌, ◌&&◌, nat_le, nat_lt, IfOk, OnErr, OnOk, None};
-ghost use Rattle.agv_world.specs.Fails.{Fails};
+ghost use Rattle.std.specs.Prelude.{◌≡◌, ◌++◌, ◌&&◌, nat_le, nat_lt, IfOk, None};
+ghost use Rattle.agv_world.specs.Asks.{Asks};
 ghost use Rattle.agv_world.specs.Questions.{trip_of};
-ghost use Rattle.agv_world.specs.VehicleChanges.{vehicle_changes};
-ghost use Rattle.agv_desk.specs.Outcomes.{decided};
+ghost use Rattle.agv_desk.specs.Outcomes.{Made, decided};
 ghost use Rattle.agv_desk.specs.Sizes.{IsOfSize};
-ghost use Rattle.agv_desk.specs.VehicleSteps.{new_vehicle, none_sent, place_vehicle, placed, put_down, register_vehicle, resync};
+ghost use Rattle.agv_desk.specs.VehicleSteps.{new_vehicle, none_sent, place_vehicle, placed, put_down, register_vehicle, registered, resync};
 
 use crate::acts::stop_jobs;
 use crate::decisions::{made, noted, refused};
@@ -51,19 +50,20 @@ fn new_vehicle(capacity: u32, node: Name) -> VehicleRow
     }
 }
 
-// Writes a vehicle that was not heard of yet: its row, and that it holds its node.
-#[tactic(auto, unfolding(agv_track::specs::Footprints::footprint_of))]
-fn write_new(
+// A vehicle is registered that was not heard of yet: its row, and that it holds its node.
+#[tactic(auto, unfolding(agv_track::specs::Footprints::footprint_of, crate::specs::Outcomes::decided))]
+fn registered(
+    alloc: Global,
     key: &VehicleKey,
     node: Name,
     capacity: u32,
-    changes: &mut Vec<Change>,
-) -> Result<(), Memory>
-    ensures { OnOk result (changes.new.items ≡ changes.old.items ++ vehicle_changes key.now None (new_vehicle capacity node)) }
+) -> Result<Decision, Memory>
+    ensures { IfOk result (λ decision. decision ≡ decided (Made (registered key.now node capacity))) }
 {
+    let mut changes = Vec::new(alloc);
     changes.push(Change::Vehicle(*key, new_vehicle(capacity, node)))?;
     changes.push(Change::Hold(Thing::Node(node), Some(*key)))?;
-    Ok(())
+    Ok(made(Answer::Done, changes))
 }
 
 // Whether a vehicle may be built for so many loads.
@@ -81,12 +81,9 @@ pub(crate) fn register_vehicle<F: Floor>(
     node: Name,
     capacity: u32,
 ) -> Result<Decision, Fault>
-    ensures told { F.is_clean floor.new → IfOk result (λ decision. (decision ≡ decided (register_vehicle (F.seats floor.old) (F.world floor.old) key.now node capacity)) × (F.world floor.new ≡ F.world floor.old)) }
-    ensures left { F.is_clean floor.new → F.is_open floor.new → OnErr result (F.world floor.new ≡ F.world floor.old) }
-    ensures earlier { F.is_clean floor.new → F.is_clean floor.old × (F.is_open floor.new → F.is_open floor.old) }
-    ensures fails { Fails result (F.failed floor.old) (F.failed floor.new) }
-    ensures same { F.seats floor.new ≡ F.seats floor.old }
+    ensures { Asks F.facts floor.old floor.new result (λ world decision. decision ≡ decided (register_vehicle (F.facts.seats floor.old) world key.now node capacity)) }
 {
+    let seats = floor.seats();
     if floor.vehicle(*key)?.is_some() {
         return Ok(refused(alloc, Refusal::Exists));
     }
@@ -97,12 +94,10 @@ pub(crate) fn register_vehicle<F: Floor>(
         return Ok(refused(alloc, Refusal::Held { what, by }));
     }
     let count = floor.count(Counted::Vehicles)?;
-    if count >= MOST_VEHICLES || !may_carry(capacity, floor.seats()) {
+    if count >= MOST_VEHICLES || !may_carry(capacity, seats) {
         return Ok(refused(alloc, Refusal::Limit));
     }
-    let mut changes = Vec::new(alloc);
-    write_new(key, node, capacity, &mut changes)?;
-    Ok(made(Answer::Done, changes))
+    Ok(registered(alloc, key, node, capacity)?)
 }
 
 // The row of a vehicle that a person has put on a node.
@@ -128,11 +123,7 @@ fn put_down<F: Floor>(
     node: Name,
 ) -> Result<Decision, Fault>
     requires { IsOfSize trip }
-    ensures told { F.is_clean floor.new → IfOk result (λ decision. (decision ≡ decided (put_down (F.world floor.old) key.now row.now trip reference node)) × (F.world floor.new ≡ F.world floor.old)) }
-    ensures left { F.is_clean floor.new → F.is_open floor.new → OnErr result (F.world floor.new ≡ F.world floor.old) }
-    ensures earlier { F.is_clean floor.new → F.is_clean floor.old × (F.is_open floor.new → F.is_open floor.old) }
-    ensures fails { Fails result (F.failed floor.old) (F.failed floor.new) }
-    ensures same { F.seats floor.new ≡ F.seats floor.old }
+    ensures { Asks F.facts floor.old floor.new result (λ world decision. decision ≡ decided (put_down world key.now row.now trip reference node)) }
 {
     let next = placed(row, node);
     let old = standing(row, trip);
@@ -152,11 +143,7 @@ pub(crate) fn place_vehicle<F: Floor>(
     reference: Name,
     node: Name,
 ) -> Result<Decision, Fault>
-    ensures told { F.is_clean floor.new → IfOk result (λ decision. (IsOfSize (trip_of (F.world floor.old) key.now) → decision ≡ decided (place_vehicle (F.world floor.old) key.now reference node)) × (F.world floor.new ≡ F.world floor.old)) }
-    ensures left { F.is_clean floor.new → F.is_open floor.new → OnErr result (F.world floor.new ≡ F.world floor.old) }
-    ensures earlier { F.is_clean floor.new → F.is_clean floor.old × (F.is_open floor.new → F.is_open floor.old) }
-    ensures fails { Fails result (F.failed floor.old) (F.failed floor.new) }
-    ensures same { F.seats floor.new ≡ F.seats floor.old }
+    ensures { Asks F.facts floor.old floor.new result (λ world decision. IsOfSize (trip_of world key.now) → decision ≡ decided (place_vehicle world key.now reference node)) }
 {
     if !is_new(floor, reference)? {
         return Ok(refused(alloc, Refusal::RefUsed));
@@ -196,11 +183,7 @@ pub(crate) fn resync<F: Floor>(
     floor: &mut F,
     key: &VehicleKey,
 ) -> Result<Decision, Fault>
-    ensures told { F.is_clean floor.new → IfOk result (λ decision. (decision ≡ decided (resync (F.world floor.old) key.now)) × (F.world floor.new ≡ F.world floor.old)) }
-    ensures left { F.is_clean floor.new → F.is_open floor.new → OnErr result (F.world floor.new ≡ F.world floor.old) }
-    ensures earlier { F.is_clean floor.new → F.is_clean floor.old × (F.is_open floor.new → F.is_open floor.old) }
-    ensures fails { Fails result (F.failed floor.old) (F.failed floor.new) }
-    ensures same { F.seats floor.new ≡ F.seats floor.old }
+    ensures { Asks F.facts floor.old floor.new result (λ world decision. decision ≡ decided (resync world key.now)) }
 {
     let Some(row) = floor.vehicle(*key)? else {
         return Ok(refused(alloc, Refusal::NoVehicle));

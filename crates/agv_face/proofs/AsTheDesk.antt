@@ -14,7 +14,7 @@ use Rattle.agv_world.specs.declared.row.JobRow.{JobRow}
 use Rattle.agv_desk.specs.Outcomes.{after, answer_of, require, found, checked}
 use Rattle.agv_desk.specs.Step.{step}
 use Rattle.agv_desk.specs.declared.call.Call.TheVariants as call
-use Rattle.agv_store.specs.Registered.{Registered}
+use Rattle.agv_tables.specs.loads.Registered.{Registered}
 use Rattle.agv_face.specs.AsTheDesk.{KnowsLoads, RegistersAsTheDesk, TellsAsTheDesk, BeginsAsTheDesk}
 use Rattle.agv_face.specs.Served as served
 

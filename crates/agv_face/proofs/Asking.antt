@@ -1,5 +1,5 @@
 -- What an input asks, one request after another.
-use Rattle.std.proofs.Common.{◌≡◌, ℕ, Bool, cond, List, [], ◌∷◌, ◌++◌, true, false, map, Option, Some, None, refl, sym, ap, ap₂, ◌∙◌, subst, append_assoc, append-nil}
+use Rattle.std.proofs.Common.{◌≡◌, ℕ, Bool, cond, List, [], ◌∷◌, ◌++◌, true, false, map, Option, Some, None, refl, sym, ap, ap₂, ◌∙◌}
 use Rattle.std.proofs.lemmas.List.{map-append}
 use Rattle.agv_header.specs.declared.refusal.Refusal.{Refusal}
 use Rattle.agv_desk.specs.declared.call.Call.{Call}
@@ -8,6 +8,7 @@ use Rattle.agv_http.specs.Cut.{Cut, at_end, faulty, no_more, a_fault, one_more}
 use Rattle.agv_face.specs.Calls.{call_of, call_at}
 use Rattle.agv_face.specs.Asked.{Asks}
 use Rattle.agv_http.proofs.Cuts.{one_request, not_empty, one_cut}
+use Rattle.agv_http.proofs.Joining.{cut_push, cuts_part}
 
 -- ---- a call is no last request
 
@@ -28,41 +29,30 @@ call_goes_on r c called = goes_on r c (is_last r) refl called
 
 -- ---- more at the end
 
-cut-append : (front part : List ℕ) (rs : List Request) (r : Request) → Cut front rs at_end → IsRequest part r → is_last r ≡ false → Cut (front ++ part) (rs ++ r ∷ []) at_end
-cut-append front part rs r (no_more _ nil) one more =
-    one_more (front ++ part) part [] r [] at_end (ap (λ (l : List ℕ). l ++ part) nil ∙ sym (append-nil part)) one more (no_more [] refl)
-cut-append front part rs r (one_more _ p rest x xs e is first goes later) one more =
-    one_more (front ++ part) p (rest ++ part) x (xs ++ r ∷ []) at_end (ap (λ (l : List ℕ). l ++ part) is ∙ append_assoc p rest part) first goes (cut-append rest part xs r later one more)
-
 pub asks-nil : Asks [] []
 asks-nil = ([], no_more [] refl, refl)
 
 pub asks-append : (front part : List ℕ) (calls : List Call) (r : Request) (c : Call) → Asks front calls → IsRequest part r → call_of r ≡ Some c → Asks (front ++ part) (calls ++ c ∷ [])
 asks-append front part calls r c asks one called = (
   asks.0 ++ r ∷ [],
-  cut-append front part asks.0 r asks.1 one (call_goes_on r c called),
+  cut_push front part asks.0 r asks.1 one (call_goes_on r c called),
   map-append call_of asks.0 (r ∷ []) ∙ ap₂ ◌++◌ asks.2 (ap (λ (o : Option Call). o ∷ []) called) ∙ sym (map-append Some calls (c ∷ [])),
 )
 
 -- ---- what follows the front
 
--- an input that is whole to its end is so after each front that is
-cut-rest : (front tail : List ℕ) (rs all : List Request) (calls : List Call) → Cut front rs at_end → Cut (front ++ tail) all at_end → map call_of all ≡ map Some calls → (more : List Call) × Asks tail more
-cut-rest front tail rs all calls (no_more _ nil) whole called =
-    let P : List ℕ → Type 0 = λ l. Cut (l ++ tail) all at_end in (calls, (all, subst P nil whole, called))
-cut-rest front tail rs all calls (one_more _ p rest x xs e is first goes later) (no_more _ nil) called =
-    absurd (not_empty (front ++ tail) p (rest ++ tail) x (ap (λ (l : List ℕ). l ++ tail) is ∙ append_assoc p rest tail) first nil)
-cut-rest front tail rs all [] (one_more _ p rest x xs e is first goes later) (one_more _ q s y ys d is' first' goes' later') called = absurd (cc)
-cut-rest front tail rs all (c ∷ calls) (one_more _ p rest x xs e is first goes later) (one_more _ q s y ys d is' first' goes' later') called =
-    let here : p ++ (rest ++ tail) ≡ q ++ s = sym (append_assoc p rest tail) ∙ ap (λ (l : List ℕ). l ++ tail) (sym is) ∙ is' in
-    let same = one_request p q (rest ++ tail) s x y here first first' in
-    let P : List ℕ → Type 0 = λ l. Cut l ys at_end in
-    let tails : map call_of ys ≡ map Some calls = cc in
-    cut-rest rest tail xs ys calls later (subst P (sym same.2) later') tails
+-- requests that are calls are so behind a front of them
+later_calls : (rs more : List Request) (calls : List Call) → map call_of (rs ++ more) ≡ map Some calls → (later : List Call) × (map call_of more ≡ map Some later)
+later_calls [] more calls called = (calls, called)
+later_calls (r ∷ rs) more [] called = absurd (cc)
+later_calls (r ∷ rs) more (c ∷ calls) called = let rest : map call_of (rs ++ more) ≡ map Some calls = cc in later_calls rs more calls rest
 
 -- what the input asks after a front that is whole
 pub asks-rest : (front tail : List ℕ) (calls all : List Call) → Asks front calls → Asks (front ++ tail) all → (more : List Call) × Asks tail more
-asks-rest front tail calls all asked whole = cut-rest front tail asked.0 whole.0 all asked.1 whole.1 whole.2
+asks-rest front tail calls all asked whole =
+    let part = cuts_part front tail asked.0 whole.0 at_end asked.1 whole.1 in
+    let later = later_calls asked.0 part.0 all (sym (ap (map call_of) part.1) ∙ whole.2) in
+    (later.0, (part.0, part.2, later.1))
 
 -- an input that begins with a fault asks nothing
 pub asks-fault : (bytes : List ℕ) (fault : Refusal) (calls : List Call) → IsFault bytes fault → Asks bytes calls → ⊥

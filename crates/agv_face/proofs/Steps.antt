@@ -4,10 +4,11 @@ use Rattle.std.proofs.Math.Logic.{⊎_map}
 use Rattle.std.specs.Io.KnownBytes.{Appends}
 use Rattle.sqlite_trees.specs.declared.store.Store.{Ghosts}
 use Rattle.sqlite.specs.Held.{Held}
-use Rattle.agv_store.specs.HeldLoads.{IsClean, IsLater, HoldsLoads, HoldsIfOpen}
-use Rattle.agv_store.specs.Registered.{Registered}
-use Rattle.agv_store.specs.declared.fault.Fault.{Fault}
-use Rattle.agv_store.specs.declared.fault.Fault.TheVariants as fault
+use Rattle.agv_tables.specs.sql.Connections.{IsClean, IsLater}
+use Rattle.agv_tables.specs.loads.HeldLoads.{HoldsLoads, HoldsIfOpen}
+use Rattle.agv_tables.specs.loads.Registered.{Registered}
+use Rattle.agv_tables.specs.declared.loads.fault.Fault.{Fault}
+use Rattle.agv_tables.specs.declared.loads.fault.Fault.TheVariants as fault
 use Rattle.agv_desk.specs.declared.answer.Answer.{Answer}
 use Rattle.agv_desk.specs.declared.call.Call.{Call}
 use Rattle.agv_face.specs.declared.stream.Stop.{Stop}
@@ -21,7 +22,7 @@ use Rattle.agv_face.specs.Watched.{inner_of, failures_of, FailedNever}
 use Rattle.agv_face.specs.Asked.{AsksNext}
 use Rattle.agv_http.specs.Requests.{NeedsMore}
 use Rattle.agv_face.specs.StreamEnds.{IsStreamEnd, LackedMemory}
-use Rattle.agv_store.proofs.Later.{fault_later}
+use Rattle.agv_tables.proofs.sql.Later.{fault_later}
 use Rattle.agv_face.proofs.Streaming.{HasCome, so_far, all_so_far, at_other, asks_next, kept_on, unanswered_on, part_answered_on, part_answered_first, answered-none, answered-less, failed_then}
 
 -- ---- results

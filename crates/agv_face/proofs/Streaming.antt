@@ -3,7 +3,7 @@ use Rattle.std.proofs.Common.{◌≡◌, ◌<◌, ◌-◌, length, arith, ℕ, L
 use Rattle.std.specs.Io.KnownBytes.{Appends, Consumes, IsAtEnd, Keeps}
 use Rattle.std.proofs.KnownBytes.{Appends-trans, Appends-nil, Appends-kept, Consumes-nil, Consumes-trans, Consumes-kept}
 use Rattle.std.proofs.Math.ListN.{length-drop}
-use Rattle.agv_store.specs.Registered.{Registered}
+use Rattle.agv_tables.specs.loads.Registered.{Registered}
 use Rattle.agv_desk.specs.declared.call.Call.{Call}
 use Rattle.agv_http.specs.Requests.{Request, NeedsMore, is_last}
 use Rattle.agv_face.specs.Calls.{call_of, call_at}

@@ -8,7 +8,7 @@ use Rattle.agv_desk.specs.Outcomes.{after, answer_of}
 use Rattle.agv_desk.specs.Step.{step}
 use Rattle.agv_desk.specs.declared.call.Call.{Call}
 use Rattle.agv_desk.specs.declared.call.Call.TheVariants as call
-use Rattle.agv_store.specs.Registered.{Registered, no_loads}
+use Rattle.agv_tables.specs.loads.Registered.{Registered, no_loads}
 use Rattle.agv_face.specs.Served as served
 
 -- the world knows just these loads, each at the checking place, and no job

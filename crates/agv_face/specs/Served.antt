@@ -4,7 +4,7 @@ use Rattle.std.specs.FinSet as set
 use Rattle.std.specs.Io.KnownBytes.{Appends}
 use Rattle.agv_header.specs.declared.refusal.Refusal.{Refusal}
 use Rattle.agv_header.specs.declared.refusal.Refusal.TheVariants as refusal
-use Rattle.agv_store.specs.Registered.{Registered, registration_result, after_registration}
+use Rattle.agv_tables.specs.loads.Registered.{Registered, registration_result, after_registration}
 use Rattle.agv_stock.specs.declared.place.Place.TheVariants as place
 use Rattle.agv_desk.specs.declared.answer.Answer.{Answer}
 use Rattle.agv_desk.specs.declared.answer.Answer.TheVariants as answer

@@ -1,7 +1,7 @@
 -- Which end of a stream a fault is, and which fault the end of a stream is.
 use Rattle.std.specs.Prelude.{ℕ, List, ◌++◌, codes}
-use Rattle.agv_store.specs.declared.fault.Fault.{Fault}
-use Rattle.agv_store.specs.declared.fault.Fault.TheVariants as fault
+use Rattle.agv_tables.specs.declared.loads.fault.Fault.{Fault}
+use Rattle.agv_tables.specs.declared.loads.fault.Fault.TheVariants as fault
 use Rattle.agv_face.specs.declared.stream.Stop.{Stop}
 use Rattle.agv_face.specs.declared.stream.Stop.TheVariants as stop
 use Rattle.agv_face.specs.declared.serve.LoadsFault.{LoadsFault}

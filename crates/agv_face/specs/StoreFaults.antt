@@ -3,9 +3,10 @@ use Rattle.std.specs.Prelude.{◌≡◌, ◌⊎◌, ℕ, List, Option, Ok}
 use Rattle.sqlite_trees.specs.declared.store.Store.{Ghosts}
 use Rattle.sqlite.specs.Held.{Held}
 use Rattle.agv_header.specs.Name.{IsName}
-use Rattle.agv_store.specs.HeldLoads.{IsClean, HasStorageCause, HoldsLoads}
-use Rattle.agv_store.specs.RefusedRow.{RefusesRow}
-use Rattle.agv_store.specs.Registered.{Registered, registration_result}
+use Rattle.agv_tables.specs.sql.Connections.{IsClean, HasStorageCause}
+use Rattle.agv_tables.specs.loads.HeldLoads.{HoldsLoads}
+use Rattle.agv_tables.specs.loads.RefusedRow.{RefusesRow}
+use Rattle.agv_tables.specs.loads.Registered.{Registered, registration_result}
 use Rattle.agv_desk.specs.declared.call.Call.{Call}
 use Rattle.agv_desk.specs.declared.call.Call.TheVariants as call
 use Rattle.agv_face.specs.Served.{after_all}

@@ -3,7 +3,8 @@ use Rattle.std.specs.Prelude.{◌≡◌, ◌⊎◌, ℕ, List, length, Option, I
 use Rattle.std.specs.Io.KnownBytes.{Consumes}
 use Rattle.sqlite_trees.specs.declared.store.Store.{Ghosts}
 use Rattle.sqlite.specs.Held.{Held}
-use Rattle.agv_store.specs.HeldLoads.{IsClean, HoldsLoads, HoldsIfOpen}
+use Rattle.agv_tables.specs.sql.Connections.{IsClean}
+use Rattle.agv_tables.specs.loads.HeldLoads.{HoldsLoads, HoldsIfOpen}
 use Rattle.agv_desk.specs.declared.call.Call.{Call}
 use Rattle.agv_face.specs.declared.stream.Stop.{Stop}
 use Rattle.agv_face.specs.declared.stream.Stop.TheVariants as stop

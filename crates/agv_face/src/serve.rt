@@ -1,11 +1,11 @@
 //! The stream of the registered loads.
-ghost use Rattle.agv_store.specs.HeldLoads.{IsLater};
+ghost use Rattle.agv_tables.specs.sql.Connections.{IsLater};
 ghost use Rattle.agv_face.specs.StreamEnds.{IsLoadsEnd};
 ghost use Rattle.agv_face.specs.Watched.{HadCallsAtMost};
 
 use crate::stream::{Stop, answer_calls};
 use crate::watched::Watched;
-use agv_store::Loads;
+use agv_tables::Loads;
 use sqlite::Alter;
 use std::alloc::Global;
 use std::io::{Read, Write};

@@ -1,7 +1,8 @@
 //! A stream of requests, answered one after another.
 ghost use Rattle.std.specs.Prelude.{◌≡◌, ◌≤◌, ◌+◌, drop, vec_len, vec_capacity, [], IfOk, IfErr, OnOk, OnErr};
-ghost use Rattle.agv_store.specs.HeldLoads.{IsClean, IsOpen, IsLater, HoldsLoads, KeepsLoads};
-ghost use Rattle.agv_store.specs.Registered.{Registered};
+ghost use Rattle.agv_tables.specs.sql.Connections.{IsClean, IsOpen, IsLater};
+ghost use Rattle.agv_tables.specs.loads.HeldLoads.{HoldsLoads, KeepsLoads};
+ghost use Rattle.agv_tables.specs.loads.Registered.{Registered};
 ghost use Rattle.agv_face.specs.StreamEnds.{IsStreamEnd};
 ghost use Rattle.agv_face.specs.Served.{answer_bytes, answer_to, after, registration_answer, place_answer};
 ghost use Rattle.agv_face.specs.Stepped.{IsReadOutcome, IsWriteOutcome, IsCallOutcome, IsNextOutcome};
@@ -14,7 +15,7 @@ use agv_desk::{Answer, Call};
 use agv_header::{Memory, Name, Refusal};
 use agv_http::{Heard, Routes, answer_bytes, read_request};
 use agv_stock::Place;
-use agv_store::{Fault, Loads};
+use agv_tables::{Fault, Loads};
 use sqlite::Alter;
 use std::alloc::{AllocError, Global};
 use std::io::{Read, Write};

@@ -77,7 +77,7 @@ pub enum Refusal {
     Busy,
     /// The vehicle stands between two nodes.
     Astray,
-    /// The vehicle carries a load.
+    /// The loads on the vehicle and the jobs of the order are more than it has room for.
     Loaded,
     /// The vehicle isn't ready.
     NotReady,

@@ -131,7 +131,7 @@ one_fault bytes f g (inr (inr a)) (inr (inr b)) = a.6 ∙ sym b.6
 
 -- ---- one cut
 
-last_and_not : (x y : Request) → x ≡ y → is_last x ≡ true → is_last y ≡ false → ⊥
+pub last_and_not : (x y : Request) → x ≡ y → is_last x ≡ true → is_last y ≡ false → ⊥
 last_and_not x y same last more = let both = sym last ∙ ap is_last same ∙ more in absurd (cc)
 
 pub one_cut : (bytes : List ℕ) (xs ys : List Request) (e d : Ending) → Cut bytes xs e → Cut bytes ys d → (xs ≡ ys) × (e ≡ d)

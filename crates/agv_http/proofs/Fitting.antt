@@ -1,8 +1,9 @@
 -- The answer to a call that may change something fits in the room for it.
-use Rattle.std.proofs.Common.{◌≡◌, ℕ, ◌≤◌, ◌+◌, Bool, true, false, List, length, Ok, refl, subst, sym, arith, lit≤, IsTrue}
+use Rattle.std.proofs.Common.{◌≡◌, ℕ, ◌≤◌, ◌+◌, Bool, true, false, List, length, Ok, refl, subst, sym, arith, lit≤}
 use Rattle.agv_world.specs.Worlds.{World}
 use Rattle.agv_desk.specs.Outcomes.{answer_of}
 use Rattle.agv_desk.specs.Step.{step}
+use Rattle.agv_desk.specs.Unchanged.{only_tells}
 use Rattle.agv_desk.specs.StocktakeSteps.{unknown_in}
 use Rattle.agv_desk.specs.declared.answer.Answer.{Answer}
 use Rattle.agv_desk.specs.declared.call.Call.{Call}
@@ -10,9 +11,11 @@ use Rattle.agv_desk.specs.declared.call.Call.TheVariants as call
 use Rattle.agv_http.specs.Answers.{answer_text}
 use Rattle.agv_http.specs.CallIn.{call_in}
 use Rattle.agv_http.specs.Requests.{most_body}
-use Rattle.agv_http.specs.Sizes.{IsFew, is_outcome, most_answer, names_size, only_tells, outcome_room}
+use Rattle.agv_http.specs.Sizes.{IsOfItsTypes, is_outcome, most_answer, names_size, outcome_room}
 use Rattle.agv_http.specs.declared.route.Route.{Route}
+use Rattle.agv_http.proofs.CountNames.{unknown_named}
 use Rattle.agv_http.proofs.CountSizes.{unknown_within}
+use Rattle.agv_http.proofs.Lengths.{AreFewNames, outcome_short}
 use Rattle.agv_http.proofs.Outcomes.{IsOfCount, outcome_of}
 use Rattle.agv_http.proofs.SaidCounts.{CountsWithin, counts_within}
 
@@ -50,7 +53,7 @@ told_outcome seats world at made more =
 
 -- there is room for it
 abbrev pub HasRoom : Answer → Type 0
-HasRoom a = (outcome_room a ≤ most_answer) × IsFew a
+HasRoom a = (outcome_room a ≤ most_answer) × AreFewNames a
 
 counted_room : (world : World) (made : Call) (n : ℕ) → n ≤ most_body + 1 → CountsWithin n made → IsOfCount HasRoom world made
 counted_room world (call.SetLayout rows) n less h = tt
@@ -71,8 +74,8 @@ counted_room world (call.State key state) n less h = tt
 counted_room world (call.GetOrder key) n less h = tt
 counted_room world (call.GetInstant key) n less h = tt
 counted_room world (call.Stocktake reference rows) n less h =
-    let few : names_size (unknown_in world rows) ≤ n = omega (arith, unknown_within world rows) in
-    (omega arith, omega arith)
+    let few : names_size (unknown_in world rows) ≤ n = omega (arith, unknown_within world rows, h.0) in
+    (omega arith, (omega arith, unknown_named world rows h.1))
 counted_room world (call.GetLoad load) n less h = tt
 counted_room world (call.GetVehicle key) n less h = tt
 counted_room world call.StockReport n less h = tt
@@ -91,11 +94,11 @@ pub room_of : (seats : ℕ) (world : World) (at : ℕ) (line : Route) (body : Li
 room_of seats world at line body made is short more = (has_room seats world at line body made is short more).0
 
 -- what is known of an answer at hand
-pub text_within : (a : Answer) → ((report : List ℕ) (close : Bool) → IsTrue (is_outcome a) → IsFew a → length (answer_text a report close) ≤ outcome_room a)
+pub text_within : (a : Answer) → IsOfItsTypes a
     → (seats : ℕ) (world : World) (at : ℕ) (line : Route) (body : List ℕ) (made : Call) (report : List ℕ) (close : Bool)
     → call_in line body ≡ Ok made → length body ≤ most_body → only_tells made ≡ false → a ≡ answer_of (step seats world at made)
     → length (answer_text a report close) ≤ most_answer
-text_within a short seats world at line body made report close is fits more same =
+text_within a types seats world at line body made report close is fits more same =
     let told : is_outcome a ≡ true = subst (λ (b : Answer). is_outcome b ≡ true) (sym same) (told_outcome seats world at made more) in
     let room : HasRoom a = subst HasRoom (sym same) (has_room seats world at line body made is fits more) in
-    omega (arith, room.0, short report close told room.1)
+    omega (arith, room.0, outcome_short a told types room.1 report close)

@@ -1,5 +1,5 @@
 -- How long heads and bodies are.
-use Rattle.std.proofs.Common.{◌≡◌, ◌&&◌, nat_lt, nat_le, suc, ◌≤◌, ◌<◌, ◌+◌, ◌^◌, ℕ, Bool, true, false, List, [], ◌∷◌, ◌++◌, length, Option, Some, None, All, unwrap_or, codes, decimal, ap, arith, length-append, lit<, lit≤, map, sym, subst, is_some}
+use Rattle.std.proofs.Common.{◌≡◌, ◌&&◌, nat_lt, nat_le, suc, ◌≤◌, ◌<◌, ◌+◌, ◌^◌, ℕ, Bool, true, false, List, [], ◌∷◌, ◌++◌, length, Option, Some, None, All, unwrap_or, codes, decimal, ap, arith, length-append, lit<, lit≤, map, is_some}
 use Rattle.std.specs.List.{list_all}
 use Rattle.std.proofs.lemmas.Bool.{and_parts}
 use Rattle.std.proofs.lemmas.Bool.Decides.{nat_tests}
@@ -34,9 +34,10 @@ use Rattle.agv_message.specs.Json.{list, text, truth, whole}
 use Rattle.agv_http.specs.Answers.{allowed, answer_text}
 use Rattle.agv_http.specs.Bodies.{accepted_data, counted_data, held_data, instructed_data, load_data, or_null, place_words, plain_refusal_data, refusal_data, update_data, wrong_update_data}
 use Rattle.agv_http.specs.Heads.{allow_line, connection_line, content_lines, head_text, line_end, status_line}
-use Rattle.agv_http.specs.Sizes.{IsBrief, IsFew, IsNameIfAny, IsOrderShort, IsShortIfAny, IsToldBriefly, IsVehicleShort, names_size, outcome_room}
+use Rattle.agv_http.specs.Sizes.{IsBrief, IsNameIfAny, IsOfItsTypes, IsOrderShort, IsShortIfAny, IsToldBriefly, IsVehicleShort, is_outcome, names_size, outcome_room}
 use Rattle.agv_http.specs.VehicleBody.{vehicle_data, vehicle_parts}
-use Rattle.agv_http.proofs.Escapes.{escape-name, escape-key, escape-decimal}
+use Rattle.agv_message.proofs.Escapes.{escape-name, escape-decimal}
+use Rattle.agv_http.proofs.Escapes.{escape-key}
 use Rattle.agv_http.proofs.RefusalNames.{escape-refusal}
 use Rattle.agv_http.proofs.ShortRefusals.{short_refusal}
 
@@ -303,29 +304,27 @@ unfolding answer_text
 counted_brief moved unknown report close h few all =
     omega (arith, whole_length 200 (Some (codes "application/json")) None close (compact_text (counted_data moved unknown)) (256 + names_size unknown) (lit< tt) (lit≤ tt) (lit≤ tt) (omega arith) (counted_length moved unknown h all))
 
--- an outcome in few words
-pub brief_outcome : (a : Answer) (report : List ℕ) (close : Bool) → IsBrief a → length (answer_text a report close) ≤ outcome_room a
-brief_outcome (answer.Refused r) report close h = brief (answer.Refused r) report close h
-brief_outcome answer.Done report close h = brief answer.Done report close h
-brief_outcome (answer.Update n) report close h = brief (answer.Update n) report close h
-brief_outcome (answer.Instructed n) report close h = brief (answer.Instructed n) report close h
-brief_outcome (answer.Accepted b) report close h = brief (answer.Accepted b) report close h
-brief_outcome answer.NoMessage report close h = brief answer.NoMessage report close h
-brief_outcome (answer.Order header order) report close h = absurd h
-brief_outcome (answer.Instant header instant) report close h = absurd h
-brief_outcome (answer.Counted moved unknown) report close h = absurd h
-brief_outcome (answer.Load load place job) report close h = absurd h
-brief_outcome (answer.Vehicle key row order) report close h = absurd h
-brief_outcome answer.StockReport report close h = absurd h
-brief_outcome answer.HoldReport report close h = absurd h
-brief_outcome answer.LoadsExport report close h = absurd h
+-- the unknown names of a count are names, and fewer than 4 GiB
+abbrev pub AreFewNames : Answer → Type 0
+AreFewNames (answer.Counted moved unknown) = (names_size unknown < 2 ^ 32) × All IsName unknown
+AreFewNames _ = Unit {0}
 
--- the outcome of a stocktake
-pub counted_outcome : (a : Answer) (moved : ℕ) (unknown : List (List ℕ)) → a ≡ answer.Counted moved unknown → moved < 2 ^ 64 → All IsName unknown
-    → (report : List ℕ) (close : Bool) → IsFew a → length (answer_text a report close) ≤ outcome_room a
-counted_outcome a moved unknown is h all =
-    subst (λ (b : Answer). (report : List ℕ) (close : Bool) → IsFew b → length (answer_text b report close) ≤ outcome_room b) (sym is)
-    (λ report close few. counted_brief moved unknown report close h few all)
+-- an outcome
+pub outcome_short : (a : Answer) → is_outcome a ≡ true → IsOfItsTypes a → AreFewNames a → (report : List ℕ) (close : Bool) → length (answer_text a report close) ≤ outcome_room a
+outcome_short (answer.Refused r) is h few report close = brief (answer.Refused r) report close h
+outcome_short answer.Done is h few report close = brief answer.Done report close tt
+outcome_short (answer.Update n) is h few report close = brief (answer.Update n) report close h
+outcome_short (answer.Instructed n) is h few report close = brief (answer.Instructed n) report close h
+outcome_short (answer.Accepted b) is h few report close = brief (answer.Accepted b) report close tt
+outcome_short answer.NoMessage is h few report close = brief answer.NoMessage report close tt
+outcome_short (answer.Order header order) is h few report close = absurd (cc)
+outcome_short (answer.Instant header instant) is h few report close = absurd (cc)
+outcome_short (answer.Counted moved unknown) is h few report close = counted_brief moved unknown report close h few.0 few.1
+outcome_short (answer.Load load place job) is h few report close = absurd (cc)
+outcome_short (answer.Vehicle key row order) is h few report close = absurd (cc)
+outcome_short answer.StockReport is h few report close = absurd (cc)
+outcome_short answer.HoldReport is h few report close = absurd (cc)
+outcome_short answer.LoadsExport is h few report close = absurd (cc)
 
 -- what is told on a question
 

@@ -5,15 +5,14 @@ pub mod Heads
 pub mod Cuts
 pub mod Connections
 pub mod Starting
+pub mod Joining
+mod Ending
 pub mod Methods
-mod Appending
 mod Escapes
 mod LastWords
 mod Lengths
 mod RefusalNames
 mod ShortRefusals
-mod Stamps
-mod Texts
 mod Turning
 pub mod Apart
 pub mod Inserting
@@ -24,6 +23,7 @@ pub mod Served
 pub mod ServedLines
 pub mod Walks
 mod RecordSizes
+mod CountNames
 mod CountSizes
 mod Ladders
 mod Outcomes

@@ -13,13 +13,13 @@ use Rattle.agv_desk.specs.OrderSteps.{start_order, advance}
 use Rattle.agv_desk.specs.Outcomes.{answer_of}
 use Rattle.agv_desk.specs.StateSteps.{idle_state, trip_state, fresh_state, take_state}
 use Rattle.agv_desk.specs.Step.{step}
+use Rattle.agv_desk.specs.Unchanged.{only_tells}
 use Rattle.agv_desk.specs.StocktakeSteps.{Row, count_moves, take_stock, unknown_in}
 use Rattle.agv_desk.specs.VehicleSteps.{instruct, place_vehicle, register_vehicle}
 use Rattle.agv_desk.specs.declared.answer.Answer.{Answer}
 use Rattle.agv_desk.specs.declared.answer.Answer.TheVariants as answer
 use Rattle.agv_desk.specs.declared.call.Call.{Call}
 use Rattle.agv_desk.specs.declared.call.Call.TheVariants as call
-use Rattle.agv_http.specs.Sizes.{only_tells}
 use Rattle.agv_http.proofs.Ladders.{of_made, of_require, of_found, of_checked, of_unheld, of_branch, of_judged, of_given, of_planned}
 
 -- it holds of each answer that tells what was done, or why not, but for that to a stocktake

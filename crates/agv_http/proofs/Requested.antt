@@ -1,5 +1,5 @@
 -- The answer to a request fits, where it does not only ask.
-use Rattle.std.proofs.Common.{◌≡◌, ℕ, ◌≤◌, nat_lt, Bool, true, false, cond, List, length, codes, Result, Ok, Err, IsTrue, refl, sym, ap, subst, arith, lit≤}
+use Rattle.std.proofs.Common.{◌≡◌, ℕ, ◌≤◌, nat_lt, Bool, true, false, cond, List, length, codes, Result, Ok, Err, refl, sym, ap, subst, arith, lit≤}
 use Rattle.std.proofs.lemmas.Bool.Decides.{nat_tests}
 use Rattle.agv_header.specs.declared.refusal.Refusal.{Refusal}
 use Rattle.agv_header.specs.declared.refusal.Refusal.TheVariants as refusal
@@ -12,10 +12,11 @@ use Rattle.agv_http.specs.CallIn.{call_in}
 use Rattle.agv_http.specs.Lines.{Length, absent, given, wrong, content_length, has_line}
 use Rattle.agv_http.specs.Output.{call_by, call_for, outcome_by, outcome_for}
 use Rattle.agv_http.specs.Requests.{IsRequest, Request, length_needed, lines_of, most_body, sends_body}
-use Rattle.agv_http.specs.Sizes.{IsFew, is_outcome, most_answer, only_asks, outcome_room}
+use Rattle.agv_http.specs.Sizes.{IsOfItsTypes, is_outcome, most_answer, only_asks}
 use Rattle.agv_http.specs.Table.{route_at}
 use Rattle.agv_http.specs.declared.route.Route.{Route}
 use Rattle.agv_http.proofs.Fitting.{HasRoom, has_room, told_outcome}
+use Rattle.agv_http.proofs.Lengths.{outcome_short}
 
 -- ---- the body of a request
 
@@ -62,10 +63,10 @@ module _ (seats : ℕ) (world : World) (at : ℕ) where
   answer_fits bytes request is more = by_route (route_at request.method request.target) request.body (body_short bytes request is) more
 
 -- what is known of an answer at hand
-pub request_within : (a : Answer) → ((report : List ℕ) (close : Bool) → IsTrue (is_outcome a) → IsFew a → length (answer_text a report close) ≤ outcome_room a)
+pub request_within : (a : Answer) → IsOfItsTypes a
     → (seats : ℕ) (world : World) (at : ℕ) (bytes : List ℕ) (request : Request) (report : List ℕ) (close : Bool)
     → IsRequest bytes request → only_asks (call_for request) ≡ false → a ≡ answer_of (outcome_for seats world at request)
     → length (answer_text a report close) ≤ most_answer
-request_within a short seats world at bytes request report close is more same =
+request_within a types seats world at bytes request report close is more same =
     let fits : (is_outcome a ≡ true) × HasRoom a = subst (λ (b : Answer). (is_outcome b ≡ true) × HasRoom b) (sym same) (answer_fits seats world at bytes request is more) in
-    omega (arith, fits.1.0, short report close fits.0 fits.1.1)
+    omega (arith, fits.1.0, outcome_short a fits.0 types fits.1.1 report close)

@@ -1,4 +1,4 @@
--- The call that a body says names no more loads to count than fit in the body.
+-- The call that a body says names no more loads to count than fit in the body, and gives each a name.
 use Rattle.std.proofs.Common.{◌≡◌, ℕ, ◌+◌, ◌≤◌, Bool, true, false, cond, List, length, codes, Option, None, Some, Result, Ok, Err, refl, subst}
 use Rattle.serde_json.specs.Data.{Data}
 use Rattle.agv_header.specs.declared.key.VehicleKey.{VehicleKey}
@@ -21,11 +21,12 @@ use Rattle.agv_http.specs.StateBody.{from_vehicle, is_sent_by, message_in, state
 use Rattle.agv_http.specs.Tables.{call_with, count_in, layout_in}
 use Rattle.agv_http.specs.declared.route.Route.{Route}
 use Rattle.agv_http.specs.declared.route.Route.TheVariants as route
+use Rattle.agv_http.proofs.CountNames.{NameLoads, rows_named}
 use Rattle.agv_http.proofs.CountSizes.{rows_size, rows_within}
 
--- the loads to count, if the call is a stocktake, take so many bytes at most
+-- the loads to count, if the call is a stocktake, take so many bytes at most, and have names
 abbrev pub CountsWithin : ℕ → Call → Type 0
-CountsWithin n (call.Stocktake reference rows) = rows_size rows ≤ n
+CountsWithin n (call.Stocktake reference rows) = (rows_size rows ≤ n) × NameLoads rows
 CountsWithin n _ = Unit {0}
 
 IsSaid : ℕ → Option Call → Type 0
@@ -115,13 +116,13 @@ module _ (n : ℕ) where
   unfolding layout_in
   reads_layout body = by_rows (layout.layout_in body)
 
-  by_count : (reference : List ℕ) (rows : Option (List Row)) → ((some : List Row) → rows ≡ Some some → rows_size some ≤ n) → IsRead n (call_with (call.Stocktake reference) rows)
+  by_count : (reference : List ℕ) (rows : Option (List Row)) → ((some : List Row) → rows ≡ Some some → (rows_size some ≤ n) × NameLoads some) → IsRead n (call_with (call.Stocktake reference) rows)
   by_count reference None h = tt
   by_count reference (Some rows) h = h rows refl
 
 reads_count : (reference body : List ℕ) → IsRead (length body + 1) (count_in reference body)
 unfolding count_in
-reads_count reference body = by_count (length body + 1) reference (stocktake.count_in body) (rows_within body)
+reads_count reference body = by_count (length body + 1) reference (stocktake.count_in body) (λ rows is. (rows_within body rows is, rows_named body rows is))
 
 reads_call : (line : Route) (body : List ℕ) → IsRead (length body + 1) (call_in line body)
 unfolding call_in

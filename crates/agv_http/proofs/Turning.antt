@@ -1,9 +1,12 @@
 -- What was appended changes places.
-use Rattle.std.proofs.Common.{◌≡◌, ◌≤◌, ℕ, ◌+◌, ◌-◌, List, [], ◌++◌, length, take, drop, Vec, Global, vec_len, sym, ap, ap₂, ◌∙◌, subst, arith, length-append, length-drop}
+use Rattle.std.proofs.Common.{◌≡◌, ◌≤◌, ℕ, ◌+◌, ◌-◌, List, [], ◌++◌, length, take, drop, Result, Ok, Err, IsErr, Vec, Global, vec_len, vec_capacity, sym, ap, ap₂, ◌∙◌, subst, arith, length-append, length-drop}
 use Rattle.std.specs.Vec.{with_items}
 use Rattle.std.proofs.lemmas.List.{take_all, drop_all, append-nil, length-take-le, with_items_is}
 use Rattle.std.proofs.Math.Seq.{take-append_seam, drop-append_seam}
 use borrow.Rule.Slice.PartMut.{post_of}
+use Rattle.agv_header.specs.declared.memory.Memory.{Memory}
+use Rattle.agv_message.specs.Appending.{Appended}
+use Rattle.agv_message.proofs.Appending.{appended_whole, joined, len_so_far, refused_then}
 use Rattle.agv_http.specs.Given.{turned}
 
 turned_length : (s : List ℕ) (a len : ℕ) → a + len ≤ length s → length (turned a len s) ≡ length s
@@ -52,3 +55,35 @@ turned_slice v s ys a len same within is =
     let inside : a + len ≤ length v.items = omega (arith, v.ok.0) in
     subst (λ (l : List ℕ). ys ≡ drop len (take (length l - a) (drop a l)) ++ take len (take (length l - a) (drop a l)) → (with_items v (take a l ++ (ys ++ post_of a (length l - a) l))).items ≡ turned a len v.items)
     (sym same) (turned_items v ys a len inside) is
+
+-- how long it is after two texts
+pub len_of_two : (v0 v1 v2 : Vec ℕ Global) (a b : List ℕ) → v1.items ≡ v0.items ++ a → v2.items ≡ v1.items ++ b
+    → (vec_len v1 ≡ vec_len v0 + length a) × (vec_len v2 ≡ vec_len v0 + length a + length b)
+len_of_two v0 v1 v2 a b first second =
+    let one = len_so_far v0 v1 a first in
+    (one, len_so_far v1 v2 b second ∙ ap (λ (n : ℕ). n + length b) one)
+
+-- two texts, of which the second says how long the first is, changed places
+pub two_turned : (u w : Unit {0}) (v0 v1 v2 v3 : Vec ℕ Global) (a : List ℕ) (b : ℕ → List ℕ) (start len : ℕ)
+    → start ≡ vec_len v0 → len ≡ vec_len v1 - start
+    → Appended (Ok u) v0 v1 a → Appended (Ok w) v1 v2 (b len)
+    → v3.items ≡ turned start len v2.items → vec_capacity v3 ≡ vec_capacity v2
+    → Appended (Ok u) v0 v3 (b (length a) ++ a)
+two_turned u w v0 v1 v2 v3 a b start len from many first second items capacity =
+    let lens = len_of_two v0 v1 v2 a (b len) first.whole second.whole in
+    let size : len ≡ length a = omega (arith, lens.0) in
+    let all : v2.items ≡ v0.items ++ (a ++ b len) = joined v0.items v1.items v2.items a (b len) first.whole second.whole in
+    let turned_all : v3.items ≡ v0.items ++ (b len ++ a) = items ∙ turned_texts v0.items a (b len) v2.items start len all (from ∙ v0.ok.0) size in
+    let grown : vec_capacity v0 ≤ vec_capacity v3 = omega (arith, first.grown, second.grown) in
+    appended_whole u v0 v3 (b (length a) ++ a) (turned_all ∙ ap (λ (n : ℕ). v0.items ++ (b n ++ a)) size) grown
+
+-- two texts, of which the second says how long the first is: the second was refused
+pub second_unturned : (e : Memory) (u : Unit {0}) (r : Result (Unit {0}) Memory) (v0 v1 v2 : Vec ℕ Global) (a : List ℕ) (b : ℕ → List ℕ) (start len : ℕ)
+    → IsErr r → start ≡ vec_len v0 → len ≡ vec_len v1 - start
+    → Appended (Ok u) v0 v1 a → Appended (Err e) v1 v2 (b len) → Appended r v0 v2 (b (length a) ++ a)
+second_unturned e u r v0 v1 v2 a b start len fails from many first h =
+    let one = len_so_far v0 v1 a first.whole in
+    let size : len ≡ length a = omega (arith, one) in
+    let same : length (b len) ≡ length (b (length a)) = ap (λ (n : ℕ). length (b n)) size in
+    let within : length a + length (b len) ≤ length (b (length a) ++ a) = omega (arith, length-append (b (length a)) a) in
+    refused_then e r v0 v1 v2 a (b len) (b (length a) ++ a) fails (first.whole, first.grown) h within

@@ -1,11 +1,11 @@
 -- What the router keeps: the lines of the table, each under the tokens of its pattern.
-use Rattle.std.specs.Prelude.{ℕ, List, [], ◌∷◌, ◌++◌, Result, Ok, Err, codes}
+use Rattle.std.specs.Prelude.{ℕ, Bool, true, false, ◌&&◌, List, [], ◌∷◌, ◌++◌, Result, Ok, Err, is_none, codes}
 use Rattle.agv_header.specs.declared.refusal.Verb.{Verb}
 use Rattle.agv_header.specs.declared.refusal.Verb.TheVariants.{Get, Post, Put, Delete}
 use Rattle.matchit.specs.Rows.{RowsOf}
 use Rattle.matchit.specs.Order.{placed}
 use Rattle.matchit.specs.Route.{Scan, parse_route}
-use Rattle.matchit.specs.Router.{RouteOf, route_from}
+use Rattle.matchit.specs.Router.{RouteOf, nearest, route_from}
 use Rattle.matchit.specs.declared.error.InsertError.{InsertError}
 use Rattle.agv_http.specs.declared.line.Line.{Line}
 use Rattle.agv_http.specs.declared.line.FixedRoute.TheVariants as fixed
@@ -39,6 +39,20 @@ inserted e rows = with_scan (parse_route e.0) e.1 rows
 abbrev pub with_entries : Kept → List Entry → Kept
 with_entries rows [] = rows
 with_entries rows (e ∷ rest) = with_entries (inserted e rows) rest
+
+-- a text that is read as a pattern conflicts with none of the rows
+abbrev pub is_apart_from : Kept → Result Scan InsertError → Bool
+is_apart_from rows (Ok s) = is_none (nearest s.pattern rows)
+is_apart_from rows (Err e) = false
+
+-- the pattern of a line is read, and conflicts with none of the rows
+unfoldable pub is_apart : Entry → Kept → Bool
+is_apart e rows = is_apart_from rows (parse_route e.0)
+
+-- so is that of each of these lines, with the rows and those before it
+abbrev pub are_apart : List Entry → Kept → Bool
+are_apart [] rows = true
+are_apart (e ∷ rest) rows = is_apart e rows && are_apart rest (inserted e rows)
 
 -- the lines of the layout, and of vehicles and loads
 abbrev pub goods_entries : List Entry

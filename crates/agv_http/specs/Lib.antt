@@ -4,6 +4,7 @@ pub mod CallIn
 pub mod CommandBodies
 pub mod Cut
 pub mod Found
+pub mod Fronts
 pub mod Given
 pub mod Heads
 pub mod Heard
@@ -18,6 +19,7 @@ pub mod Requests
 pub mod Said
 pub mod Starts
 pub mod StateBody
+pub mod StreamEnds
 pub mod Table
 pub mod TableLines
 pub mod Tables

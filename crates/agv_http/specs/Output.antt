@@ -1,20 +1,13 @@
 -- What is written for a whole input: its requests are served one after the other, each in the world that those before it have left, and the answer to each is written behind the one before.
-use Rattle.std.specs.Prelude.{◌≡◌, ℕ, ◌+◌, true, List, [], ◌∷◌, ◌++◌, map, Result, Ok, Err}
-use Rattle.std.specs.FinMap as finite
-use Rattle.std.specs.FinSet as set
-use Rattle.std.specs.Map.{keys_of}
+use Rattle.std.specs.Prelude.{◌≡◌, ℕ, true, List, [], ◌∷◌, ◌++◌, Option, Some, None, Result, Ok, Err, filter_map}
 use Rattle.agv_header.specs.declared.refusal.Refusal.{Refusal}
-use Rattle.agv_layout.specs.declared.station.Spot.{Spot}
-use Rattle.agv_layout.specs.declared.station.Station.{Station}
-use Rattle.agv_count.specs.Reports.{stock_text, hold_text, loads_text}
-use Rattle.agv_world.specs.Questions.{reserved}
-use Rattle.agv_world.specs.Rows.{rows_of}
 use Rattle.agv_world.specs.Worlds.{World}
 use Rattle.agv_desk.specs.Outcomes.{Outcome, Refused, after, answer_of}
 use Rattle.agv_desk.specs.Step.{step}
 use Rattle.agv_desk.specs.declared.answer.Answer.{Answer}
 use Rattle.agv_desk.specs.declared.answer.Answer.TheVariants as answer
 use Rattle.agv_desk.specs.declared.call.Call.{Call}
+use Rattle.agv_reports.specs.Reports.{report_of}
 use Rattle.agv_http.specs.Answers.{answer_text}
 use Rattle.agv_http.specs.CallIn.{call_in}
 use Rattle.agv_http.specs.Cut.{Cut, Ending, at_end, closed, faulty}
@@ -42,46 +35,45 @@ outcome_by seats world at (Ok call) = step seats world at call
 unfoldable pub outcome_for : ℕ → World → ℕ → Request → Outcome
 outcome_for seats world at request = outcome_by seats world at (call_for request)
 
--- ---- reports
+-- the call at its moment, where a request is one
+abbrev pub call_at : ℕ → Result Call Refusal → Option (ℕ × Call)
+call_at at (Err why) = None
+call_at at (Ok call) = Some (at, call)
 
--- a station with its name
-abbrev pub station_named : List ℕ × Spot → Station
-station_named spot = record { id = spot.0; node = spot.1.node; capacity = spot.1.capacity }
-
--- the stations in the order of their names, each with the number of live jobs to it
-abbrev pub stations_told : World → List (Station × ℕ)
-stations_told world = map (λ (spot : List ℕ × Spot). (station_named spot, reserved world spot.0)) (finite.entries world.layout.stations)
-
--- the report that an answer names, of this world: the stock report, the hold report or the export
-abbrev pub report_of : World → Answer → List ℕ
-report_of world answer.StockReport = stock_text (stations_told world) (finite.entries world.places) (keys_of (finite.entries world.vehicles))
-report_of world answer.HoldReport = hold_text (finite.entries (rows_of world).holds) (set.len world.layout.nodes + finite.len world.layout.edges)
-report_of world answer.LoadsExport = loads_text (finite.entries world.places)
-report_of world _ = []
+-- ---- all requests
 
 -- the bytes of an answer that is given in this world
 abbrev pub told_text : World → Answer → Request → List ℕ
 told_text world told request = answer_text told (report_of world told) (is_last request)
 
--- ---- all requests
+-- the bytes of the answer to a request
+abbrev pub answer_to : ℕ → World → ℕ → Request → List ℕ
+answer_to seats world at request = told_text world (answer_of (outcome_for seats world at request)) request
 
 -- the answers to some requests, one behind the other
 unfoldable pub answers_to : ℕ → World → ℕ → List Request → List ℕ
 answers_to seats world at [] = []
 answers_to seats world at (request ∷ requests) =
-    told_text world (answer_of (outcome_for seats world at request)) request
-    ++ answers_to seats (after world (outcome_for seats world at request)) at requests
+    answer_to seats world at request ++ answers_to seats (after world (outcome_for seats world at request)) at requests
 
 -- the world after some requests
 unfoldable pub world_after : ℕ → World → ℕ → List Request → World
 world_after seats world at [] = world
 world_after seats world at (request ∷ requests) = world_after seats (after world (outcome_for seats world at request)) at requests
 
+-- the calls that some requests are, each at this moment, without the requests that are refused before they are one
+abbrev pub calls_of : List Request → ℕ → List (ℕ × Call)
+calls_of requests at = filter_map (λ (request : Request). call_at at (call_for request)) requests
+
+-- the bytes of a refusal after which the stream ends
+abbrev pub refusal_text : Refusal → List ℕ
+refusal_text why = answer_text (answer.Refused why) [] true
+
 -- what is written at the end: where no request follows but a fault, its refusal, and that the stream ends
 abbrev pub last_text : Ending → List ℕ
 last_text at_end = []
 last_text closed = []
-last_text (faulty why) = answer_text (answer.Refused why) [] true
+last_text (faulty why) = refusal_text why
 
 -- this is written for the input, in a world at a moment, and that world is left
 pub record IsOutput (seats : ℕ) (world : World) (at : ℕ) (input out : List ℕ) (left : World) : Type 0 where

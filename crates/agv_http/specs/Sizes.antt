@@ -11,7 +11,7 @@ use Rattle.agv_desk.specs.declared.answer.OpenOrder.{OpenOrder}
 use Rattle.agv_desk.specs.declared.answer.Answer.{Answer}
 use Rattle.agv_desk.specs.declared.answer.Answer.TheVariants as answer
 use Rattle.agv_desk.specs.declared.call.Call.{Call}
-use Rattle.agv_desk.specs.declared.call.Call.TheVariants as call
+use Rattle.agv_desk.specs.Unchanged.{only_tells}
 
 -- what is told of a refusal has names, and a number of 32 bits
 abbrev pub IsToldBriefly : Refusal → Type 0
@@ -49,10 +49,13 @@ abbrev pub outcome_room : Answer → ℕ
 outcome_room (answer.Counted moved unknown) = 1024 + names_size unknown
 outcome_room _ = 1024
 
--- the unknown names of a count are fewer than 4 GiB
-abbrev pub IsFew : Answer → Type 0
-IsFew (answer.Counted moved unknown) = names_size unknown < 2 ^ 32
-IsFew _ = Unit {0}
+-- what an outcome holds is of its types: names, and numbers of their widths; of the unknown names of a count nothing is said
+abbrev pub IsOfItsTypes : Answer → Type 0
+IsOfItsTypes (answer.Refused r) = IsToldBriefly r
+IsOfItsTypes (answer.Update n) = n < 2 ^ 32
+IsOfItsTypes (answer.Instructed n) = n < 2 ^ 32
+IsOfItsTypes (answer.Counted moved unknown) = moved < 2 ^ 64
+IsOfItsTypes _ = Unit {0}
 
 -- a name, if there is one
 abbrev pub IsNameIfAny : Option (List ℕ) → Type 0
@@ -80,17 +83,6 @@ IsOrderShort (Some order) = IsName order.order × (order.sent < 2 ^ 32) × IsSho
 -- the most bytes of the answer to a call that may change something
 abbrev pub most_answer : ℕ
 most_answer = 131072
-
--- the call asks only to be told something; each other call may change something
-abbrev pub only_tells : Call → Bool
-only_tells (call.GetOrder key) = true
-only_tells (call.GetInstant key) = true
-only_tells (call.GetLoad load) = true
-only_tells (call.GetVehicle key) = true
-only_tells call.StockReport = true
-only_tells call.HoldReport = true
-only_tells call.LoadsExport = true
-only_tells _ = false
 
 -- what a request is, where it is a call, asks only to be told something; a refused one is told why
 abbrev pub only_asks : Result Call Refusal → Bool

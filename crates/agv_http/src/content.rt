@@ -2,16 +2,14 @@
 ghost use Rattle.std.specs.Prelude.{◌≡◌, ◌+◌, ◌<◌, ◌≤◌, option_map, vec_len, vec_capacity};
 ghost use Rattle.agv_http.specs.Answers.{allowed, answer_content, answer_status, answer_text, content_text, media_type};
 ghost use Rattle.agv_http.specs.Given.{head_of, turned};
-ghost use Rattle.agv_http.specs.Pieces.{Appended};
+ghost use Rattle.agv_message.specs.Appending.{Appended};
 
 use crate::body::{put_accepted, put_counted, put_instructed, put_load, put_refusal, put_update};
 use crate::head::put_head;
-use crate::instant_message::put_instant;
-use crate::order_message::put_order;
 use crate::vehicle_body::put_vehicle;
-use crate::words::put_bytes;
 use agv_desk::Answer;
 use agv_header::{Memory, Refusal, Verb};
+use agv_message::{put_bytes, put_instant, put_order};
 
 fn status_of(answer: &Answer) -> u16
     ensures status { result ≡ answer_status answer.now }

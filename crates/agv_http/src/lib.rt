@@ -9,7 +9,9 @@
 //!   [`storage_answer`] are the two that speak of the machine.
 //! - [`laws`] has what holds of the definitions by themselves, and [`output_laws`] that each input has one output
 //!   (`specs/Output.antt`): the answers to its requests, each served in the world that those before it have left;
-//!   [`size_laws`] says how long answers are, and [`is_outcome`] of one which room it needs.
+//!   [`size_laws`] says how long answers are, and that 131,072 bytes are room for each that tells an outcome.
+//! - [`stream_laws`] is for who serves a stream in parts: what a front of whole requests and the rest of an input come to,
+//!   and what is written at each end of a stream (`specs/Fronts.antt`, `specs/StreamEnds.antt`).
 #![tactic(auto)]
 
 mod answer;
@@ -20,18 +22,13 @@ mod connection;
 mod content;
 mod files;
 mod head;
-mod instant_message;
 mod last_words;
 pub mod laws;
 mod line;
 mod lines;
 mod members;
 mod next;
-mod order_act;
 mod order_body;
-mod order_edge;
-mod order_message;
-mod order_node;
 mod outcome;
 pub mod output_laws;
 mod piece;
@@ -40,8 +37,8 @@ mod route;
 pub mod route_laws;
 mod routes;
 pub mod size_laws;
-mod stamp;
 mod state_body;
+pub mod stream_laws;
 mod table;
 mod vehicle_body;
 mod words;
@@ -49,7 +46,6 @@ mod words;
 pub use answer::{answer_bytes, put_answer};
 pub use asked::call_of;
 pub use last_words::{memory_answer, storage_answer};
-pub use outcome::is_outcome;
 pub use request::{Heard, LentRequest, read_request};
 pub use route::Route;
 pub use routes::Routes;

@@ -1,10 +1,9 @@
-//! Whether an answer tells an outcome, and the room that it then needs.
-ghost use Rattle.std.specs.Prelude.{◌≡◌, ◌≤◌, ◌<◌, ◌^◌, ℕ, Bool, List, All, IsTrue, length};
-ghost use Rattle.agv_desk.specs.declared.answer.Answer.TheVariants as answer;
+//! What is known of the parts of an answer, since they are of their types. Nothing is gone over: each function reads a few
+//! parts, and a proof calls it for its clause.
+ghost use Rattle.std.specs.Prelude.{◌<◌, ◌^◌};
 ghost use Rattle.agv_header.specs.Key.{thing_name};
 ghost use Rattle.agv_header.specs.Name.{IsName};
-ghost use Rattle.agv_http.specs.Answers.{answer_text};
-ghost use Rattle.agv_http.specs.Sizes.{IsBrief, IsFew, IsToldBriefly, is_outcome, names_size, outcome_room};
+ghost use Rattle.agv_http.specs.Sizes.{IsOfItsTypes, IsToldBriefly};
 
 use agv_desk::Answer;
 use agv_header::{Name, Refusal, Thing};
@@ -23,14 +22,6 @@ fn number_is_short(n: u32)
 fn size_is_short(n: usize)
     ensures { n < 2 ^ 64 }
 {}
-
-fn names_are_short(names: &[Name])
-    ensures { All IsName names.now }
-{
-    for name in names {
-        name_is_short(name);
-    }
-}
 
 fn thing_is_short(thing: &Thing)
     ensures { IsName (thing_name thing.now) }
@@ -55,34 +46,16 @@ fn refusal_is_short(refusal: &Refusal)
     }
 }
 
-/// Whether the answer tells what was done, or why not. It then has at most 1,024 bytes; the answer to a stocktake
-/// has besides the bytes of the unknown names, and three for each.
-pub fn is_outcome(answer: &Answer) -> bool
-    ensures kind { result ≡ is_outcome answer.now }
-    ensures room { (report : List ℕ) (close : Bool) → IsTrue result → IsFew answer.now
-        → length (answer_text answer.now report close) ≤ outcome_room answer.now }
+/// What the answer holds is of its types: names, and numbers of their widths. The unknown names of a stocktake aren't
+/// looked at.
+pub(crate) fn is_of_its_types(answer: &Answer)
+    ensures { IsOfItsTypes answer.now }
 {
     match answer {
-        Answer::Refused(refusal) => {
-            refusal_is_short(refusal);
-            true
-        }
-        Answer::Done => true,
-        Answer::Accepted(_) => true,
-        Answer::NoMessage => true,
-        Answer::Update(n) => {
-            number_is_short(*n);
-            true
-        }
-        Answer::Instructed(n) => {
-            number_is_short(*n);
-            true
-        }
-        Answer::Counted { moved, unknown } => {
-            size_is_short(*moved);
-            names_are_short(unknown.as_slice());
-            true
-        }
-        _ => false,
+        Answer::Refused(refusal) => refusal_is_short(refusal),
+        Answer::Update(n) => number_is_short(*n),
+        Answer::Instructed(n) => number_is_short(*n),
+        Answer::Counted { moved, .. } => size_is_short(*moved),
+        _ => {}
     }
 }

@@ -1,18 +1,14 @@
 //! The pieces of a text, and appending them.
-ghost use Rattle.std.specs.Prelude.{◌≡◌};
 ghost use Rattle.std.specs.List.{flat_map};
 ghost use Rattle.serde_json.specs.Written.{compact_text};
-ghost use Rattle.agv_message.specs.Instant.{instant_name};
-ghost use Rattle.agv_message.specs.Json.{text, truth};
-ghost use Rattle.agv_http.specs.Pieces.{piece_text, maybe_number, maybe_name, maybe_kind, Appended};
+ghost use Rattle.agv_message.specs.Appending.{Appended};
+ghost use Rattle.agv_http.specs.Pieces.{piece_text, maybe_number, maybe_name, maybe_kind};
 
-use crate::stamp::put_stamp;
-use crate::words::{
-    put_act_id, put_action_id, put_bytes, put_key, put_name, put_names, put_number, put_place,
-    put_thing,
+use crate::words::{put_key, put_names, put_place, put_thing};
+use agv_header::{Memory, Name, Thing, VehicleKey};
+use agv_message::{
+    InstantKind, put_action_id, put_bytes, put_instant_kind, put_name, put_number, put_truth,
 };
-use agv_header::{Memory, Moment, Name, Thing, VehicleKey};
-use agv_message::InstantKind;
 use agv_stock::Place;
 
 /// A piece of a text: bytes as they are, or a JSON value.
@@ -39,21 +35,6 @@ pub enum Piece<'a> {
     Thing(&'a Thing),
     /// `"instant-1"`
     ActionId(u32),
-    /// `"O1.2"`
-    ActId(&'a Name, u32),
-    /// `"1991-03-11T11:40:03.12Z"`
-    Stamp(Moment),
-}
-
-/// Appends `true` or `false`.
-fn put_truth(out: &mut Vec<u8>, is_so: bool) -> Result<(), Memory>
-    ensures { Appended result out.old out.new (compact_text (truth is_so)) }
-{
-    if is_so {
-        put_bytes(out, b"true")
-    } else {
-        put_bytes(out, b"false")
-    }
 }
 
 /// Appends a number, or `null`.
@@ -76,24 +57,13 @@ fn put_maybe_name(out: &mut Vec<u8>, name: &Option<Name>) -> Result<(), Memory>
     }
 }
 
-/// Appends the name of an instant action between quotes.
-fn put_kind(out: &mut Vec<u8>, kind: InstantKind) -> Result<(), Memory>
-    ensures { Appended result out.old out.new (compact_text (text (instant_name kind))) }
-{
-    match kind {
-        InstantKind::StartPause => put_bytes(out, b"\"startPause\""),
-        InstantKind::StopPause => put_bytes(out, b"\"stopPause\""),
-        InstantKind::CancelOrder => put_bytes(out, b"\"cancelOrder\""),
-    }
-}
-
 /// Appends the name of an instant action, or `null`.
 fn put_maybe_kind(out: &mut Vec<u8>, kind: Option<InstantKind>) -> Result<(), Memory>
     ensures { Appended result out.old out.new (compact_text (maybe_kind kind)) }
 {
     match kind {
         None => put_bytes(out, b"null"),
-        Some(kind) => put_kind(out, kind),
+        Some(kind) => put_instant_kind(out, kind),
     }
 }
 
@@ -114,8 +84,6 @@ fn put_piece(out: &mut Vec<u8>, piece: &Piece<'_>) -> Result<(), Memory>
         Piece::Key(key) => put_key(out, key),
         Piece::Thing(thing) => put_thing(out, thing),
         Piece::ActionId(n) => put_action_id(out, *n),
-        Piece::ActId(order, n) => put_act_id(out, order, *n),
-        Piece::Stamp(at) => put_stamp(out, *at),
     }
 }
 

@@ -13,7 +13,7 @@ use crate::line::{Line, Names, RouteKind, route_for};
 use crate::table::table_of_calls;
 use agv_header::{Memory, Name, Refusal, Verb};
 use http::Method;
-use matchit::{InsertError, Params, Router};
+use matchit::{Params, Router};
 use std::alloc::Global;
 use std::marker::Model;
 use std::str;
@@ -151,17 +151,12 @@ impl Model for Routes {
     ghost invariant = { λ a. a.router ≡ kept_table };
 }
 
-/// The fault of an insert. No two lines of the table conflict, so memory was wanting.
-fn fault_of(_error: InsertError) -> Memory {
-    Memory
-}
-
 impl Routes {
     /// Makes the table of calls ready.
     ///
-    /// `Memory` where memory is wanting.
+    /// `Memory` where memory is wanting, and for nothing else: no two lines of the table conflict.
     pub fn new(alloc: Global) -> Result<Routes, Memory> {
-        let router = table_of_calls(alloc).map_err(fault_of)?;
+        let router = table_of_calls(alloc)?;
         Ok(Routes { router })
     }
 

@@ -10,6 +10,7 @@ ghost use Rattle.agv_desk.specs.declared.answer.Answer.TheVariants as answer;
 ghost use Rattle.agv_desk.specs.declared.call.Call.{Call};
 ghost use Rattle.agv_desk.specs.Outcomes.{answer_of};
 ghost use Rattle.agv_desk.specs.Step.{step};
+ghost use Rattle.agv_desk.specs.Unchanged.{only_tells};
 ghost use Rattle.agv_header.specs.Name.{IsName};
 ghost use Rattle.agv_world.specs.Worlds.{World};
 ghost use Rattle.agv_http.specs.Answers.{answer_text};
@@ -17,9 +18,9 @@ ghost use Rattle.agv_http.specs.CallIn.{call_in};
 ghost use Rattle.agv_http.specs.declared.route.Route.{Route};
 ghost use Rattle.agv_http.specs.Output.{call_for, outcome_for};
 ghost use Rattle.agv_http.specs.Requests.{IsRequest, Request, most_body};
-ghost use Rattle.agv_http.specs.Sizes.{IsBrief, IsNameIfAny, IsOrderShort, IsVehicleShort, is_outcome, most_answer, names_size, only_asks, only_tells, outcome_room};
+ghost use Rattle.agv_http.specs.Sizes.{IsBrief, IsNameIfAny, IsOrderShort, IsVehicleShort, is_outcome, most_answer, names_size, only_asks, outcome_room};
 
-use crate::outcome::is_outcome as tells_outcome;
+use crate::outcome::is_of_its_types;
 use agv_desk::Answer;
 
 /// An answer that tells only what was done, or why not, has at most 1,024 bytes.
@@ -63,14 +64,14 @@ pub fn outcomes_have_room()
 {}
 
 /// An answer that is the one to such a call has at most 131,072 bytes, with its head, whether or not the stream ends
-/// after it. It does nothing: a proof calls it for its clause.
+/// after it. It reads a name or a number of the answer and goes over nothing: a proof calls it for its clause.
 pub fn outcomes_fit(answer: &Answer)
     ensures { (seats : ℕ) (world : World) (at : ℕ) (route : Route) (body : List ℕ) (made : Call) (report : List ℕ) (close : Bool)
         → call_in route body ≡ Ok made → length body ≤ most_body → only_tells made ≡ false
         → answer.now ≡ answer_of (step seats world at made)
         → length (answer_text answer.now report close) ≤ most_answer }
 {
-    let _told = tells_outcome(answer);
+    is_of_its_types(answer);
 }
 
 /// The body of a request has at most 65,536 bytes.
@@ -79,12 +80,13 @@ pub fn bodies_fit()
 {}
 
 /// An answer that is the one to a request which does not only ask has at most 131,072 bytes: its call is served, or the
-/// request is refused before it is a call. It does nothing: a proof calls it for its clause.
+/// request is refused before it is a call. It reads a name or a number of the answer and goes over nothing: a proof
+/// calls it for its clause.
 pub fn answers_fit(answer: &Answer)
     ensures { (seats : ℕ) (world : World) (at : ℕ) (bytes : List ℕ) (request : Request) (report : List ℕ) (close : Bool)
         → IsRequest bytes request → only_asks (call_for request) ≡ false
         → answer.now ≡ answer_of (outcome_for seats world at request)
         → length (answer_text answer.now report close) ≤ most_answer }
 {
-    let _told = tells_outcome(answer);
+    is_of_its_types(answer);
 }

@@ -1,138 +1,129 @@
 //! The table of calls, as it is put into the router.
-ghost use Rattle.std.specs.Prelude.{◌≡◌, [], IfOk, OnOk};
-ghost use Rattle.agv_http.specs.Kept.{Kept, entry, inserted, kept_table, with_entries, goods_entries, job_entries, vehicle_entries, topic_entries, report_entries};
+ghost use Rattle.std.specs.Prelude.{◌≡◌, true, map, IfOk, OnOk};
+ghost use Rattle.agv_http.specs.Kept.{are_apart, entry, inserted, is_apart, kept_table, with_entries};
 
+use crate::line::RouteKind::{Fixed, OfName, OfVehicle};
 use crate::line::{FixedRoute, Line, NamedRoute, RouteKind, VehicleRoute};
-use agv_header::Verb;
+use agv_header::{Memory, Verb};
 use matchit::{InsertError, Router};
 use std::alloc::Global;
 
-fn add(
-    router: &mut Router<Line>,
-    method: Verb,
-    path: &str,
-    kind: RouteKind,
-) -> Result<(), InsertError>
-    ensures { OnOk result (router.new ≡ inserted (entry method path.now kind) router.old) }
-{
-    router.insert(path, Line { method, kind })
-}
-
-fn add_name(
-    router: &mut Router<Line>,
-    method: Verb,
-    path: &str,
-    kind: NamedRoute,
-) -> Result<(), InsertError>
-    ensures { OnOk result (router.new ≡ inserted (entry method path.now (RouteKind.OfName kind)) router.old) }
-{
-    add(router, method, path, RouteKind::OfName(kind))
-}
-
-fn add_vehicle(
-    router: &mut Router<Line>,
-    method: Verb,
-    path: &str,
-    kind: VehicleRoute,
-) -> Result<(), InsertError>
-    ensures { OnOk result (router.new ≡ inserted (entry method path.now (RouteKind.OfVehicle kind)) router.old) }
-{
-    add(router, method, path, RouteKind::OfVehicle(kind))
-}
-
-fn add_fixed(
-    router: &mut Router<Line>,
-    method: Verb,
-    path: &str,
-    kind: FixedRoute,
-) -> Result<(), InsertError>
-    ensures { OnOk result (router.new ≡ inserted (entry method path.now (RouteKind.Fixed kind)) router.old) }
-{
-    add(router, method, path, RouteKind::Fixed(kind))
-}
-
-fn add_goods(r: &mut Router<Line>) -> Result<(), InsertError>
-    ensures { OnOk result (r.new ≡ with_entries r.old goods_entries) }
-{
-    add_fixed(r, Verb::Put, "/layout", FixedRoute::SetLayout)?;
-    add_fixed(r, Verb::Post, "/vehicles", FixedRoute::RegisterVehicle)?;
-    add_fixed(r, Verb::Post, "/loads", FixedRoute::RegisterLoad)?;
-    add_name(
-        r,
+/// The lines of the table: the method, the pattern of the path, and the call.
+const LINES: [(Verb, &str, RouteKind); 23] = [
+    (Verb::Put, "/layout", Fixed(FixedRoute::SetLayout)),
+    (Verb::Post, "/vehicles", Fixed(FixedRoute::RegisterVehicle)),
+    (Verb::Post, "/loads", Fixed(FixedRoute::RegisterLoad)),
+    (
         Verb::Post,
         "/loads/{load}/correct",
-        NamedRoute::CorrectLoad,
-    )?;
-    add_name(r, Verb::Post, "/loads/{load}/leave", NamedRoute::LeaveLoad)?;
-    Ok(())
-}
-
-fn add_jobs(r: &mut Router<Line>) -> Result<(), InsertError>
-    ensures { OnOk result (r.new ≡ with_entries r.old job_entries) }
-{
-    add_fixed(r, Verb::Post, "/jobs", FixedRoute::AddJob)?;
-    add_name(r, Verb::Delete, "/jobs/{job}", NamedRoute::StopJob)?;
-    add_fixed(r, Verb::Post, "/orders", FixedRoute::StartOrder)?;
-    Ok(())
-}
-
-fn add_vehicles(r: &mut Router<Line>) -> Result<(), InsertError>
-    ensures { OnOk result (r.new ≡ with_entries r.old vehicle_entries) }
-{
-    let path = "/vehicles/{manufacturer}/{serial}/advance";
-    add_vehicle(r, Verb::Post, path, VehicleRoute::Advance)?;
-    let path = "/vehicles/{manufacturer}/{serial}/cancel";
-    add_vehicle(r, Verb::Post, path, VehicleRoute::Cancel)?;
-    let path = "/vehicles/{manufacturer}/{serial}/pause";
-    add_vehicle(r, Verb::Post, path, VehicleRoute::Pause)?;
-    let path = "/vehicles/{manufacturer}/{serial}/resume";
-    add_vehicle(r, Verb::Post, path, VehicleRoute::Resume)?;
-    let path = "/vehicles/{manufacturer}/{serial}/place";
-    add_vehicle(r, Verb::Post, path, VehicleRoute::PlaceVehicle)?;
-    let path = "/vehicles/{manufacturer}/{serial}/resync";
-    add_vehicle(r, Verb::Post, path, VehicleRoute::Resync)?;
-    Ok(())
-}
-
-fn add_topics(r: &mut Router<Line>) -> Result<(), InsertError>
-    ensures { OnOk result (r.new ≡ with_entries r.old topic_entries) }
-{
-    let path = "/uagv/v2/{manufacturer}/{serial}/state";
-    add_vehicle(r, Verb::Post, path, VehicleRoute::State)?;
-    let path = "/uagv/v2/{manufacturer}/{serial}/order";
-    add_vehicle(r, Verb::Get, path, VehicleRoute::GetOrder)?;
-    let path = "/uagv/v2/{manufacturer}/{serial}/instantActions";
-    add_vehicle(r, Verb::Get, path, VehicleRoute::GetInstant)?;
-    Ok(())
-}
-
-fn add_reports(r: &mut Router<Line>) -> Result<(), InsertError>
-    ensures { OnOk result (r.new ≡ with_entries r.old report_entries) }
-{
-    add_name(
-        r,
+        OfName(NamedRoute::CorrectLoad),
+    ),
+    (
+        Verb::Post,
+        "/loads/{load}/leave",
+        OfName(NamedRoute::LeaveLoad),
+    ),
+    (Verb::Post, "/jobs", Fixed(FixedRoute::AddJob)),
+    (Verb::Delete, "/jobs/{job}", OfName(NamedRoute::StopJob)),
+    (Verb::Post, "/orders", Fixed(FixedRoute::StartOrder)),
+    (
+        Verb::Post,
+        "/vehicles/{manufacturer}/{serial}/advance",
+        OfVehicle(VehicleRoute::Advance),
+    ),
+    (
+        Verb::Post,
+        "/vehicles/{manufacturer}/{serial}/cancel",
+        OfVehicle(VehicleRoute::Cancel),
+    ),
+    (
+        Verb::Post,
+        "/vehicles/{manufacturer}/{serial}/pause",
+        OfVehicle(VehicleRoute::Pause),
+    ),
+    (
+        Verb::Post,
+        "/vehicles/{manufacturer}/{serial}/resume",
+        OfVehicle(VehicleRoute::Resume),
+    ),
+    (
+        Verb::Post,
+        "/vehicles/{manufacturer}/{serial}/place",
+        OfVehicle(VehicleRoute::PlaceVehicle),
+    ),
+    (
+        Verb::Post,
+        "/vehicles/{manufacturer}/{serial}/resync",
+        OfVehicle(VehicleRoute::Resync),
+    ),
+    (
+        Verb::Post,
+        "/uagv/v2/{manufacturer}/{serial}/state",
+        OfVehicle(VehicleRoute::State),
+    ),
+    (
+        Verb::Get,
+        "/uagv/v2/{manufacturer}/{serial}/order",
+        OfVehicle(VehicleRoute::GetOrder),
+    ),
+    (
+        Verb::Get,
+        "/uagv/v2/{manufacturer}/{serial}/instantActions",
+        OfVehicle(VehicleRoute::GetInstant),
+    ),
+    (
         Verb::Post,
         "/stocktakes/{reference}",
-        NamedRoute::Stocktake,
-    )?;
-    add_name(r, Verb::Get, "/loads/{load}", NamedRoute::GetLoad)?;
-    let path = "/vehicles/{manufacturer}/{serial}";
-    add_vehicle(r, Verb::Get, path, VehicleRoute::GetVehicle)?;
-    add_fixed(r, Verb::Get, "/report/stock", FixedRoute::StockReport)?;
-    add_fixed(r, Verb::Get, "/report/holds", FixedRoute::HoldReport)?;
-    add_fixed(r, Verb::Get, "/export/loads", FixedRoute::LoadsExport)?;
+        OfName(NamedRoute::Stocktake),
+    ),
+    (Verb::Get, "/loads/{load}", OfName(NamedRoute::GetLoad)),
+    (
+        Verb::Get,
+        "/vehicles/{manufacturer}/{serial}",
+        OfVehicle(VehicleRoute::GetVehicle),
+    ),
+    (Verb::Get, "/report/stock", Fixed(FixedRoute::StockReport)),
+    (Verb::Get, "/report/holds", Fixed(FixedRoute::HoldReport)),
+    (Verb::Get, "/export/loads", Fixed(FixedRoute::LoadsExport)),
+];
+
+/// What an insert lacked that met no conflict.
+fn lack_of(error: InsertError) -> Memory
+    requires { error ≡ InsertError.OutOfMemory }
+{
+    match error {
+        InsertError::OutOfMemory => Memory,
+        _ => unreachable!(),
+    }
+}
+
+/// Puts a line into the router, with which none that is there conflicts. So memory alone may be wanting.
+fn add(router: &mut Router<Line>, method: Verb, path: &str, kind: RouteKind) -> Result<(), Memory>
+    requires { is_apart (entry method path.now kind) router.old ≡ true }
+    ensures { OnOk result (router.new ≡ inserted (entry method path.now kind) router.old) }
+{
+    match router.insert(path, Line { method, kind }) {
+        Ok(()) => Ok(()),
+        Err(error) => Err(lack_of(error)),
+    }
+}
+
+/// Puts lines into the router, one after another.
+fn add_all(router: &mut Router<Line>, lines: &[(Verb, &str, RouteKind)]) -> Result<(), Memory>
+    requires { are_apart (map (λ line. entry line.0 line.1.now line.2) lines.now) router.old ≡ true }
+    ensures { OnOk result (router.new ≡ with_entries router.old (map (λ line. entry line.0 line.1.now line.2) lines.now)) }
+{
+    for (method, path, kind) in lines {
+        add(router, *method, path, *kind)?;
+    }
     Ok(())
 }
 
 /// A router of all the lines of the table.
-pub(crate) fn table_of_calls(alloc: Global) -> Result<Router<Line>, InsertError>
+pub(crate) fn table_of_calls(alloc: Global) -> Result<Router<Line>, Memory>
     ensures { IfOk result (λ router. router ≡ kept_table) }
 {
     let mut router = Router::new(alloc);
-    add_goods(&mut router)?;
-    add_jobs(&mut router)?;
-    add_vehicles(&mut router)?;
-    add_topics(&mut router)?;
-    add_reports(&mut router)?;
+    add_all(&mut router, &LINES)?;
     Ok(router)
 }

@@ -2,3 +2,4 @@ pub mod First
 pub mod Listed
 pub mod Members
 pub mod Plain
+pub mod Within

@@ -52,11 +52,12 @@ const TRACK: [&str; 7] = ["N1", "E12", "E21", "N2", "E23", "E32", "N3"];
 /// A desk that keeps its world in memory.
 #[derive(Drop)]
 pub(crate) struct Desk {
-    floor: PlainFloor,
-    /// The most loads that a vehicle may carry at once.
+    world: World,
+    /// The most loads that a vehicle may carry at once: 1 to 4.
     seats: u32,
     /// The moves of the last call.
     moves: Vec<(Name, Place)>,
+    ghost few: { (1 ≤ seats) × (seats ≤ 4) },
 }
 
 /// A desk that knows nothing yet, for vehicles of so many loads: 1 to 4.
@@ -64,7 +65,7 @@ fn new_desk(alloc: Global, seats: u32) -> Desk
     requires { (1 ≤ seats) × (seats ≤ 4) }
 {
     Desk {
-        floor: PlainFloor::new(alloc, World::empty(alloc), seats),
+        world: World::empty(alloc),
         seats,
         moves: Vec::new(alloc),
     }
@@ -88,23 +89,30 @@ fn check_lawful(rt: &impl Abort, alloc: Global, world: &World, seats: u32) {
 }
 
 impl Desk {
+    /// What answers questions to its world.
+    fn floor(&self, alloc: Global) -> PlainFloor<'_> {
+        PlainFloor::new(alloc, &self.world, self.seats)
+    }
+
     /// Decides a call, and carries out what changes. The world is lawful then.
     fn serve(&mut self, rt: &impl Abort, alloc: Global, call: &Call) -> Answer {
-        let decided = decide(alloc, &mut self.floor, moment(rt), call);
+        let mut floor = self.floor(alloc);
+        let decided = decide(alloc, &mut floor, moment(rt), call);
         let decision = decided.expect(rt, "memory");
         check_changes(rt, &decision);
         self.moves = moves_of(alloc, &decision).expect(rt, "memory");
-        let applied = self.floor.world.apply(decision.changes.as_slice());
+        let applied = self.world.apply(decision.changes.as_slice());
         applied.expect(rt, "memory");
-        check_lawful(rt, alloc, &self.floor.world, self.seats);
+        check_lawful(rt, alloc, &self.world, self.seats);
         decision.answer
     }
 
     /// Who holds each thing that is held, by the serial numbers.
-    fn holds(&mut self, rt: &impl Abort, alloc: Global) -> String {
+    fn holds(&self, rt: &impl Abort, alloc: Global) -> String {
+        let mut floor = self.floor(alloc);
         let mut text = String::new(alloc);
         for id in &TRACK {
-            let holder = self.floor.holder(thing(rt, id)).expect(rt, "memory");
+            let holder = floor.holder(thing(rt, id)).expect(rt, "memory");
             if let Some(key) = holder {
                 write!(text, " {id}={}", key.serial).expect(rt, "memory");
             }
@@ -113,8 +121,8 @@ impl Desk {
     }
 
     /// How far a job is.
-    fn phase(&mut self, rt: &impl Abort, alloc: Global, job: &str) -> String {
-        let row = self.floor.job(name(rt, job)).expect(rt, "memory");
+    fn phase(&self, rt: &impl Abort, alloc: Global, job: &str) -> String {
+        let row = self.floor(alloc).job(name(rt, job)).expect(rt, "memory");
         let phase = row.map(|row| row.phase);
         format!(in alloc; "{phase:?}").expect(rt, "memory")
     }
@@ -184,6 +192,6 @@ fn world_after(rt: &impl Abort, alloc: Global, seats: u32, lines: &[Line]) -> Wo
 {
     let mut desk = new_desk(alloc, seats);
     play_lines(rt, alloc, &mut desk, lines);
-    let Desk { floor, .. } = desk;
-    floor.world
+    let Desk { world, .. } = desk;
+    world
 }

@@ -1,10 +1,10 @@
 //! One call of each kind in a warehouse with 1,000 loads, and in the same one with 100,000: `docs/PERFORMANCE.md` has
 //! what they cost.
 
-mod counting;
 mod warehouse;
 
 use crate::cases::{check, name, vehicle};
+use crate::fails_at::FailsAt;
 use crate::routes::numbered;
 use agv_desk::{Call, decide};
 use agv_header::{Moment, Name};
@@ -12,7 +12,6 @@ use agv_layout::LayoutRow;
 use agv_message::{ActKind, Sequence, StateMessage, Text};
 use agv_order::Stop;
 use agv_world::PlainFloor;
-use counting::Counting;
 use std::alloc::Global;
 use std::process::Abort;
 use warehouse::world;
@@ -248,7 +247,7 @@ fn reports() -> [Case; 3] {
 }
 
 /// Compares how many rows the call changes, and how many questions it asks, with what is wanted.
-fn serve(rt: &impl Abort, alloc: Global, floor: &mut Counting, case: &Case) {
+fn serve(rt: &impl Abort, alloc: Global, floor: &mut FailsAt<'_>, case: &Case) {
     let (call, rows, questions) = case;
     let at = Moment::of(1_700_000_000_000).expect(rt, "a moment");
     floor.asked = 0;
@@ -257,7 +256,7 @@ fn serve(rt: &impl Abort, alloc: Global, floor: &mut Counting, case: &Case) {
     check(rt, floor.asked == *questions, "the questions");
 }
 
-fn serve_all(rt: &impl Abort, alloc: Global, floor: &mut Counting, cases: &[Case]) {
+fn serve_all(rt: &impl Abort, alloc: Global, floor: &mut FailsAt<'_>, cases: &[Case]) {
     for case in cases {
         serve(rt, alloc, floor, case);
     }
@@ -265,10 +264,8 @@ fn serve_all(rt: &impl Abort, alloc: Global, floor: &mut Counting, cases: &[Case
 
 /// One call of each kind, with so many loads.
 fn serve_each(rt: &impl Abort, alloc: Global, loads: u32) {
-    let mut floor = Counting {
-        floor: PlainFloor::new(alloc, world(rt, alloc, loads), 4),
-        asked: 0,
-    };
+    let world = world(rt, alloc, loads);
+    let mut floor = FailsAt::new(PlainFloor::new(alloc, &world, 4), usize::MAX);
     serve_all(rt, alloc, &mut floor, &first_calls(rt, alloc));
     serve_all(rt, alloc, &mut floor, &load_calls(rt));
     serve_all(rt, alloc, &mut floor, &job_calls(rt));

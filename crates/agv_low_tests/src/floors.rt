@@ -5,7 +5,7 @@ use crate::cases::{check, check_debug, name, vehicle};
 use crate::worlds::{leg, used, world};
 use agv_header::Thing;
 use agv_message::Sequence;
-use agv_world::{Change, Counted, Floor, PlainFloor, TripRow, UseKind};
+use agv_world::{Change, Counted, Floor, PlainFloor, TripRow, UseKind, World};
 use std::alloc::Global;
 use std::process::Abort;
 
@@ -23,7 +23,8 @@ fn trip(rt: &impl Abort, alloc: Global) -> TripRow {
     }
 }
 
-fn floor(rt: &impl Abort, alloc: Global) -> PlainFloor {
+/// The world with the trip, an order and two references.
+fn world_with_trip(rt: &impl Abort, alloc: Global) -> World {
     let changes = [
         Change::Trip(name(rt, "O1"), Some(trip(rt, alloc))),
         Change::Leg(leg(rt, 0), Some(name(rt, "E12"))),
@@ -34,7 +35,7 @@ fn floor(rt: &impl Abort, alloc: Global) -> PlainFloor {
     ];
     let mut world = world(rt, alloc);
     world.apply(&changes).expect(rt, "memory");
-    PlainFloor::new(alloc, world, 4)
+    world
 }
 
 const VEHICLE: &str = concat!(
@@ -160,7 +161,8 @@ fn check_names(rt: &impl Abort, alloc: Global, floor: &mut impl Floor) {
 
 #[test]
 fn answers_each_question(rt: HostRuntime) {
-    let mut floor = floor(&rt, rt.alloc());
+    let world = world_with_trip(&rt, rt.alloc());
+    let mut floor = PlainFloor::new(rt.alloc(), &world, 4);
     check_vehicles(&rt, rt.alloc(), &mut floor);
     check_holders(&rt, rt.alloc(), &mut floor);
     check_stock(&rt, rt.alloc(), &mut floor);
@@ -173,11 +175,10 @@ fn answers_each_question(rt: HostRuntime) {
 
 #[test]
 fn has_no_layout_at_first(rt: HostRuntime) {
-    let world = agv_world::World::empty(rt.alloc());
-    let mut floor = PlainFloor::new(rt.alloc(), world, 1);
+    let world = World::empty(rt.alloc());
+    let mut floor = PlainFloor::new(rt.alloc(), &world, 1);
     let layout = floor.layout().expect(&rt, "an answer");
     check(&rt, layout.is_none(), "no layout");
     check(&rt, floor.seats() == 1, "one seat");
-    let world = floor.into_world();
     check(&rt, !world.nodes.contains(name(&rt, "N1")), "no node");
 }

@@ -1,11 +1,13 @@
 pub mod Action
+pub mod Appending
 pub mod Body
 pub mod Instant
 pub mod Json
 pub mod Member
 pub mod Order
 pub mod Parts
+pub mod Pieces
 pub mod Position
+pub mod Readable
 pub mod State
 pub mod Status
-pub mod Writing

@@ -8,43 +8,52 @@
 //!   timestamp. An absent member and one that is null are the same, of two members with one name
 //!   the last counts, and no other member is looked at.
 //!
-//! Writing. [`order_text`] and [`instant_text`] give the exact bytes of an order or instantActions
-//! message, which [`read_body`] would read as the value that `specs/` builds from the message.
+//! Writing. [`put_order`] and [`put_instant`] append the exact bytes of an order or instantActions
+//! message to a buffer, and take no memory where they fit; [`order_text`] and [`instant_text`] give
+//! them alone. [`read_body`] would read them as the value that `specs/` builds from the message.
+//! [`put_bytes`] and its like append the words that other JSON texts are made of.
 //!
 //! [`Sequence`] is a list and [`Text`] a text that a message keeps. Clauses see the one as the list
 //! of its items and the other as the list of its bytes, so a message is a plain record in a clause.
 //! Messages can be compared, and orders copied.
 #![tactic(auto)]
 
-mod action_writer;
 mod body;
 mod condition;
 mod header;
 mod instant;
-mod instant_writer;
+mod instant_message;
 mod lists;
 mod member;
-mod object;
 mod opening;
-mod opening_writer;
 mod order;
-mod order_writer;
+mod order_act;
+mod order_edge;
+mod order_message;
+mod order_node;
 mod parts;
+mod piece;
 mod position;
 mod read;
 mod sequence;
+mod stamp;
 mod state;
 mod status;
 mod text;
+mod words;
 
 pub use body::{BodyFault, read_body};
 pub use header::Header;
 pub use instant::{InstantKind, InstantMessage};
-pub use instant_writer::instant_text;
+pub use instant_message::{instant_text, put_instant};
 pub use order::{ActKind, OrderAct, OrderEdge, OrderMessage, OrderNode};
-pub use order_writer::order_text;
+pub use order_message::{order_text, put_order};
 pub use read::read_state;
 pub use sequence::Sequence;
 pub use state::StateMessage;
 pub use status::Status;
 pub use text::Text;
+pub use words::{
+    put_action_id, put_bytes, put_instant_kind, put_name, put_name_after, put_number, put_truth,
+    put_words,
+};

@@ -10,15 +10,15 @@ use agv_layout::{Ends, Spot};
 use agv_message::{ActKind, Sequence, Status};
 use agv_order::Act;
 use agv_stock::{Phase, Place};
-use agv_store::change_running::write_changes;
-use agv_store::desk_tables::make_desk_tables;
-use agv_store::key_questions::{
+use agv_tables::changes::change_running::write_changes;
+use agv_tables::questions::key_questions::{
     ask_edge, ask_holder, ask_job, ask_node, ask_place, ask_station, ask_used, ask_vehicle,
 };
-use agv_store::layout_reading::ask_layout;
-use agv_store::load_questions::{ask_job_of, ask_loads_on, ask_reserved, ask_room};
-use agv_store::station_loads::ask_loads_at;
-use agv_store::trip_questions::ask_trip;
+use agv_tables::questions::layout_reading::ask_layout;
+use agv_tables::questions::load_questions::{ask_job_of, ask_loads_on, ask_reserved, ask_room};
+use agv_tables::questions::station_loads::ask_loads_at;
+use agv_tables::questions::trip_questions::ask_trip;
+use agv_tables::schema::desk_tables::make_desk_tables;
 use agv_world::{Change, JobRow, LegKey, Sent, TripRow, UseKey, UseKind, VehicleRow};
 use sqlite::{Alter, Connection};
 use std::alloc::Global;

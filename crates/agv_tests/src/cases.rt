@@ -3,7 +3,7 @@
 
 use crate::fakes::{Drip, Trickle};
 use agv_face::{LoadsFault, Stop, Watched, answer_calls, serve_loads};
-use agv_store::Loads;
+use agv_tables::Loads;
 use sqlite::MemStore;
 use std::alloc::Global;
 use std::process::Abort;

@@ -2,12 +2,12 @@
 //! world together are read and found unlawful, and where who holds what is damaged, it differs from the floor's answers.
 
 use crate::cases::check;
-use crate::table_cases::{is_held_as, make, name, new_floor, write_calls};
+use crate::table_cases::{is_held_as, make, name, write_calls};
 use crate::written::PICKED;
 use agv_header::Thing;
-use agv_store::ReadingFault;
-use agv_store::world_reading::read_world;
-use agv_world::PlainFloor;
+use agv_tables::ReadingFault;
+use agv_tables::readings::world_reading::read_world;
+use agv_world::{PlainFloor, World};
 use sqlite::{Connection, MemStore};
 use std::alloc::Global;
 use std::process::Abort;
@@ -16,12 +16,12 @@ use std::process::Abort;
 fn damaged_by(
     rt: &impl Abort,
     alloc: Global,
-    floor: &mut PlainFloor,
+    world: &mut World,
     damage: &str,
 ) -> Connection<MemStore> {
     let mut conn = Connection::open_in_memory(alloc).expect(rt, "memory");
     make(rt, &mut conn);
-    write_calls(rt, alloc, floor, &mut conn, PICKED);
+    write_calls(rt, alloc, world, &mut conn, PICKED);
     let changed = conn.execute(damage, &[]).expect(rt, damage);
     check(rt, changed > 0, damage);
     conn
@@ -62,8 +62,8 @@ const MORE_DAMAGES: [&str; 14] = [
 
 /// Writes the example, damages a row and reads.
 fn check_damaged(rt: &impl Abort, alloc: Global, damage: &str) {
-    let mut floor = new_floor(alloc);
-    let mut conn = damaged_by(rt, alloc, &mut floor, damage);
+    let mut world = World::empty(alloc);
+    let mut conn = damaged_by(rt, alloc, &mut world, damage);
     let told = match read_world(alloc, &mut conn) {
         Ok(_) => None,
         Err(why) => Some(why),
@@ -102,8 +102,8 @@ const UNLAWFUL: [&str; 7] = [
 
 /// Writes the example, damages rows, and compares whether what is read is lawful.
 fn check_lawful(rt: &impl Abort, alloc: Global, damage: &str, wanted: bool) {
-    let mut floor = new_floor(alloc);
-    let mut conn = damaged_by(rt, alloc, &mut floor, damage);
+    let mut world = World::empty(alloc);
+    let mut conn = damaged_by(rt, alloc, &mut world, damage);
     let (tables, _) = read_world(alloc, &mut conn).expect(rt, damage);
     let lawful = tables.is_lawful(alloc, 1).expect(rt, "memory");
     check(rt, lawful == wanted, damage);
@@ -129,9 +129,10 @@ const STRANGE_HOLD: &str =
 
 /// Damages who holds E12, and compares the holders of it and of N2 with the floor's answers.
 fn check_hold(rt: &impl Abort, alloc: Global, damage: &str) {
-    let mut floor = new_floor(alloc);
-    let mut conn = damaged_by(rt, alloc, &mut floor, damage);
+    let mut world = World::empty(alloc);
+    let mut conn = damaged_by(rt, alloc, &mut world, damage);
     let (_, holds) = read_world(alloc, &mut conn).expect(rt, damage);
+    let mut floor = PlainFloor::new(alloc, &world, 1);
     let edge = is_held_as(rt, &mut floor, &holds.table, Thing::Edge(name(rt, "E12")));
     check(rt, !edge, damage);
     let node = is_held_as(rt, &mut floor, &holds.table, Thing::Node(name(rt, "N2")));
@@ -140,13 +141,12 @@ fn check_hold(rt: &impl Abort, alloc: Global, damage: &str) {
 
 /// Damages who holds what: the world that is read is lawful still, and the holds are not what its vehicles hold.
 fn check_fit(rt: &impl Abort, alloc: Global, damage: &str) {
-    let mut floor = new_floor(alloc);
-    let mut conn = damaged_by(rt, alloc, &mut floor, damage);
+    let mut world = World::empty(alloc);
+    let mut conn = damaged_by(rt, alloc, &mut world, damage);
     let (tables, holds) = read_world(alloc, &mut conn).expect(rt, damage);
     let lawful = tables.is_lawful(alloc, 1).expect(rt, "memory");
     check(rt, lawful, damage);
-    let mut read = PlainFloor::new(alloc, tables, 1);
-    let fit = holds.are_footprints(alloc, &mut read).expect(rt, "memory");
+    let fit = holds.are_footprints(alloc, &tables).expect(rt, "memory");
     check(rt, !fit, damage);
 }
 

@@ -2,7 +2,7 @@
 
 use crate::cases::check;
 use agv_header::{Name, Refusal};
-use agv_store::Loads;
+use agv_tables::Loads;
 use sqlite::{Connection, MemStore};
 use std::alloc::Global;
 use std::process::Abort;

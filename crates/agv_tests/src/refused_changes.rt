@@ -1,14 +1,13 @@
 //! A list of changes of which SQL refuses one, for an index that a stranger put on the desk's tables: none is made.
 
 use crate::cases::check;
-use crate::table_cases::{MOMENT, call_in, check_read, check_rows, make, new_floor, write_calls};
+use crate::table_cases::{call_in, check_read, check_rows, decided, make, write_calls};
 use crate::written::{PICKED, PICKED_ROWS};
-use agv_desk::{Decision, decide};
-use agv_header::Moment;
+use agv_desk::Decision;
 use agv_http::Routes;
-use agv_store::Fault;
-use agv_store::change_running::write_changes;
-use agv_world::PlainFloor;
+use agv_tables::Fault;
+use agv_tables::changes::change_running::write_changes;
+use agv_world::World;
 use sqlite::{Connection, MemStore};
 use std::alloc::Global;
 use std::process::Abort;
@@ -17,12 +16,11 @@ use std::process::Abort;
 const INDEX: &str = "CREATE UNIQUE INDEX one_of_a_kind ON load (kind)";
 
 /// What the desk decides where L2 leaves: that its place is written, and the reference.
-fn leaving(rt: &impl Abort, alloc: Global, floor: &mut PlainFloor) -> Decision {
+fn leaving(rt: &impl Abort, alloc: Global, world: &World) -> Decision {
     let routes = Routes::new(alloc).expect(rt, "memory");
-    let at = Moment::of(MOMENT).expect(rt, "a moment");
     let request = ("POST", "/loads/L2/leave", r#"{"ref":"R2"}"#);
     let call = call_in(rt, alloc, &routes, &request);
-    decide(alloc, floor, at, &call).expect(rt, "memory")
+    decided(rt, alloc, world, &call)
 }
 
 /// Writes what is decided, and compares how that ends.
@@ -41,13 +39,13 @@ fn check_written(
 fn check_refused(rt: &impl Abort, alloc: Global) {
     let mut conn = Connection::open_in_memory(alloc).expect(rt, "memory");
     make(rt, &mut conn);
-    let mut floor = new_floor(alloc);
-    write_calls(rt, alloc, &mut floor, &mut conn, PICKED);
+    let mut world = World::empty(alloc);
+    write_calls(rt, alloc, &mut world, &mut conn, PICKED);
     conn.execute(INDEX, &[]).expect(rt, INDEX);
-    let decision = leaving(rt, alloc, &mut floor);
+    let decision = leaving(rt, alloc, &world);
     check_written(rt, &mut conn, &decision, Err(Fault::Storage));
     check_rows(rt, alloc, &mut conn, PICKED_ROWS);
-    check_read(rt, alloc, &mut floor, &mut conn);
+    check_read(rt, alloc, &world, &mut conn);
     conn.execute("DROP INDEX one_of_a_kind", &[])
         .expect(rt, "no index");
     check_written(rt, &mut conn, &decision, Ok(()));

@@ -6,7 +6,7 @@ use crate::fakes::{Drip, Patient, Tally, Trickle};
 use crate::loads::no_loads;
 use agv_face::{LoadsFault, Stop, Watched, answer_calls, serve_loads};
 use agv_http::laws::has_a_cut;
-use agv_store::Loads;
+use agv_tables::Loads;
 use sqlite::MemStore;
 use std::alloc::Global;
 use std::cell::Cell;

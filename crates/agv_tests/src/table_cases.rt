@@ -2,14 +2,14 @@
 //! world that is read of them with the one in memory, and who holds what with the answers of the floor.
 
 use crate::cases::check;
-use agv_desk::{Call, decide};
+use agv_desk::{Call, Decision, decide};
 use agv_header::{Moment, Name, Thing, VehicleKey};
 use agv_http::{Routes, call_of};
-use agv_store::change_running::write_changes;
-use agv_store::desk_tables::make_desk_tables;
-use agv_store::layout_reading::ask_layout;
-use agv_store::trip_questions::ask_trip;
-use agv_store::world_reading::read_world;
+use agv_tables::changes::change_running::write_changes;
+use agv_tables::questions::layout_reading::ask_layout;
+use agv_tables::questions::trip_questions::ask_trip;
+use agv_tables::readings::world_reading::read_world;
+use agv_tables::schema::desk_tables::make_desk_tables;
 use agv_track::HoldTable;
 use agv_world::{Floor, PlainFloor, World};
 use http::Method;
@@ -74,25 +74,31 @@ pub(crate) fn call_in(rt: &impl Abort, alloc: Global, routes: &Routes, request: 
     call_of(alloc, &route, body.as_bytes()).expect(rt, target)
 }
 
+/// What the desk decides of a call, with room for one load on each vehicle.
+pub(crate) fn decided(rt: &impl Abort, alloc: Global, world: &World, call: &Call) -> Decision {
+    let at = Moment::of(MOMENT).expect(rt, "a moment");
+    let mut floor = PlainFloor::new(alloc, world, 1);
+    decide(alloc, &mut floor, at, call).expect(rt, "memory")
+}
+
 /// Writes what the calls change, each in a transaction of its own, and reads the world after each.
 pub(crate) fn write_calls<S: Alter>(
     rt: &impl Abort,
     alloc: Global,
-    floor: &mut PlainFloor,
+    world: &mut World,
     conn: &mut Connection<S>,
     requests: &[Request],
 ) {
     let routes = Routes::new(alloc).expect(rt, "memory");
-    let at = Moment::of(MOMENT).expect(rt, "a moment");
     for request in requests {
         let call = call_in(rt, alloc, &routes, request);
-        let decision = decide(alloc, floor, at, &call).expect(rt, "memory");
+        let decision = decided(rt, alloc, world, &call);
         check(rt, !decision.changes.as_slice().is_empty(), request.1);
-        let applied = floor.world.apply(decision.changes.as_slice());
+        let applied = world.apply(decision.changes.as_slice());
         applied.expect(rt, "memory");
         assert!(rt; conn.is_autocommit(), "idle");
         write_changes(conn, decision.changes.as_slice()).expect(rt, request.1);
-        check_read(rt, alloc, floor, conn);
+        check_read(rt, alloc, world, conn);
     }
 }
 
@@ -160,7 +166,7 @@ fn check_same(rt: &impl Abort, alloc: Global, found: &impl Debug, wanted: &impl 
 /// Whether a vehicle holds this in the table, and no other one or none, just where the floor answers so.
 pub(crate) fn is_held_as(
     rt: &impl Abort,
-    floor: &mut PlainFloor,
+    floor: &mut PlainFloor<'_>,
     holds: &HoldTable,
     thing: Thing,
 ) -> bool {
@@ -169,7 +175,7 @@ pub(crate) fn is_held_as(
 }
 
 /// Compares who holds each node and each edge of the layout.
-fn check_holds(rt: &impl Abort, floor: &mut PlainFloor, holds: &HoldTable) {
+fn check_holds(rt: &impl Abort, floor: &mut PlainFloor<'_>, holds: &HoldTable) {
     for node in &NODES {
         let same = is_held_as(rt, floor, holds, Thing::Node(name(rt, node)));
         check(rt, same, node);
@@ -184,7 +190,7 @@ fn check_holds(rt: &impl Abort, floor: &mut PlainFloor, holds: &HoldTable) {
 fn check_trip<S: Alter>(
     rt: &impl Abort,
     alloc: Global,
-    floor: &mut PlainFloor,
+    floor: &mut PlainFloor<'_>,
     conn: &mut Connection<S>,
     serial: &str,
 ) {
@@ -193,33 +199,29 @@ fn check_trip<S: Alter>(
     check(rt, trip == wanted, serial);
 }
 
-/// Reads the world, who holds what, the layout and the vehicles' trips, and compares them with what the floor has in memory.
+/// Reads the world, who holds what, the layout and the vehicles' trips, and compares them with what is in memory.
 pub(crate) fn check_read<S: Alter>(
     rt: &impl Abort,
     alloc: Global,
-    floor: &mut PlainFloor,
+    world: &World,
     conn: &mut Connection<S>,
 ) {
     let (tables, holds) = read_world(alloc, conn).expect(rt, "the world");
-    check_same(rt, alloc, &tables, &floor.world);
+    check_same(rt, alloc, &tables, world);
     let lawful = tables.is_lawful(alloc, 1).expect(rt, "memory");
     check(rt, lawful, "it is lawful");
-    check_holds(rt, floor, &holds.table);
-    let fit = holds.are_footprints(alloc, floor).expect(rt, "memory");
+    let fit = holds.are_footprints(alloc, world).expect(rt, "memory");
     check(rt, fit, "what is held is what the vehicles hold");
+    let mut floor = PlainFloor::new(alloc, world, 1);
+    check_holds(rt, &mut floor, &holds.table);
     let layout = ask_layout(alloc, conn).expect(rt, "the layout");
     check_same(rt, alloc, &layout, &floor.layout().expect(rt, "memory"));
-    check_trip(rt, alloc, floor, conn, "0001");
-    check_trip(rt, alloc, floor, conn, "0002");
+    check_trip(rt, alloc, &mut floor, conn, "0001");
+    check_trip(rt, alloc, &mut floor, conn, "0002");
 }
 
 /// Makes the desk's tables.
 pub(crate) fn make<S: Alter>(rt: &impl Abort, conn: &mut Connection<S>) {
     assert!(rt; conn.is_autocommit(), "idle");
     make_desk_tables(conn).expect(rt, "tables");
-}
-
-/// A desk with room for one load on each vehicle.
-pub(crate) fn new_floor(alloc: Global) -> PlainFloor {
-    PlainFloor::new(alloc, World::empty(alloc), 1)
 }

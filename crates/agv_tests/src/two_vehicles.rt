@@ -1,7 +1,8 @@
 //! A worked example with two vehicles on the desk's tables: both have trips, and one is cancelled on its way and then holds the
 //! next edge and node, until a person places it. The rows are written out by hand.
 
-use crate::table_cases::{LAYOUT, Request, check_rows, make, new_floor, write_calls};
+use crate::table_cases::{LAYOUT, Request, check_rows, make, write_calls};
+use agv_world::World;
 use sqlite::Connection;
 use std::alloc::Global;
 use std::process::Abort;
@@ -215,12 +216,12 @@ used ref R3
 fn check_meeting(rt: &impl Abort, alloc: Global) {
     let mut conn = Connection::open_in_memory(alloc).expect(rt, "memory");
     make(rt, &mut conn);
-    let mut floor = new_floor(alloc);
-    write_calls(rt, alloc, &mut floor, &mut conn, MEETING);
+    let mut world = World::empty(alloc);
+    write_calls(rt, alloc, &mut world, &mut conn, MEETING);
     check_rows(rt, alloc, &mut conn, MEETING_ROWS);
-    write_calls(rt, alloc, &mut floor, &mut conn, CANCELLED);
+    write_calls(rt, alloc, &mut world, &mut conn, CANCELLED);
     check_rows(rt, alloc, &mut conn, CANCELLED_ROWS);
-    write_calls(rt, alloc, &mut floor, &mut conn, SET_RIGHT);
+    write_calls(rt, alloc, &mut world, &mut conn, SET_RIGHT);
     check_rows(rt, alloc, &mut conn, SET_RIGHT_ROWS);
 }
 

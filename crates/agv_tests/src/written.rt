@@ -9,8 +9,8 @@
 ghost use Rattle.std.specs.Prelude.{IsTrue};
 ghost use Rattle.sqlite_disk.specs.Memory.{memory_is_usable};
 
-use crate::table_cases::{LAYOUT, Request, check_read, check_rows, make, new_floor, write_calls};
-use agv_world::PlainFloor;
+use crate::table_cases::{LAYOUT, Request, check_read, check_rows, make, write_calls};
+use agv_world::World;
 use sqlite::{Alter, Connection, FileStore, Files, Options};
 use sqlite_disk::Memory;
 use std::alloc::Global;
@@ -141,10 +141,10 @@ fn check_beside(rt: &impl Abort, alloc: Global, before: &[&str], after: &[&str])
     for text in after {
         conn.execute(text, &[]).expect(rt, text);
     }
-    let mut floor = new_floor(alloc);
-    write_calls(rt, alloc, &mut floor, &mut conn, PICKED);
+    let mut world = World::empty(alloc);
+    write_calls(rt, alloc, &mut world, &mut conn, PICKED);
     check_rows(rt, alloc, &mut conn, PICKED_ROWS);
-    write_calls(rt, alloc, &mut floor, &mut conn, DROPPED);
+    write_calls(rt, alloc, &mut world, &mut conn, DROPPED);
     check_rows(rt, alloc, &mut conn, DROPPED_ROWS);
 }
 
@@ -212,11 +212,11 @@ fn on_a_disk(rt: HostRuntime) {
     let mut conn = open(&rt, alloc, files);
     make(&rt, &mut conn);
     let mut conn = open(&rt, alloc, close(&rt, conn));
-    let mut floor = new_floor(alloc);
-    write_calls(&rt, alloc, &mut floor, &mut conn, PICKED);
+    let mut world = World::empty(alloc);
+    write_calls(&rt, alloc, &mut world, &mut conn, PICKED);
     let mut conn = open(&rt, alloc, close(&rt, conn));
     check_rows(&rt, alloc, &mut conn, PICKED_ROWS);
-    write_calls(&rt, alloc, &mut floor, &mut conn, DROPPED);
+    write_calls(&rt, alloc, &mut world, &mut conn, DROPPED);
     let mut conn = open(&rt, alloc, close(&rt, conn));
     check_rows(&rt, alloc, &mut conn, DROPPED_ROWS);
 }
@@ -225,14 +225,14 @@ fn on_a_disk(rt: HostRuntime) {
 fn check_part<S: Alter>(
     rt: &impl Abort,
     alloc: Global,
-    floor: &mut PlainFloor,
+    world: &mut World,
     conn: &mut Connection<S>,
     before: &str,
     requests: &[Request],
     after: &str,
 ) {
     check_rows(rt, alloc, conn, before);
-    write_calls(rt, alloc, floor, conn, requests);
+    write_calls(rt, alloc, world, conn, requests);
     check_rows(rt, alloc, conn, after);
 }
 
@@ -243,7 +243,7 @@ const NO_ROWS: &str = "meta 1 1\n";
 #[test]
 fn in_a_file(rt: HostRuntime) {
     let alloc = rt.alloc();
-    let mut floor = new_floor(alloc);
+    let mut world = World::empty(alloc);
     {
         let mut conn = Connection::open(&rt, "written.db").expect(&rt, "a file");
         make(&rt, &mut conn);
@@ -253,7 +253,7 @@ fn in_a_file(rt: HostRuntime) {
         check_part(
             &rt,
             alloc,
-            &mut floor,
+            &mut world,
             &mut conn,
             NO_ROWS,
             PICKED,
@@ -265,7 +265,7 @@ fn in_a_file(rt: HostRuntime) {
         check_part(
             &rt,
             alloc,
-            &mut floor,
+            &mut world,
             &mut conn,
             PICKED_ROWS,
             DROPPED,
@@ -274,5 +274,5 @@ fn in_a_file(rt: HostRuntime) {
     }
     let mut conn = Connection::open(&rt, "written.db").expect(&rt, "a file");
     check_rows(&rt, alloc, &mut conn, DROPPED_ROWS);
-    check_read(&rt, alloc, &mut floor, &mut conn);
+    check_read(&rt, alloc, &world, &mut conn);
 }

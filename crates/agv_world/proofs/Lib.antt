@@ -21,6 +21,7 @@ mod Telling
 mod NodesOf
 mod Counts
 mod Holding
+mod HeldBy
 pub mod Unique
 mod EdgesTold
 pub mod WorldTold
@@ -53,3 +54,4 @@ mod LadenTold
 mod LoadsTold
 mod Strangers
 mod LawfulTold
+pub mod Asking

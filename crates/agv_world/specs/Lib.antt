@@ -9,7 +9,7 @@ pub mod Kept
 pub mod GoodOrder
 pub mod Told
 pub mod Questions
-pub mod Fails
+pub mod Asks
 pub mod SameRows
 pub mod VehicleChanges
 pub mod TableChanges

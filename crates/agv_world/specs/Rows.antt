@@ -94,10 +94,14 @@ used_names world =
     map (λ name. record { kind = used.Order; name = name }) (set.items world.orders)
     ++ map (λ name. record { kind = used.Reference; name = name }) (set.items world.references)
 
+-- the number of the schema, as the row of `meta` has it
+abbrev pub schema_number : ℕ
+schema_number = 1
+
 -- the rows of a world
 abbrev pub rows_of : World → Rows
 rows_of world = record {
-  meta = finite.insert finite.empty 1 1;
+  meta = finite.insert finite.empty 1 schema_number;
   nodes = world.layout.nodes;
   edges = world.layout.edges;
   stations = world.layout.stations;

@@ -84,10 +84,13 @@ vehicles_in tables entries = map (λ (entry : VehicleKey × VehicleRow). (entry.
 unfoldable pub vehicles_of : Tables → finite.FinMap key_cmp Vehicle
 vehicles_of tables = finite.from_entries (vehicles_in tables (finite.entries tables.vehicles))
 
+-- the node or edge is one of these
+abbrev pub is_among : Thing → List Thing → Bool
+is_among thing things = list_any (λ (held : Thing). thing_eq held thing) things
+
 -- the node or edge is in the footprint of the vehicle of this row
 abbrev pub is_held_by : Tables → Thing → VehicleKey × VehicleRow → Bool
-is_held_by tables thing entry =
-    list_any (λ (held : Thing). thing_eq held thing) (footprint_of (standing_of (vehicle_in tables entry.0 entry.1)))
+is_held_by tables thing entry = is_among thing (footprint_of (standing_of (vehicle_in tables entry.0 entry.1)))
 
 -- ---- used names
 

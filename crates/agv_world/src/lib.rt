@@ -6,13 +6,13 @@
 //!   (`specs/Rows.antt`). A [`Change`] is one row written or removed (`specs/Changes.antt`).
 //! - In memory a [`World`] is the tables of its rows, but for the holds, which follow from the others
 //!   (`specs/Kept.antt`). [`World::apply`] carries out changes: all of them, or none.
-//! - Rows tell the world, and the holds among them are the vehicles' footprints ([`laws`]).
-//! - The rows that change where a vehicle, loads, jobs, a name or the layout are written lead from the
-//!   rows of a world to the rows of the world with them ([`change_laws`]).
-//! - A [`Floor`] answers questions to what the desk knows, however it is kept. [`PlainFloor`] answers
-//!   them from a world in memory (`specs/Told.antt`).
 //! - Rows tell the world, tables tell it, and the holds among the rows are the vehicles' footprints
 //!   ([`laws`]).
+//! - The rows that change where a vehicle, loads, jobs, a name or the layout are written lead from the
+//!   rows of a world to the rows of the world with them ([`change_laws`]).
+//! - A [`Floor`] answers questions to what the desk knows, however it is kept. One clause says of each
+//!   what it answers, what it leaves as it was, and what a fault leaves (`specs/Asks.antt`).
+//!   [`PlainFloor`] answers them from a world in memory, which it borrows (`specs/Told.antt`).
 //! - A world is lawful by `specs/Lawful.antt`; what follows from that is in [`lawful_laws`].
 //! - [`World::is_lawful`] tells whether tables, whatever rows they have, are those of a lawful world. It
 //!   looks rows up (`specs/LawfulTests.antt`, `specs/LoadTests.antt`); [`test_laws`] says what that tells.

@@ -1,5 +1,6 @@
 //! Answers from a world in memory.
 ghost use Rattle.std.specs.Prelude.{◌≡◌, ◌≤◌};
+ghost use Rattle.agv_world.specs.Told.{world_of};
 
 use crate::{Counted, Fault, Floor, JobRow, UseKind, VehicleRow, World};
 use agv_header::{Name, Thing, VehicleKey};
@@ -9,28 +10,30 @@ use agv_order::Trip;
 use agv_stock::Place;
 use std::alloc::Global;
 
-/// A world in memory that answers questions. Between questions its tables may be changed, as by
-/// [`World::apply`].
+/// A world in memory that answers questions, and stays as it is as long as it is asked.
 ///
 /// It answers whatever its tables hold: the world that they tell (`specs/Told.antt`), which is the world
 /// that they keep, where that one is in good order. It never fails, save for want of memory. Vehicles,
 /// places, jobs, nodes, stations and used names are looked up by their keys; for the other questions it
 /// goes through tables, so it is for tests and small worlds.
+///
+/// Once the questions are answered, the world is its owner's again. What was decided by the answers is
+/// written by [`World::apply`], to tables that still tell the world that was asked.
 #[derive(Debug, Drop)]
-pub struct PlainFloor {
-    pub world: World,
-    /// How many loads a vehicle may be built for: 1 to 4.
-    pub seats: u32,
+pub struct PlainFloor<'a> {
+    world: &'a World,
+    // How many loads a vehicle may be built for: 1 to 4.
+    seats: u32,
     alloc: Global,
     ghost few: { (1 ≤ seats) × (seats ≤ 4) },
 }
 
-impl PlainFloor {
+impl<'a> PlainFloor<'a> {
     /// A floor that answers from this world, for vehicles of so many loads: 1 to 4.
-    pub fn new(alloc: Global, world: World, seats: u32) -> PlainFloor
+    pub fn new(alloc: Global, world: &'a World, seats: u32) -> PlainFloor<'a>
         requires { (1 ≤ seats) × (seats ≤ 4) }
-        ensures world { result.world ≡ world }
-        ensures seats { result.seats ≡ seats }
+        ensures world { ⟦<PlainFloor<'static> as Floor>⟧.facts.world result ≡ world_of world.now }
+        ensures seats { ⟦<PlainFloor<'static> as Floor>⟧.facts.seats result ≡ seats }
     {
         PlainFloor {
             world,
@@ -38,33 +41,22 @@ impl PlainFloor {
             alloc,
         }
     }
-
-    /// The world again.
-    pub fn into_world(self) -> World
-        ensures { result ≡ self.world }
-    {
-        let PlainFloor {
-            world,
-            seats: _,
-            alloc: _,
-        } = self;
-        world
-    }
 }
 
-impl Floor for PlainFloor {
+impl Floor for PlainFloor<'_> {
     ghost use Rattle.std.specs.Prelude.{false};
     ghost use Rattle.agv_world.specs.Told.{world_of};
 
-    ghost world = { λ floor. world_of floor.world };
+    ghost facts = { record {
+      world = λ floor. world_of floor.world.now;
+      is_clean = λ floor. Unit {0};
+      is_open = λ floor. Unit {0};
+      failed = λ floor. false;
+      seats = λ floor. floor.seats;
+      is_later = λ first now. Unit {0};
+    } };
 
-    ghost is_clean = { λ floor. Unit {0} };
-
-    ghost is_open = { λ floor. Unit {0} };
-
-    ghost failed = { λ floor. false };
-
-    ghost seats = { λ floor. floor.seats };
+    ghost starts = { λ floor. tt };
 
     fn failed(&self) -> bool {
         false
@@ -95,7 +87,7 @@ impl Floor for PlainFloor {
     }
 
     fn holder(&mut self, thing: Thing) -> Result<Option<VehicleKey>, Fault> {
-        Ok(self.world.holder(self.alloc, thing)?)
+        Ok(self.world.holder(thing))
     }
 
     fn node(&mut self, id: Name) -> Result<bool, Fault> {

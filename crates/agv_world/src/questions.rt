@@ -1,9 +1,11 @@
 //! Answers of the world in memory to the questions of [`Floor`](crate::Floor).
-ghost use Rattle.std.specs.Prelude.{◌≡◌, length, IfOk};
+ghost use Rattle.std.specs.Prelude.{◌≡◌, [], ◌∷◌, length, None, IfOk};
 ghost use Rattle.std.specs.FinMap as map;
 ghost use Rattle.std.specs.FinSet as set;
+ghost use Rattle.agv_order.specs.Trips.{node_at};
+ghost use Rattle.agv_track.specs.Footprints.{along, from_node, released_edges, rest_things, things_by};
 ghost use Rattle.agv_world.specs.Questions.{row_of, trip_of, room_at, holder_of, is_used, loads_at, loads_on, job_of, reserved, count_of};
-ghost use Rattle.agv_world.specs.Told.{world_of, edge_named, edges_of, trip_in, open_trip, names_of, is_held_by};
+ghost use Rattle.agv_world.specs.Told.{world_of, edge_named, edges_of, trip_in, open_trip, names_of, is_among, is_held_by};
 
 use crate::{Counted, JobRow, TripRow, UseKey, UseKind, VehicleRow, World};
 use agv_header::{Memory, Name, Thing, VehicleKey};
@@ -11,8 +13,31 @@ use agv_layout::{Edge, Spot};
 use agv_message::Sequence;
 use agv_order::Trip;
 use agv_stock::{Place, room_left};
-use agv_track::{Standing, footprint};
 use std::alloc::Global;
+
+// Whether it is the edge, or the node to which the edge leads.
+fn is_edge_or_finish(thing: &Thing, edge: &Edge) -> bool
+    ensures { result ≡ is_among thing.now (along (edge.now ∷ [])) }
+{
+    Thing::Edge(edge.id) == *thing || Thing::Node(edge.finish) == *thing
+}
+
+// Whether it is the edge or the node of this rest.
+fn is_on_rest(rest: Option<(Name, Name)>, thing: &Thing) -> bool
+    ensures { result ≡ is_among thing.now (rest_things rest) }
+{
+    let Some((edge, node)) = rest else {
+        return false;
+    };
+    Thing::Edge(edge) == *thing || Thing::Node(node) == *thing
+}
+
+// Whether a vehicle without a trip that stands so holds the node or edge.
+fn is_at_rest_on(row: &VehicleRow, thing: &Thing) -> bool
+    ensures { result ≡ is_among thing.now (things_by row.now.node row.now.rest None) }
+{
+    Thing::Node(row.node) == *thing || is_on_rest(row.rest, thing)
+}
 
 impl World {
     // The row of a vehicle; none where there is no such vehicle.
@@ -203,34 +228,67 @@ impl World {
         self.open_trip(alloc, *key)
     }
 
-    // Whether the node or edge is in the footprint of the vehicle of this row.
-    fn is_holder(
-        &self,
-        alloc: Global,
-        key: VehicleKey,
-        row: &VehicleRow,
-        thing: &Thing,
-    ) -> Result<bool, Memory>
-        ensures { IfOk result (λ held. held ≡ is_held_by self.now thing.now (key, row.now)) }
+    // The node that the trip of a row has reached last; none past its end.
+    fn node_reached(&self, order: Name, row: &TripRow) -> Option<Name>
+        ensures { result ≡ node_at (trip_in self.now (order, row.now)) row.now.seen }
     {
-        let standing = Standing {
-            node: row.node,
-            rest: row.rest,
-            trip: self.open_trip(alloc, key)?,
+        if row.seen == 0 {
+            return Some(row.start);
+        }
+        let edge = self
+            .legs
+            .iter()
+            .filter(|(key, _)| key.order == order)
+            .filter_map(|(_, id)| self.edge(*id))
+            .nth(row.seen as usize - 1)?;
+        Some(edge.finish)
+    }
+
+    // Whether the trip of a row drives the edge, or to the node, after the node that it has reached last and
+    // up to the last one that is released.
+    fn drives_on(&self, order: Name, row: &TripRow, thing: &Thing) -> bool
+        ensures { result ≡ is_among thing.now (along (released_edges (trip_in self.now (order, row.now)))) }
+    {
+        self.legs
+            .iter()
+            .filter(|(key, _)| key.order == order)
+            .filter_map(|(_, id)| self.edge(*id))
+            .skip(row.seen as usize)
+            .take(row.base.saturating_sub(row.seen) as usize)
+            .any(|edge| is_edge_or_finish(thing, &edge))
+    }
+
+    // Whether the vehicle with the trip of this row holds the node or edge.
+    fn is_on_trip(&self, order: Name, row: &TripRow, thing: &Thing) -> bool
+        ensures { result ≡ is_among thing.now (from_node (node_at (trip_in self.now (order, row.now)) row.now.seen) (released_edges (trip_in self.now (order, row.now)))) }
+    {
+        let Some(node) = self.node_reached(order, row) else {
+            return false;
         };
-        let things = footprint(alloc, &standing)?;
-        Ok(things.contains(thing))
+        Thing::Node(node) == *thing || self.drives_on(order, row, thing)
+    }
+
+    // Whether the node or edge is in the footprint of the vehicle of this row.
+    fn is_holder(&self, key: VehicleKey, row: &VehicleRow, thing: &Thing) -> bool
+        ensures { result ≡ is_held_by self.now thing.now (key, row.now) }
+    {
+        for (order, trip) in self.trips.iter() {
+            if trip.vehicle == key {
+                return self.is_on_trip(*order, trip, thing);
+            }
+        }
+        is_at_rest_on(row, thing)
     }
 
     // The vehicle in whose footprint a node or edge is; none where it is free.
-    pub(crate) fn holder(&self, alloc: Global, thing: Thing) -> Result<Option<VehicleKey>, Memory>
-        ensures { IfOk result (λ holder. holder ≡ holder_of (world_of self.now) thing) }
+    pub(crate) fn holder(&self, thing: Thing) -> Option<VehicleKey>
+        ensures { result ≡ holder_of (world_of self.now) thing }
     {
         for (key, row) in self.vehicles.iter() {
-            if self.is_holder(alloc, *key, row, &thing)? {
-                return Ok(Some(*key));
+            if self.is_holder(*key, row, &thing) {
+                return Some(*key);
             }
         }
-        Ok(None)
+        None
     }
 }

@@ -1,5 +1,5 @@
 //! The world in memory: its tables.
-ghost use Rattle.std.specs.Prelude.{◌≡◌, IfOk, OnOk, OnErr};
+ghost use Rattle.std.specs.Prelude.{◌≡◌, [], IfOk, IsOk, OnOk, OnErr};
 ghost use Rattle.agv_world.specs.Changes.{change, changed};
 ghost use Rattle.agv_world.specs.Kept.{Agrees, Keeps};
 ghost use Rattle.agv_world.specs.Rows.{Rows, rows_of};
@@ -128,11 +128,16 @@ impl World {
     ///
     /// `Memory` where an allocation was refused; then nothing has changed. It takes time and memory in
     /// proportion to the world, which it copies, and time for the changes, times the logarithm of the rows.
+    /// Where there is no change it takes neither.
     pub fn apply(&mut self, changes: &[Change]) -> Result<(), Memory>
         ensures applied { OnOk result ((world next : WorldOf) → Keeps self.old world → changed changes.now (rows_of world) ≡ rows_of next → Keeps self.new next) }
         ensures agrees { OnOk result ((rows : Rows) → Agrees self.old rows → Agrees self.new (changed changes.now rows)) }
         ensures refused { OnErr result (self.new ≡ self.old) }
+        ensures unchanged { changes.now ≡ [] → IsOk result × (self.new ≡ self.old) }
     {
+        if changes.is_empty() {
+            return Ok(());
+        }
         let mut next = self.copy()?;
         next.put_all(changes)?;
         *self = next;

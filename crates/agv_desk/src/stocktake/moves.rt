@@ -1,8 +1,8 @@
 //! Where a stocktake puts the loads.
-ghost use Rattle.std.specs.Prelude.{◌≡◌, List, IfOk, OnErr, OnOk};
+ghost use Rattle.std.specs.Prelude.{◌≡◌, List, OnOk};
 ghost use Rattle.std.specs.FinMap as map;
 ghost use Rattle.std.specs.List.{list_any};
-ghost use Rattle.agv_world.specs.Fails.{Fails};
+ghost use Rattle.agv_world.specs.Asks.{Asks};
 ghost use Rattle.agv_desk.specs.CountParts.{moves_in, placed, recorded, settled, standing, standing_at};
 ghost use Rattle.agv_desk.specs.LoadSteps.{is_in_job};
 ghost use Rattle.agv_desk.specs.StocktakeSteps.{from_station, new_place};
@@ -93,11 +93,7 @@ impl Count {
         moves: &mut ByName<Place>,
         stations: &[(Name, Spot)],
     ) -> Result<(), Fault>
-        ensures told { F.is_clean floor.new → OnOk result ((moves.new ≡ settled (map.contains_key self.now.stations) self.now.found moves.old (standing (F.world floor.old) stations.now)) × (F.world floor.new ≡ F.world floor.old)) }
-        ensures left { F.is_clean floor.new → F.is_open floor.new → OnErr result (F.world floor.new ≡ F.world floor.old) }
-        ensures earlier { F.is_clean floor.new → F.is_clean floor.old × (F.is_open floor.new → F.is_open floor.old) }
-        ensures fails { Fails result (F.failed floor.old) (F.failed floor.new) }
-        ensures same { F.seats floor.new ≡ F.seats floor.old }
+        ensures { Asks F.facts floor.old floor.new result (λ world done. moves.new ≡ settled (map.contains_key self.now.stations) self.now.found moves.old (standing world stations.now)) }
     {
         for (station, _) in stations {
             let loads = floor.loads_at(*station)?;
@@ -114,11 +110,7 @@ impl Count {
         floor: &mut F,
         seen: &[Sighting],
     ) -> Result<Vec<(Name, Place)>, Fault>
-        ensures told { F.is_clean floor.new → IfOk result (λ moves. (moves.items ≡ map.entries (moves_in (F.world floor.old) self.now.stations self.now.found seen.now)) × (F.world floor.new ≡ F.world floor.old)) }
-        ensures left { F.is_clean floor.new → F.is_open floor.new → OnErr result (F.world floor.new ≡ F.world floor.old) }
-        ensures earlier { F.is_clean floor.new → F.is_clean floor.old × (F.is_open floor.new → F.is_open floor.old) }
-        ensures fails { Fails result (F.failed floor.old) (F.failed floor.new) }
-        ensures same { F.seats floor.new ≡ F.seats floor.old }
+        ensures { Asks F.facts floor.old floor.new result (λ world moves. moves.items ≡ map.entries (moves_in world self.now.stations self.now.found seen.now)) }
     {
         let mut moves = ByName::new(alloc);
         self.settle_found(&mut moves, seen)?;
@@ -130,11 +122,7 @@ impl Count {
 
 /// Whether one of the loads that move has a live job.
 pub(crate) fn moves_in_job<F: Floor>(floor: &mut F, moves: &[(Name, Place)]) -> Result<bool, Fault>
-    ensures told { F.is_clean floor.new → IfOk result (λ found. (found ≡ list_any (λ load. is_in_job (F.world floor.old) load.0) moves.now) × (F.world floor.new ≡ F.world floor.old)) }
-    ensures left { F.is_clean floor.new → F.is_open floor.new → OnErr result (F.world floor.new ≡ F.world floor.old) }
-    ensures earlier { F.is_clean floor.new → F.is_clean floor.old × (F.is_open floor.new → F.is_open floor.old) }
-    ensures fails { Fails result (F.failed floor.old) (F.failed floor.new) }
-    ensures same { F.seats floor.new ≡ F.seats floor.old }
+    ensures { Asks F.facts floor.old floor.new result (λ world found. found ≡ list_any (λ load. is_in_job world load.0) moves.now) }
 {
     for (load, _) in moves {
         if floor.job_of(*load)?.is_some() {

@@ -1,9 +1,9 @@
 //! Whether what a stocktake has found fits.
-ghost use Rattle.std.specs.Prelude.{◌≡◌, ℕ, List, IfOk, OnErr};
+ghost use Rattle.std.specs.Prelude.{◌≡◌, ℕ, List};
 ghost use Rattle.std.specs.FinMap as map;
 ghost use Rattle.std.specs.List.{list_all};
 ghost use Rattle.std.specs.Option.{unwrap_or};
-ghost use Rattle.agv_world.specs.Fails.{Fails};
+ghost use Rattle.agv_world.specs.Asks.{Asks};
 ghost use Rattle.agv_world.specs.Questions.{reserved};
 ghost use Rattle.agv_desk.specs.CountParts.{has_room, all_have_room, seen_at};
 
@@ -28,11 +28,7 @@ fn fits<F: Floor>(
     station: Name,
     spot: Spot,
 ) -> Result<bool, Fault>
-    ensures told { F.is_clean floor.new → IfOk result (λ fits. (fits ≡ has_room (unwrap_or (map.get counts.now station) 0) (reserved (F.world floor.old) station) spot) × (F.world floor.new ≡ F.world floor.old)) }
-    ensures left { F.is_clean floor.new → F.is_open floor.new → OnErr result (F.world floor.new ≡ F.world floor.old) }
-    ensures earlier { F.is_clean floor.new → F.is_clean floor.old × (F.is_open floor.new → F.is_open floor.old) }
-    ensures fails { Fails result (F.failed floor.old) (F.failed floor.new) }
-    ensures same { F.seats floor.new ≡ F.seats floor.old }
+    ensures { Asks F.facts floor.old floor.new result (λ world fits. fits ≡ has_room (unwrap_or (map.get counts.now station) 0) (reserved world station) spot) }
 {
     let found = counts.get(station).copied().unwrap_or(0);
     let reserved = floor.reserved(station)?;
@@ -45,11 +41,7 @@ fn each_fits<F: Floor>(
     counts: &ByName<usize>,
     stations: &[(Name, Spot)],
 ) -> Result<bool, Fault>
-    ensures told { F.is_clean floor.new → IfOk result (λ fit. (fit ≡ list_all (λ station. has_room (unwrap_or (map.get counts.now station.0) 0) (reserved (F.world floor.old) station.0) station.1) stations.now) × (F.world floor.new ≡ F.world floor.old)) }
-    ensures left { F.is_clean floor.new → F.is_open floor.new → OnErr result (F.world floor.new ≡ F.world floor.old) }
-    ensures earlier { F.is_clean floor.new → F.is_clean floor.old × (F.is_open floor.new → F.is_open floor.old) }
-    ensures fails { Fails result (F.failed floor.old) (F.failed floor.new) }
-    ensures same { F.seats floor.new ≡ F.seats floor.old }
+    ensures { Asks F.facts floor.old floor.new result (λ world fit. fit ≡ list_all (λ station. has_room (unwrap_or (map.get counts.now station.0) 0) (reserved world station.0) station.1) stations.now) }
 {
     for (station, spot) in stations {
         if !fits(floor, counts, *station, *spot)? {
@@ -66,11 +58,7 @@ pub(crate) fn all_fit<F: Floor>(
     stations: &ByName<Spot>,
     seen: &[Sighting],
 ) -> Result<bool, Fault>
-    ensures told { F.is_clean floor.new → IfOk result (λ fit. (fit ≡ all_have_room (F.world floor.old) seen.now (map.entries stations.now)) × (F.world floor.new ≡ F.world floor.old)) }
-    ensures left { F.is_clean floor.new → F.is_open floor.new → OnErr result (F.world floor.new ≡ F.world floor.old) }
-    ensures earlier { F.is_clean floor.new → F.is_clean floor.old × (F.is_open floor.new → F.is_open floor.old) }
-    ensures fails { Fails result (F.failed floor.old) (F.failed floor.new) }
-    ensures same { F.seats floor.new ≡ F.seats floor.old }
+    ensures { Asks F.facts floor.old floor.new result (λ world fit. fit ≡ all_have_room world seen.now (map.entries stations.now)) }
 {
     let counts = counts(alloc, seen)?;
     let stations = stations.list(alloc)?;

@@ -1,9 +1,9 @@
 //! The loads that a stocktake has found, with what is known of each.
-ghost use Rattle.std.specs.Prelude.{◌≡◌, ℕ, ◌<◌, List, IfOk, OnErr, OnOk};
+ghost use Rattle.std.specs.Prelude.{◌≡◌, ℕ, ◌<◌, List, IfOk, OnOk};
 ghost use Rattle.std.specs.FinMap as map;
 ghost use Rattle.std.specs.List.{list_any, filter_map};
 ghost use Rattle.std.specs.Option.{unwrap_or};
-ghost use Rattle.agv_world.specs.Fails.{Fails};
+ghost use Rattle.agv_world.specs.Asks.{Asks};
 ghost use Rattle.agv_desk.specs.CountParts.{sightings, unknown_one, counted_up, seen_at, with_sighting};
 ghost use Rattle.agv_desk.specs.StocktakeSteps.{is_aboard};
 
@@ -19,11 +19,7 @@ fn note_sighting<F: Floor>(
     station: Name,
     load: Option<Name>,
 ) -> Result<(), Fault>
-    ensures told { F.is_clean floor.new → OnOk result ((seen.new.items ≡ with_sighting (F.world floor.old) seen.old.items station load) × (F.world floor.new ≡ F.world floor.old)) }
-    ensures left { F.is_clean floor.new → F.is_open floor.new → OnErr result (F.world floor.new ≡ F.world floor.old) }
-    ensures earlier { F.is_clean floor.new → F.is_clean floor.old × (F.is_open floor.new → F.is_open floor.old) }
-    ensures fails { Fails result (F.failed floor.old) (F.failed floor.new) }
-    ensures same { F.seats floor.new ≡ F.seats floor.old }
+    ensures { Asks F.facts floor.old floor.new result (λ world done. seen.new.items ≡ with_sighting world seen.old.items station load) }
 {
     if let Some(load) = load {
         let place = floor.place(load)?;
@@ -42,11 +38,7 @@ pub(crate) fn look_up<F: Floor>(
     floor: &mut F,
     rows: &[(Name, Option<Name>)],
 ) -> Result<Vec<Sighting>, Fault>
-    ensures told { F.is_clean floor.new → IfOk result (λ seen. (seen.items ≡ sightings (F.world floor.old) rows.now) × (F.world floor.new ≡ F.world floor.old)) }
-    ensures left { F.is_clean floor.new → F.is_open floor.new → OnErr result (F.world floor.new ≡ F.world floor.old) }
-    ensures earlier { F.is_clean floor.new → F.is_clean floor.old × (F.is_open floor.new → F.is_open floor.old) }
-    ensures fails { Fails result (F.failed floor.old) (F.failed floor.new) }
-    ensures same { F.seats floor.new ≡ F.seats floor.old }
+    ensures { Asks F.facts floor.old floor.new result (λ world seen. seen.items ≡ sightings world rows.now) }
 {
     let mut seen = Vec::new(alloc);
     for (station, load) in rows {

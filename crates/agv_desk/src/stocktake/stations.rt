@@ -1,7 +1,7 @@
 //! The stations of a stocktake.
-ghost use Rattle.std.specs.Prelude.{◌≡◌, IfOk, OnErr};
+ghost use Rattle.std.specs.Prelude.{◌≡◌};
 ghost use Rattle.std.specs.FinMap as map;
-ghost use Rattle.agv_world.specs.Fails.{Fails};
+ghost use Rattle.agv_world.specs.Asks.{Asks};
 ghost use Rattle.agv_desk.specs.CountParts.{AreCounted, noted_station};
 
 use agv_header::Name;
@@ -15,11 +15,7 @@ fn note_station<F: Floor>(
     stations: &mut ByName<Spot>,
     id: Name,
 ) -> Result<bool, Fault>
-    ensures told { F.is_clean floor.new → IfOk result (λ known. ((known, stations.new) ≡ noted_station stations.old id (map.get stations.old id) (map.get (F.world floor.old).layout.stations id)) × (F.world floor.new ≡ F.world floor.old)) }
-    ensures left { F.is_clean floor.new → F.is_open floor.new → OnErr result (F.world floor.new ≡ F.world floor.old) }
-    ensures earlier { F.is_clean floor.new → F.is_clean floor.old × (F.is_open floor.new → F.is_open floor.old) }
-    ensures fails { Fails result (F.failed floor.old) (F.failed floor.new) }
-    ensures same { F.seats floor.new ≡ F.seats floor.old }
+    ensures { Asks F.facts floor.old floor.new result (λ world known. (known, stations.new) ≡ noted_station stations.old id (map.get stations.old id) (map.get world.layout.stations id)) }
 {
     if stations.get(id).is_some() {
         return Ok(true);
@@ -37,11 +33,7 @@ pub(crate) fn counted_stations<F: Floor>(
     floor: &mut F,
     rows: &[(Name, Option<Name>)],
 ) -> Result<Option<ByName<Spot>>, Fault>
-    ensures told { F.is_clean floor.new → IfOk result (λ stations. AreCounted (F.world floor.old) rows.now stations × (F.world floor.new ≡ F.world floor.old)) }
-    ensures left { F.is_clean floor.new → F.is_open floor.new → OnErr result (F.world floor.new ≡ F.world floor.old) }
-    ensures earlier { F.is_clean floor.new → F.is_clean floor.old × (F.is_open floor.new → F.is_open floor.old) }
-    ensures fails { Fails result (F.failed floor.old) (F.failed floor.new) }
-    ensures same { F.seats floor.new ≡ F.seats floor.old }
+    ensures { Asks F.facts floor.old floor.new result (λ world stations. AreCounted world rows.now stations) }
 {
     let mut stations = ByName::new(alloc);
     for (station, _) in rows {

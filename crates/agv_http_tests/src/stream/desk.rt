@@ -19,8 +19,11 @@ const MOST: u32 = 100;
 /// A desk that keeps its world in memory.
 #[derive(Drop)]
 pub(super) struct Desk {
-    floor: PlainFloor,
+    world: World,
+    /// How many loads a vehicle may be built for: 1 to 4.
+    seats: u32,
     routes: Routes,
+    ghost few: { (1 ≤ seats) × (seats ≤ 4) },
 }
 
 /// A desk that knows nothing yet, for vehicles of so many loads: 1 to 4.
@@ -28,7 +31,8 @@ pub(super) fn new_desk(rt: &impl Abort, alloc: Global, seats: u32) -> Desk
     requires { (1 ≤ seats) × (seats ≤ 4) }
 {
     Desk {
-        floor: PlainFloor::new(alloc, World::empty(alloc), seats),
+        world: World::empty(alloc),
+        seats,
         routes: Routes::new(alloc).expect(rt, "memory"),
     }
 }
@@ -52,8 +56,9 @@ impl Desk {
     /// Decides a call, and carries out what changes.
     fn decide(&mut self, rt: &impl Abort, alloc: Global, call: &Call) -> Answer {
         let at = Moment::of(MOMENT).expect(rt, "a moment");
-        let decision = decide(alloc, &mut self.floor, at, call).expect(rt, "memory");
-        let applied = self.floor.world.apply(decision.changes.as_slice());
+        let mut floor = PlainFloor::new(alloc, &self.world, self.seats);
+        let decision = decide(alloc, &mut floor, at, call).expect(rt, "memory");
+        let applied = self.world.apply(decision.changes.as_slice());
         applied.expect(rt, "memory");
         decision.answer
     }
@@ -75,7 +80,7 @@ impl Desk {
         out: &mut Vec<u8>,
     ) {
         let answer = self.answer(rt, alloc, request);
-        let report = report_of(rt, alloc, &mut self.floor, &answer);
+        let report = report_of(rt, alloc, &self.world, &answer);
         let put = put_answer(&answer, &report, request.close, out);
         put.expect(rt, "memory");
     }

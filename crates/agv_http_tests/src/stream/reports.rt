@@ -4,13 +4,14 @@ use agv_count::{hold_report, loads_csv, stock_report};
 use agv_desk::Answer;
 use agv_header::{Name, Thing, VehicleKey};
 use agv_layout::Station;
-use agv_world::{Floor, PlainFloor};
+use agv_world::{Floor, PlainFloor, World};
 use std::alloc::Global;
 use std::process::Abort;
 
 /// The stations, each with how many live jobs go there.
-fn stations_of(rt: &impl Abort, alloc: Global, floor: &mut PlainFloor) -> Vec<(Station, u32)> {
-    let rows = floor.world.stations.list(alloc).expect(rt, "memory");
+fn stations_of(rt: &impl Abort, alloc: Global, world: &World) -> Vec<(Station, u32)> {
+    let rows = world.stations.list(alloc).expect(rt, "memory");
+    let mut floor = PlainFloor::new(alloc, world, 1);
     let mut stations = Vec::new(alloc);
     for (id, spot) in &rows {
         let reserved = floor.reserved(*id).expect(rt, "memory");
@@ -25,35 +26,36 @@ fn stations_of(rt: &impl Abort, alloc: Global, floor: &mut PlainFloor) -> Vec<(S
     stations
 }
 
-fn vehicles_of(rt: &impl Abort, alloc: Global, floor: &PlainFloor) -> Vec<VehicleKey> {
+fn vehicles_of(rt: &impl Abort, alloc: Global, world: &World) -> Vec<VehicleKey> {
     let mut keys = Vec::new(alloc);
-    for (key, _) in floor.world.vehicles.iter() {
+    for (key, _) in world.vehicles.iter() {
         keys.push(*key).expect(rt, "memory");
     }
     keys
 }
 
-fn stock_of(rt: &impl Abort, alloc: Global, floor: &mut PlainFloor) -> Vec<u8> {
-    let stations = stations_of(rt, alloc, floor);
-    let loads = floor.world.loads.list(alloc).expect(rt, "memory");
-    let vehicles = vehicles_of(rt, alloc, floor);
+fn stock_of(rt: &impl Abort, alloc: Global, world: &World) -> Vec<u8> {
+    let stations = stations_of(rt, alloc, world);
+    let loads = world.loads.list(alloc).expect(rt, "memory");
+    let vehicles = vehicles_of(rt, alloc, world);
     stock_report(alloc, &stations, &loads, &vehicles).expect(rt, "memory")
 }
 
 /// The nodes, and then the edges, each by name.
-fn things_of(rt: &impl Abort, alloc: Global, floor: &PlainFloor) -> Vec<Thing> {
+fn things_of(rt: &impl Abort, alloc: Global, world: &World) -> Vec<Thing> {
     let mut things = Vec::new(alloc);
-    for node in floor.world.nodes.iter() {
+    for node in world.nodes.iter() {
         things.push(Thing::Node(*node)).expect(rt, "memory");
     }
-    for (edge, _) in floor.world.edges.iter() {
+    for (edge, _) in world.edges.iter() {
         things.push(Thing::Edge(*edge)).expect(rt, "memory");
     }
     things
 }
 
-fn holds_of(rt: &impl Abort, alloc: Global, floor: &mut PlainFloor) -> Vec<u8> {
-    let things = things_of(rt, alloc, floor);
+fn holds_of(rt: &impl Abort, alloc: Global, world: &World) -> Vec<u8> {
+    let things = things_of(rt, alloc, world);
+    let mut floor = PlainFloor::new(alloc, world, 1);
     let mut holds = Vec::new(alloc);
     for thing in &things {
         if let Some(key) = floor.holder(*thing).expect(rt, "memory") {
@@ -64,22 +66,17 @@ fn holds_of(rt: &impl Abort, alloc: Global, floor: &mut PlainFloor) -> Vec<u8> {
     hold_report(alloc, &holds, count).expect(rt, "memory")
 }
 
-fn export_of(rt: &impl Abort, alloc: Global, floor: &PlainFloor) -> Vec<u8> {
-    let loads: Vec<(Name, _)> = floor.world.loads.list(alloc).expect(rt, "memory");
+fn export_of(rt: &impl Abort, alloc: Global, world: &World) -> Vec<u8> {
+    let loads: Vec<(Name, _)> = world.loads.list(alloc).expect(rt, "memory");
     loads_csv(alloc, &loads).expect(rt, "memory")
 }
 
 /// The report that an answer gives, or no byte.
-pub(super) fn report_of(
-    rt: &impl Abort,
-    alloc: Global,
-    floor: &mut PlainFloor,
-    answer: &Answer,
-) -> Vec<u8> {
+pub(super) fn report_of(rt: &impl Abort, alloc: Global, world: &World, answer: &Answer) -> Vec<u8> {
     match answer {
-        Answer::StockReport => stock_of(rt, alloc, floor),
-        Answer::HoldReport => holds_of(rt, alloc, floor),
-        Answer::LoadsExport => export_of(rt, alloc, floor),
+        Answer::StockReport => stock_of(rt, alloc, world),
+        Answer::HoldReport => holds_of(rt, alloc, world),
+        Answer::LoadsExport => export_of(rt, alloc, world),
         _ => Vec::new(alloc),
     }
 }

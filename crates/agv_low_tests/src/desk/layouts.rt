@@ -63,7 +63,7 @@ fn register(rt: &impl Abort, alloc: Global, desk: &mut Desk, i: u32, wanted: &st
 
 /// The world is not lawful with one vehicle more, which is written by hand.
 fn check_one_more(rt: &impl Abort, alloc: Global, desk: &mut Desk) {
-    let world = &mut desk.floor.world;
+    let world = &mut desk.world;
     let first = world.vehicles.get(key(rt, alloc, 0));
     let mut row = *first.expect(rt, "a vehicle");
     row.node = numbered(rt, alloc, 'P', 100);

@@ -1,26 +1,24 @@
-use Rattle.std.proofs.Common.{rules, ◌++◌, refl, ◌∙◌}
+use Rattle.std.proofs.Common.{◌++◌, refl}
 use Rattle.std.specs.List.{zip}
+use Rattle.agv_world.proofs.Asking.{retold}
 use Rattle.agv_desk.proofs.ActJobs.{job_rows, rows-more}
+use Rattle.agv_desk.proofs.AskedInTurn.{asked_next, says_so}
 use Rattle.agv_desk.proofs.Pairs.{all_made, no_more, one_more}
 use Rattle.agv_desk.proofs.acts.write_jobs.Goals as goal
 
 pub loop-act-preserved : goal.loop-act-preserved
-loop-act-preserved g c = record {
-  told = λ clean.
-      let kept = c.loop-act.invariant.told (c.in_ok-write_job.ensures.earlier clean).0 in
-      let done = c.in_ok-write_job.ensures.told clean in
-      let left = one_more c.loop-act.act-iterator c.next.new.self c.next.result _ c.in-Some.is c.next.ensures.steps in
-      (done.1 ∙ kept.0, rows-more _ _ c.args.ended _ _ _ _ _ _ kept.0 left done.0 kept.1);
-  earlier = search rules;
-  fails = search rules;
-  same = search rules;
-}
+loop-act-preserved g c =
+    let so_far = c.loop-act.invariant in
+    let asked = c.in_ok-write_job.ensures in
+    says_so (asked_next so_far asked) (λ clean.
+    let was_clean = asked.was_clean clean in
+    let left = one_more c.loop-act.act-iterator c.next.new.self c.next.result _ c.in-Some.is c.next.ensures.steps in
+    rows-more _ _ c.args.ended _ _ _ _ _ _ (so_far.world was_clean) left (asked.told clean) (so_far.told was_clean))
 
-pub returns-clause-told : goal.returns-clause-told
-returns-clause-told g c = λ clean.
-    let rows = job_rows (g.F.Floor.world c.args.floor.now) c.args.ended in
+pub returns : goal.returns
+returns g c =
+    let rows = job_rows (g.F.Floor.facts.world c.args.floor.now) c.args.ended in
     let left = zip c.loop-act.act-iterator.a.rest.now c.loop-act.act-iterator.b.rest.now in
     let all = c.args.changes.now.items ++ rows (zip c.args.acts.now c.args.statuses.now) in
     let over = no_more c.loop-act.act-iterator c.next.new.self c.next.result c.in-None.is c.next.ensures.steps in
-    let kept = c.loop-act.invariant.told clean in
-    (all_made rows left c.loop-act.changes.items all refl over kept.1, kept.0)
+    retold (λ told. all_made rows left c.loop-act.changes.items all refl over told) c.loop-act.invariant

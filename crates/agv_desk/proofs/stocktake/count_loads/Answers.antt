@@ -9,31 +9,31 @@ use Rattle.agv_world.specs.declared.floor.Counted.TheVariants as counted
 use Rattle.agv_desk.specs.CountParts.{all_have_room, counted_effect, moves_list}
 use Rattle.agv_desk.specs.LoadSteps.{most, is_in_job}
 use Rattle.agv_desk.specs.Outcomes.{Made, decided}
+use Rattle.agv_desk.proofs.AskedInTurn.{asked_next, says_so}
 use Rattle.agv_desk.proofs.CountedWhole.{passed}
 use Rattle.agv_desk.proofs.stocktake.count_loads.Goals as goal
 
-pub returns-clause-told : goal.returns-clause-told
-returns-clause-told g c = λ clean.
-    let start = g.F.Floor.world c.args.floor.now in
+pub returns : goal.returns
+returns g c =
+    let start = g.F.Floor.facts.world c.args.floor.now in
     let stations = c.args.count.now.stations in
     let found = c.args.count.now.found in
     let seen = c.args.seen.now in
     let moves = moves_list start stations found seen in
-    let counted_clean = (c.in_ok-count.ensures.earlier clean).0 in
-    let fit_clean = (c.in_ok-all_fit.ensures.earlier counted_clean).0 in
-    let job_clean = (c.in_ok-moves_in_job.ensures.earlier fit_clean).0 in
-    let moved = c.in_ok-moves.ensures.told job_clean in
-    let jobs = c.in_ok-moves_in_job.ensures.told fit_clean in
-    let fit = c.in_ok-all_fit.ensures.told counted_clean in
-    let used = c.in_ok-count.ensures.told clean in
-    let listed : c.deref.result.now ≡ moves = c.deref.ensures.value ∙ moved.0 in
-    let listed_again : c.deref-2.result.now ≡ moves = c.deref-2.ensures.value ∙ moved.0 in
+    let moved = c.in_ok-moves.ensures in
+    let jobs = asked_next moved c.in_ok-moves_in_job.ensures in
+    let fit = asked_next jobs c.in_ok-all_fit.ensures in
+    let used = asked_next fit c.in_ok-count.ensures in
+    says_so used (λ clean.
+    let fit_clean = c.in_ok-count.ensures.was_clean clean in
+    let job_clean = c.in_ok-all_fit.ensures.was_clean fit_clean in
+    let moves_clean = c.in_ok-moves_in_job.ensures.was_clean job_clean in
+    let listed : c.deref.result.now ≡ moves = c.deref.ensures.value ∙ moved.told moves_clean in
+    let listed_again : c.deref-2.result.now ≡ moves = c.deref-2.ensures.value ∙ moved.told moves_clean in
     let none_aboard = sym c.finds_aboard.ensures ∙ c.if-finds_aboard.false in
-    let none_in_job = sym (jobs.0 ∙ (λ i. list_any (λ (load : List ℕ × Place). is_in_job (moved.1 i) load.0) (listed i))) ∙ c.if-branch.false in
-    let room = sym (fit.0 ∙ ap (λ (w : World). all_have_room w seen (map.entries stations)) (jobs.1 ∙ moved.1)) ∙ c.if-not-branch.false in
-    let few = ap (λ n. nat_lt n most) (sym (used.0 ∙ ap (λ (w : World). count_of w counted.References) (fit.1 ∙ jobs.1 ∙ moved.1))) ∙ lt-ltb _ _ c.if-branch-ge-MOST_REFERENCES.false in (
-      c.in_ok-counted_decision.ensures
-          ∙ ap (λ (moves : List (List ℕ × Place)). decided (Made (counted_effect c.args.reference moves seen))) listed_again
-          ∙ ap decided (passed _ _ _ _ (Made (counted_effect c.args.reference moves seen)) none_aboard none_in_job room few),
-      used.1 ∙ fit.1 ∙ jobs.1 ∙ moved.1,
-    )
+    let none_in_job = sym (jobs.told job_clean ∙ (λ i. list_any (λ (load : List ℕ × Place). is_in_job (moved.world moves_clean i) load.0) (listed i))) ∙ c.if-branch.false in
+    let room = sym (fit.told fit_clean ∙ ap (λ (w : World). all_have_room w seen (map.entries stations)) (jobs.world job_clean)) ∙ c.if-not-branch.false in
+    let few = ap (λ n. nat_lt n most) (sym (used.told clean ∙ ap (λ (w : World). count_of w counted.References) (fit.world fit_clean))) ∙ lt-ltb _ _ c.if-branch-ge-MOST_REFERENCES.false in
+    c.in_ok-counted_decision.ensures
+    ∙ ap (λ (moves : List (List ℕ × Place)). decided (Made (counted_effect c.args.reference moves seen))) listed_again
+    ∙ ap decided (passed _ _ _ _ (Made (counted_effect c.args.reference moves seen)) none_aboard none_in_job room few))

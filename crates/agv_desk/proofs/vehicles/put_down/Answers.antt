@@ -1,11 +1,11 @@
+use Rattle.agv_world.proofs.Asking.{retold}
 use Rattle.agv_desk.proofs.VehicleRows.{put_down_told}
 use Rattle.agv_desk.proofs.vehicles.put_down.Goals as goal
 
-pub returns-clause-told : goal.returns-clause-told
-returns-clause-told g c = λ clean.
-    let stopped = c.in_ok-stop_jobs.ensures.told clean in (
-      put_down_told (g.F.Floor.world c.args.floor.now) c.args.key.now c.args.row.now c.args.trip c.args.reference c.args.node _ _ _ _ _ _ _ _ c.made.result
-          c.placed-next.ensures c.standing-old.ensures c.standing-new.ensures c.new-changes.ensures.items c.in_ok-write_vehicle.ensures
-          stopped.0 c.reference_used.ensures c.in_ok-push.ensures.items c.made.ensures.answer c.made.ensures.changes,
-      stopped.1,
-    )
+pub returns : goal.returns
+returns g c =
+    retold (λ stopped.
+    put_down_told (g.F.Floor.facts.world c.args.floor.now) c.args.key.now c.args.row.now c.args.trip c.args.reference c.args.node _ _ _ _ _ _ _ _ c.made.result
+    c.placed-next.ensures c.standing-old.ensures c.standing-new.ensures c.new-changes.ensures.items c.in_ok-write_vehicle.ensures
+    stopped c.reference_used.ensures c.in_ok-push.ensures.items c.made.ensures.answer c.made.ensures.changes)
+    c.in_ok-stop_jobs.ensures

@@ -1,11 +1,11 @@
 use Rattle.std.proofs.Common.{◌≡◌, ◌≤◌, ◌<◌, ◌+◌, ◌-◌, ◌*◌, ◌++◌, ◌∷◌, [], ℕ, List, Bool, length, false, not, refl, sym, ap, ◌∙◌, subst, inl, inr, arith, length-append, vec_len, Result, Err}
 use Rattle.std.proofs.Math.ListN.{length-drop}
 use Rattle.std.proofs.KnownBytes.{Keeps-refl}
-use Rattle.agv_store.specs.HeldLoads.{HoldsLoads, HoldsIfOpen}
+use Rattle.agv_tables.specs.loads.HeldLoads.{HoldsLoads, HoldsIfOpen}
 use Rattle.agv_face.specs.declared.stream.Stop.{Stop}
 use Rattle.agv_face.specs.StreamEnds.{IsStreamEnd}
 use Rattle.agv_face.specs.Stepped.{IsNextOutcome}
-use Rattle.agv_store.proofs.Later.{later_refl, later_trans}
+use Rattle.agv_tables.proofs.sql.Later.{later_refl, later_trans}
 use Rattle.agv_face.proofs.Streaming.{HasCome, at_start, after_read, after_call, at_the_end, so_far, all_so_far, none_answered, answered-push, answered-none, answered-less}
 use Rattle.agv_face.proofs.Steps.{of_same_err, next_stopped, read_stopped}
 use Rattle.agv_face.proofs.stream.answer_calls.Goals as goal

@@ -1,5 +1,5 @@
 use Rattle.std.proofs.Common.{◌≡◌, ◌≤◌, ◌+◌, ◌-◌, ◌*◌, List, length, vec_len, vec_capacity}
-use Rattle.agv_store.specs.HeldLoads.{IsLater}
+use Rattle.agv_tables.specs.sql.Connections.{IsLater}
 use Rattle.agv_desk.specs.declared.call.Call.{Call}
 use Rattle.agv_face.proofs.Steps.{Answering}
 use Rattle.agv_face.specs.Watched.{calls_of, counted}

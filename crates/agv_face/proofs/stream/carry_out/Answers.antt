@@ -1,8 +1,8 @@
 use Rattle.std.proofs.Common.{◌≡◌, Bool, [], Result, IfErr, refl, sym, ap, ◌∙◌, subst}
 use Rattle.std.proofs.Math.Logic.{⊎_map}
-use Rattle.agv_store.specs.HeldLoads.{HoldsLoads}
-use Rattle.agv_store.specs.declared.fault.Fault.{Fault}
-use Rattle.agv_store.specs.declared.fault.Fault.TheVariants as fault
+use Rattle.agv_tables.specs.loads.HeldLoads.{HoldsLoads}
+use Rattle.agv_tables.specs.declared.loads.fault.Fault.{Fault}
+use Rattle.agv_tables.specs.declared.loads.fault.Fault.TheVariants as fault
 use Rattle.agv_desk.specs.declared.answer.Answer.{Answer}
 use Rattle.agv_desk.specs.declared.call.Call.{Call}
 use Rattle.agv_face.specs.Served.{answer_to, after, place_answer}

@@ -1,7 +1,8 @@
 use Rattle.std.proofs.Common.{ℕ, List, [], ◌++◌, ◌-◌, ap, arith, length, length-append}
 use Rattle.agv_http.specs.Answers.{answer_content, answer_text, content_text}
 use Rattle.agv_http.specs.Given.{head_of}
-use Rattle.agv_http.proofs.Appending.{len_of_two, nothing_yet, refused_then, second_unturned, two_turned}
+use Rattle.agv_message.proofs.Appending.{nothing_yet, refused_then}
+use Rattle.agv_http.proofs.Turning.{len_of_two, second_unturned, two_turned}
 use Rattle.agv_http.proofs.content.put_parts.Goals as goal
 
 pub turn-requires : goal.turn-requires

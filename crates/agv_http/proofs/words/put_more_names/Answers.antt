@@ -3,7 +3,7 @@ use Rattle.std.proofs.lemmas.List.Folds.{length-flat_map-take}
 use Rattle.serde_json.specs.Written.{compact_text}
 use Rattle.agv_message.specs.Json.{text}
 use Rattle.agv_http.specs.Pieces.{more_names}
-use Rattle.agv_http.proofs.Appending.{refused_then}
+use Rattle.agv_message.proofs.Appending.{refused_then}
 use Rattle.agv_http.proofs.words.put_more_names.Goals as goal
 
 pub returns-in_err-put_name_after : goal.returns-in_err-put_name_after
@@ -12,4 +12,4 @@ returns-in_err-put_name_after c =
     let within : length (more_names now) + length (44 ∷ compact_text (text c.name-item.result)) ≤ length (more_names c.args.names.now) =
     subst (λ (n : List ℕ). length (more_names now) + length (44 ∷ compact_text (text n)) ≤ length (more_names c.args.names.now)) (sym c.name-item.is)
     (length-flat_map-take (λ (n : List ℕ). 44 ∷ compact_text (text n)) c.args.names.now c.loop-name.name-index c.name-item.result (omega arith)) in
-    refused_then _ _ _ _ _ (more_names now) _ _ c.from_residual.ensures.0 c.loop-name.invariant c.in_err-put_name_after.ensures within
+    refused_then _ _ _ _ _ (more_names now) _ _ c.from_residual.ensures.0 c.loop-name.invariant c.in_err-put_name_after.ensures.appended within

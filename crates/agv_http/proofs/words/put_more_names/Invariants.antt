@@ -1,5 +1,6 @@
 use Rattle.std.proofs.Common.{take}
-use Rattle.agv_http.specs.Pieces.{more_names, SoFar}
+use Rattle.agv_message.specs.Appending.{SoFar}
+use Rattle.agv_http.specs.Pieces.{more_names}
 use Rattle.agv_http.proofs.words.put_more_names.Given as goal
 
 abbrev pub invariant-loop-name : goal.invariant-loop-name

@@ -1,14 +1,15 @@
-use Rattle.std.proofs.Common.{◌≡◌, ℕ, List, IfOk, subst, ◌∙◌}
+use Rattle.std.proofs.Common.{ℕ, Bool, List, ap, ◌∙◌}
 use Rattle.std.specs.List.{list_all}
 use Rattle.agv_layout.specs.declared.station.Spot.{Spot}
+use Rattle.agv_world.proofs.Asking.{asked_as}
 use Rattle.agv_world.specs.Questions.{reserved}
 use Rattle.agv_desk.specs.CountParts.{has_room, seen_at}
 use Rattle.agv_desk.proofs.stocktake.room.all_fit.Goals as goal
 
-pub returns-clause-told : goal.returns-clause-told
-returns-clause-told g c = λ clean.
-    let start = g.F.Floor.world c.args.floor.now in
-    let Told : (List ℕ → ℕ) → List (List ℕ × Spot) → Type 0 = λ count stations.
-    IfOk c.each_fits.result (λ fit. (fit ≡ list_all (λ (s : List ℕ × Spot). has_room (count s.0) (reserved start s.0) s.1) stations) × (g.F.Floor.world c.each_fits.new.floor ≡ start)) in
-    subst (λ stations. Told (seen_at c.args.seen.now) stations) (c.deref.ensures.value ∙ c.in_ok-stations.ensures)
-    (subst (λ count. Told count c.deref.result.now) (λ i station. c.in_ok-counts.ensures station i) (c.each_fits.ensures.told clean))
+pub returns : goal.returns
+returns g c =
+    let start = g.F.Floor.facts.world c.args.floor.now in
+    let fit_all : (List ℕ → ℕ) → List (List ℕ × Spot) → Bool = λ count stations. list_all (λ (s : List ℕ × Spot). has_room (count s.0) (reserved start s.0) s.1) stations in
+    asked_as g.F.Floor.facts c.args.floor.now c.each_fits.new.floor c.each_fits.result _ _
+    (λ fit told. told ∙ (λ i. fit_all (λ station. c.in_ok-counts.ensures station i) c.deref.result.now) ∙ ap (fit_all (seen_at c.args.seen.now)) (c.deref.ensures.value ∙ c.in_ok-stations.ensures))
+    c.each_fits.ensures

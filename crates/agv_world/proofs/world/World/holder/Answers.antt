@@ -4,10 +4,10 @@ use Rattle.agv_world.specs.Told.{is_held_by}
 use Rattle.agv_world.proofs.Holding.{its_key, holder_of-told}
 use Rattle.agv_world.proofs.world.World.holder.Goals as goal
 
-pub returns-then-branch : goal.returns-then-branch
-returns-then-branch c =
+pub returns-then-is_holder : goal.returns-then-is_holder
+returns-then-is_holder c =
     let test = is_held_by c.args.self.now c.args.thing in
-    ap (λ b. option_map its_key (cond b (Some (c.in-Some.key.now, c.in-Some.row.now)) (find test c.next.new.self))) (sym c.if-branch.true ∙ c.in_ok-is_holder.ensures)
+    ap (λ b. option_map its_key (cond b (Some (c.in-Some.key.now, c.in-Some.row.now)) (find test c.next.new.self))) (sym c.if-is_holder.true ∙ c.is_holder.ensures)
     ∙ ap (λ es. option_map its_key (find test es)) (sym c.in-Some.ensures.steps)
     ∙ ap (option_map its_key) c.loop-key.invariant
     ∙ sym (holder_of-told c.args.self.now c.args.thing)

@@ -1,0 +1,282 @@
+-- Whatever a call is refused for, it is for a refusal of calls: down each ladder of checks.
+use Rattle.std.proofs.Common.{◌≡◌, ◌≤◌, ◌&&◌, nat_le, nat_lt, not, is_some, ℕ, Bool, true, false, cond, List, [], ◌∷◌, length, Option, None, Some, Result, Ok, Err, refl, subst, arith}
+use Rattle.std.specs.FinMap as finite
+use Rattle.std.proofs.lemmas.Bool.{and_parts}
+use Rattle.std.proofs.lemmas.Bool.Decides.{nat_tests}
+use Rattle.agv_header.specs.Refusal.{number_of}
+use Rattle.agv_header.specs.declared.key.Thing.{Thing}
+use Rattle.agv_header.specs.declared.key.VehicleKey.{VehicleKey}
+use Rattle.agv_header.specs.declared.refusal.Refusal.{Refusal}
+use Rattle.agv_header.specs.declared.refusal.Refusal.TheVariants as refusal
+use Rattle.agv_layout.specs.Layout.{Layout}
+use Rattle.agv_layout.specs.LayoutOf.{is_over_limit, is_sound, layout_in, layout_of}
+use Rattle.agv_layout.specs.declared.fault.LayoutFault.TheVariants as unlaid
+use Rattle.agv_layout.specs.declared.row.LayoutRow.{LayoutRow}
+use Rattle.agv_message.specs.declared.instant.InstantKind.{InstantKind}
+use Rattle.agv_message.specs.declared.state.StateMessage.{StateMessage}
+use Rattle.agv_order.specs.Plans.{legs_to, planned, trip_along, trip_over, way_of}
+use Rattle.agv_order.specs.declared.fault.PlanFault.TheVariants as unplanned
+use Rattle.agv_order.specs.declared.stop.Stop.{Stop}
+use Rattle.agv_order.specs.declared.trip.Trip.{Trip}
+use Rattle.agv_stock.specs.Checks.{Checked, correct_check, has_room, is_known, is_stored, is_there, job_check, leave_check, passed, register_check, require as require_load}
+use Rattle.agv_stock.specs.Room.{has_left}
+use Rattle.agv_stock.specs.declared.goal.Goal.{Goal}
+use Rattle.agv_stock.specs.declared.job.Job.{Job}
+use Rattle.agv_stock.specs.declared.place.Place.{Place}
+use Rattle.agv_track.specs.Idle.{idle_refusals, judged_idle}
+use Rattle.agv_track.specs.Judgements.{act_refusals, first_of, judged, unless, way_refusals}
+use Rattle.agv_track.specs.declared.pending.Pending.{Pending}
+use Rattle.agv_world.specs.Worlds.{World}
+use Rattle.agv_world.specs.declared.row.VehicleRow.{VehicleRow}
+use Rattle.agv_desk.specs.LayoutSteps.{if_given, lay}
+use Rattle.agv_desk.specs.LoadSteps.{goal_of, is_in_job}
+use Rattle.agv_desk.specs.OrderSteps.{advance, if_planned, send_trip, start_order}
+use Rattle.agv_desk.specs.Outcomes.{Effect, Made, Outcome, answer_of, branch, checked, found, require, told, unheld}
+use Rattle.agv_desk.specs.ReadSteps.{instant_told, order_told}
+use Rattle.agv_desk.specs.Refusals.{IsOfCall}
+use Rattle.agv_desk.specs.StateSteps.{fresh_state, idle_state, if_judged, take_state, trip_state}
+use Rattle.agv_desk.specs.Step.{step}
+use Rattle.agv_desk.specs.StocktakeSteps.{Row, take_stock}
+use Rattle.agv_desk.specs.VehicleSteps.{instruct, place_vehicle, register_vehicle}
+use Rattle.agv_desk.specs.declared.answer.Answer.{Answer}
+use Rattle.agv_desk.specs.declared.answer.Answer.TheVariants as answer
+use Rattle.agv_desk.specs.declared.call.Call.{Call}
+use Rattle.agv_desk.specs.declared.call.Call.TheVariants as call
+
+-- the refusal is one of calls
+abbrev is_of_call : Refusal → Bool
+is_of_call why = nat_le 20 (number_of why) && nat_le (number_of why) 81
+
+of_call : (n : ℕ) → (nat_le 20 n && nat_le n 81) ≡ true → (20 ≤ n) × (n ≤ 81)
+of_call n is = let parts = and_parts (nat_le 20 n) (nat_le n 81) is in (grind (arith, nat_tests), grind (arith, nat_tests))
+
+-- so is the answer, if it is a refusal
+abbrev IsFit : Answer → Type 0
+IsFit (answer.Refused why) = is_of_call why ≡ true
+IsFit _ = Unit {0}
+
+abbrev Fits : Outcome → Type 0
+Fits outcome = IsFit (answer_of outcome)
+
+-- and what a check or a judgement refuses
+abbrev IsFitIn : {X : Type 0} → Result X Refusal → Type 0
+IsFitIn (Ok x) = Unit {0}
+IsFitIn (Err why) = is_of_call why ≡ true
+
+-- ---- ladders
+
+by_made : (effect : Effect) → IsFit effect.answer → Fits (Made effect)
+unfolding answer_of
+by_made effect h = h
+
+by_require : (test : Bool) (why : Refusal) (rest : Outcome) → is_of_call why ≡ true → Fits rest → Fits (require test why rest)
+unfolding require answer_of
+by_require true why rest of h = h
+by_require false why rest of h = of
+
+by_found : {X : Type 0} (there : Option X) (why : Refusal) (rest : X → Outcome) → is_of_call why ≡ true → ((x : X) → Fits (rest x)) → Fits (found there why rest)
+unfolding found answer_of
+by_found None why rest of h = of
+by_found (Some x) why rest of h = h x
+
+by_checked : (check : Checked) (rest : Outcome) → IsFitIn check → Fits rest → Fits (checked check rest)
+unfolding checked answer_of
+by_checked (Ok done) rest of h = h
+by_checked (Err why) rest of h = of
+
+by_unheld : (held : Option (Thing × VehicleKey)) (rest : Outcome) → Fits rest → Fits (unheld held rest)
+unfolding unheld answer_of
+by_unheld None rest h = h
+by_unheld (Some held) rest h = refl
+
+by_branch : (test : Bool) (one other : Outcome) → Fits one → Fits other → Fits (branch test one other)
+unfolding branch
+by_branch true one other h k = h
+by_branch false one other h k = k
+
+by_judged : {X : Type 0} (judged : Result X Refusal) (rest : X → Outcome) → IsFitIn judged → ((x : X) → Fits (rest x)) → Fits (if_judged judged rest)
+unfolding if_judged answer_of
+by_judged (Ok x) rest of h = h x
+by_judged (Err why) rest of h = of
+
+-- ---- a layout, and a plan
+
+by_layout : (over sound : Bool) (layout : Layout) (rest : Layout → Outcome) → Fits (rest layout) → Fits (if_given (cond over (Err unlaid.Limit) (cond sound (Ok layout) (Err unlaid.Bad))) rest)
+unfolding if_given answer_of
+by_layout true sound layout rest h = refl
+by_layout false true layout rest h = h
+by_layout false false layout rest h = refl
+
+lays : (rows : List LayoutRow) → Fits (lay rows)
+unfolding layout_of answer_of
+lays rows = by_layout (is_over_limit rows) (is_sound rows) (layout_in rows) (λ layout. Made (record (told answer.Done) { layout = Some layout })) tt
+
+by_length : (long far : Bool) (trip : Trip) (rest : Trip → Outcome) → Fits (rest trip) → Fits (if_planned (cond long (Err unplanned.TooLong) (cond far (Err unplanned.Beyond) (Ok trip))) rest)
+unfolding if_planned answer_of
+by_length true far trip rest h = refl
+by_length false true trip rest h = refl
+by_length false false trip rest h = h
+
+by_plan : (layout : Layout) (vehicle : VehicleKey) (jobs : List Job) (stops : List Stop) (order at : List ℕ) (base : ℕ) (rest : Trip → Outcome) → ((trip : Trip) → Fits (rest trip))
+    → Fits (if_planned (planned layout vehicle jobs stops order at base) rest)
+unfolding if_planned answer_of
+by_plan layout vehicle jobs stops order at base rest h =
+    elim (legs_to layout jobs at stops) as (λ legs. Fits (if_planned (trip_along vehicle order at base legs) rest)) [
+      | None ↦ refl
+      | Some legs ↦ by_length (nat_lt 200 (length (way_of legs))) (nat_lt (length (way_of legs)) base) (trip_over vehicle order at base legs) rest (h _)
+    ]
+
+-- ---- the checks of a load
+
+load_require : (test : Bool) (why : Refusal) (rest : Checked) → is_of_call why ≡ true → IsFitIn rest → IsFitIn (require_load test why rest)
+load_require true why rest of h = h
+load_require false why rest of h = of
+
+module _ (goal : Goal) where
+  abbrev with_room : Checked
+  with_room = require_load (has_room goal) refusal.Full passed
+
+  has_space : IsFitIn with_room
+  has_space = load_require (has_room goal) refusal.Full passed refl tt
+
+  registers_load : (there : Option Place) → IsFitIn (register_check there goal)
+  registers_load there =
+      load_require (not (is_some there)) refusal.Exists (require_load (is_known goal) refusal.NoStation with_room) refl
+      (load_require (is_known goal) refusal.NoStation with_room refl has_space)
+
+  module _ (place : Place) (live : Bool) where
+    abbrev apart : Checked
+    apart = require_load (not (is_there goal place)) refusal.SameStation with_room
+
+    abbrev free : Checked
+    free = require_load (not live) refusal.InJob apart
+
+    is_free : IsFitIn free
+    is_free = load_require (not live) refusal.InJob apart refl (load_require (not (is_there goal place)) refusal.SameStation with_room refl has_space)
+
+  corrects_load : (there : Option Place) (live : Bool) → IsFitIn (correct_check there live goal)
+  corrects_load None live = refl
+  corrects_load (Some place) live =
+      load_require (is_known goal) refusal.NoStation (require_load (not (has_left place)) refusal.Elsewhere (free place live)) refl
+      (load_require (not (has_left place)) refusal.Elsewhere (free place live) refl (is_free place live))
+
+  adds_job : (known : Bool) (there : Option Place) (live : Bool) → IsFitIn (job_check known there live goal)
+  adds_job true there live = refl
+  adds_job false None live = refl
+  adds_job false (Some place) live =
+      load_require (is_known goal) refusal.NoStation (require_load (is_stored place) refusal.Elsewhere (free place live)) refl
+      (load_require (is_stored place) refusal.Elsewhere (free place live) refl (is_free place live))
+
+lets_load_leave : (there : Option Place) (live : Bool) → IsFitIn (leave_check there live)
+lets_load_leave None live = refl
+lets_load_leave (Some place) live =
+    load_require (not (has_left place)) refusal.Elsewhere (require_load (not live) refusal.InJob passed) refl (load_require (not live) refusal.InJob passed refl tt)
+
+-- ---- what a state is judged
+
+abbrev AreFit : List (Bool × Refusal) → Type 0
+AreFit [] = Unit {0}
+AreFit (line ∷ lines) = (is_of_call line.1 ≡ true) × AreFit lines
+
+by_line : {X : Type 0} (test : Bool) (why : Refusal) (later : Option Refusal) (result : Result X Refusal) → is_of_call why ≡ true → IsFitIn (unless later result) → IsFitIn (unless (cond test (Some why) later) result)
+by_line true why later result of h = of
+by_line false why later result of h = h
+
+by_lines : {X : Type 0} (lines : List (Bool × Refusal)) (result : Result X Refusal) → AreFit lines → IsFitIn result → IsFitIn (unless (first_of lines) result)
+by_lines [] result of h = h
+by_lines (line ∷ lines) result of h = by_line line.0 line.1 (first_of lines) result of.0 (by_lines lines result of.1 h)
+
+judges : (trip : Trip) (pending : Option Pending) (state : StateMessage) → IsFitIn (judged trip pending state)
+unfolding judged way_refusals act_refusals
+judges trip pending state =
+    by_lines (way_refusals trip state) _ (refl, (refl, (refl, (refl, (refl, tt)))))
+    (by_lines (act_refusals trip pending state) _ (refl, (refl, (refl, (refl, (refl, tt))))) tt)
+
+judges_idle : (node : List ℕ) (pending : Option Pending) (state : StateMessage) → IsFitIn (judged_idle node pending state)
+unfolding judged_idle idle_refusals
+judges_idle node pending state = by_lines (idle_refusals node pending state) _ (refl, (refl, tt)) tt
+
+-- ---- the calls
+
+tells_a_message : (key : VehicleKey) (row : VehicleRow) (trip : Option Trip) → IsFit (order_told key row trip)
+tells_a_message key row None = tt
+tells_a_message key row (Some trip) = tt
+
+tells_an_action : (key : VehicleKey) (row : VehicleRow) (kind : Option InstantKind) → IsFit (instant_told key row kind)
+tells_an_action key row None = tt
+tells_an_action key row (Some kind) = tt
+
+module _ (world : World) where
+  instructs : (at : ℕ) (key : VehicleKey) (row : VehicleRow) (kind : InstantKind) → Fits (instruct at key row kind)
+  instructs at key row kind = by_require _ refusal.InstantPending _ refl (by_found _ refusal.Spent _ refl (λ number. by_made _ tt))
+
+  starts : (at : ℕ) (order : List ℕ) (key : VehicleKey) (stops : List Stop) (edges : ℕ) → Fits (start_order world at order key stops edges)
+  starts at order key stops edges =
+      by_require _ refusal.Exists _ refl (by_found _ refusal.NoVehicle _ refl (λ row.
+      by_require _ refusal.BadStops _ refl (by_found _ refusal.NoJob _ refl (λ jobs.
+      by_require _ refusal.OrderKnown _ refl (by_require _ refusal.JobState _ refl (by_require _ refusal.Busy _ refl
+      (by_require _ refusal.Astray _ refl (by_require _ refusal.Loaded _ refl (by_require _ refusal.NotReady _ refl
+      (by_require _ refusal.InstantPending _ refl (by_found _ refusal.NoWalk _ refl (λ layout. by_plan layout key jobs stops order row.node edges (send_trip world at order key row stops jobs) (λ trip.
+      by_unheld _ _ (by_found _ refusal.Spent _ refl (λ number. by_require _ refusal.Limit _ refl (by_made _ tt))))))))))))))))
+
+  advances : (at : ℕ) (key : VehicleKey) (order : List ℕ) (update edges : ℕ) → Fits (advance world at key order update edges)
+  advances at key order update edges =
+      by_found _ refusal.NoVehicle _ refl (λ row. by_found _ refusal.NoOrder _ refl (λ trip.
+      by_require _ (refusal.WrongUpdate trip.sent) _ refl (by_require _ refusal.NotConfirmed _ refl (by_require _ refusal.NotReady _ refl
+      (by_require _ refusal.InstantPending _ refl (by_require _ refusal.Beyond _ refl (by_unheld _ _ (by_found _ refusal.Spent _ refl (λ number. by_made _ tt)))))))))
+
+  places : (key : VehicleKey) (reference node : List ℕ) → Fits (place_vehicle world key reference node)
+  places key reference node =
+      by_require _ refusal.RefUsed _ refl (by_found _ refusal.NoVehicle _ refl (λ row. by_require _ refusal.NoNode _ refl
+      (by_unheld _ _ (by_require _ refusal.Limit _ refl (by_made _ tt)))))
+
+  registers : (seats : ℕ) (key : VehicleKey) (node : List ℕ) (capacity : ℕ) → Fits (register_vehicle seats world key node capacity)
+  registers seats key node capacity =
+      by_require _ refusal.Exists _ refl (by_require _ refusal.NoNode _ refl (by_unheld _ _ (by_require _ refusal.Limit _ refl (by_made _ tt))))
+
+  hears_idle : (key : VehicleKey) (row : VehicleRow) (state : StateMessage) → Fits (idle_state key row state)
+  hears_idle key row state = by_judged _ _ (judges_idle _ _ state) (λ over. by_made _ tt)
+
+  goes_on : (key : VehicleKey) (row : VehicleRow) (trip : Trip) (state : StateMessage) → Fits (trip_state world key row trip state)
+  goes_on key row trip state = by_judged _ _ (judges trip _ state) (λ progress. by_made _ tt)
+
+  hears_fresh : (key : VehicleKey) (row : VehicleRow) (trip : Option Trip) (state : StateMessage) → Fits (fresh_state world key row trip state)
+  hears_fresh key row None state = hears_idle key row state
+  hears_fresh key row (Some trip) state = by_branch _ _ _ (goes_on key row trip state) (by_require _ refusal.OtherOrder _ refl (hears_idle key row state))
+
+  hears : (key : VehicleKey) (state : StateMessage) → Fits (take_state world key state)
+  hears key state = by_found _ refusal.NoVehicle _ refl (λ row. by_branch _ _ _ (hears_fresh key row _ state) (by_made _ tt))
+
+  counts : (reference : List ℕ) (rows : List Row) → Fits (take_stock world reference rows)
+  counts reference rows =
+      by_require _ refusal.RefUsed _ refl (by_require _ refusal.NoStation _ refl (by_require _ refusal.CountTwice _ refl
+      (by_require _ refusal.OnVehicle _ refl (by_require _ refusal.InJob _ refl (by_require _ refusal.Full _ refl (by_require _ refusal.Limit _ refl (by_made _ tt)))))))
+
+  each : (seats at : ℕ) (made : Call) → Fits (step seats world at made)
+  each seats at (call.SetLayout rows) = by_require _ refusal.LayoutSet _ refl (lays rows)
+  each seats at (call.RegisterVehicle key node capacity) = registers seats key node capacity
+  each seats at (call.RegisterLoad load station) = by_checked _ _ (registers_load (goal_of world station) (finite.get world.places load)) (by_require _ refusal.Limit _ refl (by_made _ tt))
+  each seats at (call.CorrectLoad load reference station) = by_require _ refusal.RefUsed _ refl (by_checked _ _ (corrects_load (goal_of world station) (finite.get world.places load) (is_in_job world load)) (by_require _ refusal.Limit _ refl (by_made _ tt)))
+  each seats at (call.LeaveLoad load reference) = by_require _ refusal.RefUsed _ refl (by_checked _ _ (lets_load_leave (finite.get world.places load) (is_in_job world load)) (by_require _ refusal.Limit _ refl (by_made _ tt)))
+  each seats at (call.AddJob job load to) = by_checked _ _ (adds_job (goal_of world (Some to)) (is_some (finite.get world.jobs job)) (finite.get world.places load) (is_in_job world load)) (by_found _ refusal.Elsewhere _ refl (λ origin. by_require _ refusal.Limit _ refl (by_made _ tt)))
+  each seats at (call.StopJob job) = by_found _ refusal.NoJob _ refl (λ row. by_require _ refusal.JobState _ refl (by_made _ tt))
+  each seats at (call.StartOrder order key stops edges) = starts at order key stops edges
+  each seats at (call.Advance key order update edges) = advances at key order update edges
+  each seats at (call.Cancel key) = by_found _ refusal.NoVehicle _ refl (λ row. by_found _ refusal.NoOrder _ refl (λ trip. instructs at key row _))
+  each seats at (call.Pause key) = by_found _ refusal.NoVehicle _ refl (λ row. instructs at key row _)
+  each seats at (call.Resume key) = by_found _ refusal.NoVehicle _ refl (λ row. instructs at key row _)
+  each seats at (call.PlaceVehicle key reference node) = places key reference node
+  each seats at (call.Resync key) = by_found _ refusal.NoVehicle _ refl (λ row. by_made _ tt)
+  each seats at (call.State key state) = hears key state
+  each seats at (call.GetOrder key) = by_found _ refusal.NoVehicle _ refl (λ row. by_made _ (tells_a_message key row _))
+  each seats at (call.GetInstant key) = by_found _ refusal.NoVehicle _ refl (λ row. by_made _ (tells_an_action key row row.pending))
+  each seats at (call.Stocktake reference rows) = counts reference rows
+  each seats at (call.GetLoad load) = by_found _ refusal.NoLoad _ refl (λ place. by_made _ tt)
+  each seats at (call.GetVehicle key) = by_found _ refusal.NoVehicle _ refl (λ row. by_made _ tt)
+  each seats at call.StockReport = by_made _ tt
+  each seats at call.HoldReport = by_made _ tt
+  each seats at call.LoadsExport = by_made _ tt
+
+-- a call is refused for a refusal of calls
+pub refused_so : (seats : ℕ) (world : World) (at : ℕ) (made : Call) (why : Refusal) → answer_of (step seats world at made) ≡ answer.Refused why → IsOfCall why
+refused_so seats world at made why is = of_call (number_of why) (subst IsFit is (each world seats at made))

@@ -1,9 +1,0 @@
-use Rattle.std.proofs.Common.{List, ℕ, ◌∷◌, [], ◌++◌, ◌∙◌, ap, sym}
-use Rattle.agv_http.proofs.Appending.{same_text}
-use Rattle.agv_http.proofs.Escapes.{escape-name}
-use Rattle.agv_http.proofs.words.put_name_after.Goals as goal
-
-pub returns : goal.returns
-returns c =
-    let plain = c.as_bytes.ensures.bytes ∙ sym (escape-name c.args.name.now c.as_bytes.ensures.name) in
-    same_text _ _ _ _ _ (ap (λ (s : List ℕ). c.args.before.now ++ 34 ∷ (s ++ 34 ∷ [])) plain) c.put_words.ensures

@@ -1,0 +1,94 @@
+-- How a stream of requests ends: what is then written, which world is left, and how many answers are written whole. At each end requests are served in their order, each in the world that those before it have left.
+use Rattle.std.specs.Prelude.{◌≡◌, ◌<◌, ◌+◌, ◌⊎◌, ℕ, List, [], ◌∷◌, ◌++◌, length}
+use Rattle.agv_header.specs.declared.refusal.Refusal.{Refusal}
+use Rattle.agv_header.specs.declared.refusal.Refusal.TheVariants as refusal
+use Rattle.agv_world.specs.Worlds.{World}
+use Rattle.agv_http.specs.Cut.{Ending, at_end, closed, faulty}
+use Rattle.agv_http.specs.Fronts.{Begins, HasFaultNext, HasNext, IsSoFar}
+use Rattle.agv_http.specs.Output.{IsOutput, answer_to, answers_to, refusal_text, world_after}
+use Rattle.agv_http.specs.Requests.{Request}
+
+-- a fault of the machine: memory is wanting, or the store has failed
+abbrev pub IsOfMachine : Refusal → Type 0
+IsOfMachine why = (why ≡ refusal.Memory) ⊎ (why ≡ refusal.Storage)
+
+-- how many answers are written behind those to the requests, at an end of the input: the refusal of a fault is one
+abbrev pub last_answers : Ending → ℕ
+last_answers at_end = 0
+last_answers closed = 0
+last_answers (faulty why) = 1
+
+module _ (seats : ℕ) (world : World) (at : ℕ) where
+  -- these requests are answered, these bytes are written behind the answers, and the world is as the requests leave it
+  pub record AreServed (requests : List Request) (more out : List ℕ) (left : World) : Type 0 where
+    pub written : out ≡ answers_to seats world at requests ++ more
+    pub world_is : left ≡ world_after seats world at requests
+
+  -- the input is served up to its end, which is this: no byte is left, a request was the last, or a fault is refused
+  pub record IsServedToEnd (input : List ℕ) (ending : Ending) (out : List ℕ) (left : World) (answers : ℕ) : Type 0 where
+    pub output : IsOutput seats world at input out left
+    pub ending_is : output.ending ≡ ending
+    pub counted : answers ≡ length output.requests + last_answers ending
+
+  -- behind the answers to some requests the stream ends with the refusal for a fault of the machine
+  pub record IsRefusedByMachine (input : List ℕ) (why : Refusal) (out : List ℕ) (left : World) (answers : ℕ) : Type 0 where
+    pub requests : List Request
+    pub begins : Begins input requests
+    pub of_machine : IsOfMachine why
+    pub served : AreServed requests (refusal_text why) out left
+    pub counted : answers ≡ length requests + 1
+
+  -- there was no room to serve any request: that memory is wanting is all that is written
+  pub record HasNoRoom (out : List ℕ) (left : World) (answers : ℕ) : Type 0 where
+    pub written : out ≡ refusal_text refusal.Memory
+    pub world_is : left ≡ world
+    pub counted : answers ≡ 1
+
+  -- the reader failed behind these bytes: all requests that have come whole are answered, and nothing else is written
+  pub record IsReadFault (bytes out : List ℕ) (left : World) (answers : ℕ) : Type 0 where
+    pub requests : List Request
+    pub so_far : IsSoFar bytes requests
+    pub served : AreServed requests [] out left
+    pub counted : answers ≡ length requests
+
+  -- what is to be written behind the answers to some requests is the answer to the next one, which has been served
+  pub record IsNextAnswer (input : List ℕ) (requests : List Request) (text : List ℕ) (left : World) : Type 0 where
+    pub request : Request
+    pub next : HasNext input requests request
+    pub text_is : text ≡ answer_to seats (world_after seats world at requests) at request
+    pub world_is : left ≡ world_after seats world at (requests ++ request ∷ [])
+
+  -- what is to be written behind the answers to some requests is the refusal of a fault, of the input or of the machine
+  pub record IsLastRefusal (input : List ℕ) (requests : List Request) (text : List ℕ) (left : World) : Type 0 where
+    pub why : Refusal
+    pub cause : HasFaultNext input requests why ⊎ (Begins input requests × IsOfMachine why)
+    pub text_is : text ≡ refusal_text why
+    pub world_is : left ≡ world_after seats world at requests
+
+  -- the writer failed behind the answers to some requests: of the next answer a front is written, and not all
+  pub record IsWriteFault (input out : List ℕ) (left : World) (answers : ℕ) : Type 0 where
+    pub requests : List Request
+    pub text : List ℕ
+    pub is_next : IsNextAnswer input requests text left ⊎ IsLastRefusal input requests text left
+    pub front : List ℕ
+    pub lacking : List ℕ
+    pub parts : text ≡ front ++ lacking
+    pub some_lacks : 0 < length lacking
+    pub written : out ≡ answers_to seats world at requests ++ front
+    pub counted : answers ≡ length requests
+
+-- ---- what of the whole output is written
+
+-- the bytes are a front of these
+abbrev pub IsFrontOf : List ℕ → List ℕ → Type 0
+IsFrontOf front bytes = (rest : List ℕ) × (bytes ≡ front ++ rest)
+
+-- the bytes are a front of the whole output, and then a front of the refusal for a fault of the machine
+pub record EndsInMachineFault (out whole : List ℕ) : Type 0 where
+  pub sent : List ℕ
+  pub last : List ℕ
+  pub why : Refusal
+  pub of_machine : IsOfMachine why
+  pub sent_is : IsFrontOf sent whole
+  pub last_is : IsFrontOf last (refusal_text why)
+  pub out_is : out ≡ sent ++ last

@@ -1,5 +1,0 @@
-use Rattle.agv_store.proofs.ListsHeld.{held_changed}
-use Rattle.agv_store.proofs.row_list_laws.a_database_follows_changes.Goals as goal
-
-pub returns : goal.returns
-returns c = λ desk old new changes made rows h. held_changed desk old new changes rows made h

@@ -1,8 +1,0 @@
-use Rattle.agv_world.specs.Rows.{rows_of}
-use Rattle.agv_store.proofs.ListsHeld.{one_rows_held}
-use Rattle.agv_store.proofs.row_list_laws.a_database_tells_one_world.Goals as goal
-
-pub returns : goal.returns
-returns c = λ desk again db world other is too lawful too_lawful h g.
-    c.rows_tell_the_world.ensures world other (c.is_in_good_order.ensures 1 world lawful) (c.is_in_good_order.ensures 1 other too_lawful)
-    (one_rows_held desk again db (rows_of world) (rows_of other) is too (c.lawful_worlds_carry_one_each.ensures world lawful) (c.lawful_worlds_carry_one_each.ensures other too_lawful) h g)

@@ -1,6 +1,0 @@
-use Rattle.agv_store.proofs.ListsFollow.{follows, follows_all}
-use Rattle.agv_store.proofs.ListsHeld.{listed_in_turn}
-use Rattle.agv_store.proofs.row_list_laws.lists_follow_changes.Goals as goal
-
-pub returns : goal.returns
-returns c = record { one = λ one lists rows. follows lists rows one; all = follows_all; in_turn = listed_in_turn }

@@ -1,9 +1,0 @@
-use Rattle.sqlite.specs.Held.{state}
-use Rattle.sqlite.specs.Values.{bound}
-use Rattle.agv_store.proofs.DeskStatements.{inserts_row}
-use Rattle.agv_store.proofs.row_writes.insert_row.Goals as goal
-
-pub returns-clause-made : goal.returns-clause-made
-returns-clause-made g c clean fit =
-    inserts_row c.args.table c.insertion.result.now c.insertion.ensures (bound c.args.row.now) fit (state g.S.Store c.args.tx.now.conn.now) (state g.S.Store c.execute.new.self.conn.now) c.execute.result
-    (λ idle. (c.execute.ensures.ended idle).0, c.execute.ensures.runs clean)

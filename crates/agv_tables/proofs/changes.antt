@@ -1,0 +1,2 @@
+pub mod ChangesFound
+pub mod ChangesRun

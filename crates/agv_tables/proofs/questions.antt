@@ -1,0 +1,9 @@
+pub mod AskedShown
+pub mod Asking
+pub mod JobAnswers
+pub mod KeyAnswers
+pub mod KeysShown
+pub mod LayoutAnswers
+pub mod LoadAnswers
+pub mod StationLoads
+pub mod TripAnswers

@@ -1,0 +1,13 @@
+pub mod AskingAll
+pub mod HeldFootprints
+pub mod HeldRead
+pub mod MetaAnswers
+pub mod ReadWorld
+pub mod RowidsKeyed
+pub mod RowidsRead
+pub mod RowidsTold
+pub mod TableAnswers
+pub mod TableReading
+pub mod TablesBack
+pub mod TripTableAnswers
+pub mod WorldIn

@@ -1,0 +1,74 @@
+-- The rows of tables that were read are those of the world whose tables they are.
+use Rattle.std.proofs.Common.{◌≡◌, ℕ, suc, List, [], ◌∷◌, length, IsPermutation, subst, refl}
+use Rattle.std.specs.List.{AllZip}
+use Rattle.sqlite_value.specs.Order.{Row}
+use Rattle.sqlite.specs.Effect.{Database}
+use Rattle.agv_track.specs.Holds.{Holds as Holders}
+use Rattle.agv_world.specs.Kept.{Keeps}
+use Rattle.agv_world.specs.Rows.{rows_of}
+use Rattle.agv_world.specs.Worlds.{World}
+use Rattle.agv_world.specs.declared.world.World.{World as Tables}
+use Rattle.agv_tables.specs.rows.Columns.{edge_columns, hold_columns, job_columns, leg_columns, load_columns, node_columns, station_columns, used_columns, vehicle_columns}
+use Rattle.agv_tables.specs.rows.DeskRows.{Placing, HaveRows, Holds, table_at, table_names, width_of}
+use Rattle.agv_tables.specs.rows.RowLists.{AreAlike, HoldsWorld, TellRows, row_lists, rows_for, rows_in, trip_rows}
+use Rattle.agv_tables.specs.readings.TablesRead.{HaveAll}
+use Rattle.agv_tables.proofs.rows.ListsHeld.{held_alike}
+
+-- from a place on, the lists have the same rows as these, in some order
+abbrev AlikeFrom : ℕ → List (List Row) → List (List Row) → Type 0
+AlikeFrom at lists [] = Unit {0}
+AlikeFrom at lists (rows ∷ others) = IsPermutation (table_at at lists) rows × AlikeFrom (suc at) lists others
+
+without_first : (at : ℕ) (first : List Row) (lists others : List (List Row)) → AlikeFrom (suc at) (first ∷ lists) others → AlikeFrom at lists others
+without_first at first lists [] h = tt
+without_first at first lists (rows ∷ others) h = (h.0, without_first (suc at) first lists others h.1)
+
+all_alike : {A : Type 0} (R : A → List Row → Type 0) (names : List A) (lists others : List (List Row)) → AllZip R names lists → length others ≡ length names → AlikeFrom 0 lists others → AreAlike lists others
+all_alike R [] [] [] zip as_many h = tt
+all_alike R [] [] (rows ∷ others) zip as_many h = absurd (cc as_many)
+all_alike R [] (first ∷ lists) others zip as_many h = absurd zip
+all_alike R (name ∷ names) [] others zip as_many h = absurd zip
+all_alike R (name ∷ names) (first ∷ lists) [] zip as_many h = absurd (cc as_many)
+all_alike R (name ∷ names) (first ∷ lists) (rows ∷ others) zip as_many h = (h.0, all_alike R names lists others zip.1 (cc as_many) (without_first 0 first lists others h.1))
+
+pub rows_told : (desk : Placing) (db : Database) (lists : List (List Row)) (tables : Tables) (holds : Holders) (world : World)
+    → Holds desk db lists → HaveAll lists tables holds → Keeps tables world → holds ≡ (rows_of world).holds → TellRows lists (rows_of world)
+unfolding row_lists
+rows_told desk db lists tables holds world held have keeps are =
+    let read = have.tables in
+    all_alike (λ name rows. HaveRows (width_of name) (db.trees (desk.tree name)) rows) table_names lists (row_lists (rows_of world)) held.rows refl (
+      have.meta,
+      (
+        subst (λ t. IsPermutation (table_at 1 lists) (rows_for node_columns t)) keeps.nodes read.nodes,
+        (
+          subst (λ t. IsPermutation (table_at 2 lists) (rows_in edge_columns t)) keeps.edges read.edges,
+          (
+            subst (λ t. IsPermutation (table_at 3 lists) (rows_in station_columns t)) keeps.stations read.stations,
+            (
+              subst (λ t. IsPermutation (table_at 4 lists) (rows_in vehicle_columns t)) keeps.vehicles read.vehicles,
+              (
+                subst (λ t. IsPermutation (table_at 5 lists) (trip_rows t)) keeps.trips read.trips,
+                (
+                  subst (λ t. IsPermutation (table_at 6 lists) (rows_in leg_columns t)) keeps.legs read.legs,
+                  (
+                    subst (λ t. IsPermutation (table_at 7 lists) (rows_in load_columns t)) keeps.loads read.loads,
+                    (
+                      subst (λ t. IsPermutation (table_at 8 lists) (rows_in job_columns t)) keeps.jobs read.jobs,
+                      (
+                        subst (λ t. IsPermutation (table_at 9 lists) (rows_in hold_columns t)) are have.holds,
+                        (subst (λ t. IsPermutation (table_at 10 lists) (rows_for used_columns t)) keeps.used read.used, tt),
+                      ),
+                    ),
+                  ),
+                ),
+              ),
+            ),
+          ),
+        ),
+      ),
+    )
+
+pub world_held : (desk : Placing) (db : Database) (lists : List (List Row)) (tables : Tables) (holds : Holders) (world : World)
+    → Holds desk db lists → HaveAll lists tables holds → Keeps tables world → holds ≡ (rows_of world).holds → HoldsWorld desk db world
+world_held desk db lists tables holds world held have keeps are =
+    held_alike desk db lists (row_lists (rows_of world)) (rows_told desk db lists tables holds world held have keeps are) held

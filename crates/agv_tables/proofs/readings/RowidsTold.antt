@@ -1,0 +1,141 @@
+-- What is told of the rowids of one table, and of several in turn.
+use Rattle.std.proofs.Common.{◌≡◌, ◌⊎◌, ◌↔◌, ◌∙◌, Bool, true, false, List, [], ◌∷◌, Result, Ok, Err, IsTrue, refl, sym, subst, arith, ℕ, ap}
+use Rattle.std.specs.List.{AllByRecursion, AllZip}
+use Rattle.std.specs.Result.{IsErrAnd}
+use Rattle.sqlite_value.specs.Order.{Row}
+use Rattle.sqlite_trees.specs.Tree.{Trees}
+use Rattle.sqlite_trees.specs.declared.store.Store.{Ghosts}
+use Rattle.sqlite.specs.declared.error.Error.{Error}
+use Rattle.sqlite.specs.Effect.{Database}
+use Rattle.sqlite.specs.Held.{Held, state}
+use Rattle.sqlite.specs.State.{HasCleanDisk, IsUnchanged, IsRolledBack, Survives}
+use Rattle.sqlite.proofs.StateLemmas.{survives_then}
+use Rattle.agv_world.specs.Rows.{rows_of}
+use Rattle.agv_tables.specs.rows.DeskRows.{AreKeyed, HaveRows, IsDesk, Placing, table_names, width_of}
+use Rattle.agv_tables.specs.loads.Fault.{IsOfStore, fault_of}
+use Rattle.agv_tables.specs.sql.Connections.{HasStorageCause}
+use Rattle.agv_tables.specs.questions.ReadingFault.{of_machine, reading_fault_of}
+use Rattle.agv_tables.specs.rows.RowLists.{row_lists}
+use Rattle.agv_tables.specs.readings.Rowids.{AreTablesKeyed, ShowRowids, TellsKeyed}
+use Rattle.agv_tables.specs.questions.WorldAnswers.{Tells}
+use Rattle.agv_tables.specs.declared.loads.fault.Fault.{Fault}
+use Rattle.agv_tables.specs.declared.loads.fault.Fault.TheVariants as machine
+use Rattle.agv_tables.specs.declared.questions.reading_fault.ReadingFault.{ReadingFault}
+use Rattle.agv_tables.specs.declared.questions.reading_fault.ReadingFault.TheVariants as fault
+use Rattle.agv_tables.specs.declared.schema.table_name.TableName.{TableName}
+use Rattle.agv_tables.proofs.sql.Later.{fault_later, later_by}
+use Rattle.agv_tables.proofs.readings.RowidsKeyed.{keyed_alike}
+use Rattle.agv_tables.proofs.sql.StatesThen.{failed_then, unchanged_then}
+
+storage_of : (why : Fault) → of_machine why ≡ fault.Storage → why ≡ machine.Storage
+storage_of machine.Memory is = absurd (cc is)
+storage_of machine.Storage is = refl
+
+sound_of : (why : Fault) → ¬ (of_machine why ≡ fault.Damaged)
+sound_of machine.Memory is = cc is
+sound_of machine.Storage is = cc is
+
+module _ {S : Type 0} (g : Ghosts S) (old : Held S) where
+  -- ---- one table
+
+  module _ (new : Held S) (idle : old.in_transaction ≡ false → new.in_transaction ≡ false) (survives : Survives (state g old) (state g new) (λ _. ⊥)) where
+    -- an error of the database
+    pub keyed_error : (names : List TableName) (r : Result Bool ReadingFault) (e : Error) → IsErrAnd r (λ why. why ≡ reading_fault_of e) → (HasCleanDisk (state g new) → IsUnchanged (state g old) (state g new) ⊎ IsRolledBack (state g old) (state g new))
+        → (HasCleanDisk (state g new) → IsOfStore e → (desk : Placing) → IsDesk desk → (state g old).now.schema ≡ desk.schema → HasStorageCause g old new) → TellsKeyed g old new names r
+    keyed_error names (Ok b) e is failed why = absurd is
+    keyed_error names (Err f) e is failed why = record {
+      told = λ _. tt;
+      kept = λ _. tt;
+      failed = failed;
+      caused = λ clean stored. why clean (storage_of (fault_of e) (sym is ∙ stored));
+      sound = λ damaged. let same : f ≡ fault.Damaged = cc in sound_of (fault_of e) (sym is ∙ same);
+      idle = idle;
+      survives = survives;
+    }
+
+    -- rows that are shown
+    pub keyed_rows : (HasCleanDisk (state g new) → IsUnchanged (state g old) (state g new)) → (name : TableName) (rows : List Row) (b : Bool) → (HasCleanDisk (state g new) → ShowRowids name (state g old).now rows) → (IsTrue b ↔ AreKeyed rows) → TellsKeyed g old new (name ∷ []) (Ok b)
+    keyed_rows kept name rows b shown so = record {
+      told = λ clean desk is has.
+          let alike = keyed_alike ((state g old).now.trees (desk.tree name)) rows (shown clean desk is has) in
+          ((λ yes. (alike.0 (so.0 yes), tt)), (λ all. so.1 (alike.1 all.0)));
+      kept = kept;
+      failed = λ _. tt;
+      caused = λ _. tt;
+      sound = λ damaged. cc damaged;
+      idle = idle;
+      survives = survives;
+    }
+
+  -- ---- several in turn
+
+  module _ (mid new : Held S) (name : TableName) (others : List TableName) (b : Bool) (yes : b ≡ true) (first : TellsKeyed g old mid (name ∷ []) (Ok b)) where
+    module _ (r : Result Bool ReadingFault) (next : TellsKeyed g mid new others r) where
+      earlier : HasCleanDisk (state g new) → HasCleanDisk (state g mid)
+      earlier clean = omega (arith, next.survives.clean)
+
+      same : HasCleanDisk (state g new) → (state g mid).now ≡ (state g old).now
+      same clean = (first.kept (earlier clean)).0.now_is
+
+      moved : HasCleanDisk (state g new) → (desk : Placing) → (state g old).now.schema ≡ desk.schema → (state g mid).now.schema ≡ desk.schema
+      moved clean desk has = subst (λ (db : Database). db.schema ≡ desk.schema) (sym (same clean)) has
+
+      saved : Survives (state g old) (state g new) (λ _. ⊥)
+      saved = survives_then (state g old) (state g mid) (state g new) _ _ (λ _. ⊥) (λ _ _ none. none) (λ _ _ none. none) first.survives next.survives
+
+    -- one table, and then the others
+    pub keyed_then : (r : Result Bool ReadingFault) → TellsKeyed g mid new others r → TellsKeyed g old new (name ∷ others) r
+    keyed_then (Ok c) next = record {
+      told = λ clean desk is has.
+          let one = first.told (earlier (Ok c) next clean) desk is has in
+          let more = next.told clean desk is (moved (Ok c) next clean desk has) in
+          let now = same (Ok c) next clean in (
+            (λ all. ((one.0 yes).0, subst (λ (db : Database). AreTablesKeyed desk db others) now (more.0 all))),
+            (λ all. more.1 (subst (λ (db : Database). AreTablesKeyed desk db others) (sym now) all.1)),
+          );
+      kept = λ clean. unchanged_then (state g old) (state g mid) (state g new) (first.kept (earlier (Ok c) next clean)) (next.kept clean);
+      failed = λ _. tt;
+      caused = λ _. tt;
+      sound = λ damaged. cc damaged;
+      idle = λ was. next.idle (first.idle was);
+      survives = saved (Ok c) next;
+    }
+    keyed_then (Err f) next = record {
+      told = λ _. tt;
+      kept = λ _. tt;
+      failed = λ clean. failed_then (state g old) (state g mid) (state g new) (first.kept (earlier (Err f) next clean)) (next.failed clean);
+      caused = λ clean stored desk is has. fault_later g old mid new (later_by g old mid first.survives) (later_by g mid new next.survives) clean (next.caused clean stored desk is (moved (Err f) next clean desk has));
+      sound = next.sound;
+      idle = λ was. next.idle (first.idle was);
+      survives = saved (Err f) next;
+    }
+
+-- ---- a question to the world whose rows the tables have: it is keyed
+
+tables_keyed : (tree : TableName → ℕ) (trees : Trees) (names : List TableName) (lists : List (List Row)) → AllZip (λ name rows. HaveRows (width_of name) (trees (tree name)) rows) names lists → AllByRecursion (λ name. AreKeyed (trees (tree name))) names
+tables_keyed tree trees [] [] h = tt
+tables_keyed tree trees [] (rows ∷ lists) h = tt
+tables_keyed tree trees (name ∷ names) [] h = absurd h
+tables_keyed tree trees (name ∷ names) (rows ∷ lists) h = (h.0.0, tables_keyed tree trees names lists h.1)
+
+pub tells_keyed : {S : Type 0} (g : Ghosts S) (old new : Held S) (r : Result Bool ReadingFault) → TellsKeyed g old new table_names r → Tells g old new r (λ world keyed. IsTrue keyed)
+tells_keyed g old new (Ok b) keyed = record {
+  told = λ clean desk world has. (keyed.told clean desk has.stands has.rows.schema_is).1 (tables_keyed desk.tree (state g old).now.trees table_names (row_lists (rows_of world)) has.rows.rows);
+  kept = keyed.kept;
+  answering = λ clean. let same = keyed.kept clean in (same.0.was_open, same.0.is_open);
+  damaged = λ _. tt;
+  failed = λ _. tt;
+  caused = λ _. tt;
+  idle = keyed.idle;
+  survives = keyed.survives;
+}
+tells_keyed g old new (Err f) keyed = record {
+  told = λ _. tt;
+  kept = λ _. tt;
+  answering = λ _. tt;
+  damaged = λ clean damaged. absurd (keyed.sound (ap Err damaged));
+  failed = keyed.failed;
+  caused = λ clean stored desk world has. keyed.caused clean stored desk has.stands has.rows.schema_is;
+  idle = keyed.idle;
+  survives = keyed.survives;
+}

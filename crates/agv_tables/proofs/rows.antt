@@ -1,0 +1,17 @@
+pub mod CellLemmas
+pub mod ColumnValues
+pub mod ColumnsKept
+pub mod ColumnsTell
+pub mod ColumnsWritten
+pub mod FittingRows
+pub mod KeyedRows
+pub mod LawfulHolds
+pub mod LawfulSingle
+pub mod LawfulTrips
+pub mod LawfulValues
+pub mod ListsFollow
+pub mod ListsHeld
+pub mod ListsTell
+pub mod SpreadRows
+pub mod TripLineLemmas
+pub mod TripsTell

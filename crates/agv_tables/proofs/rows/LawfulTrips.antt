@@ -1,0 +1,179 @@
+-- The rows of the open trips of a lawful world: whose they are, and what their values are.
+use Rattle.std.proofs.Common.{◌≡◌, ℕ, ◌+◌, ◌≤◌, true, false, cond, List, [], ◌∷◌, map, length, Option, None, Some, IfSome, inl, inr, refl, sym, ap, subst, ◌∙◌, arith}
+use Rattle.std.proofs.lemmas.Bool.{and_parts}
+use Rattle.std.proofs.lemmas.Option.{same_Some}
+use Rattle.std.specs.Cmp.{Equal-is}
+use Rattle.std.specs.Cmp.Lexicographic.{nat_list_cmp_total}
+use Rattle.std.specs.FinMap as finite
+use Rattle.std.specs.List.{AllByRecursion, enumerate_from}
+use Rattle.std.specs.Ordering.{eq_by_cmp}
+use Rattle.agv_header.specs.KeyOrder.{key_cmp-total}
+use Rattle.agv_header.specs.Name.{IsName, name_cmp}
+use Rattle.agv_header.specs.declared.key.VehicleKey.{VehicleKey}
+use Rattle.agv_layout.specs.Layout.{IsNode, KeepsRules, Layout}
+use Rattle.agv_layout.specs.Walk.{IsWalk}
+use Rattle.agv_layout.specs.declared.edge.Edge.{Edge}
+use Rattle.agv_layout.specs.declared.edge.Ends.{Ends}
+use Rattle.agv_order.specs.Trips.{task_of}
+use Rattle.agv_order.specs.WellFormed.{IsConfirmed, IsRising}
+use Rattle.agv_order.specs.declared.trip.Trip.{Trip}
+use Rattle.agv_world.specs.GoodOrder.{InGoodOrder, IsOfLayout}
+use Rattle.agv_world.specs.KeyOrders.{leg_cmp-IsAntisymmetric, leg_cmp-total}
+use Rattle.agv_world.specs.Keys.{leg_cmp}
+use Rattle.agv_world.specs.Lawful.{IsLawful}
+use Rattle.agv_world.specs.Rows.{leg_row, leg_rows, legs_of_trip, rows_of, rows_of_trip, trip_row, trip_rows}
+use Rattle.agv_world.specs.Told.{names_vehicle}
+use Rattle.agv_world.specs.Worlds.{Vehicle, World}
+use Rattle.agv_world.specs.declared.key.LegKey.{LegKey}
+use Rattle.agv_world.specs.declared.row.TripRow.{TripRow}
+use Rattle.agv_tables.specs.rows.RowLists.{CarriesOneEach}
+use Rattle.agv_tables.specs.rows.TripLines.{acts_of, line_of, trip_told}
+use Rattle.agv_tables.specs.rows.TypedRows.{IsLegKey, IsNumber, IsTripLine}
+use Rattle.agv_tables.specs.declared.rows.trip_line.TripLine.{TripLine}
+use Rattle.agv_tables.proofs.rows.LawfulSingle.{of_one}
+use Rattle.agv_tables.proofs.rows.LawfulValues.{edge_named, node_named, node_rules}
+use Rattle.agv_tables.proofs.rows.SpreadRows.{spread_from}
+use Rattle.agv_tables.proofs.rows.TripLineLemmas.{same_name, trip_told_back}
+
+-- ---- whose a row is
+
+-- the row of a trip is that of the open trip of a vehicle
+pub record IsOwn (world : World) (order : List ℕ) (row : TripRow) : Type 0 where
+  pub key : VehicleKey
+  pub vehicle : Vehicle
+  pub trip : Trip
+  pub there : finite.get world.vehicles key ≡ Some vehicle
+  pub has : vehicle.trip ≡ Some trip
+  pub order_is : order ≡ trip.order
+  pub row_is : trip_row key trip ≡ row
+
+own_of : (world : World) (order : List ℕ) (row : TripRow) (key : VehicleKey) (vehicle : Vehicle) (o : Option Trip) → vehicle.trip ≡ o → finite.get world.vehicles key ≡ Some vehicle
+    → finite.find name_cmp order (rows_of_trip key o) ≡ Some row → IsOwn world order row
+own_of world order row key vehicle None is at found = absurd (cc found)
+own_of world order row key vehicle (Some trip) is at found =
+    let one = of_one order trip.order (trip_row key trip) row found in
+    record { key = key; vehicle = vehicle; trip = trip; there = at; has = is; order_is = one.0; row_is = one.1 }
+
+pub trip_own : (world : World) (order : List ℕ) (row : TripRow) → finite.get (rows_of world).trips order ≡ Some row → IsOwn world order row
+trip_own world order row at =
+    let from = spread_from key_cmp-total name_cmp nat_list_cmp_total trip_rows world.vehicles order row at in
+    own_of world order row from.0 from.1 from.1.trip refl from.2 from.3
+
+pub vehicle_is : (key : VehicleKey) (entry : List ℕ × TripRow) → names_vehicle key entry ≡ true → entry.1.vehicle ≡ key
+vehicle_is key entry is =
+    let both = and_parts _ _ is in
+    let manufacturer = (same_name entry.1.vehicle.manufacturer key.manufacturer).0 both.0 in
+    let serial = (same_name entry.1.vehicle.serial key.serial).0 both.1 in
+    λ i. record { manufacturer = manufacturer i; serial = serial i }
+
+-- rows that name one vehicle are of one order
+pub one_order : (world : World) (key : VehicleKey) (a b : List ℕ × TripRow) → finite.get (rows_of world).trips a.0 ≡ Some a.1 → finite.get (rows_of world).trips b.0 ≡ Some b.1
+    → names_vehicle key a ≡ true → names_vehicle key b ≡ true → a.0 ≡ b.0
+one_order world key a b at bt one two =
+    let first = trip_own world a.0 a.1 at in
+    let second = trip_own world b.0 b.1 bt in
+    let keys : first.key ≡ second.key = ap (λ (row : TripRow). row.vehicle) first.row_is ∙ vehicle_is key a one ∙ sym (vehicle_is key b two) ∙ sym (ap (λ (row : TripRow). row.vehicle) second.row_is) in
+    let vehicles : first.vehicle ≡ second.vehicle = same_Some _ _ (sym first.there ∙ ap (finite.get world.vehicles) keys ∙ second.there) in
+    let trips : first.trip ≡ second.trip = same_Some _ _ (sym first.has ∙ ap (λ (vehicle : Vehicle). vehicle.trip) vehicles ∙ second.has) in
+    first.order_is ∙ ap (λ (trip : Trip). trip.order) trips ∙ sym second.order_is
+
+-- ---- the values of a line
+
+-- no walk has an unknown name at an end
+abbrev pub JoinsNodes : Type 0
+JoinsNodes = (layout : Layout) → KeepsRules layout → (from to : List ℕ) (ids : List (List ℕ)) → IsWalk layout from ids to → IsNode layout from × IsNode layout to
+
+confirmed_value : (trip : Trip) (o : Option ℕ) → IsConfirmed trip o → trip.sent ≤ 200 → IfSome o IsNumber
+confirmed_value trip None is low = tt
+confirmed_value trip (Some update) (inl same) low = omega (arith, same, low)
+confirmed_value trip (Some update) (inr before) low = let next = before.0 in omega (arith, next, low)
+
+module _ (joins : JoinsNodes) (world : World) (lawful : IsLawful 1 world) (single : CarriesOneEach (rows_of world)) where
+  pub line_value : (order : List ℕ) (row : TripRow) (line : TripLine) → finite.get (rows_of world).trips order ≡ Some row → line_of order row ≡ Some line → IsTripLine line
+  line_value order row line at is =
+      let own = trip_own world order row at in
+      let key = own.key in
+      let trip = own.trip in
+      let kept = lawful.vehicles.trips key own.vehicle trip own.there own.has in
+      let vehicle = lawful.vehicles.vehicles key own.vehicle own.there in
+      let planned = kept.well_formed.planned in
+      let under = kept.well_formed.under_way in
+      let back = trip_told_back order row line is in
+      let single_one = single.trips order row at in
+      let same_line : single_one.line ≡ line = same_Some _ _ (sym single_one.is ∙ is) in
+      let job_known = subst (λ (l : TripLine). finite.get world.jobs l.job ≡ Some single_one.job) same_line single_one.known in
+      let told : trip_told line back.job ≡ trip_row key trip = back.trip ∙ sym own.row_is in
+      let rising : IsRising 0 (map task_of (acts_of line back.job)) (length trip.edges) = subst (λ acts. IsRising 0 (map task_of acts) (length trip.edges)) (sym (ap (λ (r : TripRow). r.acts) told)) planned.rising in
+      let short = planned.short in
+      let sent_low : trip.sent ≤ 200 = at_most trip.sent trip.base (length trip.edges) under.sent_released under.on_way short in
+      let rules = node_rules world lawful own.vehicle.row.node vehicle.node in
+      record {
+        order = subst IsName (sym (back.order ∙ own.order_is)) (lawful.vehicles.orders_named trip.order (lawful.vehicles.used key trip (own.vehicle, own.there, own.has)));
+        vehicle = subst Rattle.agv_world.specs.Lawful.IsKey (sym (ap (λ (r : TripRow). r.vehicle) told)) (lawful.vehicles.vehicles_named key own.vehicle own.there);
+        job = lawful.loads.jobs_named line.job single_one.job job_known;
+        start = subst IsName (sym (ap (λ (r : TripRow). r.start) told)) (node_named world lawful trip.start (joins world.layout rules trip.start planned.walk.0 _ planned.walk.1).0);
+        first = small line.first (at_most line.first trip.base (length trip.edges) (subst (λ n. n ≤ trip.base) (sym (ap (λ (r : TripRow). r.first) told)) under.in_base) under.on_way short);
+        base = small line.base (at_most line.base trip.base (length trip.edges) (subst (λ n. n ≤ trip.base) (sym (ap (λ (r : TripRow). r.base) told)) (omega arith)) under.on_way short);
+        sent = small line.sent (at_most line.sent trip.base (length trip.edges) (subst (λ n. n ≤ trip.base) (sym (ap (λ (r : TripRow). r.sent) told)) under.sent_released) under.on_way short);
+        confirmed = subst (λ (o : Option ℕ). IfSome o IsNumber) (sym (ap (λ (r : TripRow). r.confirmed) told)) (confirmed_value trip trip.confirmed under.confirmed sent_low);
+        seen = small line.seen (at_most line.seen trip.base (length trip.edges) (subst (λ n. n ≤ trip.base) (sym (ap (λ (r : TripRow). r.seen) told)) under.seen_released) under.on_way short);
+        pick_at = small line.pick_at (placed line.pick_at line.drop_at (length trip.edges) rising.1.0 rising.1.1 short).0;
+        drop_at = small line.drop_at (placed line.pick_at line.drop_at (length trip.edges) rising.1.0 rising.1.1 short).1;
+      }
+    where
+      at_most : (n base edges : ℕ) → n ≤ base → base ≤ edges → edges ≤ 200 → n ≤ 200
+      at_most n base edges p q r = omega arith
+
+      small : (n : ℕ) → n ≤ 200 → IsNumber n
+      small n p = omega arith
+
+      placed : (pick drop edges : ℕ) → pick ≤ drop → drop ≡ edges → edges ≤ 200 → (pick ≤ 200) × (drop ≤ 200)
+      placed pick drop edges p q r = (omega arith, omega arith)
+
+-- ---- the rows of edges
+
+-- the row of an edge is numbered, and names one of the edges
+numbered_one : (P : Edge → Type 0) (order : List ℕ) (n : ℕ) (edges : List Edge) → AllByRecursion P edges → (q : LegKey) (id : List ℕ) → finite.find leg_cmp q (map (leg_row order) (enumerate_from n edges)) ≡ Some id
+    → (q.order ≡ order) × (q.k ≤ n + length edges) × (edge : Edge) × (edge.id ≡ id) × P edge
+numbered_one P order n [] are q id is = absurd (cc is)
+numbered_one P order n (edge ∷ edges) are q id is =
+    elim (eq_by_cmp leg_cmp q (record { order = order; k = n }))
+    as (λ b. eq_by_cmp leg_cmp q (record { order = order; k = n }) ≡ b → cond b (Some edge.id) (finite.find leg_cmp q (map (leg_row order) (enumerate_from (n + 1) edges))) ≡ Some id → (q.order ≡ order) × (q.k ≤ n + length (edge ∷ edges)) × (e : Edge) × (e.id ≡ id) × P e) [
+      | true ↦ λ tied found.
+          let key : q ≡ record { order = order; k = n } = leg_cmp-IsAntisymmetric q (record { order = order; k = n }) ((Equal-is (leg_cmp q (record { order = order; k = n }))).0 tied) in
+          let k : q.k ≡ n = ap (λ (l : LegKey). l.k) key in
+          (ap (λ (l : LegKey). l.order) key, omega (arith, k), edge, same_Some _ _ found, are.0)
+      | false ↦ λ _ found.
+          let later = numbered_one P order (n + 1) edges are.1 q id found in
+          let low : q.k ≤ (n + 1) + length edges = later.1 in
+          (later.0, omega (arith, low), later.2, later.3, later.4)
+    ] refl is
+
+leg_of : (world : World) (good : InGoodOrder world) (key : VehicleKey) (vehicle : Vehicle) (o : Option Trip) → vehicle.trip ≡ o → finite.get world.vehicles key ≡ Some vehicle → (q : LegKey) (id : List ℕ) → finite.find leg_cmp q (legs_of_trip o) ≡ Some id
+    → (trip : Trip) × (vehicle.trip ≡ Some trip) × (q.order ≡ trip.order) × (q.k ≤ length trip.edges) × (edge : Edge) × (edge.id ≡ id) × IsOfLayout world.layout edge
+leg_of world good key vehicle None is at q id found = absurd (cc found)
+leg_of world good key vehicle (Some trip) is at q id found =
+    let one = numbered_one (IsOfLayout world.layout) trip.order 0 trip.edges (good.known key trip (vehicle, at, is)) q id found in
+    let low : q.k ≤ 0 + length trip.edges = one.1 in
+    (trip, is, one.0, omega (arith, low), one.2, one.3, one.4)
+
+module _ (world : World) (lawful : IsLawful 1 world) (good : InGoodOrder world) where
+  -- the layout has the edge of each row, and the values of the row are in their ranges
+  pub leg_value : (q : LegKey) (id : List ℕ) → finite.get (rows_of world).legs q ≡ Some id → IsLegKey q × IsName id × (ends : Ends) × (finite.get world.layout.edges id ≡ Some ends)
+  leg_value q id at =
+      let from = spread_from key_cmp-total leg_cmp leg_cmp-total leg_rows world.vehicles q id at in
+      let leg = leg_of world good from.0 from.1 from.1.trip refl from.2 q id from.3 in
+      let trip = leg.0 in
+      let kept = lawful.vehicles.trips from.0 from.1 trip from.2 leg.1 in
+      let short = kept.well_formed.planned.short in
+      let edge = leg.4 in
+      let ends : Ends = record { start = edge.start; finish = edge.finish } in
+      let there : finite.get world.layout.edges id ≡ Some ends = subst (λ name. finite.get world.layout.edges name ≡ Some ends) leg.5 leg.6 in (
+        (subst IsName (sym leg.2) (lawful.vehicles.orders_named trip.order (lawful.vehicles.used from.0 trip (from.1, from.2, leg.1))), small q.k (length trip.edges) leg.3 short),
+        edge_named world lawful id ends there,
+        ends,
+        there,
+      )
+    where
+      small : (n edges : ℕ) → n ≤ edges → edges ≤ 200 → IsNumber n
+      small n edges p q = omega arith

@@ -1,0 +1,36 @@
+use Rattle.std.proofs.Common.{refl}
+use Rattle.agv_tables.proofs.rows.FittingRows.{vehicle_fits, trip_fits, load_fits, hold_fits}
+use Rattle.agv_tables.proofs.rows.row_fits.rows_fit_their_tables.Goals as goal
+
+pub returns-clause-meta : goal.returns-clause-meta
+returns-clause-meta c = λ id schema. refl
+
+pub returns-clause-node : goal.returns-clause-node
+returns-clause-node c = λ id. refl
+
+pub returns-clause-edge : goal.returns-clause-edge
+returns-clause-edge c = λ id ends. refl
+
+pub returns-clause-station : goal.returns-clause-station
+returns-clause-station c = λ id spot. refl
+
+pub returns-clause-vehicle : goal.returns-clause-vehicle
+returns-clause-vehicle c = vehicle_fits
+
+pub returns-clause-trip : goal.returns-clause-trip
+returns-clause-trip c = trip_fits
+
+pub returns-clause-leg : goal.returns-clause-leg
+returns-clause-leg c = λ key edge. refl
+
+pub returns-clause-load : goal.returns-clause-load
+returns-clause-load c = load_fits
+
+pub returns-clause-job : goal.returns-clause-job
+returns-clause-job c = λ id job. refl
+
+pub returns-clause-hold : goal.returns-clause-hold
+returns-clause-hold c = hold_fits
+
+pub returns-clause-used : goal.returns-clause-used
+returns-clause-used c = λ key. refl

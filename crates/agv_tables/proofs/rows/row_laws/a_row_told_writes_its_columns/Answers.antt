@@ -1,0 +1,17 @@
+use Rattle.agv_tables.proofs.rows.ColumnsWritten.{meta_written, node_written, edge_written, station_written, vehicle_written, trip_written, leg_written, load_written, job_written, hold_written, used_written}
+use Rattle.agv_tables.proofs.rows.row_laws.a_row_told_writes_its_columns.Goals as goal
+
+pub returns : goal.returns
+returns c = record {
+  meta = meta_written;
+  node = node_written;
+  edge = edge_written;
+  station = station_written;
+  vehicle = vehicle_written;
+  trip = trip_written;
+  leg = leg_written;
+  load = load_written;
+  job = job_written;
+  hold = hold_written;
+  used = used_written;
+}

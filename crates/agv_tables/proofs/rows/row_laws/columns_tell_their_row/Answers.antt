@@ -1,0 +1,18 @@
+use Rattle.agv_tables.proofs.rows.CellLemmas.{name_kept}
+use Rattle.agv_tables.proofs.rows.ColumnsKept.{meta_kept, edge_kept, station_kept, vehicle_kept, trip_kept, leg_kept, load_kept, job_kept, hold_kept, used_kept}
+use Rattle.agv_tables.proofs.rows.row_laws.columns_tell_their_row.Goals as goal
+
+pub returns : goal.returns
+returns c = record {
+  meta = meta_kept;
+  node = name_kept;
+  edge = edge_kept;
+  station = station_kept;
+  vehicle = vehicle_kept;
+  trip = trip_kept;
+  leg = leg_kept;
+  load = load_kept;
+  job = job_kept;
+  hold = hold_kept;
+  used = used_kept;
+}

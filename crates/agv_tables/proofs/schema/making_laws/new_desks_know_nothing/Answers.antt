@@ -1,0 +1,17 @@
+use Rattle.std.proofs.Common.{sym, subst}
+use Rattle.agv_tables.specs.rows.DeskRows.{Holds}
+use Rattle.agv_tables.proofs.schema.NewDesks.{first_are_empty}
+use Rattle.agv_tables.proofs.schema.making_laws.new_desks_know_nothing.Goals as goal
+
+pub returns-clause-rows : goal.returns-clause-rows
+returns-clause-rows c = first_are_empty
+
+pub returns-clause-world : goal.returns-clause-world
+returns-clause-world c db new = (
+  new.0,
+  record {
+    stands = new.1;
+    lawful = c.begins_lawful.ensures 1;
+    rows = subst (λ lists. Holds new.0 db lists) (sym first_are_empty) new.2;
+  },
+)

@@ -1,0 +1,263 @@
+-- What an INSERT, a DELETE and a SELECT on one of the desk's tables do to its rows.
+use Rattle.std.proofs.Common.{◌≡◌, ◌≢◌, ℕ, zero, suc, ℤ, Bool, true, false, not, MatchBool, cond, List, [], ◌∷◌, ◌/◌, length, map, drop, filter, slice_get, Option, None, Ok, refl, sym, ap, ap₂, subst, ◌∙◌, append-nil, IsPermutation}
+use Rattle.std.specs.List.{AllByRecursion, list_all}
+use Rattle.std.proofs.lemmas.Bool.{and_parts, not-true}
+use Rattle.std.proofs.lemmas.List.Sorted.{IsPermutation-map, IsPermutation-trans}
+use Rattle.sqlite_value.specs.declared.value.Value.TheVariants.{Null, Int}
+use Rattle.sqlite_value.specs.Order.{Row, column}
+use Rattle.sqlite_trees.specs.Tree.{Trees, rowid}
+use Rattle.sqlite_trees.proofs.ListLemmas.{IsPermutation-filter}
+use Rattle.sqlite_sql.specs.Term.{Term, col, eval_all}
+use Rattle.sqlite_sql.specs.Ops.{unary}
+use Rattle.sqlite_schema.specs.declared.schema.Kind.TheVariants.{Integer}
+use Rattle.sqlite_schema.specs.declared.schema.Keys.TheVariants.{Enforced}
+use Rattle.sqlite_schema.specs.declared.schema.Table.{Table}
+use Rattle.sqlite_schema.specs.declared.schema.Schema.{Schema}
+use Rattle.sqlite_schema.specs.declared.command.Command.{Command}
+use Rattle.sqlite_schema.specs.declared.command.Command.TheVariants.{Insert, Delete, Select}
+use Rattle.sqlite_schema.specs.declared.command.Source.TheVariants.{Values}
+use Rattle.sqlite_rules.specs.Cast.{cast, cast_all}
+use Rattle.sqlite_rules.proofs.ListLemmas.{all_from, all_has}
+use Rattle.sqlite_rules.specs.Edit.{id_in, next_rowid, taken_by, Edit, edit_of, Applies, put_all, are_fresh, is_taken}
+use Rattle.sqlite_rules.specs.Action.{works}
+use Rattle.sqlite_rules.specs.Calls.{ids_of}
+use Rattle.sqlite_rules.specs.declared.error.Rowids.TheVariants.{Chosen, Above, Given}
+use Rattle.sqlite_rules.specs.declared.error.Rowids.{Rowids}
+use Rattle.sqlite.specs.Effect.{Database, IsDatabase, value_rows}
+use Rattle.sqlite.specs.Rows.{Written, Task, Edited, stamped, rowids_for, count_of}
+use Rattle.sqlite.specs.Does.{Tally, OnRows, Concludes, AtPlace}
+use Rattle.sqlite.specs.State.{State, mode_of, Executes, Shown}
+use Rattle.sqlite.proofs.Callers.{runs_as, reads_as, one_step}
+use Rattle.agv_tables.specs.rows.DeskRows.{width_of, table_for, place_of, Placing, table_in, IsDesk, first_columns, columns_in, HaveRows, Holds, KeepsOthers, table_at, on_table, FitsTable}
+use Rattle.agv_tables.specs.declared.schema.table_name.TableName.{TableName}
+use Rattle.agv_tables.specs.declared.schema.table_name.TableName.TheVariants as the
+use Rattle.agv_tables.proofs.sql.OneTable.{Means, query_by}
+use Rattle.agv_tables.proofs.statements.RowMeanings.{from_slot, row_terms, column_terms}
+use Rattle.agv_tables.proofs.sql.QueryRows.{entry_passes, passes, reads_within, filter_alike, answered_by}
+use Rattle.agv_tables.proofs.sql.EntryEdits.{filter_of_map, map_of_map, one_more_row, fewer_rows}
+use Rattle.agv_tables.proofs.rows.ColumnValues.{same_either_way, cast_all_keeps, all_columns}
+use Rattle.agv_tables.proofs.schema.DeskPlaces.{is_among, one_of_a_tree, table_changes, table_has}
+use Rattle.agv_tables.proofs.sql.NoReferences.{sets_off_nothing}
+use Rattle.agv_tables.proofs.sql.Running.{went, same_value}
+
+-- ---- columns in turn
+
+column_past : (k : ℕ) (row : Row) → column row k ≡ column (drop k row) 0
+column_past zero row = refl
+column_past (suc k) [] = refl
+column_past (suc k) (v ∷ row) = column_past k row
+
+drop_one_more : (k : ℕ) (row : Row) → drop 1 (drop k row) ≡ drop (suc k) row
+drop_one_more zero row = refl
+drop_one_more (suc zero) [] = refl
+drop_one_more (suc (suc k)) [] = refl
+drop_one_more (suc k) (v ∷ row) = drop_one_more k row
+
+-- the values of a slot from a place on
+params_in_turn : (k n : ℕ) (params : Row) → eval_all (from_slot 0 k n) (params ∷ []) ≡ first_columns n (drop k params)
+params_in_turn k zero params = refl
+params_in_turn k (suc n) params = ap₂ ◌∷◌ (column_past k params) (params_in_turn (suc k) n params ∙ ap (first_columns n) (sym (drop_one_more k params)))
+
+columns_in_turn : (k n : ℕ) (params entry : Row) → eval_all (from_slot 1 k n) (params ∷ entry ∷ []) ≡ first_columns n (drop k entry)
+columns_in_turn k zero params entry = refl
+columns_in_turn k (suc n) params entry = ap₂ ◌∷◌ (column_past k entry) (columns_in_turn (suc k) n params entry ∙ ap (first_columns n) (sym (drop_one_more k entry)))
+
+-- the row of an INSERT is the parameters
+one_row : (name : TableName) (params : Row) → value_rows params (suc (width_of name)) (length (row_terms name) / suc (width_of name)) (row_terms name) ≡ (Null ∷ eval_all (from_slot 0 0 (width_of name)) (params ∷ [])) ∷ []
+one_row the.Meta params = refl
+one_row the.Node params = refl
+one_row the.Edge params = refl
+one_row the.Station params = refl
+one_row the.Vehicle params = refl
+one_row the.Trip params = refl
+one_row the.Leg params = refl
+one_row the.Load params = refl
+one_row the.Job params = refl
+one_row the.Hold params = refl
+one_row the.Used params = refl
+
+unstamped : (name : TableName) (tree : ℕ) (params : Row) → stamped (record (table_for name) { tree = tree }) params ≡ params
+unstamped the.Meta tree params = append-nil params
+unstamped the.Node tree params = append-nil params
+unstamped the.Edge tree params = append-nil params
+unstamped the.Station tree params = append-nil params
+unstamped the.Vehicle tree params = append-nil params
+unstamped the.Trip tree params = append-nil params
+unstamped the.Leg tree params = append-nil params
+unstamped the.Load tree params = append-nil params
+unstamped the.Job tree params = append-nil params
+unstamped the.Hold tree params = append-nil params
+unstamped the.Used tree params = append-nil params
+
+uncounted : (name : TableName) → (table_for name).is_counted ≡ false
+uncounted the.Meta = refl
+uncounted the.Node = refl
+uncounted the.Edge = refl
+uncounted the.Station = refl
+uncounted the.Vehicle = refl
+uncounted the.Trip = refl
+uncounted the.Leg = refl
+uncounted the.Load = refl
+uncounted the.Job = refl
+uncounted the.Hold = refl
+uncounted the.Used = refl
+
+-- ---- parts of what a statement does
+
+-- nothing is written after the rows
+settled : (task : Task) (s : State) (w : Written) (tally : Tally) (after : Database) → Concludes task (mode_of s) None w (Ok (tally, after)) → after ≡ record { schema = task.schema; trees = w.trees }
+settled task s w tally after h =
+    let tested = went h in
+    let returned = went tested.2 in
+    ap (λ (p : Tally × Database). p.1) (same_value returned.2)
+
+-- a query that shows the rowid shows those of the entries that pass
+same_ids : (width : ℕ) (terms : List Term) (params : Row) → list_all (reads_within width) terms ≡ true → (entries answer : List Row)
+    → IsPermutation (map (λ e. eval_all (col 1 0 ∷ []) (params ∷ e ∷ [])) (filter (entry_passes terms params) entries)) answer
+    → IsPermutation (ids_of (filter (λ e. passes terms params (columns_in width e)) entries)) (ids_of answer)
+same_ids width terms params within entries answer h =
+    subst (λ xs. IsPermutation xs (ids_of answer)) (map_of_map (λ e. id_in (rowid e)) (λ e. eval_all (col 1 0 ∷ []) (params ∷ e ∷ [])) (filter (entry_passes terms params) entries) ∙ ap ids_of (filter_alike width terms params within entries))
+    (IsPermutation-map (λ e. id_in (rowid e)) _ _ h)
+
+cast_null : cast Integer Null ≡ Null
+unfolding unary
+cast_null = same_either_way _ Null
+
+chosen : (b : Bool) (top : ℤ) → b ≡ false → cond b (Above top) Chosen ≡ Chosen
+chosen true top h = absurd (cc)
+chosen false top h = refl
+
+fresh_one : (entries : List Row) (entry : Row) → are_fresh entries (entry ∷ []) ≡ true → is_taken entries entry ≡ false
+fresh_one entries entry h = not-true _ (and_parts _ _ h).0
+
+second : (P Q : Type 0) (b c : Bool) → b ≡ false → MatchBool (cond b c false) P Q → Q
+second P Q true c h x = absurd (cc)
+second P Q false c h x = x
+
+-- what holds of each table but one of the desk's holds of each that is none of them
+of_fewer : (tree : TableName → ℕ) (name : TableName) (P : Table → Type 0) (tables : List Table) → AllByRecursion (λ (t : Table). t.tree ≢ tree name → P t) tables
+    → AllByRecursion (λ (t : Table). ((n : TableName) → t.tree ≢ tree n) → P t) tables
+of_fewer tree name P tables h = all_from _ tables (λ t there none. all_has _ tables t h there (none name))
+
+-- ---- the statements
+
+-- what a statement that changes the desk's rows does
+pub record Lands (desk : Placing) (old new : Database) (change : List (List Row) → List (List Row)) : Type 0 where
+  pub rows : (lists : List (List Row)) → Holds desk old lists → Holds desk new (change lists)
+  pub others : KeepsOthers desk old new
+  pub listed : IsDatabase new
+
+module _ (desk : Placing) (is : IsDesk desk) (name : TableName) (old new : State) (has : old.now.schema ≡ desk.schema) where
+  abbrev table : Table
+  table = table_in desk name
+
+  abbrev at : ℕ
+  at = (is.stands name).at
+
+  abbrev width : ℕ
+  width = width_of name
+
+  abbrev task_for : Row → Task
+  task_for params = record { limit = old.step_limit; keys = Enforced; schema = old.now.schema; table = table; params = params }
+
+  sets_nothing_off : (olds news : List Row) → works old.now.schema Enforced 0 table.tree olds news ≡ []
+  sets_nothing_off olds news =
+      let here = is_among desk.schema.tables at table (is.stands name).there in
+      subst (λ s. works s Enforced 0 table.tree olds news ≡ []) (sym has)
+      (sets_off_nothing table desk.schema (λ u there same. one_of_a_tree desk.schema.tables is.apart u table there here same) Enforced olds news (is.stands name).unreferred)
+
+  on_table_here : (params : Row) (command : Command) (out : Tally × Database)
+      → AtPlace (λ t. OnRows (record { limit = old.step_limit; keys = Enforced; schema = old.now.schema; table = t; params = params }) (mode_of old) None command old.now.trees) (slice_get old.now.schema.tables at) (Ok out)
+      → OnRows (task_for params) (mode_of old) None command old.now.trees (Ok out)
+  on_table_here params command out h =
+      subst (λ (o : Option Table). AtPlace (λ t. OnRows (record { limit = old.step_limit; keys = Enforced; schema = old.now.schema; table = t; params = params }) (mode_of old) None command old.now.trees) o (Ok out))
+      (ap (λ (s : Schema). slice_get s.tables at) has ∙ (is.stands name).there) h
+
+  applied : (edit : Edit) (next : Trees) → edit.table ≡ table → Edited old.now.schema Enforced old.now.trees edit (Ok next) → Applies old.now.schema Enforced old.now.trees edit next
+  applied edit next here h =
+      one_step old.now.schema Enforced old.now.trees next edit
+      (subst (λ (t : Table). works old.now.schema Enforced 0 t.tree (taken_by old.now.trees edit) edit.news ≡ []) (sym here) (sets_nothing_off (taken_by old.now.trees edit) edit.news)) h
+
+  lands : (edit : Edit) (next : Trees) (f : List Row → List Row) → edit.table ≡ table → Applies old.now.schema Enforced old.now.trees edit next
+      → ((rows : List Row) → HaveRows width (old.now.trees table.tree) rows → HaveRows width (next table.tree) (f rows))
+      → new.now ≡ record { schema = old.now.schema; trees = next } → IsDatabase new.now → Lands desk old.now new.now (on_table (place_of name) f)
+  lands edit next f here a step now listed =
+      let same = subst (λ s. AllByRecursion (λ (t : Table). t.tree ≢ table.tree → next t.tree ≡ old.now.trees t.tree) s.tables) has (rw here at a.tables) in
+      record {
+        rows = λ lists h. rw now (record { schema_is = has; rows = table_changes desk is name old.now.trees next f step same lists h.rows });
+        others = rw now (record { schema_is = refl; rows = of_fewer desk.tree name (λ t. next t.tree ≡ old.now.trees t.tree) desk.schema.tables same });
+        listed = listed;
+      }
+
+  pub rows_deleted : (sql : List ℕ) (params : Row) (terms : List Term) → list_all (reads_within width) terms ≡ true
+      → Means desk.schema sql (Delete at (record { lets = []; body = query_by table.tree terms (col 1 0 ∷ []) }))
+      → (count : ℕ) → Executes sql params old new (Ok count) → Lands desk old.now new.now (on_table (place_of name) (filter (λ row. not (passes terms params row))))
+  rows_deleted sql params terms within means count ran =
+      let command = Delete at (record { lets = []; body = query_by table.tree terms (col 1 0 ∷ []) }) in
+      let db = old.now.trees in
+      let w = runs_as sql params old new desk.schema has command means.is means.plain count ran in
+      let done = went (on_table_here params command (w.tally, new.now) w.changed) in
+      let queried = went done.1 in
+      let gone = ids_of queried.0 in
+      let edit = edit_of db table gone Given 0 [] in
+      let edited = went queried.2 in
+      let next = edited.0 in
+      let a = applied edit next refl edited.1 in
+      let trees : done.0.trees ≡ next = ap (λ (it : Written). it.trees) (same_value edited.2) in
+      let now : new.now ≡ record { schema = old.now.schema; trees = next } = settled (task_for params) old done.0 w.tally new.now done.2 ∙ ap (λ (t : Trees). record { schema = old.now.schema; trees = t }) trees in
+      let found = answered_by table.tree terms (col 1 0 ∷ []) db params queried.0 (queried.1.answer Null) in
+      lands edit next (filter (λ row. not (passes terms params row))) refl a (λ rows was.
+      rw a.rows (fewer_rows width (passes terms params) (db table.tree) rows was gone (same_ids width terms params within (db table.tree) queried.0 found))) now w.sound
+
+  pub row_inserted : (sql : List ℕ) (row : Row) → FitsTable name row
+      → Means desk.schema sql (Insert at (Values (row_terms name) (suc width)))
+      → (count : ℕ) → Executes sql row old new (Ok count) → Lands desk old.now new.now (on_table (place_of name) (λ rows. row ∷ rows))
+  row_inserted sql row fit means count ran =
+      let command = Insert at (Values (row_terms name) (suc width)) in
+      let db = old.now.trees in
+      let w = runs_as sql row old new desk.schema has command means.is means.plain count ran in
+      let done = went (on_table_here row command (w.tally, new.now) w.changed) in
+      let given = went done.1 in
+      let counter = went given.2 in
+      let edited = went counter.2 in
+      let counted = went edited.2 in
+      let mid = edited.0 in
+      let whole : first_columns width row ≡ row = all_columns (table_for name).columns row fit in
+      let first = edit_of db table [] (rowids_for table (count_of counter.0)) 0 given.0 in
+      let edit = edit_of db table [] Chosen 0 ((Null ∷ row) ∷ []) in
+      let one : given.0 ≡ (Null ∷ row) ∷ [] =
+      given.1.1 ∙ ap (λ ps. value_rows ps (suc width) (length (row_terms name) / suc width) (row_terms name)) (unstamped name (desk.tree name) row) ∙ one_row name row
+      ∙ ap (λ (r : Row). (Null ∷ r) ∷ []) (params_in_turn 0 width row ∙ whole) in
+      let same : first ≡ edit = ap (λ (how : Rowids). edit_of db table [] how 0 given.0) (chosen table.is_counted (count_of counter.0) (uncounted name)) ∙ ap (edit_of db table [] Chosen 0) one in
+      let a = applied edit mid refl (subst (λ (e : Edit). Edited old.now.schema Enforced db e (Ok mid)) same edited.1) in
+      let quiet = second _ _ table.is_counted _ (uncounted name) counted.1 in
+      let trees : done.0.trees ≡ mid = ap (λ (it : Written). it.trees) (same_value counted.2) ∙ same_value quiet in
+      let now : new.now ≡ record { schema = old.now.schema; trees = mid } = settled (task_for row) old done.0 w.tally new.now done.2 ∙ ap (λ (t : Trees). record { schema = old.now.schema; trees = t }) trees in
+      let entry = Int (next_rowid (db table.tree)) ∷ row in
+      let fits : cast_all table.columns row ≡ row = cast_all_keeps (table_for name).columns row fit in
+      let news : edit.news ≡ entry ∷ [] = rw (cast_null, fits) in
+      lands edit mid (λ rows. row ∷ rows) refl a (λ rows was.
+      subst (λ es. HaveRows width es (row ∷ rows)) (sym (a.rows ∙ ap (put_all (db table.tree)) news))
+      (subst (λ r. HaveRows width (put_all (db table.tree) (entry ∷ [])) (r ∷ rows)) whole
+      (one_more_row width entry (db table.tree) rows (fresh_one (db table.tree) entry (subst (λ ns. are_fresh (db table.tree) ns ≡ true) news a.fresh)) refl was))) now w.sound
+
+  -- the rows that pass, in some order
+  pub rows_shown : (sql : List ℕ) (params : Row) (terms : List Term) (names : List (List ℕ)) → list_all (reads_within width) terms ≡ true
+      → Means desk.schema sql (Select (record { lets = []; body = query_by table.tree terms (column_terms name) }) names)
+      → (rows : List Row) → Shown sql params old new rows → (lists : List (List Row)) → Holds desk old.now lists
+      → IsPermutation (filter (passes terms params) (table_at (place_of name) lists)) rows
+  rows_shown sql params terms names within means rows shown lists h =
+      let q = query_by table.tree terms (column_terms name) in
+      let got = reads_as sql params old new desk.schema has (Select (record { lets = []; body = q }) names) means.is means.plain means.own rows shown in
+      let found = answered_by table.tree terms (column_terms name) old.now.trees params rows (got.answer Null) in
+      let entries = old.now.trees table.tree in
+      let here = table_has desk name old.now.trees lists h.rows in
+      let same : map (λ e. eval_all (column_terms name) (params ∷ e ∷ [])) (filter (entry_passes terms params) entries) ≡ filter (passes terms params) (map (columns_in width) entries) =
+      each_in_turn (filter (entry_passes terms params) entries)
+      ∙ ap (map (columns_in width)) (filter_alike width terms params within entries)
+      ∙ sym (filter_of_map (passes terms params) (columns_in width) entries) in
+      IsPermutation-trans _ _ _ (IsPermutation-filter (passes terms params) _ _ here.1) (subst (λ xs. IsPermutation xs rows) same found)
+    where
+      each_in_turn : (es : List Row) → map (λ e. eval_all (column_terms name) (params ∷ e ∷ [])) es ≡ map (columns_in width) es
+      each_in_turn [] = refl
+      each_in_turn (e ∷ es) = ap₂ ◌∷◌ (columns_in_turn 1 width params e) (each_in_turn es)

@@ -1,0 +1,8 @@
+pub mod changes
+pub mod loads
+pub mod questions
+pub mod readings
+pub mod rows
+pub mod schema
+pub mod sql
+pub mod statements

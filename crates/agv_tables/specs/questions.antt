@@ -1,0 +1,4 @@
+pub mod AskedRows
+pub mod FirstRow
+pub mod ReadingFault
+pub mod WorldAnswers

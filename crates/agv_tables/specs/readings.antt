@@ -1,0 +1,5 @@
+pub mod HeldFootprints
+pub mod ReadTables
+pub mod Rowids
+pub mod TablesRead
+pub mod WorldIn

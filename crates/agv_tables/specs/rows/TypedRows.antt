@@ -1,0 +1,68 @@
+-- What holds of every row of the world, since its parts are of their types: names are names, numbers and moments are in their ranges.
+use Rattle.std.specs.Prelude.{◌≡◌, ℕ, ◌≤◌, IfSome}
+use Rattle.agv_header.specs.Name.{IsName}
+use Rattle.agv_header.specs.declared.key.Thing.{Thing}
+use Rattle.agv_header.specs.declared.key.Thing.TheVariants as thing
+use Rattle.agv_layout.specs.declared.edge.Ends.{Ends}
+use Rattle.agv_layout.specs.declared.station.Spot.{Spot}
+use Rattle.agv_stock.specs.declared.place.Place.{Place}
+use Rattle.agv_stock.specs.declared.place.Place.TheVariants as place
+use Rattle.agv_world.specs.Lawful.{IsKey}
+use Rattle.agv_world.specs.declared.key.LegKey.{LegKey}
+use Rattle.agv_world.specs.declared.row.JobRow.{JobRow}
+use Rattle.agv_world.specs.declared.row.Sent.{Sent}
+use Rattle.agv_world.specs.declared.row.VehicleRow.{VehicleRow}
+use Rattle.agv_tables.specs.declared.rows.trip_line.TripLine.{TripLine}
+
+abbrev pub IsNumber : ℕ → Type 0
+IsNumber n = n ≤ 4294967295
+
+abbrev pub AreEnds : Ends → Type 0
+AreEnds ends = IsName ends.start × IsName ends.finish
+
+abbrev pub IsSpot : Spot → Type 0
+IsSpot spot = IsName spot.node × IsNumber spot.capacity
+
+abbrev pub IsSending : Sent → Type 0
+IsSending sent = IsNumber sent.count × (sent.at ≤ 4102444799999)
+
+-- a vehicle, which has room for one load: more the tables can't say
+pub record IsVehicleRow (row : VehicleRow) : Type 0 where
+  pub capacity : row.capacity ≡ 1
+  pub node : IsName row.node
+  pub rest : IfSome row.rest (λ rest. IsName rest.0 × IsName rest.1)
+  pub last_header : IfSome row.last_header IsNumber
+  pub reported : IfSome row.reported IsName
+  pub orders : IsSending row.orders
+  pub instants : IsSending row.instants
+
+pub record IsTripLine (line : TripLine) : Type 0 where
+  pub order : IsName line.order
+  pub vehicle : IsKey line.vehicle
+  pub job : IsName line.job
+  pub start : IsName line.start
+  pub first : IsNumber line.first
+  pub base : IsNumber line.base
+  pub sent : IsNumber line.sent
+  pub confirmed : IfSome line.confirmed IsNumber
+  pub seen : IsNumber line.seen
+  pub pick_at : IsNumber line.pick_at
+  pub drop_at : IsNumber line.drop_at
+
+abbrev pub IsLegKey : LegKey → Type 0
+IsLegKey key = IsName key.order × IsNumber key.k
+
+abbrev pub IsPlace : Place → Type 0
+IsPlace (place.Station station) = IsName station
+IsPlace (place.Vehicle key) = IsKey key
+IsPlace place.Checking = Unit {0}
+IsPlace place.Left = Unit {0}
+
+pub record IsJobRow (job : JobRow) : Type 0 where
+  pub load : IsName job.load
+  pub origin : IsName job.origin
+  pub target : IsName job.target
+
+abbrev pub IsThing : Thing → Type 0
+IsThing (thing.Node id) = IsName id
+IsThing (thing.Edge id) = IsName id

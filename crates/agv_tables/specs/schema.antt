@@ -1,0 +1,9 @@
+pub mod DeskSchema
+pub mod DeskTables
+pub mod MakingFault
+pub mod NewDesk
+pub mod Schema
+pub mod SchemaNumbers
+pub mod SchemaTexts
+pub mod TablesStand
+pub mod TextsRun

@@ -1,0 +1,2 @@
+pub mod RowQuestions
+pub mod RowTexts

@@ -1,0 +1,7 @@
+//! A list of changes of a world's rows is made in the tables, in one transaction (`specs/changes/ChangesMade.antt`): all or
+//! nothing. The other tables keep their rows, and `change_laws` says what an opening finds after a crash.
+
+pub mod change_laws;
+pub mod change_running;
+pub(crate) mod change_writes;
+pub(crate) mod hold_rows;

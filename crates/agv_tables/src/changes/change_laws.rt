@@ -1,0 +1,22 @@
+//! Laws of a list of changes: what an opening after a crash finds. The function does nothing: its clauses are the law.
+ghost use Rattle.std.specs.Prelude.{◌≡◌, ◌⊎◌, List};
+ghost use Rattle.sqlite_value.specs.Order.{Row};
+ghost use Rattle.sqlite.specs.Effect.{Database, IsDatabase};
+ghost use Rattle.agv_world.specs.Changes.{changed};
+ghost use Rattle.agv_world.specs.Rows.{Rows};
+ghost use Rattle.agv_world.specs.declared.change.Change.{Change};
+ghost use Rattle.agv_tables.specs.changes.ChangesMade.{MakesChanges, MayFind};
+ghost use Rattle.agv_tables.specs.rows.DeskRows.{Placing, Holds, IsDesk};
+ghost use Rattle.agv_tables.specs.rows.RowLists.{listed_all, row_lists};
+
+/// After a crash of a list of changes an opening finds the rows from before it or those after all of it, and the
+/// other tables as they were (`either`). That the trees before it list their schema (`IsDatabase`) a caller has of
+/// the connection: it is the clause `live` of sqlite's `Connection::schema`.
+pub fn openings_find_rows_before_or_after()
+    ensures either { (changes : List Change) (desk : Placing) (old found : Database) → IsDesk desk → old.schema ≡ desk.schema → IsDatabase old
+        → MayFind changes old found → (found ≡ old) ⊎ MakesChanges changes old found }
+    ensures rows { (changes : List Change) (desk : Placing) (old found : Database) (lists : List (List Row)) → IsDesk desk → Holds desk old lists → IsDatabase old
+        → MayFind changes old found → Holds desk found lists ⊎ Holds desk found (listed_all changes lists) }
+    ensures worlds { (changes : List Change) (desk : Placing) (old found : Database) (rows : Rows) → IsDesk desk → Holds desk old (row_lists rows) → IsDatabase old
+        → MayFind changes old found → Holds desk found (row_lists rows) ⊎ Holds desk found (row_lists (changed changes rows)) }
+{}

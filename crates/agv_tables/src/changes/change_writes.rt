@@ -1,0 +1,293 @@
+//! A change of the rows of a world is made in the desk's tables, inside a transaction.
+//!
+//! Each clause `made` says of one kind of change what the definition of all of them says, in any database in which
+//! the desk's tables stand. An error changes what the transaction's end undoes.
+ghost use Rattle.std.specs.Prelude.{◌≡◌, None, Some, OnOk};
+ghost use Rattle.sqlite.specs.State.{HasCleanDisk, KeepsCommit, Survives};
+ghost use Rattle.sqlite.specs.Held.{state};
+ghost use Rattle.agv_world.specs.declared.change.Change.TheVariants as row;
+ghost use Rattle.agv_tables.specs.rows.Columns.{trip_columns};
+ghost use Rattle.agv_tables.specs.rows.DeskRows.{Makes, with_put, without_key};
+ghost use Rattle.agv_tables.specs.rows.RowKeys.{name_key};
+ghost use Rattle.agv_tables.specs.rows.RowLists.{listed};
+ghost use Rattle.agv_tables.specs.declared.schema.table_name.TableName.TheVariants as the;
+
+use crate::TripLine;
+use crate::changes::hold_rows::drop_hold;
+use crate::rows::key_values::{
+    hold_key_values, leg_key_values, name_key_values, vehicle_key_values,
+};
+use crate::rows::row_values::{
+    edge_values, hold_values, job_values, leg_values, load_values, node_values, station_values,
+    trip_values, used_values, vehicle_values,
+};
+use crate::rows::world_table::WorldTable;
+use crate::statements::row_writes::{delete_row, put_row};
+use agv_header::{Name, Thing, VehicleKey};
+use agv_layout::{Ends, Spot};
+use agv_stock::Place;
+use agv_world::{Change, JobRow, LegKey, TripRow, UseKey, VehicleRow};
+use sqlite::{Alter, Error, Transaction};
+
+// The node is there.
+fn write_node<S: Alter>(tx: &mut Transaction<'_, S>, id: &Name) -> Result<usize, Error>
+    ensures same_reference { tx.new.conn.ghost_name ≡ tx.old.conn.ghost_name }
+    ensures survives { Survives (state S.Store tx.old.conn.now) (state S.Store tx.new.conn.now) (λ _. ⊥) }
+    ensures kept { HasCleanDisk (state S.Store tx.new.conn.now) → KeepsCommit (state S.Store tx.old.conn.now) (state S.Store tx.new.conn.now) }
+    ensures made { HasCleanDisk (state S.Store tx.new.conn.now)
+        → OnOk result (Makes (listed (row.Node id.now)) (state S.Store tx.old.conn.now) (state S.Store tx.new.conn.now)) }
+{
+    put_row(tx, WorldTable::Node, &name_key_values(id), &node_values(id))
+}
+
+// The edge has these ends.
+fn write_edge<S: Alter>(tx: &mut Transaction<'_, S>, id: &Name, ends: &Ends) -> Result<usize, Error>
+    ensures same_reference { tx.new.conn.ghost_name ≡ tx.old.conn.ghost_name }
+    ensures survives { Survives (state S.Store tx.old.conn.now) (state S.Store tx.new.conn.now) (λ _. ⊥) }
+    ensures kept { HasCleanDisk (state S.Store tx.new.conn.now) → KeepsCommit (state S.Store tx.old.conn.now) (state S.Store tx.new.conn.now) }
+    ensures made { HasCleanDisk (state S.Store tx.new.conn.now)
+        → OnOk result (Makes (listed (row.Edge id.now ends.now)) (state S.Store tx.old.conn.now) (state S.Store tx.new.conn.now)) }
+{
+    put_row(
+        tx,
+        WorldTable::Edge,
+        &name_key_values(id),
+        &edge_values(id, ends),
+    )
+}
+
+// The station is this.
+fn write_station<S: Alter>(
+    tx: &mut Transaction<'_, S>,
+    id: &Name,
+    spot: &Spot,
+) -> Result<usize, Error>
+    ensures same_reference { tx.new.conn.ghost_name ≡ tx.old.conn.ghost_name }
+    ensures survives { Survives (state S.Store tx.old.conn.now) (state S.Store tx.new.conn.now) (λ _. ⊥) }
+    ensures kept { HasCleanDisk (state S.Store tx.new.conn.now) → KeepsCommit (state S.Store tx.old.conn.now) (state S.Store tx.new.conn.now) }
+    ensures made { HasCleanDisk (state S.Store tx.new.conn.now)
+        → OnOk result (Makes (listed (row.Station id.now spot.now)) (state S.Store tx.old.conn.now) (state S.Store tx.new.conn.now)) }
+{
+    put_row(
+        tx,
+        WorldTable::Station,
+        &name_key_values(id),
+        &station_values(id, spot),
+    )
+}
+
+// The vehicle is this.
+fn write_vehicle<S: Alter>(
+    tx: &mut Transaction<'_, S>,
+    key: &VehicleKey,
+    vehicle: &VehicleRow,
+) -> Result<usize, Error>
+    ensures same_reference { tx.new.conn.ghost_name ≡ tx.old.conn.ghost_name }
+    ensures survives { Survives (state S.Store tx.old.conn.now) (state S.Store tx.new.conn.now) (λ _. ⊥) }
+    ensures kept { HasCleanDisk (state S.Store tx.new.conn.now) → KeepsCommit (state S.Store tx.old.conn.now) (state S.Store tx.new.conn.now) }
+    ensures made { HasCleanDisk (state S.Store tx.new.conn.now)
+        → OnOk result (Makes (listed (row.Vehicle key.now vehicle.now)) (state S.Store tx.old.conn.now) (state S.Store tx.new.conn.now)) }
+{
+    put_row(
+        tx,
+        WorldTable::Vehicle,
+        &vehicle_key_values(key),
+        &vehicle_values(key, vehicle),
+    )
+}
+
+// The order has no open trip.
+fn drop_trip<S: Alter>(tx: &mut Transaction<'_, S>, order: &Name) -> Result<usize, Error>
+    ensures same_reference { tx.new.conn.ghost_name ≡ tx.old.conn.ghost_name }
+    ensures survives { Survives (state S.Store tx.old.conn.now) (state S.Store tx.new.conn.now) (λ _. ⊥) }
+    ensures kept { HasCleanDisk (state S.Store tx.new.conn.now) → KeepsCommit (state S.Store tx.old.conn.now) (state S.Store tx.new.conn.now) }
+    ensures made { HasCleanDisk (state S.Store tx.new.conn.now)
+        → OnOk result (Makes (without_key the.Trip (name_key order.now)) (state S.Store tx.old.conn.now) (state S.Store tx.new.conn.now)) }
+{
+    delete_row(tx, WorldTable::Trip, &name_key_values(order))
+}
+
+// The order has the open trip of this line.
+fn put_line<S: Alter>(
+    tx: &mut Transaction<'_, S>,
+    order: &Name,
+    line: &TripLine,
+) -> Result<usize, Error>
+    ensures same_reference { tx.new.conn.ghost_name ≡ tx.old.conn.ghost_name }
+    ensures survives { Survives (state S.Store tx.old.conn.now) (state S.Store tx.new.conn.now) (λ _. ⊥) }
+    ensures kept { HasCleanDisk (state S.Store tx.new.conn.now) → KeepsCommit (state S.Store tx.old.conn.now) (state S.Store tx.new.conn.now) }
+    ensures made { HasCleanDisk (state S.Store tx.new.conn.now)
+        → OnOk result (Makes (with_put the.Trip (name_key order.now) (trip_columns line.now)) (state S.Store tx.old.conn.now) (state S.Store tx.new.conn.now)) }
+{
+    put_row(
+        tx,
+        WorldTable::Trip,
+        &name_key_values(order),
+        &trip_values(line),
+    )
+}
+
+// The order has this open trip. One that is not of one job has no row.
+fn write_open_trip<S: Alter>(
+    tx: &mut Transaction<'_, S>,
+    order: &Name,
+    trip: &TripRow,
+) -> Result<usize, Error>
+    ensures same_reference { tx.new.conn.ghost_name ≡ tx.old.conn.ghost_name }
+    ensures survives { Survives (state S.Store tx.old.conn.now) (state S.Store tx.new.conn.now) (λ _. ⊥) }
+    ensures kept { HasCleanDisk (state S.Store tx.new.conn.now) → KeepsCommit (state S.Store tx.old.conn.now) (state S.Store tx.new.conn.now) }
+    ensures made { HasCleanDisk (state S.Store tx.new.conn.now)
+        → OnOk result (Makes (listed (row.Trip order.now (Some trip.now))) (state S.Store tx.old.conn.now) (state S.Store tx.new.conn.now)) }
+{
+    match TripLine::of(*order, trip) {
+        None => drop_trip(tx, order),
+        Some(line) => put_line(tx, order, &line),
+    }
+}
+
+// The open trip of the order, if it has one.
+fn write_trip<S: Alter>(
+    tx: &mut Transaction<'_, S>,
+    order: &Name,
+    trip: &Option<TripRow>,
+) -> Result<usize, Error>
+    ensures same_reference { tx.new.conn.ghost_name ≡ tx.old.conn.ghost_name }
+    ensures survives { Survives (state S.Store tx.old.conn.now) (state S.Store tx.new.conn.now) (λ _. ⊥) }
+    ensures kept { HasCleanDisk (state S.Store tx.new.conn.now) → KeepsCommit (state S.Store tx.old.conn.now) (state S.Store tx.new.conn.now) }
+    ensures made { HasCleanDisk (state S.Store tx.new.conn.now)
+        → OnOk result (Makes (listed (row.Trip order.now trip.now)) (state S.Store tx.old.conn.now) (state S.Store tx.new.conn.now)) }
+{
+    match trip {
+        None => drop_trip(tx, order),
+        Some(trip) => write_open_trip(tx, order, trip),
+    }
+}
+
+// That edge is not on the way of an open trip.
+fn drop_leg<S: Alter>(tx: &mut Transaction<'_, S>, key: &LegKey) -> Result<usize, Error>
+    ensures same_reference { tx.new.conn.ghost_name ≡ tx.old.conn.ghost_name }
+    ensures survives { Survives (state S.Store tx.old.conn.now) (state S.Store tx.new.conn.now) (λ _. ⊥) }
+    ensures kept { HasCleanDisk (state S.Store tx.new.conn.now) → KeepsCommit (state S.Store tx.old.conn.now) (state S.Store tx.new.conn.now) }
+    ensures made { HasCleanDisk (state S.Store tx.new.conn.now)
+        → OnOk result (Makes (listed (row.Leg key.now None)) (state S.Store tx.old.conn.now) (state S.Store tx.new.conn.now)) }
+{
+    delete_row(tx, WorldTable::Leg, &leg_key_values(key))
+}
+
+// The edge on the way of an open trip, if it has one there.
+fn write_leg<S: Alter>(
+    tx: &mut Transaction<'_, S>,
+    key: &LegKey,
+    edge: &Option<Name>,
+) -> Result<usize, Error>
+    ensures same_reference { tx.new.conn.ghost_name ≡ tx.old.conn.ghost_name }
+    ensures survives { Survives (state S.Store tx.old.conn.now) (state S.Store tx.new.conn.now) (λ _. ⊥) }
+    ensures kept { HasCleanDisk (state S.Store tx.new.conn.now) → KeepsCommit (state S.Store tx.old.conn.now) (state S.Store tx.new.conn.now) }
+    ensures made { HasCleanDisk (state S.Store tx.new.conn.now)
+        → OnOk result (Makes (listed (row.Leg key.now edge.now)) (state S.Store tx.old.conn.now) (state S.Store tx.new.conn.now)) }
+{
+    match edge {
+        None => drop_leg(tx, key),
+        Some(edge) => put_row(
+            tx,
+            WorldTable::Leg,
+            &leg_key_values(key),
+            &leg_values(key, edge),
+        ),
+    }
+}
+
+// The load is there.
+fn write_load<S: Alter>(
+    tx: &mut Transaction<'_, S>,
+    id: &Name,
+    place: &Place,
+) -> Result<usize, Error>
+    ensures same_reference { tx.new.conn.ghost_name ≡ tx.old.conn.ghost_name }
+    ensures survives { Survives (state S.Store tx.old.conn.now) (state S.Store tx.new.conn.now) (λ _. ⊥) }
+    ensures kept { HasCleanDisk (state S.Store tx.new.conn.now) → KeepsCommit (state S.Store tx.old.conn.now) (state S.Store tx.new.conn.now) }
+    ensures made { HasCleanDisk (state S.Store tx.new.conn.now)
+        → OnOk result (Makes (listed (row.Load id.now place.now)) (state S.Store tx.old.conn.now) (state S.Store tx.new.conn.now)) }
+{
+    put_row(
+        tx,
+        WorldTable::Load,
+        &name_key_values(id),
+        &load_values(id, place),
+    )
+}
+
+// The job is this.
+fn write_job<S: Alter>(tx: &mut Transaction<'_, S>, id: &Name, job: &JobRow) -> Result<usize, Error>
+    ensures same_reference { tx.new.conn.ghost_name ≡ tx.old.conn.ghost_name }
+    ensures survives { Survives (state S.Store tx.old.conn.now) (state S.Store tx.new.conn.now) (λ _. ⊥) }
+    ensures kept { HasCleanDisk (state S.Store tx.new.conn.now) → KeepsCommit (state S.Store tx.old.conn.now) (state S.Store tx.new.conn.now) }
+    ensures made { HasCleanDisk (state S.Store tx.new.conn.now)
+        → OnOk result (Makes (listed (row.Job id.now job.now)) (state S.Store tx.old.conn.now) (state S.Store tx.new.conn.now)) }
+{
+    put_row(
+        tx,
+        WorldTable::Job,
+        &name_key_values(id),
+        &job_values(id, job),
+    )
+}
+
+// The vehicle that holds it, if one does.
+fn write_hold<S: Alter>(
+    tx: &mut Transaction<'_, S>,
+    thing: &Thing,
+    key: &Option<VehicleKey>,
+) -> Result<usize, Error>
+    ensures same_reference { tx.new.conn.ghost_name ≡ tx.old.conn.ghost_name }
+    ensures survives { Survives (state S.Store tx.old.conn.now) (state S.Store tx.new.conn.now) (λ _. ⊥) }
+    ensures kept { HasCleanDisk (state S.Store tx.new.conn.now) → KeepsCommit (state S.Store tx.old.conn.now) (state S.Store tx.new.conn.now) }
+    ensures made { HasCleanDisk (state S.Store tx.new.conn.now)
+        → OnOk result (Makes (listed (row.Hold thing.now key.now)) (state S.Store tx.old.conn.now) (state S.Store tx.new.conn.now)) }
+{
+    match key {
+        None => drop_hold(tx, thing),
+        Some(key) => put_row(
+            tx,
+            WorldTable::Hold,
+            &hold_key_values(thing),
+            &hold_values(thing, key),
+        ),
+    }
+}
+
+// The name was used.
+fn write_used<S: Alter>(tx: &mut Transaction<'_, S>, key: &UseKey) -> Result<usize, Error>
+    ensures same_reference { tx.new.conn.ghost_name ≡ tx.old.conn.ghost_name }
+    ensures survives { Survives (state S.Store tx.old.conn.now) (state S.Store tx.new.conn.now) (λ _. ⊥) }
+    ensures kept { HasCleanDisk (state S.Store tx.new.conn.now) → KeepsCommit (state S.Store tx.old.conn.now) (state S.Store tx.new.conn.now) }
+    ensures made { HasCleanDisk (state S.Store tx.new.conn.now)
+        → OnOk result (Makes (listed (row.Used key.now)) (state S.Store tx.old.conn.now) (state S.Store tx.new.conn.now)) }
+{
+    put_row(tx, WorldTable::Used, &used_values(key), &used_values(key))
+}
+
+/// Makes the change: its row is written in place of that of its key, or that row is removed.
+pub(crate) fn write_change<S: Alter>(
+    tx: &mut Transaction<'_, S>,
+    change: &Change,
+) -> Result<usize, Error>
+    ensures same_reference { tx.new.conn.ghost_name ≡ tx.old.conn.ghost_name }
+    ensures survives { Survives (state S.Store tx.old.conn.now) (state S.Store tx.new.conn.now) (λ _. ⊥) }
+    ensures kept { HasCleanDisk (state S.Store tx.new.conn.now) → KeepsCommit (state S.Store tx.old.conn.now) (state S.Store tx.new.conn.now) }
+    ensures made { HasCleanDisk (state S.Store tx.new.conn.now)
+        → OnOk result (Makes (listed change.now) (state S.Store tx.old.conn.now) (state S.Store tx.new.conn.now)) }
+{
+    match change {
+        Change::Node(id) => write_node(tx, id),
+        Change::Edge(id, ends) => write_edge(tx, id, ends),
+        Change::Station(id, spot) => write_station(tx, id, spot),
+        Change::Vehicle(key, vehicle) => write_vehicle(tx, key, vehicle),
+        Change::Trip(order, trip) => write_trip(tx, order, trip),
+        Change::Leg(key, edge) => write_leg(tx, key, edge),
+        Change::Load(id, place) => write_load(tx, id, place),
+        Change::Job(id, job) => write_job(tx, id, job),
+        Change::Hold(thing, key) => write_hold(tx, thing, key),
+        Change::Used(key) => write_used(tx, key),
+    }
+}

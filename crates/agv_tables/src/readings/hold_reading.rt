@@ -1,0 +1,103 @@
+//! What is held, and the row of `meta`, are read whole.
+//!
+//! They answer as the other readings do (`specs/readings/TablesRead.antt`).
+ghost use Rattle.std.specs.Prelude.{◌≡◌, None, IfErr, IsPermutation, OnOk};
+ghost use Rattle.std.specs.FinMap as map;
+ghost use Rattle.agv_world.specs.Rows.{rows_of};
+ghost use Rattle.agv_tables.specs.rows.Columns.{hold_columns, hold_in, meta_columns, meta_in};
+ghost use Rattle.agv_tables.specs.rows.DeskRows.{place_of, table_at};
+ghost use Rattle.agv_tables.specs.readings.ReadTables.{Reads, is_first_meta, meta_read, read_rows, table_read};
+ghost use Rattle.agv_tables.specs.rows.RowLists.{rows_in};
+ghost use Rattle.agv_tables.specs.readings.TablesRead.{TellsAll, first_meta};
+ghost use Rattle.agv_tables.specs.declared.questions.reading_fault.ReadingFault.TheVariants as fault;
+ghost use Rattle.agv_tables.specs.declared.schema.table_name.TableName.TheVariants as the;
+
+use crate::ReadingFault;
+use crate::questions::asked_rows::ask_all_rows;
+use crate::readings::held_things::HeldThings;
+use crate::rows::rows_told::{hold_told, meta_told};
+use crate::schema::table_name::TableName;
+use agv_header::{Thing, VehicleKey};
+use agv_track::{ClaimFault, HoldTable};
+use agv_world::lawful_laws::is_in_good_order;
+use sqlite::{Alter, Connection, Row};
+use std::alloc::Global;
+
+// The number of the schema, as `meta` has it.
+const SCHEMA_NUMBER: u32 = 1;
+
+// Notes that the vehicle holds the thing, which nobody holds so far.
+fn note_hold(holds: &mut HoldTable, thing: &Thing, key: &VehicleKey) -> Result<(), ReadingFault>
+    requires { map.get holds.old thing.now ≡ None }
+    ensures noted { OnOk result (holds.new ≡ map.insert holds.old thing.now key.now) }
+    ensures memory { IfErr result (λ why. why ≡ fault.Memory) }
+{
+    match holds.claim(*key, &[*thing]) {
+        Ok(()) => Ok(()),
+        Err(ClaimFault::Held { .. }) => Err(ReadingFault::Damaged),
+        Err(ClaimFault::Memory) => Err(ReadingFault::Memory),
+    }
+}
+
+// What these rows tell, as a table and as a list.
+fn holds_in_rows(alloc: Global, rows: &[Row]) -> Result<HeldThings, ReadingFault>
+    ensures { Reads (table_read result) (read_rows hold_in map.empty rows.now) }
+{
+    let mut table = HoldTable::new(alloc);
+    let mut pairs = Vec::new(alloc);
+    for row in rows {
+        match hold_told(row) {
+            None => return Err(ReadingFault::Damaged),
+            Some((thing, key)) => {
+                if table.holder(&thing).is_some() {
+                    return Err(ReadingFault::Damaged);
+                }
+                note_hold(&mut table, &thing, &key)?;
+                pairs.push((thing, key))?;
+            }
+        }
+    }
+    Ok(HeldThings { table, pairs })
+}
+
+/// The vehicle that holds a node or an edge, for each that is held.
+pub(crate) fn ask_holds<S: Alter>(
+    alloc: Global,
+    conn: &mut Connection<S>,
+) -> Result<HeldThings, ReadingFault>
+    ensures { TellsAll S.Store conn.old conn.new result (λ world held. held.table ≡ (rows_of world).holds) (λ lists held. IsPermutation (table_at (place_of the.Hold) lists) (rows_in hold_columns held.table)) }
+{
+    is_in_good_order();
+    let rows = ask_all_rows(conn, TableName::Hold)?;
+    holds_in_rows(alloc, rows.as_slice())
+}
+
+// Whether it is the row of `meta` of this schema.
+fn is_meta(row: &Row) -> bool
+    ensures { result ≡ is_first_meta (meta_in row.now) }
+{
+    match meta_told(row) {
+        None => false,
+        Some((id, schema)) => id == 1 && schema == SCHEMA_NUMBER,
+    }
+}
+
+// That these are just the row of `meta` of this schema.
+fn meta_in_rows(rows: &[Row]) -> Result<(), ReadingFault>
+    ensures { result ≡ meta_read rows.now }
+{
+    match rows {
+        [row] if is_meta(row) => Ok(()),
+        _ => Err(ReadingFault::Damaged),
+    }
+}
+
+/// The table `meta` has just the row of this schema. An answer comes only from an open store, so this asks whether it is one.
+///
+/// It fails as [`ReadingFault`] says.
+pub fn ask_meta<S: Alter>(conn: &mut Connection<S>) -> Result<(), ReadingFault>
+    ensures { TellsAll S.Store conn.old conn.new result (λ world nothing. Unit {0}) (λ lists nothing. IsPermutation (table_at (place_of the.Meta) lists) (rows_in meta_columns first_meta)) }
+{
+    let rows = ask_all_rows(conn, TableName::Meta)?;
+    meta_in_rows(rows.as_slice())
+}

@@ -1,0 +1,195 @@
+//! The tables that rows of SQL tell.
+//!
+//! Each row tells one entry, and no two rows tell one key: else the rows are damaged.
+ghost use Rattle.std.specs.Prelude.{◌≡◌, is_some};
+ghost use Rattle.std.specs.FinMap as map;
+ghost use Rattle.std.specs.FinSet as set;
+ghost use Rattle.agv_tables.specs.rows.Columns.{edge_in, job_in, leg_in, load_in, node_in, station_in, used_in, vehicle_in};
+ghost use Rattle.agv_tables.specs.readings.ReadTables.{Reads, read_members, read_rows};
+
+use crate::ReadingFault;
+use crate::rows::rows_told::{
+    edge_told, job_told, leg_told, load_told, node_told, station_told, used_told, vehicle_told,
+};
+use agv_header::VehicleKey;
+use agv_layout::{Ends, Spot};
+use agv_stock::Place;
+use agv_world::{ByLeg, ByName, ByVehicle, JobRow, LegKey, Names, UseKey, UsedNames, VehicleRow};
+use sqlite::Row;
+use std::alloc::Global;
+
+/// The table that these rows tell.
+pub(crate) fn nodes_in_rows(alloc: Global, rows: &[Row]) -> Result<Names, ReadingFault>
+    ensures { Reads result (read_members node_in set.empty rows.now) }
+{
+    let mut table = Names::new(alloc);
+    for row in rows {
+        match node_told(row) {
+            None => return Err(ReadingFault::Damaged),
+            Some(key) => {
+                if table.contains(key) {
+                    return Err(ReadingFault::Damaged);
+                }
+                table.insert(key)?;
+            }
+        }
+    }
+    Ok(table)
+}
+
+/// The table that these rows tell.
+pub(crate) fn edges_in_rows(alloc: Global, rows: &[Row]) -> Result<ByName<Ends>, ReadingFault>
+    ensures { Reads result (read_rows edge_in map.empty rows.now) }
+{
+    let mut table = ByName::new(alloc);
+    for row in rows {
+        match edge_told(row) {
+            None => return Err(ReadingFault::Damaged),
+            Some((id, value)) => {
+                if table.get(id).is_some() {
+                    return Err(ReadingFault::Damaged);
+                }
+                table.insert(id, value)?;
+            }
+        }
+    }
+    Ok(table)
+}
+
+/// The table that these rows tell.
+pub(crate) fn stations_in_rows(alloc: Global, rows: &[Row]) -> Result<ByName<Spot>, ReadingFault>
+    ensures { Reads result (read_rows station_in map.empty rows.now) }
+{
+    let mut table = ByName::new(alloc);
+    for row in rows {
+        match station_told(row) {
+            None => return Err(ReadingFault::Damaged),
+            Some((id, value)) => {
+                if table.get(id).is_some() {
+                    return Err(ReadingFault::Damaged);
+                }
+                table.insert(id, value)?;
+            }
+        }
+    }
+    Ok(table)
+}
+
+// Whether the table has a row of this key.
+fn has_vehicle(table: &ByVehicle<VehicleRow>, key: &VehicleKey) -> bool
+    ensures { result ≡ is_some (map.get table.now key.now) }
+{
+    table.get(*key).is_some()
+}
+
+/// The table that these rows tell.
+pub(crate) fn vehicles_in_rows(
+    alloc: Global,
+    rows: &[Row],
+) -> Result<ByVehicle<VehicleRow>, ReadingFault>
+    ensures { Reads result (read_rows vehicle_in map.empty rows.now) }
+{
+    let mut table = ByVehicle::new(alloc);
+    for row in rows {
+        match vehicle_told(row) {
+            None => return Err(ReadingFault::Damaged),
+            Some((key, value)) => {
+                if has_vehicle(&table, &key) {
+                    return Err(ReadingFault::Damaged);
+                }
+                table.insert(key, value)?;
+            }
+        }
+    }
+    Ok(table)
+}
+
+// Whether the table has a row of this key.
+fn has_leg(table: &ByLeg, key: &LegKey) -> bool
+    ensures { result ≡ is_some (map.get table.now key.now) }
+{
+    table.get(*key).is_some()
+}
+
+/// The table that these rows tell.
+pub(crate) fn legs_in_rows(alloc: Global, rows: &[Row]) -> Result<ByLeg, ReadingFault>
+    ensures { Reads result (read_rows leg_in map.empty rows.now) }
+{
+    let mut table = ByLeg::new(alloc);
+    for row in rows {
+        match leg_told(row) {
+            None => return Err(ReadingFault::Damaged),
+            Some((key, edge)) => {
+                if has_leg(&table, &key) {
+                    return Err(ReadingFault::Damaged);
+                }
+                table.insert(key, edge)?;
+            }
+        }
+    }
+    Ok(table)
+}
+
+/// The table that these rows tell.
+pub(crate) fn places_in_rows(alloc: Global, rows: &[Row]) -> Result<ByName<Place>, ReadingFault>
+    ensures { Reads result (read_rows load_in map.empty rows.now) }
+{
+    let mut table = ByName::new(alloc);
+    for row in rows {
+        match load_told(row) {
+            None => return Err(ReadingFault::Damaged),
+            Some((id, value)) => {
+                if table.get(id).is_some() {
+                    return Err(ReadingFault::Damaged);
+                }
+                table.insert(id, value)?;
+            }
+        }
+    }
+    Ok(table)
+}
+
+/// The table that these rows tell.
+pub(crate) fn jobs_in_rows(alloc: Global, rows: &[Row]) -> Result<ByName<JobRow>, ReadingFault>
+    ensures { Reads result (read_rows job_in map.empty rows.now) }
+{
+    let mut table = ByName::new(alloc);
+    for row in rows {
+        match job_told(row) {
+            None => return Err(ReadingFault::Damaged),
+            Some((id, value)) => {
+                if table.get(id).is_some() {
+                    return Err(ReadingFault::Damaged);
+                }
+                table.insert(id, value)?;
+            }
+        }
+    }
+    Ok(table)
+}
+
+// Whether the table has this key.
+fn has_used(table: &UsedNames, key: &UseKey) -> bool
+    ensures { result ≡ set.contains table.now key.now }
+{
+    table.contains(*key)
+}
+
+/// The table that these rows tell.
+pub(crate) fn used_in_rows(alloc: Global, rows: &[Row]) -> Result<UsedNames, ReadingFault>
+    ensures { Reads result (read_members used_in set.empty rows.now) }
+{
+    let mut table = UsedNames::new(alloc);
+    for row in rows {
+        match used_told(row) {
+            None => return Err(ReadingFault::Damaged),
+            Some(key) => {
+                if has_used(&table, &key) {
+                    return Err(ReadingFault::Damaged);
+                }
+                table.insert(key)?;
+            }
+        }
+    }
+    Ok(table)
+}

@@ -1,0 +1,114 @@
+//! Whole tables are read, but those of the trips and of what is held.
+//!
+//! Each answers what the lawful world says whose rows the tables have (`specs/questions/WorldAnswers.antt`); and whatever rows
+//! they have, what is read has just these (`specs/readings/TablesRead.antt`).
+ghost use Rattle.std.specs.Prelude.{◌≡◌, IsPermutation};
+ghost use Rattle.agv_world.specs.Rows.{rows_of};
+ghost use Rattle.agv_tables.specs.rows.Columns.{edge_columns, job_columns, leg_columns, load_columns, node_columns, station_columns, used_columns, vehicle_columns};
+ghost use Rattle.agv_tables.specs.rows.DeskRows.{place_of, table_at};
+ghost use Rattle.agv_tables.specs.rows.RowLists.{rows_for, rows_in};
+ghost use Rattle.agv_tables.specs.readings.TablesRead.{TellsAll};
+ghost use Rattle.agv_tables.specs.declared.schema.table_name.TableName.TheVariants as the;
+
+use crate::ReadingFault;
+use crate::questions::asked_rows::ask_all_rows;
+use crate::readings::row_tables::{
+    edges_in_rows, jobs_in_rows, legs_in_rows, nodes_in_rows, places_in_rows, stations_in_rows,
+    used_in_rows, vehicles_in_rows,
+};
+use crate::schema::table_name::TableName;
+use agv_layout::{Ends, Spot};
+use agv_stock::Place;
+use agv_world::lawful_laws::is_in_good_order;
+use agv_world::{ByLeg, ByName, ByVehicle, JobRow, Names, UsedNames, VehicleRow};
+use sqlite::{Alter, Connection};
+use std::alloc::Global;
+
+/// The nodes of the layout.
+pub(crate) fn ask_nodes<S: Alter>(
+    alloc: Global,
+    conn: &mut Connection<S>,
+) -> Result<Names, ReadingFault>
+    ensures { TellsAll S.Store conn.old conn.new result (λ world table. table ≡ world.layout.nodes) (λ lists table. IsPermutation (table_at (place_of the.Node) lists) (rows_for node_columns table)) }
+{
+    let rows = ask_all_rows(conn, TableName::Node)?;
+    nodes_in_rows(alloc, rows.as_slice())
+}
+
+/// The edges of the layout.
+pub(crate) fn ask_edges<S: Alter>(
+    alloc: Global,
+    conn: &mut Connection<S>,
+) -> Result<ByName<Ends>, ReadingFault>
+    ensures { TellsAll S.Store conn.old conn.new result (λ world table. table ≡ world.layout.edges) (λ lists table. IsPermutation (table_at (place_of the.Edge) lists) (rows_in edge_columns table)) }
+{
+    let rows = ask_all_rows(conn, TableName::Edge)?;
+    edges_in_rows(alloc, rows.as_slice())
+}
+
+/// The stations of the layout.
+pub(crate) fn ask_stations<S: Alter>(
+    alloc: Global,
+    conn: &mut Connection<S>,
+) -> Result<ByName<Spot>, ReadingFault>
+    ensures { TellsAll S.Store conn.old conn.new result (λ world table. table ≡ world.layout.stations) (λ lists table. IsPermutation (table_at (place_of the.Station) lists) (rows_in station_columns table)) }
+{
+    let rows = ask_all_rows(conn, TableName::Station)?;
+    stations_in_rows(alloc, rows.as_slice())
+}
+
+/// The vehicles, but for their open trips.
+pub(crate) fn ask_vehicles<S: Alter>(
+    alloc: Global,
+    conn: &mut Connection<S>,
+) -> Result<ByVehicle<VehicleRow>, ReadingFault>
+    ensures { TellsAll S.Store conn.old conn.new result (λ world table. table ≡ (rows_of world).vehicles) (λ lists table. IsPermutation (table_at (place_of the.Vehicle) lists) (rows_in vehicle_columns table)) }
+{
+    let rows = ask_all_rows(conn, TableName::Vehicle)?;
+    vehicles_in_rows(alloc, rows.as_slice())
+}
+
+/// The edges of all open trips.
+pub(crate) fn ask_legs<S: Alter>(
+    alloc: Global,
+    conn: &mut Connection<S>,
+) -> Result<ByLeg, ReadingFault>
+    ensures { TellsAll S.Store conn.old conn.new result (λ world table. table ≡ (rows_of world).legs) (λ lists table. IsPermutation (table_at (place_of the.Leg) lists) (rows_in leg_columns table)) }
+{
+    is_in_good_order();
+    let rows = ask_all_rows(conn, TableName::Leg)?;
+    legs_in_rows(alloc, rows.as_slice())
+}
+
+/// The place of each load.
+pub(crate) fn ask_places<S: Alter>(
+    alloc: Global,
+    conn: &mut Connection<S>,
+) -> Result<ByName<Place>, ReadingFault>
+    ensures { TellsAll S.Store conn.old conn.new result (λ world table. table ≡ world.places) (λ lists table. IsPermutation (table_at (place_of the.Load) lists) (rows_in load_columns table)) }
+{
+    let rows = ask_all_rows(conn, TableName::Load)?;
+    places_in_rows(alloc, rows.as_slice())
+}
+
+/// The jobs.
+pub(crate) fn ask_jobs<S: Alter>(
+    alloc: Global,
+    conn: &mut Connection<S>,
+) -> Result<ByName<JobRow>, ReadingFault>
+    ensures { TellsAll S.Store conn.old conn.new result (λ world table. table ≡ world.jobs) (λ lists table. IsPermutation (table_at (place_of the.Job) lists) (rows_in job_columns table)) }
+{
+    let rows = ask_all_rows(conn, TableName::Job)?;
+    jobs_in_rows(alloc, rows.as_slice())
+}
+
+/// The names that were used, each in its kind.
+pub(crate) fn ask_used<S: Alter>(
+    alloc: Global,
+    conn: &mut Connection<S>,
+) -> Result<UsedNames, ReadingFault>
+    ensures { TellsAll S.Store conn.old conn.new result (λ world table. table ≡ (rows_of world).used) (λ lists table. IsPermutation (table_at (place_of the.Used) lists) (rows_for used_columns table)) }
+{
+    let rows = ask_all_rows(conn, TableName::Used)?;
+    used_in_rows(alloc, rows.as_slice())
+}

@@ -1,0 +1,47 @@
+//! What holds of how the rows of a world lie in columns. Each function does nothing: its clause is the law.
+ghost use Rattle.std.specs.Prelude.{◌≡◌, ℕ, List, Some};
+ghost use Rattle.sqlite_value.specs.Order.{Row};
+ghost use Rattle.agv_header.specs.Name.{IsName};
+ghost use Rattle.agv_header.specs.declared.key.Thing.{Thing};
+ghost use Rattle.agv_header.specs.declared.key.VehicleKey.{VehicleKey};
+ghost use Rattle.agv_layout.specs.declared.edge.Ends.{Ends};
+ghost use Rattle.agv_layout.specs.declared.station.Spot.{Spot};
+ghost use Rattle.agv_stock.specs.declared.place.Place.{Place};
+ghost use Rattle.agv_world.specs.Lawful.{IsKey};
+ghost use Rattle.agv_world.specs.declared.key.LegKey.{LegKey};
+ghost use Rattle.agv_world.specs.declared.key.UseKey.{UseKey};
+ghost use Rattle.agv_world.specs.declared.row.JobRow.{JobRow};
+ghost use Rattle.agv_world.specs.declared.row.VehicleRow.{VehicleRow};
+ghost use Rattle.agv_tables.specs.rows.Columns.{meta_columns, meta_in, node_columns, node_in, edge_columns, edge_in, station_columns, station_in, vehicle_columns, vehicle_in, trip_columns, trip_in, leg_columns, leg_in, load_columns, load_in, job_columns, job_in, hold_columns, hold_in, used_columns, used_in};
+ghost use Rattle.agv_tables.specs.rows.TypedRows.{IsNumber, AreEnds, IsSpot, IsVehicleRow, IsTripLine, IsLegKey, IsPlace, IsJobRow, IsThing};
+ghost use Rattle.agv_tables.specs.declared.rows.trip_line.TripLine.{TripLine};
+
+/// The columns that a row of the world writes tell that row. A vehicle has room for one load.
+pub fn columns_tell_their_row()
+    ensures meta { (id schema : ℕ) → IsNumber id → IsNumber schema → meta_in (meta_columns id schema) ≡ Some (id, schema) }
+    ensures node { (id : List ℕ) → IsName id → node_in (node_columns id) ≡ Some id }
+    ensures edge { (id : List ℕ) (ends : Ends) → IsName id → AreEnds ends → edge_in (edge_columns id ends) ≡ Some (id, ends) }
+    ensures station { (id : List ℕ) (spot : Spot) → IsName id → IsSpot spot → station_in (station_columns id spot) ≡ Some (id, spot) }
+    ensures vehicle { (key : VehicleKey) (row : VehicleRow) → IsKey key → IsVehicleRow row → vehicle_in (vehicle_columns key row) ≡ Some (key, row) }
+    ensures trip { (line : TripLine) → IsTripLine line → trip_in (trip_columns line) ≡ Some line }
+    ensures leg { (key : LegKey) (edge : List ℕ) → IsLegKey key → IsName edge → leg_in (leg_columns key edge) ≡ Some (key, edge) }
+    ensures load { (id : List ℕ) (place : Place) → IsName id → IsPlace place → load_in (load_columns id place) ≡ Some (id, place) }
+    ensures job { (id : List ℕ) (job : JobRow) → IsName id → IsJobRow job → job_in (job_columns id job) ≡ Some (id, job) }
+    ensures hold { (thing : Thing) (key : VehicleKey) → IsThing thing → IsKey key → hold_in (hold_columns thing key) ≡ Some (thing, key) }
+    ensures used { (key : UseKey) → IsName key.name → used_in (used_columns key) ≡ Some key }
+{}
+
+/// The columns that tell a row of the world are those that the row writes: no other columns tell it.
+pub fn a_row_told_writes_its_columns()
+    ensures meta { (row : Row) (id schema : ℕ) → meta_in row ≡ Some (id, schema) → row ≡ meta_columns id schema }
+    ensures node { (row : Row) (id : List ℕ) → node_in row ≡ Some id → row ≡ node_columns id }
+    ensures edge { (row : Row) (id : List ℕ) (ends : Ends) → edge_in row ≡ Some (id, ends) → row ≡ edge_columns id ends }
+    ensures station { (row : Row) (id : List ℕ) (spot : Spot) → station_in row ≡ Some (id, spot) → row ≡ station_columns id spot }
+    ensures vehicle { (row : Row) (key : VehicleKey) (vehicle : VehicleRow) → vehicle_in row ≡ Some (key, vehicle) → row ≡ vehicle_columns key vehicle }
+    ensures trip { (row : Row) (line : TripLine) → trip_in row ≡ Some line → row ≡ trip_columns line }
+    ensures leg { (row : Row) (key : LegKey) (edge : List ℕ) → leg_in row ≡ Some (key, edge) → row ≡ leg_columns key edge }
+    ensures load { (row : Row) (id : List ℕ) (place : Place) → load_in row ≡ Some (id, place) → row ≡ load_columns id place }
+    ensures job { (row : Row) (id : List ℕ) (job : JobRow) → job_in row ≡ Some (id, job) → row ≡ job_columns id job }
+    ensures hold { (row : Row) (thing : Thing) (key : VehicleKey) → hold_in row ≡ Some (thing, key) → row ≡ hold_columns thing key }
+    ensures used { (row : Row) (key : UseKey) → used_in row ≡ Some key → row ≡ used_columns key }
+{}

@@ -1,0 +1,205 @@
+//! The rows of a world as the values of their columns, as SQL takes them.
+ghost use Rattle.std.specs.Prelude.{◌≡◌};
+ghost use Rattle.sqlite.specs.Values.{bound, bound_value, or_null};
+ghost use Rattle.sqlite_value.specs.Value.{owned};
+ghost use Rattle.sqlite_value.specs.declared.value.Value.TheVariants.{Null, Text};
+ghost use Rattle.agv_message.specs.Instant.{instant_name};
+ghost use Rattle.agv_tables.specs.rows.Cells.{number_cell};
+ghost use Rattle.agv_tables.specs.rows.Columns.{node_columns, edge_columns, station_columns, vehicle_columns, trip_columns, leg_columns, load_columns, job_columns, hold_columns, used_columns};
+
+use crate::TripLine;
+use crate::rows::words::{phase_text, use_text};
+use agv_header::{Name, Thing, VehicleKey};
+use agv_layout::{Ends, Spot};
+use agv_message::InstantKind;
+use agv_stock::Place;
+use agv_world::{JobRow, LegKey, UseKey, VehicleRow};
+use sqlite::types::{ToSql, ValueRef};
+
+// A name, as text.
+pub(crate) fn name_value(name: &Name) -> ValueRef<'_>
+    ensures { owned result ≡ Text name.now }
+{
+    ValueRef::Text(name.as_bytes())
+}
+
+// A name, or NULL.
+fn maybe_name_value(name: &Option<Name>) -> ValueRef<'_>
+    ensures { bound_value (owned result) ≡ or_null Text name.now }
+{
+    match name {
+        Some(name) => name_value(name),
+        None => ValueRef::Null,
+    }
+}
+
+// The edge and the node of a rest, or NULL twice.
+fn rest_values(rest: &Option<(Name, Name)>) -> (ValueRef<'_>, ValueRef<'_>)
+    ensures edge { bound_value (owned result.0) ≡ or_null (λ rest. Text rest.0) rest.now }
+    ensures node { bound_value (owned result.1) ≡ or_null (λ rest. Text rest.1) rest.now }
+{
+    match rest {
+        Some((edge, node)) => (name_value(edge), name_value(node)),
+        None => (ValueRef::Null, ValueRef::Null),
+    }
+}
+
+// A number, or NULL.
+fn maybe_number_value(n: Option<u32>) -> ValueRef<'static>
+    ensures { bound_value (owned result) ≡ or_null number_cell n }
+{
+    match n {
+        Some(n) => n.to_sql(),
+        None => ValueRef::Null,
+    }
+}
+
+// A pending action, or NULL.
+fn instant_value(kind: Option<InstantKind>) -> ValueRef<'static>
+    ensures { bound_value (owned result) ≡ or_null (λ kind. Text (instant_name kind)) kind }
+{
+    match kind {
+        Some(kind) => kind.name().to_sql(),
+        None => ValueRef::Null,
+    }
+}
+
+/// The row of a node.
+pub(crate) fn node_values(id: &Name) -> [ValueRef<'_>; 1]
+    ensures { bound result ≡ node_columns id.now }
+{
+    [name_value(id)]
+}
+
+/// The row of an edge.
+pub(crate) fn edge_values<'a>(id: &'a Name, ends: &'a Ends) -> [ValueRef<'a>; 3]
+    ensures { bound result ≡ edge_columns id.now ends.now }
+{
+    [
+        name_value(id),
+        name_value(&ends.start),
+        name_value(&ends.finish),
+    ]
+}
+
+/// The row of a station.
+pub(crate) fn station_values<'a>(id: &'a Name, spot: &'a Spot) -> [ValueRef<'a>; 3]
+    ensures { bound result ≡ station_columns id.now spot.now }
+{
+    [
+        name_value(id),
+        name_value(&spot.node),
+        spot.capacity.to_sql(),
+    ]
+}
+
+/// The row of a vehicle.
+pub(crate) fn vehicle_values<'a>(key: &'a VehicleKey, row: &'a VehicleRow) -> [ValueRef<'a>; 14]
+    ensures { bound result ≡ vehicle_columns key.now row.now }
+{
+    let (rest_edge, rest_node) = rest_values(&row.rest);
+    [
+        name_value(&key.manufacturer),
+        name_value(&key.serial),
+        name_value(&row.node),
+        rest_edge,
+        rest_node,
+        maybe_number_value(row.last_header),
+        maybe_name_value(&row.reported),
+        row.ready.to_sql(),
+        row.paused.to_sql(),
+        row.orders.count.to_sql(),
+        row.orders.at.ms().to_sql(),
+        row.instants.count.to_sql(),
+        row.instants.at.ms().to_sql(),
+        instant_value(row.pending),
+    ]
+}
+
+/// The row of an open trip.
+pub(crate) fn trip_values(line: &TripLine) -> [ValueRef<'_>; 14]
+    ensures { bound result ≡ trip_columns line.now }
+{
+    [
+        name_value(&line.order),
+        name_value(&line.vehicle.manufacturer),
+        name_value(&line.vehicle.serial),
+        name_value(&line.job),
+        name_value(&line.start),
+        line.first.to_sql(),
+        line.base.to_sql(),
+        line.sent.to_sql(),
+        maybe_number_value(line.confirmed),
+        line.seen.to_sql(),
+        line.pick_at.to_sql(),
+        line.drop_at.to_sql(),
+        line.pick_status.name().to_sql(),
+        line.drop_status.name().to_sql(),
+    ]
+}
+
+/// The row of an edge of an open trip.
+pub(crate) fn leg_values<'a>(key: &'a LegKey, edge: &'a Name) -> [ValueRef<'a>; 3]
+    ensures { bound result ≡ leg_columns key.now edge.now }
+{
+    [name_value(&key.order), key.k.to_sql(), name_value(edge)]
+}
+
+/// The row of a load.
+pub(crate) fn load_values<'a>(id: &'a Name, place: &'a Place) -> [ValueRef<'a>; 5]
+    ensures { bound result ≡ load_columns id.now place.now }
+{
+    let (kind, station, manufacturer, serial) = match place {
+        Place::Station(station) => (
+            "station",
+            name_value(station),
+            ValueRef::Null,
+            ValueRef::Null,
+        ),
+        Place::Vehicle(key) => (
+            "vehicle",
+            ValueRef::Null,
+            name_value(&key.manufacturer),
+            name_value(&key.serial),
+        ),
+        Place::Checking => ("checking", ValueRef::Null, ValueRef::Null, ValueRef::Null),
+        Place::Left => ("left", ValueRef::Null, ValueRef::Null, ValueRef::Null),
+    };
+    [name_value(id), kind.to_sql(), station, manufacturer, serial]
+}
+
+/// The row of a job.
+pub(crate) fn job_values<'a>(id: &'a Name, job: &'a JobRow) -> [ValueRef<'a>; 5]
+    ensures { bound result ≡ job_columns id.now job.now }
+{
+    [
+        name_value(id),
+        name_value(&job.load),
+        name_value(&job.origin),
+        name_value(&job.target),
+        phase_text(job.phase).to_sql(),
+    ]
+}
+
+/// The row of what is held.
+pub(crate) fn hold_values<'a>(thing: &'a Thing, key: &'a VehicleKey) -> [ValueRef<'a>; 4]
+    ensures { bound result ≡ hold_columns thing.now key.now }
+{
+    let (kind, id) = match thing {
+        Thing::Node(id) => ("node", id),
+        Thing::Edge(id) => ("edge", id),
+    };
+    [
+        kind.to_sql(),
+        name_value(id),
+        name_value(&key.manufacturer),
+        name_value(&key.serial),
+    ]
+}
+
+/// The row of a used name.
+pub(crate) fn used_values(key: &UseKey) -> [ValueRef<'_>; 2]
+    ensures { bound result ≡ used_columns key.now }
+{
+    [use_text(key.kind).to_sql(), name_value(&key.name)]
+}

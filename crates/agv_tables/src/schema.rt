@@ -1,0 +1,19 @@
+//! The schema of the desk's database (`specs/schema/Schema.antt`), its making, and whether it stands.
+//!
+//! - `table_name` names the eleven tables, `table_texts` has the texts of SQL that make them.
+//! - `desk_tables` makes the tables, the row of `meta` and the indexes in one transaction, beside whatever a database
+//!   has, or refuses where one of the names is taken. `making_laws` says that what it makes is a desk for the
+//!   statements, and that an opening finds it again, after a crash too.
+//! - `standing_tables` tells of a schema that anyone made whether the desk's tables stand in it
+//!   (`specs/schema/TablesStand.antt`), and `table_room` whether they can be made beside the tables that are there.
+
+pub mod desk_law;
+pub mod desk_tables;
+pub(crate) mod making_fault;
+pub mod making_laws;
+pub mod standing_tables;
+pub(crate) mod step_running;
+pub(crate) mod table_match;
+pub mod table_name;
+pub mod table_room;
+pub mod table_texts;

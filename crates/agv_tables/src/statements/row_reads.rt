@@ -1,0 +1,78 @@
+//! Rows are looked up: by the key, by other columns, or all of a table.
+//!
+//! The rows that are shown are those of any database in which the desk's tables stand (`specs/rows/DeskRows.antt`), in no
+//! order. Whatever a database has, rows that are shown change nothing, and nothing is committed. An error that is a
+//! fault of the store comes only where the store failed, had been shut, or limits the steps of a query.
+ghost use Rattle.std.specs.Prelude.{◌≡◌, ◌⊎◌, false, IfErr, IfOk, OnErr, OnOk};
+ghost use Rattle.sqlite.specs.State.{HasCleanDisk, IsUnchanged, IsRolledBack, Survives};
+ghost use Rattle.sqlite.specs.Held.{state};
+ghost use Rattle.sqlite.specs.Values.{bound};
+ghost use Rattle.agv_tables.specs.rows.DeskRows.{Answers, Placing, IsDesk, rows_of_key, table_for};
+ghost use Rattle.agv_tables.specs.loads.Fault.{IsOfStore};
+ghost use Rattle.agv_tables.specs.sql.Connections.{HasStorageCause};
+ghost use Rattle.agv_tables.specs.statements.RowQuestions.{FitsColumns, all_rows_of, columns_asked, rows_asked, table_asked};
+ghost use Rattle.agv_tables.specs.statements.RowTexts.{table_looked_up};
+
+use crate::rows::row_of::RowOf;
+use crate::rows::rows_by::RowsBy;
+use crate::schema::table_name::TableName;
+use crate::statements::question_texts::{all_rows, question};
+use crate::statements::row_texts::look_up;
+use sqlite::types::ValueRef;
+use sqlite::{Alter, Connection, Error, Row};
+
+/// The rows of that key: one at most, in tables whose keys are kept.
+pub(crate) fn find_rows<S: Alter>(
+    conn: &mut Connection<S>,
+    row: RowOf,
+    key: &[ValueRef<'_>],
+) -> Result<Vec<Row>, Error>
+    ensures shown { HasCleanDisk (state S.Store conn.new) → IfOk result (λ rows. Answers (rows_of_key (table_looked_up row) (bound key.now)) (state S.Store conn.old) rows.items) }
+    ensures kept { HasCleanDisk (state S.Store conn.new) → OnOk result (IsUnchanged (state S.Store conn.old) (state S.Store conn.new)) }
+    ensures failed { HasCleanDisk (state S.Store conn.new)
+        → OnErr result (IsUnchanged (state S.Store conn.old) (state S.Store conn.new) ⊎ IsRolledBack (state S.Store conn.old) (state S.Store conn.new)) }
+    ensures caused { HasCleanDisk (state S.Store conn.new) → IfErr result (λ e. IsOfStore e
+        → (desk : Placing) → IsDesk desk → (state S.Store conn.old).now.schema ≡ desk.schema → FitsColumns (table_looked_up row) (table_for (table_looked_up row)).primary (bound key.now)
+        → HasStorageCause S.Store conn.old conn.new) }
+    ensures idle { conn.old.in_transaction ≡ false → conn.new.in_transaction ≡ false }
+    ensures survives { Survives (state S.Store conn.old) (state S.Store conn.new) (λ _. ⊥) }
+{
+    conn.query_all(look_up(row), key)
+}
+
+/// The rows with these values in the columns that are asked by.
+pub(crate) fn find_rows_by<S: Alter>(
+    conn: &mut Connection<S>,
+    by: RowsBy,
+    values: &[ValueRef<'_>],
+) -> Result<Vec<Row>, Error>
+    ensures shown { HasCleanDisk (state S.Store conn.new) → IfOk result (λ rows. Answers (rows_asked by (bound values.now)) (state S.Store conn.old) rows.items) }
+    ensures kept { HasCleanDisk (state S.Store conn.new) → OnOk result (IsUnchanged (state S.Store conn.old) (state S.Store conn.new)) }
+    ensures failed { HasCleanDisk (state S.Store conn.new)
+        → OnErr result (IsUnchanged (state S.Store conn.old) (state S.Store conn.new) ⊎ IsRolledBack (state S.Store conn.old) (state S.Store conn.new)) }
+    ensures caused { HasCleanDisk (state S.Store conn.new) → IfErr result (λ e. IsOfStore e
+        → (desk : Placing) → IsDesk desk → (state S.Store conn.old).now.schema ≡ desk.schema → FitsColumns (table_asked by) (columns_asked by) (bound values.now)
+        → HasStorageCause S.Store conn.old conn.new) }
+    ensures idle { conn.old.in_transaction ≡ false → conn.new.in_transaction ≡ false }
+    ensures survives { Survives (state S.Store conn.old) (state S.Store conn.new) (λ _. ⊥) }
+{
+    conn.query_all(question(by), values)
+}
+
+/// All rows of a table.
+pub(crate) fn find_all_rows<S: Alter>(
+    conn: &mut Connection<S>,
+    table: TableName,
+) -> Result<Vec<Row>, Error>
+    ensures shown { HasCleanDisk (state S.Store conn.new) → IfOk result (λ rows. Answers (all_rows_of table) (state S.Store conn.old) rows.items) }
+    ensures kept { HasCleanDisk (state S.Store conn.new) → OnOk result (IsUnchanged (state S.Store conn.old) (state S.Store conn.new)) }
+    ensures failed { HasCleanDisk (state S.Store conn.new)
+        → OnErr result (IsUnchanged (state S.Store conn.old) (state S.Store conn.new) ⊎ IsRolledBack (state S.Store conn.old) (state S.Store conn.new)) }
+    ensures caused { HasCleanDisk (state S.Store conn.new) → IfErr result (λ e. IsOfStore e
+        → (desk : Placing) → IsDesk desk → (state S.Store conn.old).now.schema ≡ desk.schema
+        → HasStorageCause S.Store conn.old conn.new) }
+    ensures idle { conn.old.in_transaction ≡ false → conn.new.in_transaction ≡ false }
+    ensures survives { Survives (state S.Store conn.old) (state S.Store conn.new) (λ _. ⊥) }
+{
+    conn.query_all(all_rows(table), &[])
+}

@@ -1,0 +1,69 @@
+//! The texts of SQL on one row: what adds it, what takes it out by its key, and what shows it.
+//!
+//! There is none that nothing asks for: `meta` is written once, by a text of its own, and trips and legs are
+//! not looked up by their key. So there are 28 here; with the 17 of `question_texts`, the 16 of `table_texts` and the 3 of
+//! `statements` the crate has 64 texts of SQL.
+ghost use Rattle.std.specs.Prelude.{◌≡◌};
+ghost use Rattle.agv_tables.specs.statements.RowTexts.{insertion_text, deletion_text, look_up_text};
+
+use crate::rows::row_of::RowOf;
+use crate::rows::world_table::WorldTable;
+
+/// Adds a row, whose columns are the parameters.
+pub(crate) fn insertion(table: WorldTable) -> &'static str
+    ensures { result.now ≡ insertion_text table }
+{
+    match table {
+        WorldTable::Node => "INSERT INTO node (id) VALUES (?1)",
+        WorldTable::Edge => "INSERT INTO edge (id, start, finish) VALUES (?1, ?2, ?3)",
+        WorldTable::Station => "INSERT INTO station (id, node, capacity) VALUES (?1, ?2, ?3)",
+        WorldTable::Vehicle =>
+            "INSERT INTO vehicle (manufacturer, serial, node, rest_edge, rest_node, last_header, reported, ready, paused, order_header, order_at, instant_header, instant_at, pending) VALUES (?1, ?2, ?3, ?4, ?5, ?6, ?7, ?8, ?9, ?10, ?11, ?12, ?13, ?14)",
+        WorldTable::Trip =>
+            "INSERT INTO trip (order_id, manufacturer, serial, job, start, first, base, sent, confirmed, seen, pick_at, drop_at, pick_status, drop_status) VALUES (?1, ?2, ?3, ?4, ?5, ?6, ?7, ?8, ?9, ?10, ?11, ?12, ?13, ?14)",
+        WorldTable::Leg => "INSERT INTO leg (order_id, k, edge) VALUES (?1, ?2, ?3)",
+        WorldTable::Load =>
+            "INSERT INTO load (id, kind, station, manufacturer, serial) VALUES (?1, ?2, ?3, ?4, ?5)",
+        WorldTable::Job =>
+            "INSERT INTO job (id, load, origin, target, phase) VALUES (?1, ?2, ?3, ?4, ?5)",
+        WorldTable::Hold =>
+            "INSERT INTO hold (kind, id, manufacturer, serial) VALUES (?1, ?2, ?3, ?4)",
+        WorldTable::Used => "INSERT INTO used (kind, id) VALUES (?1, ?2)",
+    }
+}
+
+/// Takes out the row of a key, whose columns are the parameters.
+pub(crate) fn deletion(table: WorldTable) -> &'static str
+    ensures { result.now ≡ deletion_text table }
+{
+    match table {
+        WorldTable::Node => "DELETE FROM node WHERE id = ?1",
+        WorldTable::Edge => "DELETE FROM edge WHERE id = ?1",
+        WorldTable::Station => "DELETE FROM station WHERE id = ?1",
+        WorldTable::Vehicle => "DELETE FROM vehicle WHERE manufacturer = ?1 AND serial = ?2",
+        WorldTable::Trip => "DELETE FROM trip WHERE order_id = ?1",
+        WorldTable::Leg => "DELETE FROM leg WHERE order_id = ?1 AND k = ?2",
+        WorldTable::Load => "DELETE FROM load WHERE id = ?1",
+        WorldTable::Job => "DELETE FROM job WHERE id = ?1",
+        WorldTable::Hold => "DELETE FROM hold WHERE kind = ?1 AND id = ?2",
+        WorldTable::Used => "DELETE FROM used WHERE kind = ?1 AND id = ?2",
+    }
+}
+
+/// Shows the row of a key, whose columns are the parameters.
+pub(crate) fn look_up(row: RowOf) -> &'static str
+    ensures { result.now ≡ look_up_text row }
+{
+    match row {
+        RowOf::Node => "SELECT id FROM node WHERE id = ?1",
+        RowOf::Edge => "SELECT id, start, finish FROM edge WHERE id = ?1",
+        RowOf::Station => "SELECT id, node, capacity FROM station WHERE id = ?1",
+        RowOf::Vehicle =>
+            "SELECT manufacturer, serial, node, rest_edge, rest_node, last_header, reported, ready, paused, order_header, order_at, instant_header, instant_at, pending FROM vehicle WHERE manufacturer = ?1 AND serial = ?2",
+        RowOf::Load => "SELECT id, kind, station, manufacturer, serial FROM load WHERE id = ?1",
+        RowOf::Job => "SELECT id, load, origin, target, phase FROM job WHERE id = ?1",
+        RowOf::Hold =>
+            "SELECT kind, id, manufacturer, serial FROM hold WHERE kind = ?1 AND id = ?2",
+        RowOf::Used => "SELECT kind, id FROM used WHERE kind = ?1 AND id = ?2",
+    }
+}

@@ -1,0 +1,62 @@
+//! A row of a table is added, taken out by its key, or put in the place of that of its key, inside a transaction.
+//!
+//! Each clause speaks of any database in which the desk's tables stand, whatever other tables, views and
+//! indexes it has (`specs/rows/DeskRows.antt`). An error changes what the transaction's end undoes.
+ghost use Rattle.std.specs.Prelude.{◌≡◌, OnOk};
+ghost use Rattle.sqlite.specs.State.{HasCleanDisk, KeepsCommit, Survives};
+ghost use Rattle.sqlite.specs.Held.{state};
+ghost use Rattle.sqlite.specs.Values.{bound};
+ghost use Rattle.agv_tables.specs.rows.DeskRows.{FitsTable, Makes, with_row, without_key, with_put};
+ghost use Rattle.agv_tables.specs.statements.RowTexts.{table_written};
+
+use crate::rows::world_table::WorldTable;
+use crate::statements::row_texts::{deletion, insertion};
+use sqlite::types::ValueRef;
+use sqlite::{Alter, Error, Transaction};
+
+/// Adds the row.
+pub(crate) fn insert_row<S: Alter>(
+    tx: &mut Transaction<'_, S>,
+    table: WorldTable,
+    row: &[ValueRef<'_>],
+) -> Result<usize, Error>
+    ensures same_reference { tx.new.conn.ghost_name ≡ tx.old.conn.ghost_name }
+    ensures survives { Survives (state S.Store tx.old.conn.now) (state S.Store tx.new.conn.now) (λ _. ⊥) }
+    ensures kept { HasCleanDisk (state S.Store tx.new.conn.now) → KeepsCommit (state S.Store tx.old.conn.now) (state S.Store tx.new.conn.now) }
+    ensures made { HasCleanDisk (state S.Store tx.new.conn.now) → FitsTable (table_written table) (bound row.now)
+        → OnOk result (Makes (with_row (table_written table) (bound row.now)) (state S.Store tx.old.conn.now) (state S.Store tx.new.conn.now)) }
+{
+    tx.execute(insertion(table), row)
+}
+
+/// Takes out the row of that key, if there is one.
+pub(crate) fn delete_row<S: Alter>(
+    tx: &mut Transaction<'_, S>,
+    table: WorldTable,
+    key: &[ValueRef<'_>],
+) -> Result<usize, Error>
+    ensures same_reference { tx.new.conn.ghost_name ≡ tx.old.conn.ghost_name }
+    ensures survives { Survives (state S.Store tx.old.conn.now) (state S.Store tx.new.conn.now) (λ _. ⊥) }
+    ensures kept { HasCleanDisk (state S.Store tx.new.conn.now) → KeepsCommit (state S.Store tx.old.conn.now) (state S.Store tx.new.conn.now) }
+    ensures made { HasCleanDisk (state S.Store tx.new.conn.now)
+        → OnOk result (Makes (without_key (table_written table) (bound key.now)) (state S.Store tx.old.conn.now) (state S.Store tx.new.conn.now)) }
+{
+    tx.execute(deletion(table), key)
+}
+
+/// Puts the row in the place of that of its key, if there is one.
+pub(crate) fn put_row<S: Alter>(
+    tx: &mut Transaction<'_, S>,
+    table: WorldTable,
+    key: &[ValueRef<'_>],
+    row: &[ValueRef<'_>],
+) -> Result<usize, Error>
+    ensures same_reference { tx.new.conn.ghost_name ≡ tx.old.conn.ghost_name }
+    ensures survives { Survives (state S.Store tx.old.conn.now) (state S.Store tx.new.conn.now) (λ _. ⊥) }
+    ensures kept { HasCleanDisk (state S.Store tx.new.conn.now) → KeepsCommit (state S.Store tx.old.conn.now) (state S.Store tx.new.conn.now) }
+    ensures made { HasCleanDisk (state S.Store tx.new.conn.now) → FitsTable (table_written table) (bound row.now)
+        → OnOk result (Makes (with_put (table_written table) (bound key.now) (bound row.now)) (state S.Store tx.old.conn.now) (state S.Store tx.new.conn.now)) }
+{
+    delete_row(tx, table, key)?;
+    insert_row(tx, table, row)
+}
