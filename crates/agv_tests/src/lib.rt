@@ -3,6 +3,8 @@
 //!
 //! - `loads` calls each public call of the store once, with ample memory.
 //! - `tables` makes the desk's tables in databases with and without others.
+//! - `strangers` asks of tables that anyone made whether they are a desk's, whether they leave room for a desk's, and
+//!   whether each row of them has a number of its own.
 //! - `asked` asks the desk's tables in a file with 1,000 loads and with 100,000.
 //! - `written` writes the changes of a worked example to the tables, on a disk and in a file too, and reads the rows back.
 //! - `two_vehicles` does so with an example of two vehicles, of which one is cancelled on its way.
@@ -31,6 +33,8 @@ mod fakes;
 mod loads;
 #[cfg(test)]
 mod refused_changes;
+#[cfg(test)]
+mod strangers;
 #[cfg(test)]
 mod streams;
 #[cfg(test)]
