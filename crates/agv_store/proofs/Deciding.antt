@@ -1,0 +1,72 @@
+-- A decision over a connection to the desk's tables.
+use Rattle.std.proofs.Common.{◌≡◌, ℕ, Bool, false, Result, Ok, Err, IsErrAnd, arith, ◌∙◌, ap, refl, sym, subst}
+use Rattle.sqlite_trees.specs.declared.store.Store.{Ghosts}
+use Rattle.agv_header.specs.Moment.{IsMoment}
+use Rattle.agv_world.specs.Asks.{Answers, IsFaulted, IsStill, Kept, failed_after}
+use Rattle.agv_world.specs.Changes.{changed}
+use Rattle.agv_world.specs.Lawful.{HasLawfulVehicles, IsLawful}
+use Rattle.agv_world.specs.Rows.{rows_of}
+use Rattle.agv_world.specs.Worlds.{World}
+use Rattle.agv_world.specs.declared.fault.Fault.{Fault}
+use Rattle.agv_world.specs.declared.fault.Fault.TheVariants as machine
+use Rattle.agv_world.proofs.Asking.{answers, kept_here, left}
+use Rattle.agv_desk.specs.InOrder.{IsInOrder}
+use Rattle.agv_desk.specs.Outcomes.{after, decided}
+use Rattle.agv_desk.specs.Sizes.{IsServed}
+use Rattle.agv_desk.specs.Step.{step}
+use Rattle.agv_desk.specs.WellTyped.{IsSeats, IsWellTyped}
+use Rattle.agv_desk.specs.declared.answer.Decision.{Decision}
+use Rattle.agv_desk.specs.declared.call.Call.{Call}
+use Rattle.agv_tables.specs.schema.SchemaNumbers.{desk_seats}
+use Rattle.agv_store.specs.Flags.{EndsAs}
+use Rattle.agv_store.specs.Floors.{Keyed, facts_of, world_at}
+use Rattle.agv_store.specs.Served.{Decides, outcome_in, world_after}
+
+-- a decision in a lawful world is that of the call
+pub decides_in : ((seats : ℕ) (world : World) → HasLawfulVehicles seats world → IsInOrder world)
+    → ((seats : ℕ) (world : World) (call : Call) → HasLawfulVehicles seats world → IsServed world call)
+    → ((seats : ℕ) → IsSeats seats → (world : World) (at : ℕ) (call : Call) → IsLawful seats world → IsMoment at → IsWellTyped call → IsLawful seats (after world (step seats world at call)))
+    → (at : ℕ) → IsMoment at → (call : Call) → IsWellTyped call → (world : World) (decision : Decision)
+    → (IsServed world call → decision ≡ decided (outcome_in world at call))
+    → (IsInOrder world → changed decision.changes (rows_of world) ≡ rows_of (world_after world at call))
+    → IsLawful desk_seats world → Decides world at call decision
+decides_in order served keeps at moment call typed world decision decides changes lawful = record {
+  decided_is = decides (served desk_seats world call lawful.vehicles);
+  changes = changes (order desk_seats world lawful.vehicles);
+  lawful = keeps desk_seats (omega arith, omega arith) world at call lawful moment typed;
+}
+
+-- a fault that was passed on
+pub err_of : {B : Type 0} (q : Result B Fault) (why : Fault) → IsErrAnd q (λ made. made ≡ why) → q ≡ Err why
+err_of (Ok b) why is = absurd is
+err_of (Err made) why is = ap Err is
+
+ends_by : (B : Type 0) (why : Fault) → EndsAs {A = B} (Err why) (failed_after why false)
+ends_by B machine.Memory = refl
+ends_by B machine.Storage = refl
+
+module _ {S : Type 0} (g : Ghosts S) where
+  -- a fault of a decision raises the flag where it is the store's
+  pub ends_faulted : {B : Type 0} (old new : Keyed S) → old.failed ≡ false → (why : Fault) → ((start : Keyed S) → Kept (facts_of g) start old → IsFaulted (facts_of g) start new why)
+      → (q : Result B Fault) → q ≡ Err why → EndsAs q new.failed
+  ends_faulted {B} old new works why asked q q_is =
+      let raised : new.failed ≡ failed_after why false = (left why asked).failed ∙ ap (failed_after why) works in
+      subst (λ (q : Result B Fault). EndsAs q new.failed) (sym q_is) (subst (λ (now : Bool). EndsAs {A = B} (Err why) now) (sym raised) (ends_by B why))
+
+  -- a decision between two questions
+  pub decided_between : ((seats : ℕ) (world : World) → HasLawfulVehicles seats world → IsInOrder world)
+      → ((seats : ℕ) (world : World) (call : Call) → HasLawfulVehicles seats world → IsServed world call)
+      → ((seats : ℕ) → IsSeats seats → (world : World) (at : ℕ) (call : Call) → IsLawful seats world → IsMoment at → IsWellTyped call → IsLawful seats (after world (step seats world at call)))
+      → (at : ℕ) → IsMoment at → (call : Call) → IsWellTyped call → (decision : Decision) (a b c d : Keyed S) {P R : Type 0}
+      → Answers (facts_of g) a b P
+      → Answers (facts_of g) b c (IsServed (world_at g b.held) call → decision ≡ decided (outcome_in (world_at g b.held) at call))
+      → Answers (facts_of g) b c (IsInOrder (world_at g b.held) → changed decision.changes (rows_of (world_at g b.held)) ≡ rows_of (world_after (world_at g b.held) at call))
+      → Answers (facts_of g) c d R
+      → Answers (facts_of g) a d (IsLawful desk_seats (world_at g a.held) → Decides (world_at g a.held) at call decision)
+  unfolding IsStill
+  decided_between order served keeps at moment call typed decision a b c d one decides changes again =
+      answers (again.kept a (decides.kept a (one.kept a kept_here))).still
+      (λ clean.
+      let clean_c = again.was_clean clean in
+      subst (λ (world : World). IsLawful desk_seats world → Decides world at call decision) (one.world (decides.was_clean clean_c))
+      (decides_in order served keeps at moment call typed (world_at g b.held) decision (decides.told clean_c) (changes.told clean_c)))

@@ -1,0 +1,166 @@
+-- What is found in a database where a desk is looked for: the rows of a lawful world, or those of none.
+use Rattle.std.proofs.Common.{◌≡◌, ◌↔◌, ◌∙◌, Bool, true, false, List, [], ◌∷◌, map, Ok, Err, Result, refl, sym, ap, subst}
+use Rattle.std.specs.List.{AllByRecursion, AllZip}
+use Rattle.std.specs.Result.{IsErrAnd}
+use Rattle.std.proofs.lemmas.Bool.{both_ways}
+use Rattle.std.proofs.lemmas.List.Sorted.{IsPermutation-refl}
+use Rattle.sqlite_value.specs.Order.{Row}
+use Rattle.sqlite_trees.specs.declared.store.Store.{Ghosts}
+use Rattle.sqlite.specs.Effect.{Database, IsDatabase}
+use Rattle.sqlite.specs.Held.{Held, state}
+use Rattle.agv_track.specs.Holds.{Holds as Holders}
+use Rattle.agv_world.specs.Kept.{Keeps}
+use Rattle.agv_world.specs.Lawful.{IsLawful}
+use Rattle.agv_world.specs.Questions.{count_of}
+use Rattle.agv_world.specs.Rows.{rows_of}
+use Rattle.agv_world.specs.Told.{world_of}
+use Rattle.agv_world.specs.Worlds.{World}
+use Rattle.agv_world.specs.declared.floor.Counted.{Counted}
+use Rattle.agv_world.specs.declared.world.World.{World as Tables}
+use Rattle.agv_tables.specs.questions.WorldAnswers.{HasNoWorld, HasWorld, Tells}
+use Rattle.agv_tables.specs.readings.Rowids.{AreTablesKeyed, TellsKeyed}
+use Rattle.agv_tables.specs.readings.TablesRead.{HaveAll, TellsAll}
+use Rattle.agv_tables.specs.readings.WorldIn.{world_in}
+use Rattle.agv_tables.specs.rows.DeskRows.{AreKeyed, HaveRows, Holds, Placing, columns_in, table_names, width_of}
+use Rattle.agv_tables.specs.rows.RowLists.{HoldsWorld}
+use Rattle.agv_tables.specs.schema.SchemaNumbers.{desk_seats}
+use Rattle.agv_tables.specs.schema.TablesStand.{TablesStand}
+use Rattle.agv_tables.specs.sql.Connections.{IsClean, IsOpen}
+use Rattle.agv_tables.specs.declared.questions.reading_fault.ReadingFault.{ReadingFault}
+use Rattle.agv_tables.specs.declared.questions.reading_fault.ReadingFault.TheVariants as reading
+use Rattle.agv_tables.specs.declared.readings.held_things.HeldThings.{HeldThings}
+use Rattle.agv_tables.specs.declared.schema.table_name.TableName.{TableName}
+use Rattle.agv_store.specs.Counts.{count_in}
+use Rattle.agv_store.specs.Floors.{IsAsked, Knows, world_at}
+use Rattle.agv_store.specs.OpenFaults.{of_reading}
+use Rattle.agv_store.specs.Opened.{Finds}
+use Rattle.agv_store.specs.declared.counts.Counts.{Counts}
+use Rattle.agv_store.specs.declared.open_fault.OpenFault.{OpenFault}
+use Rattle.agv_store.specs.declared.open_fault.OpenFault.TheVariants as fault
+use Rattle.agv_store.proofs.Asked.{asked_by, asked_then, clean_before, knows_still}
+
+-- ---- the laws of tables, as the readings say them
+
+abbrev pub TablesTellWorlds : Type 0
+TablesTellWorlds =
+    (desk : Placing) (db : Database) (lists : List (List Row)) (tables : Tables) (holds : Holders) (world : World)
+    → Holds desk db lists → HaveAll lists tables holds → Keeps tables world → holds ≡ (rows_of world).holds → HoldsWorld desk db world
+
+abbrev pub TellsItsWorld : Type 0
+TellsItsWorld = (desk : Placing) (db : Database) (world : World) → HasWorld desk db world → world_in db ≡ world
+
+-- ---- faults
+
+pub read_damaged : (why : ReadingFault) → of_reading why ≡ fault.Damaged → why ≡ reading.Damaged
+read_damaged reading.Memory is = absurd (cc is)
+read_damaged reading.Storage is = absurd (cc is)
+read_damaged reading.Damaged is = refl
+
+-- ---- the rows under keys of their own
+
+-- the columns of all entries of these tables, where they lie in these trees
+abbrev lists_by : Placing → Database → List TableName → List (List Row)
+lists_by at db = map (λ (name : TableName). map (columns_in (width_of name)) (db.trees (at.tree name)))
+
+rows_by : (at : Placing) (db : Database) (names : List TableName) → AllByRecursion (λ name. AreKeyed (db.trees (at.tree name))) names
+    → AllZip (λ name rows. HaveRows (width_of name) (db.trees (at.tree name)) rows) names (lists_by at db names)
+rows_by at db [] keyed = tt
+rows_by at db (name ∷ names) keyed = ((keyed.0, IsPermutation-refl _), rows_by at db names keyed.1)
+
+pub keyed_holds : (at : Placing) (db : Database) → db.schema ≡ at.schema → AreTablesKeyed at db table_names → Holds at db (lists_by at db table_names)
+keyed_holds at db same keyed = record { schema_is = same; rows = rows_by at db table_names keyed }
+
+-- ---- the tables that are read
+
+-- these are the tables of a lawful world, and what is held is what its vehicles hold
+abbrev pub AreLawful : Tables → HeldThings → Type 0
+AreLawful tables holds = (world : World) × Keeps tables world × IsLawful desk_seats world × (holds.table ≡ (rows_of world).holds)
+
+module _ {S : Type 0} (g : Ghosts S) where
+  -- ---- a look that ends without a desk
+
+  finds_none : (old new : Held S) (r : Result Counts OpenFault) (why : OpenFault) → IsErrAnd r (λ made. made ≡ why) → (IsClean g new → why ≡ fault.Damaged → HasNoWorld (state g old).now) → IsAsked g old new → Finds g old new r
+  finds_none old new (Ok counts) why is none asked = absurd is
+  finds_none old new (Err made) why is none asked = record { found = λ _. tt; damaged = λ clean damaged. none clean (sym is ∙ damaged); asked = asked }
+
+  -- ---- each row has a key of its own
+
+  -- the moments before and after the question for the keys, and after the tables were read
+  module _ (old mid new : Held S) (yes : Bool) (is : yes ≡ true) (keyed : TellsKeyed g old mid table_names (Ok yes)) (asked : Tells g old mid (Ok yes) (λ world keyed. keyed ≡ true)) where
+    same_mid : IsClean g mid → (state g mid).now ≡ (state g old).now
+    same_mid clean = (asked.kept clean).0.now_is
+
+    none_before : IsClean g mid → HasNoWorld (state g mid).now → HasNoWorld (state g old).now
+    none_before clean = subst HasNoWorld (same_mid clean)
+
+    asked_keys : IsAsked g old mid
+    asked_keys = asked_by g old mid (Ok yes) (λ world keyed. keyed ≡ true) asked
+
+    -- the reading failed
+    pub finds_fault_then : {A : Type 0} (r : Result Counts OpenFault) (why : ReadingFault) (says : World → A → Type 0) → IsErrAnd r (λ made. made ≡ of_reading why) → Tells g mid new (Err why) says → Finds g old new r
+    finds_fault_then r why says made tells =
+        let later = asked_by g mid new (Err why) says tells in
+        finds_none old new r (of_reading why) made
+        (λ clean damaged. none_before (clean_before g mid new later clean) (tells.damaged clean (read_damaged why damaged)))
+        (asked_then g old mid new asked_keys later)
+
+    module _ (tables : Tables) (holds : HeldThings)
+        (read : TellsAll {A = Tables × HeldThings} g mid new (Ok (tables, holds)) (λ world read. Keeps read.0 world × (read.1.table ≡ (rows_of world).holds)) (λ lists read. HaveAll lists read.0 read.1.table)) where
+      later : IsAsked g mid new
+      later = asked_by g {A = Tables × HeldThings} mid new (Ok (tables, holds)) _ read.tells
+
+      asked_both : IsAsked g old new
+      asked_both = asked_then g old mid new asked_keys later
+
+      clean_mid : IsClean g new → IsClean g mid
+      clean_mid = clean_before g mid new later
+
+      -- memory ran out after the reading
+      pub finds_no_memory : (r : Result Counts OpenFault) → IsErrAnd r (λ made. made ≡ fault.Memory) → Finds g old new r
+      finds_no_memory r made = finds_none old new r fault.Memory made (λ clean damaged. absurd (cc damaged)) asked_both
+
+      none_lawful : (AreLawful tables holds → ⊥) → IsClean g new → HasNoWorld (state g old).now
+      none_lawful none clean = none_before (clean_mid clean) (λ at world has. let told = read.tells.told clean at world has in none (world, told.0, has.lawful, told.1))
+
+      -- the tables are of no lawful world, or what is held isn't what its vehicles hold
+      pub finds_unlawful : (lawful : Bool) → lawful ≡ false → (lawful ≡ true) ↔ AreLawful tables holds → Finds g old new (Err fault.Damaged)
+      finds_unlawful lawful isnt so = finds_none old new (Err fault.Damaged) fault.Damaged refl (λ clean _. none_lawful (λ such. both_ways lawful isnt (so.1 such)) clean) asked_both
+
+      -- they are those of a lawful world
+      module _ (tell_worlds : TablesTellWorlds) (tells_its_world : TellsItsWorld) (stand : TablesStand (state g old).now.schema)
+          (world : World) (keeps : Keeps tables world) (lawful : IsLawful desk_seats world) (held : holds.table ≡ (rows_of world).holds) where
+        has_world : IsClean g new → HasWorld stand.0 (state g old).now world
+        has_world clean =
+            let at = stand.0 in
+            let early = clean_mid clean in
+            let all = (keyed.told early at stand.1 stand.2).0 is in
+            let there = keyed_holds at (state g old).now stand.2 all in
+            let lists = lists_by at (state g old).now table_names in
+            let there_mid = subst (λ (db : Database). Holds at db lists) (sym (same_mid early)) there in
+            let have = read.exact clean at stand.1 lists there_mid in
+            record { stands = stand.1; lawful = lawful; rows = tell_worlds at (state g old).now lists tables holds.table world there have keeps held }
+
+        opens : IsClean g new → IsOpen g old × IsOpen g new
+        opens clean = ((asked.answering (clean_mid clean)).0, (read.tells.answering clean).1)
+
+        world_is : IsClean g new → (state g old).committed ≡ (state g old).now → world_at g new ≡ world
+        world_is clean settled = ap world_in (asked_both.same clean (opens clean).1 settled) ∙ tells_its_world stand.0 (state g old).now world (has_world clean)
+
+        module _ (idle : old.in_transaction ≡ false) (settled : IsOpen g old → (state g old).now ≡ (state g old).committed) (live : IsOpen g old → IsDatabase (state g old).now) where
+          knows : IsClean g new → Knows g new (world_at g new)
+          knows clean =
+              let was_open = (opens clean).0 in
+              let rested = sym (settled was_open) in
+              let knew : Knows g old world = record { is_open = was_open; idle = idle; settled = rested; listed = live was_open; at = stand.0; has = has_world clean } in
+              subst (λ (w : World). Knows g new w) (sym (world_is clean rested)) (knows_still g old new asked_both clean (opens clean).1 world knew)
+
+          pub finds_desk : world_of tables ≡ world → (counts : Counts) → ((what : Counted) → count_in counts what ≡ count_of (world_of tables) what) → Finds g old new (Ok counts)
+          finds_desk told counts counted = record {
+            found = λ clean. (
+              (opens clean).0,
+              knows clean,
+              λ what. counted what ∙ ap (λ (w : World). count_of w what) (told ∙ sym (world_is clean (sym (settled (opens clean).0)))),
+            );
+            damaged = λ _. tt;
+            asked = asked_both;
+          }

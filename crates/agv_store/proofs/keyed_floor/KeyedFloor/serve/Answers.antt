@@ -1,0 +1,55 @@
+use Rattle.std.proofs.Common.{refl}
+use Rattle.agv_store.proofs.CallsServed.{asked_till, crash_then, fails_again, faulted_leaves, faulted_till, had_not_failed, knew_then, knows_before, left_then, nothing_left, opens_then, serves_then, stays_failed, told}
+use Rattle.agv_store.proofs.keyed_floor.KeyedFloor.serve.Goals as goal
+
+-- ---- no decision
+
+pub returns-in_err-decision-clause-left : goal.returns-in_err-decision-clause-left
+returns-in_err-decision-clause-left g c = faulted_leaves g.S.Store c.args.self.now.held c.decided.new.self.held (faulted_till g.S.Store c.args.self.now c.decided.new.self c.in_err-decision.field-0.0 c.in_err-decision.ensures.decides) c.knows.ensures c.from_residual.result
+
+pub returns-in_err-decision-clause-was_open : goal.returns-in_err-decision-clause-was_open
+returns-in_err-decision-clause-was_open g c = (faulted_till g.S.Store c.args.self.now c.decided.new.self c.in_err-decision.field-0.0 c.in_err-decision.ensures.decides).was_open
+
+pub returns-in_err-decision-clause-crash : goal.returns-in_err-decision-clause-crash
+returns-in_err-decision-clause-crash g c = nothing_left g.S.Store c.args.self.now.held c.decided.new.self.held (faulted_till g.S.Store c.args.self.now c.decided.new.self c.in_err-decision.field-0.0 c.in_err-decision.ensures.decides) c.knows.ensures c.args.at c.args.call.now
+
+pub returns-in_err-decision-clause-fails : goal.returns-in_err-decision-clause-fails
+returns-in_err-decision-clause-fails g c = fails_again g.S.Store c.args.self.now c.decided.new.self c.in_err-decision.field-0.0 c.in_err-decision.ensures.decides
+
+-- ---- nothing to write
+
+pub returns-then-is_empty-clause-knew : goal.returns-then-is_empty-clause-knew
+returns-then-is_empty-clause-knew g c clean = knows_before g.S.Store c.args.self.now.held c.decided.new.self.held (asked_till g.S.Store c.args.self.now c.decided.new.self c.in_ok-decision.ensures.decides) c.knows.ensures clean (c.in_ok-decision.ensures.knows clean).is_open
+
+pub returns-then-is_empty-clause-serves : goal.returns-then-is_empty-clause-serves
+returns-then-is_empty-clause-serves g c =
+    told g.S.Store c.args.self.now.held c.decided.new.self.held (asked_till g.S.Store c.args.self.now c.decided.new.self c.in_ok-decision.ensures.decides) c.knows.ensures c.args.at c.args.call.now c.in_ok-decision.decision c.in_ok-decision.ensures.decides.told c.in_ok-decision.ensures.knows c.is_in_good_order.ensures c.rows_tell_the_world.ensures (c.if-is_empty.ensures.0 refl)
+
+pub returns-then-is_empty-clause-was_open : goal.returns-then-is_empty-clause-was_open
+returns-then-is_empty-clause-was_open g c = (asked_till g.S.Store c.args.self.now c.decided.new.self c.in_ok-decision.ensures.decides).was_open
+
+pub returns-then-is_empty-clause-crash : goal.returns-then-is_empty-clause-crash
+returns-then-is_empty-clause-crash g c = nothing_left g.S.Store c.args.self.now.held c.decided.new.self.held (asked_till g.S.Store c.args.self.now c.decided.new.self c.in_ok-decision.ensures.decides) c.knows.ensures c.args.at c.args.call.now
+
+pub returns-then-is_empty-clause-fails : goal.returns-then-is_empty-clause-fails
+returns-then-is_empty-clause-fails g c = stays_failed g.S.Store c.args.self.now c.decided.new.self c.in_ok-decision.ensures.decides
+
+-- ---- written
+
+pub returns-clause-knew : goal.returns-clause-knew
+returns-clause-knew g c = knew_then g.S.Store c.args.self.now.held c.decided.new.self.held (asked_till g.S.Store c.args.self.now c.decided.new.self c.in_ok-decision.ensures.decides) c.knows.ensures c.args.at c.args.call.now c.in_ok-decision.decision c.in_ok-decision.ensures.decides.told c.in_ok-decision.ensures.knows c.write.new.self.held c.write.result c.write.ensures.crash
+
+pub returns-clause-serves : goal.returns-clause-serves
+returns-clause-serves g c = serves_then g.S.Store c.args.self.now.held c.decided.new.self.held (asked_till g.S.Store c.args.self.now c.decided.new.self c.in_ok-decision.ensures.decides) c.knows.ensures c.args.at c.args.call.now c.in_ok-decision.decision c.in_ok-decision.ensures.decides.told c.in_ok-decision.ensures.knows c.write.new.self.held c.write.result c.write.ensures.crash c.write.ensures.serves
+
+pub returns-clause-left : goal.returns-clause-left
+returns-clause-left g c = left_then g.S.Store c.args.self.now.held c.decided.new.self.held (asked_till g.S.Store c.args.self.now c.decided.new.self c.in_ok-decision.ensures.decides) c.knows.ensures c.args.at c.args.call.now c.in_ok-decision.decision c.in_ok-decision.ensures.decides.told c.in_ok-decision.ensures.knows c.write.new.self.held c.write.result c.write.ensures.crash c.write.ensures.left
+
+pub returns-clause-was_open : goal.returns-clause-was_open
+returns-clause-was_open g c = opens_then g.S.Store c.args.self.now.held c.decided.new.self.held (asked_till g.S.Store c.args.self.now c.decided.new.self c.in_ok-decision.ensures.decides) c.knows.ensures c.args.at c.args.call.now c.in_ok-decision.decision c.in_ok-decision.ensures.decides.told c.in_ok-decision.ensures.knows c.write.new.self.held c.write.result c.write.ensures.crash c.write.ensures.was_open
+
+pub returns-clause-crash : goal.returns-clause-crash
+returns-clause-crash g c = crash_then g.S.Store c.args.self.now.held c.decided.new.self.held (asked_till g.S.Store c.args.self.now c.decided.new.self c.in_ok-decision.ensures.decides) c.knows.ensures c.args.at c.args.call.now c.in_ok-decision.decision c.in_ok-decision.ensures.decides.told c.in_ok-decision.ensures.knows c.write.new.self.held c.write.result c.write.ensures.crash
+
+pub returns-clause-fails : goal.returns-clause-fails
+returns-clause-fails g c = had_not_failed g.S.Store c.args.self.now c.decided.new.self c.write.new.self.failed c.in_ok-decision.ensures.decides c.in_ok-decision.ensures.ends

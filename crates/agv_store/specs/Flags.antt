@@ -1,0 +1,40 @@
+-- What a fault of a question or of a write raises: that the store has failed, or a doubt whether it is open still.
+use Rattle.std.specs.Prelude.{◌≡◌, Bool, true, false, Result, Ok, Err}
+use Rattle.agv_world.specs.declared.fault.Fault.{Fault}
+use Rattle.agv_world.specs.declared.fault.Fault.TheVariants as machine
+use Rattle.agv_tables.specs.questions.ReadingFault.{of_machine}
+use Rattle.agv_tables.specs.declared.loads.fault.Fault.{Fault as WriteFault}
+use Rattle.agv_tables.specs.declared.questions.reading_fault.ReadingFault.{ReadingFault}
+use Rattle.agv_tables.specs.declared.questions.reading_fault.ReadingFault.TheVariants as fault
+
+-- how a question ends, as a floor has it: tables that tell no world are a fault of the store
+abbrev pub noted : {A : Type 0} → Result A ReadingFault → Result A Fault
+noted (Ok answer) = Ok answer
+noted (Err fault.Memory) = Err machine.Memory
+noted (Err fault.Storage) = Err machine.Storage
+noted (Err fault.Damaged) = Err machine.Storage
+
+-- whether the store has failed, once a question has ended so
+abbrev pub failed_by : {A : Type 0} → Result A ReadingFault → Bool → Bool
+failed_by (Ok answer) before = before
+failed_by (Err fault.Memory) before = before
+failed_by (Err fault.Storage) before = true
+failed_by (Err fault.Damaged) before = true
+
+-- whether it is in doubt that the store is open: want of memory may have shut it
+abbrev pub doubted_by : {A : Type 0} → Result A ReadingFault → Bool → Bool
+doubted_by (Ok answer) before = before
+doubted_by (Err fault.Memory) before = true
+doubted_by (Err fault.Storage) before = before
+doubted_by (Err fault.Damaged) before = before
+
+-- how a write ends, as a question would
+abbrev pub read_as : {A : Type 0} → Result A WriteFault → Result A ReadingFault
+read_as (Ok done) = Ok done
+read_as (Err why) = Err (of_machine why)
+
+-- a call ends with a fault of the store exactly where the store has failed as it ends
+abbrev pub EndsAs : {A : Type 0} → Result A Fault → Bool → Type 0
+EndsAs (Ok answer) failed = failed ≡ false
+EndsAs (Err machine.Memory) failed = failed ≡ false
+EndsAs (Err machine.Storage) failed = failed ≡ true

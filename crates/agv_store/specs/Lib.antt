@@ -1,0 +1,7 @@
+pub mod Counts
+pub mod Flags
+pub mod Floors
+pub mod OpenFaults
+pub mod Opened
+pub mod Ran
+pub mod Served

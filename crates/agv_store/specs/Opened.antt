@@ -1,0 +1,57 @@
+-- What a desk is opened by: made in a database, or adopted from one.
+use Rattle.std.specs.Prelude.{◌≡◌, false, Result, Ok, Err, IfErr, IfOk}
+use Rattle.sqlite_trees.specs.declared.store.Store.{Ghosts}
+use Rattle.sqlite_schema.specs.declared.schema.Schema.{Schema}
+use Rattle.sqlite.specs.Held.{Held, state}
+use Rattle.agv_world.specs.Questions.{count_of}
+use Rattle.agv_world.specs.Worlds.{empty_world}
+use Rattle.agv_world.specs.declared.floor.Counted.{Counted}
+use Rattle.agv_tables.specs.questions.WorldAnswers.{HasNoWorld}
+use Rattle.agv_tables.specs.schema.DeskSchema.{is_name_taken}
+use Rattle.agv_tables.specs.schema.DeskTables.{MakesDesk}
+use Rattle.agv_tables.specs.schema.NewDesk.{LeavesRoom}
+use Rattle.agv_tables.specs.sql.Connections.{IsClean, IsOpen}
+use Rattle.agv_store.specs.Counts.{count_in}
+use Rattle.agv_store.specs.Floors.{IsAsked, Keyed, Knows, world_at}
+use Rattle.agv_store.specs.declared.counts.Counts.{Counts}
+use Rattle.agv_store.specs.declared.open_fault.OpenFault.{OpenFault}
+use Rattle.agv_store.specs.declared.open_fault.OpenFault.TheVariants as fault
+
+-- how an opening ends: with a desk, or with the connection and why there is none
+abbrev pub Opening : Type 0 → Type 0
+Opening S = Result (Keyed S) (Held S × OpenFault)
+
+-- the connection that it leaves, a desk's or the one that is given back
+abbrev pub left_by : {S : Type 0} → Opening S → Held S
+left_by (Ok desk) = desk.held
+left_by (Err refused) = refused.0
+
+-- it was refused as damaged
+abbrev pub IsDamaged : {S : Type 0} → Opening S → Type 0
+IsDamaged (Ok desk) = ⊥
+IsDamaged (Err (held, fault.Damaged)) = Unit {0}
+IsDamaged (Err (held, fault.Memory)) = ⊥
+IsDamaged (Err (held, fault.Storage)) = ⊥
+
+-- the desk's tables can be made beside what a database has: none of their names is taken, no key refers to one, and no two tables have one tree
+abbrev pub CanBeMade : Schema → Type 0
+CanBeMade schema = (is_name_taken schema ≡ false) × LeavesRoom schema
+
+module _ {S : Type 0} (g : Ghosts S) where
+  -- a new desk was made in the database, beside what it had, by an open store
+  pub record Makes (old : Held S) (desk : Keyed S) : Type 0 where
+    pub was_open : IsOpen g old
+    pub makes : MakesDesk (state g old).now (state g desk.held).now
+    pub knows : Knows g desk.held empty_world
+
+  -- the database had the rows of a lawful world, and all that it has is as it was
+  pub record Adopts (old : Held S) (desk : Keyed S) : Type 0 where
+    pub was_open : IsOpen g old
+    pub same : (state g desk.held).now ≡ (state g old).now
+    pub knows : Knows g desk.held (world_at g desk.held)
+
+  -- how it ends that a desk is looked for in a database: with the counts of the lawful world whose rows its tables have; as damaged only where they have those of none
+  pub record Finds (old new : Held S) (result : Result Counts OpenFault) : Type 0 where
+    pub found : IsClean g new → IfOk result (λ counts. IsOpen g old × Knows g new (world_at g new) × ((what : Counted) → count_in counts what ≡ count_of (world_at g new) what))
+    pub damaged : IsClean g new → IfErr result (λ why. why ≡ fault.Damaged → HasNoWorld (state g old).now)
+    pub asked : IsAsked g old new

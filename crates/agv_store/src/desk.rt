@@ -1,0 +1,84 @@
+//! The desk: a connection to the desk's tables that is served calls.
+ghost use Rattle.std.specs.Prelude.{◌≡◌, false, true, IfOk, OnErr, OnOk};
+ghost use Rattle.sqlite.specs.Held.{state};
+ghost use Rattle.sqlite.specs.State.{Survives};
+ghost use Rattle.agv_tables.specs.sql.Connections.{IsClean, IsOpen};
+ghost use Rattle.agv_store.specs.Flags.{EndsAs};
+ghost use Rattle.agv_store.specs.Floors.{Knows, world_at};
+ghost use Rattle.agv_store.specs.Served.{IsServedBy, LeavesAll, LeavesCall};
+
+use crate::keyed_floor::KeyedFloor;
+use agv_desk::{Answer, Call};
+use agv_header::Moment;
+use agv_world::Fault;
+use sqlite::{Alter, Connection};
+use std::marker::Model;
+
+/// The desk of one warehouse over its tables in a database. While its store is open, the tables have the rows of a lawful
+/// world (`specs/Floors.antt`): it is the desk's world, and each call is answered from it.
+///
+/// A desk is made by [`Desk::create`], [`Desk::adopt`] or [`Desk::open`], and gives its connection back by
+/// [`Desk::release_conn`].
+#[derive(Drop)]
+pub struct Desk<S: Alter> {
+    pub(crate) floor: KeyedFloor<S>,
+}
+
+impl<S: Alter> Model for Desk<S> {
+    ghost use Rattle.agv_store.specs.Floors.{Keyed, keyed_code};
+
+    ghost Value = { Keyed S };
+
+    ghost coded = { keyed_code S.code };
+
+    ghost view = { λ desk. desk.floor };
+}
+
+impl<S: Alter + Drop> Desk<S> {
+    /// While its store is open the desk knows a world. It does nothing: a proof calls it for its clause.
+    pub fn knows(&self)
+        ensures { IsClean S.Store self.now.held → IsOpen S.Store self.now.held → Knows S.Store self.now.held (world_at S.Store self.now.held) }
+    {
+        self.floor.knows();
+    }
+
+    /// Whether its database has answered a call with an error other than want of memory. Then every call is answered
+    /// `Storage`, until the connection is adopted anew.
+    pub fn failed(&self) -> bool
+        ensures { result ≡ self.now.failed }
+    {
+        self.floor.failed
+    }
+
+    /// Serves one call that comes at this moment. It is decided by questions to the tables, outside a transaction; what it
+    /// changes is written in one transaction; and it is answered after the commit. The answer is that of the table of calls
+    /// in the desk's world, and the tables then have the rows of the world after the call (`serves`). A refusal is an answer,
+    /// and changes nothing. An answer that names a report has no bytes here.
+    ///
+    /// A crash leaves the rows before the call or after it (`crash`), and once there is an answer those after it
+    /// ([`laws`](crate::laws)).
+    ///
+    /// # Errors
+    /// `Memory` for want of memory; then, where the store is still open, all is as before the call. `Storage` where the store failed or had failed before:
+    /// exactly where [`failed`](Desk::failed) is `true` as the call ends (`ends`). A fault that leaves the store open leaves
+    /// all that the database has as it was (`left`).
+    pub fn serve(&mut self, at: Moment, call: &Call) -> Result<Answer, Fault>
+        ensures knew { IsClean S.Store self.new.held → OnOk result (Knows S.Store self.old.held (world_at S.Store self.old.held)) }
+        ensures serves { IsClean S.Store self.new.held → IfOk result (IsServedBy S.Store self.old.held self.new.held at call.now) }
+        ensures left { IsClean S.Store self.new.held → IsOpen S.Store self.new.held → OnErr result (LeavesAll S.Store self.old.held self.new.held) }
+        ensures was_open { IsClean S.Store self.new.held → IsOpen S.Store self.new.held → IsOpen S.Store self.old.held }
+        ensures crash { Survives (state S.Store self.old.held) (state S.Store self.new.held) (LeavesCall S.Store self.old.held at call.now) }
+        ensures ends { EndsAs result self.new.failed }
+        ensures fails { self.old.failed ≡ true → self.new.failed ≡ true }
+    {
+        self.floor.serve(at, call)
+    }
+
+    /// The connection, with the desk's tables in it.
+    pub fn release_conn(self) -> Connection<S>
+        ensures same { result ≡ self.held }
+        ensures idle { result.in_transaction ≡ false }
+    {
+        self.floor.conn
+    }
+}

@@ -1,0 +1,117 @@
+//! The questions of a floor, each by one look-up of a key or an index in the desk's tables; the layout alone is read whole.
+
+use crate::flags::note;
+use crate::keyed_floor::KeyedFloor;
+use agv_header::{Name, Thing, VehicleKey};
+use agv_layout::{Layout, Spot};
+use agv_message::Sequence;
+use agv_order::Trip;
+use agv_stock::Place;
+use agv_tables::questions::key_questions::{
+    ask_holder, ask_job, ask_node, ask_place, ask_station, ask_used, ask_vehicle,
+};
+use agv_tables::questions::layout_reading::ask_layout;
+use agv_tables::questions::load_questions::{ask_job_of, ask_loads_on, ask_reserved, ask_room};
+use agv_tables::questions::station_loads::ask_loads_at;
+use agv_tables::questions::trip_questions::ask_trip;
+use agv_world::{Counted, Fault, Floor, JobRow, UseKey, UseKind, VehicleRow};
+use sqlite::Alter;
+
+impl<S: Alter + Drop> Floor for KeyedFloor<S> {
+    ghost use Rattle.std.proofs.Common.{inl, refl};
+    ghost use Rattle.std.proofs.Math.Nat.{le_refl};
+    ghost use Rattle.agv_store.specs.Floors.{facts_of};
+
+    ghost facts = { facts_of S.Store };
+
+    ghost starts = { λ floor. record {
+      survives = record { clean = le_refl _; shield = λ is. is; counts = le_refl _; limit = refl; closes = λ clean still. inl still; crash = λ clean trees left. inl left };
+      was_open = λ clean still. still;
+      same = λ clean still settled. refl;
+      committed = λ clean still. refl;
+      idle = λ idle. idle;
+    } };
+
+    fn failed(&self) -> bool {
+        self.failed
+    }
+
+    fn seats(&self) -> u32 {
+        1
+    }
+
+    fn vehicle(&mut self, key: VehicleKey) -> Result<Option<VehicleRow>, Fault> {
+        let asked = ask_vehicle(&mut self.conn, &key);
+        note(&mut self.failed, &mut self.in_doubt, asked)
+    }
+
+    fn trip(&mut self, key: VehicleKey) -> Result<Option<Trip>, Fault> {
+        let asked = ask_trip(self.alloc, &mut self.conn, &key);
+        note(&mut self.failed, &mut self.in_doubt, asked)
+    }
+
+    fn place(&mut self, load: Name) -> Result<Option<Place>, Fault> {
+        let asked = ask_place(&mut self.conn, &load);
+        note(&mut self.failed, &mut self.in_doubt, asked)
+    }
+
+    fn job(&mut self, job: Name) -> Result<Option<JobRow>, Fault> {
+        let asked = ask_job(&mut self.conn, &job);
+        note(&mut self.failed, &mut self.in_doubt, asked)
+    }
+
+    fn room(&mut self, station: Name) -> Result<Option<u32>, Fault> {
+        let asked = ask_room(&mut self.conn, &station);
+        note(&mut self.failed, &mut self.in_doubt, asked)
+    }
+
+    fn holder(&mut self, thing: Thing) -> Result<Option<VehicleKey>, Fault> {
+        let asked = ask_holder(&mut self.conn, &thing);
+        note(&mut self.failed, &mut self.in_doubt, asked)
+    }
+
+    fn node(&mut self, id: Name) -> Result<bool, Fault> {
+        let asked = ask_node(&mut self.conn, &id);
+        note(&mut self.failed, &mut self.in_doubt, asked)
+    }
+
+    fn station(&mut self, id: Name) -> Result<Option<Spot>, Fault> {
+        let asked = ask_station(&mut self.conn, &id);
+        note(&mut self.failed, &mut self.in_doubt, asked)
+    }
+
+    fn used(&mut self, kind: UseKind, name: Name) -> Result<bool, Fault> {
+        let asked = ask_used(&mut self.conn, &UseKey { kind, name });
+        note(&mut self.failed, &mut self.in_doubt, asked)
+    }
+
+    fn layout(&mut self) -> Result<Option<Layout>, Fault> {
+        let asked = ask_layout(self.alloc, &mut self.conn);
+        note(&mut self.failed, &mut self.in_doubt, asked)
+    }
+
+    fn loads_at(&mut self, station: Name) -> Result<Sequence<Name>, Fault> {
+        let asked = ask_loads_at(self.alloc, &mut self.conn, &station);
+        note(&mut self.failed, &mut self.in_doubt, asked)
+    }
+
+    fn loads_on(&mut self, key: VehicleKey) -> Result<usize, Fault> {
+        let asked = ask_loads_on(&mut self.conn, &key);
+        note(&mut self.failed, &mut self.in_doubt, asked)
+    }
+
+    fn job_of(&mut self, load: Name) -> Result<Option<Name>, Fault> {
+        let asked = ask_job_of(&mut self.conn, &load);
+        note(&mut self.failed, &mut self.in_doubt, asked)
+    }
+
+    fn reserved(&mut self, station: Name) -> Result<usize, Fault> {
+        let asked = ask_reserved(&mut self.conn, &station);
+        note(&mut self.failed, &mut self.in_doubt, asked)
+    }
+
+    fn count(&mut self, counted: Counted) -> Result<usize, Fault> {
+        self.settle()?;
+        Ok(self.counts.get(counted))
+    }
+}

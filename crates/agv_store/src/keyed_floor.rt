@@ -1,0 +1,67 @@
+//! A connection to the desk's tables, with what is known beside it.
+ghost use Rattle.std.specs.Prelude.{◌≡◌, OnOk};
+ghost use Rattle.agv_world.specs.Asks.{Asks};
+ghost use Rattle.agv_tables.specs.sql.Connections.{IsClean, IsOpen};
+ghost use Rattle.agv_store.specs.Flags.{EndsAs};
+ghost use Rattle.agv_store.specs.Floors.{Knows, facts_of, world_at};
+
+use crate::counts::Counts;
+use crate::flags::note;
+use agv_tables::readings::hold_reading::ask_meta;
+use agv_world::Fault;
+use sqlite::{Alter, Connection};
+use std::alloc::Global;
+use std::marker::Model;
+
+/// A floor over the desk's tables in a database. While its connection is open, these have the rows of a lawful world:
+/// the world that is asked.
+///
+/// After `Storage` its store has failed, for good; after `Memory` its connection may be shut, which shows at the next
+/// question.
+#[derive(Drop)]
+pub struct KeyedFloor<S: Alter> {
+    pub(crate) conn: Connection<S>,
+    pub(crate) counts: Counts,
+    pub(crate) failed: bool,
+    // Memory was refused since the connection was last known to be open.
+    pub(crate) in_doubt: bool,
+    pub(crate) alloc: Global,
+}
+
+impl<S: Alter> Model for KeyedFloor<S> {
+    ghost use Rattle.agv_store.specs.Floors.{IsKept, Keyed, keyed_code};
+
+    ghost Value = { Keyed S };
+
+    ghost coded = { keyed_code S.code };
+
+    ghost view = { λ floor. record { held = floor.conn; failed = floor.failed } };
+
+    ghost invariant = { λ floor. IsKept S.Store floor.conn floor.counts floor.failed floor.in_doubt };
+}
+
+impl<S: Alter + Drop> KeyedFloor<S> {
+    /// While it is open it knows a world. It does nothing: a proof calls it for its clause.
+    pub fn knows(&self)
+        ensures { IsClean S.Store self.now.held → IsOpen S.Store self.now.held → Knows S.Store self.now.held (world_at S.Store self.now.held) }
+    {
+        let _failed = self.failed;
+    }
+
+    // That the store has not failed, and is open: after a refused allocation a question shows it.
+    pub(crate) fn settle(&mut self) -> Result<(), Fault>
+        ensures asks { Asks (facts_of S.Store) self.old self.new result (λ world done. Unit {0}) }
+        ensures knows { IsClean S.Store self.new.held → OnOk result (Knows S.Store self.new.held (world_at S.Store self.new.held)) }
+        ensures ends { EndsAs result self.new.failed }
+    {
+        if self.failed {
+            return Err(Fault::Storage);
+        }
+        if self.in_doubt {
+            let asked = ask_meta(&mut self.conn);
+            note(&mut self.failed, &mut self.in_doubt, asked)?;
+            self.in_doubt = false;
+        }
+        Ok(())
+    }
+}

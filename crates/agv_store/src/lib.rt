@@ -1,0 +1,25 @@
+//! The desk over its tables in a SQL database: each call is decided by questions to the tables, and what it changes is
+//! written in one transaction before it is answered.
+//!
+//! - [`Desk`] is made in a database, or adopted from one (`opening`; [`OpenFault`] says why there is none). It serves one
+//!   call, or a list of calls in turn up to the first fault (`running`), and keeps its world lawful.
+//! - `keyed_floor` has a connection to the desk's tables that is asked by keys and indexes, as `agv_desk` asks a floor.
+//!   Beside the connection it keeps five counts, and whether the store has failed. `serving` serves one call over it.
+//!
+//! What a desk keeps true of its connection is `specs/Floors.antt`, what it makes of a call `specs/Served.antt`, of a list of
+//! calls `specs/Ran.antt`, and how it is opened `specs/Opened.antt`.
+#![tactic(auto)]
+
+mod counts;
+mod desk;
+mod flags;
+mod floor_questions;
+mod keyed_floor;
+pub mod laws;
+mod open_fault;
+mod opening;
+mod running;
+mod serving;
+
+pub use desk::Desk;
+pub use open_fault::OpenFault;

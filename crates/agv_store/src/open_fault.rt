@@ -1,0 +1,55 @@
+//! Why a database gives no desk.
+ghost use Rattle.std.specs.Prelude.{◌≡◌};
+ghost use Rattle.agv_store.specs.OpenFaults.{of_making, of_reading};
+
+use agv_header::Memory;
+use agv_tables::{MakingFault, ReadingFault};
+
+/// Why a database gives no desk.
+#[derive(Clone, Copy, Debug, PartialEq, Eq)]
+pub enum OpenFault {
+    /// For [`Desk::create`](crate::Desk::create): a name of the desk's tables is taken, a foreign key refers to one of them,
+    /// or two tables lie in one tree.
+    /// For [`Desk::adopt`](crate::Desk::adopt) and [`Desk::open`](crate::Desk::open): the database has the rows of no lawful
+    /// world, or a table is missing or is another.
+    Damaged,
+    /// Want of memory.
+    Memory,
+    /// Any other error of the database: the store failed or was shut by an earlier failure, or the steps of its queries are
+    /// limited.
+    Storage,
+}
+
+impl From<Memory> for OpenFault {
+    ghost use Rattle.agv_store.specs.declared.open_fault.OpenFault.TheVariants as fault;
+
+    ghost from_gives = { λ _ made. made ≡ fault.Memory };
+
+    fn from(_error: Memory) -> OpenFault {
+        OpenFault::Memory
+    }
+}
+
+impl From<ReadingFault> for OpenFault {
+    ghost from_gives = { λ why made. made ≡ of_reading why };
+
+    fn from(why: ReadingFault) -> OpenFault {
+        match why {
+            ReadingFault::Memory => OpenFault::Memory,
+            ReadingFault::Storage => OpenFault::Storage,
+            ReadingFault::Damaged => OpenFault::Damaged,
+        }
+    }
+}
+
+impl From<MakingFault> for OpenFault {
+    ghost from_gives = { λ why made. made ≡ of_making why };
+
+    fn from(why: MakingFault) -> OpenFault {
+        match why {
+            MakingFault::Taken => OpenFault::Damaged,
+            MakingFault::Memory => OpenFault::Memory,
+            MakingFault::Storage => OpenFault::Storage,
+        }
+    }
+}

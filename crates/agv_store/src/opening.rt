@@ -1,0 +1,165 @@
+//! A desk is made in a database, or adopted from one that has its tables.
+ghost use Rattle.std.specs.Prelude.{◌≡◌, ◌⊎◌, ◌↔◌, false, IfOk, IsTrue, OnErr};
+ghost use Rattle.sqlite.specs.Held.{state};
+ghost use Rattle.sqlite.specs.State.{Survives};
+ghost use Rattle.agv_world.specs.Kept.{Keeps};
+ghost use Rattle.agv_world.specs.Lawful.{IsLawful};
+ghost use Rattle.agv_world.specs.Rows.{rows_of};
+ghost use Rattle.agv_world.specs.Worlds.{World as WorldOf};
+ghost use Rattle.agv_tables.specs.questions.WorldAnswers.{HasNoWorld};
+ghost use Rattle.agv_tables.specs.schema.DeskTables.{LeavesDesk};
+ghost use Rattle.agv_tables.specs.schema.SchemaNumbers.{desk_seats};
+ghost use Rattle.agv_tables.specs.sql.Connections.{IsClean, IsOpen};
+ghost use Rattle.agv_store.specs.Opened.{Adopts, CanBeMade, Finds, IsDamaged, Makes, left_by};
+
+use crate::counts::Counts;
+use crate::desk::Desk;
+use crate::keyed_floor::KeyedFloor;
+use crate::open_fault::OpenFault;
+use agv_header::Memory;
+use agv_tables::HeldThings;
+use agv_tables::readings::reading_laws::tables_read_tell_the_world;
+use agv_tables::readings::rowid_reading::ask_rowids;
+use agv_tables::readings::world_laws::a_database_tells_its_world;
+use agv_tables::readings::world_reading::read_world;
+use agv_tables::schema::desk_tables::make_desk_tables;
+use agv_tables::schema::making_laws::{made_desks_stand, new_desks_know_nothing};
+use agv_tables::schema::standing_tables::tables_stand;
+use agv_tables::schema::table_room::leaves_room;
+use agv_world::World;
+use agv_world::lawful_laws::is_in_good_order;
+use agv_world::laws::tables_tell_the_world;
+use sqlite::{Alter, Connection};
+use std::alloc::Global;
+
+// Whether these are the tables of a lawful world, and what is held is what its vehicles hold.
+fn are_of_a_lawful_world(alloc: Global, tables: &World, holds: &HeldThings) -> Result<bool, Memory>
+    ensures { IfOk result (λ are. IsTrue are ↔ ((world : WorldOf) × Keeps tables.now world × IsLawful desk_seats world × (holds.now.table ≡ (rows_of world).holds))) }
+{
+    Ok(tables.is_lawful(alloc, 1)? && holds.are_footprints(alloc, tables)?)
+}
+
+// The counts of the world whose rows the desk's tables have, where they have the rows of a lawful one.
+fn find_desk<S: Alter>(alloc: Global, conn: &mut Connection<S>) -> Result<Counts, OpenFault>
+    requires { conn.old.in_transaction ≡ false }
+    ensures { Finds S.Store conn.old conn.new result }
+{
+    tables_read_tell_the_world();
+    a_database_tells_its_world();
+    is_in_good_order();
+    tables_tell_the_world();
+    let _settled = conn.is_autocommit();
+    if !tables_stand(alloc, conn.schema())? {
+        return Err(OpenFault::Damaged);
+    }
+    if !ask_rowids(alloc, conn)? {
+        return Err(OpenFault::Damaged);
+    }
+    let (tables, holds) = read_world(alloc, conn)?;
+    if !are_of_a_lawful_world(alloc, &tables, &holds)? {
+        return Err(OpenFault::Damaged);
+    }
+    let counts = Counts::of(alloc, &tables)?;
+    Ok(counts)
+}
+
+impl<S: Alter + Drop> Desk<S> {
+    /// Makes a desk that knows nothing yet: its tables are made in one transaction, beside whatever the database has.
+    ///
+    /// # Errors
+    /// `Damaged` where a table, a view or an index has the name of one of the desk's tables, a foreign key refers to one of
+    /// them, or two tables lie in one tree, as in no sound database, and only there: nothing is touched then. Else `Memory`
+    /// for want of memory, and `Storage` for any other error of the database. The connection comes back; one that is open
+    /// has what it had.
+    pub fn create(alloc: Global, conn: Connection<S>) -> Result<Desk<S>, (Connection<S>, OpenFault)>
+        requires { conn.in_transaction ≡ false }
+        ensures made { IfOk result (λ desk. IsClean S.Store desk.held → Makes S.Store conn desk) }
+        ensures works { IfOk result (λ desk. desk.failed ≡ false) }
+        ensures damaged { IsDamaged result ↔ ¬ CanBeMade (state S.Store conn).now.schema }
+        ensures possible { (¬ IsDamaged result) → CanBeMade (state S.Store conn).now.schema }
+        ensures untouched { IsDamaged result → left_by result ≡ conn }
+        ensures undone { IsClean S.Store (left_by result) → IsOpen S.Store (left_by result)
+            → OnErr result (IsOpen S.Store conn × ((state S.Store (left_by result)).now ≡ (state S.Store conn).now)) }
+        ensures idle { (left_by result).in_transaction ≡ false }
+        ensures crash { Survives (state S.Store conn) (state S.Store (left_by result)) (LeavesDesk (state S.Store conn).now) }
+    {
+        made_desks_stand();
+        new_desks_know_nothing();
+        a_database_tells_its_world();
+        let mut conn = conn;
+        let _settled = conn.is_autocommit();
+        if !leaves_room(conn.schema()) {
+            return Err((conn, OpenFault::Damaged));
+        }
+        match make_desk_tables(&mut conn) {
+            Ok(()) => Ok(Desk {
+                floor: KeyedFloor {
+                    conn,
+                    counts: Counts::none(),
+                    failed: false,
+                    in_doubt: false,
+                    alloc,
+                },
+            }),
+            Err(why) => Err((conn, OpenFault::from(why))),
+        }
+    }
+
+    /// Takes a desk over from a database that has its tables, whoever wrote them: the schema, every row and what is held
+    /// are looked at, and nothing is changed.
+    ///
+    /// # Errors
+    /// `Damaged` where the database has the rows of no lawful world: a table is missing or is another, a row tells nothing,
+    /// the rows break a rule of the desk, or what is held isn't what the vehicles hold. A database that has the rows of a
+    /// lawful world is never damaged. Else `Memory` for want of memory, and `Storage` for any other error of the database.
+    /// The connection comes back; one that is open has what it had.
+    pub fn adopt(alloc: Global, conn: Connection<S>) -> Result<Desk<S>, (Connection<S>, OpenFault)>
+        requires { conn.in_transaction ≡ false }
+        ensures adopted { IfOk result (λ desk. IsClean S.Store desk.held → Adopts S.Store conn desk) }
+        ensures works { IfOk result (λ desk. desk.failed ≡ false) }
+        ensures damaged { IsClean S.Store (left_by result) → IsDamaged result → HasNoWorld (state S.Store conn).now }
+        ensures unchanged { IsClean S.Store (left_by result) → IsOpen S.Store (left_by result)
+            → IsOpen S.Store conn × ((state S.Store (left_by result)).now ≡ (state S.Store conn).now) }
+        ensures idle { (left_by result).in_transaction ≡ false }
+        ensures crash { Survives (state S.Store conn) (state S.Store (left_by result)) (λ _. ⊥) }
+    {
+        let mut conn = conn;
+        let _settled = conn.is_autocommit();
+        match find_desk(alloc, &mut conn) {
+            Ok(counts) => Ok(Desk {
+                floor: KeyedFloor {
+                    conn,
+                    counts,
+                    failed: false,
+                    in_doubt: false,
+                    alloc,
+                },
+            }),
+            Err(why) => Err((conn, why)),
+        }
+    }
+
+    /// Opens a database as a desk: makes one ([`Desk::create`]), and where that is `Damaged` adopts the one that is there
+    /// ([`Desk::adopt`]).
+    ///
+    /// # Errors
+    /// As these two. `Damaged` only where a desk can't be made, and the database has the rows of no lawful world.
+    pub fn open(alloc: Global, conn: Connection<S>) -> Result<Desk<S>, (Connection<S>, OpenFault)>
+        requires { conn.in_transaction ≡ false }
+        ensures opened { IfOk result (λ desk. IsClean S.Store desk.held → (CanBeMade (state S.Store conn).now.schema × Makes S.Store conn desk) ⊎ ((¬ CanBeMade (state S.Store conn).now.schema) × Adopts S.Store conn desk)) }
+        ensures works { IfOk result (λ desk. desk.failed ≡ false) }
+        ensures damaged { IsClean S.Store (left_by result) → IsDamaged result → (¬ CanBeMade (state S.Store conn).now.schema) × HasNoWorld (state S.Store conn).now }
+        ensures undone { IsClean S.Store (left_by result) → IsOpen S.Store (left_by result)
+            → OnErr result (IsOpen S.Store conn × ((state S.Store (left_by result)).now ≡ (state S.Store conn).now)) }
+        ensures idle { (left_by result).in_transaction ≡ false }
+        ensures crash { Survives (state S.Store conn) (state S.Store (left_by result)) (λ trees. CanBeMade (state S.Store conn).now.schema × LeavesDesk (state S.Store conn).now trees) }
+    {
+        match Desk::create(alloc, conn) {
+            Ok(desk) => Ok(desk),
+            Err((conn, why)) => match why {
+                OpenFault::Damaged => Desk::adopt(alloc, conn),
+                OpenFault::Memory | OpenFault::Storage => Err((conn, why)),
+            },
+        }
+    }
+}

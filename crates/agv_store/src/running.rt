@@ -1,0 +1,61 @@
+//! A list of calls is served, up to the first fault.
+ghost use Rattle.std.specs.Prelude.{◌≡◌, true, false, [], length};
+ghost use Rattle.agv_tables.specs.sql.Connections.{IsClean};
+ghost use Rattle.agv_store.specs.Floors.{Knows, world_at};
+ghost use Rattle.agv_store.specs.Ran.{HasAnswered, IsRun, LeavesLast, RunEndsAs};
+
+use crate::desk::Desk;
+use agv_desk::laws::serves_in_turn;
+use agv_desk::{Answer, Call};
+use agv_header::Moment;
+use agv_tables::readings::world_laws::a_database_tells_its_world;
+use agv_tables::schema::making_laws::trees_tell_schemas;
+use agv_world::Fault;
+use sqlite::Alter;
+use std::alloc::Global;
+
+impl<S: Alter + Drop> Desk<S> {
+    /// Serves the calls in turn, each at its moment, up to the first fault, which is given beside the answers. Room for the
+    /// answers is taken before the first call, so that none is served whose answer can't be given.
+    ///
+    /// The answers are those of the table of calls, from the desk's world on, and the tables then have the rows of the world
+    /// after the calls that were answered (`runs`). Without a fault each call has its answer; with one there are fewer
+    /// answers than calls (`answered`).
+    ///
+    /// A crash leaves the rows of the world after the calls that were answered, and where there was a fault those of this
+    /// world or of the one after one call more (`crash`).
+    ///
+    /// # Errors
+    /// `Memory` for want of memory; where there is no room for the answers no call is served. `Storage` where the store
+    /// failed or had failed before. Of a store that hadn't failed before, the fault is `Storage` exactly where
+    /// [`failed`](Desk::failed) is `true` in the end (`ends`). One that had failed before answers no call, and has failed
+    /// still (`fails`).
+    pub fn run(&mut self, alloc: Global, calls: &[(Moment, Call)]) -> (Vec<Answer>, Option<Fault>)
+        ensures runs { IsClean S.Store self.new.held → IsRun S.Store self.old.held self.new.held calls.now result.0.items result.1 }
+        ensures answered { HasAnswered calls.now result.0.items result.1 }
+        ensures crash { IsClean S.Store self.new.held → Knows S.Store self.old.held (world_at S.Store self.old.held) → LeavesLast S.Store self.old.held self.new.held calls.now (length result.0.items) result.1 }
+        ensures ends { self.old.failed ≡ false → RunEndsAs result.1 self.new.failed }
+        ensures fails { self.old.failed ≡ true → (self.new.failed ≡ true) × (result.0.items ≡ []) }
+    {
+        serves_in_turn();
+        a_database_tells_its_world();
+        trees_tell_schemas();
+        self.knows();
+        let room = Vec::with_capacity(alloc, calls.len());
+        let mut given = match room {
+            Ok(given) => given,
+            Err(_) => return (Vec::new(alloc), Some(Fault::Memory)),
+        };
+        for made in calls {
+            let served = self.serve(made.0, &made.1);
+            match served {
+                Ok(answer) => given.push_reserved(answer),
+                Err(why) => {
+                    self.knows();
+                    return (given, Some(why));
+                }
+            }
+        }
+        (given, None)
+    }
+}
