@@ -1,161 +1,228 @@
-//! Tables that are damaged once a worked example is written: a row that is none of the world is told, rows that are no lawful
-//! world together are read and found unlawful, and where who holds what is damaged, it differs from the floor's answers.
+//! Databases that are damaged once a desk has served a worked example: neither is the desk adopted or opened, nor is a new one
+//! made. Each time the connection comes back, with the rows as they were.
 
 use crate::cases::check;
-use crate::table_cases::{is_held_as, make, name, write_calls};
+use crate::table_cases::{check_rows, made, rows_text, serve_calls};
 use crate::written::PICKED;
-use agv_header::Thing;
-use agv_tables::ReadingFault;
-use agv_tables::readings::world_reading::read_world;
-use agv_world::{PlainFloor, World};
+use agv_store::{Desk, OpenFault};
 use sqlite::{Connection, MemStore};
 use std::alloc::Global;
 use std::process::Abort;
 
-/// A database with the example, in which something is damaged.
-fn damaged_by(
-    rt: &impl Abort,
-    alloc: Global,
-    world: &mut World,
-    damage: &str,
-) -> Connection<MemStore> {
-    let mut conn = Connection::open_in_memory(alloc).expect(rt, "memory");
-    make(rt, &mut conn);
-    write_calls(rt, alloc, world, &mut conn, PICKED);
-    let changed = conn.execute(damage, &[]).expect(rt, damage);
-    check(rt, changed > 0, damage);
+/// How a desk is looked for.
+type Ended = Result<Desk<MemStore>, (Connection<MemStore>, OpenFault)>;
+
+/// The database of the example, in which an order is under way, once these statements were carried out.
+pub(crate) fn example_with(rt: &impl Abort, alloc: Global, texts: &str) -> Connection<MemStore> {
+    let conn = Connection::open_in_memory(alloc).expect(rt, "memory");
+    let mut desk = made(rt, alloc, conn);
+    serve_calls(rt, alloc, &mut desk, PICKED);
+    let mut conn = desk.release_conn();
+    conn.execute_batch(texts).expect(rt, texts);
     conn
 }
 
-/// What makes a row that is none of the world, of each kind: a word that isn't one, a value that is wanting or too many, a
-/// number that is too large, a name that is none, a schema of another number or of none.
-const DAMAGES: [&str; 10] = [
+/// There is no desk, since the database is damaged: the connection comes back with these rows.
+fn returned(
+    rt: &impl Abort,
+    alloc: Global,
+    ended: Ended,
+    rows: &str,
+    case: &str,
+) -> Connection<MemStore> {
+    match ended {
+        Ok(_) => panic!(rt; "a desk: `{case}`"),
+        Err((mut conn, why)) => {
+            check(rt, why == OpenFault::Damaged, case);
+            check_rows(rt, alloc, &mut conn, rows);
+            conn
+        }
+    }
+}
+
+/// It is damaged for whoever adopts, makes or opens a desk.
+pub(crate) fn check_damaged(
+    rt: &impl Abort,
+    alloc: Global,
+    mut conn: Connection<MemStore>,
+    case: &str,
+) {
+    let rows = rows_text(rt, alloc, &mut conn);
+    assert!(rt; conn.is_autocommit(), "idle");
+    let ended = Desk::adopt(alloc, conn);
+    let conn = returned(rt, alloc, ended, rows.as_str(), case);
+    assert!(rt; conn.is_autocommit(), "idle");
+    let ended = Desk::create(alloc, conn);
+    let conn = returned(rt, alloc, ended, rows.as_str(), case);
+    assert!(rt; conn.is_autocommit(), "idle");
+    let ended = Desk::open(alloc, conn);
+    returned(rt, alloc, ended, rows.as_str(), case);
+}
+
+/// Damages the example by each of these statements.
+fn check_all_damaged(rt: &impl Abort, alloc: Global, damages: &[&str]) {
+    for damage in damages {
+        let conn = example_with(rt, alloc, damage);
+        check_damaged(rt, alloc, conn, damage);
+    }
+}
+
+/// Words that are none, names that are none, and values that are wanting or too many.
+const WORDS: [&str; 12] = [
     "UPDATE load SET kind = 'lost' WHERE id = 'L2'",
     "UPDATE load SET station = 'A' WHERE id = 'L1'",
+    "UPDATE load SET serial = NULL WHERE id = 'L1'",
     "UPDATE vehicle SET rest_edge = 'E12'",
-    "UPDATE vehicle SET last_header = 4294967296",
+    "UPDATE vehicle SET pending = 'pause'",
     "UPDATE job SET phase = ''",
+    "UPDATE job SET id = 'J 1'",
     "UPDATE node SET id = 'no name' WHERE id = 'N3'",
     "UPDATE trip SET pick_status = 'finished'",
-    "UPDATE meta SET schema = 2",
-    "DELETE FROM meta",
+    "UPDATE trip SET drop_status = 'NULL'",
     "UPDATE used SET kind = 'job'",
+    "UPDATE leg SET edge = '' WHERE k = 1",
 ];
 
-/// The same of edges, stations, legs, holds, vehicles, trips and jobs: an empty name, a number below 0, an unknown kind.
-const MORE_DAMAGES: [&str; 14] = [
+/// The same of edges, stations and holds.
+const MORE_WORDS: [&str; 6] = [
     "UPDATE edge SET start = '' WHERE id = 'E32'",
     "UPDATE edge SET finish = 'N 1' WHERE id = 'E21'",
-    "UPDATE station SET capacity = -1 WHERE id = 'C'",
-    "UPDATE station SET capacity = 4294967296 WHERE id = 'C'",
     "UPDATE station SET node = '' WHERE id = 'C'",
-    "UPDATE leg SET k = -1 WHERE k = 1",
-    "UPDATE leg SET edge = '' WHERE k = 1",
     "UPDATE hold SET kind = 'station' WHERE id = 'N1'",
     "UPDATE hold SET id = 'N/1' WHERE id = 'N1'",
     "UPDATE hold SET serial = '' WHERE id = 'E12'",
-    "UPDATE vehicle SET pending = 'pause'",
-    "UPDATE vehicle SET ready = 2",
-    "UPDATE trip SET drop_status = 'NULL'",
-    "UPDATE job SET id = 'J 1'",
 ];
 
-/// Writes the example, damages a row and reads.
-fn check_damaged(rt: &impl Abort, alloc: Global, damage: &str) {
-    let mut world = World::empty(alloc);
-    let mut conn = damaged_by(rt, alloc, &mut world, damage);
-    let told = match read_world(alloc, &mut conn) {
-        Ok(_) => None,
-        Err(why) => Some(why),
-    };
-    check(rt, told == Some(ReadingFault::Damaged), damage);
-}
-
-/// A row that is none of the world is told.
+/// A word or a name that is none.
 #[test]
-fn damaged(rt: HostRuntime) {
-    for damage in &DAMAGES {
-        check_damaged(&rt, rt.alloc(), damage);
-    }
+fn words(rt: HostRuntime) {
+    check_all_damaged(&rt, rt.alloc(), &WORDS);
+    check_all_damaged(&rt, rt.alloc(), &MORE_WORDS);
 }
 
-/// So it is of the other tables.
-#[test]
-fn damaged_elsewhere(rt: HostRuntime) {
-    for damage in &MORE_DAMAGES {
-        check_damaged(&rt, rt.alloc(), damage);
-    }
-}
-
-/// Rows of the world, each by itself, that are no lawful world together: a trip that is short of an edge, a load that isn't where
-/// its trip has it, a trip for a job that is stopped, a room that no station has, an end of an edge and a place of a vehicle that
-/// are no nodes.
-const UNLAWFUL: [&str; 7] = [
-    "DELETE FROM leg WHERE k = 1",
-    "UPDATE load SET kind = 'checking', manufacturer = NULL, serial = NULL WHERE id = 'L1'",
-    "UPDATE job SET phase = 'stopped'",
+/// Numbers out of range: of the schema, of a station's room, of a leg, of messages, and of a moment.
+const NUMBERS: [&str; 12] = [
+    "UPDATE meta SET schema = 2",
+    "UPDATE meta SET id = 0",
+    "UPDATE station SET capacity = -1 WHERE id = 'C'",
     "UPDATE station SET capacity = 0 WHERE id = 'C'",
     "UPDATE station SET capacity = 1000 WHERE id = 'C'",
-    "UPDATE edge SET start = 'N9' WHERE id = 'E32'",
-    "UPDATE vehicle SET node = 'N9'",
+    "UPDATE station SET capacity = 4294967296 WHERE id = 'C'",
+    "UPDATE leg SET k = -1 WHERE k = 1",
+    "UPDATE vehicle SET last_header = 4294967296",
+    "UPDATE vehicle SET ready = 2",
+    "UPDATE vehicle SET order_at = 4102444800000",
+    "UPDATE vehicle SET order_header = 0, order_at = 0",
+    "UPDATE vehicle SET instant_header = 0, instant_at = 0",
 ];
 
-/// Writes the example, damages rows, and compares whether what is read is lawful.
-fn check_lawful(rt: &impl Abort, alloc: Global, damage: &str, wanted: bool) {
-    let mut world = World::empty(alloc);
-    let mut conn = damaged_by(rt, alloc, &mut world, damage);
-    let (tables, _) = read_world(alloc, &mut conn).expect(rt, damage);
-    let lawful = tables.is_lawful(alloc, 1).expect(rt, "memory");
-    check(rt, lawful == wanted, damage);
-}
+/// Numbers of a trip that don't fit together: it has two edges, of which one is released.
+const TRIP_NUMBERS: [&str; 6] = [
+    "UPDATE trip SET base = 3",
+    "UPDATE trip SET first = 1",
+    "UPDATE trip SET confirmed = 5",
+    "UPDATE trip SET seen = 2",
+    "UPDATE trip SET pick_at = 1",
+    "UPDATE trip SET drop_at = 1",
+];
 
-/// Rows that are no lawful world together are read, and are found unlawful.
+/// A number that is out of range.
 #[test]
-fn unlawful(rt: HostRuntime) {
-    for damage in &UNLAWFUL {
-        check_lawful(&rt, rt.alloc(), damage, false);
-    }
+fn numbers(rt: HostRuntime) {
+    check_all_damaged(&rt, rt.alloc(), &NUMBERS);
+    check_all_damaged(&rt, rt.alloc(), &TRIP_NUMBERS);
 }
 
-const NO_HOLD: &str = "DELETE FROM hold WHERE id = 'E12'";
+/// A row that is wanted is missing, of each table.
+const MISSING: [&str; 12] = [
+    "DELETE FROM meta",
+    "DELETE FROM node WHERE id = 'N1'",
+    "DELETE FROM edge WHERE id = 'E23'",
+    "DELETE FROM station WHERE id = 'B'",
+    "DELETE FROM vehicle",
+    "DELETE FROM trip",
+    "DELETE FROM leg WHERE k = 1",
+    "DELETE FROM load WHERE id = 'L1'",
+    "DELETE FROM job",
+    "DELETE FROM hold WHERE id = 'E12'",
+    "DELETE FROM hold WHERE id = 'N1'",
+    "DELETE FROM used WHERE kind = 'order'",
+];
 
-const OTHER_HOLD: &str = "UPDATE hold SET serial = '0002' WHERE id = 'E12'";
-
-const MORE_HOLDS: &str =
-    "INSERT INTO hold (kind, id, manufacturer, serial) VALUES ('edge', 'E23', 'KIT', '0001')";
-
-const STRANGE_HOLD: &str =
-    "INSERT INTO hold (kind, id, manufacturer, serial) VALUES ('edge', 'E23', 'KIT', '0009')";
-
-/// Damages who holds E12, and compares the holders of it and of N2 with the floor's answers.
-fn check_hold(rt: &impl Abort, alloc: Global, damage: &str) {
-    let mut world = World::empty(alloc);
-    let mut conn = damaged_by(rt, alloc, &mut world, damage);
-    let (_, holds) = read_world(alloc, &mut conn).expect(rt, damage);
-    let mut floor = PlainFloor::new(alloc, &world, 1);
-    let edge = is_held_as(rt, &mut floor, &holds.table, Thing::Edge(name(rt, "E12")));
-    check(rt, !edge, damage);
-    let node = is_held_as(rt, &mut floor, &holds.table, Thing::Node(name(rt, "N2")));
-    check(rt, node, damage);
-}
-
-/// Damages who holds what: the world that is read is lawful still, and the holds are not what its vehicles hold.
-fn check_fit(rt: &impl Abort, alloc: Global, damage: &str) {
-    let mut world = World::empty(alloc);
-    let mut conn = damaged_by(rt, alloc, &mut world, damage);
-    let (tables, holds) = read_world(alloc, &mut conn).expect(rt, damage);
-    let lawful = tables.is_lawful(alloc, 1).expect(rt, "memory");
-    check(rt, lawful, damage);
-    let fit = holds.are_footprints(alloc, &tables).expect(rt, "memory");
-    check(rt, !fit, damage);
-}
-
-/// Who holds what is no part of a lawful world; where it is damaged, it isn't what the floor answers.
+/// A row is missing.
 #[test]
-fn held_otherwise(rt: HostRuntime) {
-    check_hold(&rt, rt.alloc(), NO_HOLD);
-    check_hold(&rt, rt.alloc(), OTHER_HOLD);
-    for damage in &[NO_HOLD, OTHER_HOLD, MORE_HOLDS, STRANGE_HOLD] {
-        check_fit(&rt, rt.alloc(), damage);
-    }
+fn missing(rt: HostRuntime) {
+    check_all_damaged(&rt, rt.alloc(), &MISSING);
+}
+
+/// One row too many: a second schema, an edge, a station or a vehicle at an unknown node, legs behind the end of a trip and of
+/// no trip, a second load aboard, a load at an unknown station and one too many at B.
+const SURPLUS: [&str; 9] = [
+    "INSERT INTO meta (id, schema) VALUES (2, 1)",
+    "INSERT INTO edge (id, start, finish) VALUES ('E9', 'N1', 'N9')",
+    "INSERT INTO station (id, node, capacity) VALUES ('D', 'N9', 1)",
+    "INSERT INTO vehicle VALUES ('KIT', '0002', 'N9', NULL, NULL, NULL, NULL, 0, 0, 0, 0, 0, 0, NULL)",
+    "INSERT INTO leg (order_id, k, edge) VALUES ('O1', 2, 'E32')",
+    "INSERT INTO leg (order_id, k, edge) VALUES ('O9', 0, 'E12')",
+    "INSERT INTO load VALUES ('L9', 'vehicle', NULL, 'KIT', '0001')",
+    "INSERT INTO load VALUES ('L9', 'station', 'D', NULL, NULL)",
+    "INSERT INTO load VALUES ('L9', 'station', 'B', NULL, NULL)",
+];
+
+/// The same of jobs, trips, vehicles and holds: a second live job of a load, a job whose load isn't at its origin, one of an
+/// unknown load, a trip of an unknown vehicle, a vehicle where another one is or that holds nothing, and holds of a vehicle that
+/// isn't there, of an edge that isn't there, and of an edge that isn't released.
+const MORE_SURPLUS: [&str; 9] = [
+    "INSERT INTO job VALUES ('J2', 'L1', 'A', 'C', 'waiting')",
+    "INSERT INTO job VALUES ('J2', 'L2', 'A', 'C', 'waiting')",
+    "INSERT INTO job VALUES ('J2', 'L9', 'A', 'C', 'done')",
+    "INSERT INTO trip VALUES ('R1', 'KIT', '0009', 'J2', 'N1', 0, 0, 0, NULL, 0, 0, 0, 'WAITING', 'WAITING')",
+    "INSERT INTO vehicle VALUES ('KIT', '0002', 'N2', NULL, NULL, NULL, NULL, 0, 0, 0, 0, 0, 0, NULL)",
+    "INSERT INTO vehicle VALUES ('KIT', '0002', 'N3', NULL, NULL, NULL, NULL, 0, 0, 0, 0, 0, 0, NULL)",
+    "INSERT INTO hold VALUES ('node', 'N3', 'KIT', '0009')",
+    "INSERT INTO hold VALUES ('edge', 'E9', 'KIT', '0001')",
+    "INSERT INTO hold VALUES ('edge', 'E23', 'KIT', '0001')",
+];
+
+/// There is a row too many.
+#[test]
+fn surplus(rt: HostRuntime) {
+    check_all_damaged(&rt, rt.alloc(), &SURPLUS);
+    check_all_damaged(&rt, rt.alloc(), &MORE_SURPLUS);
+}
+
+/// Rows that are told, each by itself, and are no lawful world together: a load that isn't where its trip has it, a trip for a
+/// job that is stopped, goes elsewhere or is another one, a pick that isn't finished, legs out of turn, an end of an edge and a place of a vehicle
+/// that are no nodes, a rest of a vehicle with a trip, an edge that another one holds.
+const CONFLICTS: [&str; 10] = [
+    "UPDATE load SET kind = 'checking', manufacturer = NULL, serial = NULL WHERE id = 'L1'",
+    "UPDATE job SET phase = 'stopped'",
+    "UPDATE job SET target = 'A'",
+    "UPDATE trip SET pick_status = 'WAITING'",
+    "UPDATE trip SET job = 'J9'",
+    "UPDATE leg SET edge = 'E32' WHERE k = 0",
+    "UPDATE edge SET start = 'N9' WHERE id = 'E32'",
+    "UPDATE vehicle SET node = 'N9'",
+    "UPDATE vehicle SET rest_edge = 'E12', rest_node = 'N2'",
+    "UPDATE hold SET serial = '0002' WHERE id = 'E12'",
+];
+
+/// Rows that don't fit together.
+#[test]
+fn conflicts(rt: HostRuntime) {
+    check_all_damaged(&rt, rt.alloc(), &CONFLICTS);
+}
+
+/// A table is missing, has another column or another rule, or a foreign key refers to one.
+const TABLES: [&str; 4] = [
+    "DROP TABLE used",
+    "DROP TABLE used; CREATE TABLE used (kind TEXT, id TEXT, PRIMARY KEY (kind, id))",
+    "DROP TABLE used; CREATE TABLE used (kind TEXT, id TEXT, at INTEGER, PRIMARY KEY (kind, id)) STRICT",
+    "CREATE TABLE other (a TEXT REFERENCES load (id))",
+];
+
+/// A table is missing or is another.
+#[test]
+fn other_tables(rt: HostRuntime) {
+    check_all_damaged(&rt, rt.alloc(), &TABLES);
 }

@@ -6,11 +6,14 @@
 //! - `strangers` asks of tables that anyone made whether they are a desk's, whether they leave room for a desk's, and
 //!   whether each row of them has a number of its own.
 //! - `asked` asks the desk's tables in a file with 1,000 loads and with 100,000.
-//! - `written` writes the changes of a worked example to the tables, on a disk and in a file too, and reads the rows back.
+//! - `written` has a desk serve a worked example, on a disk and in a file too, and reads the rows back.
 //! - `two_vehicles` does so with an example of two vehicles, of which one is cancelled on its way.
-//! - `damages` damages the rows of the worked example, and shows what is then told.
+//! - `damages` damages the database of the worked example in many ways: there is no desk then.
+//! - `kept_desks` changes it in lawful ways, and the desk is taken over.
+//! - `desks` makes, opens and adopts a desk, has it serve calls without a break, and asks and is refused.
+//! - `failing_stores` has a desk serve the worked example over files that fail from some call on.
 //! - `refused_changes` writes a list of changes of which SQL refuses one.
-//! - `table_cases` writes and reads the tables for these four.
+//! - `table_cases` makes and takes over desks, serves and reads for these, and `disks` has files in memory that fail.
 //! - `streams` serves the worked examples as bytes, which `examples` has: whole, in pieces, with a reader or a
 //!   writer of `fakes` that fails, and with input of other forms behind them.
 //! - `beginnings` shows which beginnings of a request are waited for and which are refused at once.
@@ -26,9 +29,17 @@ mod cases;
 #[cfg(test)]
 mod damages;
 #[cfg(test)]
+mod desks;
+#[cfg(test)]
+mod disks;
+#[cfg(test)]
 mod examples;
 #[cfg(test)]
+mod failing_stores;
+#[cfg(test)]
 mod fakes;
+#[cfg(test)]
+mod kept_desks;
 #[cfg(test)]
 mod loads;
 #[cfg(test)]

@@ -40,7 +40,7 @@ fn check_refused(rt: &impl Abort, alloc: Global) {
     let mut conn = Connection::open_in_memory(alloc).expect(rt, "memory");
     make(rt, &mut conn);
     let mut world = World::empty(alloc);
-    write_calls(rt, alloc, &mut world, &mut conn, PICKED);
+    let mut conn = write_calls(rt, alloc, &mut world, conn, PICKED);
     conn.execute(INDEX, &[]).expect(rt, INDEX);
     let decision = leaving(rt, alloc, &world);
     check_written(rt, &mut conn, &decision, Err(Fault::Storage));

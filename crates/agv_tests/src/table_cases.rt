@@ -1,11 +1,12 @@
-//! What examples on the desk's tables share: their calls are decided and written, and the rows are compared with texts, the
-//! world that is read of them with the one in memory, and who holds what with the answers of the floor.
+//! What examples on the desk's tables share: a desk is made or taken over and serves their calls, which are decided in memory
+//! too. The answers are compared, the rows with texts, the world that is read of them with the one in memory, and who holds
+//! what with the answers of the floor.
 
 use crate::cases::check;
-use agv_desk::{Call, Decision, decide};
+use agv_desk::{Answer, Call, Decision, decide};
 use agv_header::{Moment, Name, Thing, VehicleKey};
 use agv_http::{Routes, call_of};
-use agv_tables::changes::change_running::write_changes;
+use agv_store::Desk;
 use agv_tables::questions::layout_reading::ask_layout;
 use agv_tables::questions::trip_questions::ask_trip;
 use agv_tables::readings::world_reading::read_world;
@@ -74,32 +75,131 @@ pub(crate) fn call_in(rt: &impl Abort, alloc: Global, routes: &Routes, request: 
     call_of(alloc, &route, body.as_bytes()).expect(rt, target)
 }
 
-/// What the desk decides of a call, with room for one load on each vehicle.
-pub(crate) fn decided(rt: &impl Abort, alloc: Global, world: &World, call: &Call) -> Decision {
-    let at = Moment::of(MOMENT).expect(rt, "a moment");
-    let mut floor = PlainFloor::new(alloc, world, 1);
-    decide(alloc, &mut floor, at, call).expect(rt, "memory")
+/// The moment of all calls.
+pub(crate) fn moment(rt: &impl Abort) -> Moment {
+    Moment::of(MOMENT).expect(rt, "a moment")
 }
 
-/// Writes what the calls change, each in a transaction of its own, and reads the world after each.
-pub(crate) fn write_calls<S: Alter>(
+/// What the desk decides of a call, with room for one load on each vehicle.
+pub(crate) fn decided(rt: &impl Abort, alloc: Global, world: &World, call: &Call) -> Decision {
+    let mut floor = PlainFloor::new(alloc, world, 1);
+    decide(alloc, &mut floor, moment(rt), call).expect(rt, "memory")
+}
+
+/// A new desk.
+pub(crate) fn made<S: Alter + Drop>(
     rt: &impl Abort,
     alloc: Global,
-    world: &mut World,
-    conn: &mut Connection<S>,
+    conn: Connection<S>,
+) -> Desk<S> {
+    assert!(rt; conn.is_autocommit(), "idle");
+    match Desk::create(alloc, conn) {
+        Ok(desk) => desk,
+        Err(_) => panic!(rt; "a desk is made"),
+    }
+}
+
+/// The desk that a database has.
+pub(crate) fn adopted<S: Alter + Drop>(
+    rt: &impl Abort,
+    alloc: Global,
+    conn: Connection<S>,
+) -> Desk<S> {
+    assert!(rt; conn.is_autocommit(), "idle");
+    match Desk::adopt(alloc, conn) {
+        Ok(desk) => desk,
+        Err(_) => panic!(rt; "the desk is adopted"),
+    }
+}
+
+/// The desk that a database has, or a new one.
+pub(crate) fn opened<S: Alter + Drop>(
+    rt: &impl Abort,
+    alloc: Global,
+    conn: Connection<S>,
+) -> Desk<S> {
+    assert!(rt; conn.is_autocommit(), "idle");
+    match Desk::open(alloc, conn) {
+        Ok(desk) => desk,
+        Err(_) => panic!(rt; "the desk is opened"),
+    }
+}
+
+/// The desk serves the call, and answers this.
+pub(crate) fn check_served<S: Alter + Drop>(
+    rt: &impl Abort,
+    alloc: Global,
+    desk: &mut Desk<S>,
+    call: &Call,
+    wanted: &Answer,
+) {
+    let answer = desk.serve(moment(rt), call).expect(rt, "an answer");
+    check_same(rt, alloc, &answer, wanted);
+    check(rt, !desk.failed(), "the store works");
+}
+
+/// Serves the calls, whatever they are answered.
+pub(crate) fn serve_calls<S: Alter + Drop>(
+    rt: &impl Abort,
+    alloc: Global,
+    desk: &mut Desk<S>,
     requests: &[Request],
 ) {
     let routes = Routes::new(alloc).expect(rt, "memory");
     for request in requests {
         let call = call_in(rt, alloc, &routes, request);
-        let decision = decided(rt, alloc, world, &call);
-        check(rt, !decision.changes.as_slice().is_empty(), request.1);
-        let applied = world.apply(decision.changes.as_slice());
-        applied.expect(rt, "memory");
-        assert!(rt; conn.is_autocommit(), "idle");
-        write_changes(conn, decision.changes.as_slice()).expect(rt, request.1);
-        check_read(rt, alloc, world, conn);
+        desk.serve(moment(rt), &call).expect(rt, request.1);
     }
+}
+
+/// Decides a call that changes something, changes the world in memory, and gives the answer.
+pub(crate) fn answer_in_memory(
+    rt: &impl Abort,
+    alloc: Global,
+    world: &mut World,
+    call: &Call,
+    case: &str,
+) -> Answer {
+    let decision = decided(rt, alloc, world, call);
+    check(rt, !decision.changes.as_slice().is_empty(), case);
+    let applied = world.apply(decision.changes.as_slice());
+    applied.expect(rt, "memory");
+    decision.answer
+}
+
+/// Takes the desk over, which serves one call as it is served in memory, and reads the world.
+fn write_call<S: Alter + Drop>(
+    rt: &impl Abort,
+    alloc: Global,
+    world: &mut World,
+    conn: Connection<S>,
+    call: &Call,
+    case: &str,
+) -> Connection<S> {
+    let answer = answer_in_memory(rt, alloc, world, call, case);
+    let mut desk = adopted(rt, alloc, conn);
+    check_served(rt, alloc, &mut desk, call, &answer);
+    let mut conn = desk.release_conn();
+    check_read(rt, alloc, world, &mut conn);
+    conn
+}
+
+/// A desk serves each call, which changes something, and is released after it and adopted anew. The answers are compared with
+/// those in memory, and the world that is read after each call with the one in memory.
+pub(crate) fn write_calls<S: Alter + Drop>(
+    rt: &impl Abort,
+    alloc: Global,
+    world: &mut World,
+    conn: Connection<S>,
+    requests: &[Request],
+) -> Connection<S> {
+    let routes = Routes::new(alloc).expect(rt, "memory");
+    let mut conn = conn;
+    for request in requests {
+        let call = call_in(rt, alloc, &routes, request);
+        conn = write_call(rt, alloc, world, conn, &call, request.1);
+    }
+    conn
 }
 
 /// Appends a value.
@@ -128,6 +228,38 @@ fn put_row(rt: &impl Abort, alloc: Global, text: &mut String, table: &str, row: 
     text.push_str("\n").expect(rt, "memory");
 }
 
+/// Appends all rows of a table, or that it isn't there.
+fn put_table<S: Alter>(
+    rt: &impl Abort,
+    alloc: Global,
+    text: &mut String,
+    conn: &mut Connection<S>,
+    table: &str,
+    sql: &str,
+) {
+    let Ok(rows) = conn.query_all(sql, &[]) else {
+        let line = format!(in alloc; "no {table}\n").expect(rt, "memory");
+        text.push_str(line.as_str()).expect(rt, "memory");
+        return;
+    };
+    for row in &rows {
+        put_row(rt, alloc, text, table, row);
+    }
+}
+
+/// The rows of all tables, a line each.
+pub(crate) fn rows_text<S: Alter>(
+    rt: &impl Abort,
+    alloc: Global,
+    conn: &mut Connection<S>,
+) -> String {
+    let mut text = String::new(alloc);
+    for (table, sql) in &TABLES {
+        put_table(rt, alloc, &mut text, conn, table, sql);
+    }
+    text
+}
+
 /// Compares the rows of all tables with these.
 pub(crate) fn check_rows<S: Alter>(
     rt: &impl Abort,
@@ -135,17 +267,11 @@ pub(crate) fn check_rows<S: Alter>(
     conn: &mut Connection<S>,
     wanted: &str,
 ) {
-    let mut text = String::new(alloc);
-    for (table, sql) in &TABLES {
-        let rows = conn.query_all(sql, &[]).expect(rt, sql);
-        for row in &rows {
-            put_row(rt, alloc, &mut text, table, row);
-        }
-    }
+    let text = rows_text(rt, alloc, conn);
     check(rt, text.as_str() == wanted, text.as_str());
 }
 
-pub(crate) fn name(rt: &impl Abort, text: &str) -> Name {
+fn name(rt: &impl Abort, text: &str) -> Name {
     Name::read(text).expect(rt, text)
 }
 
@@ -157,14 +283,14 @@ fn vehicle(rt: &impl Abort, serial: &str) -> VehicleKey {
 }
 
 /// Compares two values by how they are printed.
-fn check_same(rt: &impl Abort, alloc: Global, found: &impl Debug, wanted: &impl Debug) {
+pub(crate) fn check_same(rt: &impl Abort, alloc: Global, found: &impl Debug, wanted: &impl Debug) {
     let found = format!(in alloc; "{found:?}").expect(rt, "memory");
     let wanted = format!(in alloc; "{wanted:?}").expect(rt, "memory");
     check(rt, found.as_str() == wanted.as_str(), found.as_str());
 }
 
 /// Whether a vehicle holds this in the table, and no other one or none, just where the floor answers so.
-pub(crate) fn is_held_as(
+fn is_held_as(
     rt: &impl Abort,
     floor: &mut PlainFloor<'_>,
     holds: &HoldTable,

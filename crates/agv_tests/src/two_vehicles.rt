@@ -1,7 +1,7 @@
-//! A worked example with two vehicles on the desk's tables: both have trips, and one is cancelled on its way and then holds the
+//! A worked example with two vehicles that a desk serves: both have trips, and one is cancelled on its way and then holds the
 //! next edge and node, until a person places it. The rows are written out by hand.
 
-use crate::table_cases::{LAYOUT, Request, check_rows, make, write_calls};
+use crate::table_cases::{LAYOUT, Request, check_rows, made, write_calls};
 use agv_world::World;
 use sqlite::Connection;
 use std::alloc::Global;
@@ -212,16 +212,16 @@ used ref R2
 used ref R3
 ";
 
-/// Writes the example, and compares the rows three times.
+/// Serves the example, and compares the rows three times.
 fn check_meeting(rt: &impl Abort, alloc: Global) {
-    let mut conn = Connection::open_in_memory(alloc).expect(rt, "memory");
-    make(rt, &mut conn);
+    let conn = Connection::open_in_memory(alloc).expect(rt, "memory");
+    let conn = made(rt, alloc, conn).release_conn();
     let mut world = World::empty(alloc);
-    write_calls(rt, alloc, &mut world, &mut conn, MEETING);
+    let mut conn = write_calls(rt, alloc, &mut world, conn, MEETING);
     check_rows(rt, alloc, &mut conn, MEETING_ROWS);
-    write_calls(rt, alloc, &mut world, &mut conn, CANCELLED);
+    let mut conn = write_calls(rt, alloc, &mut world, conn, CANCELLED);
     check_rows(rt, alloc, &mut conn, CANCELLED_ROWS);
-    write_calls(rt, alloc, &mut world, &mut conn, SET_RIGHT);
+    let mut conn = write_calls(rt, alloc, &mut world, conn, SET_RIGHT);
     check_rows(rt, alloc, &mut conn, SET_RIGHT_ROWS);
 }
 

@@ -1,18 +1,17 @@
-//! A worked example whose changes are written to the desk's tables, call by call, and read back with SQL: what the
-//! tables then hold is written out by hand.
+//! A worked example that a desk serves, call by call, and whose rows are read back with SQL: what the tables then hold is
+//! written out by hand.
 //!
-//! What is read of them as a world after each call is what the desk has in memory, with who holds what.
+//! Each answer, and what is read of the tables as a world after each call, is what is decided in memory, with who holds what.
 //!
 //! The database is new, or has another table and other indexes on the desk's tables, or has none of the desk's indexes; it is
 //! in memory, on a disk in memory or in a file, which are closed and opened again.
 
-ghost use Rattle.std.specs.Prelude.{IsTrue};
-ghost use Rattle.sqlite_disk.specs.Memory.{memory_is_usable};
-
-use crate::table_cases::{LAYOUT, Request, check_read, check_rows, make, write_calls};
+use crate::disks::{blank, close, open};
+use crate::table_cases::{
+    LAYOUT, Request, adopted, check_read, check_rows, made, opened, write_calls,
+};
 use agv_world::World;
-use sqlite::{Alter, Connection, FileStore, Files, Options};
-use sqlite_disk::Memory;
+use sqlite::{Alter, Connection};
 use std::alloc::Global;
 use std::process::Abort;
 
@@ -95,7 +94,7 @@ used ref R1
 ";
 
 /// The vehicle gets the rest of its way and drops the load at B; then a load comes to A with a job to C, which is taken back.
-const DROPPED: &[Request] = &[
+pub(crate) const DROPPED: &[Request] = &[
     (
         "POST",
         "/vehicles/KIT/0001/advance",
@@ -108,7 +107,7 @@ const DROPPED: &[Request] = &[
 ];
 
 /// The trip and its edges are gone, and the vehicle holds the node where it stands.
-const DROPPED_ROWS: &str = "meta 1 1
+pub(crate) const DROPPED_ROWS: &str = "meta 1 1
 node N1
 node N2
 node N3
@@ -131,20 +130,23 @@ used ref R1
 used ref R2
 ";
 
-/// Makes the tables beside what the first texts make, carries out the second texts, and writes the example.
+/// Carries out these texts.
+fn execute_all<S: Alter>(rt: &impl Abort, conn: &mut Connection<S>, texts: &[&str]) {
+    for text in texts {
+        conn.execute(text, &[]).expect(rt, text);
+    }
+}
+
+/// Makes a desk beside what the first texts make, carries out the second texts, and serves the example.
 fn check_beside(rt: &impl Abort, alloc: Global, before: &[&str], after: &[&str]) {
     let mut conn = Connection::open_in_memory(alloc).expect(rt, "memory");
-    for text in before {
-        conn.execute(text, &[]).expect(rt, text);
-    }
-    make(rt, &mut conn);
-    for text in after {
-        conn.execute(text, &[]).expect(rt, text);
-    }
+    execute_all(rt, &mut conn, before);
+    let mut conn = made(rt, alloc, conn).release_conn();
+    execute_all(rt, &mut conn, after);
     let mut world = World::empty(alloc);
-    write_calls(rt, alloc, &mut world, &mut conn, PICKED);
+    let mut conn = write_calls(rt, alloc, &mut world, conn, PICKED);
     check_rows(rt, alloc, &mut conn, PICKED_ROWS);
-    write_calls(rt, alloc, &mut world, &mut conn, DROPPED);
+    let mut conn = write_calls(rt, alloc, &mut world, conn, DROPPED);
     check_rows(rt, alloc, &mut conn, DROPPED_ROWS);
 }
 
@@ -180,99 +182,64 @@ fn without_indexes(rt: HostRuntime) {
     check_beside(&rt, rt.alloc(), &[], &after);
 }
 
-/// A database on a disk in memory.
-fn open(rt: &impl Abort, alloc: Global, files: Files<Memory>) -> Connection<FileStore<Memory>>
-    requires log { IsTrue (memory_is_usable files.log) }
-    requires db { IsTrue (memory_is_usable files.db) }
-{
-    match Connection::open_files(alloc, files, Options::new(7)) {
-        Ok(conn) => conn,
-        Err(_) => panic!(rt; "the files open"),
-    }
-}
-
-fn close(rt: &impl Abort, conn: Connection<FileStore<Memory>>) -> Files<Memory>
-    ensures log { IsTrue (memory_is_usable result.log) }
-    ensures db { IsTrue (memory_is_usable result.db) }
-{
-    match conn.close_files() {
-        Ok(files) => files,
-        Err(_) => panic!(rt; "the files close"),
-    }
-}
-
-/// On a disk, which is closed and opened again between the writes.
+/// On a disk, which is closed and opened again between the calls.
 #[test]
 fn on_a_disk(rt: HostRuntime) {
     let alloc = rt.alloc();
-    let files = Files {
-        log: Memory::new(alloc),
-        db: Memory::new(alloc),
-    };
-    let mut conn = open(&rt, alloc, files);
-    make(&rt, &mut conn);
-    let mut conn = open(&rt, alloc, close(&rt, conn));
+    let conn = open(&rt, alloc, blank(alloc, u64::MAX, u64::MAX));
+    let conn = made(&rt, alloc, conn).release_conn();
+    let conn = open(&rt, alloc, close(&rt, conn));
     let mut world = World::empty(alloc);
-    write_calls(&rt, alloc, &mut world, &mut conn, PICKED);
+    let conn = write_calls(&rt, alloc, &mut world, conn, PICKED);
     let mut conn = open(&rt, alloc, close(&rt, conn));
     check_rows(&rt, alloc, &mut conn, PICKED_ROWS);
-    write_calls(&rt, alloc, &mut world, &mut conn, DROPPED);
+    let conn = write_calls(&rt, alloc, &mut world, conn, DROPPED);
     let mut conn = open(&rt, alloc, close(&rt, conn));
     check_rows(&rt, alloc, &mut conn, DROPPED_ROWS);
 }
 
-/// Compares the rows, writes the calls and compares the rows again.
-fn check_part<S: Alter>(
+/// Compares the rows, has the calls served and compares the rows again.
+fn check_part<S: Alter + Drop>(
     rt: &impl Abort,
     alloc: Global,
     world: &mut World,
-    conn: &mut Connection<S>,
+    conn: Connection<S>,
     before: &str,
     requests: &[Request],
     after: &str,
 ) {
-    check_rows(rt, alloc, conn, before);
-    write_calls(rt, alloc, world, conn, requests);
-    check_rows(rt, alloc, conn, after);
+    let mut conn = opened(rt, alloc, conn).release_conn();
+    check_rows(rt, alloc, &mut conn, before);
+    let mut conn = write_calls(rt, alloc, world, conn, requests);
+    check_rows(rt, alloc, &mut conn, after);
 }
 
 /// The row of a new desk.
-const NO_ROWS: &str = "meta 1 1\n";
+pub(crate) const NO_ROWS: &str = "meta 1 1\n";
 
-/// In a file, which is closed and opened again between the writes.
+/// In a file, which is closed and opened again between the calls.
 #[test]
 fn in_a_file(rt: HostRuntime) {
     let alloc = rt.alloc();
     let mut world = World::empty(alloc);
     {
-        let mut conn = Connection::open(&rt, "written.db").expect(&rt, "a file");
-        make(&rt, &mut conn);
+        let conn = Connection::open(&rt, "written.db").expect(&rt, "a file");
+        check_part(&rt, alloc, &mut world, conn, NO_ROWS, PICKED, PICKED_ROWS);
     }
     {
-        let mut conn = Connection::open(&rt, "written.db").expect(&rt, "a file");
+        let conn = Connection::open(&rt, "written.db").expect(&rt, "a file");
         check_part(
             &rt,
             alloc,
             &mut world,
-            &mut conn,
-            NO_ROWS,
-            PICKED,
-            PICKED_ROWS,
-        );
-    }
-    {
-        let mut conn = Connection::open(&rt, "written.db").expect(&rt, "a file");
-        check_part(
-            &rt,
-            alloc,
-            &mut world,
-            &mut conn,
+            conn,
             PICKED_ROWS,
             DROPPED,
             DROPPED_ROWS,
         );
     }
-    let mut conn = Connection::open(&rt, "written.db").expect(&rt, "a file");
+    let conn = Connection::open(&rt, "written.db").expect(&rt, "a file");
+    let mut conn = adopted(&rt, alloc, conn).release_conn();
     check_rows(&rt, alloc, &mut conn, DROPPED_ROWS);
     check_read(&rt, alloc, &world, &mut conn);
 }

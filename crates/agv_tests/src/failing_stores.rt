@@ -1,0 +1,139 @@
+//! A desk whose store fails from some call of its files on: the call that it serves then is answered `Storage`, and so is each
+//! later one. Once the files are opened again the desk is there, with the rows before that call or after it.
+
+use crate::cases::check;
+use crate::disks::{FailingDisk, blank, reopen};
+use crate::table_cases::{
+    adopted, call_in, check_rows, made, moment, opened, rows_text, serve_calls,
+};
+use crate::written::{NO_ROWS, PICKED};
+use agv_desk::Answer;
+use agv_http::Routes;
+use agv_store::{Desk, OpenFault};
+use agv_world::Fault;
+use sqlite::{Alter, Connection, FileStore, MemStore, Options};
+use sqlite_disk::Disk;
+use std::alloc::Global;
+use std::process::Abort;
+
+type FailingStore = FileStore<FailingDisk>;
+
+/// The rows of a new desk, and those after each call of the example.
+fn all_rows(rt: &impl Abort, alloc: Global) -> Vec<String> {
+    let mut texts = Vec::new(alloc);
+    let conn: Connection<MemStore> = Connection::open_in_memory(alloc).expect(rt, "memory");
+    let mut conn = made(rt, alloc, conn).release_conn();
+    texts
+        .push(rows_text(rt, alloc, &mut conn))
+        .expect(rt, "memory");
+    for request in PICKED {
+        let mut desk = adopted(rt, alloc, conn);
+        serve_calls(rt, alloc, &mut desk, &[*request]);
+        conn = desk.release_conn();
+        texts
+            .push(rows_text(rt, alloc, &mut conn))
+            .expect(rt, "memory");
+    }
+    texts
+}
+
+/// How a call of the example ends.
+fn serve_at<S: Alter + Drop>(
+    rt: &impl Abort,
+    alloc: Global,
+    routes: &Routes,
+    desk: &mut Desk<S>,
+    at: usize,
+) -> Result<Answer, Fault> {
+    let call = call_in(rt, alloc, routes, &PICKED[at]);
+    desk.serve(moment(rt), &call)
+}
+
+/// Serves the example up to the first fault, and gives how many calls were answered.
+fn serve_until_it_fails<S: Alter + Drop>(
+    rt: &impl Abort,
+    alloc: Global,
+    desk: &mut Desk<S>,
+) -> usize {
+    let routes = Routes::new(alloc).expect(rt, "memory");
+    for at in 0..PICKED.len() {
+        let ended = serve_at(rt, alloc, &routes, desk, at);
+        check(rt, desk.failed() == ended.is_err(), "it has failed");
+        if let Err(why) = ended {
+            check(rt, why == Fault::Storage, "the store fails");
+            return at;
+        }
+    }
+    PICKED.len()
+}
+
+/// Each call is answered `Storage`.
+fn check_stays_failed<S: Alter + Drop>(rt: &impl Abort, alloc: Global, desk: &mut Desk<S>) {
+    let routes = Routes::new(alloc).expect(rt, "memory");
+    for at in 0..PICKED.len() {
+        let ended = serve_at(rt, alloc, &routes, desk, at);
+        check(rt, ended.err() == Some(Fault::Storage), "it fails again");
+        check(rt, desk.failed(), "it has failed still");
+    }
+}
+
+/// A new desk whose log or database file fails from this call on, unless it fails before.
+fn failing_desk(rt: &impl Abort, alloc: Global, log: u64, db: u64) -> Option<Desk<FailingStore>> {
+    let files = blank(alloc, log, db);
+    assert!(rt; files.log.may_be_used(), "the log");
+    assert!(rt; files.db.may_be_used(), "the database file");
+    let Ok(conn) = Connection::open_files(alloc, files, Options::new(7)) else {
+        return None;
+    };
+    assert!(rt; conn.is_autocommit(), "idle");
+    match Desk::create(alloc, conn) {
+        Ok(desk) => Some(desk),
+        Err((conn, why)) => {
+            check(rt, why == OpenFault::Storage, "the store fails");
+            let conn = reopen(rt, alloc, conn);
+            let mut conn = opened(rt, alloc, conn).release_conn();
+            check_rows(rt, alloc, &mut conn, NO_ROWS);
+            None
+        }
+    }
+}
+
+/// The rows of the desk that the files have.
+fn rows_left(rt: &impl Abort, alloc: Global, desk: Desk<FailingStore>) -> String {
+    let conn = reopen(rt, alloc, desk.release_conn());
+    let mut conn = adopted(rt, alloc, conn).release_conn();
+    rows_text(rt, alloc, &mut conn)
+}
+
+/// Serves the example by a desk whose store fails. It gives whether the whole example was answered.
+fn check_failing(rt: &impl Abort, alloc: Global, texts: &[String], log: u64, db: u64) -> bool {
+    let Some(mut desk) = failing_desk(rt, alloc, log, db) else {
+        return false;
+    };
+    let answered = serve_until_it_fails(rt, alloc, &mut desk);
+    let whole = answered == PICKED.len();
+    if !whole {
+        check_stays_failed(rt, alloc, &mut desk);
+    }
+    let rows = rows_left(rt, alloc, desk);
+    let before = texts.get(answered).is_some_and(|text| *text == rows);
+    let after = texts.get(answered + 1).is_some_and(|text| *text == rows);
+    check(rt, before || after, rows.as_str());
+    whole
+}
+
+/// The most calls of a file that the example may take.
+const MOST: u64 = 1000;
+
+/// The database file fails from each of its calls on.
+#[test]
+fn the_database_file_fails(rt: HostRuntime) {
+    let alloc = rt.alloc();
+    let texts = all_rows(&rt, alloc);
+    for calls in 0..MOST {
+        if check_failing(&rt, alloc, texts.as_slice(), u64::MAX, calls) {
+            return;
+        }
+    }
+    panic!(rt; "it never ends");
+}
