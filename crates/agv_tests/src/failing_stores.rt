@@ -4,7 +4,7 @@
 use crate::cases::check;
 use crate::disks::{FailingDisk, blank, reopen};
 use crate::table_cases::{
-    adopted, call_in, check_rows, made, moment, opened, rows_text, serve_calls,
+    Request, adopted, call_in, check_rows, made, moment, opened, rows_text, serve_calls,
 };
 use crate::written::{NO_ROWS, PICKED};
 use agv_desk::Answer;
@@ -43,9 +43,9 @@ fn serve_at<S: Alter + Drop>(
     alloc: Global,
     routes: &Routes,
     desk: &mut Desk<S>,
-    at: usize,
+    request: &Request,
 ) -> Result<Answer, Fault> {
-    let call = call_in(rt, alloc, routes, &PICKED[at]);
+    let call = call_in(rt, alloc, routes, request);
     desk.serve(moment(rt), &call)
 }
 
@@ -56,22 +56,24 @@ fn serve_until_it_fails<S: Alter + Drop>(
     desk: &mut Desk<S>,
 ) -> usize {
     let routes = Routes::new(alloc).expect(rt, "memory");
-    for at in 0..PICKED.len() {
-        let ended = serve_at(rt, alloc, &routes, desk, at);
+    let mut answered: usize = 0;
+    for request in PICKED {
+        let ended = serve_at(rt, alloc, &routes, desk, request);
         check(rt, desk.failed() == ended.is_err(), "it has failed");
         if let Err(why) = ended {
             check(rt, why == Fault::Storage, "the store fails");
-            return at;
+            return answered;
         }
+        answered = answered.saturating_add(1);
     }
-    PICKED.len()
+    answered
 }
 
 /// Each call is answered `Storage`.
 fn check_stays_failed<S: Alter + Drop>(rt: &impl Abort, alloc: Global, desk: &mut Desk<S>) {
     let routes = Routes::new(alloc).expect(rt, "memory");
-    for at in 0..PICKED.len() {
-        let ended = serve_at(rt, alloc, &routes, desk, at);
+    for request in PICKED {
+        let ended = serve_at(rt, alloc, &routes, desk, request);
         check(rt, ended.err() == Some(Fault::Storage), "it fails again");
         check(rt, desk.failed(), "it has failed still");
     }
@@ -117,7 +119,8 @@ fn check_failing(rt: &impl Abort, alloc: Global, texts: &[String], log: u64, db:
     }
     let rows = rows_left(rt, alloc, desk);
     let before = texts.get(answered).is_some_and(|text| *text == rows);
-    let after = texts.get(answered + 1).is_some_and(|text| *text == rows);
+    let then = answered.saturating_add(1);
+    let after = texts.get(then).is_some_and(|text| *text == rows);
     check(rt, before || after, rows.as_str());
     whole
 }
