@@ -25,18 +25,19 @@ use sqlite::{Alter, Connection};
 use std::alloc::Global;
 
 /// The nodes of the layout.
-pub(crate) fn ask_nodes<S: Alter>(
-    alloc: Global,
-    conn: &mut Connection<S>,
-) -> Result<Names, ReadingFault>
+///
+/// It fails as [`ReadingFault`] says.
+pub fn ask_nodes<S: Alter>(alloc: Global, conn: &mut Connection<S>) -> Result<Names, ReadingFault>
     ensures { TellsAll S.Store conn.old conn.new result (λ world table. table ≡ world.layout.nodes) (λ lists table. IsPermutation (table_at (place_of the.Node) lists) (rows_for node_columns table)) }
 {
     let rows = ask_all_rows(conn, TableName::Node)?;
     nodes_in_rows(alloc, rows.as_slice())
 }
 
-/// The edges of the layout.
-pub(crate) fn ask_edges<S: Alter>(
+/// The edges of the layout, each by its name, with the nodes that it joins.
+///
+/// It fails as [`ReadingFault`] says.
+pub fn ask_edges<S: Alter>(
     alloc: Global,
     conn: &mut Connection<S>,
 ) -> Result<ByName<Ends>, ReadingFault>
@@ -46,8 +47,10 @@ pub(crate) fn ask_edges<S: Alter>(
     edges_in_rows(alloc, rows.as_slice())
 }
 
-/// The stations of the layout.
-pub(crate) fn ask_stations<S: Alter>(
+/// The stations of the layout, each by its name, with its node and how many loads it takes.
+///
+/// It fails as [`ReadingFault`] says.
+pub fn ask_stations<S: Alter>(
     alloc: Global,
     conn: &mut Connection<S>,
 ) -> Result<ByName<Spot>, ReadingFault>
@@ -57,8 +60,10 @@ pub(crate) fn ask_stations<S: Alter>(
     stations_in_rows(alloc, rows.as_slice())
 }
 
-/// The vehicles, but for their open trips.
-pub(crate) fn ask_vehicles<S: Alter>(
+/// The vehicles, each by its maker and its serial number, but for their open trips.
+///
+/// It fails as [`ReadingFault`] says.
+pub fn ask_vehicles<S: Alter>(
     alloc: Global,
     conn: &mut Connection<S>,
 ) -> Result<ByVehicle<VehicleRow>, ReadingFault>
@@ -80,8 +85,10 @@ pub(crate) fn ask_legs<S: Alter>(
     legs_in_rows(alloc, rows.as_slice())
 }
 
-/// The place of each load.
-pub(crate) fn ask_places<S: Alter>(
+/// The place of each load, by the name of the load.
+///
+/// It fails as [`ReadingFault`] says.
+pub fn ask_places<S: Alter>(
     alloc: Global,
     conn: &mut Connection<S>,
 ) -> Result<ByName<Place>, ReadingFault>
