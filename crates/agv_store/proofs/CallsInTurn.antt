@@ -19,7 +19,6 @@ use Rattle.agv_tables.specs.schema.NewDesk.{TreesTellSchemas}
 use Rattle.agv_tables.specs.schema.SchemaNumbers.{desk_seats}
 use Rattle.agv_tables.specs.sql.Connections.{IsClean, IsOpen}
 use Rattle.agv_tables.proofs.sql.Later.{later_by}
-use Rattle.agv_tables.proofs.statements.DeskStatements.{keeps_others_as_is, keeps_others_then}
 use Rattle.agv_store.specs.Floors.{Keyed, Knows, world_at}
 use Rattle.agv_store.specs.Ran.{IsRun, LeavesLast, world_till}
 use Rattle.agv_store.specs.Served.{FoundIn, IsServedBy, LeavesAll, LeavesCall, world_after}
@@ -32,6 +31,12 @@ WorldsInTurn = (seats : ℕ) (world : World) (calls others : List (ℕ × Call))
 
 abbrev pub AnswersInTurn : Type 0
 AnswersInTurn = (seats : ℕ) (world : World) (calls others : List (ℕ × Call)) → answers seats world (calls ++ others) ≡ (answers seats world calls ++ answers seats (steps seats world calls) others)
+
+abbrev pub OthersStay : Type 0
+OthersStay = (desk : Placing) (db : Database) → KeepsOthers desk db db
+
+abbrev pub OthersStayOn : Type 0
+OthersStayOn = (desk : Placing) (old mid new : Database) → KeepsOthers desk old mid → KeepsOthers desk mid new → KeepsOthers desk old new
 
 -- ---- one call more
 
@@ -67,8 +72,8 @@ module _ {S : Type 0} (g : Ghosts S) where
 
   -- ---- no call yet
 
-  none_served : (old : Keyed S) (calls : List (ℕ × Call)) → (IsClean g old.held → IsOpen g old.held → Knows g old.held (world_at g old.held)) → HasServed old old calls []
-  none_served old calls knows = record {
+  none_served : OthersStay → (old : Keyed S) (calls : List (ℕ × Call)) → (IsClean g old.held → IsOpen g old.held → Knows g old.held (world_at g old.held)) → HasServed old old calls []
+  none_served stay old calls knows = record {
     clean = λ is. is;
     failed = refl;
     works = λ none. absurd (omega (arith, none));
@@ -78,11 +83,11 @@ module _ {S : Type 0} (g : Ghosts S) where
     knew = knows;
     knows = knows;
     still = λ _ knew. knew;
-    others = λ _ desk is has. keeps_others_as_is desk (state g old.held).now;
+    others = λ _ desk is has. stay desk (state g old.held).now;
   }
 
-  pub served_none : (old : Keyed S) (calls : List (ℕ × Call)) (given : List Answer) → given ≡ [] → (IsClean g old.held → IsOpen g old.held → Knows g old.held (world_at g old.held)) → HasServed old old calls given
-  served_none old calls given empty knows = subst (λ (list : List Answer). HasServed old old calls list) (sym empty) (none_served old calls knows)
+  pub served_none : OthersStay → (old : Keyed S) (calls : List (ℕ × Call)) (given : List Answer) → given ≡ [] → (IsClean g old.held → IsOpen g old.held → Knows g old.held (world_at g old.held)) → HasServed old old calls given
+  served_none stay old calls given empty knows = subst (λ (list : List Answer). HasServed old old calls list) (sym empty) (none_served stay old calls knows)
 
   clean_before : (old new : Held S) {Commits : Trees → Type 0} → Survives (state g old) (state g new) Commits → IsClean g new → IsClean g old
   clean_before old new survives = (later_by g old new survives).clean
@@ -105,7 +110,7 @@ module _ {S : Type 0} (g : Ghosts S) where
     start = world_at g old.held
 
     -- it is answered
-    module _ (tells : DatabaseTells) (worlds_turn : WorldsInTurn) (answers_turn : AnswersInTurn) (answer : Answer)
+    module _ (tells : DatabaseTells) (stay_on : OthersStayOn) (worlds_turn : WorldsInTurn) (answers_turn : AnswersInTurn) (answer : Answer)
         (knew : IsClean g new.held → Knows g mid.held (world_at g mid.held))
         (serves : IsClean g new.held → IsServedBy g mid.held new.held made.0 made.1 answer)
         (works : new.failed ≡ false) (fails : mid.failed ≡ true → new.failed ≡ true) where
@@ -143,7 +148,7 @@ module _ {S : Type 0} (g : Ghosts S) where
         still = λ clean _. knows_now clean;
         others = λ clean desk is has.
             let before = so_far.others (clean_mid clean) desk is has in
-            keeps_others_then desk (state g old.held).now (state g mid.held).now (state g new.held).now before
+            stay_on desk (state g old.held).now (state g mid.held).now (state g new.held).now before
             ((serves clean).others desk is (before.schema_is ∙ has));
       }
 

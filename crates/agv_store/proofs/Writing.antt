@@ -27,7 +27,6 @@ use Rattle.agv_tables.specs.schema.SchemaNumbers.{desk_seats}
 use Rattle.agv_tables.specs.sql.Connections.{IsClean, IsOpen}
 use Rattle.agv_tables.specs.declared.loads.fault.Fault.{Fault as WriteFault}
 use Rattle.agv_tables.specs.declared.loads.fault.Fault.TheVariants as write
-use Rattle.agv_tables.proofs.changes.ChangesRun.{worlds_changed}
 use Rattle.agv_tables.proofs.sql.Later.{later_by}
 use Rattle.agv_store.specs.Counts.{count_in}
 use Rattle.agv_store.specs.Flags.{doubted_by, failed_by, noted, read_as}
@@ -54,6 +53,9 @@ write_done (Err write.Storage) is = absurd (cc is)
 abbrev pub DatabaseTells : Type 0
 DatabaseTells = (desk : Placing) (db : Database) (world : World) → HasWorld desk db world → world_in db ≡ world
 
+abbrev pub MakesNextWorld : Type 0
+MakesNextWorld = (changes : List Change) (old new : Database) → MakesChanges changes old new → ChangesWorlds changes old new
+
 abbrev pub CountsFollow : Type 0
 CountsFollow = (seats : ℕ) (world : World) (at : ℕ) (call : Call) (what : Counted) → HasLawfulLoads world
     → count_of (after world (step seats world at call)) what ≡ count_of world what + added call (answer_of (step seats world at call)) what
@@ -61,10 +63,10 @@ CountsFollow = (seats : ℕ) (world : World) (at : ℕ) (call : Call) (what : Co
 abbrev pub AddsBelow : Type 0
 AddsBelow = (seats : ℕ) (world : World) (at : ℕ) (call : Call) (what : Counted) → added call (answer_of (step seats world at call)) what ≢ 0 → count_of world what < limit_of what
 
--- the clauses of a write
+-- the clauses of a write, and the law of what its changes make of a world
 pub record IsWritten {S : Type 0} (g : Ghosts S) (old new : Held S) (changes : List Change) (r : Result (Unit {0}) WriteFault) : Type 0 where
   pub made : IsClean g new → OnOk r (MakesChanges changes (state g old).now (state g new).committed)
-  pub worlds : IsClean g new → OnOk r (ChangesWorlds changes (state g old).now (state g new).committed)
+  pub worlds : MakesNextWorld
   pub same : IsClean g new → OnOk r ((state g new).now ≡ (state g new).committed)
   pub opened : IsClean g new → OnOk r (IsTrue (state g old).is_open × IsTrue (state g new).is_open)
   pub was_open : IsClean g new → IsTrue (state g new).is_open → IsTrue (state g old).is_open
@@ -111,7 +113,7 @@ module _ {S : Type 0} (g : Ghosts S) (law : DatabaseTells) where
             lawful = (decides (clean_old clean)).lawful;
             rows = subst (λ (db : Database). Holds was.at db (row_lists (rows_of next))) (sym same)
                 (subst (λ (rows : Rows). Holds was.at (state g new).committed (row_lists rows)) (rows_next clean)
-                (on_ok ok (writes.worlds clean) was.at was.has.stands (rows_of (world_at g old)) was.has.rows));
+                (writes.worlds changes (state g old).now (state g new).committed made was.at was.has.stands (rows_of (world_at g old)) was.has.rows));
           };
         }
 
@@ -200,7 +202,7 @@ module _ {S : Type 0} (g : Ghosts S) (law : DatabaseTells) where
               stands = was.has.stands;
               lawful = (decides (clean_old clean)).lawful;
               rows = subst (λ (rows : Rows). Holds was.at db (row_lists rows)) (rows_next clean)
-                  (worlds_changed changes (state g old).now db made was.at was.has.stands (rows_of (world_at g old)) was.has.rows);
+                  (writes.worlds changes (state g old).now db made was.at was.has.stands (rows_of (world_at g old)) was.has.rows);
             },
           );
           others = made.others;

@@ -8,6 +8,7 @@ use crate::desk::Desk;
 use agv_desk::laws::serves_in_turn;
 use agv_desk::{Answer, Call};
 use agv_header::Moment;
+use agv_tables::changes::change_laws::other_tables_stay;
 use agv_tables::readings::world_laws::a_database_tells_its_world;
 use agv_tables::schema::making_laws::trees_tell_schemas;
 use agv_world::Fault;
@@ -39,6 +40,7 @@ impl<S: Alter + Drop> Desk<S> {
     {
         serves_in_turn();
         a_database_tells_its_world();
+        other_tables_stay();
         trees_tell_schemas();
         self.knows();
         let room = Vec::with_capacity(alloc, calls.len());

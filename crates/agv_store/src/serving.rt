@@ -18,6 +18,7 @@ use agv_desk::count_laws::{adds_below_the_limit, counts_follow};
 use agv_desk::lawful_laws::{keeps_lawful, serves_lawful_worlds};
 use agv_desk::{Answer, Call, Decision, counted_by, decide};
 use agv_header::Moment;
+use agv_tables::changes::change_laws::changes_make_the_next_world;
 use agv_tables::changes::change_running::write_changes;
 use agv_tables::readings::world_laws::a_database_tells_its_world;
 use agv_world::Fault;
@@ -55,6 +56,7 @@ impl<S: Alter + Drop> KeyedFloor<S> {
         ensures ends { EndsAs result self.new.failed }
     {
         a_database_tells_its_world();
+        changes_make_the_next_world();
         counts_follow();
         adds_below_the_limit();
         let written = write_changes(&mut self.conn, decision.changes.as_slice());

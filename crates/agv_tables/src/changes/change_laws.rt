@@ -1,13 +1,27 @@
-//! Laws of a list of changes: what an opening after a crash finds. The function does nothing: its clauses are the law.
+//! Laws of a list of changes: what it makes of a world, what becomes of the other tables, and what an opening after a
+//! crash finds. Each function does nothing: its clauses are the law.
 ghost use Rattle.std.specs.Prelude.{◌≡◌, ◌⊎◌, List};
 ghost use Rattle.sqlite_value.specs.Order.{Row};
 ghost use Rattle.sqlite.specs.Effect.{Database, IsDatabase};
 ghost use Rattle.agv_world.specs.Changes.{changed};
 ghost use Rattle.agv_world.specs.Rows.{Rows};
 ghost use Rattle.agv_world.specs.declared.change.Change.{Change};
-ghost use Rattle.agv_tables.specs.changes.ChangesMade.{MakesChanges, MayFind};
-ghost use Rattle.agv_tables.specs.rows.DeskRows.{Placing, Holds, IsDesk};
+ghost use Rattle.agv_tables.specs.changes.ChangesMade.{ChangesWorlds, MakesChanges, MayFind};
+ghost use Rattle.agv_tables.specs.rows.DeskRows.{Placing, Holds, IsDesk, KeepsOthers};
 ghost use Rattle.agv_tables.specs.rows.RowLists.{listed_all, row_lists};
+
+/// Where the desk's tables had the rows of a world, a list of changes that is made in them leaves the rows of the world
+/// after all of them.
+pub fn changes_make_the_next_world()
+    ensures { (changes : List Change) (old new : Database) → MakesChanges changes old new → ChangesWorlds changes old new }
+{}
+
+/// The other tables are as they were where nothing is done (`same`), and after two steps that both leave them so
+/// (`next`): so after any number of lists of changes.
+pub fn other_tables_stay()
+    ensures same { (desk : Placing) (db : Database) → KeepsOthers desk db db }
+    ensures next { (desk : Placing) (old mid new : Database) → KeepsOthers desk old mid → KeepsOthers desk mid new → KeepsOthers desk old new }
+{}
 
 /// After a crash of a list of changes an opening finds the rows from before it or those after all of it, and the
 /// other tables as they were (`either`). That the trees before it list their schema (`IsDatabase`) a caller has of

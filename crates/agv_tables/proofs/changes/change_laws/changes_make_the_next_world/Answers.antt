@@ -1,0 +1,5 @@
+use Rattle.agv_tables.proofs.changes.ChangesRun.{worlds_changed}
+use Rattle.agv_tables.proofs.changes.change_laws.changes_make_the_next_world.Goals as goal
+
+pub returns : goal.returns
+returns c = worlds_changed
