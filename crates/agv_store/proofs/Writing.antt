@@ -25,8 +25,8 @@ use Rattle.agv_tables.specs.rows.DeskRows.{Holds, KeepsOthers, Placing}
 use Rattle.agv_tables.specs.rows.RowLists.{row_lists}
 use Rattle.agv_tables.specs.schema.SchemaNumbers.{desk_seats}
 use Rattle.agv_tables.specs.sql.Connections.{IsClean, IsOpen}
-use Rattle.agv_tables.specs.declared.loads.fault.Fault.{Fault as WriteFault}
-use Rattle.agv_tables.specs.declared.loads.fault.Fault.TheVariants as write
+use Rattle.agv_tables.specs.declared.changes.write_fault.WriteFault.{WriteFault}
+use Rattle.agv_tables.specs.declared.changes.write_fault.WriteFault.TheVariants as write
 use Rattle.agv_tables.proofs.sql.Later.{later_by}
 use Rattle.agv_store.specs.Counts.{count_in}
 use Rattle.agv_store.specs.Flags.{doubted_by, failed_by, noted, read_as}

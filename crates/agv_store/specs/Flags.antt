@@ -2,8 +2,8 @@
 use Rattle.std.specs.Prelude.{◌≡◌, Bool, true, false, Result, Ok, Err}
 use Rattle.agv_world.specs.declared.fault.Fault.{Fault}
 use Rattle.agv_world.specs.declared.fault.Fault.TheVariants as machine
-use Rattle.agv_tables.specs.questions.ReadingFault.{of_machine}
-use Rattle.agv_tables.specs.declared.loads.fault.Fault.{Fault as WriteFault}
+use Rattle.agv_tables.specs.declared.changes.write_fault.WriteFault.{WriteFault}
+use Rattle.agv_tables.specs.declared.changes.write_fault.WriteFault.TheVariants as write
 use Rattle.agv_tables.specs.declared.questions.reading_fault.ReadingFault.{ReadingFault}
 use Rattle.agv_tables.specs.declared.questions.reading_fault.ReadingFault.TheVariants as fault
 
@@ -31,7 +31,8 @@ doubted_by (Err fault.Damaged) before = before
 -- how a write ends, as a question would
 abbrev pub read_as : {A : Type 0} → Result A WriteFault → Result A ReadingFault
 read_as (Ok done) = Ok done
-read_as (Err why) = Err (of_machine why)
+read_as (Err write.Memory) = Err fault.Memory
+read_as (Err write.Storage) = Err fault.Storage
 
 -- a call ends with a fault of the store exactly where the store has failed as it ends
 abbrev pub EndsAs : {A : Type 0} → Result A Fault → Bool → Type 0

@@ -2,7 +2,7 @@
 ghost use Rattle.std.specs.Prelude.{◌≡◌};
 ghost use Rattle.agv_store.specs.Flags.{doubted_by, failed_by, noted, read_as};
 
-use agv_tables::ReadingFault;
+use agv_tables::{ReadingFault, WriteFault};
 use agv_world::Fault;
 
 // How a question ends, for who asks a floor. A fault of the store is noted, and so is want of memory: it may have shut the store.
@@ -29,12 +29,12 @@ pub(crate) fn note<T>(
 }
 
 // How a write ends, as a question would.
-pub(crate) fn read_as(written: Result<(), agv_tables::Fault>) -> Result<(), ReadingFault>
+pub(crate) fn read_as(written: Result<(), WriteFault>) -> Result<(), ReadingFault>
     ensures { result ≡ read_as written }
 {
     match written {
         Ok(()) => Ok(()),
-        Err(agv_tables::Fault::Memory) => Err(ReadingFault::Memory),
-        Err(agv_tables::Fault::Storage) => Err(ReadingFault::Storage),
+        Err(WriteFault::Memory) => Err(ReadingFault::Memory),
+        Err(WriteFault::Storage) => Err(ReadingFault::Storage),
     }
 }

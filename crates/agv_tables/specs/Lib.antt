@@ -1,5 +1,4 @@
 pub mod changes
-pub mod loads
 pub mod questions
 pub mod readings
 pub mod rows

@@ -1,1 +1,2 @@
 pub mod ChangesMade
+pub mod WriteFaults

@@ -5,3 +5,4 @@ pub mod change_laws;
 pub mod change_running;
 pub(crate) mod change_writes;
 pub(crate) mod hold_rows;
+pub(crate) mod write_fault;

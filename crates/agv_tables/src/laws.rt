@@ -7,8 +7,8 @@ ghost use Rattle.agv_tables.specs.sql.Connections.{HasStorageCause, IsClean, IsL
 
 use sqlite::Alter;
 
-/// A store in memory is always clean, and nothing shuts it: it is open at each later moment, as the clause
-/// `later` of a call has it. So over memory each answer is exact, and a fault leaves the loads as they were.
+/// A store in memory is always clean, and nothing shuts it: it is open at each later moment (`IsLater`). So over memory
+/// each answer is exact.
 pub fn memory_is_clean_and_open()
     ensures clean { (held : Held MemStore) → IsClean over_memory held }
     ensures stays_open { (old new : Held MemStore) → IsLater over_memory old new

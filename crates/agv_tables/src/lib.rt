@@ -7,7 +7,6 @@
 //! - [`changes`]: what a call changes is written in one transaction.
 //! - [`questions`]: what a floor is asked is asked of the tables, by keys and indexes.
 //! - [`readings`]: whole tables are read, for the world that they tell and what is held.
-//! - [`loads`]: the loads alone, in one table, for a program that serves two calls.
 //!
 //! What holds of a connection and of the next moment is `specs/sql/Connections.antt`; [`laws`] has what follows. What a
 //! database has is stated for a clean store: one whose disk has so far given back what was written to it. A store
@@ -16,15 +15,13 @@
 
 pub mod changes;
 pub mod laws;
-pub mod loads;
 pub mod questions;
 pub mod readings;
 pub mod rows;
 pub mod schema;
 pub mod statements;
 
-pub use loads::Loads;
-pub use loads::fault::Fault;
+pub use changes::write_fault::WriteFault;
 pub use questions::reading_fault::ReadingFault;
 pub use readings::held_things::HeldThings;
 pub use rows::rows_by::RowsBy;

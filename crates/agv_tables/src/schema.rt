@@ -7,7 +7,6 @@
 //! - `standing_tables` tells of a schema that anyone made whether the desk's tables stand in it
 //!   (`specs/schema/TablesStand.antt`), and `table_room` whether they can be made beside the tables that are there.
 
-pub mod desk_law;
 pub mod desk_tables;
 pub(crate) mod making_fault;
 pub mod making_laws;

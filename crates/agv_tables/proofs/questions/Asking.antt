@@ -1,5 +1,5 @@
 -- Questions to the tables: one alone, one after the other, and what is told of the answer.
-use Rattle.std.proofs.Common.{◌≡◌, ◌⊎◌, false, List, Ok, Err, Result, IsPermutation, Vec, Global, inl, refl, sym, subst, ◌∙◌, arith}
+use Rattle.std.proofs.Common.{◌≡◌, ◌⊎◌, Bool, true, false, cond, List, Ok, Err, Result, IsPermutation, Vec, Global, inl, refl, sym, subst, ◌∙◌, arith}
 use Rattle.std.specs.Result.{IsErrAnd}
 use Rattle.sqlite_value.specs.Order.{Row}
 use Rattle.sqlite_trees.specs.declared.store.Store.{Ghosts}
@@ -12,14 +12,12 @@ use Rattle.agv_world.specs.Lawful.{IsLawful}
 use Rattle.agv_world.specs.Rows.{rows_of}
 use Rattle.agv_world.specs.Worlds.{World}
 use Rattle.agv_tables.specs.rows.DeskRows.{Answers, Placing, Holds, IsDesk}
-use Rattle.agv_tables.specs.loads.Fault.{IsOfStore, fault_of}
+use Rattle.agv_tables.specs.sql.Errors.{IsOfStore, is_of_store}
 use Rattle.agv_tables.specs.sql.Connections.{HasStorageCause}
-use Rattle.agv_tables.specs.questions.ReadingFault.{of_machine, reading_fault_of}
+use Rattle.agv_tables.specs.questions.ReadingFault.{reading_fault_of}
 use Rattle.agv_tables.specs.rows.RowLists.{row_lists}
 use Rattle.agv_tables.specs.schema.SchemaNumbers.{desk_seats}
 use Rattle.agv_tables.specs.questions.WorldAnswers.{HasWorld, Tells}
-use Rattle.agv_tables.specs.declared.loads.fault.Fault.{Fault}
-use Rattle.agv_tables.specs.declared.loads.fault.Fault.TheVariants as machine
 use Rattle.agv_tables.specs.declared.questions.reading_fault.ReadingFault.{ReadingFault}
 use Rattle.agv_tables.specs.declared.questions.reading_fault.ReadingFault.TheVariants as fault
 use Rattle.agv_tables.proofs.sql.Later.{later_by, fault_later}
@@ -35,13 +33,13 @@ world_then desk a b world same has = subst (λ (db : Database). HasWorld desk db
 
 -- ---- errors
 
-storage_of : (why : Fault) → of_machine why ≡ fault.Storage → why ≡ machine.Storage
-storage_of machine.Memory is = absurd (cc is)
-storage_of machine.Storage is = refl
+pub storage_of : (b : Bool) → cond b fault.Storage fault.Memory ≡ fault.Storage → b ≡ true
+storage_of true is = refl
+storage_of false is = absurd (cc is)
 
-sound_of : (why : Fault) → ¬ (of_machine why ≡ fault.Damaged)
-sound_of machine.Memory is = cc is
-sound_of machine.Storage is = cc is
+pub sound_of : (b : Bool) → ¬ (cond b fault.Storage fault.Memory ≡ fault.Damaged)
+sound_of true is = cc is
+sound_of false is = cc is
 
 -- ---- one question
 
@@ -70,9 +68,9 @@ module _ {S : Type 0} (g : Ghosts S) (old new : Held S) where
     kept = λ _. tt;
     answering = λ _. tt;
     idle = at_rest;
-    damaged = λ _ broken. absurd (sound_of (fault_of e) (sym is ∙ broken));
+    damaged = λ _ broken. absurd (sound_of (is_of_store e) (sym is ∙ broken));
     failed = failed;
-    caused = λ clean stored desk world has. why clean (storage_of (fault_of e) (sym is ∙ stored)) desk has.stands has.rows.schema_is;
+    caused = λ clean stored desk world has. why clean (storage_of (is_of_store e) (sym is ∙ stored)) desk has.stands has.rows.schema_is;
     survives = saved;
   }
 

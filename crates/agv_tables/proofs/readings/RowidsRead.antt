@@ -9,7 +9,7 @@ use Rattle.sqlite.specs.declared.error.Error.{Error}
 use Rattle.sqlite.specs.State.{FailsToQuery, State, Shown}
 use Rattle.sqlite.proofs.Callers.{reads_as}
 use Rattle.agv_tables.specs.rows.DeskRows.{IsDesk, Placing}
-use Rattle.agv_tables.specs.loads.Fault.{IsOfStore}
+use Rattle.agv_tables.specs.sql.Errors.{IsOfStore}
 use Rattle.agv_tables.specs.readings.Rowids.{ShowRowids, rowids_text}
 use Rattle.agv_tables.specs.declared.schema.table_name.TableName.{TableName}
 use Rattle.agv_tables.proofs.schema.DeskPlaces.{is_in}

@@ -1,5 +1,5 @@
 -- What is told of the rowids of one table, and of several in turn.
-use Rattle.std.proofs.Common.{◌≡◌, ◌⊎◌, ◌↔◌, ◌∙◌, Bool, true, false, List, [], ◌∷◌, Result, Ok, Err, IsTrue, refl, sym, subst, arith, ℕ, ap}
+use Rattle.std.proofs.Common.{◌≡◌, ◌⊎◌, ◌↔◌, ◌∙◌, Bool, true, false, List, [], ◌∷◌, Result, Ok, Err, IsTrue, sym, subst, arith, ℕ, ap}
 use Rattle.std.specs.List.{AllByRecursion, AllZip}
 use Rattle.std.specs.Result.{IsErrAnd}
 use Rattle.sqlite_value.specs.Order.{Row}
@@ -12,28 +12,19 @@ use Rattle.sqlite.specs.State.{HasCleanDisk, IsUnchanged, IsRolledBack, Survives
 use Rattle.sqlite.proofs.StateLemmas.{survives_then}
 use Rattle.agv_world.specs.Rows.{rows_of}
 use Rattle.agv_tables.specs.rows.DeskRows.{AreKeyed, HaveRows, IsDesk, Placing, table_names, width_of}
-use Rattle.agv_tables.specs.loads.Fault.{IsOfStore, fault_of}
+use Rattle.agv_tables.specs.sql.Errors.{IsOfStore, is_of_store}
 use Rattle.agv_tables.specs.sql.Connections.{HasStorageCause}
-use Rattle.agv_tables.specs.questions.ReadingFault.{of_machine, reading_fault_of}
+use Rattle.agv_tables.specs.questions.ReadingFault.{reading_fault_of}
 use Rattle.agv_tables.specs.rows.RowLists.{row_lists}
 use Rattle.agv_tables.specs.readings.Rowids.{AreTablesKeyed, ShowRowids, TellsKeyed}
 use Rattle.agv_tables.specs.questions.WorldAnswers.{Tells}
-use Rattle.agv_tables.specs.declared.loads.fault.Fault.{Fault}
-use Rattle.agv_tables.specs.declared.loads.fault.Fault.TheVariants as machine
 use Rattle.agv_tables.specs.declared.questions.reading_fault.ReadingFault.{ReadingFault}
 use Rattle.agv_tables.specs.declared.questions.reading_fault.ReadingFault.TheVariants as fault
 use Rattle.agv_tables.specs.declared.schema.table_name.TableName.{TableName}
+use Rattle.agv_tables.proofs.questions.Asking.{sound_of, storage_of}
 use Rattle.agv_tables.proofs.sql.Later.{fault_later, later_by}
 use Rattle.agv_tables.proofs.readings.RowidsKeyed.{keyed_alike}
 use Rattle.agv_tables.proofs.sql.StatesThen.{failed_then, unchanged_then}
-
-storage_of : (why : Fault) → of_machine why ≡ fault.Storage → why ≡ machine.Storage
-storage_of machine.Memory is = absurd (cc is)
-storage_of machine.Storage is = refl
-
-sound_of : (why : Fault) → ¬ (of_machine why ≡ fault.Damaged)
-sound_of machine.Memory is = cc is
-sound_of machine.Storage is = cc is
 
 module _ {S : Type 0} (g : Ghosts S) (old : Held S) where
   -- ---- one table
@@ -47,8 +38,8 @@ module _ {S : Type 0} (g : Ghosts S) (old : Held S) where
       told = λ _. tt;
       kept = λ _. tt;
       failed = failed;
-      caused = λ clean stored. why clean (storage_of (fault_of e) (sym is ∙ stored));
-      sound = λ damaged. let same : f ≡ fault.Damaged = cc in sound_of (fault_of e) (sym is ∙ same);
+      caused = λ clean stored. why clean (storage_of (is_of_store e) (sym is ∙ stored));
+      sound = λ damaged. let same : f ≡ fault.Damaged = cc in sound_of (is_of_store e) (sym is ∙ same);
       idle = idle;
       survives = survives;
     }

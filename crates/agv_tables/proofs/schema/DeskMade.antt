@@ -16,7 +16,7 @@ use Rattle.sqlite.specs.Effect.{Database}
 use Rattle.agv_tables.specs.schema.Schema.{meta_table, desk_tables, desk_indexes}
 use Rattle.agv_tables.specs.schema.SchemaTexts.{table_texts, index_texts, meta_text, making_steps}
 use Rattle.agv_tables.specs.schema.DeskSchema.{is_name_taken, with_new_table, with_new_index}
-use Rattle.agv_tables.specs.loads.LoadTable.{HasRows}
+use Rattle.agv_tables.specs.schema.DeskTables.{HasRows}
 use Rattle.agv_tables.specs.schema.DeskTables.{HasTable, MakesDesk, LeavesDesk}
 use Rattle.agv_tables.specs.schema.TextsRun.{RunSteps, LeavesSteps}
 use Rattle.agv_tables.proofs.schema.Creations.{unused}

@@ -26,7 +26,7 @@ use Rattle.agv_tables.specs.schema.Schema.{desk_tables, desk_indexes, PlainIndex
 use Rattle.agv_tables.specs.schema.DeskSchema.{sequence_table, with_sequence, with_new_table, with_new_index, index_on, with_desk}
 use Rattle.agv_tables.specs.rows.DeskRows.{Placing, Stands, table_for, place_of, width_of, table_at, is_unreferred, first_columns, columns_in, HaveRows}
 use Rattle.agv_tables.specs.schema.DeskTables.{HasTable, HasDesk, first_rows}
-use Rattle.agv_tables.specs.loads.LoadTable.{HasRows}
+use Rattle.agv_tables.specs.schema.DeskTables.{HasRows}
 use Rattle.agv_tables.specs.schema.NewDesk.{StandsNew, MadeDesksStand, TreesTellTables}
 use Rattle.agv_tables.proofs.sql.KeyedEntries.{shaped_are_keyed}
 use Rattle.agv_tables.proofs.schema.TablesKept.{has_got}

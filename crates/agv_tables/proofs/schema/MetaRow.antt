@@ -40,7 +40,7 @@ use Rattle.sqlite.specs.State.{text_of}
 use Rattle.sqlite.proofs.Callers.{one_step}
 use Rattle.agv_tables.specs.schema.Schema.{meta_table}
 use Rattle.agv_tables.specs.schema.SchemaTexts.{meta_text}
-use Rattle.agv_tables.specs.loads.LoadTable.{HasRows}
+use Rattle.agv_tables.specs.schema.DeskTables.{HasRows}
 use Rattle.agv_tables.specs.schema.DeskTables.{HasTable}
 use Rattle.agv_tables.specs.schema.TextsRun.{RunsText, enforced}
 use Rattle.agv_tables.proofs.schema.Creations.{Says, says, compiled_is, compiled_to}

@@ -11,7 +11,7 @@ use Rattle.sqlite_rules.proofs.ListLemmas.{all_from, all_has}
 use Rattle.sqlite_catalog.specs.Change.{created, next_tree, KeepsRows}
 use Rattle.sqlite_catalog.proofs.StepLemmas.{table_below, same_itself}
 use Rattle.sqlite.specs.Effect.{Database}
-use Rattle.agv_tables.specs.loads.LoadTable.{HasRows}
+use Rattle.agv_tables.specs.schema.DeskTables.{HasRows}
 use Rattle.agv_tables.specs.schema.DeskTables.{HasTable}
 use Rattle.agv_tables.proofs.schema.NamesKept.{position_kept, position_last}
 

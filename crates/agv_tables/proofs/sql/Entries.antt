@@ -8,7 +8,7 @@ use Rattle.sqlite_trees.specs.Tree.{rowid, put_row}
 use Rattle.sqlite_trees.specs.View.{is_int}
 use Rattle.sqlite_trees.proofs.TreeLemmas.{IsShaped-put_row}
 use Rattle.sqlite_rules.specs.Edit.{is_taken}
-use Rattle.agv_tables.specs.loads.LoadTable.{HasRows}
+use Rattle.agv_tables.specs.schema.DeskTables.{HasRows}
 
 -- it stands somewhere among the others
 put_among : (new : Row) (entries : List Row) → is_taken entries new ≡ false → IsPermutation (new ∷ entries) (put_row new entries)

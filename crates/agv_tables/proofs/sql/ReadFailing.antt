@@ -19,13 +19,12 @@ use Rattle.sqlite.specs.State.{State, IsNotRun, FailsToQuery}
 use Rattle.sqlite.proofs.Callers.{IsPlain, command_of}
 use Rattle.std.proofs.lemmas.Bool.{and_parts}
 use Rattle.agv_tables.specs.rows.DeskRows.{table_for, Placing, IsDesk, is_of_kind, fits}
-use Rattle.agv_tables.specs.loads.Fault.{IsOfStore}
+use Rattle.agv_tables.specs.sql.Errors.{IsOfStore}
 use Rattle.agv_tables.specs.declared.schema.table_name.TableName.{TableName}
 use Rattle.agv_tables.specs.declared.schema.table_name.TableName.TheVariants as the
 use Rattle.agv_tables.proofs.sql.OneTable.{Means, parsed, query_by, compiled_as}
 use Rattle.agv_tables.proofs.schema.DeskPlaces.{is_in}
-use Rattle.agv_tables.proofs.sql.Failing.{IsCaused, caused, is_statement}
-use Rattle.agv_tables.proofs.loads.Understood.{IsWhole}
+use Rattle.agv_tables.proofs.sql.Failing.{IsCaused, IsWhole, caused, is_statement}
 use Rattle.agv_tables.specs.statements.RowTexts.{look_up_text, table_looked_up}
 use Rattle.agv_tables.specs.statements.RowQuestions.{table_asked, columns_asked, columns_at, FitsColumns, question_text, all_rows_text}
 use Rattle.agv_tables.specs.declared.rows.row_of.RowOf.{RowOf}

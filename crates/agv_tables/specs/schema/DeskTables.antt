@@ -1,18 +1,23 @@
 -- The desk's tables in a database, and what their making gives.
-use Rattle.std.specs.Prelude.{◌≡◌, ℕ, List, [], ◌∷◌, Some, slice_get, pos}
+use Rattle.std.specs.Prelude.{◌≡◌, ℕ, List, [], ◌∷◌, map, drop, Some, slice_get, pos, IsPermutation}
 use Rattle.std.specs.List.{AllZip}
 use Rattle.sqlite_value.specs.declared.value.Value.TheVariants.{Int}
 use Rattle.sqlite_value.specs.Order.{Row}
+use Rattle.sqlite_trees.specs.declared.store.Shape.TheVariants as shape
 use Rattle.sqlite_trees.specs.Tree.{Trees}
+use Rattle.sqlite_trees.specs.View.{IsShaped}
 use Rattle.sqlite_schema.specs.declared.schema.Table.{Table}
 use Rattle.sqlite_schema.specs.Names.{table_named}
 use Rattle.sqlite_rules.specs.Lists.{Has}
 use Rattle.sqlite_catalog.specs.Change.{KeepsRows}
 use Rattle.sqlite.specs.Effect.{Database, IsDatabase}
-use Rattle.agv_tables.specs.loads.LoadTable.{HasRows}
 use Rattle.agv_tables.specs.schema.Schema.{desk_tables}
 use Rattle.agv_tables.specs.schema.DeskSchema.{with_desk}
 use Rattle.agv_tables.specs.schema.SchemaNumbers.{schema_number}
+
+-- a table has these rows, in some order, under numbers of their own
+abbrev pub HasRows : List Row → List Row → Type 0
+HasRows entries rows = IsShaped shape.Table entries × IsPermutation rows (map (drop 1) entries)
 
 -- under its name stands this table, in some tree, with these rows in some order
 pub record HasTable (db : Database) (table : Table) (rows : List Row) : Type 0 where

@@ -1,5 +1,5 @@
 -- The schema of the desk's database: eleven STRICT tables, and four plain indexes that only make look-ups quick.
-use Rattle.std.specs.Prelude.{ℕ, Bool, true, false, List, [], ◌∷◌, map, fold, None, codes}
+use Rattle.std.specs.Prelude.{ℕ, Bool, true, false, List, [], ◌∷◌, map, None, codes}
 use Rattle.sqlite_value.specs.declared.keys.Collation.TheVariants.{Binary}
 use Rattle.sqlite_value.specs.declared.value.Value.TheVariants.{Null}
 use Rattle.sqlite_value.specs.Keys.{plain}
@@ -7,9 +7,6 @@ use Rattle.sqlite_schema.specs.declared.schema.Kind.{Kind}
 use Rattle.sqlite_schema.specs.declared.schema.Kind.TheVariants as kind
 use Rattle.sqlite_schema.specs.declared.schema.Column.{Column}
 use Rattle.sqlite_schema.specs.declared.schema.Table.{Table}
-use Rattle.sqlite_schema.specs.declared.schema.Schema.{Schema}
-use Rattle.sqlite_catalog.specs.Change.{created}
-use Rattle.agv_tables.specs.loads.LoadTable.{no_tables}
 
 -- ---- columns
 
@@ -109,10 +106,6 @@ used_table = table_of (codes "used") (text (codes "kind") ∷ text (codes "id") 
 abbrev pub desk_tables : List Table
 desk_tables =
     meta_table ∷ node_table ∷ edge_table ∷ station_table ∷ vehicle_table ∷ trip_table ∷ leg_table ∷ place_table ∷ job_table ∷ hold_table ∷ used_table ∷ []
-
--- the schema of a database with these tables and no other, and with no index but those of their keys
-abbrev pub desk_schema : Schema
-desk_schema = fold created no_tables desk_tables
 
 -- ---- indexes
 

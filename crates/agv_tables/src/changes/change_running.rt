@@ -4,7 +4,7 @@ ghost use Rattle.sqlite.specs.State.{HasCleanDisk, Survives};
 ghost use Rattle.sqlite.specs.Held.{state};
 ghost use Rattle.agv_tables.specs.changes.ChangesMade.{ChangesWorlds, LeavesChanges, MakesChanges};
 
-use crate::Fault;
+use crate::WriteFault;
 use crate::changes::change_writes::write_change;
 use agv_world::Change;
 use sqlite::{Alter, Connection, Error};
@@ -35,10 +35,13 @@ fn run_changes<S: Alter>(conn: &mut Connection<S>, changes: &[Change]) -> Result
 /// after all of them, and an opening finds these ([`change_laws`](crate::changes::change_laws)).
 ///
 /// # Errors
-/// [`Fault::Memory`] for want of memory, and [`Fault::Storage`] for any other error of the database. No clause says that
+/// [`WriteFault::Memory`] for want of memory, and [`WriteFault::Storage`] for any other error of the database. No clause says that
 /// the disk has failed then: SQL refuses a row too, where the changes would give two open trips one vehicle or one job, or
 /// where a unique index that isn't the desk's forbids it.
-pub fn write_changes<S: Alter>(conn: &mut Connection<S>, changes: &[Change]) -> Result<(), Fault>
+pub fn write_changes<S: Alter>(
+    conn: &mut Connection<S>,
+    changes: &[Change],
+) -> Result<(), WriteFault>
     requires { conn.old.in_transaction ≡ false }
     ensures made { HasCleanDisk (state S.Store conn.new) → OnOk result (MakesChanges changes.now (state S.Store conn.old).now (state S.Store conn.new).committed) }
     ensures worlds { HasCleanDisk (state S.Store conn.new) → OnOk result (ChangesWorlds changes.now (state S.Store conn.old).now (state S.Store conn.new).committed) }

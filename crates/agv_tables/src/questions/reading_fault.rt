@@ -2,9 +2,8 @@
 ghost use Rattle.std.specs.Prelude.{◌≡◌};
 ghost use Rattle.agv_tables.specs.questions.ReadingFault.{reading_fault_of};
 
-use crate::Fault;
 use agv_header::Memory;
-use sqlite::Error;
+use sqlite::{Error, ErrorCode};
 use std::alloc::{AllocError, AllocFailed};
 
 /// Why the desk's tables aren't read.
@@ -27,9 +26,9 @@ impl From<Error> for ReadingFault {
     ghost from_gives = { λ error fault. fault ≡ reading_fault_of error };
 
     fn from(error: Error) -> ReadingFault {
-        match Fault::from(error) {
-            Fault::Memory => ReadingFault::Memory,
-            Fault::Storage => ReadingFault::Storage,
+        match error {
+            Error::SqliteFailure(ErrorCode::OutOfMemory) => ReadingFault::Memory,
+            _ => ReadingFault::Storage,
         }
     }
 }

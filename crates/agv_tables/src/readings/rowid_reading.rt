@@ -9,7 +9,7 @@ ghost use Rattle.sqlite_rules.specs.Edit.{id_in};
 ghost use Rattle.sqlite.specs.State.{HasCleanDisk, IsUnchanged, IsRolledBack, Survives};
 ghost use Rattle.sqlite.specs.Held.{state};
 ghost use Rattle.agv_tables.specs.rows.DeskRows.{AreKeyed, Placing, IsDesk, table_names};
-ghost use Rattle.agv_tables.specs.loads.Fault.{IsOfStore};
+ghost use Rattle.agv_tables.specs.sql.Errors.{IsOfStore};
 ghost use Rattle.agv_tables.specs.sql.Connections.{HasStorageCause};
 ghost use Rattle.agv_tables.specs.readings.Rowids.{ShowRowids, TellsKeyed, rowids_text};
 ghost use Rattle.agv_tables.specs.questions.WorldAnswers.{Tells};

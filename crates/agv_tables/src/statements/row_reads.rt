@@ -8,7 +8,7 @@ ghost use Rattle.sqlite.specs.State.{HasCleanDisk, IsUnchanged, IsRolledBack, Su
 ghost use Rattle.sqlite.specs.Held.{state};
 ghost use Rattle.sqlite.specs.Values.{bound};
 ghost use Rattle.agv_tables.specs.rows.DeskRows.{Answers, Placing, IsDesk, rows_of_key, table_for};
-ghost use Rattle.agv_tables.specs.loads.Fault.{IsOfStore};
+ghost use Rattle.agv_tables.specs.sql.Errors.{IsOfStore};
 ghost use Rattle.agv_tables.specs.sql.Connections.{HasStorageCause};
 ghost use Rattle.agv_tables.specs.statements.RowQuestions.{FitsColumns, all_rows_of, columns_asked, rows_asked, table_asked};
 ghost use Rattle.agv_tables.specs.statements.RowTexts.{table_looked_up};
