@@ -13,7 +13,7 @@ pub mod hold_reading;
 pub mod reading_laws;
 pub(crate) mod row_tables;
 pub mod rowid_reading;
-pub(crate) mod table_reading;
+pub mod table_reading;
 pub(crate) mod trip_reading;
 pub mod world_laws;
 pub mod world_reading;

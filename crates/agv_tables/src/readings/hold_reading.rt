@@ -61,7 +61,7 @@ fn holds_in_rows(alloc: Global, rows: &[Row]) -> Result<HeldThings, ReadingFault
 }
 
 /// The vehicle that holds a node or an edge, for each that is held.
-pub(crate) fn ask_holds<S: Alter>(
+pub fn ask_holds<S: Alter>(
     alloc: Global,
     conn: &mut Connection<S>,
 ) -> Result<HeldThings, ReadingFault>

@@ -25,7 +25,7 @@ use sqlite::{Alter, Connection};
 use std::alloc::Global;
 
 /// The nodes of the layout.
-pub(crate) fn ask_nodes<S: Alter>(
+pub fn ask_nodes<S: Alter>(
     alloc: Global,
     conn: &mut Connection<S>,
 ) -> Result<Names, ReadingFault>
@@ -36,7 +36,7 @@ pub(crate) fn ask_nodes<S: Alter>(
 }
 
 /// The edges of the layout.
-pub(crate) fn ask_edges<S: Alter>(
+pub fn ask_edges<S: Alter>(
     alloc: Global,
     conn: &mut Connection<S>,
 ) -> Result<ByName<Ends>, ReadingFault>
@@ -47,7 +47,7 @@ pub(crate) fn ask_edges<S: Alter>(
 }
 
 /// The stations of the layout.
-pub(crate) fn ask_stations<S: Alter>(
+pub fn ask_stations<S: Alter>(
     alloc: Global,
     conn: &mut Connection<S>,
 ) -> Result<ByName<Spot>, ReadingFault>
@@ -58,7 +58,7 @@ pub(crate) fn ask_stations<S: Alter>(
 }
 
 /// The vehicles, but for their open trips.
-pub(crate) fn ask_vehicles<S: Alter>(
+pub fn ask_vehicles<S: Alter>(
     alloc: Global,
     conn: &mut Connection<S>,
 ) -> Result<ByVehicle<VehicleRow>, ReadingFault>
@@ -81,7 +81,7 @@ pub(crate) fn ask_legs<S: Alter>(
 }
 
 /// The place of each load.
-pub(crate) fn ask_places<S: Alter>(
+pub fn ask_places<S: Alter>(
     alloc: Global,
     conn: &mut Connection<S>,
 ) -> Result<ByName<Place>, ReadingFault>
