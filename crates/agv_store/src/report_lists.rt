@@ -11,6 +11,7 @@ ghost use Rattle.agv_world.specs.Rows.{rows_of};
 ghost use Rattle.agv_reports.specs.Reports.{station_named, stations_told};
 ghost use Rattle.agv_tables.specs.schema.SchemaNumbers.{desk_seats};
 ghost use Rattle.agv_store.specs.Floors.{facts_of};
+ghost use Rattle.agv_store.specs.ReportLists.{entered};
 
 use crate::keyed_floor::KeyedFloor;
 use agv_header::{Memory, Name, Thing, VehicleKey};
@@ -51,11 +52,13 @@ fn keys_of(alloc: Global, table: &ByVehicle<VehicleRow>) -> Result<Vec<VehicleKe
     Ok(keys)
 }
 
-// What is held, by a map from things to vehicles.
+// These pairs in the order of their things, each thing once.
 fn in_order(
     alloc: Global,
     pairs: &[(Thing, VehicleKey)],
-) -> Result<BTreeMap<Thing, VehicleKey>, Memory> {
+) -> Result<BTreeMap<Thing, VehicleKey>, Memory>
+    ensures { IfOk result (λ holders. finite.from_entries holders.entries ≡ entered finite.empty pairs.now) }
+{
     let mut holders = BTreeMap::new(alloc);
     for (thing, key) in pairs {
         holders.insert(*thing, *key)?;

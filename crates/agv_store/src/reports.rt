@@ -16,6 +16,7 @@ use crate::desk::Desk;
 use crate::keyed_floor::KeyedFloor;
 use agv_count::{hold_report, loads_csv, stock_report};
 use agv_desk::Answer;
+use agv_reports::laws::gives_only_what_is_named;
 use agv_reports::names_report;
 use agv_world::Fault;
 use sqlite::Alter;
@@ -87,6 +88,7 @@ impl<S: Alter + Drop> KeyedFloor<S> {
         ensures ends { names_report told.now ≡ true → EndsAs result self.new.failed }
         ensures fails { self.old.failed ≡ true → self.new.failed ≡ true }
     {
+        gives_only_what_is_named();
         self.knows();
         if !names_report(told) {
             return Ok(Vec::new(self.alloc));
