@@ -1,5 +1,5 @@
 -- What a report leaves of a desk, told from how it ended.
-use Rattle.std.proofs.Common.{◌≡◌, Bool, true, Ok, Err, Result, IfOk, OnOk, subst}
+use Rattle.std.proofs.Common.{◌≡◌, Bool, true, Ok, Err, Result, OnOk}
 use Rattle.sqlite_trees.specs.declared.store.Store.{Ghosts}
 use Rattle.sqlite.specs.Held.{state}
 use Rattle.sqlite.specs.State.{Survives}
@@ -11,7 +11,7 @@ use Rattle.agv_tables.specs.schema.SchemaNumbers.{desk_seats}
 use Rattle.agv_tables.specs.sql.Connections.{IsClean, IsOpen}
 use Rattle.agv_store.specs.Floors.{IsAsked, Keyed, Knows, facts_of, world_at}
 use Rattle.agv_store.specs.Served.{LeavesAll}
-use Rattle.agv_store.proofs.CallsServed.{asked_till, fails_again, faulted_till, knows_before, same_now, same_world, stays_failed}
+use Rattle.agv_store.proofs.CallsServed.{asked_till, fails_again, faulted_till, knows_before, same_now, stays_failed}
 
 module _ {S : Type 0} (g : Ghosts S) {A : Type 0} (says : World → A → Type 0) (old new : Keyed S) where
   abbrev pub Told : Result A Fault → Type 0
@@ -35,14 +35,6 @@ module _ {S : Type 0} (g : Ghosts S) {A : Type 0} (says : World → A → Type 0
     pub leaves_all : (r : Result A Fault) → Told r → IsClean g new.held → IsOpen g new.held → LeavesAll g old.held new.held
     leaves_all r told = same_now g old.held new.held (through r told) knew
 
-    pub tells : (r : Result A Fault) → Told r → (IsClean g new.held → OnOk r (Knows g new.held (world_at g new.held))) → IsClean g new.held → IfOk r (λ a. says (world_at g old.held) a)
-    tells (Ok a) told knows clean = told.told clean (knows_before g old.held new.held (through (Ok a) told) knew clean (knows clean).is_open).has.lawful
-    tells (Err why) told knows clean = tt
-
-    pub knew_before : {P : Type 0} (r : Result A Fault) → Told r → (IsClean g new.held → OnOk r (Knows g new.held (world_at g new.held))) → IsClean g new.held → OnOk r (P → Knows g old.held (world_at g old.held))
-    knew_before (Ok a) told knows clean _ = knows_before g old.held new.held (through (Ok a) told) knew clean (knows clean).is_open
-    knew_before (Err why) told knows clean = tt
-
-    pub knows_after : {P : Type 0} (r : Result A Fault) → Told r → (IsClean g new.held → OnOk r (Knows g new.held (world_at g new.held))) → IsClean g new.held → OnOk r (P → Knows g new.held (world_at g old.held))
-    knows_after (Ok a) told knows clean _ = subst (λ world. Knows g new.held world) (same_world g old.held new.held (through (Ok a) told) knew clean (knows clean).is_open) (knows clean)
-    knows_after (Err why) told knows clean = tt
+    pub knew_before : (P : Type 0) (r : Result A Fault) → Told r → (IsClean g new.held → OnOk r (Knows g new.held (world_at g new.held))) → IsClean g new.held → OnOk r (P → Knows g old.held (world_at g old.held))
+    knew_before P (Ok a) told knows clean = λ _. knows_before g old.held new.held (through (Ok a) told) knew clean (knows clean).is_open
+    knew_before P (Err why) told knows clean = tt
