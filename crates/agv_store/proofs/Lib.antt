@@ -4,4 +4,7 @@ mod CallsServed
 mod Crashes
 mod Deciding
 mod Found
+mod InTurn
+mod ReportLists
+mod Reporting
 mod Writing

@@ -4,4 +4,5 @@ pub mod Floors
 pub mod OpenFaults
 pub mod Opened
 pub mod Ran
+pub mod ReportLists
 pub mod Served

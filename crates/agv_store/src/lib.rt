@@ -18,8 +18,11 @@ mod keyed_floor;
 pub mod laws;
 mod open_fault;
 mod opening;
+mod report_lists;
+mod reports;
 mod running;
 mod serving;
+mod whole_tables;
 
 pub use desk::Desk;
 pub use open_fault::OpenFault;

@@ -1,0 +1,40 @@
+-- What a report leaves of a desk, told from how it ended.
+use Rattle.std.proofs.Common.{◌≡◌, Bool, true, Ok, Err, Result, OnOk}
+use Rattle.sqlite_trees.specs.declared.store.Store.{Ghosts}
+use Rattle.sqlite.specs.Held.{state}
+use Rattle.sqlite.specs.State.{Survives}
+use Rattle.agv_world.specs.Asks.{Asks}
+use Rattle.agv_world.specs.Lawful.{IsLawful}
+use Rattle.agv_world.specs.Worlds.{World}
+use Rattle.agv_world.specs.declared.fault.Fault.{Fault}
+use Rattle.agv_tables.specs.schema.SchemaNumbers.{desk_seats}
+use Rattle.agv_tables.specs.sql.Connections.{IsClean, IsOpen}
+use Rattle.agv_store.specs.Floors.{IsAsked, Keyed, Knows, facts_of, world_at}
+use Rattle.agv_store.specs.Served.{LeavesAll}
+use Rattle.agv_store.proofs.CallsServed.{asked_till, fails_again, faulted_till, knows_before, same_now, stays_failed}
+
+module _ {S : Type 0} (g : Ghosts S) {A : Type 0} (says : World → A → Type 0) (old new : Keyed S) where
+  abbrev pub Told : Result A Fault → Type 0
+  Told r = Asks (facts_of g) old new r (λ world a. IsLawful desk_seats world → says world a)
+
+  through : (r : Result A Fault) → Told r → IsAsked g old.held new.held
+  through (Ok a) told = asked_till g old new told
+  through (Err why) told = faulted_till g old new why told
+
+  pub fails_still : (r : Result A Fault) → Told r → old.failed ≡ true → new.failed ≡ true
+  fails_still (Ok a) told = stays_failed g old new told
+  fails_still (Err why) told = fails_again g old new why told
+
+  pub was_open : (r : Result A Fault) → Told r → IsClean g new.held → IsOpen g new.held → IsOpen g old.held
+  was_open r told = (through r told).was_open
+
+  pub crash : (r : Result A Fault) → Told r → Survives (state g old.held) (state g new.held) (λ _. ⊥)
+  crash r told = (through r told).survives
+
+  module _ (knew : IsClean g old.held → IsOpen g old.held → Knows g old.held (world_at g old.held)) where
+    pub leaves_all : (r : Result A Fault) → Told r → IsClean g new.held → IsOpen g new.held → LeavesAll g old.held new.held
+    leaves_all r told = same_now g old.held new.held (through r told) knew
+
+    pub knew_before : (P : Type 0) (r : Result A Fault) → Told r → (IsClean g new.held → OnOk r (Knows g new.held (world_at g new.held))) → IsClean g new.held → OnOk r (P → Knows g old.held (world_at g old.held))
+    knew_before P (Ok a) told knows clean = λ _. knows_before g old.held new.held (through (Ok a) told) knew clean (knows clean).is_open
+    knew_before P (Err why) told knows clean = tt

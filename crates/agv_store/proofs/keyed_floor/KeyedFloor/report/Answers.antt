@@ -1,0 +1,17 @@
+use Rattle.agv_store.proofs.Reporting.{crash, fails_still, knew_before, leaves_all, was_open}
+use Rattle.agv_store.proofs.keyed_floor.KeyedFloor.report.Goals as goal
+
+pub returns-clause-knew : goal.returns-clause-knew
+returns-clause-knew g c = knew_before g.S.Store _ c.args.self.now c.reported.new.self c.knows.ensures _ c.reported.result c.reported.ensures.tells c.reported.ensures.knows
+
+pub returns-clause-left : goal.returns-clause-left
+returns-clause-left g c = leaves_all g.S.Store _ c.args.self.now c.reported.new.self c.knows.ensures c.reported.result c.reported.ensures.tells
+
+pub returns-clause-was_open : goal.returns-clause-was_open
+returns-clause-was_open g c = was_open g.S.Store _ c.args.self.now c.reported.new.self c.reported.result c.reported.ensures.tells
+
+pub returns-clause-crash : goal.returns-clause-crash
+returns-clause-crash g c = crash g.S.Store _ c.args.self.now c.reported.new.self c.reported.result c.reported.ensures.tells
+
+pub returns-clause-fails : goal.returns-clause-fails
+returns-clause-fails g c = fails_still g.S.Store _ c.args.self.now c.reported.new.self c.reported.result c.reported.ensures.tells

@@ -1,0 +1,125 @@
+//! The bytes of the reports that answers name: each is told from questions alone, by the tables as they are.
+ghost use Rattle.std.specs.Prelude.{◌≡◌, false, true, IfOk, IsOkAnd, OnOk, []};
+ghost use Rattle.sqlite.specs.Held.{state};
+ghost use Rattle.sqlite.specs.State.{Survives};
+ghost use Rattle.agv_world.specs.Asks.{Asks};
+ghost use Rattle.agv_world.specs.Lawful.{IsLawful};
+ghost use Rattle.agv_desk.specs.declared.answer.Answer.TheVariants as answer;
+ghost use Rattle.agv_reports.specs.Reports.{names_report, report_of};
+ghost use Rattle.agv_tables.specs.schema.SchemaNumbers.{desk_seats};
+ghost use Rattle.agv_tables.specs.sql.Connections.{IsClean, IsOpen};
+ghost use Rattle.agv_store.specs.Flags.{EndsAs};
+ghost use Rattle.agv_store.specs.Floors.{Knows, facts_of, world_at};
+ghost use Rattle.agv_store.specs.Served.{LeavesAll};
+
+use crate::desk::Desk;
+use crate::keyed_floor::KeyedFloor;
+use agv_count::{hold_report, loads_csv, stock_report};
+use agv_desk::Answer;
+use agv_reports::laws::gives_only_what_is_named;
+use agv_reports::names_report;
+use agv_world::Fault;
+use sqlite::Alter;
+
+impl<S: Alter + Drop> KeyedFloor<S> {
+    // The stations with their loads and the live jobs to them, the vehicles with their loads, and how many have left.
+    fn stock(&mut self) -> Result<Vec<u8>, Fault>
+        ensures { Asks (facts_of S.Store) self.old self.new result (λ world bytes. IsLawful desk_seats world → bytes.items ≡ report_of world answer.StockReport) }
+    {
+        let alloc = self.alloc;
+        let stations = self.stations_told()?;
+        let loads = self.loads_told()?;
+        let vehicles = self.vehicles_told()?;
+        Ok(stock_report(alloc, &stations, &loads, &vehicles)?)
+    }
+
+    // What is held, by whom, and how many nodes and edges there are.
+    fn holds(&mut self) -> Result<Vec<u8>, Fault>
+        ensures { Asks (facts_of S.Store) self.old self.new result (λ world bytes. IsLawful desk_seats world → bytes.items ≡ report_of world answer.HoldReport) }
+    {
+        let alloc = self.alloc;
+        let holds = self.holds_told()?;
+        let things = self.things_counted()?;
+        Ok(hold_report(alloc, &holds, things)?)
+    }
+
+    // Where each load is.
+    fn export(&mut self) -> Result<Vec<u8>, Fault>
+        ensures { Asks (facts_of S.Store) self.old self.new result (λ world bytes. bytes.items ≡ report_of world answer.LoadsExport) }
+    {
+        let alloc = self.alloc;
+        let loads = self.loads_told()?;
+        Ok(loads_csv(alloc, &loads)?)
+    }
+
+    // The report that the answer names.
+    fn bytes_of(&mut self, told: &Answer) -> Result<Vec<u8>, Fault>
+        ensures { Asks (facts_of S.Store) self.old self.new result (λ world bytes. IsLawful desk_seats world → bytes.items ≡ report_of world told.now) }
+    {
+        match told {
+            Answer::StockReport => self.stock(),
+            Answer::HoldReport => self.holds(),
+            Answer::LoadsExport => self.export(),
+            _ => Ok(Vec::new(self.alloc)),
+        }
+    }
+
+    // The report that the answer names, by a store that was open before it and is after it.
+    fn reported(&mut self, told: &Answer) -> Result<Vec<u8>, Fault>
+        ensures tells { Asks (facts_of S.Store) self.old self.new result (λ world bytes. IsLawful desk_seats world → bytes.items ≡ report_of world told.now) }
+        ensures knows { IsClean S.Store self.new.held → OnOk result (Knows S.Store self.new.held (world_at S.Store self.new.held)) }
+        ensures ends { EndsAs result self.new.failed }
+    {
+        self.settle()?;
+        let bytes = self.bytes_of(told)?;
+        self.settle()?;
+        Ok(bytes)
+    }
+
+    // The report that the answer names; none where it names none.
+    pub(crate) fn report(&mut self, told: &Answer) -> Result<Vec<u8>, Fault>
+        ensures tells { IsClean S.Store self.new.held → IfOk result (λ bytes. bytes.items ≡ report_of (world_at S.Store self.old.held) told.now) }
+        ensures knew { IsClean S.Store self.new.held → OnOk result (names_report told.now ≡ true → Knows S.Store self.old.held (world_at S.Store self.old.held)) }
+        ensures knows { IsClean S.Store self.new.held → OnOk result (names_report told.now ≡ true → Knows S.Store self.new.held (world_at S.Store self.old.held)) }
+        ensures left { IsClean S.Store self.new.held → IsOpen S.Store self.new.held → LeavesAll S.Store self.old.held self.new.held }
+        ensures was_open { IsClean S.Store self.new.held → IsOpen S.Store self.new.held → IsOpen S.Store self.old.held }
+        ensures crash { Survives (state S.Store self.old.held) (state S.Store self.new.held) (λ _. ⊥) }
+        ensures silent { names_report told.now ≡ false → IsOkAnd result (λ bytes. bytes.items ≡ []) × (self.new ≡ self.old) }
+        ensures ends { names_report told.now ≡ true → EndsAs result self.new.failed }
+        ensures fails { self.old.failed ≡ true → self.new.failed ≡ true }
+    {
+        gives_only_what_is_named();
+        self.knows();
+        if !names_report(told) {
+            return Ok(Vec::new(self.alloc));
+        }
+        self.reported(told)
+    }
+}
+
+impl<S: Alter + Drop> Desk<S> {
+    /// The bytes of the report that the answer names, of the desk's world as it is now; none where the answer names no
+    /// report. They are exactly those that the report has in the world whose rows the tables have (`tells`): who asks right
+    /// after [`serve`](Desk::serve) has the report of the world in which the call was answered.
+    ///
+    /// It asks questions and writes nothing. Where the store is open afterwards, it was open before, and all that the
+    /// database has is as it was (`left`, `was_open`); a crash leaves what it could leave before (`crash`). Where the answer
+    /// names no report nothing is asked, no memory is taken, and there is no fault (`silent`).
+    ///
+    /// # Errors
+    /// `Memory` for want of memory. `Storage` where the store failed or had failed before: exactly where
+    /// [`failed`](Desk::failed) is `true` as it ends (`ends`).
+    pub fn report(&mut self, told: &Answer) -> Result<Vec<u8>, Fault>
+        ensures tells { IsClean S.Store self.new.held → IfOk result (λ bytes. bytes.items ≡ report_of (world_at S.Store self.old.held) told.now) }
+        ensures knew { IsClean S.Store self.new.held → OnOk result (names_report told.now ≡ true → Knows S.Store self.old.held (world_at S.Store self.old.held)) }
+        ensures knows { IsClean S.Store self.new.held → OnOk result (names_report told.now ≡ true → Knows S.Store self.new.held (world_at S.Store self.old.held)) }
+        ensures left { IsClean S.Store self.new.held → IsOpen S.Store self.new.held → LeavesAll S.Store self.old.held self.new.held }
+        ensures was_open { IsClean S.Store self.new.held → IsOpen S.Store self.new.held → IsOpen S.Store self.old.held }
+        ensures crash { Survives (state S.Store self.old.held) (state S.Store self.new.held) (λ _. ⊥) }
+        ensures silent { names_report told.now ≡ false → IsOkAnd result (λ bytes. bytes.items ≡ []) × (self.new ≡ self.old) }
+        ensures ends { names_report told.now ≡ true → EndsAs result self.new.failed }
+        ensures fails { self.old.failed ≡ true → self.new.failed ≡ true }
+    {
+        self.floor.report(told)
+    }
+}

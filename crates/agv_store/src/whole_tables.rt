@@ -1,0 +1,67 @@
+//! Whole tables, for a report.
+ghost use Rattle.std.specs.Prelude.{◌≡◌};
+ghost use Rattle.agv_world.specs.Asks.{Asks};
+ghost use Rattle.agv_world.specs.Rows.{rows_of};
+ghost use Rattle.agv_store.specs.Floors.{facts_of};
+
+use crate::flags::note;
+use crate::keyed_floor::KeyedFloor;
+use agv_layout::{Ends, Spot};
+use agv_stock::Place;
+use agv_tables::HeldThings;
+use agv_tables::readings::hold_reading::ask_holds;
+use agv_tables::readings::table_reading::{
+    ask_edges, ask_nodes, ask_places, ask_stations, ask_vehicles,
+};
+use agv_world::{ByName, ByVehicle, Fault, Names, VehicleRow};
+use sqlite::Alter;
+
+impl<S: Alter + Drop> KeyedFloor<S> {
+    // The nodes of the layout.
+    pub(crate) fn all_nodes(&mut self) -> Result<Names, Fault>
+        ensures { Asks (facts_of S.Store) self.old self.new result (λ world table. table ≡ world.layout.nodes) }
+    {
+        let asked = ask_nodes(self.alloc, &mut self.conn);
+        note(&mut self.failed, &mut self.in_doubt, asked)
+    }
+
+    // The edges of the layout.
+    pub(crate) fn all_edges(&mut self) -> Result<ByName<Ends>, Fault>
+        ensures { Asks (facts_of S.Store) self.old self.new result (λ world table. table ≡ world.layout.edges) }
+    {
+        let asked = ask_edges(self.alloc, &mut self.conn);
+        note(&mut self.failed, &mut self.in_doubt, asked)
+    }
+
+    // The stations of the layout.
+    pub(crate) fn all_stations(&mut self) -> Result<ByName<Spot>, Fault>
+        ensures { Asks (facts_of S.Store) self.old self.new result (λ world table. table ≡ world.layout.stations) }
+    {
+        let asked = ask_stations(self.alloc, &mut self.conn);
+        note(&mut self.failed, &mut self.in_doubt, asked)
+    }
+
+    // The vehicles, but for their open trips.
+    pub(crate) fn all_vehicles(&mut self) -> Result<ByVehicle<VehicleRow>, Fault>
+        ensures { Asks (facts_of S.Store) self.old self.new result (λ world table. table ≡ (rows_of world).vehicles) }
+    {
+        let asked = ask_vehicles(self.alloc, &mut self.conn);
+        note(&mut self.failed, &mut self.in_doubt, asked)
+    }
+
+    // The place of each load.
+    pub(crate) fn all_places(&mut self) -> Result<ByName<Place>, Fault>
+        ensures { Asks (facts_of S.Store) self.old self.new result (λ world table. table ≡ world.places) }
+    {
+        let asked = ask_places(self.alloc, &mut self.conn);
+        note(&mut self.failed, &mut self.in_doubt, asked)
+    }
+
+    // What is held, and by which vehicle.
+    pub(crate) fn all_holds(&mut self) -> Result<HeldThings, Fault>
+        ensures { Asks (facts_of S.Store) self.old self.new result (λ world held. held.table ≡ (rows_of world).holds) }
+    {
+        let asked = ask_holds(self.alloc, &mut self.conn);
+        note(&mut self.failed, &mut self.in_doubt, asked)
+    }
+}
