@@ -6,6 +6,7 @@ pub mod ReadWorld
 pub mod RowidsKeyed
 pub mod RowidsRead
 pub mod RowidsTold
+pub mod RowsTaken
 pub mod TableAnswers
 pub mod TableReading
 pub mod TablesBack

@@ -41,7 +41,7 @@ abbrev pub IsSelectText : List ℕ → Type 0
 IsSelectText sql = ReadsSelect (first sql)
 
 -- what is understood of a text has no RETURNING
-abbrev IsSilent : Checked Compiled → Type 0
+abbrev pub IsSilent : Checked Compiled → Type 0
 IsSilent (Ok c) = c.returning ≡ None
 IsSilent (Err e) = Unit {0}
 
@@ -71,7 +71,7 @@ silent_if_select : (c : Checked Compiled) → IsSilent c → IsSilent (if_select
 silent_if_select (Ok c) is = elim (is_select c.command) as (λ b. IsSilent (cond b (Ok c) (Err NoSuchTable))) [ true ↦ is | false ↦ tt ]
 silent_if_select (Err e) is = tt
 
-silent_understood : (schema : Schema) (sql : List ℕ) → IsSelectText sql → IsSilent (understood schema sql)
+pub silent_understood : (schema : Schema) (sql : List ℕ) → IsSelectText sql → IsSilent (understood schema sql)
 unfolding understood
 silent_understood schema sql is =
     elim (reads_listing schema sql) as (λ b. IsSilent (cond b (if_select (compiled listing_schema sql)) (compiled schema sql)))

@@ -118,14 +118,26 @@ puts_row name key row a b c (Err e) added gone = tt
 
 -- ---- queries
 
--- a query that asks so, and its rows
+-- what rows answer that a query shows which asks so
+shows : (name : TableName) (terms : List Term) (sql : List ℕ) → Asks name sql terms → list_all (reads_within (width_of name)) terms ≡ true → (params : Row) (p : Row → Bool) → passes terms params ≡ p
+    → (old new : State) (rows : List Row) → Shown sql params old new rows → Answers (λ lists. filter p (table_at (place_of name) lists)) old rows
+shows name terms sql asks alone params p is old new rows shown = λ desk desk_is lists h.
+    let means = asks desk.schema (desk_is.stands name).at (desk.tree name) (is_in desk desk_is name) in
+    subst (λ (q : Row → Bool). IsPermutation (filter q (table_at (place_of name) lists)) rows) is (rows_shown desk desk_is name old new h.schema_is sql params terms (column_names name) alone means rows shown lists h)
+
 asked : (name : TableName) (terms : List Term) (sql : List ℕ) → Asks name sql terms → list_all (reads_within (width_of name)) terms ≡ true → (params : Row) (p : Row → Bool) → passes terms params ≡ p
     → (old new : State) (r : Result (Vec Row Global) Error) → IfOk r (λ rows. Shown sql params old new rows.items)
     → IfOk r (λ rows. Answers (λ lists. filter p (table_at (place_of name) lists)) old rows.items)
 asked name terms sql asks alone params p is old new (Err e) shown = tt
-asked name terms sql asks alone params p is old new (Ok rows) shown = λ desk desk_is lists h.
-    let means = asks desk.schema (desk_is.stands name).at (desk.tree name) (is_in desk desk_is name) in
-    subst (λ (q : Row → Bool). IsPermutation (filter q (table_at (place_of name) lists)) rows.items) is (rows_shown desk desk_is name old new h.schema_is sql params terms (column_names name) alone means rows.items shown lists h)
+asked name terms sql asks alone params p is old new (Ok rows) shown = shows name terms sql asks alone params p is old new rows.items shown
+
+-- all rows of a table
+whole_table : (name : TableName) → (lists : List (List Row)) → filter (λ _. true) (table_at (place_of name) lists) ≡ all_rows_of name lists
+whole_table name lists = filter_nothing (table_at (place_of name) lists)
+
+pub all_given : (name : TableName) (params : Row) (old new : State) (rows : List Row) → Shown (all_rows_text name) params old new rows → Answers (all_rows_of name) old rows
+all_given name params old new rows shown =
+    subst (λ (f : List (List Row) → List Row). Answers f old rows) (λ i lists. whole_table name lists i) (shows name [] (all_rows_text name) (all_rows_asked name) refl params (λ _. true) refl old new rows shown)
 
 pub on_failed : {X E B : Type 0} {P : E → Type 0} (r : Result X E) → ((e : E) → P e → B) → IfErr r P → OnErr r B
 on_failed (Ok x) f h = tt
@@ -143,9 +155,6 @@ module _ (params : Row) (old new : State) (r : Result (Vec Row Global) Error) (s
   question_shown question text = rw text (asked (table_asked question) (question_terms question) (question_text question) (question_asks question) (question_within question) params (equal_from 0 (columns_asked question) params) (question_passes question params) old new r)
 
   -- all rows
-  whole_table : (name : TableName) → (lists : List (List Row)) → filter (λ _. true) (table_at (place_of name) lists) ≡ all_rows_of name lists
-  whole_table name lists = filter_nothing (table_at (place_of name) lists)
-
   pub all_shown : (name : TableName) → sql ≡ all_rows_text name → IfOk r (λ rows. Shown sql params old new rows.items) → IfOk r (λ rows. Answers (all_rows_of name) old rows.items)
   all_shown name text shown =
       subst (λ (f : List (List Row) → List Row). IfOk r (λ rows. Answers f old rows.items)) (λ i lists. whole_table name lists i)

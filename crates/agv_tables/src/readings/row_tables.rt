@@ -1,9 +1,10 @@
 //! The tables that rows of SQL tell.
 //!
 //! Each row tells one entry, and no two rows tell one key: else the rows are damaged.
-ghost use Rattle.std.specs.Prelude.{◌≡◌, is_some};
+ghost use Rattle.std.specs.Prelude.{◌≡◌, ◌∷◌, Err, IfErr, List, OnOk, is_some};
 ghost use Rattle.std.specs.FinMap as map;
 ghost use Rattle.std.specs.FinSet as set;
+ghost use Rattle.sqlite_value.specs.Order.{Row as SqlRow};
 ghost use Rattle.agv_tables.specs.rows.Columns.{edge_in, job_in, leg_in, load_in, node_in, station_in, used_in, vehicle_in};
 ghost use Rattle.agv_tables.specs.readings.ReadTables.{Reads, read_members, read_rows};
 
@@ -130,21 +131,30 @@ pub(crate) fn legs_in_rows(alloc: Global, rows: &[Row]) -> Result<ByLeg, Reading
     Ok(table)
 }
 
+/// The table takes in what one more row tells.
+pub(crate) fn take_place(table: &mut ByName<Place>, row: &Row) -> Result<(), ReadingFault>
+    ensures taken { OnOk result ((rest : List SqlRow) → read_rows load_in table.old (row.now ∷ rest) ≡ read_rows load_in table.new rest) }
+    ensures refused { IfErr result (λ why. (rest : List SqlRow) → Reads (Err why) (read_rows load_in table.old (row.now ∷ rest))) }
+{
+    match load_told(row) {
+        None => Err(ReadingFault::Damaged),
+        Some((id, place)) => {
+            if table.get(id).is_some() {
+                return Err(ReadingFault::Damaged);
+            }
+            table.insert(id, place)?;
+            Ok(())
+        }
+    }
+}
+
 /// The table that these rows tell.
 pub(crate) fn places_in_rows(alloc: Global, rows: &[Row]) -> Result<ByName<Place>, ReadingFault>
     ensures { Reads result (read_rows load_in map.empty rows.now) }
 {
     let mut table = ByName::new(alloc);
     for row in rows {
-        match load_told(row) {
-            None => return Err(ReadingFault::Damaged),
-            Some((id, value)) => {
-                if table.get(id).is_some() {
-                    return Err(ReadingFault::Damaged);
-                }
-                table.insert(id, value)?;
-            }
-        }
+        take_place(&mut table, row)?;
     }
     Ok(table)
 }

@@ -1,7 +1,8 @@
 //! Whole tables are read, but those of the trips and of what is held.
 //!
 //! Each answers what the lawful world says whose rows the tables have (`specs/questions/WorldAnswers.antt`); and whatever rows
-//! they have, what is read has just these (`specs/readings/TablesRead.antt`).
+//! they have, what is read has just these (`specs/readings/TablesRead.antt`). The places of the loads are read one row at a time,
+//! and any other table as the list of its rows.
 ghost use Rattle.std.specs.Prelude.{◌≡◌, IsPermutation};
 ghost use Rattle.agv_world.specs.Rows.{rows_of};
 ghost use Rattle.agv_tables.specs.rows.Columns.{edge_columns, job_columns, leg_columns, load_columns, node_columns, station_columns, used_columns, vehicle_columns};
@@ -13,10 +14,11 @@ ghost use Rattle.agv_tables.specs.declared.schema.table_name.TableName.TheVarian
 use crate::ReadingFault;
 use crate::questions::asked_rows::ask_all_rows;
 use crate::readings::row_tables::{
-    edges_in_rows, jobs_in_rows, legs_in_rows, nodes_in_rows, places_in_rows, stations_in_rows,
+    edges_in_rows, jobs_in_rows, legs_in_rows, nodes_in_rows, stations_in_rows, take_place,
     used_in_rows, vehicles_in_rows,
 };
 use crate::schema::table_name::TableName;
+use crate::statements::question_texts::all_rows;
 use agv_layout::{Ends, Spot};
 use agv_stock::Place;
 use agv_world::lawful_laws::is_in_good_order;
@@ -85,7 +87,8 @@ pub(crate) fn ask_legs<S: Alter>(
     legs_in_rows(alloc, rows.as_slice())
 }
 
-/// The place of each load, by the name of the load.
+/// The place of each load, by the name of the load. There may be a million of them: so each row is taken into the table
+/// as the query gives it, and the rows aren't held beside it.
 ///
 /// It fails as [`ReadingFault`] says.
 pub fn ask_places<S: Alter>(
@@ -94,8 +97,18 @@ pub fn ask_places<S: Alter>(
 ) -> Result<ByName<Place>, ReadingFault>
     ensures { TellsAll S.Store conn.old conn.new result (λ world table. table ≡ world.places) (λ lists table. IsPermutation (table_at (place_of the.Load) lists) (rows_in load_columns table)) }
 {
-    let rows = ask_all_rows(conn, TableName::Load)?;
-    places_in_rows(alloc, rows.as_slice())
+    let mut table = ByName::new(alloc);
+    let mut rows = conn.query(all_rows(TableName::Load), &[])?;
+    'rows: loop {
+        rows.advance()?;
+        let Some(row) = rows.get() else {
+            return Ok(table);
+        };
+
+        // The count bounds how far the table grows, so that the loop is proved to end.
+        let _count = table.len();
+        take_place(&mut table, row)?;
+    }
 }
 
 /// The jobs.
