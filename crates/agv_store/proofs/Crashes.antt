@@ -5,11 +5,13 @@ use Rattle.sqlite_trees.specs.Tree.{Trees}
 use Rattle.sqlite.specs.Effect.{Database, IsDatabase}
 use Rattle.sqlite.specs.Held.{Held, state}
 use Rattle.sqlite.specs.State.{Survives}
-use Rattle.agv_world.specs.Worlds.{World}
+use Rattle.agv_world.specs.Worlds.{World, empty_world}
 use Rattle.agv_desk.specs.declared.call.Call.{Call}
-use Rattle.agv_tables.specs.schema.NewDesk.{TreesTellSchemas}
-use Rattle.agv_tables.specs.sql.Connections.{IsClean}
+use Rattle.agv_tables.specs.schema.DeskTables.{LeavesDesk}
+use Rattle.agv_tables.specs.schema.NewDesk.{KnowsNothing, MadeDesksStand, StandsNew, TreesTellSchemas}
+use Rattle.agv_tables.specs.sql.Connections.{IsClean, IsOpen}
 use Rattle.agv_store.specs.Floors.{Knows, world_at}
+use Rattle.agv_store.specs.Opened.{CanBeMade}
 use Rattle.agv_store.specs.Served.{FoundIn, LeavesCall, world_after}
 
 module _ {S : Type 0} (g : Ghosts S) (schemas : TreesTellSchemas) (only_committed : (s : S) (db : Trees) → IsTrue (g.view s).is_open → g.recovers s db → db ≡ (g.view s).committed) where
@@ -36,3 +38,26 @@ module _ {S : Type 0} (g : Ghosts S) (schemas : TreesTellSchemas) (only_committe
   pub either : (old new : Held S) (at : ℕ) (call : Call) → Knows g old (world_at g old) → IsClean g new → Survives (state g old) (state g new) (LeavesCall g old at call)
       → (found : Database) → IsDatabase found → (state g new).may_leave found.trees → FoundIn found (world_at g old) ⊎ FoundIn found (world_after (world_at g old) at call)
   either old new at call knows clean survives found finds left = found_either old at call knows found finds (survives.crash clean found.trees left)
+
+  -- ---- of the making of a desk
+
+  module _ (made_stand : MadeDesksStand) (knows_nothing : (db : Database) → StandsNew db → KnowsNothing db)
+      (old : Held S) (is_open : IsOpen g old) (settled : (state g old).committed ≡ (state g old).now) (listed : IsDatabase (state g old).now) (found : Database) (finds : IsDatabase found) where
+    none_or_all : (state g old).may_leave found.trees ⊎ (CanBeMade (state g old).now.schema × LeavesDesk (state g old).now found.trees) → (found ≡ (state g old).now) ⊎ FoundIn found empty_world
+    none_or_all (inl before) =
+        let trees_same : found.trees ≡ (state g old).now.trees = only_committed old.store found.trees is_open before ∙ ap (λ (db : Database). db.trees) settled in
+        let schema = schemas (state g old).now found listed finds trees_same in
+        inl (λ i. record { schema = schema i; trees = trees_same i })
+    none_or_all (inr left) = inr (knows_nothing found (made_stand (state g old).now left.1.0 found left.0.1 left.1.1 finds left.1.2))
+
+    either_made : CanBeMade (state g old).now.schema → (state g old).may_leave found.trees ⊎ LeavesDesk (state g old).now found.trees → (found ≡ (state g old).now) ⊎ FoundIn found empty_world
+    either_made can (inl before) = none_or_all (inl before)
+    either_made can (inr left) = none_or_all (inr (can, left))
+
+    pub made : (new : Held S) → CanBeMade (state g old).now.schema → IsClean g new → Survives (state g old) (state g new) (LeavesDesk (state g old).now) → (state g new).may_leave found.trees
+        → (found ≡ (state g old).now) ⊎ FoundIn found empty_world
+    made new can clean survives left = either_made can (survives.crash clean found.trees left)
+
+    pub opened : (new : Held S) → IsClean g new → Survives (state g old) (state g new) (λ trees. CanBeMade (state g old).now.schema × LeavesDesk (state g old).now trees) → (state g new).may_leave found.trees
+        → (found ≡ (state g old).now) ⊎ FoundIn found empty_world
+    opened new clean survives left = none_or_all (survives.crash clean found.trees left)

@@ -1,5 +1,5 @@
 -- What a report leaves of a desk, told from how it ended.
-use Rattle.std.proofs.Common.{◌≡◌, Bool, true, Ok, Err, Result, OnOk}
+use Rattle.std.proofs.Common.{◌≡◌, true, Ok, Err, Result, OnOk}
 use Rattle.sqlite_trees.specs.declared.store.Store.{Ghosts}
 use Rattle.sqlite.specs.Held.{state}
 use Rattle.sqlite.specs.State.{Survives}

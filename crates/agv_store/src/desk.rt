@@ -1,7 +1,8 @@
 //! The desk: a connection to the desk's tables that is served calls.
-ghost use Rattle.std.specs.Prelude.{◌≡◌, false, true, IfOk, OnErr, OnOk};
+ghost use Rattle.std.specs.Prelude.{◌≡◌, false, true, Err, IfOk, OnErr, OnOk};
 ghost use Rattle.sqlite.specs.Held.{state};
 ghost use Rattle.sqlite.specs.State.{Survives};
+ghost use Rattle.agv_world.specs.declared.fault.Fault.TheVariants as fault;
 ghost use Rattle.agv_tables.specs.sql.Connections.{IsClean, IsOpen};
 ghost use Rattle.agv_store.specs.Flags.{EndsAs};
 ghost use Rattle.agv_store.specs.Floors.{Knows, world_at};
@@ -59,9 +60,10 @@ impl<S: Alter + Drop> Desk<S> {
     /// ([`laws`](crate::laws)).
     ///
     /// # Errors
-    /// `Memory` for want of memory; then, where the store is still open, all is as before the call. `Storage` where the store failed or had failed before:
-    /// exactly where [`failed`](Desk::failed) is `true` as the call ends (`ends`). A fault that leaves the store open leaves
-    /// all that the database has as it was (`left`).
+    /// `Memory` for want of memory; then, where the store is still open, all is as before the call. `Storage` where the store
+    /// failed or had failed before: exactly where [`failed`](Desk::failed) is `true` as the call ends (`ends`). A desk that had
+    /// failed before asks nothing, and stays as it is (`stopped`). A fault that leaves the store open leaves all that the
+    /// database has as it was (`left`).
     pub fn serve(&mut self, at: Moment, call: &Call) -> Result<Answer, Fault>
         ensures knew { IsClean S.Store self.new.held → OnOk result (Knows S.Store self.old.held (world_at S.Store self.old.held)) }
         ensures serves { IsClean S.Store self.new.held → IfOk result (IsServedBy S.Store self.old.held self.new.held at call.now) }
@@ -70,6 +72,7 @@ impl<S: Alter + Drop> Desk<S> {
         ensures crash { Survives (state S.Store self.old.held) (state S.Store self.new.held) (LeavesCall S.Store self.old.held at call.now) }
         ensures ends { EndsAs result self.new.failed }
         ensures fails { self.old.failed ≡ true → self.new.failed ≡ true }
+        ensures stopped { self.old.failed ≡ true → (result ≡ Err fault.Storage) × (self.new ≡ self.old) }
     {
         self.floor.serve(at, call)
     }

@@ -1,6 +1,7 @@
 //! A connection to the desk's tables, with what is known beside it.
-ghost use Rattle.std.specs.Prelude.{◌≡◌, OnOk};
+ghost use Rattle.std.specs.Prelude.{◌≡◌, true, Err, OnOk};
 ghost use Rattle.agv_world.specs.Asks.{Asks};
+ghost use Rattle.agv_world.specs.declared.fault.Fault.TheVariants as fault;
 ghost use Rattle.agv_tables.specs.sql.Connections.{IsClean, IsOpen};
 ghost use Rattle.agv_store.specs.Flags.{EndsAs};
 ghost use Rattle.agv_store.specs.Floors.{Knows, facts_of, world_at};
@@ -53,6 +54,7 @@ impl<S: Alter + Drop> KeyedFloor<S> {
         ensures asks { Asks (facts_of S.Store) self.old self.new result (λ world done. Unit {0}) }
         ensures knows { IsClean S.Store self.new.held → OnOk result (Knows S.Store self.new.held (world_at S.Store self.new.held)) }
         ensures ends { EndsAs result self.new.failed }
+        ensures stopped { self.old.failed ≡ true → (result ≡ Err fault.Storage) × (self.new ≡ self.old) }
     {
         if self.failed {
             return Err(Fault::Storage);

@@ -1,16 +1,20 @@
 //! What follows from the contracts of a desk, whatever the code does. Each function does nothing: its clause is the law.
-ghost use Rattle.std.specs.Prelude.{◌⊎◌, ℕ};
+ghost use Rattle.std.specs.Prelude.{◌≡◌, ◌⊎◌, ℕ};
 ghost use Rattle.sqlite.specs.Effect.{Database, IsDatabase};
 ghost use Rattle.sqlite.specs.Held.{Held, state};
 ghost use Rattle.sqlite.specs.State.{Survives};
-ghost use Rattle.agv_world.specs.Worlds.{World};
+ghost use Rattle.agv_world.specs.Worlds.{World, empty_world};
 ghost use Rattle.agv_desk.specs.declared.call.Call.{Call};
-ghost use Rattle.agv_tables.specs.sql.Connections.{IsClean};
+ghost use Rattle.agv_tables.specs.schema.DeskTables.{LeavesDesk};
+ghost use Rattle.agv_tables.specs.sql.Connections.{IsClean, IsOpen};
 ghost use Rattle.agv_store.specs.Floors.{Knows, world_at};
+ghost use Rattle.agv_store.specs.Opened.{CanBeMade};
 ghost use Rattle.agv_store.specs.Served.{FoundIn, LeavesCall, world_after};
 
 use agv_tables::readings::world_laws::a_database_tells_its_world;
-use agv_tables::schema::making_laws::trees_tell_schemas;
+use agv_tables::schema::making_laws::{
+    made_desks_stand, new_desks_know_nothing, trees_tell_schemas,
+};
 use sqlite::Alter;
 
 /// After a crash in the middle of a call, or after a fault, an opening finds the rows of the world before the call or of
@@ -26,4 +30,20 @@ pub fn crashes_leave_before_or_after<S: Alter>()
 {
     a_database_tells_its_world();
     trees_tell_schemas();
+}
+
+/// After a crash in the middle of [`Desk::create`](crate::Desk::create), of a connection that was open and at rest, an
+/// opening finds the database as it was, so that a desk can still be made there; or it finds the desk, which knows nothing
+/// yet (`made`). So it is after a crash of [`Desk::open`](crate::Desk::open) (`opened`).
+pub fn crashes_leave_no_desk_or_all_of_it<S: Alter>()
+    ensures made { (old new : Held S) → IsOpen S.Store old → (state S.Store old).committed ≡ (state S.Store old).now → IsDatabase (state S.Store old).now
+        → CanBeMade (state S.Store old).now.schema → IsClean S.Store new → Survives (state S.Store old) (state S.Store new) (LeavesDesk (state S.Store old).now)
+        → (found : Database) → IsDatabase found → (state S.Store new).may_leave found.trees → (found ≡ (state S.Store old).now) ⊎ FoundIn found empty_world }
+    ensures opened { (old new : Held S) → IsOpen S.Store old → (state S.Store old).committed ≡ (state S.Store old).now → IsDatabase (state S.Store old).now
+        → IsClean S.Store new → Survives (state S.Store old) (state S.Store new) (λ trees. CanBeMade (state S.Store old).now.schema × LeavesDesk (state S.Store old).now trees)
+        → (found : Database) → IsDatabase found → (state S.Store new).may_leave found.trees → (found ≡ (state S.Store old).now) ⊎ FoundIn found empty_world }
+{
+    trees_tell_schemas();
+    made_desks_stand();
+    new_desks_know_nothing();
 }

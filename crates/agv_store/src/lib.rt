@@ -5,6 +5,8 @@
 //!   call, or a list of calls in turn up to the first fault (`running`), and keeps its world lawful.
 //! - `keyed_floor` has a connection to the desk's tables that is asked by keys and indexes, as `agv_desk` asks a floor.
 //!   Beside the connection it keeps five counts, and whether the store has failed. `serving` serves one call over it.
+//! - An answer that names a report doesn't hold it: [`Desk::report`] gives its bytes (`reports`). What a report lists is
+//!   gathered from whole tables (`report_lists`, `whole_tables`), and `agv_count` writes the text.
 //!
 //! What a desk keeps true of its connection is `specs/Floors.antt`, what it makes of a call `specs/Served.antt`, of a list of
 //! calls `specs/Ran.antt`, and how it is opened `specs/Opened.antt`.

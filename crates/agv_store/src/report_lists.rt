@@ -3,8 +3,8 @@ ghost use Rattle.std.specs.Prelude.{◌≡◌, ◌<◌, ◌+◌, ◌^◌, ℕ, L
 ghost use Rattle.std.specs.FinMap as finite;
 ghost use Rattle.std.specs.FinSet as set;
 ghost use Rattle.std.specs.Map.{keys_of};
-ghost use Rattle.agv_world.specs.Asks.{Asks};
 ghost use Rattle.agv_layout.specs.declared.station.Spot.{Spot as SpotOf};
+ghost use Rattle.agv_world.specs.Asks.{Asks};
 ghost use Rattle.agv_world.specs.Lawful.{IsLawful};
 ghost use Rattle.agv_world.specs.Questions.{reserved};
 ghost use Rattle.agv_world.specs.Rows.{rows_of};

@@ -1,9 +1,10 @@
 //! The bytes of the reports that answers name: each is told from questions alone, by the tables as they are.
-ghost use Rattle.std.specs.Prelude.{◌≡◌, false, true, IfOk, IsOkAnd, OnOk, []};
+ghost use Rattle.std.specs.Prelude.{◌≡◌, false, true, Err, IfOk, IsOkAnd, OnOk, []};
 ghost use Rattle.sqlite.specs.Held.{state};
 ghost use Rattle.sqlite.specs.State.{Survives};
 ghost use Rattle.agv_world.specs.Asks.{Asks};
 ghost use Rattle.agv_world.specs.Lawful.{IsLawful};
+ghost use Rattle.agv_world.specs.declared.fault.Fault.TheVariants as fault;
 ghost use Rattle.agv_desk.specs.declared.answer.Answer.TheVariants as answer;
 ghost use Rattle.agv_reports.specs.Reports.{names_report, report_of};
 ghost use Rattle.agv_tables.specs.schema.SchemaNumbers.{desk_seats};
@@ -69,6 +70,7 @@ impl<S: Alter + Drop> KeyedFloor<S> {
         ensures tells { Asks (facts_of S.Store) self.old self.new result (λ world bytes. IsLawful desk_seats world → bytes.items ≡ report_of world told.now) }
         ensures knows { IsClean S.Store self.new.held → OnOk result (Knows S.Store self.new.held (world_at S.Store self.new.held)) }
         ensures ends { EndsAs result self.new.failed }
+        ensures stopped { self.old.failed ≡ true → (result ≡ Err fault.Storage) × (self.new ≡ self.old) }
     {
         self.settle()?;
         let bytes = self.bytes_of(told)?;
@@ -87,6 +89,7 @@ impl<S: Alter + Drop> KeyedFloor<S> {
         ensures silent { names_report told.now ≡ false → IsOkAnd result (λ bytes. bytes.items ≡ []) × (self.new ≡ self.old) }
         ensures ends { names_report told.now ≡ true → EndsAs result self.new.failed }
         ensures fails { self.old.failed ≡ true → self.new.failed ≡ true }
+        ensures stopped { names_report told.now ≡ true → self.old.failed ≡ true → (result ≡ Err fault.Storage) × (self.new ≡ self.old) }
     {
         gives_only_what_is_named();
         self.knows();
@@ -108,7 +111,8 @@ impl<S: Alter + Drop> Desk<S> {
     ///
     /// # Errors
     /// `Memory` for want of memory. `Storage` where the store failed or had failed before: exactly where
-    /// [`failed`](Desk::failed) is `true` as it ends (`ends`).
+    /// [`failed`](Desk::failed) is `true` as it ends (`ends`). A desk that had failed before asks nothing, and stays as it is
+    /// (`stopped`).
     pub fn report(&mut self, told: &Answer) -> Result<Vec<u8>, Fault>
         ensures tells { IsClean S.Store self.new.held → IfOk result (λ bytes. bytes.items ≡ report_of (world_at S.Store self.old.held) told.now) }
         ensures knew { IsClean S.Store self.new.held → OnOk result (names_report told.now ≡ true → Knows S.Store self.old.held (world_at S.Store self.old.held)) }
@@ -119,6 +123,7 @@ impl<S: Alter + Drop> Desk<S> {
         ensures silent { names_report told.now ≡ false → IsOkAnd result (λ bytes. bytes.items ≡ []) × (self.new ≡ self.old) }
         ensures ends { names_report told.now ≡ true → EndsAs result self.new.failed }
         ensures fails { self.old.failed ≡ true → self.new.failed ≡ true }
+        ensures stopped { names_report told.now ≡ true → self.old.failed ≡ true → (result ≡ Err fault.Storage) × (self.new ≡ self.old) }
     {
         self.floor.report(told)
     }

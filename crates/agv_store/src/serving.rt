@@ -1,10 +1,11 @@
 //! One call is served: it is decided by questions, outside a transaction, what it changes is written in one transaction,
 //! and it is answered after the commit.
-ghost use Rattle.std.specs.Prelude.{◌≡◌, false, true, IfOk, OnErr, OnOk};
+ghost use Rattle.std.specs.Prelude.{◌≡◌, false, true, Err, IfOk, OnErr, OnOk};
 ghost use Rattle.sqlite.specs.Held.{state};
 ghost use Rattle.sqlite.specs.State.{Survives};
 ghost use Rattle.agv_world.specs.Asks.{Asks};
 ghost use Rattle.agv_world.specs.Lawful.{IsLawful};
+ghost use Rattle.agv_world.specs.declared.fault.Fault.TheVariants as fault;
 ghost use Rattle.agv_desk.specs.Outcomes.{answer_of};
 ghost use Rattle.agv_tables.specs.schema.SchemaNumbers.{desk_seats};
 ghost use Rattle.agv_tables.specs.sql.Connections.{IsClean, IsOpen};
@@ -32,6 +33,7 @@ impl<S: Alter + Drop> KeyedFloor<S> {
         ensures decides { Asks (facts_of S.Store) self.old self.new result (λ world decision. IsLawful desk_seats world → Decides world at call.now decision) }
         ensures knows { IsClean S.Store self.new.held → OnOk result (Knows S.Store self.new.held (world_at S.Store self.new.held)) }
         ensures ends { EndsAs result self.new.failed }
+        ensures stopped { self.old.failed ≡ true → (result ≡ Err fault.Storage) × (self.new ≡ self.old) }
     {
         serves_lawful_worlds();
         keeps_lawful();
@@ -74,6 +76,7 @@ impl<S: Alter + Drop> KeyedFloor<S> {
         ensures crash { Survives (state S.Store self.old.held) (state S.Store self.new.held) (LeavesCall S.Store self.old.held at call.now) }
         ensures ends { EndsAs result self.new.failed }
         ensures fails { self.old.failed ≡ true → self.new.failed ≡ true }
+        ensures stopped { self.old.failed ≡ true → (result ≡ Err fault.Storage) × (self.new ≡ self.old) }
     {
         self.knows();
         is_in_good_order();

@@ -182,3 +182,55 @@ fn questions(rt: HostRuntime) {
     }
     check_released(&rt, alloc, desk, PICKED_ROWS);
 }
+
+/// The reports while the first load is on the vehicle, on its way to B: the second is at the checking place, and the third has
+/// left. An answer that is no report has no bytes.
+const REPORTS: [(Request, &str); 4] = [
+    (
+        ("GET", "/report/stock", ""),
+        "station A at N1: 0 of 1, reserved 0
+station B at N3: 0 of 1, reserved 1
+station C at N3: 0 of 2, reserved 0
+checking: 1
+  L2
+vehicle KIT/0001: 1
+  L1
+left: 1
+",
+    ),
+    (
+        ("GET", "/report/holds", ""),
+        "node N1 KIT/0001\nnode N2 KIT/0001\nedge E12 KIT/0001\nheld 3 of 7\n",
+    ),
+    (
+        ("GET", "/export/loads", ""),
+        "load,place,at\nL1,vehicle,KIT/0001\nL2,checking,\nL3,left,\n",
+    ),
+    (("GET", "/loads/L1", ""), ""),
+];
+
+/// The desk answers the request with these bytes of a report.
+fn check_report<S: Alter + Drop>(
+    rt: &impl Abort,
+    alloc: Global,
+    desk: &mut Desk<S>,
+    request: &Request,
+    wanted: &str,
+) {
+    let routes = Routes::new(alloc).expect(rt, "memory");
+    let call = call_in(rt, alloc, &routes, request);
+    let answer = desk.serve(moment(rt), &call).expect(rt, request.1);
+    let bytes = desk.report(&answer).expect(rt, request.1);
+    check(rt, bytes.as_slice() == wanted.as_bytes(), request.1);
+}
+
+/// The desk gives the bytes of each report, and changes no row.
+#[test]
+fn reports(rt: HostRuntime) {
+    let alloc = rt.alloc();
+    let mut desk = adopted(&rt, alloc, example_with(&rt, alloc, ""));
+    for (request, wanted) in &REPORTS {
+        check_report(&rt, alloc, &mut desk, request, wanted);
+    }
+    check_released(&rt, alloc, desk, PICKED_ROWS);
+}
