@@ -1,4 +1,5 @@
-pub mod Asking
-pub mod Streaming
-pub mod Steps
-pub mod AsTheDesk
+pub mod InTurn
+pub mod Serving
+pub mod Streams
+pub mod Writing
+pub mod Exits

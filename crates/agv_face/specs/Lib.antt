@@ -1,9 +1,6 @@
-pub mod Calls
-pub mod Asked
-pub mod Served
-pub mod Stepped
-pub mod Stops
+pub mod Replies
+pub mod Nexts
 pub mod Watched
-pub mod StoreFaults
-pub mod StreamEnds
-pub mod AsTheDesk
+pub mod Bytes
+pub mod Refusals
+pub mod Ends

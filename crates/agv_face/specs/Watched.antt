@@ -38,6 +38,6 @@ FailedOnce old new = failures_of new ≡ counted (failures_of old) 1
 abbrev pub FailedNever : {T : Type 0} → Watched T → Watched T → Type 0
 FailedNever old new = failures_of new ≡ failures_of old
 
--- one call failed, or none of 16,777,216 calls did
-abbrev pub RanOut : {T : Type 0} → Watched T → Watched T → Type 0
-RanOut old new = FailedOnce old new ⊎ (HadCalls 16777216 old new × FailedNever old new)
+-- one call failed, or none of so many calls did
+abbrev pub RanOut : {T : Type 0} → ℕ → Watched T → Watched T → Type 0
+RanOut n old new = FailedOnce old new ⊎ (HadCalls n old new × FailedNever old new)

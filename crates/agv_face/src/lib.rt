@@ -1,24 +1,31 @@
-//! The face of the desk: from the bytes of a stream to calls, and from answers back to bytes.
+//! The face of the desk: a stream of requests is served by a desk over its tables, and the answers are written.
 //!
 //! A reader gives bytes, cut as it likes. `agv_http` finds the next request in what has come so far, and which call of
-//! the desk it is; two of the calls are served; the store carries the call out, which gives an answer of the desk; and
-//! the answer's bytes are written before the next request is looked at. [`answer_calls`] does so up to the end of the
-//! input, and [`serve_loads`] is what the program calls. Both take their reader and their writer as
-//! [`Watched`], so that a clause can say why a stream ended.
+//! the desk it is; `agv_store` serves the call, whose changes are committed before it is answered, and gives the report
+//! that the answer names; and the answer's bytes are written before the next request is looked at. [`serve_stream`] does
+//! so to the end of the stream, in room that is reserved before the first call: 73,728 bytes for the longest request and
+//! 131,072 for the answer to any call that changes something. [`serve_stream_within`] takes the most reads beside.
+//! Both take their reader and their writer as [`Watched`], so that a clause can say why a stream ended.
 //!
-//! What the contracts mean is in `specs/`, and for requests, calls and the bytes of answers in those of `agv_http`:
-//! `Calls` says which calls are served, `Asked` which calls an input asks, `Served` what is written for some
-//! calls and what they make of the registered loads, and `StreamEnds` how a stream ends: the theorem of
-//! this crate. `Watched`, `Stops` and `StoreFaults` have its words on failures, `Stepped` what
-//! private functions come to. The module [`laws`] has what holds of these definitions by themselves.
+//! - `specs/Ends.antt` says how a stream ends: what has come of its input, what is written, and which world the desk
+//!   then knows, whatever the reads and writes are cut into. It is the theorem of this crate; what is written at each end
+//!   is defined by `agv_http` (its `StreamEnds`), whose module `stream_laws` joins the requests of a stream to lists of
+//!   calls, so that what `agv_desk` says of these holds of streams.
+//! - `specs/Replies.antt` says what one request comes to, `specs/Nexts.antt` the next one of a buffer, `specs/Bytes.antt`
+//!   bytes that are read or written, `specs/Refusals.antt` the refusal for a fault of the machine, and
+//!   `specs/Watched.antt` has the words on failures.
+//! - One request is followed from `stream` to `next` (what the buffer begins with), `reply` (its answer) and `call` (which
+//!   call it is).
 #![tactic(auto)]
 
+mod bytes;
 mod call;
-pub mod laws;
-mod serve;
+mod next;
+mod reply;
+mod served;
 mod stream;
 mod watched;
 
-pub use serve::{LoadsFault, serve_loads};
-pub use stream::{Stop, answer_calls};
+pub use served::{Ended, Served, StreamFault};
+pub use stream::{serve_stream, serve_stream_within};
 pub use watched::Watched;

@@ -1,0 +1,195 @@
+-- How a stream goes on or ends after its next request.
+use Rattle.std.proofs.Common.{◌≡◌, ◌+◌, ◌<◌, ◌≤◌, ◌++◌, ℕ, Bool, true, false, not, nat_lt, if◌then◌else◌, List, [], length, codes, Option, Result, Ok, Err, drop, inl, inr, refl, sym, ap, ◌∙◌, subst}
+use Rattle.std.specs.Io.KnownBytes.{Appends, Keeps}
+use Rattle.sqlite_trees.specs.declared.store.Store.{Ghosts}
+use Rattle.agv_header.specs.declared.refusal.Refusal.{Refusal}
+use Rattle.agv_http.specs.Lines.{Length, absent, content_length, given, has_line, wrong}
+use Rattle.agv_http.specs.Requests.{IsFault, length_needed, lines_of, most_body, sends_body}
+use Rattle.agv_http.specs.StreamEnds.{IsOfMachine}
+use Rattle.agv_http.specs.declared.request.Heard.TheVariants as heard
+use Rattle.agv_store.specs.Floors.{Keyed, Knows, world_at}
+use Rattle.agv_tables.specs.sql.Connections.{IsClean, IsOpen}
+use Rattle.agv_world.specs.declared.fault.Fault.{Fault}
+use Rattle.agv_world.specs.declared.fault.Fault.TheVariants as machine
+use Rattle.agv_face.specs.Bytes.{IsCut, IsPutWhole, IsRead}
+use Rattle.agv_face.specs.Ends.{IsStreamEnd, failed_by, most_reads}
+use Rattle.agv_face.specs.Nexts.{IsNext}
+use Rattle.agv_face.specs.Refusals.{IsRefused, refusal_for}
+use Rattle.agv_face.specs.Watched.{inner_of, RanOut}
+use Rattle.agv_face.specs.declared.next.Next.{Next}
+use Rattle.agv_face.specs.declared.next.Next.TheVariants as next
+use Rattle.agv_face.specs.declared.served.Ended.TheVariants as ended_by
+use Rattle.agv_face.specs.declared.served.Served.{Served}
+use Rattle.agv_face.specs.declared.served.StreamFault.{StreamFault}
+use Rattle.agv_face.specs.declared.served.StreamFault.TheVariants as fault
+use Rattle.agv_face.specs.declared.watched.Watched.{Watched}
+use Rattle.agv_face.proofs.InTurn.{AnswersInTurn, GoesOnBehind, WorldsInTurn}
+use Rattle.agv_face.proofs.Streams.{HasServed, cut_answer, cut_faulty, cut_refused, ends_at_end, ends_closed, ends_faulty, ends_refused, ends_roomless, ends_unread, none_served, reads_on, serves_on}
+use Rattle.agv_face.proofs.Writing.{failed_then}
+
+-- ---- a fault of HTTP is none of the machine
+
+abbrev IsKeptBy : Bool → Result ℕ Refusal → Type 0
+IsKeptBy before (Ok n) = Unit {0}
+IsKeptBy before (Err why) = failed_by (ended_by.Refused why) before ≡ before
+
+either_kept : (before b : Bool) (one other : Result ℕ Refusal) → IsKeptBy before one → IsKeptBy before other → IsKeptBy before (if b then one else other)
+either_kept before true one other first second = first
+either_kept before false one other first second = second
+
+needed_kept : (before coded : Bool) (method : List ℕ) (said : Length) → IsKeptBy before (length_needed coded method said)
+needed_kept before coded method wrong = refl
+needed_kept before coded method absent = either_kept before coded _ _ refl (either_kept before (sends_body method) _ _ refl tt)
+needed_kept before coded method (given n) = either_kept before coded _ _ refl (either_kept before (nat_lt most_body n) _ _ refl tt)
+
+kept_by : (bytes : List ℕ) (why : Refusal) → IsFault bytes why → (before : Bool) → failed_by (ended_by.Refused why) before ≡ before
+kept_by bytes why (inl none) before = let Kept : Refusal → Type 0 = λ r. failed_by (ended_by.Refused r) before ≡ before in subst Kept (sym none.2) refl
+kept_by bytes why (inr (inl said)) before =
+    let Kept : Result ℕ Refusal → Type 0 = λ r. IsKeptBy before r in
+    subst Kept said.3 (needed_kept before (has_line (codes "transfer-encoding") (lines_of said.0)) said.0.method (content_length (lines_of said.0)))
+kept_by bytes why (inr (inr cut)) before = let Kept : Refusal → Type 0 = λ r. failed_by (ended_by.Refused r) before ≡ before in subst Kept (sym cut.6) refl
+
+-- ---- a request more
+
+-- the desk, the reader and the writer at the start and now; the desk after the next request; what has come and isn't served, as it was looked at; and what the next request is
+module _ {S R W : Type 0} (g : Ghosts S) (remaining : R → Option (List ℕ)) (contents : W → Option (List ℕ)) (at reads : ℕ)
+    (desk now desk_then : Keyed S) (reader reader_now : Watched R) (writer writer_now : Watched W) (ended : Bool) (buf seen out : List ℕ) (answers : ℕ) (what : Next)
+    (so_far : HasServed g remaining contents at desk reader writer now reader_now writer_now ended buf answers) (hears : GoesOnBehind)
+    (seen_is : seen ≡ buf) (is_next : IsNext g at now desk_then seen ended out what)
+    (knows : IsClean g desk_then.held → IsOpen g desk_then.held → Knows g desk_then.held (world_at g desk_then.held)) where
+  of : (w : Next) → what ≡ w → IsNext g at now desk_then buf ended out w
+  of w is =
+      let Seen : List ℕ → Type 0 = λ bytes. IsNext g at now desk_then bytes ended out w in
+      let What : Next → Type 0 = λ v. IsNext g at now desk_then seen ended out v in
+      subst Seen seen_is (subst What is is_next)
+
+  -- the desk is as it was
+  same_desk : desk_then ≡ now → HasServed g remaining contents at desk reader writer desk_then reader_now writer_now ended buf answers
+  same_desk same = let So : Keyed S → Type 0 = λ d. HasServed g remaining contents at desk reader writer d reader_now writer_now ended buf answers in subst So (sym same) so_far
+
+  -- the input has ended
+  pub end_found : what ≡ next.End → IsStreamEnd g remaining contents at reads desk desk_then reader reader_now writer writer_now (Ok (record { answers = answers; ended = ended_by.End }))
+  end_found is =
+      let found = of next.End is in
+      let s = same_desk found.1 in
+      let goes = hears s.front buf ended s.requests heard.End s.cut found.0 in
+      ((λ clean. ends_at_end g remaining contents at desk reader writer desk_then reader_now writer_now ended buf answers s knows goes found.0.0 clean), s.read, s.put)
+
+  -- more bytes are needed, and none come
+  pub none_come : what ≡ next.Need → (reader_then : Watched R) → Keeps (remaining (inner_of reader_now)) (remaining (inner_of reader_then)) → RanOut (most_reads reads) reader reader_then
+      → IsStreamEnd g remaining contents at reads desk desk_then reader reader_then writer writer_now (Err (fault.Read answers))
+  none_come is reader_then kept out_of =
+      let found = of next.Need is in
+      let s = same_desk found.1 in
+      let goes = hears s.front buf ended s.requests heard.Need s.cut found.0 in
+      ((λ clean. ends_unread g remaining contents at desk reader writer desk_then reader_now writer_now ended buf answers s knows reader_then goes kept clean), out_of, s.put)
+
+  -- some come, or the end
+  pub some_come : what ≡ next.Need → (reader_then : Watched R) (buf_then : List ℕ) (more : Bool) → IsRead remaining reader_now reader_then buf buf_then more
+      → HasServed g remaining contents at desk reader writer desk_then reader_then writer_now (not more) buf_then answers
+  some_come is reader_then buf_then more got =
+      reads_on g remaining contents at desk reader writer desk_then reader_now reader_then writer_now ended buf buf_then answers more (same_desk (of next.Need is).1) got
+
+  -- there is a fault of HTTP, and so none of the machine
+  pub failed_still : (why : Refusal) → what ≡ next.Fault why → desk_then.failed ≡ failed_by (ended_by.Refused why) desk.failed
+  failed_still why is =
+      let found = of (next.Fault why) is in
+      ap (λ (d : Keyed S). d.failed) found.2 ∙ so_far.failed ∙ sym (kept_by (buf ++ []) why (found.0 [] (λ _. refl)) desk.failed)
+
+  module _ (why : Refusal) (is : what ≡ next.Fault why) (writer_then : Watched W) (sent : List ℕ) (sent_is : sent ≡ out) where
+    pub fault_told : IsPutWhole contents writer_now writer_then sent true
+        → IsStreamEnd g remaining contents at reads desk desk_then reader reader_now writer writer_then (Ok (record { answers = answers + 1; ended = ended_by.Refused why }))
+    fault_told put =
+        let found = of (next.Fault why) is in
+        let s = same_desk found.2 in
+        let goes = hears s.front buf ended s.requests (heard.Fault why) s.cut found.0 in
+        let Wrote : List ℕ → Type 0 = λ bytes. Appends (contents (inner_of writer_now)) (contents (inner_of writer_then)) bytes in
+        ((λ clean. ends_faulty g remaining contents at desk reader writer desk_then reader_now writer_now ended buf answers s knows why found.0 goes writer_then (subst Wrote (sent_is ∙ found.1) put.0) clean), s.read, put.1 ∙ s.put)
+
+    pub fault_cut : IsPutWhole contents writer_now writer_then sent false
+        → IsStreamEnd g remaining contents at reads desk desk_then reader reader_now writer writer_then (Err (fault.Write answers))
+    fault_cut put =
+        let found = of (next.Fault why) is in
+        let s = same_desk found.2 in
+        let goes = hears s.front buf ended s.requests (heard.Fault why) s.cut found.0 in
+        let Cut : List ℕ → Type 0 = λ bytes. IsCut (contents (inner_of writer_now)) (contents (inner_of writer_then)) bytes in
+        ((λ clean. cut_faulty g remaining contents at desk reader writer desk_then reader_now writer_now ended buf answers s knows why found.0 goes writer_then (subst Cut (sent_is ∙ found.1) put.0) clean), s.read, failed_then writer writer_now writer_then s.put put.1)
+
+  -- a request was served
+  module _ (later : IsClean g desk_then.held → IsClean g now.held) (failed : desk_then.failed ≡ now.failed) (answers_turn : AnswersInTurn) (worlds_turn : WorldsInTurn)
+      (len : ℕ) (close : Bool) (is : what ≡ next.Request len close) (writer_then : Watched W) (sent : List ℕ) (sent_is : sent ≡ out) where
+    pub answer_cut : IsPutWhole contents writer_now writer_then sent false
+        → IsStreamEnd g remaining contents at reads desk desk_then reader reader_now writer writer_then (Err (fault.Write answers))
+    answer_cut put =
+        let found = of (next.Request len close) is in
+        let goes = hears so_far.front buf ended so_far.requests (heard.Request found.request) so_far.cut found.heard_is in
+        let Cut : List ℕ → Type 0 = λ bytes. IsCut (contents (inner_of writer_now)) (contents (inner_of writer_then)) bytes in (
+          (λ clean. cut_answer g remaining contents at desk reader writer now reader_now writer_now ended buf answers so_far desk_then writer_then later failed found.request goes.0 goes.1 out found.answered answers_turn worlds_turn knows (subst Cut sent_is put.0) clean),
+          so_far.read,
+          failed_then writer writer_now writer_then so_far.put put.1,
+        )
+
+    pub some_bytes : (0 < len) × (len ≤ length buf)
+    some_bytes =
+        let found = of (next.Request len close) is in
+        let Some : ℕ → Type 0 = λ n. (0 < n) × (n ≤ length buf) in
+        subst Some (sym found.len_is) (found.heard_is.0, found.heard_is.1)
+
+    module _ (put : IsPutWhole contents writer_now writer_then sent true) where
+      wrote : Appends (contents (inner_of writer_now)) (contents (inner_of writer_then)) out
+      wrote = let Wrote : List ℕ → Type 0 = λ bytes. Appends (contents (inner_of writer_now)) (contents (inner_of writer_then)) bytes in subst Wrote sent_is put.0
+
+      pub last_answered : close ≡ true → IsStreamEnd g remaining contents at reads desk desk_then reader reader_now writer writer_then (Ok (record { answers = answers + 1; ended = ended_by.Close }))
+      last_answered last =
+          let found = of (next.Request len close) is in
+          let goes = hears so_far.front buf ended so_far.requests (heard.Request found.request) so_far.cut found.heard_is in (
+            (λ clean. ends_closed g remaining contents at desk reader writer now reader_now writer_now ended buf answers so_far desk_then writer_then later failed found.request goes.0 goes.1 out found.answered answers_turn worlds_turn knows (sym found.close_is ∙ last) wrote clean),
+            so_far.read,
+            put.1 ∙ so_far.put,
+          )
+
+      pub answered_on : close ≡ false → HasServed g remaining contents at desk reader writer desk_then reader_now writer_then ended (drop len buf) (answers + 1)
+      answered_on goes_on =
+          let found = of (next.Request len close) is in
+          let goes = hears so_far.front buf ended so_far.requests (heard.Request found.request) so_far.cut found.heard_is in
+          let So : ℕ → Type 0 = λ n. HasServed g remaining contents at desk reader writer desk_then reader_now writer_then ended (drop n buf) (answers + 1) in
+          subst So (sym found.len_is)
+          (serves_on g remaining contents at desk reader writer now reader_now writer_now ended buf answers so_far desk_then writer_then later failed found.request goes.0 goes.1 out found.answered answers_turn worlds_turn (sym found.close_is ∙ goes_on) wrote put.1)
+
+-- ---- a fault of the machine
+
+is_of_machine : (why : Fault) → IsOfMachine (refusal_for why)
+is_of_machine machine.Memory = inl refl
+is_of_machine machine.Storage = inr refl
+
+module _ {S R W : Type 0} (g : Ghosts S) (remaining : R → Option (List ℕ)) (contents : W → Option (List ℕ)) (at reads : ℕ)
+    (desk now desk_then : Keyed S) (reader reader_now : Watched R) (writer writer_now writer_then : Watched W) (ended : Bool) (buf : List ℕ) (answers : ℕ) (why : Fault)
+    (so_far : HasServed g remaining contents at desk reader writer now reader_now writer_now ended buf answers)
+    (later : IsClean g desk_then.held → IsClean g now.held) (left : IsClean g desk_then.held → IsOpen g desk_then.held → world_at g desk_then.held ≡ world_at g now.held)
+    (knows : IsClean g desk_then.held → IsOpen g desk_then.held → Knows g desk_then.held (world_at g desk_then.held)) where
+  pub machine_failed : (result : Result Served StreamFault) → IsRefused contents writer_now writer_then why answers result
+      → IsStreamEnd g remaining contents at reads desk desk_then reader reader_now writer writer_then result
+  machine_failed (Ok served) told =
+      let Ended : Served → Type 0 = λ s. IsStreamEnd g remaining contents at reads desk desk_then reader reader_now writer writer_then (Ok s) in
+      subst Ended (sym told.0)
+      ((λ clean. ends_refused g remaining contents at desk reader writer now reader_now writer_now ended buf answers so_far desk_then writer_then later left knows (refusal_for why) (is_of_machine why) told.1 clean), so_far.read, told.2 ∙ so_far.put)
+  machine_failed (Err (fault.Read n)) told = absurd told
+  machine_failed (Err (fault.Write n)) told =
+      let Ended : ℕ → Type 0 = λ m. IsStreamEnd g remaining contents at reads desk desk_then reader reader_now writer writer_then (Err (fault.Write m)) in
+      subst Ended (sym told.0) (
+        (λ clean. cut_refused g remaining contents at desk reader writer now reader_now writer_now ended buf answers so_far desk_then writer_then later left knows (refusal_for why) (is_of_machine why) told.1 clean),
+        so_far.read,
+        failed_then writer writer_now writer_then so_far.put told.2,
+      )
+
+-- no room could be reserved
+module _ {S R W : Type 0} (g : Ghosts S) (remaining : R → Option (List ℕ)) (contents : W → Option (List ℕ)) (at reads : ℕ) (desk : Keyed S) (reader : Watched R) (writer writer_then : Watched W)
+    (knows : IsClean g desk.held → IsOpen g desk.held → Knows g desk.held (world_at g desk.held)) where
+  pub no_room : (result : Result Served StreamFault) → IsRefused contents writer writer_then machine.Memory 0 result → IsStreamEnd g remaining contents at reads desk desk reader reader writer writer_then result
+  no_room (Ok served) told =
+      let Ended : Served → Type 0 = λ s. IsStreamEnd g remaining contents at reads desk desk reader reader writer writer_then (Ok s) in
+      subst Ended (sym told.0) ((λ clean. ends_roomless g remaining contents at desk reader writer writer_then knows told.1 clean), refl, told.2)
+  no_room (Err (fault.Read n)) told = absurd told
+  no_room (Err (fault.Write n)) told =
+      machine_failed g remaining contents at reads desk desk desk reader reader writer writer writer_then false [] 0 machine.Memory (none_served g remaining contents at desk reader writer)
+      (λ clean. clean) (λ _ _. refl) knows (Err (fault.Write n)) told

@@ -1,0 +1,82 @@
+-- One request more: what is written for it, and the world after it.
+use Rattle.std.proofs.Common.{◌≡◌, ℕ, Bool, true, List, [], ◌∷◌, ◌++◌, Option, Some, None, IfSome, refl, sym, ap, ap₂, ◌∙◌, append-nil}
+use Rattle.std.specs.Io.KnownBytes.{Consumes, IsAtEnd}
+use Rattle.agv_desk.specs.Outcomes.{Outcome, after, answer_of}
+use Rattle.agv_http.specs.Answers.{answer_text}
+use Rattle.agv_http.specs.Cut.{Cut, at_end}
+use Rattle.agv_http.specs.Fronts.{GoesOn}
+use Rattle.agv_http.specs.Heard.{Follows, IsHeard, IsLent}
+use Rattle.agv_http.specs.Output.{answer_to, answers_to, call_by, call_for, outcome_by, outcome_for, world_after}
+use Rattle.agv_http.specs.Requests.{Request}
+use Rattle.agv_http.specs.Table.{route_at}
+use Rattle.agv_http.specs.declared.request.Heard.{Heard}
+use Rattle.agv_http.specs.declared.request.LentRequest.{LentRequest}
+use Rattle.agv_reports.specs.Reports.{report_of}
+use Rattle.agv_tables.specs.schema.SchemaNumbers.{desk_seats}
+use Rattle.agv_world.specs.Worlds.{World}
+use Rattle.agv_face.specs.Replies.{call_of, outcome_in, text_for}
+
+-- ---- the laws that are cited
+
+abbrev pub GoesOnBehind : Type 0
+GoesOnBehind = (front buf : List ℕ) (ended : Bool) (requests : List Request) (told : Heard) → Cut front requests at_end → IsHeard buf ended told → GoesOn front buf ended requests told
+
+abbrev pub AnswersInTurn : Type 0
+AnswersInTurn = (seats : ℕ) (world : World) (at : ℕ) (requests more : List Request)
+    → answers_to seats world at (requests ++ more) ≡ answers_to seats world at requests ++ answers_to seats (world_after seats world at requests) at more
+
+abbrev pub WorldsInTurn : Type 0
+WorldsInTurn = (seats : ℕ) (world : World) (at : ℕ) (requests more : List Request)
+    → world_after seats world at (requests ++ more) ≡ world_after seats (world_after seats world at requests) at more
+
+-- ---- a request, by its lent parts
+
+outcome_is : (world : World) (at : ℕ) (request : Request) (lent : LentRequest) → IsLent request lent → outcome_in world at (call_of lent) ≡ outcome_for desk_seats world at request
+unfolding call_for outcome_for
+outcome_is world at request lent is =
+    ap (λ (body : List ℕ). outcome_by desk_seats world at (call_by body (route_at lent.method lent.target.now))) is.body
+    ∙ ap (λ (target : List ℕ). outcome_by desk_seats world at (call_by request.body (route_at lent.method target))) is.target
+    ∙ ap (λ (method : List ℕ). outcome_by desk_seats world at (call_by request.body (route_at method request.target))) is.method
+
+text_is : (world : World) (at : ℕ) (request : Request) (lent : LentRequest) → IsLent request lent → text_for world at lent ≡ answer_to desk_seats world at request
+text_is world at request lent is =
+    ap₂ (λ (o : Outcome) (close : Bool). answer_text (answer_of o) (report_of world (answer_of o)) close) (outcome_is world at request lent is) is.close
+
+-- ---- no request, one, and one behind others
+
+pub no_answer : (world : World) (at : ℕ) → answers_to desk_seats world at [] ≡ []
+unfolding answers_to
+no_answer world at = refl
+
+pub no_change : (world : World) (at : ℕ) → world_after desk_seats world at [] ≡ world
+unfolding world_after
+no_change world at = refl
+
+one_answer : (world : World) (at : ℕ) (request : Request) → answers_to desk_seats world at (request ∷ []) ≡ answer_to desk_seats world at request
+unfolding answers_to
+one_answer world at request = append-nil (answer_to desk_seats world at request)
+
+one_world : (world : World) (at : ℕ) (request : Request) → world_after desk_seats world at (request ∷ []) ≡ after world (outcome_for desk_seats world at request)
+unfolding world_after
+one_world world at request = refl
+
+module _ (world : World) (at : ℕ) (requests : List Request) (request : Request) (lent : LentRequest) (is : IsLent request lent) where
+  abbrev reached : World
+  reached = world_after desk_seats world at requests
+
+  pub next_text : text_for reached at lent ≡ answer_to desk_seats reached at request
+  next_text = text_is reached at request lent is
+
+  pub next_answers : AnswersInTurn → answers_to desk_seats world at requests ++ text_for reached at lent ≡ answers_to desk_seats world at (requests ++ request ∷ [])
+  next_answers turn = sym (turn desk_seats world at requests (request ∷ []) ∙ ap (λ (text : List ℕ). answers_to desk_seats world at requests ++ text) (one_answer reached at request ∙ sym next_text))
+
+  pub next_world : WorldsInTurn → after reached (outcome_in reached at (call_of lent)) ≡ world_after desk_seats world at (requests ++ request ∷ [])
+  next_world turn = ap (λ (o : Outcome). after reached o) (outcome_is reached at request lent is) ∙ sym (one_world reached at request) ∙ sym (turn desk_seats world at requests (request ∷ []))
+
+-- ---- the whole input: what has come of it, and what comes behind
+
+pub whole : (old now : Option (List ℕ)) (bytes : List ℕ) (ended : Bool) → Consumes old now bytes → (ended ≡ true → IsAtEnd now)
+    → (input : List ℕ) × (more : List ℕ) × IfSome old (λ all. all ≡ input) × (input ≡ bytes ++ more) × Follows ended more
+whole None now bytes ended came ends = (bytes, [], tt, sym (append-nil bytes), λ _. refl)
+whole (Some all) None bytes ended came ends = absurd came
+whole (Some all) (Some left) bytes ended came ends = (all, left, refl, came, ends)

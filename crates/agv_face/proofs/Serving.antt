@@ -1,0 +1,144 @@
+-- A call is served, and then its report is asked for.
+use Rattle.std.proofs.Common.{◌≡◌, ◌≤◌, ◌⊎◌, ℕ, Bool, true, false, List, [], length, Result, Ok, Err, OnErr, inl, inr, refl, sym, ap, ◌∙◌, subst}
+use Rattle.std.proofs.lemmas.Bool.{both_ways}
+use Rattle.sqlite.specs.Effect.{Database}
+use Rattle.sqlite.specs.Held.{Held, state}
+use Rattle.sqlite_trees.specs.declared.store.Store.{Ghosts}
+use Rattle.agv_desk.specs.Outcomes.{after, answer_of}
+use Rattle.agv_desk.specs.Step.{step}
+use Rattle.agv_desk.specs.Unchanged.{ChangesNothing, only_tells}
+use Rattle.agv_desk.specs.declared.answer.Answer.{Answer}
+use Rattle.agv_desk.specs.declared.answer.Answer.TheVariants as answer
+use Rattle.agv_desk.specs.declared.call.Call.{Call}
+use Rattle.agv_header.specs.declared.refusal.Refusal.{Refusal}
+use Rattle.agv_http.specs.Answers.{answer_text}
+use Rattle.agv_http.specs.CallIn.{call_in}
+use Rattle.agv_http.specs.Output.{call_by}
+use Rattle.agv_http.specs.Requests.{most_body}
+use Rattle.agv_http.specs.Sizes.{is_outcome, most_answer}
+use Rattle.agv_http.specs.Table.{route_at}
+use Rattle.agv_http.specs.declared.request.LentRequest.{LentRequest}
+use Rattle.agv_http.specs.declared.route.Route.{Route}
+use Rattle.agv_reports.specs.Reports.{names_report, report_of}
+use Rattle.agv_store.specs.Floors.{Knows, world_at}
+use Rattle.agv_store.specs.Served.{world_after}
+use Rattle.agv_tables.specs.questions.WorldAnswers.{HasWorld}
+use Rattle.agv_tables.specs.readings.WorldIn.{world_in}
+use Rattle.agv_tables.specs.rows.DeskRows.{Placing}
+use Rattle.agv_tables.specs.schema.SchemaNumbers.{desk_seats}
+use Rattle.agv_world.specs.Worlds.{World}
+use Rattle.agv_face.specs.Replies.{IsServed, call_of, outcome_in}
+use Rattle.agv_face.specs.declared.reply.Reply.{Reply}
+
+-- ---- the laws that are cited
+
+abbrev pub DatabaseTells : Type 0
+DatabaseTells = (desk : Placing) (db : Database) (world : World) → HasWorld desk db world → world_in db ≡ world
+
+abbrev pub TellsOutcomes : Type 0
+TellsOutcomes = (seats : ℕ) (world : World) (at : ℕ) (made : Call) → only_tells made ≡ false → is_outcome (answer_of (step seats world at made)) ≡ true
+
+abbrev pub TellsWithoutChange : Type 0
+TellsWithoutChange = (seats : ℕ) (world : World) (at : ℕ) (call : Call) → only_tells call ≡ true → ChangesNothing world (step seats world at call)
+
+abbrev pub GivesNamed : Type 0
+GivesNamed = (world : World) (told : Answer) → names_report told ≡ false → report_of world told ≡ []
+
+-- ---- a world that is known
+
+pub world_known : {S : Type 0} (g : Ghosts S) (held : Held S) (world : World) → DatabaseTells → Knows g held world → world_at g held ≡ world
+world_known g held world tells knows = tells knows.at (state g held).now world knows.has
+
+-- ---- a call that is answered by a report only tells
+
+names_none : (told : Answer) → is_outcome told ≡ true → names_report told ≡ false
+names_none (answer.Refused r) is = refl
+names_none answer.Done is = refl
+names_none (answer.Update n) is = refl
+names_none (answer.Instructed n) is = refl
+names_none (answer.Accepted accepted) is = refl
+names_none answer.NoMessage is = refl
+names_none (answer.Counted moved unknown) is = refl
+names_none (answer.Order header order) is = refl
+names_none (answer.Instant header instant) is = refl
+names_none (answer.Load load place job) is = refl
+names_none (answer.Vehicle key row order) is = refl
+names_none answer.StockReport is = absurd (let e : false ≡ true = is in cc)
+names_none answer.HoldReport is = absurd (let e : false ≡ true = is in cc)
+names_none answer.LoadsExport is = absurd (let e : false ≡ true = is in cc)
+
+module _ (outcomes : TellsOutcomes) (changes_none : TellsWithoutChange) (gives : GivesNamed) (world : World) (at : ℕ) (call : Call) (told : Answer) (is : told ≡ answer_of (step desk_seats world at call)) where
+  only_asks : names_report told ≡ true → (b : Bool) → only_tells call ≡ b → b ≡ true
+  only_asks named true same = refl
+  only_asks named false same =
+      let none : names_report told ≡ false = names_none told (let Outcome : Answer → Type 0 = λ a. is_outcome a ≡ true in subst Outcome (sym is) (outcomes desk_seats world at call same)) in
+      absurd (both_ways (names_report told) none named)
+
+  pub stays : names_report told ≡ true → world_after world at call ≡ world
+  stays named = (changes_none desk_seats world at call (only_asks named (only_tells call) refl)).0
+
+  by_name : (b : Bool) → names_report told ≡ b → report_of (world_after world at call) told ≡ report_of world told
+  by_name true named = ap (λ (w : World). report_of w told) (stays named)
+  by_name false named = gives (world_after world at call) told named ∙ sym (gives world told named)
+
+  pub same_report : report_of (world_after world at call) told ≡ report_of world told
+  same_report = by_name (names_report told) refl
+
+-- ---- a request that is refused before it is a call
+
+pub refused_so : (world : World) (at : ℕ) (call : Result Call Refusal) (why : Refusal) (reply : Reply) → call ≡ Err why → reply.answer ≡ answer.Refused why → reply.report.items ≡ [] → IsServed world world at call reply
+unfolding answer_of after
+refused_so world at call why reply is told none =
+    let So : Result Call Refusal → Type 0 = λ c. IsServed world world at c reply in
+    subst So (sym is) (record { answer_is = told; report_is = none ∙ sym (ap (λ (a : Answer). report_of world a) told); world_is = refl })
+
+-- ---- after a commit there is room for the answer
+
+abbrev pub OutcomesFit : Answer → Type 0
+OutcomesFit told = (seats : ℕ) (world : World) (at : ℕ) (route : Route) (body : List ℕ) (made : Call) (report : List ℕ) (close : Bool)
+    → call_in route body ≡ Ok made → length body ≤ most_body → only_tells made ≡ false → told ≡ answer_of (step seats world at made)
+    → length (answer_text told report close) ≤ most_answer
+
+abbrev pub HasRoom : Answer → Type 0
+HasRoom told = (report : List ℕ) (close : Bool) → length (answer_text told report close) ≤ most_answer
+
+module _ (changes_none : TellsWithoutChange) (told : Answer) (fits : OutcomesFit told) (world world_then : World) (at : ℕ) (body : List ℕ) (short : length body ≤ most_body) where
+  of_call : (route : Route) (made : Call) → call_in route body ≡ Ok made → told ≡ answer_of (step desk_seats world at made) → world_then ≡ after world (step desk_seats world at made)
+      → (b : Bool) → only_tells made ≡ b → (world_then ≡ world) ⊎ HasRoom told
+  of_call route made is so leads true asks = inl (leads ∙ (changes_none desk_seats world at made asks).0)
+  of_call route made is so leads false asks = inr (λ report close. fits desk_seats world at route body made report close is short asks so)
+
+  of_read : (route : Route) (read : Result Call Refusal) → call_in route body ≡ read → told ≡ answer_of (outcome_in world at read) → world_then ≡ after world (outcome_in world at read)
+      → (world_then ≡ world) ⊎ HasRoom told
+  unfolding after
+  of_read route (Err why) is so leads = inl leads
+  of_read route (Ok made) is so leads = of_call route made is so leads (only_tells made) refl
+
+  of_route : (route : Result Route Refusal) → told ≡ answer_of (outcome_in world at (call_by body route)) → world_then ≡ after world (outcome_in world at (call_by body route))
+      → (world_then ≡ world) ⊎ HasRoom told
+  unfolding after
+  of_route (Err why) so leads = inl leads
+  of_route (Ok route) so leads = of_read route (call_in route body) refl so leads
+
+pub stays_or_fits : TellsWithoutChange → (world world_then : World) (at : ℕ) (request : LentRequest) (reply : Reply) → OutcomesFit reply.answer → length request.body.now ≤ most_body
+    → IsServed world world_then at (call_of request) reply → (world_then ≡ world) ⊎ HasRoom reply.answer
+stays_or_fits changes_none world world_then at request reply fits short served =
+    of_route changes_none reply.answer fits world world_then at request.body.now short (route_at request.method request.target.now) served.answer_is served.world_is
+
+-- ---- in general
+
+pub by_either : {A B C : Type 0} → A ⊎ B → (A → C) → (B → C) → C
+by_either (inl a) left right = left a
+by_either (inr b) left right = right b
+
+pub on_err : {T E P : Type 0} (r : Result T E) → P → OnErr r P
+on_err (Ok done) holds = tt
+on_err (Err why) holds = holds
+
+pub by_both : {P : Type 0} → (b : Bool) → (b ≡ true → P) → (b ≡ false → P) → P
+by_both true one other = one refl
+by_both false one other = other refl
+
+pub true_where : (b : Bool) → (b ≡ false → ⊥) → b ≡ true
+true_where true never = refl
+true_where false never = absurd (never refl)

@@ -1,0 +1,389 @@
+-- A stream, one request after another.
+use Rattle.std.proofs.Common.{◌≡◌, ◌+◌, ℕ, Bool, true, false, not, List, [], ◌∷◌, ◌++◌, length, take, drop, Option, refl, sym, ap, ◌∙◌, subst, inl, inr, arith, append_assoc, append-nil, length-append, take-append-drop}
+use Rattle.std.specs.Io.KnownBytes.{Appends, Consumes, IsAtEnd, Keeps}
+use Rattle.std.proofs.KnownBytes.{Appends-trans, Appends-nil, Consumes-nil, Consumes-trans, Consumes-kept}
+use Rattle.sqlite_trees.specs.declared.store.Store.{Ghosts}
+use Rattle.agv_header.specs.declared.refusal.Refusal.{Refusal}
+use Rattle.agv_header.specs.declared.refusal.Refusal.TheVariants as refusal
+use Rattle.agv_desk.specs.Outcomes.{after}
+use Rattle.agv_http.specs.Cut.{Cut, at_end, closed, faulty, no_more}
+use Rattle.agv_http.specs.Fronts.{GoesOnBy, HasNext, IsSoFar}
+use Rattle.agv_http.specs.Heard.{IsHeard}
+use Rattle.agv_http.specs.Output.{answers_to, refusal_text, world_after}
+use Rattle.agv_http.specs.Requests.{Request}
+use Rattle.agv_http.specs.StreamEnds.{IsOfMachine, IsReadFault, IsWriteFault}
+use Rattle.agv_http.specs.declared.request.Heard.TheVariants as heard
+use Rattle.agv_http.specs.declared.request.LentRequest.{LentRequest}
+use Rattle.agv_store.specs.Floors.{Keyed, Knows, world_at}
+use Rattle.agv_tables.specs.schema.SchemaNumbers.{desk_seats}
+use Rattle.agv_tables.specs.sql.Connections.{IsClean, IsOpen}
+use Rattle.agv_world.specs.Worlds.{World}
+use Rattle.agv_face.specs.Bytes.{IsCut, IsRead}
+use Rattle.agv_face.specs.Ends.{HaveCome, IsEnd, IsInput, Leaves}
+use Rattle.agv_face.specs.Replies.{IsAnswered, call_of, outcome_in, text_for}
+use Rattle.agv_face.specs.Watched.{inner_of, FailedNever}
+use Rattle.agv_face.specs.declared.served.Ended.TheVariants as ended_by
+use Rattle.agv_face.specs.declared.watched.Watched.{Watched}
+use Rattle.agv_face.proofs.InTurn.{AnswersInTurn, WorldsInTurn, next_answers, next_text, next_world, no_answer, no_change, whole}
+
+-- the desk, the reader and the writer, each at the start and now; whether the input has ended, what has come and isn't served, and how many answers were written
+module _ {S R W : Type 0} (g : Ghosts S) (remaining : R → Option (List ℕ)) (contents : W → Option (List ℕ)) (at : ℕ) (desk : Keyed S) (reader : Watched R) (writer : Watched W) where
+  abbrev start : World
+  start = world_at g desk.held
+
+  -- these requests are served, and their answers written
+  pub record HasServed (now : Keyed S) (reader_now : Watched R) (writer_now : Watched W) (ended : Bool) (buf : List ℕ) (answers : ℕ) : Type 0 where
+    pub requests : List Request
+    pub front : List ℕ
+    pub cut : Cut front requests at_end
+    pub counted : answers ≡ length requests
+    pub came : Consumes (remaining (inner_of reader)) (remaining (inner_of reader_now)) (front ++ buf)
+    pub at_its_end : ended ≡ true → IsAtEnd (remaining (inner_of reader_now))
+    pub clean : IsClean g now.held → IsClean g desk.held
+    pub wrote : IsClean g now.held → Appends (contents (inner_of writer)) (contents (inner_of writer_now)) (answers_to desk_seats start at requests)
+    pub world_is : IsClean g now.held → world_at g now.held ≡ world_after desk_seats start at requests
+    pub failed : now.failed ≡ desk.failed
+    pub read : FailedNever reader reader_now
+    pub put : FailedNever writer writer_now
+
+  -- ---- at the start
+
+  pub none_served : HasServed desk reader writer false [] 0
+  none_served = record {
+    requests = [];
+    front = [];
+    cut = no_more [] refl;
+    counted = refl;
+    came = Consumes-nil (remaining (inner_of reader));
+    at_its_end = λ e. let absurdly : false ≡ true = e in cc;
+    clean = λ is. is;
+    wrote = λ _. let Wrote : List ℕ → Type 0 = λ text. Appends (contents (inner_of writer)) (contents (inner_of writer)) text in subst Wrote (sym (no_answer start at)) (Appends-nil (contents (inner_of writer)));
+    world_is = λ _. sym (no_change start at);
+    failed = refl;
+    read = refl;
+    put = refl;
+  }
+
+  -- ---- from one moment to the next
+
+  module _ (now : Keyed S) (reader_now : Watched R) (writer_now : Watched W) (ended : Bool) (buf : List ℕ) (answers : ℕ) (s : HasServed now reader_now writer_now ended buf answers) where
+    abbrev written : List ℕ
+    written = answers_to desk_seats start at s.requests
+
+    abbrev reached : World
+    reached = world_after desk_seats start at s.requests
+
+    -- the whole input
+    abbrev input : List ℕ
+    input = (whole _ _ (s.front ++ buf) ended s.came s.at_its_end).0
+
+    abbrev more : List ℕ
+    more = (whole _ _ (s.front ++ buf) ended s.came s.at_its_end).1
+
+    pub is_input : IsInput remaining reader input
+    is_input = (whole _ _ (s.front ++ buf) ended s.came s.at_its_end).2
+
+    parts : input ≡ s.front ++ (buf ++ more)
+    parts = (whole _ _ (s.front ++ buf) ended s.came s.at_its_end).3 ∙ append_assoc s.front buf more
+
+    follows : ended ≡ true → more ≡ []
+    follows = (whole _ _ (s.front ++ buf) ended s.came s.at_its_end).4
+
+    -- what is written behind that, and which world the desk knows then
+    module _ (then : Keyed S) (writer_then : Watched W) (later : IsClean g then.held → IsClean g now.held) where
+      leaves : (IsSo : World → List ℕ → World → Type 0) (text : List ℕ) (left : World) → IsClean g then.held
+          → IsSo start (written ++ text) left → Appends (contents (inner_of writer_now)) (contents (inner_of writer_then)) text → (IsOpen g then.held → Knows g then.held left)
+          → Leaves g contents desk then writer writer_then IsSo
+      leaves IsSo text left clean is_so wrote knows = record {
+        out = written ++ text;
+        left = left;
+        is_so = is_so;
+        written = Appends-trans _ _ _ _ _ (s.wrote (later clean)) wrote;
+        knows = knows;
+      }
+
+    -- the desk is as it was
+    module _ (knows : IsClean g now.held → IsOpen g now.held → Knows g now.held (world_at g now.held)) where
+      knows_reached : IsClean g now.held → IsOpen g now.held → Knows g now.held reached
+      knows_reached clean still = let Known : World → Type 0 = λ world. Knows g now.held world in subst Known (s.world_is clean) (knows clean still)
+
+      -- nothing is written any more
+      leaves_now : (IsSo : World → List ℕ → World → Type 0) → IsClean g now.held → IsSo start written reached → Leaves g contents desk now writer writer_now IsSo
+      leaves_now IsSo clean is_so = record {
+        out = written;
+        left = reached;
+        is_so = is_so;
+        written = s.wrote clean;
+        knows = knows_reached clean;
+      }
+
+      -- the input has ended
+      pub ends_at_end : Cut (s.front ++ buf) s.requests at_end → ended ≡ true → IsClean g now.held
+          → (bytes : List ℕ) × IsInput remaining reader bytes × Leaves g contents desk now writer writer_now (IsEnd bytes at answers ended_by.End)
+      ends_at_end cut is clean =
+          let none : more ≡ [] = follows is in
+          let all : input ≡ s.front ++ buf = parts ∙ ap (λ (rest : List ℕ). s.front ++ (buf ++ rest)) none ∙ ap (λ (rest : List ℕ). s.front ++ rest) (append-nil buf) in
+          let IsCutSo : List ℕ → Type 0 = λ bytes. Cut bytes s.requests at_end in (
+            input,
+            is_input,
+            leaves_now (IsEnd input at answers ended_by.End) clean (record {
+              output = record {
+                requests = s.requests;
+                ending = at_end;
+                cut = subst IsCutSo (sym all) cut;
+                written = sym (append-nil written);
+                world_is = refl;
+              };
+              ending_is = refl;
+              counted = omega (arith, s.counted);
+            }),
+          )
+
+      -- there is a fault of HTTP, and its refusal is written
+      module _ (why : Refusal) (heard_is : IsHeard buf ended (heard.Fault why)) (goes : (rest : List ℕ) → (ended ≡ true → rest ≡ []) → Cut (s.front ++ (buf ++ rest)) s.requests (faulty why)) (writer_then : Watched W) where
+        pub ends_faulty : Appends (contents (inner_of writer_now)) (contents (inner_of writer_then)) (refusal_text why) → IsClean g now.held
+            → (bytes : List ℕ) × IsInput remaining reader bytes × Leaves g contents desk now writer writer_then (IsEnd bytes at (answers + 1) (ended_by.Refused why))
+        ends_faulty wrote clean =
+            let IsCutSo : List ℕ → Type 0 = λ bytes. Cut bytes s.requests (faulty why) in (
+              input,
+              is_input,
+              leaves now writer_then (λ is. is) (IsEnd input at (answers + 1) (ended_by.Refused why)) (refusal_text why) reached clean
+                  (inl (record {
+                    output = record {
+                      requests = s.requests;
+                      ending = faulty why;
+                      cut = subst IsCutSo (sym parts) (goes more follows);
+                      written = refl;
+                      world_is = refl;
+                    };
+                    ending_is = refl;
+                    counted = omega (arith, s.counted);
+                  }))
+                  wrote (knows_reached clean),
+            )
+
+        -- or it is cut
+        pub cut_faulty : IsCut (contents (inner_of writer_now)) (contents (inner_of writer_then)) (refusal_text why) → IsClean g now.held
+            → (bytes : List ℕ) × IsInput remaining reader bytes × Leaves g contents desk now writer writer_then (λ world out left. IsWriteFault desk_seats world at bytes out left answers)
+        cut_faulty part clean = (
+          input,
+          is_input,
+          leaves now writer_then (λ is. is) (λ world out left. IsWriteFault desk_seats world at input out left answers) part.front reached clean
+              (record {
+                requests = s.requests;
+                text = refusal_text why;
+                is_next = inr (record {
+                  why = why;
+                  cause = inl (record { front = s.front; rest = buf ++ more; parts = parts; cut = s.cut; rest_is = heard_is more follows });
+                  text_is = refl;
+                  world_is = refl;
+                });
+                front = part.front;
+                lacking = part.lacking;
+                parts = part.parts;
+                some_lacks = part.some_lacks;
+                written = refl;
+                counted = s.counted;
+              })
+              part.wrote (knows_reached clean),
+        )
+
+      -- more bytes are needed, and none come
+      pub ends_unread : (reader_then : Watched R) → IsSoFar (s.front ++ buf) s.requests → Keeps (remaining (inner_of reader_now)) (remaining (inner_of reader_then)) → IsClean g now.held
+          → (bytes : List ℕ) × HaveCome remaining reader reader_then bytes × Leaves g contents desk now writer writer_now (λ world out left. IsReadFault desk_seats world at bytes out left answers)
+      ends_unread reader_then so_far kept clean = (
+        s.front ++ buf,
+        Consumes-kept _ _ _ (s.front ++ buf) s.came kept,
+        leaves_now (λ world out left. IsReadFault desk_seats world at (s.front ++ buf) out left answers) clean (record {
+          requests = s.requests;
+          so_far = so_far;
+          served = record { written = sym (append-nil written); world_is = refl };
+          counted = s.counted;
+        }),
+      )
+
+    -- a fault of the machine leaves the world
+    module _ (then : Keyed S) (writer_then : Watched W) (later : IsClean g then.held → IsClean g now.held) (left : IsClean g then.held → IsOpen g then.held → world_at g then.held ≡ world_at g now.held)
+        (knows : IsClean g then.held → IsOpen g then.held → Knows g then.held (world_at g then.held)) (why : Refusal) (of_machine : IsOfMachine why) where
+      knows_still : IsClean g then.held → IsOpen g then.held → Knows g then.held reached
+      knows_still clean still = let Known : World → Type 0 = λ world. Knows g then.held world in subst Known (left clean still ∙ s.world_is (later clean)) (knows clean still)
+
+      pub ends_refused : Appends (contents (inner_of writer_now)) (contents (inner_of writer_then)) (refusal_text why) → IsClean g then.held
+          → (bytes : List ℕ) × IsInput remaining reader bytes × Leaves g contents desk then writer writer_then (IsEnd bytes at (answers + 1) (ended_by.Refused why))
+      ends_refused wrote clean = (
+        input,
+        is_input,
+        leaves then writer_then later (IsEnd input at (answers + 1) (ended_by.Refused why)) (refusal_text why) reached clean
+            (inr (inl (record {
+              requests = s.requests;
+              begins = record { front = s.front; rest = buf ++ more; parts = parts; cut = s.cut; rest_is = tt };
+              of_machine = of_machine;
+              served = record { written = refl; world_is = refl };
+              counted = omega (arith, s.counted);
+            })))
+            wrote (knows_still clean),
+      )
+
+      pub cut_refused : IsCut (contents (inner_of writer_now)) (contents (inner_of writer_then)) (refusal_text why) → IsClean g then.held
+          → (bytes : List ℕ) × IsInput remaining reader bytes × Leaves g contents desk then writer writer_then (λ world out left. IsWriteFault desk_seats world at bytes out left answers)
+      cut_refused part clean = (
+        input,
+        is_input,
+        leaves then writer_then later (λ world out left. IsWriteFault desk_seats world at input out left answers) part.front reached clean
+            (record {
+              requests = s.requests;
+              text = refusal_text why;
+              is_next = inr (record {
+                why = why;
+                cause = inr (record { front = s.front; rest = buf ++ more; parts = parts; cut = s.cut; rest_is = tt }, of_machine);
+                text_is = refl;
+                world_is = refl;
+              });
+              front = part.front;
+              lacking = part.lacking;
+              parts = part.parts;
+              some_lacks = part.some_lacks;
+              written = refl;
+              counted = s.counted;
+            })
+            part.wrote (knows_still clean),
+      )
+
+    -- a request is served, and its answer is to be written
+    module _ (then : Keyed S) (writer_then : Watched W) (later : IsClean g then.held → IsClean g now.held) (failed : then.failed ≡ now.failed) (lent : LentRequest) (request : Request)
+        (goes : GoesOnBy s.front buf s.requests lent request) (out : List ℕ) (answered : IsClean g then.held → IsAnswered (world_at g now.held) (world_at g then.held) at lent out)
+        (answers_turn : AnswersInTurn) (worlds_turn : WorldsInTurn) where
+      out_is : IsClean g then.held → out ≡ text_for reached at lent
+      out_is clean = (answered clean).text_is ∙ ap (λ (world : World). text_for world at lent) (s.world_is (later clean))
+
+      all_written : IsClean g then.held → written ++ out ≡ answers_to desk_seats start at (s.requests ++ request ∷ [])
+      all_written clean = ap (λ (text : List ℕ). written ++ text) (out_is clean) ∙ next_answers start at s.requests request lent goes.is_lent answers_turn
+
+      world_then : IsClean g then.held → world_at g then.held ≡ world_after desk_seats start at (s.requests ++ request ∷ [])
+      world_then clean =
+          (answered clean).world_is ∙ ap (λ (world : World). after world (outcome_in world at (call_of lent))) (s.world_is (later clean)) ∙ next_world start at s.requests request lent goes.is_lent worlds_turn
+
+      many : answers + 1 ≡ length (s.requests ++ request ∷ [])
+      many = omega (arith, s.counted, length-append s.requests (request ∷ []))
+
+      wrote_all : IsClean g then.held → Appends (contents (inner_of writer_now)) (contents (inner_of writer_then)) out
+          → Appends (contents (inner_of writer)) (contents (inner_of writer_then)) (answers_to desk_seats start at (s.requests ++ request ∷ []))
+      wrote_all clean wrote =
+          let Wrote : List ℕ → Type 0 = λ text. Appends (contents (inner_of writer)) (contents (inner_of writer_then)) text in
+          subst Wrote (all_written clean) (Appends-trans _ _ _ _ _ (s.wrote (later clean)) wrote)
+
+      -- the stream goes on
+      pub serves_on : lent.close ≡ false → Appends (contents (inner_of writer_now)) (contents (inner_of writer_then)) out → FailedNever writer_now writer_then
+          → HasServed then reader_now writer_then ended (drop lent.len buf) (answers + 1)
+      serves_on stays wrote worked =
+          let here : s.front ++ buf ≡ (s.front ++ take lent.len buf) ++ drop lent.len buf =
+          ap (λ (l : List ℕ). s.front ++ l) (sym (take-append-drop lent.len buf)) ∙ sym (append_assoc s.front (take lent.len buf) (drop lent.len buf)) in
+          let Come : List ℕ → Type 0 = λ bytes. Consumes (remaining (inner_of reader)) (remaining (inner_of reader_now)) bytes in
+          record {
+            requests = s.requests ++ request ∷ [];
+            front = s.front ++ take lent.len buf;
+            cut = goes.stays_open stays;
+            counted = many;
+            came = subst Come here s.came;
+            at_its_end = s.at_its_end;
+            clean = λ clean. s.clean (later clean);
+            wrote = λ clean. wrote_all clean wrote;
+            world_is = world_then;
+            failed = failed ∙ s.failed;
+            read = s.read;
+            put = worked ∙ s.put;
+          }
+
+      module _ (knows : IsClean g then.held → IsOpen g then.held → Knows g then.held (world_at g then.held)) where
+        knows_then : IsClean g then.held → IsOpen g then.held → Knows g then.held (world_after desk_seats start at (s.requests ++ request ∷ []))
+        knows_then clean still = let Known : World → Type 0 = λ world. Knows g then.held world in subst Known (world_then clean) (knows clean still)
+
+        -- it was the last one
+        pub ends_closed : lent.close ≡ true → Appends (contents (inner_of writer_now)) (contents (inner_of writer_then)) out → IsClean g then.held
+            → (bytes : List ℕ) × IsInput remaining reader bytes × Leaves g contents desk then writer writer_then (IsEnd bytes at (answers + 1) ended_by.Close)
+        ends_closed close wrote clean =
+            let IsCutSo : List ℕ → Type 0 = λ bytes. Cut bytes (s.requests ++ request ∷ []) closed in (
+              input,
+              is_input,
+              record {
+                out = answers_to desk_seats start at (s.requests ++ request ∷ []);
+                left = world_after desk_seats start at (s.requests ++ request ∷ []);
+                is_so = record {
+                  output = record {
+                    requests = s.requests ++ request ∷ [];
+                    ending = closed;
+                    cut = subst IsCutSo (sym parts) (goes.closes close more);
+                    written = sym (append-nil (answers_to desk_seats start at (s.requests ++ request ∷ [])));
+                    world_is = refl;
+                  };
+                  ending_is = refl;
+                  counted = omega (arith, many);
+                };
+                written = wrote_all clean wrote;
+                knows = knows_then clean;
+              },
+            )
+
+        -- its answer is cut
+        pub cut_answer : IsCut (contents (inner_of writer_now)) (contents (inner_of writer_then)) out → IsClean g then.held
+            → (bytes : List ℕ) × IsInput remaining reader bytes × Leaves g contents desk then writer writer_then (λ world text left. IsWriteFault desk_seats world at bytes text left answers)
+        cut_answer part clean =
+            let HasNextSo : List ℕ → Type 0 = λ bytes. HasNext bytes s.requests request in (
+              input,
+              is_input,
+              leaves then writer_then later (λ world text left. IsWriteFault desk_seats world at input text left answers) part.front (world_after desk_seats start at (s.requests ++ request ∷ [])) clean
+                  (record {
+                    requests = s.requests;
+                    text = out;
+                    is_next = inl (record {
+                      request = request;
+                      next = subst HasNextSo (sym parts) (goes.next more);
+                      text_is = out_is clean ∙ next_text start at s.requests request lent goes.is_lent;
+                      world_is = refl;
+                    });
+                    front = part.front;
+                    lacking = part.lacking;
+                    parts = part.parts;
+                    some_lacks = part.some_lacks;
+                    written = refl;
+                    counted = s.counted;
+                  })
+                  part.wrote (knows_then clean),
+            )
+
+  -- a read
+  pub reads_on : (now : Keyed S) (reader_now reader_then : Watched R) (writer_now : Watched W) (ended : Bool) (buf buf_then : List ℕ) (answers : ℕ) (got : Bool)
+      → HasServed now reader_now writer_now ended buf answers → IsRead remaining reader_now reader_then buf buf_then got → HasServed now reader_then writer_now (not got) buf_then answers
+  reads_on now reader_now reader_then writer_now ended buf buf_then answers got s r =
+      let Come : List ℕ → Type 0 = λ bytes. Consumes (remaining (inner_of reader)) (remaining (inner_of reader_then)) bytes in
+      let here : (s.front ++ buf) ++ r.bytes ≡ s.front ++ buf_then = append_assoc s.front buf r.bytes ∙ ap (λ (l : List ℕ). s.front ++ l) (sym r.put) in
+      record {
+        requests = s.requests;
+        front = s.front;
+        cut = s.cut;
+        counted = s.counted;
+        came = subst Come here (Consumes-trans _ _ _ (s.front ++ buf) r.bytes s.came r.came);
+        at_its_end = elim got as (λ m. (m ≡ false → (r.bytes ≡ []) × IsAtEnd (remaining (inner_of reader_then))) → not m ≡ true → IsAtEnd (remaining (inner_of reader_then))) [ true ↦ λ f t. cc | false ↦ λ f t. (f refl).1 ] r.at_end;
+        clean = s.clean;
+        wrote = s.wrote;
+        world_is = s.world_is;
+        failed = s.failed;
+        read = r.worked ∙ s.read;
+        put = s.put;
+      }
+
+  -- no room could be reserved
+  module _ (writer_then : Watched W) (knows : IsClean g desk.held → IsOpen g desk.held → Knows g desk.held start) where
+    pub ends_roomless : Appends (contents (inner_of writer)) (contents (inner_of writer_then)) (refusal_text refusal.Memory) → IsClean g desk.held
+        → (bytes : List ℕ) × IsInput remaining reader bytes × Leaves g contents desk desk writer writer_then (IsEnd bytes at 1 (ended_by.Refused refusal.Memory))
+    ends_roomless wrote clean = (
+      input desk reader writer false [] 0 none_served,
+      is_input desk reader writer false [] 0 none_served,
+      record {
+        out = refusal_text refusal.Memory;
+        left = start;
+        is_so = inr (inr (refl, record { written = refl; world_is = refl; counted = refl }));
+        written = wrote;
+        knows = knows clean;
+      },
+    )

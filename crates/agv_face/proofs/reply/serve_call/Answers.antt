@@ -1,0 +1,36 @@
+use Rattle.std.proofs.Common.{◌≡◌, true, arith, ap, ◌∙◌}
+use Rattle.agv_reports.specs.Reports.{names_report, report_of}
+use Rattle.agv_store.specs.Floors.{Keyed, world_at}
+use Rattle.agv_tables.specs.sql.Connections.{IsClean}
+use Rattle.agv_tables.specs.readings.WorldIn.{world_in}
+use Rattle.agv_world.specs.Worlds.{World}
+use Rattle.agv_face.proofs.Serving.{by_both, on_err, same_report, stays, true_where, world_known}
+use Rattle.agv_face.proofs.reply.serve_call.Goals as goal
+
+-- the report has failed, so one was asked for: the call has changed nothing
+pub returns-in_err-report-clause-left : goal.returns-in_err-report-clause-left
+returns-in_err-report-clause-left g c clean still =
+    let mid : IsClean g.S.Store c.serve.new.self.held = omega (arith, c.report.ensures.crash.clean, clean) in
+    let served = c.in_ok-answer.ensures.serves mid in
+    let told = c.in_ok-answer.answer in
+    let start = world_at g.S.Store c.args.desk.now.held in
+    let known = world_known g.S.Store c.serve.new.self.held _ c.a_database_tells_its_world.ensures served.knows in
+    let asked : names_report told ≡ true = true_where (names_report told) (λ none. (c.in_err-report.ensures.silent none).0) in
+    let same : world_at g.S.Store c.report.new.self.held ≡ start = ap world_in (c.report.ensures.left clean still) ∙ known ∙ stays c.tells_outcomes.ensures c.tells_without_change.ensures c.gives_only_what_is_named.ensures start c.args.at c.args.call.now told served.answer_is asked in
+    on_err c.from_residual-in_err-report.result same
+
+pub returns-clause-serves : goal.returns-clause-serves
+returns-clause-serves g c clean =
+    let mid : IsClean g.S.Store c.serve.new.self.held = omega (arith, c.report.ensures.crash.clean, clean) in
+    let served = c.in_ok-answer.ensures.serves mid in
+    let told = c.in_ok-answer.answer in
+    let start = world_at g.S.Store c.args.desk.now.held in
+    let known = world_known g.S.Store c.serve.new.self.held _ c.a_database_tells_its_world.ensures served.knows in
+    let same = same_report c.tells_outcomes.ensures c.tells_without_change.ensures c.gives_only_what_is_named.ensures start c.args.at c.args.call.now told served.answer_is in
+    record {
+      answer_is = served.answer_is;
+      report_is = c.in_ok-report.ensures.tells clean ∙ ap (λ (world : World). report_of world told) known ∙ same;
+      world_is = by_both (names_report told) (λ named. world_known g.S.Store c.report.new.self.held _ c.a_database_tells_its_world.ensures (c.in_ok-report.ensures.knows clean named))
+          (λ none. ap (λ (desk : Keyed g.row.S.Denot). world_at g.S.Store desk.held) (c.in_ok-report.ensures.silent none).1)
+          ∙ known;
+    }

@@ -1,0 +1,90 @@
+-- How the serving of a stream ends: what has come of its input, what is written, and which world the desk then knows. What is written at each end is defined by `agv_http` (its StreamEnds).
+use Rattle.std.specs.Prelude.{◌≡◌, ◌⊎◌, ℕ, Bool, true, List, Option, IfSome, Result, Ok, Err, min}
+use Rattle.std.specs.Io.KnownBytes.{Appends, Consumes}
+use Rattle.sqlite_trees.specs.declared.store.Store.{Ghosts}
+use Rattle.agv_header.specs.declared.refusal.Refusal.TheVariants as refusal
+use Rattle.agv_http.specs.Cut.{at_end, closed, faulty}
+use Rattle.agv_http.specs.StreamEnds.{HasNoRoom, IsReadFault, IsRefusedByMachine, IsServedToEnd, IsWriteFault}
+use Rattle.agv_store.specs.Floors.{Keyed, Knows, world_at}
+use Rattle.agv_tables.specs.schema.SchemaNumbers.{desk_seats}
+use Rattle.agv_tables.specs.sql.Connections.{IsClean, IsOpen}
+use Rattle.agv_world.specs.Worlds.{World}
+use Rattle.agv_face.specs.Watched.{inner_of, FailedOnce, FailedNever, RanOut}
+use Rattle.agv_face.specs.declared.served.Ended.{Ended}
+use Rattle.agv_face.specs.declared.served.Ended.TheVariants as ended
+use Rattle.agv_face.specs.declared.served.Served.{Served}
+use Rattle.agv_face.specs.declared.served.StreamFault.{StreamFault}
+use Rattle.agv_face.specs.declared.served.StreamFault.TheVariants as fault
+use Rattle.agv_face.specs.declared.watched.Watched.{Watched}
+
+-- the most reads that a stream can have: 2^52 - 1
+abbrev pub reads_at_all : ℕ
+reads_at_all = 4503599627370495
+
+-- the most reads of a stream that is given this number
+abbrev pub most_reads : ℕ → ℕ
+most_reads given = min given reads_at_all
+
+-- ---- whether the store has failed
+
+-- once a stream has been served to its end: it has failed where that end says so, else as before
+abbrev pub failed_by : Ended → Bool → Bool
+failed_by (ended.Refused refusal.Storage) before = true
+failed_by _ before = before
+
+-- as a stream ends; where an answer was cut, that may have been the refusal that says so
+abbrev pub EndsFailed : Bool → Bool → Result Served StreamFault → Type 0
+EndsFailed before then (Ok served) = then ≡ failed_by served.ended before
+EndsFailed before then (Err (fault.Read answers)) = then ≡ before
+EndsFailed before then (Err (fault.Write answers)) = (then ≡ before) ⊎ (then ≡ true)
+
+-- ---- what is written
+
+-- an input is served to this end, with so many answers: in this world the bytes are written, and the other world is left
+abbrev pub IsEnd : List ℕ → ℕ → ℕ → Ended → World → List ℕ → World → Type 0
+IsEnd input at answers ended.End world out left = IsServedToEnd desk_seats world at input at_end out left answers
+IsEnd input at answers ended.Close world out left = IsServedToEnd desk_seats world at input closed out left answers
+IsEnd input at answers (ended.Refused why) world out left =
+    IsServedToEnd desk_seats world at input (faulty why) out left answers
+    ⊎ IsRefusedByMachine desk_seats world at input why out left answers
+    ⊎ ((why ≡ refusal.Memory) × HasNoRoom desk_seats world at out left answers)
+
+-- ---- the input, and what a stream leaves
+
+-- this is the whole input, where the reader tells what it has to give
+abbrev pub IsInput : {R : Type 0} → (R → Option (List ℕ)) → Watched R → List ℕ → Type 0
+IsInput remaining reader input = IfSome (remaining (inner_of reader)) (λ all. all ≡ input)
+
+-- these bytes have come of it
+abbrev pub HaveCome : {R : Type 0} → (R → Option (List ℕ)) → Watched R → Watched R → List ℕ → Type 0
+HaveCome remaining reader reader_then bytes = Consumes (remaining (inner_of reader)) (remaining (inner_of reader_then)) bytes
+
+-- from the world on that the desk's tables told, this was written, and the desk knows the world that is left while its store is open
+pub record Leaves {S W : Type 0} (g : Ghosts S) (contents : W → Option (List ℕ)) (desk desk_then : Keyed S) (writer writer_then : Watched W)
+    (IsSo : World → List ℕ → World → Type 0) : Type 0 where
+  pub out : List ℕ
+  pub left : World
+  pub is_so : IsSo (world_at g desk.held) out left
+  pub written : Appends (contents (inner_of writer)) (contents (inner_of writer_then)) out
+  pub knows : IsOpen g desk_then.held → Knows g desk_then.held left
+
+-- ---- the ends
+
+-- the desk, the reader and the writer, each before and after
+module _ {S R W : Type 0} (g : Ghosts S) (remaining : R → Option (List ℕ)) (contents : W → Option (List ℕ)) (at reads : ℕ)
+    (desk desk_then : Keyed S) (reader reader_then : Watched R) (writer writer_then : Watched W) where
+  abbrev pub IsStreamEnd : Result Served StreamFault → Type 0
+  -- the input was served to its end, or up to a fault of the machine
+  IsStreamEnd (Ok served) =
+      (IsClean g desk_then.held → (input : List ℕ) × IsInput remaining reader input × Leaves g contents desk desk_then writer writer_then (IsEnd input at served.answers served.ended))
+      × FailedNever reader reader_then × FailedNever writer writer_then
+  -- the reader failed, or had its most reads: all requests that had come whole are answered
+  IsStreamEnd (Err (fault.Read answers)) =
+      (IsClean g desk_then.held → (bytes : List ℕ) × HaveCome remaining reader reader_then bytes
+      × Leaves g contents desk desk_then writer writer_then (λ world out left. IsReadFault desk_seats world at bytes out left answers))
+      × RanOut (most_reads reads) reader reader_then × FailedNever writer writer_then
+  -- the writer failed, or took no byte: an answer is cut
+  IsStreamEnd (Err (fault.Write answers)) =
+      (IsClean g desk_then.held → (input : List ℕ) × IsInput remaining reader input
+      × Leaves g contents desk desk_then writer writer_then (λ world out left. IsWriteFault desk_seats world at input out left answers))
+      × FailedNever reader reader_then × FailedOnce writer writer_then

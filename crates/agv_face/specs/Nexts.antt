@@ -1,0 +1,27 @@
+-- What became of the next request of a buffer.
+use Rattle.std.specs.Prelude.{◌≡◌, ℕ, Bool, List}
+use Rattle.sqlite_trees.specs.declared.store.Store.{Ghosts}
+use Rattle.agv_http.specs.Heard.{IsHeard}
+use Rattle.agv_http.specs.Output.{refusal_text}
+use Rattle.agv_http.specs.declared.request.Heard.TheVariants as heard
+use Rattle.agv_http.specs.declared.request.LentRequest.{LentRequest}
+use Rattle.agv_store.specs.Floors.{Keyed, world_at}
+use Rattle.agv_tables.specs.sql.Connections.{IsClean}
+use Rattle.agv_face.specs.Replies.{IsAnswered}
+use Rattle.agv_face.specs.declared.next.Next.{Next}
+use Rattle.agv_face.specs.declared.next.Next.TheVariants as next
+
+module _ {S : Type 0} (g : Ghosts S) (at : ℕ) (desk desk_then : Keyed S) (buf : List ℕ) (ended : Bool) (out : List ℕ) where
+  -- a request of the buffer was served, and its answer is to be written
+  pub record IsRequestServed (len : ℕ) (close : Bool) : Type 0 where
+    pub request : LentRequest
+    pub heard_is : IsHeard buf ended (heard.Request request)
+    pub len_is : len ≡ request.len
+    pub close_is : close ≡ request.close
+    pub answered : IsClean g desk_then.held → IsAnswered (world_at g desk.held) (world_at g desk_then.held) at request out
+
+  abbrev pub IsNext : Next → Type 0
+  IsNext next.Need = IsHeard buf ended heard.Need × (desk_then ≡ desk)
+  IsNext next.End = IsHeard buf ended heard.End × (desk_then ≡ desk)
+  IsNext (next.Fault why) = IsHeard buf ended (heard.Fault why) × (out ≡ refusal_text why) × (desk_then ≡ desk)
+  IsNext (next.Request len close) = IsRequestServed len close

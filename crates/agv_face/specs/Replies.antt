@@ -1,0 +1,44 @@
+-- What a desk makes of one request, and what is written for it.
+use Rattle.std.specs.Prelude.{◌≡◌, ℕ, Bool, true, List, Result, Ok, Err}
+use Rattle.agv_header.specs.declared.refusal.Refusal.{Refusal}
+use Rattle.agv_reports.specs.Reports.{report_of}
+use Rattle.agv_tables.specs.schema.SchemaNumbers.{desk_seats}
+use Rattle.agv_world.specs.Worlds.{World}
+use Rattle.agv_world.specs.declared.fault.Fault.{Fault}
+use Rattle.agv_world.specs.declared.fault.Fault.TheVariants as machine
+use Rattle.agv_desk.specs.Outcomes.{Outcome, after, answer_of}
+use Rattle.agv_desk.specs.declared.call.Call.{Call}
+use Rattle.agv_http.specs.Answers.{answer_text}
+use Rattle.agv_http.specs.Output.{call_by, outcome_by}
+use Rattle.agv_http.specs.Table.{route_at}
+use Rattle.agv_http.specs.declared.request.LentRequest.{LentRequest}
+use Rattle.agv_face.specs.declared.reply.Reply.{Reply}
+
+-- the call that a request is, or why it is refused before it is one
+abbrev pub call_of : LentRequest → Result Call Refusal
+call_of request = call_by request.body.now (route_at request.method request.target.now)
+
+-- what a call does that comes at a moment, or that a request is refused
+abbrev pub outcome_in : World → ℕ → Result Call Refusal → Outcome
+outcome_in world at call = outcome_by desk_seats world at call
+
+-- the reply is the answer of the table of calls and the report that it names, both of the world before the call; and the other world is the one after it
+pub record IsServed (world world_then : World) (at : ℕ) (call : Result Call Refusal) (reply : Reply) : Type 0 where
+  pub answer_is : reply.answer ≡ answer_of (outcome_in world at call)
+  pub report_is : reply.report.items ≡ report_of world reply.answer
+  pub world_is : world_then ≡ after world (outcome_in world at call)
+
+-- the bytes of the answer to a request in this world
+abbrev pub text_for : World → ℕ → LentRequest → List ℕ
+text_for world at request = let told = answer_of (outcome_in world at (call_of request)) in answer_text told (report_of world told) request.close
+
+-- this is to be written for the request, and the other world is the one after it
+pub record IsAnswered (world world_then : World) (at : ℕ) (request : LentRequest) (text : List ℕ) : Type 0 where
+  pub text_is : text ≡ text_for world at request
+  pub world_is : world_then ≡ after world (outcome_in world at (call_of request))
+
+-- whether the store has failed, once a call has ended so
+abbrev pub failed_after : {A : Type 0} → Result A Fault → Bool → Bool
+failed_after (Ok done) before = before
+failed_after (Err machine.Memory) before = before
+failed_after (Err machine.Storage) before = true

@@ -1,0 +1,78 @@
+//! Bytes that come from a reader, and bytes that go to a writer.
+ghost use Rattle.std.specs.Prelude.{◌≡◌, ◌≤◌, ◌<◌, ◌+◌, ◌++◌, drop, length, vec_len, vec_capacity, IfOk, OnOk, OnErr};
+ghost use Rattle.std.specs.Io.KnownBytes.{Keeps};
+ghost use Rattle.agv_face.specs.Bytes.{IsPutWhole, IsRead};
+ghost use Rattle.agv_face.specs.Watched.{FailedOnce, HadCall, inner_of};
+
+use crate::watched::Watched;
+use std::io::{Read, Write};
+
+/// The longest request, its head and its body together, in bytes: more have never to be held at once.
+pub(crate) const LONGEST_REQUEST: usize = 73_728;
+
+/// The bytes that one read asks for at most.
+const ONE_READ: usize = 4096;
+
+/// Drops the first bytes.
+pub(crate) fn drop_front(buf: &mut Vec<u8>, n: usize)
+    requires { n ≤ vec_len buf.old }
+    ensures items { buf.new.items ≡ drop n buf.old.items }
+    ensures room { vec_capacity buf.new ≡ vec_capacity buf.old }
+{
+    buf.rotate_left(n);
+    buf.truncate(buf.len() - n);
+}
+
+/// Puts bytes to the end of a buffer that has room for them.
+fn put_reserved(buf: &mut Vec<u8>, bytes: &[u8])
+    requires { vec_len buf.old + length bytes.now ≤ vec_capacity buf.old }
+    ensures items { buf.new.items ≡ buf.old.items ++ bytes.now }
+    ensures room { vec_capacity buf.new ≡ vec_capacity buf.old }
+{
+    for byte in bytes {
+        buf.push_reserved(*byte);
+    }
+}
+
+/// The reader failed.
+#[derive(Clone, Copy)]
+pub(crate) struct NotRead;
+
+/// One read, whose bytes go to the end of a buffer that has room for some more of a request: `false` at the end of the
+/// input.
+pub(crate) fn read_some<R: Read>(
+    reader: &mut Watched<R>,
+    buf: &mut Vec<u8>,
+) -> Result<bool, NotRead>
+    requires some { vec_len buf.old < 73728 }
+    requires room { 73728 ≤ vec_capacity buf.old }
+    ensures read { IfOk result (IsRead R.remaining reader.old reader.new buf.old.items buf.new.items) }
+    ensures failed { OnErr result (FailedOnce reader.old reader.new × Keeps (R.remaining (inner_of reader.old)) (R.remaining (inner_of reader.new))) }
+    ensures room { vec_capacity buf.new ≡ vec_capacity buf.old }
+    ensures calls { HadCall reader.old reader.new }
+{
+    let mut chunk = [0; ONE_READ];
+    let most = ONE_READ.min(LONGEST_REQUEST - buf.len());
+    match reader.read(&mut chunk[..most]) {
+        Ok(n) => {
+            put_reserved(buf, &chunk[..n]);
+            Ok(n > 0)
+        }
+        Err(_) => Err(NotRead),
+    }
+}
+
+/// Writes all the bytes, and tells whether they were written. A write that takes none is a fault, and so is any error.
+pub(crate) fn write_whole<W: Write>(writer: &mut Watched<W>, bytes: &[u8]) -> bool
+    ensures { IsPutWhole W.contents writer.old writer.new bytes.now result }
+{
+    let mut done = 0;
+    while done < bytes.len() {
+        match writer.write(&bytes[done..]) {
+            Ok(0) => return false,
+            Ok(n) => done += n,
+            Err(_) => return false,
+        }
+    }
+    true
+}

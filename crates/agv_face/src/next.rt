@@ -1,0 +1,75 @@
+//! The next request of a buffer is answered.
+ghost use Rattle.std.specs.Prelude.{◌≡◌, ◌≤◌, [], IfOk, OnErr, OnOk, vec_capacity};
+ghost use Rattle.agv_http.specs.Output.{refusal_text};
+ghost use Rattle.agv_http.specs.Sizes.{most_answer};
+ghost use Rattle.agv_store.specs.Floors.{world_at};
+ghost use Rattle.agv_tables.specs.sql.Connections.{IsClean, IsOpen};
+ghost use Rattle.agv_face.specs.Nexts.{IsNext};
+ghost use Rattle.agv_face.specs.Replies.{failed_after};
+
+use crate::reply::answer_request;
+use agv_desk::Answer;
+use agv_header::{Memory, Moment, Refusal};
+use agv_http::size_laws::bodies_fit;
+use agv_http::{Heard, Routes, put_answer, read_request};
+use agv_store::Desk;
+use agv_world::Fault;
+use sqlite::Alter;
+use std::alloc::Global;
+
+/// What the next request of a buffer is.
+#[derive(Clone, Copy)]
+pub(crate) enum Next {
+    /// More bytes have to come first.
+    Need,
+    /// The input is at its end.
+    End,
+    /// A request of so many bytes, which was served: it is the last of its stream, or not.
+    Request { len: usize, close: bool },
+    /// There is none, but this fault of HTTP.
+    Fault(Refusal),
+}
+
+/// Puts the bytes of the refusal after which the stream ends into `out`.
+fn refuse(why: &Refusal, out: &mut Vec<u8>) -> Result<(), Memory>
+    requires { out.old.items ≡ [] }
+    ensures text { OnOk result (out.new.items ≡ refusal_text why.now) }
+    ensures grown { vec_capacity out.old ≤ vec_capacity out.new }
+{
+    put_answer(&Answer::Refused(*why), &[], true, out)
+}
+
+/// Serves the next request of the buffer, where it has come whole, and puts the bytes of its answer into `out`; those of
+/// the refusal where there is a fault of HTTP. `ended` says that no byte follows.
+pub(crate) fn serve_next<S: Alter + Drop>(
+    alloc: Global,
+    routes: &Routes,
+    desk: &mut Desk<S>,
+    at: Moment,
+    buf: &[u8],
+    ended: bool,
+    out: &mut Vec<u8>,
+) -> Result<Next, Fault>
+    requires { most_answer ≤ vec_capacity out.old }
+    ensures clean { IsClean S.Store desk.new.held → IsClean S.Store desk.old.held }
+    ensures next { IfOk result (IsNext S.Store at desk.old desk.new buf.now ended out.new.items) }
+    ensures left { IsClean S.Store desk.new.held → IsOpen S.Store desk.new.held → OnErr result (world_at S.Store desk.new.held ≡ world_at S.Store desk.old.held) }
+    ensures failed { desk.new.failed ≡ failed_after result desk.old.failed }
+    ensures grown { vec_capacity out.old ≤ vec_capacity out.new }
+{
+    bodies_fit();
+    out.clear();
+    match read_request(alloc, buf, ended)? {
+        Heard::Need => Ok(Next::Need),
+        Heard::End => Ok(Next::End),
+        Heard::Fault(why) => {
+            refuse(&why, out)?;
+            Ok(Next::Fault(why))
+        }
+        Heard::Request(request) => {
+            answer_request(alloc, routes, desk, at, &request, out)?;
+            let (len, close) = (request.len, request.close);
+            Ok(Next::Request { len, close })
+        }
+    }
+}

@@ -1,0 +1,93 @@
+//! The answer to one request.
+ghost use Rattle.std.specs.Prelude.{◌≡◌, ◌≤◌, [], IfOk, OnErr, OnOk, length, vec_capacity};
+ghost use Rattle.agv_http.specs.Requests.{most_body};
+ghost use Rattle.agv_http.specs.Sizes.{most_answer};
+ghost use Rattle.agv_store.specs.Floors.{world_at};
+ghost use Rattle.agv_tables.specs.sql.Connections.{IsClean, IsOpen};
+ghost use Rattle.agv_face.specs.Replies.{IsAnswered, IsServed, call_of, failed_after};
+
+use crate::call::call_in;
+use agv_desk::laws::tells_without_change;
+use agv_desk::{Answer, Call};
+use agv_header::Moment;
+use agv_http::size_laws::{outcomes_fit, tells_outcomes};
+use agv_http::{LentRequest, Routes, put_answer};
+use agv_message::BodyFault;
+use agv_reports::laws::gives_only_what_is_named;
+use agv_store::Desk;
+use agv_tables::readings::world_laws::a_database_tells_its_world;
+use agv_world::Fault;
+use sqlite::Alter;
+use std::alloc::Global;
+
+/// An answer of the desk, and the bytes of the report that it names: none where it names none.
+#[derive(Drop)]
+pub(crate) struct Reply {
+    pub(crate) answer: Answer,
+    pub(crate) report: Vec<u8>,
+}
+
+/// Serves the call. What it changes is committed before its report is asked for.
+fn serve_call<S: Alter + Drop>(desk: &mut Desk<S>, at: Moment, call: &Call) -> Result<Reply, Fault>
+    ensures clean { IsClean S.Store desk.new.held → IsClean S.Store desk.old.held }
+    ensures serves { IsClean S.Store desk.new.held → IfOk result (IsServed (world_at S.Store desk.old.held) (world_at S.Store desk.new.held) at (Ok call.now)) }
+    ensures left { IsClean S.Store desk.new.held → IsOpen S.Store desk.new.held → OnErr result (world_at S.Store desk.new.held ≡ world_at S.Store desk.old.held) }
+    ensures failed { desk.new.failed ≡ failed_after result desk.old.failed }
+{
+    tells_outcomes();
+    tells_without_change();
+    gives_only_what_is_named();
+    a_database_tells_its_world();
+    let answer = desk.serve(at, call)?;
+    let report = desk.report(&answer)?;
+    Ok(Reply { answer, report })
+}
+
+/// Serves the request: its call, if it is one, or its refusal.
+fn reply_to<S: Alter + Drop>(
+    alloc: Global,
+    routes: &Routes,
+    desk: &mut Desk<S>,
+    at: Moment,
+    request: &LentRequest<'_>,
+) -> Result<Reply, Fault>
+    ensures clean { IsClean S.Store desk.new.held → IsClean S.Store desk.old.held }
+    ensures serves { IsClean S.Store desk.new.held → IfOk result (IsServed (world_at S.Store desk.old.held) (world_at S.Store desk.new.held) at (call_of request.now)) }
+    ensures left { IsClean S.Store desk.new.held → IsOpen S.Store desk.new.held → OnErr result (world_at S.Store desk.new.held ≡ world_at S.Store desk.old.held) }
+    ensures failed { desk.new.failed ≡ failed_after result desk.old.failed }
+{
+    match call_in(alloc, routes, request) {
+        Ok(call) => serve_call(desk, at, &call),
+        Err(BodyFault::Memory) => Err(Fault::Memory),
+        Err(BodyFault::Refused(why)) => Ok(Reply {
+            answer: Answer::Refused(why),
+            report: Vec::new(alloc),
+        }),
+    }
+}
+
+/// Serves the request, and puts the bytes of its answer into `out`, which has room for each answer to a call that changes
+/// something: after a commit no memory is taken.
+pub(crate) fn answer_request<S: Alter + Drop>(
+    alloc: Global,
+    routes: &Routes,
+    desk: &mut Desk<S>,
+    at: Moment,
+    request: &LentRequest<'_>,
+    out: &mut Vec<u8>,
+) -> Result<(), Fault>
+    requires empty { out.old.items ≡ [] }
+    requires room { most_answer ≤ vec_capacity out.old }
+    requires short { length request.now.body.now ≤ most_body }
+    ensures clean { IsClean S.Store desk.new.held → IsClean S.Store desk.old.held }
+    ensures answers { IsClean S.Store desk.new.held → OnOk result (IsAnswered (world_at S.Store desk.old.held) (world_at S.Store desk.new.held) at request.now out.new.items) }
+    ensures left { IsClean S.Store desk.new.held → IsOpen S.Store desk.new.held → OnErr result (world_at S.Store desk.new.held ≡ world_at S.Store desk.old.held) }
+    ensures failed { desk.new.failed ≡ failed_after result desk.old.failed }
+    ensures grown { vec_capacity out.old ≤ vec_capacity out.new }
+{
+    tells_without_change();
+    let reply = reply_to(alloc, routes, desk, at, request)?;
+    outcomes_fit(&reply.answer);
+    put_answer(&reply.answer, &reply.report, request.close, out)?;
+    Ok(())
+}
