@@ -1,76 +1,96 @@
--- What the parsed subcommand gives, from what is found of the words.
-use Rattle.std.proofs.Common.{◌≡◌, ◌∙◌, ◌≤◌, ℕ, refl, sym, ap, subst, List, [], Option, Some, None, Result, Ok, Err, true}
-use Rattle.std.specs.Prelude.{option_and_then, option_map, codes}
-use Rattle.std.specs.Str.Parse.{ParsesUnsigned, digits_value, without_leading_plus}
+-- What is read of a subcommand's matches, from the values that its arguments have.
+use Rattle.std.proofs.Common.{◌≡◌, ◌∙◌, ◌≤◌, ◌<◌, ◌^◌, ◌||◌, ℕ, Bool, true, false, true≢false, refl, sym, ap, subst, List, [], ◌∷◌, Option, Some, None, Result, arith}
+use Rattle.std.specs.Prelude.{codes, option_map}
+use Rattle.std.specs.List.{list_any}
+use Rattle.std.specs.Str.{bytes_eq}
+use Rattle.std.proofs.lemmas.Slice.Eq.{bytes_eq-Decides}
+use Rattle.std.specs.Borrow.{Bor}
+use Rattle.std.specs.Str.Parse.{ExplainsUnsignedError, HasUnsignedDigitsIfOk, ParsesUnsigned, digits_value, without_leading_plus}
+use Rattle.std.specs.declared.num.ParseIntError.{ParseIntError}
 use Rattle.clap.specs.Values.{IsUnsignedIn}
-use Rattle.clap.specs.Matches.{ReadsOne}
-use Rattle.clap.specs.Walk.{Row, Text, one_of, rows_of}
-use Rattle.clap.specs.Simple.{App, HasMatchesOf, app_of, is_simple, subcommand_of, subcommand_rows_of}
-use Rattle.clap.specs.Faults.{fault_of, is_simple_and_free}
-use Rattle.clap.specs.Matches.{found_of, one_text}
-use Rattle.clap.specs.declared.builder.command.Command.{Command}
-use Rattle.clap.specs.declared.parser.matches.ArgMatches.{ArgMatches}
-use Rattle.clap.proofs.WalkLemmas.{one_text-rows}
-use Rattle.agv_app.specs.declared.line.Line.TheVariants as line
-use Rattle.agv_app.specs.CommandLine.{Choice, Spells, desk, given, IsLine, IsMemoryAlone, last_moment}
-use Rattle.agv_app.proofs.Rows.{IsFound, words_found}
+use Rattle.clap.specs.Matches.{ReadsOne, first_value, one_text}
+use Rattle.clap.specs.Walk.{Row, Rule, Text, first_of, one_of, rows_of}
+use Rattle.clap.specs.declared.parser.matches.Found.{Found}
+use Rattle.clap.proofs.WalkLemmas.{first_value-rows, list_any-map, one_text-rows}
+use Rattle.agv_app.specs.declared.line.ReportKind.{ReportKind}
+use Rattle.agv_app.specs.declared.line.ReportKind.TheVariants as kind
+use Rattle.agv_app.specs.CommandLine.{AreKinds, Choice, GivesNumber, HasValue, Spells, kind_word, report_kind}
 
--- a text that passed the range reads as the number that it spells
-pub moment_read : (E : Type 0) (G : List ℕ → Result ℕ E → Type 0) (high : ℕ) (t : List ℕ) (r : Option ℕ) → ReadsOne G t r
-    → ((u : List ℕ) (x : Result ℕ E) → G u x → ParsesUnsigned 64 10 u x) → IsUnsignedIn 0 high t
-    → (n : ℕ) × (r ≡ Some n) × Spells t n × (n ≤ high)
-moment_read E G high t (Some v) read only passed =
-    let is : v ≡ digits_value 10 (without_leading_plus t) = (only t (Ok v) read).1 in
-    (v, refl, (passed.0, is), rw is passed.3)
-moment_read E G high t None read only passed = absurd (only t (Err read.0) read.1 (passed.0, passed.1))
+-- the text that is read of an argument that has a value
+text_found : (f : Found) (a : Rule) (r : Option (Bor Text)) → option_map (λ s. s.now) r ≡ first_value f a.id → HasValue (rows_of f) a
+    → (text : Bor Text) × (r ≡ Some text) × (one_of a.id (rows_of f) ≡ Some text.now)
+text_found f a (Some text) is has =
+    let same : Some text.now ≡ Some has.0 = is ∙ (first_value-rows f a.id ∙ has.1) in
+    let eq : has.0 ≡ text.now = cc in
+    (text, refl, has.2 ∙ ap (λ t. Some t) eq)
+text_found f a None is has =
+    let bad : None ≡ Some has.0 = is ∙ (first_value-rows f a.id ∙ has.1) in
+    cc
 
--- the rows of the subcommand, by which its matches are read
-pub rows_given : (id : Text) (rows : List Row) (found : Option (Text × List Row)) → Some rows ≡ option_map (λ p. p.1) found → option_and_then (λ p. one_of id p.1) found ≡ one_of id rows
-rows_given id rows None is = cc
-rows_given id rows (Some p) is = ap (λ o. option_and_then (one_of id) o) (sym is)
+pub text_there : (f : Found) (a : Rule) (r : Option (Bor Text)) → option_map (λ s. s.now) r ≡ first_value f a.id → HasValue (rows_of f) a → r ≡ None → ⊥
+text_there f a r is has none =
+    let found = text_found f a r is has in
+    let bad : Some found.0 ≡ None = sym found.1 ∙ none in
+    cc
 
--- what the matches of a line with no fault give
-pub record HasRead (stores : Choice) (words : List Text) (replay : ArgMatches) : Type 0 where
-  pub none : fault_of (desk stores) words ≡ []
-  pub store : given (codes "db") (desk stores) words ≡ Some (codes "memory")
-  pub text : Text
-  pub written : given (codes "at") (desk stores) words ≡ Some text
-  pub read : one_text (found_of replay) (codes "at") ≡ Some text
-  pub passed : IsUnsignedIn 0 last_moment text
+pub text_read : (f : Found) (a : Rule) (r : Option (Bor Text)) → option_map (λ s. s.now) r ≡ first_value f a.id → HasValue (rows_of f) a
+    → (text : Bor Text) → r ≡ Some text → one_of a.id (rows_of f) ≡ Some text.now
+text_read f a r is has text eq =
+    let found = text_found f a r is has in
+    let same : Some found.0 ≡ Some text = sym found.1 ∙ eq in
+    let texts : found.0 ≡ text = cc in
+    found.2 ∙ ap (λ (t : Bor Text). Some t.now) texts
 
-module _ (stores : Choice) (memory : IsMemoryAlone stores) (words : List Text) (none : fault_of (desk stores) words ≡ []) where
-  both_given : (found : Option (Text × List Row)) → IsFound stores memory found
-      → (option_and_then (λ p. one_of (codes "db") p.1) found ≡ Some (codes "memory")) × ((text : Text) × (option_and_then (λ p. one_of (codes "at") p.1) found ≡ Some text) × IsUnsignedIn 0 last_moment text)
-  both_given None h = absurd h
-  both_given (Some p) h = h.1
+-- how `std` reads a text as a number of k bits
+abbrev pub IsParsed : ℕ → List ℕ → Result ℕ ParseIntError → Type 0
+IsParsed k bs r = ParsesUnsigned k 10 bs r × ExplainsUnsignedError 10 bs r × HasUnsignedDigitsIfOk bs r
 
-  read_from : (replay : ArgMatches) → Some (rows_of (found_of replay)) ≡ option_map (λ p. p.1) (subcommand_of (desk stores) words) → HasRead stores words replay
-  read_from replay rows =
-      let both = both_given (subcommand_of (desk stores) words) (words_found stores memory words none) in
-      record {
-        none = none;
-        store = both.0;
-        text = both.1.0;
-        written = both.1.1;
-        read = one_text-rows (found_of replay) (codes "at") ∙ (sym (rows_given (codes "at") (rows_of (found_of replay)) _ rows) ∙ both.1.1);
-        passed = both.1.2;
-      }
+-- the argument has a number up to `most`
+abbrev pub HasNumber : Found → Text → ℕ → Type 0
+HasNumber f id most = (v : Text) × (first_of id (rows_of f) ≡ Some v) × (one_of id (rows_of f) ≡ Some v) × IsUnsignedIn 0 most v
 
--- the same, from what a parse of the command gives
-pub line_read : (command : Command) (stores : Choice) → IsMemoryAlone stores → app_of command ≡ desk stores → (words : List Text) (m replay : ArgMatches)
-    → (is_simple_and_free (app_of command) ≡ true → fault_of (app_of command) words ≡ []) → HasMatchesOf (app_of command) words m
-    → Some (rows_of (found_of replay)) ≡ option_map (λ p. p.1) (subcommand_rows_of m) → HasRead stores words replay
-line_read command stores memory is words m replay kinds matches rows =
-    read_from stores memory words (subst (λ (a : App). fault_of a words ≡ []) is (kinds (ap is_simple_and_free is))) replay
-    (rows ∙ ap (option_map (λ p. p.1)) ((matches (ap is_simple is)).1 ∙ ap (λ (a : App). subcommand_of a words) is))
+module _ (k most : ℕ) (fits : most < 2 ^ k) where
+  spelt : (t : List ℕ) (r : Option ℕ) → ReadsOne (IsParsed k) t r → IsUnsignedIn 0 most t → (n : ℕ) × (r ≡ Some n) × Spells t n × (n ≤ most)
+  spelt t (Some v) read passed =
+      let is : v ≡ digits_value 10 (without_leading_plus t) = (read.0).1 in
+      (v, refl, (passed.0, is), rw is passed.3)
+  spelt t None read passed = absurd (read.1.0 (passed.0, omega arith))
 
--- the line, and its moment as the matches give it
-pub line_given : (command : Command) (stores : Choice) → IsMemoryAlone stores → app_of command ≡ desk stores → (words : List Text) (m replay : ArgMatches)
-    → (is_simple_and_free (app_of command) ≡ true → fault_of (app_of command) words ≡ []) → HasMatchesOf (app_of command) words m
-    → Some (rows_of (found_of replay)) ≡ option_map (λ p. p.1) (subcommand_rows_of m)
-    → (E : Type 0) (G : List ℕ → Result ℕ E → Type 0) (r : Option ℕ) → ((t : List ℕ) → one_text (found_of replay) (codes "at") ≡ Some t → ReadsOne G t r)
-    → ((u : List ℕ) (x : Result ℕ E) → G u x → ParsesUnsigned 64 10 u x) → (n : ℕ) × (r ≡ Some n) × IsLine words (line.Replay n)
-line_given command stores memory is words m replay kinds matches rows E G r value parses =
-    let has = line_read command stores memory is words m replay kinds matches rows in
-    let moment = moment_read E G last_moment has.text r (value has.text has.read) parses has.passed in
-    (moment.0, moment.1, (stores, memory, has.none, has.store, (has.text, has.written, moment.2, moment.3)))
+  -- a value that passed a range of numbers reads as the number that it spells
+  number_found : (f : Found) (id : Text) (r : Option ℕ) → ((t : List ℕ) → one_text f id ≡ Some t → ReadsOne (IsParsed k) t r) → HasNumber f id most
+      → (n : ℕ) × (r ≡ Some n) × GivesNumber (rows_of f) id most n
+  number_found f id r read has =
+      let got = spelt has.0 r (read has.0 (one_text-rows f id ∙ has.2)) has.3 in
+      (got.0, got.1, (has.0, has.2, got.2, got.3))
+
+  pub number_there : (f : Found) (id : Text) (r : Option ℕ) → ((t : List ℕ) → one_text f id ≡ Some t → ReadsOne (IsParsed k) t r) → HasNumber f id most → r ≡ None → ⊥
+  number_there f id r read has none =
+      let found = number_found f id r read has in
+      let bad : Some found.0 ≡ None = sym found.1 ∙ none in
+      cc
+
+  pub number_read : (f : Found) (id : Text) (r : Option ℕ) → ((t : List ℕ) → one_text f id ≡ Some t → ReadsOne (IsParsed k) t r) → HasNumber f id most
+      → (n : ℕ) → r ≡ Some n → GivesNumber (rows_of f) id most n
+  number_read f id r read has n eq =
+      let found = number_found f id r read has in
+      let same : Some found.0 ≡ Some n = sym found.1 ∙ eq in
+      let numbers : found.0 ≡ n = cc in
+      subst (GivesNumber (rows_of f) id most) numbers found.2
+
+one_of_two : (stock holds : Bool) (word : Text) → (stock ≡ true → word ≡ kind_word kind.Stock) → (holds ≡ true → word ≡ kind_word kind.Holds) → (stock || (holds || false)) ≡ true → (kind : ReportKind) × (word ≡ kind_word kind)
+one_of_two true holds word first second e = (kind.Stock, first refl)
+one_of_two false true word first second e = (kind.Holds, second refl)
+one_of_two false false word first second e = absurd (true≢false (sym e))
+
+-- a word that passed as the name of a report is one
+pub kind_known : (kinds : Choice) → AreKinds kinds → (rows : List Row) → HasValue rows (report_kind kinds) → (word : Text) → one_of (codes "kind") rows ≡ Some word
+    → (kind : ReportKind) × (word ≡ kind_word kind)
+kind_known kinds are rows has word is =
+    let same : Some has.0 ≡ Some word = sym has.2 ∙ is in
+    let words : has.0 ≡ word = cc in
+    let among = sym (list_any-map (λ t. bytes_eq t has.0) (λ name. name.now) kinds.now) ∙ has.3 in
+    let either : list_any (λ t. bytes_eq t has.0) (kind_word kind.Stock ∷ kind_word kind.Holds ∷ []) ≡ true = rw are at among in
+    one_of_two _ _ word
+    (λ e. sym words ∙ sym ((bytes_eq-Decides (kind_word kind.Stock) has.0).0 e))
+    (λ e. sym words ∙ sym ((bytes_eq-Decides (kind_word kind.Holds) has.0).0 e))
+    either

@@ -1,19 +1,51 @@
-//! The command line: `replay --db memory --at MILLIS`.
-ghost use Rattle.std.specs.Prelude.{◌≡◌, IfOk, IfErr, false, map, string_bytes};
-ghost use Rattle.clap.specs.Words.{app_of, rule_of};
+//! The command line: `replay --db FILE|memory --at MILLIS`, `serve --db FILE --port P
+//! --connections N`, and `report --db FILE stock|holds`.
+ghost use Rattle.std.specs.Prelude.{◌≡◌, IfOk, IfErr, IfSome, IsSome, false, map, string_bytes, codes};
+ghost use Rattle.clap.specs.Words.{found_of, rows_of, rule_of};
 ghost use Rattle.clap.specs.declared.builder.command.Command.TheViews.{out-Command};
-ghost use Rattle.agv_app.specs.CommandLine.{Choice, IsMemoryAlone, at, db, desk, replay, required_option, IsLine, IsLineFault};
+ghost use Rattle.agv_app.specs.CommandLine.{AreKinds, Choice, Gives, HasValues, IsApp, IsLine, IsLineFault, IsOneOf, db, desk, kind_word, name_of, number, replay, report, report_kind, required_option, serve};
+ghost use Rattle.agv_app.specs.declared.line.ReportKind.{ReportKind};
 
 use clap::error::ErrorKind;
-use clap::{Arg, ArgAction, Command, Error, value_parser};
+use clap::{Arg, ArgAction, ArgMatches, Command, Error, value_parser};
 use std::alloc::{AllocError, Global};
+
+/// A report of the desk.
+#[derive(Clone, Copy, Debug, PartialEq, Eq)]
+pub enum ReportKind {
+    /// The loads, each with its place.
+    Stock,
+    /// The nodes and edges that vehicles hold.
+    Holds,
+}
 
 /// What a line asks for.
 #[derive(Clone, Copy)]
-pub enum Line {
-    /// Serves standard input over a store in memory. `at` is the moment of every request, in
-    /// milliseconds since 1970-01-01T00:00:00Z, from 0 to 4102444799999.
-    Replay { at: u64 },
+pub enum Line<'a> {
+    /// Answers the requests of standard input.
+    Replay {
+        /// The file of the records, or `memory`.
+        db: &'a str,
+        /// The moment of every request, in milliseconds since 1970-01-01T00:00:00Z, from 0 to
+        /// 4102444799999.
+        at: u64,
+    },
+    /// Answers the requests of a number of connections, one after another.
+    Serve {
+        /// The file of the records.
+        db: &'a str,
+        /// The port on this machine; at 0 the system picks one.
+        port: u16,
+        /// After so many connections the program ends.
+        connections: u32,
+    },
+    /// Prints a report.
+    Report {
+        /// The file of the records.
+        db: &'a str,
+        /// Which report.
+        kind: ReportKind,
+    },
 }
 
 /// Why a line asks for nothing.
@@ -35,11 +67,11 @@ impl From<AllocError> for LineFault {
     }
 }
 
-/// Where records can be kept, today.
-static STORES: [&str; 1] = ["memory"];
+/// The names of the reports.
+static KINDS: [&str; 2] = ["stock", "holds"];
 
-/// A required option.
-fn required_arg<'a>(alloc: Global, name: &'a str) -> Arg<'a>
+/// A required option with one value; `value` stands for it in the help.
+fn required_arg<'a>(alloc: Global, name: &'a str, value: &'a str, help: &'a str) -> Arg<'a>
     ensures rule { rule_of result ≡ required_option name.now }
     ensures local { result.global ≡ false }
 {
@@ -47,56 +79,194 @@ fn required_arg<'a>(alloc: Global, name: &'a str) -> Arg<'a>
         .long(name)
         .required(true)
         .action(ArgAction::Set)
+        .value_name(value)
+        .help(help)
 }
 
-/// `--db`: where the records are kept.
-fn store_arg<'a>(alloc: Global) -> Arg<'a>
-    ensures rule { (stores : Choice) × IsMemoryAlone stores × (rule_of result ≡ db stores) }
+/// A required option whose value is a number from 0 to `most`.
+fn number_arg<'a>(alloc: Global, name: &'a str, value: &'a str, most: i64, help: &'a str) -> Arg<'a>
+    ensures rule { rule_of result ≡ number name.now most }
     ensures local { result.global ≡ false }
 {
-    required_arg(alloc, "db")
-        .value_name("memory")
-        .value_parser(STORES.as_slice())
-        .help("Where the records are kept: `memory`, for this run alone")
+    required_arg(alloc, name, value, help).value_parser(value_parser!(u64).range(..=most))
 }
 
-/// `--at`: the moment of every request.
-fn moment_arg<'a>(alloc: Global) -> Arg<'a>
-    ensures rule { rule_of result ≡ at }
+/// The name of a report, which stands by itself.
+fn kind_arg<'a>(alloc: Global) -> Arg<'a>
+    ensures rule { (kinds : Choice) × AreKinds kinds × (rule_of result ≡ report_kind kinds) }
     ensures local { result.global ≡ false }
 {
-    required_arg(alloc, "at")
-        .value_name("MILLIS")
-        .value_parser(value_parser!(u64).range(..=4_102_444_799_999))
-        .help("The moment of every request, in milliseconds since 1970")
+    Arg::new(alloc, "kind")
+        .required(true)
+        .action(ArgAction::Set)
+        .value_name("REPORT")
+        .value_parser(KINDS.as_slice())
+        .help("`stock`: each load and its place; `holds`: what each vehicle holds of the floor")
 }
 
-/// The subcommand.
+/// The subcommand `replay`.
 fn replay_command<'a>(alloc: Global) -> Result<Command<'a>, AllocError>
-    ensures { IfOk result (λ command. (stores : Choice) × IsMemoryAlone stores × (app_of command ≡ replay stores)
-        × ((out-Command command).has_globals ≡ false)) }
+    ensures { IfOk result (IsApp replay) }
 {
-    let with_store = Command::new(alloc, "replay")
-        .about("Answers the requests on standard input, one after another")
-        .arg(store_arg(alloc))?;
-    with_store.arg(moment_arg(alloc))
+    let db = required_arg(
+        alloc,
+        "db",
+        "FILE|memory",
+        "The file that keeps the records; `memory` keeps them for this run alone",
+    );
+    let at = number_arg(
+        alloc,
+        "at",
+        "MILLIS",
+        4_102_444_799_999,
+        "The moment of all requests, in milliseconds since the start of 1970 (UTC)",
+    );
+    Command::new(alloc, "replay")
+        .about("Reads requests from standard input and writes the answers to standard output")
+        .after_help("Example: desk replay --db memory --at 1700000000000 < requests.txt")
+        .arg(db)?
+        .arg(at)
 }
 
-/// The command, with its one subcommand.
+/// The subcommand `serve`.
+fn serve_command<'a>(alloc: Global) -> Result<Command<'a>, AllocError>
+    ensures { IfOk result (IsApp serve) }
+{
+    let db = required_arg(alloc, "db", "FILE", "The file that keeps the records");
+    let port = number_arg(
+        alloc,
+        "port",
+        "P",
+        65_535,
+        "The port on this machine, 0 to 65535; at 0 a free one is chosen and printed",
+    );
+    let connections = number_arg(
+        alloc,
+        "connections",
+        "N",
+        4_294_967_295,
+        "How many connections are served, one after another, before the program ends",
+    );
+    Command::new(alloc, "serve")
+        .about("Answers requests over the network, to programs on this machine (127.0.0.1)")
+        .after_help("Example: desk serve --db desk.db --port 8080 --connections 100")
+        .arg(db)?
+        .arg(port)?
+        .arg(connections)
+}
+
+/// The subcommand `report`.
+fn report_command<'a>(alloc: Global) -> Result<Command<'a>, AllocError>
+    ensures { IfOk result (λ command. (kinds : Choice) × AreKinds kinds × IsApp (report kinds) command) }
+{
+    let db = required_arg(alloc, "db", "FILE", "The file that keeps the records");
+    Command::new(alloc, "report")
+        .about("Prints a report of the records: where the loads are, or what the vehicles hold")
+        .after_help("Example: desk report --db desk.db stock")
+        .arg(db)?
+        .arg(kind_arg(alloc))
+}
+
+/// The command, with its three subcommands.
 fn desk_command<'a>(alloc: Global) -> Result<Command<'a>, AllocError>
-    ensures { IfOk result (λ command. (stores : Choice) × IsMemoryAlone stores × (app_of command ≡ desk stores)) }
+    ensures { IfOk result (λ command. (kinds : Choice) × AreKinds kinds × IsApp (desk kinds) command) }
 {
     let replay = replay_command(alloc)?;
+    let serve = serve_command(alloc)?;
+    let report = report_command(alloc)?;
     Command::new(alloc, "desk")
-        .about("A control desk for the vehicles of one warehouse")
-        .after_help("The command line: desk replay --db memory --at MILLIS < REQUESTS")
+        .about("The control desk of one warehouse: its vehicles, loads and orders")
+        .after_help("Example: desk replay --db memory --at 1700000000000 < requests.txt")
         .no_binary_name(true)
         .subcommand_required(true)
-        .subcommand(replay)
+        .subcommand(replay)?
+        .subcommand(serve)?
+        .subcommand(report)
+}
+
+/// The line of `replay`.
+fn replay_line<'a>(found: &ArgMatches<'a>) -> Line<'a>
+    requires values { HasValues (rows_of (found_of found.now)) replay.top.rules }
+    ensures name { name_of result ≡ codes "replay" }
+    ensures values { Gives (rows_of (found_of found.now)) result }
+{
+    let Some(db) = found.get_str("db") else {
+        unreachable!()
+    };
+    let Some(at) = found.get_one::<u64>("at") else {
+        unreachable!()
+    };
+    Line::Replay { db, at }
+}
+
+/// The line of `serve`.
+fn serve_line<'a>(found: &ArgMatches<'a>) -> Line<'a>
+    requires values { HasValues (rows_of (found_of found.now)) serve.top.rules }
+    ensures name { name_of result ≡ codes "serve" }
+    ensures values { Gives (rows_of (found_of found.now)) result }
+{
+    let Some(db) = found.get_str("db") else {
+        unreachable!()
+    };
+    let Some(port) = found.get_one::<u16>("port") else {
+        unreachable!()
+    };
+    let Some(connections) = found.get_one::<u32>("connections") else {
+        unreachable!()
+    };
+    Line::Serve {
+        db,
+        port,
+        connections,
+    }
+}
+
+/// The report of this name.
+fn kind_named(word: &str) -> Option<ReportKind>
+    ensures named { IfSome result (λ kind. word.now ≡ kind_word kind) }
+    ensures known { (kind : ReportKind) → (word.now ≡ kind_word kind) → IsSome result }
+{
+    match word {
+        "stock" => Some(ReportKind::Stock),
+        "holds" => Some(ReportKind::Holds),
+        _ => None,
+    }
+}
+
+/// The line of `report`.
+fn report_line<'a>(found: &ArgMatches<'a>) -> Line<'a>
+    requires values { (kinds : Choice) × AreKinds kinds × HasValues (rows_of (found_of found.now)) (report kinds).top.rules }
+    ensures name { name_of result ≡ codes "report" }
+    ensures values { Gives (rows_of (found_of found.now)) result }
+{
+    let Some(db) = found.get_str("db") else {
+        unreachable!()
+    };
+    let Some(word) = found.get_str("kind") else {
+        unreachable!()
+    };
+    let Some(kind) = kind_named(word) else {
+        unreachable!()
+    };
+    Line::Report { db, kind }
+}
+
+/// The line of the subcommand `name`.
+fn named_line<'a>(name: &str, found: &ArgMatches<'a>) -> Line<'a>
+    requires named { (kinds : Choice) × AreKinds kinds × IsOneOf (desk kinds).subs name.now (rows_of (found_of found.now)) }
+    ensures name { name_of result ≡ name.now }
+    ensures values { Gives (rows_of (found_of found.now)) result }
+{
+    match name {
+        "replay" => replay_line(found),
+        "serve" => serve_line(found),
+        "report" => report_line(found),
+        _ => unreachable!(),
+    }
 }
 
 /// Reads the words after the program's name.
-pub fn line_of<'a>(alloc: Global, words: &'a [String]) -> Result<Line, LineFault>
+pub fn line_of<'a>(alloc: Global, words: &'a [String]) -> Result<Line<'a>, LineFault>
     ensures line { IfOk result (IsLine (map string_bytes words.now)) }
     ensures fault { IfErr result (IsLineFault (map string_bytes words.now)) }
 {
@@ -105,12 +275,9 @@ pub fn line_of<'a>(alloc: Global, words: &'a [String]) -> Result<Line, LineFault
         Err(error) if error.kind() == ErrorKind::OutOfMemory => return Err(LineFault::Memory),
         Err(error) => return Err(LineFault::Refused(error)),
     };
-    // Words in which `clap` finds no fault have the subcommand and its moment.
-    let Some((_, replay)) = matches.subcommand() else {
+    // Words in which `clap` finds no fault name a subcommand, with a value of each argument.
+    let Some((name, found)) = matches.subcommand() else {
         unreachable!()
     };
-    match replay.get_one::<u64>("at") {
-        Some(at) => Ok(Line::Replay { at }),
-        None => unreachable!(),
-    }
+    Ok(named_line(name, found))
 }

@@ -13,9 +13,8 @@ mod line;
 mod outcome;
 mod run;
 
-use crate::outcome::Outcome;
+use crate::outcome::{Outcome, RunFault};
 use crate::run::run;
-use agv_face::{LoadsFault, Watched};
 use std::alloc::Global;
 use std::env::{self, Env};
 use std::io::{self, ErrorKind};
@@ -37,10 +36,10 @@ fn words_of(rt: &(impl Env + Alloc<A = Global>)) -> Result<Vec<String>, Outcome>
     let all = match env::args(rt) {
         Ok(all) => all,
         Err(error) if error.kind() == ErrorKind::InvalidData => return Err(Outcome::NotText),
-        Err(_) => return Err(Outcome::Failed(LoadsFault::Memory)),
+        Err(_) => return Err(Outcome::Failed(RunFault::Memory)),
     };
     let Ok(mut words) = all.collect::<Vec<String>>(rt.alloc()) else {
-        return Err(Outcome::Failed(LoadsFault::Memory));
+        return Err(Outcome::Failed(RunFault::Memory));
     };
     drop_first(&mut words);
     Ok(words)
@@ -48,12 +47,7 @@ fn words_of(rt: &(impl Env + Alloc<A = Global>)) -> Result<Vec<String>, Outcome>
 
 fn main(rt: HostRuntime) -> ExitCode {
     let outcome = match words_of(&rt) {
-        Ok(words) => run(
-            rt.alloc(),
-            &words,
-            &mut Watched::new(rt.reader()),
-            &mut Watched::new(io::writer(&rt)),
-        ),
+        Ok(words) => run(&rt, rt.alloc(), &words, rt.reader(), io::writer(&rt)),
         Err(outcome) => outcome,
     };
     let _ = rt.eprint(&outcome);

@@ -1,68 +1,217 @@
-//! What the program does with its words, its input and its output.
-ghost use Rattle.std.specs.Prelude.{◌≡◌, List, length, map, string_bytes, IfOk, IfErr, IfSome};
-ghost use Rattle.std.specs.Io.KnownBytes.{Appends};
-ghost use Rattle.agv_tables.specs.loads.Registered.{no_loads};
-ghost use Rattle.agv_desk.specs.declared.call.Call.{Call};
-ghost use Rattle.agv_face.specs.Asked.{Asks};
-ghost use Rattle.agv_face.specs.Served.{output};
-ghost use Rattle.agv_face.specs.Watched.{inner_of};
-ghost use Rattle.agv_app.specs.Runs.{IsNewStore, IsOfNewStore, IsOutcome, IsServed};
+//! What the program does with its line: it opens a desk, and serves a stream or connections, or prints a report.
 
-use crate::line::{Line, LineFault, line_of};
-use crate::outcome::Outcome;
-use agv_face::{LoadsFault, Stop, Watched, serve_loads};
-use agv_tables::Loads;
-use sqlite::{Connection, MemStore};
+use crate::line::{Line, LineFault, ReportKind, line_of};
+use crate::outcome::{Outcome, RunFault, outcome_of};
+use agv_desk::Answer;
+use agv_face::{Served, StreamFault, Watched, serve_stream};
+use agv_header::Moment;
+use agv_store::Desk;
+use agv_world::Fault;
+use sqlite::{Alter, Connection, Error, ErrorCode, FileStore, MemStore};
+use sqlite_std_file::File;
 use std::alloc::Global;
 use std::io::{Read, Write};
+use std::net::{Ipv4Addr, SocketAddr, SocketAddrV4, TcpListener};
+use std::time::{SystemTime, UNIX_EPOCH};
 
-/// A new store in memory, with no load in it.
-fn new_loads(alloc: Global) -> Result<Loads<MemStore>, LoadsFault>
-    ensures new_store { IfOk result IsNewStore }
-    ensures fault { IfErr result IsOfNewStore }
-{
+/// Why no connection was served.
+#[derive(Clone, Copy, Debug, PartialEq, Eq)]
+pub enum NextFault {
+    /// None could be had.
+    Net,
+    /// The clock shows no moment from 1970 to 2099.
+    Clock,
+}
+
+/// A desk in a new store in memory.
+fn open_in_memory(alloc: Global) -> Result<Desk<MemStore>, RunFault> {
     let Ok(conn) = Connection::open_in_memory(alloc) else {
-        return Err(LoadsFault::Memory);
+        return Err(RunFault::Memory);
     };
-    match Loads::create(conn) {
-        Ok(loads) => Ok(loads),
-        Err(fault) => Err(LoadsFault::from(Stop::from(fault))),
+    match Desk::open(alloc, conn) {
+        Ok(desk) => Ok(desk),
+        Err((_, why)) => Err(RunFault::from(why)),
     }
 }
 
-/// Serves a stream of requests over a new store in memory, and gives the number of answers.
-pub fn serve_new<R: Read, W: Write>(
-    alloc: Global,
-    reader: &mut Watched<R>,
-    writer: &mut Watched<W>,
-) -> Result<u64, LoadsFault>
-    ensures ends { IsServed R.remaining W.contents reader.old reader.new writer.old writer.new result }
+/// The desk in the file; a new one where the file has none of its tables.
+fn open_in_file(rt: &HostRuntime, file: &str) -> Result<Desk<FileStore<File>>, RunFault> {
+    let conn = match Connection::open(rt, file) {
+        Ok(conn) => conn,
+        Err(Error::SqliteFailure(ErrorCode::OutOfMemory)) => return Err(RunFault::Memory),
+        Err(_) => return Err(RunFault::Storage),
+    };
+    match Desk::open(rt.alloc(), conn) {
+        Ok(desk) => Ok(desk),
+        Err((_, why)) => Err(RunFault::from(why)),
+    }
+}
 
-    // The input is some calls, and the answers to them from no loads are what is written.
-    ensures answers { IfOk result (λ n. (calls : List Call) × (n ≡ length calls)
-        × IfSome (R.remaining (inner_of reader.old)) (λ input. Asks input calls)
-        × Appends (W.contents (inner_of writer.old)) (W.contents (inner_of writer.new)) (output no_loads calls)) }
-{
-    let mut loads = new_loads(alloc)?;
-    serve_loads(alloc, &mut loads, reader, writer)
+/// Serves the reader's requests, all at this moment.
+fn replay<S: Alter + Drop, R: Read + Drop, W: Write + Drop>(
+    alloc: Global,
+    desk: Desk<S>,
+    at: u64,
+    reader: R,
+    writer: W,
+) -> Outcome {
+    let Some(at) = moment_of(at) else {
+        return Outcome::Failed(RunFault::Clock);
+    };
+    let mut desk = desk;
+    let mut reader = Watched::new(reader);
+    let mut writer = Watched::new(writer);
+    outcome_of(serve_stream(alloc, &mut desk, at, &mut reader, &mut writer))
+}
+
+/// The moment at so many milliseconds since 1970, up to 2099.
+fn moment_of(ms: u64) -> Option<Moment> {
+    match i64::try_from(ms) {
+        Ok(ms) => Moment::of(ms),
+        Err(_) => None,
+    }
+}
+
+/// The moment that the clock shows.
+fn moment_now(rt: &HostRuntime) -> Option<Moment> {
+    let Ok(now) = SystemTime::now(rt) else {
+        return None;
+    };
+    let Ok(since) = now.duration_since(UNIX_EPOCH) else {
+        return None;
+    };
+    match i64::try_from(since.as_millis()) {
+        Ok(ms) => Moment::of(ms),
+        Err(_) => None,
+    }
+}
+
+/// Accepts one connection, and serves its requests at the moment at which it is accepted.
+pub fn serve_next<S: Alter + Drop>(
+    rt: &HostRuntime,
+    alloc: Global,
+    desk: &mut Desk<S>,
+    listener: &mut TcpListener,
+) -> Result<Result<Served, StreamFault>, NextFault> {
+    let Ok((stream, _)) = listener.accept() else {
+        return Err(NextFault::Net);
+    };
+    let Some(at) = moment_now(rt) else {
+        return Err(NextFault::Clock);
+    };
+    let mut reader = Watched::new(&stream);
+    let mut writer = Watched::new(&stream);
+    Ok(serve_stream(alloc, desk, at, &mut reader, &mut writer))
+}
+
+/// Serves so many connections, one after another. A fault of a connection ends that connection; one of the store ends the
+/// program.
+fn serve_connections<S: Alter + Drop>(
+    rt: &HostRuntime,
+    alloc: Global,
+    desk: &mut Desk<S>,
+    listener: &mut TcpListener,
+    connections: u32,
+) -> Outcome {
+    for _ in 0..connections {
+        match serve_next(rt, alloc, desk, listener) {
+            Ok(_) => {}
+            Err(NextFault::Net) => return Outcome::Failed(RunFault::Net),
+            Err(NextFault::Clock) => return Outcome::Failed(RunFault::Clock),
+        }
+        if desk.failed() {
+            return Outcome::Failed(RunFault::Storage);
+        }
+    }
+    Outcome::Done
+}
+
+/// Listens on the port of this machine, says on which, and serves connections.
+fn serve<S: Alter + Drop, W: Write + Drop>(
+    rt: &HostRuntime,
+    alloc: Global,
+    desk: Desk<S>,
+    port: u16,
+    connections: u32,
+    writer: W,
+) -> Outcome {
+    let local = SocketAddr::V4(SocketAddrV4::new(Ipv4Addr::LOCALHOST, port));
+    let Ok(mut listener) = TcpListener::bind(rt, local) else {
+        return Outcome::Failed(RunFault::Net);
+    };
+    let Ok(bound) = listener.local_addr() else {
+        return Outcome::Failed(RunFault::Net);
+    };
+    let mut writer = writer;
+    let said = writeln!(writer, "listening on 127.0.0.1:{}", bound.port());
+    if said.is_err() || writer.flush().is_err() {
+        return Outcome::Failed(RunFault::Write);
+    }
+    let mut desk = desk;
+    serve_connections(rt, alloc, &mut desk, &mut listener, connections)
+}
+
+/// Prints a report.
+fn report<S: Alter + Drop, W: Write + Drop>(desk: Desk<S>, kind: ReportKind, writer: W) -> Outcome {
+    let named = match kind {
+        ReportKind::Stock => Answer::StockReport,
+        ReportKind::Holds => Answer::HoldReport,
+    };
+    let mut desk = desk;
+    let mut writer = writer;
+    match desk.report(&named) {
+        Ok(bytes) => match writer.write_all(&bytes) {
+            Ok(()) => Outcome::Done,
+            Err(_) => Outcome::Failed(RunFault::Write),
+        },
+        Err(Fault::Memory) => Outcome::Failed(RunFault::Memory),
+        Err(Fault::Storage) => Outcome::Failed(RunFault::Storage),
+    }
+}
+
+/// Carries a line out.
+fn carry_out<R: Read + Drop, W: Write + Drop>(
+    rt: &HostRuntime,
+    alloc: Global,
+    line: &Line<'_>,
+    reader: R,
+    writer: W,
+) -> Outcome {
+    match *line {
+        Line::Replay { db: "memory", at } => match open_in_memory(alloc) {
+            Ok(desk) => replay(alloc, desk, at, reader, writer),
+            Err(fault) => Outcome::Failed(fault),
+        },
+        Line::Replay { db, at } => match open_in_file(rt, db) {
+            Ok(desk) => replay(alloc, desk, at, reader, writer),
+            Err(fault) => Outcome::Failed(fault),
+        },
+        Line::Serve {
+            db,
+            port,
+            connections,
+        } => match open_in_file(rt, db) {
+            Ok(desk) => serve(rt, alloc, desk, port, connections, writer),
+            Err(fault) => Outcome::Failed(fault),
+        },
+        Line::Report { db, kind } => match open_in_file(rt, db) {
+            Ok(desk) => report(desk, kind, writer),
+            Err(fault) => Outcome::Failed(fault),
+        },
+    }
 }
 
 /// Reads the line, and does what it asks for.
-pub fn run<R: Read, W: Write>(
+pub fn run<R: Read + Drop, W: Write + Drop>(
+    rt: &HostRuntime,
     alloc: Global,
     words: &[String],
-    reader: &mut Watched<R>,
-    writer: &mut Watched<W>,
-) -> Outcome
-    ensures { IsOutcome R.remaining W.contents reader.old reader.new writer.old writer.new (map string_bytes words.now) result }
-{
+    reader: R,
+    writer: W,
+) -> Outcome {
     match line_of(alloc, words) {
-        // No call of today looks at the moment.
-        Ok(Line::Replay { at: _ }) => match serve_new(alloc, reader, writer) {
-            Ok(_) => Outcome::Served,
-            Err(fault) => Outcome::Failed(fault),
-        },
-        Err(LineFault::Memory) => Outcome::Failed(LoadsFault::Memory),
+        Ok(line) => carry_out(rt, alloc, &line, reader, writer),
+        Err(LineFault::Memory) => Outcome::Failed(RunFault::Memory),
         Err(LineFault::Refused(error)) => Outcome::Refused(error),
     }
 }

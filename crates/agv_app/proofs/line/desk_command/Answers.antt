@@ -1,18 +1,15 @@
-use Rattle.std.proofs.Common.{ap, ap₂, ◌≡◌, ◌∙◌, codes, true}
+use Rattle.std.proofs.Common.{rules}
 use Rattle.std.proofs.lemmas.Result.{IfOk-weaker}
-use Rattle.clap.specs.Words.{App, app_of, new_app, with_subcommand}
-use Rattle.clap.specs.Simple.{app_of_fields}
-use Rattle.agv_app.specs.CommandLine.{desk_top}
+use Rattle.agv_app.specs.CommandLine.{IsApp, desk_top, replay, report, serve}
+use Rattle.agv_app.proofs.Commands.{subcommand_added}
 use Rattle.agv_app.proofs.line.desk_command.Goals as goal
 
 pub returns : goal.returns
 returns c =
-    let replay = c.in_ok-replay.ensures in
-    let helped : app_of c.after_help.result ≡ new_app (codes "desk") =
-    ap app_of_fields c.after_help.ensures ∙ (ap app_of_fields c.about.ensures ∙ c.new.ensures.app) in
-    let unnamed = ap app_of_fields c.no_binary_name.ensures ∙ ap (λ (a : App). record a { top = record a.top { no_binary_name = true } }) helped in
-    let top : app_of c.subcommand_required.result ≡ desk_top =
-    ap app_of_fields c.subcommand_required.ensures ∙ ap (λ (a : App). record a { top = record a.top { subcommand_required = true } }) unnamed in
-    IfOk-weaker c.subcommand.result _ _
-    (λ command added. (replay.0, replay.1, added.shape replay.3 ∙ ap₂ with_subcommand top (ap (λ (a : App). a.top) replay.2)))
-    c.subcommand.ensures
+    let reports = c.in_ok-report.ensures in
+    let top : IsApp desk_top c.subcommand_required.result = search rules in
+    let first = subcommand_added desk_top replay _ _ _ c.in_ok-subcommand.ensures top c.in_ok-replay.ensures in
+    let second = subcommand_added _ serve _ _ _ c.in_ok-subcommand-2.ensures first c.in_ok-serve.ensures in
+    IfOk-weaker c.subcommand-3.result _ _
+    (λ command added. (reports.0, reports.1, subcommand_added _ (report reports.0) _ _ command added second reports.2))
+    c.subcommand-3.ensures
