@@ -1,10 +1,10 @@
 //! Beginnings of a request: which are waited for, and which are refused at once.
 
-use crate::cases::check_answer_calls;
-use crate::examples::{FIRST, FIRST_ANSWERS};
-use crate::fakes::Drip;
-use crate::loads::no_loads;
-use agv_face::Stop;
+use crate::cases::{check_stream, new_desk};
+use crate::examples::{FIRST, FIRST_ANSWERS, NO_LOAD};
+use crate::fakes::{Drip, Trickle};
+use agv_face::{Ended, Served, StreamFault};
+use agv_header::Refusal;
 use std::alloc::Global;
 use std::process::Abort;
 
@@ -15,74 +15,107 @@ fn check_beginning(
     alloc: Global,
     bytes: &[u8],
     reads: u32,
-    end: Result<u64, Stop>,
+    end: Result<Served, StreamFault>,
     answers: &[u8],
 ) {
-    let mut loads = no_loads(rt, alloc);
+    let mut desk = new_desk(rt, alloc);
     let mut reader = Drip::watched(bytes, 4096, reads);
-    check_answer_calls(rt, alloc, &mut loads, &mut reader, end, answers);
+    let mut writer = Trickle::watched(alloc, 4096, 1000);
+    check_stream(rt, alloc, &mut desk, &mut reader, &mut writer, end, answers);
 }
+
+/// More was waited for behind so many answers.
+fn waited(answers: u64) -> Result<Served, StreamFault> {
+    Err(StreamFault::Read { answers })
+}
+
+/// The stream ended behind so many answers.
+fn ended(answers: u64, ended: Ended) -> Result<Served, StreamFault> {
+    Ok(Served { answers, ended })
+}
+
+/// The refusal of a head that is none.
+const BAD_HEAD: &[u8] =
+    b"HTTP/1.1 400 Bad Request\r\nContent-Length: 30\r\nContent-Type: application/json\r\nConnection: close\r\n\r\n{\"name\":\"BadHead\",\"refusal\":1}";
 
 /// More is waited for, or the input ends, within a request or behind one.
 #[test]
 fn waits_or_ends(rt: HostRuntime) {
-    check_beginning(&rt, rt.alloc(), b"", 0, Err(Stop::Read), b"");
-    check_beginning(&rt, rt.alloc(), b"", 1, Ok(0), b"");
-    check_beginning(&rt, rt.alloc(), b"POST /load", 1, Err(Stop::Read), b"");
-    check_beginning(&rt, rt.alloc(), b"POST /load", 2, Err(Stop::Other), b"");
-    check_beginning(&rt, rt.alloc(), FIRST, 1, Err(Stop::Read), FIRST_ANSWERS);
-    check_beginning(&rt, rt.alloc(), FIRST, 2, Ok(2), FIRST_ANSWERS);
+    check_beginning(&rt, rt.alloc(), b"", 0, waited(0), b"");
+    check_beginning(&rt, rt.alloc(), b"", 1, ended(0, Ended::End), b"");
+    check_beginning(&rt, rt.alloc(), b"POST /load", 1, waited(0), b"");
+    let bad = ended(1, Ended::Refused(Refusal::BadHead));
+    check_beginning(&rt, rt.alloc(), b"POST /load", 2, bad, BAD_HEAD);
+    check_beginning(&rt, rt.alloc(), FIRST, 1, waited(2), FIRST_ANSWERS);
+    check_beginning(
+        &rt,
+        rt.alloc(),
+        FIRST,
+        2,
+        ended(2, Ended::End),
+        FIRST_ANSWERS,
+    );
 }
 
-/// Heads that the first read gives, and how the stream ends where the next read fails: with `Read` where the
-/// body is waited for, and with `Other` where nothing is, since the length is too large, isn't there, is there
-/// twice or has a sign, since there is a coding, or since the request is whole and no call.
-const HEADS: [(&[u8], Stop); 9] = [
-    (
-        b"POST /loads HTTP/1.1\r\nContent-Length: 65536\r\n\r\n",
-        Stop::Read,
-    ),
+/// Heads that the first read gives, and which are refused before the next read, which would fail: the length is too large, isn't
+/// there, is there twice or has a sign, or there is a coding.
+const HEADS: [(&[u8], Refusal, &[u8]); 6] = [
     (
         b"POST /loads HTTP/1.1\r\nContent-Length: 65537\r\n\r\n",
-        Stop::Other,
+        Refusal::TooLarge,
+        b"HTTP/1.1 413 Payload Too Large\r\nContent-Length: 31\r\nContent-Type: application/json\r\nConnection: close\r\n\r\n{\"name\":\"TooLarge\",\"refusal\":3}",
     ),
-    (b"POST /loads HTTP/1.1\r\n\r\n", Stop::Other),
+    (
+        b"POST /loads HTTP/1.1\r\n\r\n",
+        Refusal::NoLength,
+        b"HTTP/1.1 411 Length Required\r\nContent-Length: 31\r\nContent-Type: application/json\r\nConnection: close\r\n\r\n{\"name\":\"NoLength\",\"refusal\":2}",
+    ),
     (
         b"GET /loads/L1 HTTP/1.1\r\nTransfer-Encoding: chunked\r\n\r\n",
-        Stop::Other,
+        Refusal::Coding,
+        b"HTTP/1.1 501 Not Implemented\r\nContent-Length: 29\r\nContent-Type: application/json\r\nConnection: close\r\n\r\n{\"name\":\"Coding\",\"refusal\":4}",
     ),
     (
         b"GET /loads/L1 HTTP/1.1\r\nContent-Length: 1\r\nTransfer-Encoding: x\r\n\r\n",
-        Stop::Other,
+        Refusal::Coding,
+        b"HTTP/1.1 501 Not Implemented\r\nContent-Length: 29\r\nContent-Type: application/json\r\nConnection: close\r\n\r\n{\"name\":\"Coding\",\"refusal\":4}",
     ),
     (
         b"GET /loads/L1 HTTP/1.1\r\ncontent-length: 1\r\nContent-Length: 1\r\n\r\n",
-        Stop::Other,
+        Refusal::BadHead,
+        b"HTTP/1.1 400 Bad Request\r\nContent-Length: 30\r\nContent-Type: application/json\r\nConnection: close\r\n\r\n{\"name\":\"BadHead\",\"refusal\":1}",
     ),
     (
         b"GET /loads/L1 HTTP/1.1\r\nContent-Length: +1\r\n\r\n",
-        Stop::Other,
+        Refusal::BadHead,
+        b"HTTP/1.1 400 Bad Request\r\nContent-Length: 30\r\nContent-Type: application/json\r\nConnection: close\r\n\r\n{\"name\":\"BadHead\",\"refusal\":1}",
     ),
-    (
-        b"GET /loads/L1 HTTP/1.1\r\nContent-Length: 1\r\n\r\n",
-        Stop::Read,
-    ),
-    (b"GET /jobs HTTP/1.1\r\n\r\n", Stop::Other),
 ];
 
 /// What is refused by its head is refused at once.
 #[test]
 fn refuses_at_once(rt: HostRuntime) {
-    for (head, stop) in &HEADS {
-        check_beginning(&rt, rt.alloc(), head, 1, Err(*stop), b"");
+    for (head, why, answer) in &HEADS {
+        let end = ended(1, Ended::Refused(*why));
+        check_beginning(&rt, rt.alloc(), head, 1, end, answer);
+    }
+}
+
+/// Heads whose body is waited for.
+const BODIES: [&[u8]; 2] = [
+    b"POST /loads HTTP/1.1\r\nContent-Length: 65536\r\n\r\n",
+    b"GET /loads/L1 HTTP/1.1\r\nContent-Length: 1\r\n\r\n",
+];
+
+#[test]
+fn waits_for_bodies(rt: HostRuntime) {
+    for head in &BODIES {
+        check_beginning(&rt, rt.alloc(), head, 1, waited(0), b"");
     }
 }
 
 /// Asks for a load that isn't there.
 const ABSENT: &[u8] = b"GET /loads/L9 HTTP/1.1\r\n";
-
-const NO_LOAD: &[u8] =
-    b"HTTP/1.1 404 Not Found\r\nContent-Length: 30\r\nContent-Type: application/json\r\n\r\n{\"name\":\"NoLoad\",\"refusal\":23}";
 
 /// A head of so many header lines, without the empty line behind them.
 fn head_of(rt: &impl Abort, alloc: Global, lines: u32) -> Vec<u8> {
@@ -97,11 +130,18 @@ fn head_of(rt: &impl Abort, alloc: Global, lines: u32) -> Vec<u8> {
 #[test]
 fn lines_of_a_head(rt: HostRuntime) {
     let mut most = head_of(&rt, rt.alloc(), 32);
-    check_beginning(&rt, rt.alloc(), &most, 1, Err(Stop::Read), b"");
+    check_beginning(&rt, rt.alloc(), &most, 1, waited(0), b"");
     most.extend_from_slice(b"\r\n").expect(&rt, "memory");
-    check_beginning(&rt, rt.alloc(), &most, 1, Err(Stop::Read), NO_LOAD);
+    check_beginning(&rt, rt.alloc(), &most, 1, waited(1), NO_LOAD);
     let more = head_of(&rt, rt.alloc(), 33);
-    check_beginning(&rt, rt.alloc(), &more, 1, Err(Stop::Other), b"");
+    check_beginning(
+        &rt,
+        rt.alloc(),
+        &more,
+        1,
+        ended(1, Ended::Refused(Refusal::BadHead)),
+        BAD_HEAD,
+    );
 }
 
 /// Nor is a head waited for that is not at its end within 8,192 bytes. Two reads give them.
@@ -111,7 +151,14 @@ fn length_of_a_head(rt: HostRuntime) {
     for _ in 5..8191 {
         long.push(b'a').expect(&rt, "memory");
     }
-    check_beginning(&rt, rt.alloc(), &long, 2, Err(Stop::Read), b"");
+    check_beginning(&rt, rt.alloc(), &long, 2, waited(0), b"");
     long.push(b'a').expect(&rt, "memory");
-    check_beginning(&rt, rt.alloc(), &long, 2, Err(Stop::Other), b"");
+    check_beginning(
+        &rt,
+        rt.alloc(),
+        &long,
+        2,
+        ended(1, Ended::Refused(Refusal::BadHead)),
+        BAD_HEAD,
+    );
 }

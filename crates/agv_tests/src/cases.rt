@@ -2,9 +2,10 @@
 //! calls.
 
 use crate::fakes::{Drip, Trickle};
-use agv_face::{LoadsFault, Stop, Watched, answer_calls, serve_loads};
-use agv_tables::Loads;
-use sqlite::MemStore;
+use crate::table_cases::{made, moment};
+use agv_face::{Served, StreamFault, Watched, serve_stream};
+use agv_store::Desk;
+use sqlite::{Connection, MemStore};
 use std::alloc::Global;
 use std::process::Abort;
 
@@ -13,33 +14,23 @@ pub(crate) fn check(rt: &impl Abort, holds: bool, case: &str) {
     assert!(rt; holds, "`{case}`");
 }
 
-/// Serves what the reader gives by `serve_loads`, and compares the end and the answers.
-pub(crate) fn check_serve_loads(
-    rt: &impl Abort,
-    alloc: Global,
-    loads: &mut Loads<MemStore>,
-    reader: &mut Watched<Drip<'_>>,
-    writer: &mut Watched<Trickle>,
-    end: Result<u64, LoadsFault>,
-    answers: &[u8],
-) {
-    let served = serve_loads(alloc, loads, reader, writer);
-    check(rt, served == end, "the number of the answers, or the fault");
-    let taken = writer.inner().taken.as_slice();
-    check(rt, taken == answers, "the answers");
+/// A desk in memory that knows nothing yet.
+pub(crate) fn new_desk(rt: &impl Abort, alloc: Global) -> Desk<MemStore> {
+    let conn = Connection::open_in_memory(alloc).expect(rt, "memory");
+    made(rt, alloc, conn)
 }
 
-/// Serves what the reader gives by `answer_calls`, and compares the end and the answers.
-pub(crate) fn check_answer_calls(
+/// Serves what the reader gives, and compares the end and the answers.
+pub(crate) fn check_stream(
     rt: &impl Abort,
     alloc: Global,
-    loads: &mut Loads<MemStore>,
+    desk: &mut Desk<MemStore>,
     reader: &mut Watched<Drip<'_>>,
-    end: Result<u64, Stop>,
+    writer: &mut Watched<Trickle>,
+    end: Result<Served, StreamFault>,
     answers: &[u8],
 ) {
-    let mut writer = Trickle::watched(alloc, 4096, 1000);
-    let served = answer_calls(alloc, loads, reader, &mut writer);
+    let served = serve_stream(alloc, desk, moment(rt), reader, writer);
     check(rt, served == end, "the end of the stream");
     let taken = writer.inner().taken.as_slice();
     check(rt, taken == answers, "the answers");

@@ -19,3 +19,7 @@ pub(crate) const AGAIN: &[u8] =
 /// The answers to `AGAIN` behind `FIRST`.
 pub(crate) const AGAIN_ANSWERS: &[u8] =
     b"HTTP/1.1 409 Conflict\r\nContent-Length: 30\r\nContent-Type: application/json\r\n\r\n{\"name\":\"Exists\",\"refusal\":30}HTTP/1.1 200 OK\r\nContent-Length: 43\r\nContent-Type: application/json\r\n\r\n{\"job\":null,\"load\":\"L1\",\"place\":\"checking\"}HTTP/1.1 404 Not Found\r\nContent-Length: 30\r\nContent-Type: application/json\r\n\r\n{\"name\":\"NoLoad\",\"refusal\":23}";
+
+/// The answer to a question for a load that isn't there.
+pub(crate) const NO_LOAD: &[u8] =
+    b"HTTP/1.1 404 Not Found\r\nContent-Length: 30\r\nContent-Type: application/json\r\n\r\n{\"name\":\"NoLoad\",\"refusal\":23}";

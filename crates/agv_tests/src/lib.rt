@@ -1,7 +1,6 @@
 //! The tests that need the store. They stand in one crate, since a crate with tests is proved twice, and
 //! one over the store is linked for more than a minute. The expected bytes are written out by hand.
 //!
-//! - `loads` calls each public call of the store once, with ample memory.
 //! - `tables` makes the desk's tables in databases with and without others.
 //! - `strangers` asks of tables that anyone made whether they are a desk's, whether they leave room for a desk's, and
 //!   whether each row of them has a number of its own.
@@ -14,8 +13,8 @@
 //! - `failing_stores` has a desk serve the worked example over files that fail from some call on.
 //! - `refused_changes` writes a list of changes of which SQL refuses one.
 //! - `table_cases` makes and takes over desks, serves and reads for these, and `disks` has files in memory that fail.
-//! - `streams` serves the worked examples as bytes, which `examples` has: whole, in pieces, with a reader or a
-//!   writer of `fakes` that fails, and with input of other forms behind them.
+//! - `streams` has a desk serve requests as bytes, of which `examples` has some: in pieces, with a reader or a writer of `fakes`
+//!   that fails, to each kind of end, a thousand in one input, and one of the greatest length.
 //! - `beginnings` shows which beginnings of a request are waited for and which are refused at once.
 //! - `cases` compares what is found with what is wanted.
 #![tactic(auto)]
@@ -40,8 +39,6 @@ mod failing_stores;
 mod fakes;
 #[cfg(test)]
 mod kept_desks;
-#[cfg(test)]
-mod loads;
 #[cfg(test)]
 mod refused_changes;
 #[cfg(test)]

@@ -5,7 +5,7 @@ use crate::table_cases::{call_in, check_read, check_rows, decided, make, write_c
 use crate::written::{PICKED, PICKED_ROWS};
 use agv_desk::Decision;
 use agv_http::Routes;
-use agv_tables::Fault;
+use agv_tables::WriteFault;
 use agv_tables::changes::change_running::write_changes;
 use agv_world::World;
 use sqlite::{Connection, MemStore};
@@ -28,7 +28,7 @@ fn check_written(
     rt: &impl Abort,
     conn: &mut Connection<MemStore>,
     decision: &Decision,
-    end: Result<(), Fault>,
+    end: Result<(), WriteFault>,
 ) {
     check(rt, decision.changes.as_slice().len() == 2, "two changes");
     assert!(rt; conn.is_autocommit(), "idle");
@@ -43,7 +43,7 @@ fn check_refused(rt: &impl Abort, alloc: Global) {
     let mut conn = write_calls(rt, alloc, &mut world, conn, PICKED);
     conn.execute(INDEX, &[]).expect(rt, INDEX);
     let decision = leaving(rt, alloc, &world);
-    check_written(rt, &mut conn, &decision, Err(Fault::Storage));
+    check_written(rt, &mut conn, &decision, Err(WriteFault::Storage));
     check_rows(rt, alloc, &mut conn, PICKED_ROWS);
     check_read(rt, alloc, &world, &mut conn);
     conn.execute("DROP INDEX one_of_a_kind", &[])
