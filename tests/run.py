@@ -1,0 +1,12 @@
+"""Runs all scripts of this folder over the built program, which the variable DESK names, and ends with `N passed, M failed`."""
+import os
+import sys
+import unittest
+
+here = os.path.dirname(os.path.abspath(__file__))
+sys.path.insert(0, here)
+sys.dont_write_bytecode = True
+result = unittest.TextTestRunner(stream=sys.stdout, verbosity=2).run(unittest.defaultTestLoader.discover(here))
+failed = len(result.failures) + len(result.errors) + len(result.unexpectedSuccesses)
+print('%d passed, %d failed' % (result.testsRun - failed, failed))
+sys.exit(failed != 0 or result.testsRun == 0)
