@@ -1,0 +1,118 @@
+"""Times streams of requests through the built program, and counts the instructions of one request. Python's standard library
+alone; valgrind for the counts.
+
+    DESK=crates/agv_app/out/agv_app python3 bench/streams.py
+"""
+import json
+import os
+import re
+import subprocess
+import sys
+import tempfile
+import time
+import http.client
+
+HERE = os.path.dirname(os.path.abspath(__file__))
+DESK = os.path.abspath(os.environ.get('DESK', os.path.join(HERE, '..', 'build', 'desk')))
+PLAIN = os.path.join(HERE, 'plain_desk.py')
+AT = '1700000000000'
+LAYOUT = b'kind,id,from,to\nnode,N1,,\nnode,N2,,\nnode,N3,,\nedge,E12,N1,N2\nedge,E21,N2,N1\nedge,E23,N2,N3\nedge,E32,N3,N2\nstation,A,N1,999\nstation,B,N3,999\n'
+
+
+def request(method, target, body=b''):
+    if not isinstance(body, bytes):
+        body = json.dumps(body, separators=(',', ':')).encode()
+    length = b'Content-Length: %d\r\n' % len(body) if method != 'GET' else b''
+    return b'%s %s HTTP/1.1\r\n%s\r\n%s' % (method.encode(), target.encode(), length, body)
+
+
+def load(number):
+    return request('POST', '/loads', {'load': 'L%07d' % number})
+
+
+def state(number):
+    return request('POST', '/uagv/v2/KIT/0001/state', {
+        'headerId': number, 'timestamp': '2023-11-14T22:13:19.50Z', 'version': '2.0.0', 'manufacturer': 'KIT', 'serialNumber': '0001',
+        'orderId': '', 'orderUpdateId': 0, 'lastNodeId': 'N1', 'lastNodeSequenceId': 0, 'driving': False, 'nodeStates': [], 'edgeStates': [],
+        'actionStates': [], 'batteryState': {'batteryCharge': 80, 'charging': False}, 'operatingMode': 'AUTOMATIC', 'errors': [],
+        'safetyState': {'eStop': 'NONE', 'fieldViolation': False}})
+
+
+START = request('PUT', '/layout', LAYOUT) + request('POST', '/vehicles', {'manufacturer': 'KIT', 'serialNumber': '0001', 'node': 'N1'})
+
+
+def mixed(count):
+    """Registrations and states, one after the other."""
+    return b''.join(load(i) + state(i + 1) for i in range(count // 2))
+
+
+def best(words, stdin, fresh=None, turns=3):
+    """The least seconds of some runs, and the output of the last."""
+    spent, out = [], b''
+    for _ in range(turns):
+        if fresh:
+            for end in ('', '-wal', '-shm'):
+                if os.path.exists(fresh + end):
+                    os.remove(fresh + end)
+        begun = time.perf_counter()
+        done = subprocess.run(words, input=stdin, capture_output=True)
+        spent.append(time.perf_counter() - begun)
+        if done.returncode:
+            sys.exit(done.stderr.decode())
+        out = done.stdout
+    return min(spent), out
+
+
+def instructions(stdin, db):
+    done = subprocess.run(['valgrind', '--tool=callgrind', '--callgrind-out-file=/dev/null', DESK, 'replay', '--db', db, '--at', AT],
+                          input=stdin, capture_output=True)
+    return int(re.search(rb'Collected : (\d+)', done.stderr).group(1))
+
+
+def counted(name, before, requests, folder):
+    """The instructions of one request: of a hundred more of them, by a hundred; in memory and in a file."""
+    for db in ('memory', os.path.join(folder, 'counted.db')):
+        figures = []
+        for count in (100, 200):
+            if db != 'memory':
+                for end in ('', '-wal', '-shm'):
+                    if os.path.exists(db + end):
+                        os.remove(db + end)
+            figures.append(instructions(before + b''.join(requests[:count]), db))
+        print('%-24s %-7s %9d instructions' % (name, 'memory' if db == 'memory' else 'file', (figures[1] - figures[0]) // 100), flush=True)
+
+
+def sockets(count, folder):
+    db = os.path.join(folder, 'served.db')
+    desk = subprocess.Popen([DESK, 'serve', '--db', db, '--port', '0', '--connections', '1'], stdout=subprocess.PIPE)
+    port = int(desk.stdout.readline().split(b':')[1])
+    connection = http.client.HTTPConnection('127.0.0.1', port)
+    begun = time.perf_counter()
+    for number in range(count):
+        connection.request('POST', '/loads', json.dumps({'load': 'L%07d' % number}))
+        connection.getresponse().read()
+    spent = time.perf_counter() - begun
+    connection.close()
+    desk.wait()
+    desk.stdout.close()
+    return spent
+
+
+with tempfile.TemporaryDirectory() as folder:
+    file = os.path.join(folder, 'desk.db')
+    plain = os.path.join(folder, 'plain.db')
+    for count, where in ((20_000, 'memory'), (2_000, 'file')):
+        stdin = mixed(count)
+        ours, out = best([DESK, 'replay', '--db', 'memory' if where == 'memory' else file, '--at', AT], START + stdin, file)
+        theirs, plain_out = best([sys.executable, PLAIN, ':memory:' if where == 'memory' else plain], stdin, plain)
+        if out.count(b'200 OK') - 2 != count or plain_out.count(b'200 OK') != count:
+            sys.exit('not all requests were answered 200')
+        print('%6d mixed requests, %-6s  desk %7.3f s, plain desk %7.3f s' % (count, where, ours, theirs), flush=True)
+    print('%6d registrations over one connection, file  %7.3f s' % (2_000, sockets(2_000, folder)), flush=True)
+    counted('registration', START, [load(i) for i in range(200)], folder)
+    counted('state', START, [state(i + 1) for i in range(200)], folder)
+    orders = START + state(1) + request('POST', '/loads', {'load': 'L1', 'station': 'A'}) + request('POST', '/jobs', {'job': 'J1', 'load': 'L1', 'to': 'B'}) + request(
+        'POST', '/orders', {'order': 'O1', 'job': 'J1', 'manufacturer': 'KIT', 'serialNumber': '0001', 'edges': 1})
+    counted('order message', orders, [request('GET', '/uagv/v2/KIT/0001/order')] * 200, folder)
+    counted('question for a load', orders, [request('GET', '/loads/L1')] * 200, folder)
+    counted('stock report, one load', orders, [request('GET', '/report/stock')] * 200, folder)
