@@ -1,0 +1,44 @@
+"""Registers loads in a file through the built program, up to 1,000, 100,000 and 1,000,000, and at each number times the opening of
+the file, a hundred registrations more and the reports, with the most memory of the program. Python's standard library and
+`/usr/bin/time`.
+
+    DESK=crates/agv_app/out/agv_app python3 bench/many_loads.py
+"""
+import os
+import subprocess
+import tempfile
+import time
+
+HERE = os.path.dirname(os.path.abspath(__file__))
+DESK = os.path.abspath(os.environ.get('DESK', os.path.join(HERE, '..', 'build', 'desk')))
+AT = '1700000000000'
+
+
+def load(number):
+    body = b'{"load":"L%07d"}' % number
+    return b'POST /loads HTTP/1.1\r\nContent-Length: %d\r\n\r\n%s' % (len(body), body)
+
+
+def timed(what, words, stdin=b''):
+    done = subprocess.run(['/usr/bin/time', '-f', '%e s, %M KB', DESK, *words], input=stdin, capture_output=True)
+    print('  %-22s %s, %d bytes out' % (what, done.stderr.decode().strip(), len(done.stdout)), flush=True)
+
+
+with tempfile.TemporaryDirectory() as folder:
+    db = os.path.join(folder, 'many.db')
+    done = 0
+    for total in (1_000, 100_000, 1_000_000):
+        begun = time.perf_counter()
+        replay = subprocess.Popen([DESK, 'replay', '--db', db, '--at', AT], stdin=subprocess.PIPE, stdout=subprocess.DEVNULL)
+        for number in range(done, total):
+            replay.stdin.write(load(number))
+        replay.stdin.close()
+        if replay.wait():
+            raise SystemExit('the replay failed')
+        print('%d loads: %d registrations in %.2f s' % (total, total - done, time.perf_counter() - begun), flush=True)
+        done = total
+        timed('opening alone', ['replay', '--db', db, '--at', AT])
+        if total < 1_000_000:
+            timed('100 registrations', ['replay', '--db', db, '--at', AT], b''.join(load(5_000_000 + total + i) for i in range(100)))
+        timed('the stock report', ['report', '--db', db, 'stock'])
+        timed('the hold report', ['report', '--db', db, 'holds'])
