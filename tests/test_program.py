@@ -12,6 +12,7 @@ import signal
 import socket
 import sqlite3
 import subprocess
+import sys
 import tempfile
 import threading
 import unittest
@@ -254,6 +255,19 @@ class Killed(ProgramTest):
                 for name in answered:
                     self.assertEqual(desk.ask('GET', '/loads/' + name, connection=connection)[0], 200, name)
                 connection.close()
+
+
+class Demo(ProgramTest):
+    def test_three_vehicles_on_one_ring(self):
+        """The demo ends once each load is where it is to go; and no node or edge is held by two vehicles at a time."""
+        demo = os.path.join(HERE, '..', 'examples', 'demo')
+        done = subprocess.run([sys.executable, demo, '--program', DESK, '--step', '0.01'], capture_output=True, timeout=120)
+        self.assertEqual((done.returncode, done.stderr), (0, b''))
+        lines = [line for line in done.stdout.decode().splitlines() if ' s  ' in line]
+        self.assertGreater(len(lines), 10)
+        for line in lines:
+            things = [thing for thing in re.sub(r'KIT/\d+:', '', line.split(' s  ')[1]).split()]
+            self.assertEqual(len(things), len(set(things)), line)
 
 
 class Exits(ProgramTest):
