@@ -1,0 +1,253 @@
+"""Worked examples as scripts: requests, each with its status and its body, worked out by hand. Each script is served as one stream
+in memory, request by request by a program of its own on one file, and over one connection; the file is then read by another SQLite."""
+import json
+import os
+import sqlite3
+import tempfile
+import unittest
+
+from test_program import AT, Serving, requests_of, run
+
+HERE = os.path.dirname(os.path.abspath(__file__))
+
+LAYOUT = ('kind,id,from,to\nnode,N1,,\nnode,N2,,\nnode,N3,,\nedge,E12,N1,N2\nedge,E21,N2,N1\nedge,E23,N2,N3\nedge,E32,N3,N2\n'
+          'station,A,N1,1\nstation,B,N3,1\nstation,C,N3,2\n')
+
+
+def state(number, order='', update=0, node='N1', sequence=0, statuses=(), serial='0001', **others):
+    """A state of a vehicle that is ready; `statuses` are pairs of an action's id and its status."""
+    body = {
+        'headerId': number, 'timestamp': '2023-11-14T22:13:19.50Z', 'version': '2.0.0', 'manufacturer': 'KIT', 'serialNumber': serial,
+        'orderId': order, 'orderUpdateId': update, 'lastNodeId': node, 'lastNodeSequenceId': sequence, 'driving': False,
+        'nodeStates': [], 'edgeStates': [], 'actionStates': [{'actionId': a, 'actionStatus': s} for a, s in statuses],
+        'batteryState': {'batteryCharge': 80, 'charging': False}, 'operatingMode': 'AUTOMATIC', 'errors': [],
+        'safetyState': {'eStop': 'NONE', 'fieldViolation': False}}
+    body.update(others)
+    return 'POST /uagv/v2/KIT/%s/state' % serial, body
+
+
+def ok(request, body=None, told='{}'):
+    return request, body, 200, told
+
+
+def refused(request, body, status, name, number):
+    return request, body, status, '{"name":"%s","refusal":%d}' % (name, number)
+
+
+def accepted(said, told='{"accepted":true}'):
+    return said[0], said[1], 200, told
+
+
+def refused_state(said, status, name, number):
+    return refused(said[0], said[1], status, name, number)
+
+
+def vehicle(serial, node):
+    return ok('POST /vehicles', {'manufacturer': 'KIT', 'serialNumber': serial, 'node': node})
+
+
+def load(name, station=None):
+    return ok('POST /loads', {'load': name, 'station': station} if station else {'load': name})
+
+
+def job(name, of, to):
+    return ok('POST /jobs', {'job': name, 'load': of, 'to': to})
+
+
+def order_of(name, of, edges, serial='0001'):
+    return {'order': name, 'job': of, 'manufacturer': 'KIT', 'serialNumber': serial, 'edges': edges}
+
+
+def order(name, of, edges, serial='0001'):
+    return ok('POST /orders', order_of(name, of, edges, serial), '{"orderUpdateId":0}')
+
+
+def advance(name, update, edges, serial='0001'):
+    return 'POST /vehicles/KIT/%s/advance' % serial, {'order': name, 'orderUpdateId': update, 'edges': edges}
+
+
+def stands(name, place, of=None):
+    return ok('GET /loads/' + name, None, json.dumps({'job': of, 'load': name, 'place': place}, separators=(',', ':')))
+
+
+def holds(*lines, of=7):
+    return ok('GET /report/holds', None, ''.join(line + '\n' for line in lines) + 'held %d of %d\n' % (len(lines), of))
+
+
+READY = [ok('PUT /layout', LAYOUT), vehicle('0001', 'N1'), accepted(state(1))]
+AT_A = READY + [load('L1', 'A')]
+FIRST_EDGE = AT_A + [job('J1', 'L1', 'B'), order('O1', 'J1', 1)]
+BOTH_EDGES = AT_A + [job('J1', 'L1', 'B'), order('O1', 'J1', 2)]
+CANCELLED = FIRST_EDGE + [ok('POST /vehicles/KIT/0001/cancel', '', '{"actionId":"instant-1"}')]
+FINISHED = [('O1.0', 'FINISHED'), ('O1.1', 'FINISHED')]
+THREE_NODES = [ok('PUT /layout', LAYOUT), vehicle('0002', 'N3'), accepted(state(1, node='N3', serial='0002'))]
+
+SCRIPTS = {
+    'a station is full': AT_A + [
+        refused('POST /loads', {'load': 'L2', 'station': 'A'}, 409, 'Full', 34),
+        refused('GET /loads/L2', None, 404, 'NoLoad', 23)],
+    'an update comes once the message before is confirmed': FIRST_EDGE + [
+        holds('node N1 KIT/0001', 'node N2 KIT/0001', 'edge E12 KIT/0001'),
+        refused(*advance('O1', 1, 1), 409, 'NotConfirmed', 43),
+        accepted(state(2, 'O1')),
+        ok(*advance('O1', 1, 1), '{"orderUpdateId":1}'),
+        (*advance('O1', 1, 1), 409, '{"name":"WrongUpdate","refusal":44,"sent":1}')],
+    'one vehicle is kept from what another holds': [
+        ok('PUT /layout', LAYOUT), vehicle('0001', 'N1'), accepted(state(1)), vehicle('0002', 'N3'),
+        accepted(state(1, node='N3', serial='0002')), load('L1', 'A'), load('L3', 'C'), job('J1', 'L1', 'B'), order('O1', 'J1', 1),
+        accepted(state(2, 'O1', statuses=[('O1.0', 'FINISHED')])), stands('L1', 'vehicle KIT/0001', 'J1'), job('J2', 'L3', 'A'),
+        order('O2', 'J2', 0, '0002'), accepted(state(2, 'O2', node='N3', serial='0002')),
+        (*advance('O2', 1, 1, '0002'), 409, '{"by":"KIT/0001","name":"Held","refusal":33,"what":"node N2"}')],
+    'a node that is passed twice stays held': THREE_NODES + [
+        load('L1', 'A'), job('J1', 'L1', 'C'), order('O3', 'J1', 4, '0002'),
+        holds('node N1 KIT/0002', 'node N2 KIT/0002', 'node N3 KIT/0002', 'edge E12 KIT/0002', 'edge E21 KIT/0002', 'edge E23 KIT/0002', 'edge E32 KIT/0002'),
+        accepted(state(2, 'O3', node='N2', sequence=2, serial='0002')),
+        holds('node N1 KIT/0002', 'node N2 KIT/0002', 'node N3 KIT/0002', 'edge E12 KIT/0002', 'edge E21 KIT/0002', 'edge E23 KIT/0002'),
+        accepted(state(3, 'O3', node='N1', sequence=4, serial='0002')),
+        holds('node N1 KIT/0002', 'node N2 KIT/0002', 'node N3 KIT/0002', 'edge E12 KIT/0002', 'edge E23 KIT/0002')],
+    'a pick and a drop at one node': THREE_NODES + [
+        load('L4', 'B'), job('J4', 'L4', 'C'), order('O4', 'J4', 0, '0002'),
+        accepted(state(2, 'O4', node='N3', statuses=[('O4.0', 'FINISHED'), ('O4.1', 'FINISHED')], serial='0002')),
+        stands('L4', 'station C'), ('GET /uagv/v2/KIT/0002/order', None, 204, '')],
+    'one state tells of the whole way, and again moves nothing': BOTH_EDGES + [
+        accepted(state(2, 'O1', node='N3', sequence=4, statuses=FINISHED)), stands('L1', 'station B'), holds('node N3 KIT/0001'),
+        accepted(state(2, 'O1', node='N3', sequence=4, statuses=FINISHED), '{"accepted":false}'),
+        ok('POST /vehicles/KIT/0001/resync', ''),
+        accepted(state(2, 'O1', node='N3', sequence=4, statuses=FINISHED)), stands('L1', 'station B')],
+    'a drop needs its pick': BOTH_EDGES + [
+        accepted(state(2, 'O1', statuses=[('O1.0', 'FAILED')])),
+        refused_state(state(3, 'O1', node='N3', sequence=4, statuses=[('O1.0', 'FAILED'), ('O1.1', 'FINISHED')]), 409, 'DropFirst', 69),
+        stands('L1', 'station A', 'J1')],
+    'an order is cancelled on its way': CANCELLED + [
+        accepted(state(2, 'O1', statuses=[('instant-1', 'FINISHED')])),
+        holds('node N1 KIT/0001', 'node N2 KIT/0001', 'edge E12 KIT/0001'), job('J2', 'L1', 'B'),
+        refused('POST /orders', order_of('O2', 'J2', 1), 409, 'Astray', 39),
+        ok('POST /vehicles/KIT/0001/place', {'ref': 'R1', 'node': 'N2'}), holds('node N2 KIT/0001')],
+    'a cancel ends once everything has stopped': CANCELLED + [
+        refused_state(state(2, 'O1', statuses=[('O1.0', 'RUNNING'), ('instant-1', 'FINISHED')]), 409, 'CancelEarly', 70),
+        accepted(state(2, 'O1', statuses=[('O1.0', 'FINISHED'), ('instant-1', 'FINISHED')])), stands('L1', 'vehicle KIT/0001')],
+    'fractions and positions are refused': READY + [
+        refused_state(state(2, agvPosition={}, batteryState={'batteryCharge': 80.5, 'charging': False}), 422, 'Fraction', 8),
+        refused_state(state(2, agvPosition={}), 422, 'Position', 9), accepted(state(2))],
+    'a stocktake finds a load elsewhere': AT_A + [
+        ok('POST /stocktakes/R2', 'station,load\nA,\nC,L1\n', '{"moved":1,"unknown":[]}'), stands('L1', 'station C'),
+        refused('POST /stocktakes/R2', 'station,load\nA,\nC,L1\n', 409, 'RefUsed', 49),
+        ok('POST /stocktakes/R3', 'station,load\nA,\nC,L1\n', '{"moved":0,"unknown":[]}')],
+    'a stocktake moves no load of a live job': AT_A + [
+        job('J1', 'L1', 'B'), refused('POST /stocktakes/R2', 'station,load\nA,\nC,L1\n', 409, 'InJob', 35), stands('L1', 'station A', 'J1')],
+    'what a stocktake lists': AT_A + [
+        load('L3', 'C'), ok('POST /stocktakes/R1', 'station,load\n', '{"moved":0,"unknown":[]}'),
+        ok('POST /stocktakes/R2', 'station,load\nC,L3\nC,L9\n', '{"moved":0,"unknown":["L9"]}'),
+        refused('POST /stocktakes/R3', 'station,load\nA,L1\nC,L1\n', 409, 'CountTwice', 80),
+        refused('POST /stocktakes/R3', 'station,load\nA,L1\nA,L3\n', 409, 'Full', 34),
+        refused('POST /stocktakes/R3', 'station,load\nD,L1\n', 404, 'NoStation', 22),
+        ok('POST /stocktakes/R3', 'station,load\nC,\n', '{"moved":1,"unknown":[]}'), stands('L3', 'checking')],
+    'a load leaves once it has no job; a vehicle has one instant action at a time': AT_A + [
+        job('J1', 'L1', 'B'), refused('POST /loads/L1/leave', {'ref': 'R1'}, 409, 'InJob', 35), ok('DELETE /jobs/J1'),
+        refused('DELETE /jobs/J1', None, 409, 'JobState', 50), ok('POST /loads/L1/leave', {'ref': 'R1'}), stands('L1', 'left'),
+        ok('POST /vehicles/KIT/0001/pause', '', '{"actionId":"instant-1"}'),
+        refused('POST /vehicles/KIT/0001/resume', '', 409, 'InstantPending', 42),
+        accepted(state(4294967295, statuses=[('instant-1', 'FINISHED')])), accepted(state(4294967295), '{"accepted":false}'),
+        ok('POST /vehicles/KIT/0001/resume', '', '{"actionId":"instant-2"}')],
+    'a layout is set once': READY + [refused('PUT /layout', LAYOUT, 409, 'LayoutSet', 31)],
+    'a layout with an edge to nowhere': [refused('PUT /layout', 'kind,id,from,to\nnode,N1,,\nedge,E1,N1,N2\n', 409, 'LayoutBad', 32)],
+    'a hundred vehicles': [
+        ok('PUT /layout', 'kind,id,from,to\n' + ''.join('node,N%d,,\n' % n for n in range(101))),
+        *[vehicle('%04d' % n, 'N%d' % n) for n in range(100)],
+        refused('POST /vehicles', {'manufacturer': 'KIT', 'serialNumber': '0100', 'node': 'N100'}, 409, 'Limit', 51)],
+    'methods, paths and bodies': [
+        refused('PUT /loads/L1', '', 405, 'BadMethod', 6), refused('GET /nothing', None, 404, 'NoPath', 5),
+        refused('POST /loads', '[' * 128 + ']' * 128, 400, 'BadJson', 7), refused('POST /loads', '[' * 127 + ']' * 127, 400, 'BadBody', 10)],
+}
+
+
+def bytes_of(line):
+    request, body, _, _ = line
+    if body is None:
+        return ('%s HTTP/1.1\r\n\r\n' % request).encode()
+    data = body if isinstance(body, str) else json.dumps(body, separators=(',', ':'))
+    return ('%s HTTP/1.1\r\nContent-Length: %d\r\n\r\n%s' % (request, len(data), data)).encode()
+
+
+def answers_of(data):
+    """The answers of an output, each its status and its body; none where the last one lacks bytes."""
+    found, at = [], 0
+    while at < len(data):
+        end = data.find(b'\r\n\r\n', at)
+        if end < 0:
+            return None
+        length = 0
+        for line in data[at:end].split(b'\r\n')[1:]:
+            if line.lower().startswith(b'content-length:'):
+                length = int(line.split(b':')[1])
+        if end + 4 + length > len(data):
+            return None
+        found.append((int(data[at + 9:at + 12]), data[end + 4:end + 4 + length].decode()))
+        at = end + 4 + length
+    return found
+
+
+class Scripts(unittest.TestCase):
+    def check(self, lines, told):
+        self.assertEqual(len(told), len(lines))
+        for line, (status, body) in zip(lines, told):
+            self.assertEqual((status, body), line[2:], line[:2])
+
+    def test_in_memory(self):
+        for title, lines in SCRIPTS.items():
+            with self.subTest(title):
+                status, out, said = run('replay', '--db', 'memory', '--at', AT, stdin=b''.join(map(bytes_of, lines)))
+                self.assertEqual((status, said), (0, b''))
+                self.check(lines, answers_of(out))
+
+    def test_each_request_by_a_program_of_its_own(self):
+        for title, lines in SCRIPTS.items():
+            with self.subTest(title), tempfile.TemporaryDirectory() as folder:
+                db = os.path.join(folder, 'script.db')
+                for line in lines:
+                    status, out, said = run('replay', '--db', db, '--at', AT, stdin=bytes_of(line))
+                    self.assertEqual((status, said), (0, b''))
+                    self.check([line], answers_of(out))
+                base = sqlite3.connect(db)
+                self.assertEqual(base.execute('PRAGMA integrity_check').fetchall(), [('ok',)])
+                base.close()
+
+    def test_over_one_connection(self):
+        for title, lines in SCRIPTS.items():
+            with self.subTest(title), tempfile.TemporaryDirectory() as folder, Serving(os.path.join(folder, 'script.db')) as desk:
+                plain = desk.plain()
+                told, found = b'', []
+                for number, line in enumerate(lines, 1):
+                    plain.sendall(bytes_of(line))
+                    while found is None or len(found) < number:
+                        told += plain.recv(65536)
+                        found = answers_of(told)
+                plain.close()
+                self.check(lines, found)
+
+    def test_each_call_of_the_page(self):
+        """`examples/calls.http` has each call in an order in which a new desk answers it with 200."""
+        with open(os.path.join(HERE, '..', 'examples', 'calls.http'), 'rb') as file:
+            data = file.read()
+        status, out, said = run('replay', '--db', 'memory', '--at', AT, stdin=data)
+        self.assertEqual((status, said), (0, b''))
+        told = answers_of(out)
+        self.assertEqual(len(told), len(requests_of(data)))
+        self.assertEqual({status for status, _ in told}, {200})
+
+    def test_each_prefix(self):
+        """Of two registrations and a cut one each front is served up to its last whole request, and then refused, or at its end."""
+        first = b'POST /loads HTTP/1.1\r\nContent-Length: 13\r\n\r\n{"load":"L1"}'
+        second = first.replace(b'L1', b'L2')
+        whole = first + second + first[:-8]
+        for length in range(0, len(whole) + 1, 3):
+            status, out, said = run('replay', '--db', 'memory', '--at', AT, stdin=whole[:length])
+            self.assertEqual((status, said), (0, b''))
+            served = (length >= len(first)) + (length >= len(first) + len(second))
+            at_end = length in (0, len(first), len(first) + len(second))
+            wanted = [(200, '{}')] * served + ([] if at_end else [(400, '{"name":"BadHead","refusal":1}')])
+            self.assertEqual(answers_of(out), wanted, length)
+
+
+if __name__ == '__main__':
+    unittest.main()
