@@ -8,6 +8,7 @@ import json
 import os
 import random
 import re
+import shutil
 import signal
 import socket
 import sqlite3
@@ -268,6 +269,20 @@ class Demo(ProgramTest):
         for line in lines:
             things = [thing for thing in re.sub(r'KIT/\d+:', '', line.split(' s  ')[1]).split()]
             self.assertEqual(len(things), len(set(things)), line)
+
+
+class WithCurl(ProgramTest):
+    @unittest.skipUnless(shutil.which('curl'), 'curl is not here')
+    def test_a_transport(self):
+        script = os.path.join(HERE, '..', 'examples', 'transport.sh')
+        with Serving(self.db) as desk:
+            done = subprocess.run([script, str(desk.port)], capture_output=True, timeout=60)
+        self.assertEqual((done.returncode, done.stderr), (0, b''))
+        told = done.stdout.decode()
+        self.assertNotIn('refusal', told)
+        self.assertEqual(re.findall(r'"place":"([^"]*)"', told), ['vehicle KIT/0001', 'station B'])
+        self.assertEqual(re.findall(r'held (\d) of (\d)', told), [('3', '7'), ('1', '7')])
+        self.assertIn('station B at N3: 1 of 1, reserved 0\n  L1\n', told)
 
 
 class Exits(ProgramTest):
