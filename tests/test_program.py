@@ -8,6 +8,7 @@ import json
 import os
 import random
 import re
+import resource
 import shutil
 import signal
 import socket
@@ -202,6 +203,17 @@ class Serve(ProgramTest):
             plain.close()
             self.assertEqual(desk.ask('GET', '/loads/L1')[0], 404)
 
+    def test_a_client_that_never_reads(self):
+        """It keeps the others waiting until it leaves; the desk goes on then."""
+        with Serving(self.db) as desk:
+            plain = desk.plain()
+            plain.settimeout(1)
+            with self.assertRaises(TimeoutError):
+                while True:
+                    plain.sendall(b'GET /loads/L1 HTTP/1.1\r\n\r\n' * 10_000)
+            plain.close()
+            self.assertEqual(desk.ask('GET', '/loads/L1')[0], 404)
+
     def test_noise(self):
         with Serving(self.db) as desk:
             for seed in range(20):
@@ -256,6 +268,30 @@ class Killed(ProgramTest):
                 for name in answered:
                     self.assertEqual(desk.ask('GET', '/loads/' + name, connection=connection)[0], 200, name)
                 connection.close()
+
+
+class Full(ProgramTest):
+    def test_a_file_that_can_grow_no_more(self):
+        """The system lets the files grow to some length alone: a call that needs more is answered by the store's fault, which ends
+        the stream, and what was answered before it is kept."""
+        def limit():
+            signal.signal(signal.SIGXFSZ, signal.SIG_IGN)
+            resource.setrlimit(resource.RLIMIT_FSIZE, (1_000_000, 1_000_000))
+
+        names = ['L%05d' % number for number in range(1_000)]
+        stdin = b''.join(b'POST /loads HTTP/1.1\r\nContent-Length: 17\r\n\r\n{"load":"%s"}' % name.encode() for name in names)
+        done = subprocess.run([DESK, 'replay', '--db', self.db, '--at', AT], input=stdin, capture_output=True, preexec_fn=limit, timeout=60)
+        self.assertEqual((done.returncode, done.stderr), (1, b'fault: Storage\n'))
+        self.assertTrue(done.stdout.endswith(b'Connection: close\r\n\r\n{"name":"Storage","refusal":91}'))
+        answered = done.stdout.count(b'HTTP/1.1 200 OK')
+        self.assertGreater(answered, 10)
+        self.assertEqual(done.stdout.count(b'HTTP/1.1 '), answered + 1)
+        status, out, said = self.replay(b''.join(b'GET /loads/%s HTTP/1.1\r\n\r\n' % name.encode() for name in names[:answered + 2]))
+        self.assertEqual((status, said), (0, b''))
+        # The call that was answered by the fault may be there or not; the one after it is not.
+        found = out.count(b'HTTP/1.1 200 OK')
+        self.assertIn(found, (answered, answered + 1))
+        self.assertTrue(out.endswith(b'{"name":"NoLoad","refusal":23}'))
 
 
 class Demo(ProgramTest):
