@@ -1,0 +1,58 @@
+"""Compares registrations by the built program with the same statements in plain SQLite (bench/plain_commits.c, with SQLite's
+header and library), on files with some thousands of loads: the time of a commit, and the instructions.
+
+    DESK=crates/agv_app/out/agv_app python3 bench/commits.py
+"""
+import os
+import re
+import shutil
+import subprocess
+import tempfile
+import time
+
+HERE = os.path.dirname(os.path.abspath(__file__))
+DESK = os.path.abspath(os.environ.get('DESK', os.path.join(HERE, '..', 'build', 'desk')))
+AT = '1700000000000'
+
+
+def load(number):
+    body = b'{"load":"L%07d"}' % number
+    return b'POST /loads HTTP/1.1\r\nContent-Length: %d\r\n\r\n%s' % (len(body), body)
+
+
+def copied(source, name):
+    for end in ('', '-wal'):
+        if os.path.exists(name + end):
+            os.remove(name + end)
+        if os.path.exists(source + end):
+            shutil.copy(source + end, name + end)
+    if os.path.exists(name + '-shm'):
+        os.remove(name + '-shm')
+    return name
+
+
+def timed(words, stdin):
+    begun = time.perf_counter()
+    subprocess.run(words, input=stdin, stdout=subprocess.DEVNULL, check=True)
+    return time.perf_counter() - begun
+
+
+def counted(words, stdin):
+    done = subprocess.run(['valgrind', '--tool=callgrind', '--callgrind-out-file=/dev/null', *words], input=stdin, capture_output=True)
+    return int(re.search(rb'Collected : (\d+)', done.stderr).group(1))
+
+
+with tempfile.TemporaryDirectory() as folder:
+    plain = os.path.join(folder, 'plain')
+    subprocess.run(['gcc', '-O2', '-o', plain, os.path.join(HERE, 'plain_commits.c'), '-lsqlite3'], check=True)
+    start = os.path.join(folder, 'start.db')
+    subprocess.run([DESK, 'replay', '--db', start, '--at', AT], input=b''.join(map(load, range(10_000))), stdout=subprocess.DEVNULL, check=True)
+    for name, words in (('desk', lambda db, n: [DESK, 'replay', '--db', db, '--at', AT]), ('plain SQLite', lambda db, n: [plain, db, str(n), '20000'])):
+        times, figures = [], []
+        for count in (100, 5_100):
+            stdin = b''.join(load(20_000 + i) for i in range(count))
+            times.append(min(timed(words(copied(start, os.path.join(folder, 'run.db')), count), stdin) for _ in range(3)))
+        for count in (100, 600):
+            stdin = b''.join(load(20_000 + i) for i in range(count))
+            figures.append(counted(words(copied(start, os.path.join(folder, 'run.db')), count), stdin))
+        print('%-13s %6.1f microseconds, %8d instructions a registration' % (name, (times[1] - times[0]) / 5_000 * 1e6, (figures[1] - figures[0]) // 500), flush=True)
