@@ -8,5 +8,8 @@ sys.path.insert(0, here)
 sys.dont_write_bytecode = True
 result = unittest.TextTestRunner(stream=sys.stdout, verbosity=2).run(unittest.defaultTestLoader.discover(here))
 failed = len(result.failures) + len(result.errors) + len(result.unexpectedSuccesses)
-print('%d passed, %d failed' % (result.testsRun - failed, failed))
-sys.exit(failed != 0 or result.testsRun == 0)
+passed = result.testsRun - failed - len(result.skipped)
+for test, why in result.skipped:
+    print('skipped: %s: %s' % (test, why))
+print('%d passed, %d failed' % (passed, failed))
+sys.exit(failed != 0 or passed == 0)

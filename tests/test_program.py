@@ -25,6 +25,21 @@ TRANSPORT = os.path.join(HERE, '..', 'examples', 'transport.http')
 AT = '1700000000000'
 
 
+def has_loopback():
+    """Whether this machine lets a program listen on 127.0.0.1, and another one connect."""
+    try:
+        with socket.socket() as listener:
+            listener.bind(('127.0.0.1', 0))
+            listener.listen()
+            socket.create_connection(listener.getsockname(), timeout=5).close()
+        return True
+    except OSError:
+        return False
+
+
+over_sockets = unittest.skipUnless(has_loopback(), 'no sockets on 127.0.0.1 here')
+
+
 def requests_of(data):
     """The requests of a file of requests: method, target, body."""
     found, at = [], 0
@@ -150,6 +165,7 @@ class Replay(ProgramTest):
         base.close()
 
 
+@over_sockets
 class Serve(ProgramTest):
     def check_transport(self, one):
         """Every request of the transport, by one connection or by one for each; the answers are those of `replay`."""
@@ -242,6 +258,7 @@ class Serve(ProgramTest):
         self.assertLess(abs((moment - before).total_seconds()), 60)
 
 
+@over_sockets
 class Killed(ProgramTest):
     def test_each_answered_call_is_kept(self):
         """The program is killed under load; what it had answered is in the file."""
@@ -294,6 +311,7 @@ class Full(ProgramTest):
         self.assertTrue(out.endswith(b'{"name":"NoLoad","refusal":23}'))
 
 
+@over_sockets
 class Demo(ProgramTest):
     def test_three_vehicles_on_one_ring(self):
         """The demo ends once each load is where it is to go; and no node or edge is held by two vehicles at a time."""
@@ -307,6 +325,7 @@ class Demo(ProgramTest):
             self.assertEqual(len(things), len(set(things)), line)
 
 
+@over_sockets
 class WithCurl(ProgramTest):
     @unittest.skipUnless(shutil.which('curl'), 'curl is not here')
     def test_a_transport(self):
@@ -354,6 +373,7 @@ class Exits(ProgramTest):
     def test_no_such_folder(self):
         self.assertEqual(self.replay(b'', os.path.join(self.folder.name, 'a', 'b.db')), (1, b'', b'fault: Storage\n'))
 
+    @over_sockets
     def test_a_port_in_use(self):
         with socket.socket() as taken:
             taken.bind(('127.0.0.1', 0))
@@ -366,6 +386,7 @@ class Exits(ProgramTest):
             done = subprocess.run([DESK, 'replay', '--db', 'memory', '--at', AT], input=b'GET /loads/L1 HTTP/1.1\r\n\r\n', stdout=full, stderr=subprocess.PIPE)
         self.assertEqual((done.returncode, done.stderr), (1, b'fault: Write\n'))
 
+    @over_sockets
     def test_a_second_program_is_told(self):
         with Serving(self.db) as desk:
             status, out, said = self.replay(b'')

@@ -6,7 +6,7 @@ import sqlite3
 import tempfile
 import unittest
 
-from test_program import AT, Serving, requests_of, run
+from test_program import AT, Serving, over_sockets, requests_of, run
 
 HERE = os.path.dirname(os.path.abspath(__file__))
 
@@ -212,6 +212,7 @@ class Scripts(unittest.TestCase):
                 self.assertEqual(base.execute('PRAGMA integrity_check').fetchall(), [('ok',)])
                 base.close()
 
+    @over_sockets
     def test_over_one_connection(self):
         for title, lines in SCRIPTS.items():
             with self.subTest(title), tempfile.TemporaryDirectory() as folder, Serving(os.path.join(folder, 'script.db')) as desk:
