@@ -1,5 +1,5 @@
 -- The call that a body says is well typed: the names that it makes known are names, and the number of a state is in its range.
-use Rattle.std.proofs.Common.{◌≡◌, ◌&&◌, ◌==◌, ◌≤◌, ◌^◌, nat_lt, ℕ, Bool, true, false, cond, List, [], ◌∷◌, length, codes, All, Option, None, Some, Result, Ok, Err, IfOk, IfSome, option_and_then, option_map, unwrap_or, refl, arith}
+use Rattle.std.proofs.Common.{◌≡◌, ◌&&◌, ◌==◌, ◌≤◌, ◌^◌, nat_lt, ℕ, Bool, true, false, cond, List, [], ◌∷◌, length, codes, Option, None, Some, Result, Ok, Err, IfOk, IfSome, option_and_then, option_map, unwrap_or, refl, arith}
 use Rattle.std.specs.Str.{bytes_eq}
 use Rattle.std.specs.Str.Parse.{digits_value}
 use Rattle.std.proofs.lemmas.Bool.{and_parts}
