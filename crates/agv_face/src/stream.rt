@@ -1,7 +1,8 @@
 //! A stream of requests is served, one after another.
 ghost use Rattle.std.specs.Prelude.{◌≡◌, ◌<◌, ◌≤◌, [], IfOk, vec_capacity};
-ghost use Rattle.agv_face.specs.Ends.{EndsFailed, IsStreamEnd, most_reads};
+ghost use Rattle.agv_face.specs.Ends.{EndsFailed, IsCounted, IsStreamEnd, most_reads};
 ghost use Rattle.agv_face.specs.Refusals.{IsRefused};
+ghost use Rattle.agv_face.specs.Replies.{IsLaterDesk};
 ghost use Rattle.agv_face.specs.Watched.{HadCallsAtMost};
 ghost use Rattle.agv_http.specs.Sizes.{most_answer};
 
@@ -86,6 +87,8 @@ fn serve_requests<S: Alter + Drop, R: Read, W: Write>(
     requires input { 73728 ≤ vec_capacity room.old.input }
     requires output { most_answer ≤ vec_capacity room.old.output }
     ensures ends { IsStreamEnd S.Store R.remaining W.contents at max_reads desk.old desk.new reader.old reader.new writer.old writer.new result }
+    ensures counts { IsCounted R.remaining W.contents at desk.old desk.new reader.old reader.new writer.old writer.new result }
+    ensures later { IsLaterDesk S.Store desk.old desk.new }
     ensures failed { EndsFailed desk.old.failed desk.new.failed result }
     ensures reads { HadCallsAtMost (most_reads max_reads) reader.old reader.new }
 {
@@ -174,9 +177,12 @@ pub fn serve_stream_within<S: Alter + Drop, R: Read, W: Write>(
     max_reads: u64,
 ) -> Result<Served, StreamFault>
     ensures ends { IsStreamEnd S.Store R.remaining W.contents at max_reads desk.old desk.new reader.old reader.new writer.old writer.new result }
+    ensures counts { IsCounted R.remaining W.contents at desk.old desk.new reader.old reader.new writer.old writer.new result }
+    ensures later { IsLaterDesk S.Store desk.old desk.new }
     ensures failed { EndsFailed desk.old.failed desk.new.failed result }
     ensures reads { HadCallsAtMost (most_reads max_reads) reader.old reader.new }
 {
+    hears_how_it_goes_on();
     desk.knows();
     let _calls = reader.calls();
     match reserve(alloc) {
@@ -197,6 +203,8 @@ pub fn serve_stream<S: Alter + Drop, R: Read, W: Write>(
     writer: &mut Watched<W>,
 ) -> Result<Served, StreamFault>
     ensures ends { IsStreamEnd S.Store R.remaining W.contents at 16777216 desk.old desk.new reader.old reader.new writer.old writer.new result }
+    ensures counts { IsCounted R.remaining W.contents at desk.old desk.new reader.old reader.new writer.old writer.new result }
+    ensures later { IsLaterDesk S.Store desk.old desk.new }
     ensures failed { EndsFailed desk.old.failed desk.new.failed result }
     ensures reads { HadCallsAtMost 16777216 reader.old reader.new }
 {
