@@ -165,6 +165,10 @@ fn serve_requests<S: Alter + Drop, R: Read, W: Write>(
 /// machine. Where the store has failed as the stream ends, `failed` says by which end. No clause says that an answer is
 /// written before more is read; a test does.
 ///
+/// Which requests were answered, and how many, holds whatever the disk answers (`counts`). Where the store is open as the
+/// stream ends it was open before, so another stream goes on from the world that is known (`later`). A desk that had failed
+/// before stays as it is and serves no call: the first one is answered `Storage`, and the stream ends.
+///
 /// # Errors
 /// `Read` where a read failed, or the most reads were made and one more is needed. `Write` where a write failed or took no
 /// byte. The desk can go on after both.
