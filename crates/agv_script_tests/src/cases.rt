@@ -2,6 +2,7 @@
 //! functions, so that their code is proved once and not at each of their calls.
 
 use agv_header::{Moment, Name, VehicleKey};
+use std::alloc::Global;
 use std::process::Abort;
 use std::str;
 
@@ -42,4 +43,10 @@ pub(crate) fn number(rt: &impl Abort, digits: &str) -> u32 {
 /// The moment of this many milliseconds.
 pub(crate) fn moment(rt: &impl Abort, ms: i64) -> Moment {
     Moment::of(ms).expect(rt, "a moment")
+}
+
+/// A letter and a number, as P007.
+pub(crate) fn numbered(rt: &impl Abort, alloc: Global, letter: char, number: u32) -> Name {
+    let text = format!(in alloc; "{letter}{number:03}").expect(rt, "memory");
+    name(rt, text.as_str())
 }

@@ -2,7 +2,7 @@
 
 use agv_store::Desk;
 use sqlite::{Alter, Connection, FileStore, Files, MemStore, Options};
-use sqlite_disk::{Disk, Fuse, Memory};
+use sqlite_disk::{Crash, Disk, Fuse, Memory};
 use std::alloc::Global;
 use std::process::Abort;
 
@@ -22,6 +22,14 @@ pub(crate) fn blank(alloc: Global, log: u64, db: u64) -> Files<FailingDisk> {
     }
 }
 
+/// Two empty files that don't fail.
+pub(crate) fn no_fuse(alloc: Global) -> Files<Memory> {
+    Files {
+        log: Memory::new(alloc),
+        db: Memory::new(alloc),
+    }
+}
+
 /// The database that the files have.
 pub(crate) fn open<D: Disk + Drop>(
     rt: &impl Abort,
@@ -34,6 +42,29 @@ pub(crate) fn open<D: Disk + Drop>(
         Ok(conn) => conn,
         Err(_) => panic!(rt; "the files open"),
     }
+}
+
+/// The files of a database that was closed.
+pub(crate) fn close<D: Disk + Drop>(rt: &impl Abort, conn: Connection<FileStore<D>>) -> Files<D> {
+    match conn.close_files() {
+        Ok(files) => files,
+        Err(_) => panic!(rt; "the files close"),
+    }
+}
+
+/// The machine stops, and what was not synced is lost. It comes back with files that fail no more.
+pub(crate) fn reopen<D: Crash + Drop>(
+    rt: &impl Abort,
+    alloc: Global,
+    conn: Connection<FileStore<D>>,
+) -> Connection<FileStore<D>> {
+    let mut files = match conn.close_files() {
+        Ok(files) => files,
+        Err((_, store)) => store.close(),
+    };
+    files.log.crash();
+    files.db.crash();
+    open(rt, alloc, files)
 }
 
 /// A new desk.

@@ -100,9 +100,14 @@ fn phase_word(phase: &Phase) -> &'static str {
 }
 
 impl InMemory {
+    /// What answers questions to its world.
+    pub(crate) fn floor(&self, alloc: Global) -> PlainFloor<'_> {
+        PlainFloor::new(alloc, &self.world, self.seats)
+    }
+
     /// Decides a call, and carries out what changes. The world is lawful then.
     fn decide(&mut self, rt: &impl Abort, alloc: Global, at: Moment, call: &Call) -> Answer {
-        let mut floor = PlainFloor::new(alloc, &self.world, self.seats);
+        let mut floor = self.floor(alloc);
         let decision = decide(alloc, &mut floor, at, call).expect(rt, "memory");
         check_changes(rt, &decision);
         self.moves = moves_of(alloc, &decision).expect(rt, "memory");
@@ -155,7 +160,7 @@ impl InMemory {
     }
 
     /// Plays a step.
-    fn play_step(
+    pub(crate) fn play_step(
         &mut self,
         rt: &impl Abort,
         alloc: Global,
@@ -173,6 +178,14 @@ impl InMemory {
             Step::Row(row) => self.check_row(rt, alloc, row.as_str()),
             Step::At(_) | Step::Rows(_) => {}
         }
+    }
+}
+
+impl InMemory {
+    /// The world that it has come to.
+    pub(crate) fn into_world(self) -> World {
+        let InMemory { world, .. } = self;
+        world
     }
 }
 

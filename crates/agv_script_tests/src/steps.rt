@@ -39,9 +39,9 @@ pub(crate) enum Step {
 
 /// A line of a script, and the text behind it.
 #[derive(Drop)]
-struct Said<'s> {
-    line: &'s str,
-    text: String,
+pub(crate) struct Said<'s> {
+    pub(crate) line: &'s str,
+    pub(crate) text: String,
 }
 
 /// Puts a line, or more of the text of the last one.
@@ -172,12 +172,6 @@ fn at(rt: &impl Abort, digits: &str) -> Step {
     Step::At(moment(rt, digits.parse::<i64>().expect(rt, digits)))
 }
 
-/// A request, whose answer is to come.
-fn call(alloc: Global, request: String) -> Step {
-    let answer = String::new(alloc);
-    Step::Call { request, answer }
-}
-
 /// Gives the last request its answer.
 fn put_answer(rt: &impl Abort, alloc: Global, steps: &mut Vec<Step>, status: &str, body: &str) {
     match steps.last_mut() {
@@ -188,6 +182,16 @@ fn put_answer(rt: &impl Abort, alloc: Global, steps: &mut Vec<Step>, status: &st
     }
 }
 
+/// The request of a line, whose body may stand behind it.
+pub(crate) fn request_of(rt: &impl Abort, alloc: Global, line: &str, behind: &str) -> String {
+    let (first, rest) = parted(line);
+    if first == "state" {
+        return state_text(rt, alloc, rest);
+    }
+    let (target, body) = parted(rest);
+    request_text(rt, alloc, first, target, text_of(body, behind))
+}
+
 /// The step of a line that is no answer.
 fn step_of(rt: &impl Abort, alloc: Global, said: &Said<'_>) -> Step {
     let (first, rest) = parted(said.line);
@@ -196,11 +200,10 @@ fn step_of(rt: &impl Abort, alloc: Global, said: &Said<'_>) -> Step {
         "moves" => Step::Moves(kept(rt, alloc, rest)),
         "row" => Step::Row(kept(rt, alloc, rest)),
         "rows" => Step::Rows(kept(rt, alloc, said.text.as_str())),
-        "state" => call(alloc, state_text(rt, alloc, rest)),
         _ => {
-            let (target, body) = parted(rest);
-            let body = text_of(body, said.text.as_str());
-            call(alloc, request_text(rt, alloc, first, target, body))
+            let request = request_of(rt, alloc, said.line, said.text.as_str());
+            let answer = String::new(alloc);
+            Step::Call { request, answer }
         }
     }
 }
@@ -217,13 +220,18 @@ fn put_step(rt: &impl Abort, alloc: Global, steps: &mut Vec<Step>, said: &Said<'
     }
 }
 
-/// Puts the steps of a text.
-fn put_steps(rt: &impl Abort, alloc: Global, steps: &mut Vec<Step>, text: &str) {
+/// The lines of a text, each with the text behind it.
+pub(crate) fn said_in<'s>(rt: &impl Abort, alloc: Global, text: &'s str) -> Vec<Said<'s>> {
     let mut said = Vec::new(alloc);
     for line in text.lines() {
         put_line(rt, alloc, &mut said, line);
     }
-    for said in &said {
+    said
+}
+
+/// Puts the steps of a text.
+fn put_steps(rt: &impl Abort, alloc: Global, steps: &mut Vec<Step>, text: &str) {
+    for said in &said_in(rt, alloc, text) {
         put_step(rt, alloc, steps, said);
     }
 }

@@ -108,19 +108,33 @@ pub(crate) fn check_row<S: Alter>(
     check(rt, found, wanted);
 }
 
-/// Reads the world and who holds what, and compares them with the world in memory. It is lawful.
+/// The text of a world.
+pub(crate) fn world_text(rt: &impl Abort, alloc: Global, world: &World) -> String {
+    format!(in alloc; "{world:?}").expect(rt, "memory")
+}
+
+/// The text of the world that the tables have. It is lawful, and its vehicles hold what the tables say.
+pub(crate) fn told_text<S: Alter>(
+    rt: &impl Abort,
+    alloc: Global,
+    conn: &mut Connection<S>,
+) -> String {
+    let (world, holds) = read_world(alloc, conn).expect(rt, "the world");
+    let lawful = world.is_lawful(alloc, 1).expect(rt, "memory");
+    check(rt, lawful, "it is lawful");
+    let fit = holds.are_footprints(alloc, &world).expect(rt, "memory");
+    check(rt, fit, "what is held is what the vehicles hold");
+    world_text(rt, alloc, &world)
+}
+
+/// Compares the world that the tables have with the one in memory.
 pub(crate) fn check_read<S: Alter>(
     rt: &impl Abort,
     alloc: Global,
     world: &World,
     conn: &mut Connection<S>,
 ) {
-    let (tables, holds) = read_world(alloc, conn).expect(rt, "the world");
-    let found = format!(in alloc; "{tables:?}").expect(rt, "memory");
-    let wanted = format!(in alloc; "{world:?}").expect(rt, "memory");
+    let found = told_text(rt, alloc, conn);
+    let wanted = world_text(rt, alloc, world);
     check(rt, found.as_str() == wanted.as_str(), found.as_str());
-    let lawful = tables.is_lawful(alloc, 1).expect(rt, "memory");
-    check(rt, lawful, "it is lawful");
-    let fit = holds.are_footprints(alloc, world).expect(rt, "memory");
-    check(rt, fit, "what is held is what the vehicles hold");
 }
