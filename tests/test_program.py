@@ -65,10 +65,10 @@ def run(*words, stdin=b'', limit=60):
 class Serving:
     """The program that serves so many connections on a port of its own."""
 
-    def __init__(self, db, connections=1000):
+    def __init__(self, db, connections=1000, preexec_fn=None):
         self.process = subprocess.Popen(
             [DESK, 'serve', '--db', db, '--port', '0', '--connections', str(connections)],
-            stdout=subprocess.PIPE, stderr=subprocess.PIPE)
+            stdout=subprocess.PIPE, stderr=subprocess.PIPE, preexec_fn=preexec_fn)
         line = self.process.stdout.readline().decode()
         said = re.fullmatch(r'listening on 127\.0\.0\.1:(\d+)\n', line)
         if not said:
@@ -157,6 +157,24 @@ class Replay(ProgramTest):
         body = out[out.index(b'\r\n\r\n') + 4:]
         self.assertEqual(run('report', '--db', self.db, 'holds'), (0, body, b''))
 
+    @over_sockets
+    def test_the_file_while_a_desk_holds_it(self):
+        """Another SQLite is told that it is locked, and harms nothing; a copy of the two files can be read."""
+        with Serving(self.db) as desk:
+            self.assertEqual(desk.ask('POST', '/loads', b'{"load":"L1"}')[0], 200)
+            other = sqlite3.connect(self.db, timeout=0)
+            with self.assertRaisesRegex(sqlite3.OperationalError, 'locked'):
+                other.execute('SELECT * FROM load')
+            other.close()
+            for end in ('', '-wal'):
+                shutil.copy(self.db + end, os.path.join(self.folder.name, 'copy.db' + end))
+            self.assertEqual(desk.ask('POST', '/loads', b'{"load":"L2"}')[0], 200)
+        for name, loads in (('copy.db', ['L1']), ('warehouse.db', ['L1', 'L2'])):
+            base = sqlite3.connect(os.path.join(self.folder.name, name))
+            self.assertEqual(base.execute('PRAGMA integrity_check').fetchall(), [('ok',)])
+            self.assertEqual(base.execute('SELECT * FROM load').fetchall(), [(load, 'checking', None, None, None) for load in loads])
+            base.close()
+
     def test_the_file_is_a_database(self):
         self.replay(self.transport)
         base = sqlite3.connect(self.db)
@@ -231,11 +249,12 @@ class Serve(ProgramTest):
             self.assertEqual(desk.ask('GET', '/loads/L1')[0], 404)
 
     def test_noise(self):
+        """Of 20 clients, the last with 10 MB."""
         with Serving(self.db) as desk:
             for seed in range(20):
                 plain = desk.plain()
                 try:
-                    plain.sendall(random.Random(seed).randbytes(100_000))
+                    plain.sendall(random.Random(seed).randbytes(10_000_000 if seed == 19 else 100_000))
                     plain.shutdown(socket.SHUT_WR)
                     read_all(plain)
                 except OSError:
@@ -263,7 +282,7 @@ class Killed(ProgramTest):
     def test_each_answered_call_is_kept(self):
         """The program is killed under load; what it had answered is in the file."""
         number = 0
-        for turn in range(5):
+        for turn in range(10):
             answered = []
             with Serving(self.db) as desk:
                 timer = threading.Timer(random.Random(turn).uniform(0.05, 0.5), desk.process.send_signal, [signal.SIGKILL])
@@ -287,17 +306,18 @@ class Killed(ProgramTest):
                 connection.close()
 
 
+def limit_files():
+    """The system lets the files of this process grow to a million bytes."""
+    signal.signal(signal.SIGXFSZ, signal.SIG_IGN)
+    resource.setrlimit(resource.RLIMIT_FSIZE, (1_000_000, 1_000_000))
+
+
 class Full(ProgramTest):
     def test_a_file_that_can_grow_no_more(self):
-        """The system lets the files grow to some length alone: a call that needs more is answered by the store's fault, which ends
-        the stream, and what was answered before it is kept."""
-        def limit():
-            signal.signal(signal.SIGXFSZ, signal.SIG_IGN)
-            resource.setrlimit(resource.RLIMIT_FSIZE, (1_000_000, 1_000_000))
-
+        """A call that needs more is answered by the store's fault, which ends the stream, and what was answered before it is kept."""
         names = ['L%05d' % number for number in range(1_000)]
         stdin = b''.join(b'POST /loads HTTP/1.1\r\nContent-Length: 17\r\n\r\n{"load":"%s"}' % name.encode() for name in names)
-        done = subprocess.run([DESK, 'replay', '--db', self.db, '--at', AT], input=stdin, capture_output=True, preexec_fn=limit, timeout=60)
+        done = subprocess.run([DESK, 'replay', '--db', self.db, '--at', AT], input=stdin, capture_output=True, preexec_fn=limit_files, timeout=60)
         self.assertEqual((done.returncode, done.stderr), (1, b'fault: Storage\n'))
         self.assertTrue(done.stdout.endswith(b'Connection: close\r\n\r\n{"name":"Storage","refusal":91}'))
         answered = done.stdout.count(b'HTTP/1.1 200 OK')
@@ -309,6 +329,23 @@ class Full(ProgramTest):
         found = out.count(b'HTTP/1.1 200 OK')
         self.assertIn(found, (answered, answered + 1))
         self.assertTrue(out.endswith(b'{"name":"NoLoad","refusal":23}'))
+
+    @over_sockets
+    def test_connections_over_a_file_that_can_grow_no_more(self):
+        """The store's fault ends the program, too: nobody is served after it."""
+        with Serving(self.db, preexec_fn=limit_files) as desk:
+            number, connection = 0, desk.connect()
+            while True:
+                status, body = desk.ask('POST', '/loads', b'{"load":"L%05d"}' % number, connection)
+                if status != 200:
+                    break
+                number += 1
+            connection.close()
+            self.assertEqual((status, body), (503, b'{"name":"Storage","refusal":91}'))
+            self.assertEqual((desk.process.wait(30), desk.process.stderr.read()), (1, b'fault: Storage\n'))
+        self.assertGreater(number, 10)
+        status, out, said = self.replay(b''.join(b'GET /loads/L%05d HTTP/1.1\r\n\r\n' % n for n in range(number)))
+        self.assertEqual((status, said, out.count(b'HTTP/1.1 200 OK')), (0, b'', number))
 
 
 @over_sockets
@@ -340,38 +377,147 @@ class WithCurl(ProgramTest):
         self.assertIn('station B at N3: 1 of 1, reserved 0\n  L1\n', told)
 
 
+def refused_value(value, of, why=''):
+    return "error: invalid value '%s' for '%s'%s" % (value, of, why)
+
+
+LACKING = 'error: the following required arguments were not provided:'
+MEMORY = ('replay', '--db', 'memory')
+
+# Lines that are refused, each with how the text begins.
+REFUSED = [
+    ((), "error: 'desk' requires a subcommand but one was not provided"),
+    (('start',), "error: unrecognized subcommand 'start'"),
+    (('serve',), LACKING + '\n  --db <FILE>\n  --port <P>\n  --connections <N>\n'),
+    (('report', '--db', 'a.db'), LACKING + '\n  <REPORT>\n'),
+    (MEMORY, LACKING + '\n  --at <MILLIS>\n'),
+    (MEMORY + ('--at',), "error: a value is required for '--at <MILLIS>' but none was supplied"),
+    (MEMORY + ('--at', '1', '--at', '2'), "error: the argument '--at <MILLIS>' cannot be used multiple times"),
+    (MEMORY + ('--at', '-1'), "error: unexpected argument '-1' found"),
+    (MEMORY + ('--at=-1',), refused_value('-1', '--at <MILLIS>')),
+    (MEMORY + ('--at', ''), refused_value('', '--at <MILLIS>')),
+    (MEMORY + ('--at', '4102444800000'), refused_value('4102444800000', '--at <MILLIS>', ': 4102444800000 is not in 0..=4102444799999')),
+    (('serve', '--db', 'a.db', '--port', '65536', '--connections', '1'), refused_value('65536', '--port <P>', ': 65536 is not in 0..=65535')),
+    (('serve', '--db', 'a.db', '--port', '0', '--connections', '4294967296'),
+     refused_value('4294967296', '--connections <N>', ': 4294967296 is not in 0..=4294967295')),
+    (('report', '--db', 'a.db', 'all'), refused_value('all', '<REPORT>', '\n  [possible values: stock, holds]\n')),
+    (('report', '--db', 'a.db', 'stock', 'holds'), "error: unexpected argument 'holds' found"),
+    (('x',) * 20_000, "error: unrecognized subcommand 'x'"),
+    (('x' * 100_000,), "error: unrecognized subcommand '%s'" % ('x' * 100_000)),
+    ((b'\xff',), 'error: a word of the line is not UTF-8\n'),
+    (MEMORY + ('--at', b'\xff'), 'error: a word of the line is not UTF-8\n'),
+    (('--help',), 'The control desk of one warehouse: its vehicles, loads and orders\n\nUsage: desk <COMMAND>\n\nCommands:\n  replay  '),
+    (('serve', '--help'), 'Answers requests over the network, to programs on this machine (127.0.0.1)\n\nUsage: '),
+]
+
+
 class Exits(ProgramTest):
+    def fault(self, name, words, **others):
+        """These words end with this fault: 1, nothing on standard output, and its line on standard error."""
+        others = {'stdin': subprocess.DEVNULL, 'stdout': subprocess.PIPE, **others}
+        done = subprocess.run([DESK, *words], stderr=subprocess.PIPE, timeout=60, **others)
+        self.assertEqual((done.returncode, done.stdout or b'', done.stderr), (1, b'', b'fault: %s\n' % name), words)
+
+    def each(self, db):
+        """A line of each of the three programs over this file."""
+        return [('replay', '--db', db, '--at', AT), ('serve', '--db', db, '--port', '0', '--connections', '0'), ('report', '--db', db, 'stock')]
+
     def test_words_that_are_refused(self):
-        for words in ((), ('serve',), ('replay', '--db', 'memory'), ('replay', '--db', 'memory', '--at', '-1'),
-                      ('replay', '--db', 'memory', '--at', '4102444800000'), ('report', '--db', self.db, 'all'),
-                      ('serve', '--db', self.db, '--port', '65536', '--connections', '1'), ('--help',), ('serve', '--help')):
-            status, out, said = run(*words)
-            self.assertEqual((status, out), (2, b''), words)
-            self.assertNotEqual(said, b'', words)
+        for words, wanted in REFUSED:
+            done = subprocess.run([DESK, *words], capture_output=True, timeout=60, cwd=self.folder.name)
+            self.assertEqual((done.returncode, done.stdout), (2, b''), words[:4])
+            self.assertEqual(done.stderr.decode()[:len(wanted)], wanted)
+            self.assertEqual(os.listdir(self.folder.name), [], words[:4])
+
+    def test_least_and_greatest_values(self):
+        for at in ('0', '+0', '4102444799999'):
+            self.assertEqual(run('replay', '--db', 'memory', '--at', at), (0, b'', b''))
+
+    def test_memory_is_a_file_elsewhere(self):
+        for words in self.each('memory')[1:]:
+            done = subprocess.run([DESK, *words], capture_output=True, timeout=60, cwd=self.folder.name)
+            self.assertEqual((done.returncode, done.stderr), (0, b''))
+        self.assertIn('memory', os.listdir(self.folder.name))
+        # `replay` of this name keeps nothing in the file, and sees nothing of it
+        file = os.path.join(self.folder.name, 'memory')
+        self.assertEqual(self.replay(b'POST /loads HTTP/1.1\r\nContent-Length: 13\r\n\r\n{"load":"L1"}', file)[0], 0)
+        done = subprocess.run([DESK, 'replay', '--db', 'memory', '--at', AT], input=b'GET /loads/L1 HTTP/1.1\r\n\r\n', capture_output=True,
+                              timeout=60, cwd=self.folder.name)
+        self.assertTrue(done.stdout.endswith(b'{"name":"NoLoad","refusal":23}'))
+
+    def test_files_that_cannot_be_opened(self):
+        """`memory` by another spelling and an empty name are names of files that can't be had."""
+        for db in ('', ':memory:', 'file:a.db', self.folder.name, os.path.join(self.folder.name, 'a', 'b.db'), 'x' * 100_000):
+            for words in self.each(db):
+                self.fault(b'Storage', words, cwd=self.folder.name)
+        self.assertEqual(os.listdir(self.folder.name), [])
+
+    def test_files_without_rights(self):
+        """Of a file that may not be read or not be written nothing is served, and it is left as it is."""
+        self.replay(b'POST /loads HTTP/1.1\r\nContent-Length: 13\r\n\r\n{"load":"L1"}')
+        before = self.files()
+        os.chmod(self.folder.name, 0o777)
+        # who may do everything becomes nobody, who runs a copy of the program
+        program = os.path.join(self.folder.name, 'desk')
+        shutil.copy(DESK, program)
+        os.chmod(program, 0o755)
+        rights = {'preexec_fn': lambda: os.setuid(65534)} if os.getuid() == 0 else {}
+        for mode in (0o000, 0o444):
+            os.chmod(self.db, mode)
+            for words in self.each(self.db):
+                done = subprocess.run([program, *words], stdin=subprocess.DEVNULL, capture_output=True, timeout=60, **rights)
+                self.assertEqual((done.returncode, done.stdout, done.stderr), (1, b'', b'fault: Storage\n'), (mode, words))
+            self.assertEqual({name: data for name, data in self.files().items() if name in before}, before)
+
+    def files(self):
+        """The bytes of the file and of the log beside it, where there is one."""
+        found = {}
+        for name in (self.db, self.db + '-wal'):
+            if os.path.exists(name):
+                with open(name, 'rb') as file:
+                    found[name] = file.read()
+        return found
+
+    def test_an_input_that_cannot_be_read(self):
+        folder = os.open(self.folder.name, os.O_RDONLY)
+        self.fault(b'Read', MEMORY + ('--at', AT), stdin=folder)
+        self.fault(b'Read', ('replay', '--db', self.db, '--at', AT), stdin=folder)
+        os.close(folder)
+
+    def test_faults_that_nobody_can_be_told(self):
+        """The exit status is the same where standard error takes nothing."""
+        with open('/dev/full', 'wb') as full:
+            for words, status in ((('report', '--db', self.folder.name, 'stock'), 1), (('report',), 2)):
+                done = subprocess.run([DESK, *words], stdin=subprocess.DEVNULL, stdout=subprocess.PIPE, stderr=full, timeout=60)
+                self.assertEqual((done.returncode, done.stdout), (status, b''))
 
     def test_no_database(self):
         with open(self.db, 'wb') as file:
             file.write(b'this is no database, but a text of some length. ' * 100)
-        with open(self.db, 'rb') as file:
-            before = file.read()
-        status, out, said = self.replay(b'')
-        self.assertEqual((status, out), (1, b''))
-        self.assertIn(said, (b'fault: Damaged\n', b'fault: Storage\n'))
-        with open(self.db, 'rb') as file:
-            self.assertEqual(file.read(), before)
+        before = self.files()
+        for words in self.each(self.db):
+            self.fault(b'Storage', words)
+        self.assertEqual(self.files()[self.db], before[self.db])
 
     def test_a_database_of_others(self):
         base = sqlite3.connect(self.db)
         base.execute('CREATE TABLE load (a)')
         base.commit()
         base.close()
-        self.assertEqual(self.replay(b''), (1, b'', b'fault: Damaged\n'))
+        before = self.files()
+        for words in self.each(self.db):
+            self.fault(b'Damaged', words)
+        self.assertEqual(self.files()[self.db], before[self.db])
 
-    def test_a_folder(self):
-        self.assertEqual(self.replay(b'', self.folder.name), (1, b'', b'fault: Storage\n'))
-
-    def test_no_such_folder(self):
-        self.assertEqual(self.replay(b'', os.path.join(self.folder.name, 'a', 'b.db')), (1, b'', b'fault: Storage\n'))
+    def test_a_database_that_breaks_a_rule(self):
+        """A load at a station that there is not."""
+        self.replay(self.transport)
+        base = sqlite3.connect(self.db)
+        base.execute("UPDATE load SET station = 'Z'")
+        base.commit()
+        base.close()
+        for words in self.each(self.db):
+            self.fault(b'Damaged', words)
 
     @over_sockets
     def test_a_port_in_use(self):
@@ -379,12 +525,18 @@ class Exits(ProgramTest):
             taken.bind(('127.0.0.1', 0))
             taken.listen()
             port = str(taken.getsockname()[1])
-            self.assertEqual(run('serve', '--db', self.db, '--port', port, '--connections', '1'), (1, b'', b'fault: Net\n'))
+            self.fault(b'Net', ('serve', '--db', self.db, '--port', port, '--connections', '1'))
+            # the file is opened first
+            self.fault(b'Storage', ('serve', '--db', self.folder.name, '--port', port, '--connections', '1'))
 
     def test_output_that_nobody_takes(self):
+        request = os.path.join(self.folder.name, 'request')
+        with open(request, 'wb') as file:
+            file.write(b'GET /loads/L1 HTTP/1.1\r\n\r\n')
         with open('/dev/full', 'wb') as full:
-            done = subprocess.run([DESK, 'replay', '--db', 'memory', '--at', AT], input=b'GET /loads/L1 HTTP/1.1\r\n\r\n', stdout=full, stderr=subprocess.PIPE)
-        self.assertEqual((done.returncode, done.stderr), (1, b'fault: Write\n'))
+            for words in [MEMORY + ('--at', AT), *self.each(self.db)]:
+                with open(request, 'rb') as stdin:
+                    self.fault(b'Write', words, stdin=stdin, stdout=full)
 
     @over_sockets
     def test_a_second_program_is_told(self):

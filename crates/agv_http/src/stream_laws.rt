@@ -4,6 +4,7 @@
 ghost use Rattle.std.specs.Prelude.{◌≡◌, ◌⊎◌, ◌++◌, ℕ, Bool, List, Err, true};
 ghost use Rattle.agv_desk.specs.Outcomes.{after};
 ghost use Rattle.agv_desk.specs.Step.{steps};
+ghost use Rattle.agv_desk.specs.WellTyped.{AreWellTyped, IsMoment};
 ghost use Rattle.agv_header.specs.declared.refusal.Refusal.{Refusal};
 ghost use Rattle.agv_world.specs.Worlds.{World};
 ghost use Rattle.agv_http.specs.Cut.{Cut, Ending, at_end};
@@ -66,6 +67,12 @@ pub fn asks_without_change()
 pub fn serves_its_calls()
     ensures { (seats : ℕ) (world : World) (at : ℕ) (requests : List Request)
         → world_after seats world at requests ≡ steps seats world (calls_of requests at) }
+{}
+
+/// The calls that requests ask are well typed, at a moment before 2100, whatever the requests are: so the laws of `agv_desk`
+/// on lists of well-typed calls speak of each stream.
+pub fn asks_well_typed_calls()
+    ensures { (requests : List Request) (at : ℕ) → IsMoment at → AreWellTyped (calls_of requests at) }
 {}
 
 /// Whatever the end of a stream, what is written is the output of the whole input; or a front of it; or a front of it, and

@@ -3,7 +3,7 @@
 
 use crate::cases::check;
 use crate::desks::{close, made, no_fuse, open};
-use crate::runs::{List, list_of, run};
+use crate::runs::{List, list_of};
 use crate::scripts::orders::PICKED;
 use crate::scripts::starts::{LAYOUT, READY};
 use crate::steps::steps_of;
@@ -137,7 +137,7 @@ CREATE TABLE other (a TEXT REFERENCES load (id))
 /// The database of the example, in which an order is under way, once these statements were carried out.
 fn damaged(rt: &impl Abort, alloc: Global, list: &List, sql: &str) -> Files<Memory> {
     let mut desk = made(rt, alloc, open(rt, alloc, no_fuse(alloc)));
-    let (_, fault) = run(alloc, &mut desk, list.calls.as_slice());
+    let (_, fault) = desk.run(list.calls.as_slice());
     check(rt, fault.is_none(), "no fault");
     let mut conn = desk.release_conn();
     conn.execute_batch(sql).expect(rt, sql);

@@ -27,15 +27,6 @@ pub(crate) struct List {
     worlds: Vec<String>,
 }
 
-/// Has the desk serve the calls in turn, up to the first fault.
-pub(crate) fn run<S: Alter + Drop>(
-    alloc: Global,
-    desk: &mut Desk<S>,
-    calls: &[(Moment, Call)],
-) -> (Vec<Answer>, Option<Fault>) {
-    desk.run(alloc, calls)
-}
-
 /// Puts a call, its answer, and the world after it.
 fn put_call(
     rt: &impl Abort,
@@ -131,7 +122,7 @@ fn check_whole<S: Alter + Drop>(
     n: usize,
     mut desk: Desk<S>,
 ) {
-    let (answers, fault) = run(alloc, &mut desk, list.calls_from(rt, n));
+    let (answers, fault) = desk.run(list.calls_from(rt, n));
     check(rt, fault.is_none(), "no fault");
     check(rt, !desk.failed(), "the store works");
     let wanted = list.answers_from(rt, n);
@@ -205,14 +196,14 @@ fn check_failing(rt: &impl Abort, alloc: Global, list: &List, log: u64, db: u64)
     let Some(mut desk) = failing_desk(rt, alloc, log, db) else {
         return false;
     };
-    let (answers, fault) = run(alloc, &mut desk, list.calls_from(rt, 0));
+    let (answers, fault) = desk.run(list.calls_from(rt, 0));
     check_answers(rt, alloc, &answers, list.answers_from(rt, 0));
     check(rt, desk.failed() == fault.is_some(), "it has failed");
     if fault.is_none() {
         return true;
     }
     check(rt, fault == Some(Fault::Storage), "the store fails");
-    let (none, again) = run(alloc, &mut desk, list.calls_from(rt, 0));
+    let (none, again) = desk.run(list.calls_from(rt, 0));
     check(rt, none.is_empty(), "no answer");
     check(rt, again == Some(Fault::Storage), "it fails again");
     check(rt, desk.failed(), "it has failed still");

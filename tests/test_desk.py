@@ -1,0 +1,150 @@
+"""The script `desk`, in a small tree of its own, over a stand-in for `rt` that notes its calls and makes a program."""
+import os
+import shutil
+import subprocess
+import tempfile
+import time
+import unittest
+
+DESK = os.path.join(os.path.dirname(os.path.abspath(__file__)), '..', 'desk')
+TOOLS = ('awk', 'cat', 'cp', 'date', 'dirname', 'find', 'flock', 'head', 'mkdir', 'mktemp', 'mv', 'rm', 'sed', 'sh', 'sleep', 'tail', 'touch', 'wc')
+
+CRATES = """# a comment
+agv_low:
+agv_middle: agv_low
+agv_app: agv_middle kit_crate
+agv_tests: agv_app
+"""
+
+# It notes its words and the files it is given, and makes a program that prints its words and exits with 3.
+RT = """#!/bin/sh
+echo "$*" >>"$NOTES/calls"
+find . -type f -print | sed 's/^..//' | sort >"$NOTES/files"
+cp crates.txt "$NOTES/crates.txt"
+[ ! -e "$NOTES/slow" ] || sleep 1
+echo 'rt: agv_low proved'
+echo 'rt: agv_middle is kept: an earlier run proved it'
+if [ -e "$NOTES/fails" ]; then
+    echo 'agv_app: this goal is open'
+    echo 'rt: agv_app NOT PROVED'
+    exit 1
+fi
+echo 'rt: agv_app proved'
+mkdir -p crates/agv_app/out
+printf '%s\\n' '#!/bin/sh' 'printf "%s|" "$@"' 'exit 3' >crates/agv_app/out/agv_app
+chmod +x crates/agv_app/out/agv_app
+"""
+
+
+class DeskScript(unittest.TestCase):
+    def setUp(self):
+        folder = tempfile.TemporaryDirectory()
+        self.addCleanup(folder.cleanup)
+        self.top, self.bin, self.notes, self.temporary = (os.path.join(folder.name, name) for name in ('top', 'bin', 'notes', 'tmp'))
+        for name in (self.top, self.bin, self.notes, self.temporary):
+            os.mkdir(name)
+        for tool in (*TOOLS, 'chmod', 'sort'):
+            if shutil.which(tool):
+                os.symlink(shutil.which(tool), os.path.join(self.bin, tool))
+        self.write(os.path.join(self.bin, 'rt'), RT)
+        os.chmod(os.path.join(self.bin, 'rt'), 0o755)
+        shutil.copy(DESK, self.top)
+        self.write('crates.txt', CRATES)
+        self.write('HANDLES', 'Handles allowed: Net.\n')
+        for crate in ('agv_low', 'agv_middle', 'agv_app', 'agv_tests'):
+            for part in ('src/lib.rt', 'specs/Lib.antt', 'proofs/Lib.antt', 'must-fail/one.edit', 'out/old'):
+                self.write('crates/%s/%s' % (crate, part), 'text')
+        self.write('crates/agv_app/stdin', 'text')
+
+    def write(self, path, text):
+        path = os.path.join(self.top, path)
+        os.makedirs(os.path.dirname(path), exist_ok=True)
+        with open(path, 'w') as file:
+            file.write(text)
+
+    def read(self, path):
+        with open(path) as file:
+            return file.read()
+
+    def start(self, *words):
+        env = {'PATH': self.bin, 'NOTES': self.notes, 'TMPDIR': self.temporary}
+        return subprocess.Popen([os.path.join(self.top, 'desk'), *words], env=env, text=True, stdout=subprocess.PIPE, stderr=subprocess.PIPE)
+
+    def run_desk(self, *words):
+        process = self.start(*words)
+        out, said = process.communicate(timeout=30)
+        return process.returncode, out, said
+
+    def calls(self):
+        path = os.path.join(self.notes, 'calls')
+        return self.read(path).splitlines() if os.path.exists(path) else []
+
+    def test_it_builds_what_is_missing_and_runs_it(self):
+        """The words and the exit status are handed on; what is built is agv_app and what it uses, without the edits that must fail."""
+        status, out, said = self.run_desk('report', '--db', 'a b', '')
+        self.assertEqual((status, out), (3, 'report|--db|a b||'))
+        self.assertIn('proved and built', said)
+        self.assertEqual(self.calls(), ['ci'])
+        wanted = ['HANDLES', 'crates.txt', 'crates/agv_app/stdin']
+        for crate in ('agv_app', 'agv_low', 'agv_middle'):
+            wanted += ['crates/%s/%s' % (crate, part) for part in ('proofs/Lib.antt', 'specs/Lib.antt', 'src/lib.rt')]
+        self.assertEqual(sorted(self.read(os.path.join(self.notes, 'files')).splitlines()), sorted(wanted))
+        self.assertEqual(sorted(self.read(os.path.join(self.notes, 'crates.txt')).splitlines()), ['agv_app: agv_middle kit_crate', 'agv_low:', 'agv_middle: agv_low'])
+        self.assertEqual(os.listdir(self.temporary), [])
+        self.assertEqual(self.run_desk(), (3, '|', ''))
+        self.assertEqual(self.calls(), ['ci'])
+
+    def test_it_builds_anew_where_a_source_is_newer(self):
+        self.run_desk()
+        later = time.time() + 10
+        watched = ['crates/agv_app/src/lib.rt', 'crates/agv_low/specs/Lib.antt', 'crates/agv_middle/proofs/Lib.antt', 'crates.txt']
+        others = ['crates/agv_low/must-fail/one.edit', 'crates/agv_tests/src/lib.rt', 'crates/agv_low/out/old', 'desk']
+        for path in others:
+            os.utime(os.path.join(self.top, path), (later, later))
+        self.assertEqual(self.run_desk(), (3, '|', ''))
+        self.assertEqual(self.calls(), ['ci'])
+        for number, path in enumerate(watched, 2):
+            path = os.path.join(self.top, path)
+            os.utime(path, (later, later))
+            self.assertEqual(self.run_desk()[0], 3)
+            self.assertEqual(self.calls(), ['ci'] * number, path)
+            os.utime(path, (0, 0))
+
+    def test_a_failed_build_is_told_and_nothing_is_run(self):
+        self.write(os.path.join(self.notes, 'fails'), '')
+        status, out, said = self.run_desk('report')
+        self.assertEqual((status, out), (1, ''))
+        log = os.path.join(self.top, 'build', 'log')
+        self.assertIn('the build failed', said)
+        self.assertIn(log, said)
+        self.assertTrue(said.endswith('agv_app: this goal is open\nrt: agv_app NOT PROVED\n'), said)
+        self.assertTrue(self.read(log).endswith('rt: agv_app NOT PROVED\n'))
+        self.assertEqual(os.listdir(self.temporary), [])
+        os.remove(os.path.join(self.notes, 'fails'))
+        self.assertEqual(self.run_desk('report')[:2], (3, 'report|'))
+
+    def test_a_program_whose_sources_no_longer_prove_is_not_run(self):
+        self.run_desk()
+        self.write(os.path.join(self.notes, 'fails'), '')
+        later = time.time() + 10
+        os.utime(os.path.join(self.top, 'crates/agv_low/src/lib.rt'), (later, later))
+        self.assertEqual(self.run_desk()[:2], (1, ''))
+
+    def test_no_rt(self):
+        os.remove(os.path.join(self.bin, 'rt'))
+        status, out, said = self.run_desk('report')
+        self.assertEqual((status, out, said.count('\n')), (1, '', 1))
+        self.assertIn('`rt`', said)
+
+    @unittest.skipUnless(shutil.which('flock'), 'flock is not here')
+    def test_two_at_once_build_once(self):
+        self.write(os.path.join(self.notes, 'slow'), '')
+        both = [self.start('a'), self.start('b')]
+        told = [process.communicate(timeout=30) for process in both]
+        self.assertEqual([process.returncode for process in both], [3, 3])
+        self.assertEqual([out for out, _ in told], ['a|', 'b|'])
+        self.assertEqual(self.calls(), ['ci'])
+
+
+if __name__ == '__main__':
+    unittest.main()
