@@ -134,9 +134,9 @@ fn with_bit(rt: &impl Abort, act: Act, words: &Words<'_>) -> Act {
 
 /// The acts, with a part of the one that is meant written.
 fn with_act(rt: &impl Abort, alloc: Global, acts: &[Act], words: &Words<'_>) -> Sequence<Act> {
-    let meant = number(rt, words[2]);
+    let meant = words[2].parse::<usize>().expect(rt, words[2]);
     let mut written = Vec::new(alloc);
-    for (n, act) in (0u32..).zip(acts) {
+    for (n, act) in acts.iter().enumerate() {
         let act = if n == meant {
             with_bit(rt, *act, words)
         } else {

@@ -218,18 +218,23 @@ fn check_all_damaged(rt: &impl Abort, alloc: Global, texts: &[&str]) {
 }
 
 #[test]
-fn damaged_rows(rt: HostRuntime) {
-    let texts = &[
-        WORDS,
-        MORE_WORDS,
-        NUMBERS,
-        TRIP_NUMBERS,
-        MISSING,
-        SURPLUS,
-        MORE_SURPLUS,
-        CONFLICTS,
-    ];
-    check_all_damaged(&rt, rt.alloc(), texts);
+fn damaged_words(rt: HostRuntime) {
+    check_all_damaged(&rt, rt.alloc(), &[WORDS, MORE_WORDS]);
+}
+
+#[test]
+fn damaged_numbers(rt: HostRuntime) {
+    check_all_damaged(&rt, rt.alloc(), &[NUMBERS, TRIP_NUMBERS]);
+}
+
+#[test]
+fn rows_too_few_and_too_many(rt: HostRuntime) {
+    check_all_damaged(&rt, rt.alloc(), &[MISSING, SURPLUS]);
+}
+
+#[test]
+fn rows_that_do_not_fit(rt: HostRuntime) {
+    check_all_damaged(&rt, rt.alloc(), &[MORE_SURPLUS, CONFLICTS]);
 }
 
 #[test]

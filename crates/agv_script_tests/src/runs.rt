@@ -2,7 +2,7 @@
 
 use crate::cases::{check, check_bytes, moment};
 use crate::desks::{FailingDisk, adopted, blank, made, no_tables, open, reopen};
-use crate::memory::{MOMENT, asked, in_memory, moment_after};
+use crate::memory::{InMemory, MOMENT, asked, in_memory, moment_after};
 use crate::scripts::starts::{A_TO_B, LAYOUT, ONE_EDGE, READY};
 use crate::steps::{Step, steps_of};
 use crate::tables::{told_text, world_text};
@@ -27,7 +27,7 @@ pub(crate) struct List {
     worlds: Vec<String>,
 }
 
-/// Puts the call of a request, and the world after it.
+/// Puts a call, its answer, and the world after it.
 fn put_call(
     rt: &impl Abort,
     alloc: Global,
@@ -42,7 +42,26 @@ fn put_call(
     list.worlds.push(world).expect(rt, "memory");
 }
 
-/// The calls of a script. A request that is none is left out.
+/// Plays a step in memory, and puts its call. A request that is none is left out.
+fn put_step(
+    rt: &impl Abort,
+    alloc: Global,
+    routes: &Routes,
+    memory: &mut InMemory,
+    list: &mut List,
+    at: Moment,
+    step: &Step,
+) {
+    memory.play_step(rt, alloc, routes, at, step);
+    if let Step::Call { request, answer } = step {
+        if let Ok(call) = asked(rt, alloc, routes, request.as_str()) {
+            let world = world_text(rt, alloc, &memory.world);
+            put_call(rt, alloc, list, (at, call), answer.as_str(), world);
+        }
+    }
+}
+
+/// The calls of a script.
 pub(crate) fn list_of(rt: &impl Abort, alloc: Global, steps: &[Step]) -> List {
     let routes = Routes::new(alloc).expect(rt, "memory");
     let mut memory = in_memory(alloc, 1);
@@ -56,13 +75,7 @@ pub(crate) fn list_of(rt: &impl Abort, alloc: Global, steps: &[Step]) -> List {
     list.worlds.push(empty).expect(rt, "memory");
     for step in steps {
         at = moment_after(at, step);
-        memory.play_step(rt, alloc, &routes, at, step);
-        if let Step::Call { request, answer } = step {
-            if let Ok(call) = asked(rt, alloc, &routes, request.as_str()) {
-                let world = world_text(rt, alloc, &memory.world);
-                put_call(rt, alloc, &mut list, (at, call), answer.as_str(), world);
-            }
-        }
+        put_step(rt, alloc, &routes, &mut memory, &mut list, at, step);
     }
     list
 }
