@@ -4,7 +4,7 @@ instructions of the program for it. Beside, in the same run and on copies of the
 for the call (bench/statements.txt) by the SQLite of C (bench/plain_calls.c; WAL, synchronous=FULL, each text prepared once). Besides
 the time and the memory of an opening. Python's standard library, gcc with SQLite's header and library, and valgrind.
 
-    DESK=crates/agv_app/out/agv_app python3 bench/each_call.py [SIZE..]
+    DESK=crates/agv_app/out/agv_app python3 bench/statements.py [SIZE..]
 """
 import glob
 import os
