@@ -142,6 +142,13 @@ class Replay(ProgramTest):
         self.assertEqual((status, said), (0, b''))
         self.assertEqual(file, memory)
 
+    def test_the_first_load(self):
+        head = b'HTTP/1.1 200 OK\r\nContent-Length: %d\r\nContent-Type: application/json\r\n\r\n'
+        wanted = head % 2 + b'{}' + head % 43 + b'{"job":null,"load":"L1","place":"checking"}'
+        stdin = b'POST /loads HTTP/1.1\r\nContent-Length: 13\r\n\r\n{"load":"L1"}GET /loads/L1 HTTP/1.1\r\n\r\n'
+        self.assertEqual(self.replay(stdin, 'memory'), (0, wanted, b''))
+        self.assertEqual(self.replay(stdin), (0, wanted, b''))
+
     def test_a_second_run_goes_on(self):
         status, out, _ = self.replay(b'POST /loads HTTP/1.1\r\nContent-Length: 13\r\n\r\n{"load":"L1"}')
         self.assertEqual((status, out[-2:]), (0, b'{}'))
@@ -396,6 +403,7 @@ REFUSED = [
     (MEMORY + ('--at', '-1'), "error: unexpected argument '-1' found"),
     (MEMORY + ('--at=-1',), refused_value('-1', '--at <MILLIS>')),
     (MEMORY + ('--at', ''), refused_value('', '--at <MILLIS>')),
+    (MEMORY + ('--at', 'x'), refused_value('x', '--at <MILLIS>')),
     (MEMORY + ('--at', '4102444800000'), refused_value('4102444800000', '--at <MILLIS>', ': 4102444800000 is not in 0..=4102444799999')),
     (('serve', '--db', 'a.db', '--port', '65536', '--connections', '1'), refused_value('65536', '--port <P>', ': 65536 is not in 0..=65535')),
     (('serve', '--db', 'a.db', '--port', '0', '--connections', '4294967296'),
@@ -407,6 +415,8 @@ REFUSED = [
     ((b'\xff',), 'error: a word of the line is not UTF-8\n'),
     (MEMORY + ('--at', b'\xff'), 'error: a word of the line is not UTF-8\n'),
     (('--help',), 'The control desk of one warehouse: its vehicles, loads and orders\n\nUsage: desk <COMMAND>\n\nCommands:\n  replay  '),
+    (('replay', '--help'), 'Reads requests from standard input and writes the answers to standard output\n\nUsage: '),
+    (('report', '--help'), 'Prints a report of the records: where the loads are, or what the vehicles hold\n\nUsage: '),
     (('serve', '--help'), 'Answers requests over the network, to programs on this machine (127.0.0.1)\n\nUsage: '),
 ]
 
