@@ -97,9 +97,27 @@ class Pages(unittest.TestCase):
 
 
 class Lines(unittest.TestCase):
-    def test_readme_keeps_its_width(self):
-        with open(os.path.join(ROOT, 'README.md')) as file:
-            self.assertEqual([line for line in file.read().splitlines() if len(line) >= 100], [])
+    def test_pages_keep_their_width(self):
+        """Each line of a page but the rows of tables, which can't be broken."""
+        pages = [os.path.join(ROOT, 'README.md')] + [os.path.join(ROOT, 'docs', name) for name in os.listdir(os.path.join(ROOT, 'docs')) if name.endswith('.md')]
+        self.assertGreater(len(pages), 10)
+        for page in pages:
+            with open(page) as file:
+                self.assertEqual([line for line in file.read().splitlines() if len(line) >= 100 and not line.startswith('|')], [], page)
+
+    def test_the_questions_of_the_page(self):
+        """Each question of docs/TABLES.md is answered by the file of a desk, here at the end of the worked transport: L1 is at B, and
+        the vehicle holds N3 alone."""
+        text = blocks_of('docs/TABLES.md', 'Questions that a person may ask')[0][1]
+        questions = ' '.join(line for line in text.splitlines() if not line.startswith('--')).split(';')[:-1]
+        with tempfile.TemporaryDirectory() as folder:
+            db = os.path.join(folder, 'desk.db')
+            with open(os.path.join(ROOT, 'examples', 'transport.http'), 'rb') as requests:
+                self.assertEqual(subprocess.run([DESK, 'replay', '--db', db, '--at', '0'], stdin=requests, stdout=subprocess.DEVNULL, timeout=60).returncode, 0)
+            base = sqlite3.connect(db)
+            told = [base.execute(question).fetchall() for question in questions]
+            base.close()
+        self.assertEqual(told, [[('L1', 'station', 'B')], [('A', 1, 0, 0), ('B', 1, 1, 0), ('C', 2, 0, 0)], [('node', 'N3', 'KIT/0001')], [], []])
 
     def test_the_command_that_replays(self):
         """The second command of README answers each request of the file that it is given."""
