@@ -1,6 +1,6 @@
-"""A plain desk to compare with: all calls of the table, in Python over the SQLite of C, by WAL with `synchronous=FULL` and one commit
-a call, over the same eleven tables with the same indexes. It keeps the layout in memory. It reads requests from standard input, writes
-the answers to standard output, and proves nothing.
+"""A plain desk to compare with: all calls of the table, in Python over the SQLite of C, by WAL with
+`synchronous=FULL` and one commit a call, over the same eleven tables with the same indexes. It keeps the layout in
+memory. It reads requests from standard input, writes the answers to standard output, and proves nothing.
 
     python3 bench/plain_desk.py FILE|:memory: [MILLIS] < requests
 """
@@ -17,23 +17,39 @@ HERE = os.path.dirname(os.path.abspath(__file__))
 NAME = re.compile('[A-Za-z0-9_.:-]{1,32}')
 FINAL, ACTIVE = ('FINISHED', 'FAILED'), ('INITIALIZING', 'RUNNING', 'PAUSED')
 STATUSES = ('WAITING', *ACTIVE, *FINAL)
-REASONS = {200: 'OK', 204: 'No Content', 400: 'Bad Request', 404: 'Not Found', 405: 'Method Not Allowed', 409: 'Conflict', 411: 'Length Required',
-           413: 'Payload Too Large', 422: 'Unprocessable Entity', 501: 'Not Implemented'}
+REASONS = {
+    200: 'OK',
+    204: 'No Content',
+    400: 'Bad Request',
+    404: 'Not Found',
+    405: 'Method Not Allowed',
+    409: 'Conflict',
+    411: 'Length Required',
+    413: 'Payload Too Large',
+    422: 'Unprocessable Entity',
+    501: 'Not Implemented',
+}
 SCHEMA = """
 CREATE TABLE IF NOT EXISTS meta (id INT NOT NULL PRIMARY KEY, schema INT NOT NULL) STRICT;
 CREATE TABLE IF NOT EXISTS node (id TEXT NOT NULL PRIMARY KEY) STRICT;
 CREATE TABLE IF NOT EXISTS edge (id TEXT NOT NULL PRIMARY KEY, start TEXT NOT NULL, finish TEXT NOT NULL) STRICT;
 CREATE TABLE IF NOT EXISTS station (id TEXT NOT NULL PRIMARY KEY, node TEXT NOT NULL, capacity INT NOT NULL) STRICT;
-CREATE TABLE IF NOT EXISTS vehicle (manufacturer TEXT NOT NULL, serial TEXT NOT NULL, node TEXT NOT NULL, rest_edge TEXT, rest_node TEXT,
- last_header INT, reported TEXT, ready INT NOT NULL, paused INT NOT NULL, order_header INT NOT NULL, order_at INT NOT NULL, instant_header INT NOT NULL,
- instant_at INT NOT NULL, pending TEXT, PRIMARY KEY (manufacturer, serial)) STRICT;
-CREATE TABLE IF NOT EXISTS trip (order_id TEXT NOT NULL PRIMARY KEY, manufacturer TEXT NOT NULL, serial TEXT NOT NULL, job TEXT NOT NULL, start TEXT NOT NULL,
- first INT NOT NULL, base INT NOT NULL, sent INT NOT NULL, confirmed INT, seen INT NOT NULL, pick_at INT NOT NULL, drop_at INT NOT NULL,
- pick_status TEXT NOT NULL, drop_status TEXT NOT NULL, UNIQUE (manufacturer, serial), UNIQUE (job)) STRICT;
-CREATE TABLE IF NOT EXISTS leg (order_id TEXT NOT NULL, k INT NOT NULL, edge TEXT NOT NULL, PRIMARY KEY (order_id, k)) STRICT;
-CREATE TABLE IF NOT EXISTS load (id TEXT NOT NULL PRIMARY KEY, kind TEXT NOT NULL, station TEXT, manufacturer TEXT, serial TEXT) STRICT;
-CREATE TABLE IF NOT EXISTS job (id TEXT NOT NULL PRIMARY KEY, load TEXT NOT NULL, origin TEXT NOT NULL, target TEXT NOT NULL, phase TEXT NOT NULL) STRICT;
-CREATE TABLE IF NOT EXISTS hold (kind TEXT NOT NULL, id TEXT NOT NULL, manufacturer TEXT NOT NULL, serial TEXT NOT NULL, PRIMARY KEY (kind, id)) STRICT;
+CREATE TABLE IF NOT EXISTS vehicle (manufacturer TEXT NOT NULL, serial TEXT NOT NULL, node TEXT NOT NULL, rest_edge
+ TEXT, rest_node TEXT, last_header INT, reported TEXT, ready INT NOT NULL, paused INT NOT NULL, order_header INT NOT
+ NULL, order_at INT NOT NULL, instant_header INT NOT NULL, instant_at INT NOT NULL, pending TEXT, PRIMARY KEY
+ (manufacturer, serial)) STRICT;
+CREATE TABLE IF NOT EXISTS trip (order_id TEXT NOT NULL PRIMARY KEY, manufacturer TEXT NOT NULL, serial TEXT NOT NULL,
+ job TEXT NOT NULL, start TEXT NOT NULL, first INT NOT NULL, base INT NOT NULL, sent INT NOT NULL, confirmed INT, seen
+ INT NOT NULL, pick_at INT NOT NULL, drop_at INT NOT NULL, pick_status TEXT NOT NULL, drop_status TEXT NOT NULL,
+ UNIQUE (manufacturer, serial), UNIQUE (job)) STRICT;
+CREATE TABLE IF NOT EXISTS leg (order_id TEXT NOT NULL, k INT NOT NULL, edge TEXT NOT NULL, PRIMARY KEY (order_id, k))
+ STRICT;
+CREATE TABLE IF NOT EXISTS load (id TEXT NOT NULL PRIMARY KEY, kind TEXT NOT NULL, station TEXT, manufacturer TEXT,
+ serial TEXT) STRICT;
+CREATE TABLE IF NOT EXISTS job (id TEXT NOT NULL PRIMARY KEY, load TEXT NOT NULL, origin TEXT NOT NULL, target TEXT
+ NOT NULL, phase TEXT NOT NULL) STRICT;
+CREATE TABLE IF NOT EXISTS hold (kind TEXT NOT NULL, id TEXT NOT NULL, manufacturer TEXT NOT NULL, serial TEXT NOT
+ NULL, PRIMARY KEY (kind, id)) STRICT;
 CREATE TABLE IF NOT EXISTS used (kind TEXT NOT NULL, id TEXT NOT NULL, PRIMARY KEY (kind, id)) STRICT;
 INSERT OR IGNORE INTO meta VALUES (1, 1);
 CREATE INDEX IF NOT EXISTS load_station ON load (station);
@@ -43,8 +59,12 @@ CREATE INDEX IF NOT EXISTS job_target ON job (target, phase);
 """
 
 with open(os.path.join(HERE, '..', 'docs', 'HTTP.md')) as page:
-    REFUSALS = {name: (int(number), int(status)) for number, name, status in
-                re.findall(r'^\| (\d+) \| (\w+) \| (\d+) \|', page.read().split('## All refusals')[1], re.M)}
+    REFUSALS = {
+        name: (int(number), int(status))
+        for number, name, status in re.findall(
+            r'^\| (\d+) \| (\w+) \| (\d+) \|', page.read().split('## All refusals')[1], re.M
+        )
+    }
 
 base = sqlite3.connect(sys.argv[1], isolation_level=None)
 base.row_factory = sqlite3.Row
@@ -107,9 +127,10 @@ layout = Layout()
 
 # Bodies.
 
+
 def whole(text):
     number = int(text)
-    check(not -2 ** 63 <= number < 2 ** 64 or text == '-0', 'Fraction')
+    check(not -(2**63) <= number < 2**64 or text == '-0', 'Fraction')
     return number
 
 
@@ -173,6 +194,7 @@ def table(body, header):
 
 # What the tables say.
 
+
 def vehicle_of(key):
     row = one('SELECT * FROM vehicle WHERE manufacturer = ? AND serial = ?', *key)
     check(row is None, 'NoVehicle')
@@ -184,7 +206,10 @@ class Trip:
 
     def __init__(self, row):
         self.row = row
-        self.edges = [leg['edge'] for leg in base.execute('SELECT edge FROM leg WHERE order_id = ? ORDER BY k', (row['order_id'],))]
+        self.edges = [
+            leg['edge']
+            for leg in base.execute('SELECT edge FROM leg WHERE order_id = ? ORDER BY k', (row['order_id'],))
+        ]
         self.nodes = [row['start']] + [layout.edges[edge][1] for edge in self.edges]
 
 
@@ -209,7 +234,9 @@ def coming(station):
 
 
 def room(station):
-    return layout.stations[station][1] - one('SELECT count(*) FROM load WHERE station = ?', station)[0] - coming(station)
+    return (
+        layout.stations[station][1] - one('SELECT count(*) FROM load WHERE station = ?', station)[0] - coming(station)
+    )
 
 
 def use(kind, name):
@@ -239,13 +266,18 @@ def things(nodes, edges, begin, end):
 def check_free(key, wanted):
     for kind, name in wanted:
         row = one('SELECT manufacturer, serial FROM hold WHERE kind = ? AND id = ?', kind, name)
-        check(row is not None and tuple(row) != key, 'Held', by='%s/%s' % tuple(row or key), what='%s %s' % (kind, name))
+        check(
+            row is not None and tuple(row) != key, 'Held', by='%s/%s' % tuple(row or key), what='%s %s' % (kind, name)
+        )
 
 
 def hold(key, wanted):
     """The vehicle holds just these."""
     wanted = set(wanted)
-    before = {(row['kind'], row['id']) for row in base.execute('SELECT kind, id FROM hold WHERE manufacturer = ? AND serial = ?', key)}
+    before = {
+        (row['kind'], row['id'])
+        for row in base.execute('SELECT kind, id FROM hold WHERE manufacturer = ? AND serial = ?', key)
+    }
     for kind, name in before - wanted:
         put('DELETE FROM hold WHERE kind = ? AND id = ?', kind, name)
     for kind, name in wanted - before:
@@ -261,23 +293,40 @@ def end_trip(trip, dropped):
 
 # The calls. Each takes the names of its path and its body, and answers what is told.
 
+
 def set_layout(body):
     global layout
     rows = table(body, ['kind', 'id', 'from', 'to'])
     kinds = {kind: [row[1:] for row in rows if row[0] == kind] for kind in ('node', 'edge', 'station')}
     for kind, name, start, finish in rows:
-        fits = NAME.fullmatch(name) and (kind == 'node' and start == finish == '' or kind == 'edge' and NAME.fullmatch(start) and NAME.fullmatch(finish)
-                                         or kind == 'station' and NAME.fullmatch(start) and re.fullmatch('[0-9]{1,3}', finish))
+        fits = NAME.fullmatch(name) and (
+            kind == 'node'
+            and start == finish == ''
+            or kind == 'edge'
+            and NAME.fullmatch(start)
+            and NAME.fullmatch(finish)
+            or kind == 'station'
+            and NAME.fullmatch(start)
+            and re.fullmatch('[0-9]{1,3}', finish)
+        )
         check(not fits, 'BadCsv')
     check(layout.nodes, 'LayoutSet')
     check(len(kinds['node']) > 500 or len(kinds['edge']) > 1500 or len(kinds['station']) > 500, 'Limit')
     nodes = {name for name, _, _ in kinds['node']}
     sound = nodes and all(len({row[0] for row in said}) == len(said) for said in kinds.values())
-    sound = sound and all(start in nodes and finish in nodes and start != finish for _, start, finish in kinds['edge'])
-    check(not sound or not all(node in nodes and int(capacity) > 0 for _, node, capacity in kinds['station']), 'LayoutBad')
+    sound = sound and all(
+        start in nodes and finish in nodes and start != finish for _, start, finish in kinds['edge']
+    )
+    check(
+        not sound or not all(node in nodes and int(capacity) > 0 for _, node, capacity in kinds['station']),
+        'LayoutBad',
+    )
     base.executemany('INSERT INTO node VALUES (?)', [row[:1] for row in kinds['node']])
     base.executemany('INSERT INTO edge VALUES (?, ?, ?)', kinds['edge'])
-    base.executemany('INSERT INTO station VALUES (?, ?, ?)', [(name, node, int(capacity)) for name, node, capacity in kinds['station']])
+    base.executemany(
+        'INSERT INTO station VALUES (?, ?, ?)',
+        [(name, node, int(capacity)) for name, node, capacity in kinds['station']],
+    )
     layout = Layout()
     return {}
 
@@ -299,7 +348,7 @@ def register_vehicle(body):
 
 def register_load(body):
     told = read_body(body)
-    load, = names(told, 'load')
+    (load,) = names(told, 'load')
     station = name_or_none(told, 'station')
     check(one('SELECT 1 FROM load WHERE id = ?', load), 'Exists')
     if station:
@@ -312,7 +361,7 @@ def register_load(body):
 
 def correct_load(load, body):
     told = read_body(body)
-    ref, = names(told, 'ref')
+    (ref,) = names(told, 'ref')
     station = name_or_none(told, 'station')
     check(is_used('ref', ref), 'RefUsed')
     row = load_of(load)
@@ -328,7 +377,7 @@ def correct_load(load, body):
 
 
 def leave_load(load, body):
-    ref, = names(read_body(body), 'ref')
+    (ref,) = names(read_body(body), 'ref')
     check(is_used('ref', ref), 'RefUsed')
     row = load_of(load)
     check(row['kind'] == 'left', 'Elsewhere')
@@ -370,7 +419,7 @@ def jobs_of(told):
     check(not isinstance(stops, list), 'BadBody')
     said = []
     for stop in stops:
-        job, = names(stop, 'job')
+        (job,) = names(stop, 'job')
         check(stop.get('action') not in ('pick', 'drop'), 'BadBody')
         said.append((stop['action'], job))
     jobs = list(dict.fromkeys(job for _, job in said))
@@ -394,7 +443,7 @@ def start_order(body):
     check(len(jobs) > 1 or one('SELECT 1 FROM load WHERE manufacturer = ? AND serial = ?', *key), 'Loaded')
     check(not vehicle['ready'], 'NotReady')
     check(vehicle['pending'] == 'cancelOrder', 'InstantPending')
-    job, = rows
+    (job,) = rows
     pick, drop = layout.stations[job['origin']][0], layout.stations[job['target']][0]
     before = layout.route(vehicle['node'], pick)
     way = before + layout.route(pick, drop)
@@ -404,10 +453,25 @@ def start_order(body):
     check_free(key, wanted)
     check(vehicle['order_header'] == 4294967295, 'Spent')
     check_limit("used WHERE kind = 'order'")
-    put('INSERT INTO trip VALUES (?, ?, ?, ?, ?, 0, ?, 0, NULL, 0, ?, ?, ?, ?)', order, *key, job['id'], vehicle['node'], edges, len(before), len(way), 'WAITING', 'WAITING')
+    put(
+        'INSERT INTO trip VALUES (?, ?, ?, ?, ?, 0, ?, 0, NULL, 0, ?, ?, ?, ?)',
+        order,
+        *key,
+        job['id'],
+        vehicle['node'],
+        edges,
+        len(before),
+        len(way),
+        'WAITING',
+        'WAITING',
+    )
     base.executemany('INSERT INTO leg VALUES (?, ?, ?)', [(order, k, edge) for k, edge in enumerate(way)])
     put("UPDATE job SET phase = 'riding' WHERE id = ?", job['id'])
-    put('UPDATE vehicle SET order_header = order_header + 1, order_at = ? WHERE manufacturer = ? AND serial = ?', now, *key)
+    put(
+        'UPDATE vehicle SET order_header = order_header + 1, order_at = ? WHERE manufacturer = ? AND serial = ?',
+        now,
+        *key,
+    )
     use('order', order)
     hold(key, wanted)
     return {'orderUpdateId': 0}
@@ -415,7 +479,7 @@ def start_order(body):
 
 def advance(manufacturer, serial, body):
     told, key = read_body(body), (manufacturer, serial)
-    order, = names(told, 'order')
+    (order,) = names(told, 'order')
     update, edges = number(told, 'orderUpdateId'), number(told, 'edges')
     vehicle, trip = vehicle_of(key), trip_of(key)
     check(trip is None or trip.row['order_id'] != order, 'NoOrder')
@@ -429,7 +493,11 @@ def advance(manufacturer, serial, body):
     check_free(key, wanted)
     check(vehicle['order_header'] == 4294967295, 'Spent')
     put('UPDATE trip SET first = base, base = base + ?, sent = sent + 1 WHERE order_id = ?', edges, order)
-    put('UPDATE vehicle SET order_header = order_header + 1, order_at = ? WHERE manufacturer = ? AND serial = ?', now, *key)
+    put(
+        'UPDATE vehicle SET order_header = order_header + 1, order_at = ? WHERE manufacturer = ? AND serial = ?',
+        now,
+        *key,
+    )
     hold(key, wanted)
     return {'orderUpdateId': update}
 
@@ -438,11 +506,21 @@ def instant(kind):
     def told(manufacturer, serial, _):
         key = manufacturer, serial
         vehicle = vehicle_of(key)
-        check(kind == 'cancelOrder' and not one('SELECT 1 FROM trip WHERE manufacturer = ? AND serial = ?', *key), 'NoOrder')
+        check(
+            kind == 'cancelOrder' and not one('SELECT 1 FROM trip WHERE manufacturer = ? AND serial = ?', *key),
+            'NoOrder',
+        )
         check(vehicle['pending'] is not None, 'InstantPending')
         check(vehicle['instant_header'] == 4294967295, 'Spent')
-        put('UPDATE vehicle SET instant_header = instant_header + 1, instant_at = ?, pending = ? WHERE manufacturer = ? AND serial = ?', now, kind, *key)
+        put(
+            'UPDATE vehicle SET instant_header = instant_header + 1, instant_at = ?, pending = ? WHERE '
+            'manufacturer = ? AND serial = ?',
+            now,
+            kind,
+            *key,
+        )
         return {'actionId': 'instant-%d' % (vehicle['instant_header'] + 1)}
+
     return told
 
 
@@ -457,7 +535,12 @@ def place_vehicle(manufacturer, serial, body):
     trip = trip_of(key)
     if trip:
         end_trip(trip, trip.row['drop_status'] == 'FINISHED')
-    put('UPDATE vehicle SET node = ?, rest_edge = NULL, rest_node = NULL, pending = NULL WHERE manufacturer = ? AND serial = ?', node, *key)
+    put(
+        'UPDATE vehicle SET node = ?, rest_edge = NULL, rest_node = NULL, pending = NULL WHERE manufacturer = ? '
+        'AND serial = ?',
+        node,
+        *key,
+    )
     use('ref', ref)
     hold(key, [('node', node)])
     return {}
@@ -545,9 +628,21 @@ def state(manufacturer, serial, body):
         check(trip is not None and trip.row['confirmed'] is not None, 'OtherOrder')
         check(sum(name == action for name, _ in listed) > 1, 'ActionTwice')
         check(told['lastNodeId'] not in ('', vehicle['node']), 'NotThere')
-    ready = told['operatingMode'] in ('AUTOMATIC', 'SEMIAUTOMATIC') and told['safetyState']['eStop'] == 'NONE' and all(error['errorLevel'] != 'FATAL' for error in told['errors'])
-    put('UPDATE vehicle SET last_header = ?, reported = ?, ready = ?, paused = ?, pending = ? WHERE manufacturer = ? AND serial = ?', told['headerId'],
-        told['orderId'] if NAME.fullmatch(told['orderId']) else None, ready, bool(told.get('paused')), None if over else vehicle['pending'], *key)
+    ready = (
+        told['operatingMode'] in ('AUTOMATIC', 'SEMIAUTOMATIC')
+        and told['safetyState']['eStop'] == 'NONE'
+        and all(error['errorLevel'] != 'FATAL' for error in told['errors'])
+    )
+    put(
+        'UPDATE vehicle SET last_header = ?, reported = ?, ready = ?, paused = ?, pending = ? WHERE '
+        'manufacturer = ? AND serial = ?',
+        told['headerId'],
+        told['orderId'] if NAME.fullmatch(told['orderId']) else None,
+        ready,
+        bool(told.get('paused')),
+        None if over else vehicle['pending'],
+        *key,
+    )
     return {'accepted': True}
 
 
@@ -567,10 +662,21 @@ def report(key, trip, k, acts, cancelled, update):
         end_trip(trip, acts[1] == 'FINISHED')
         wanted = wanted[:1]
         if not at_end and k < row['base']:
-            put('UPDATE vehicle SET rest_edge = ?, rest_node = ? WHERE manufacturer = ? AND serial = ?', trip.edges[k], trip.nodes[k + 1], *key)
+            put(
+                'UPDATE vehicle SET rest_edge = ?, rest_node = ? WHERE manufacturer = ? AND serial = ?',
+                trip.edges[k],
+                trip.nodes[k + 1],
+                *key,
+            )
             wanted = things(trip.nodes, trip.edges, k, k + 1)
     else:
-        put('UPDATE trip SET confirmed = ?, seen = ?, pick_status = ?, drop_status = ? WHERE order_id = ?', update, k, *acts, row['order_id'])
+        put(
+            'UPDATE trip SET confirmed = ?, seen = ?, pick_status = ?, drop_status = ? WHERE order_id = ?',
+            update,
+            k,
+            *acts,
+            row['order_id'],
+        )
     hold(key, wanted)
 
 
@@ -580,7 +686,9 @@ def stamp(moment):
 
 
 def message(key, header, moment, more):
-    return dict(more, headerId=header, manufacturer=key[0], serialNumber=key[1], timestamp=stamp(moment), version='2.0.0')
+    return dict(
+        more, headerId=header, manufacturer=key[0], serialNumber=key[1], timestamp=stamp(moment), version='2.0.0'
+    )
 
 
 def get_order(manufacturer, serial, _):
@@ -592,27 +700,63 @@ def get_order(manufacturer, serial, _):
     job = one('SELECT * FROM job WHERE id = ?', row['job'])
 
     def actions(k):
-        return [{'actionId': '%s.%d' % (row['order_id'], n), 'actionParameters': [
-            {'key': 'stationType', 'value': 'station'}, {'key': 'stationName', 'value': job[end]}, {'key': 'loadType', 'value': 'load'},
-            {'key': 'loadId', 'value': job['load']}], 'actionType': kind, 'blockingType': 'HARD'}
-            for n, (kind, end, at) in enumerate((('pick', 'origin', 'pick_at'), ('drop', 'target', 'drop_at'))) if row[at] == k]
-    nodes = [{'actions': actions(k), 'nodeId': trip.nodes[k], 'released': k <= row['base'], 'sequenceId': 2 * k} for k in range(row['first'], len(trip.nodes))]
-    edges = [{'actions': [], 'edgeId': trip.edges[k], 'endNodeId': trip.nodes[k + 1], 'released': k < row['base'], 'sequenceId': 2 * k + 1, 'startNodeId': trip.nodes[k]}
-             for k in range(row['first'], len(trip.edges))]
-    return message(key, vehicle['order_header'], vehicle['order_at'], {'edges': edges, 'nodes': nodes, 'orderId': row['order_id'], 'orderUpdateId': row['sent']})
+        return [
+            {
+                'actionId': '%s.%d' % (row['order_id'], n),
+                'actionParameters': [
+                    {'key': 'stationType', 'value': 'station'},
+                    {'key': 'stationName', 'value': job[end]},
+                    {'key': 'loadType', 'value': 'load'},
+                    {'key': 'loadId', 'value': job['load']},
+                ],
+                'actionType': kind,
+                'blockingType': 'HARD',
+            }
+            for n, (kind, end, at) in enumerate((('pick', 'origin', 'pick_at'), ('drop', 'target', 'drop_at')))
+            if row[at] == k
+        ]
+
+    nodes = [
+        {'actions': actions(k), 'nodeId': trip.nodes[k], 'released': k <= row['base'], 'sequenceId': 2 * k}
+        for k in range(row['first'], len(trip.nodes))
+    ]
+    edges = [
+        {
+            'actions': [],
+            'edgeId': trip.edges[k],
+            'endNodeId': trip.nodes[k + 1],
+            'released': k < row['base'],
+            'sequenceId': 2 * k + 1,
+            'startNodeId': trip.nodes[k],
+        }
+        for k in range(row['first'], len(trip.edges))
+    ]
+    return message(
+        key,
+        vehicle['order_header'],
+        vehicle['order_at'],
+        {'edges': edges, 'nodes': nodes, 'orderId': row['order_id'], 'orderUpdateId': row['sent']},
+    )
 
 
 def get_instant(manufacturer, serial, _):
     vehicle = vehicle_of((manufacturer, serial))
     if vehicle['pending'] is None:
         return None
-    action = {'actionId': 'instant-%d' % vehicle['instant_header'], 'actionParameters': [], 'actionType': vehicle['pending'], 'blockingType': 'HARD'}
+    action = {
+        'actionId': 'instant-%d' % vehicle['instant_header'],
+        'actionParameters': [],
+        'actionType': vehicle['pending'],
+        'blockingType': 'HARD',
+    }
     return message((manufacturer, serial), vehicle['instant_header'], vehicle['instant_at'], {'actions': [action]})
 
 
 def take_stock(ref, body):
     rows = table(body, ['station', 'load'])
-    check(not all(NAME.fullmatch(station) and (load == '' or NAME.fullmatch(load)) for station, load in rows), 'BadCsv')
+    check(
+        not all(NAME.fullmatch(station) and (load == '' or NAME.fullmatch(load)) for station, load in rows), 'BadCsv'
+    )
     check(is_used('ref', ref), 'RefUsed')
     check(any(station not in layout.stations for station, _ in rows), 'NoStation')
     stations, said = {station for station, _ in rows}, [(load, station) for station, load in rows if load]
@@ -622,7 +766,13 @@ def take_stock(ref, body):
     check(any(known[load]['kind'] == 'vehicle' for load in here), 'OnVehicle')
     moves = {load: station for load, station in here.items() if known[load]['station'] != station}
     for station in stations:
-        moves.update({row['id']: None for row in base.execute('SELECT id FROM load WHERE station = ?', (station,)) if row['id'] not in here})
+        moves.update(
+            {
+                row['id']: None
+                for row in base.execute('SELECT id FROM load WHERE station = ?', (station,))
+                if row['id'] not in here
+            }
+        )
     check(any(job_of(load) for load in moves), 'InJob')
     for station in stations:
         check(sum(at == station for at in here.values()) + coming(station) > layout.stations[station][1], 'Full')
@@ -634,7 +784,10 @@ def take_stock(ref, body):
 
 
 def place_text(row):
-    return {'station': 'station %s' % row['station'], 'vehicle': 'vehicle %s/%s' % (row['manufacturer'], row['serial'])}.get(row['kind'], row['kind'])
+    return {
+        'station': 'station %s' % row['station'],
+        'vehicle': 'vehicle %s/%s' % (row['manufacturer'], row['serial']),
+    }.get(row['kind'], row['kind'])
 
 
 def get_load(load, _):
@@ -644,10 +797,24 @@ def get_load(load, _):
 
 def get_vehicle(manufacturer, serial, _):
     row = vehicle_of((manufacturer, serial))
-    trip = one('SELECT order_id, sent, confirmed FROM trip WHERE manufacturer = ? AND serial = ?', manufacturer, serial)
+    trip = one(
+        'SELECT order_id, sent, confirmed FROM trip WHERE manufacturer = ? AND serial = ?', manufacturer, serial
+    )
     order, sent, confirmed = trip or (None, None, None)
-    return {'astray': row['rest_node'] is not None, 'capacity': 1, 'confirmed': confirmed, 'headerId': row['last_header'], 'manufacturer': manufacturer,
-            'node': row['node'], 'order': order, 'paused': bool(row['paused']), 'pending': row['pending'], 'ready': bool(row['ready']), 'sent': sent, 'serialNumber': serial}
+    return {
+        'astray': row['rest_node'] is not None,
+        'capacity': 1,
+        'confirmed': confirmed,
+        'headerId': row['last_header'],
+        'manufacturer': manufacturer,
+        'node': row['node'],
+        'order': order,
+        'paused': bool(row['paused']),
+        'pending': row['pending'],
+        'ready': bool(row['ready']),
+        'sent': sent,
+        'serialNumber': serial,
+    }
 
 
 def stock_report(_):
@@ -657,8 +824,13 @@ def stock_report(_):
     out = []
     for name, (node, capacity) in sorted(layout.stations.items()):
         loads = at.get('station ' + name, [])
-        out += ['station %s at %s: %d of %d, reserved %d' % (name, node, len(loads), capacity, coming(name))] + ['  ' + load for load in loads]
-    places = ['checking'] + ['vehicle %s/%s' % tuple(row) for row in base.execute('SELECT manufacturer, serial FROM vehicle ORDER BY manufacturer, serial')]
+        out += ['station %s at %s: %d of %d, reserved %d' % (name, node, len(loads), capacity, coming(name))] + [
+            '  ' + load for load in loads
+        ]
+    places = ['checking'] + [
+        'vehicle %s/%s' % tuple(row)
+        for row in base.execute('SELECT manufacturer, serial FROM vehicle ORDER BY manufacturer, serial')
+    ]
     for place in places:
         loads = at.get(place, [])
         out += ['%s: %d' % (place, len(loads))] + ['  ' + load for load in loads]
@@ -666,32 +838,59 @@ def stock_report(_):
 
 
 def hold_report(_):
-    lines = ['%s %s %s/%s\n' % tuple(row) for row in base.execute('SELECT kind, id, manufacturer, serial FROM hold ORDER BY kind DESC, id')]
+    lines = [
+        '%s %s %s/%s\n' % tuple(row)
+        for row in base.execute('SELECT kind, id, manufacturer, serial FROM hold ORDER BY kind DESC, id')
+    ]
     return ''.join(lines) + 'held %d of %d\n' % (len(lines), len(layout.nodes) + len(layout.edges))
 
 
 def export_loads(_):
-    lines = ['%s,%s,%s\n' % (row['id'], *(place_text(row).split(' ') + [''])[:2]) for row in base.execute('SELECT * FROM load ORDER BY id')]
+    lines = [
+        '%s,%s,%s\n' % (row['id'], *(place_text(row).split(' ') + [''])[:2])
+        for row in base.execute('SELECT * FROM load ORDER BY id')
+    ]
     return 'load,place,at\n' + ''.join(lines)
 
 
 N = '([^/]*)'
-CALLS = [(method, re.compile(path.replace('{}', N)), call, kind) for method, path, call, kind in (
-    ('PUT', '/layout', set_layout, 'json'), ('POST', '/vehicles', register_vehicle, 'json'), ('POST', '/loads', register_load, 'json'),
-    ('POST', '/loads/{}/correct', correct_load, 'json'), ('POST', '/loads/{}/leave', leave_load, 'json'), ('POST', '/jobs', add_job, 'json'),
-    ('DELETE', '/jobs/{}', stop_job, 'json'), ('POST', '/orders', start_order, 'json'), ('POST', '/vehicles/{}/{}/advance', advance, 'json'),
-    ('POST', '/vehicles/{}/{}/cancel', instant('cancelOrder'), 'json'), ('POST', '/vehicles/{}/{}/pause', instant('startPause'), 'json'),
-    ('POST', '/vehicles/{}/{}/resume', instant('stopPause'), 'json'), ('POST', '/vehicles/{}/{}/place', place_vehicle, 'json'),
-    ('POST', '/vehicles/{}/{}/resync', resync, 'json'), ('POST', '/uagv/v2/{}/{}/state', state, 'json'), ('GET', '/uagv/v2/{}/{}/order', get_order, 'json'),
-    ('GET', '/uagv/v2/{}/{}/instantActions', get_instant, 'json'), ('POST', '/stocktakes/{}', take_stock, 'json'), ('GET', '/loads/{}', get_load, 'json'),
-    ('GET', '/vehicles/{}/{}', get_vehicle, 'json'), ('GET', '/report/stock', stock_report, 'plain'), ('GET', '/report/holds', hold_report, 'plain'),
-    ('GET', '/export/loads', export_loads, 'csv'))]
+CALLS = [
+    (method, re.compile(path.replace('{}', N)), call, kind)
+    for method, path, call, kind in (
+        ('PUT', '/layout', set_layout, 'json'),
+        ('POST', '/vehicles', register_vehicle, 'json'),
+        ('POST', '/loads', register_load, 'json'),
+        ('POST', '/loads/{}/correct', correct_load, 'json'),
+        ('POST', '/loads/{}/leave', leave_load, 'json'),
+        ('POST', '/jobs', add_job, 'json'),
+        ('DELETE', '/jobs/{}', stop_job, 'json'),
+        ('POST', '/orders', start_order, 'json'),
+        ('POST', '/vehicles/{}/{}/advance', advance, 'json'),
+        ('POST', '/vehicles/{}/{}/cancel', instant('cancelOrder'), 'json'),
+        ('POST', '/vehicles/{}/{}/pause', instant('startPause'), 'json'),
+        ('POST', '/vehicles/{}/{}/resume', instant('stopPause'), 'json'),
+        ('POST', '/vehicles/{}/{}/place', place_vehicle, 'json'),
+        ('POST', '/vehicles/{}/{}/resync', resync, 'json'),
+        ('POST', '/uagv/v2/{}/{}/state', state, 'json'),
+        ('GET', '/uagv/v2/{}/{}/order', get_order, 'json'),
+        ('GET', '/uagv/v2/{}/{}/instantActions', get_instant, 'json'),
+        ('POST', '/stocktakes/{}', take_stock, 'json'),
+        ('GET', '/loads/{}', get_load, 'json'),
+        ('GET', '/vehicles/{}/{}', get_vehicle, 'json'),
+        ('GET', '/report/stock', stock_report, 'plain'),
+        ('GET', '/report/holds', hold_report, 'plain'),
+        ('GET', '/export/loads', export_loads, 'csv'),
+    )
+]
 
 
 def answer(status, kind, data, allow=None):
     head = 'HTTP/1.1 %d %s\r\n' % (status, REASONS[status])
     if status != 204:
-        head += 'Content-Length: %d\r\nContent-Type: %s\r\n' % (len(data), {'json': 'application/json', 'plain': 'text/plain', 'csv': 'text/csv'}[kind])
+        head += 'Content-Length: %d\r\nContent-Type: %s\r\n' % (
+            len(data),
+            {'json': 'application/json', 'plain': 'text/plain', 'csv': 'text/csv'}[kind],
+        )
     return ('%s%s\r\n' % (head, 'Allow: %s\r\n' % allow if allow else '')).encode() + data
 
 

@@ -1,7 +1,7 @@
-"""Requests that mean harm: bodies nested deeply, numbers that are no whole ones or out of range, heads that are too long, have too many
-lines or two lengths, and noise from a seeded generator, through `replay` and `serve`. What must be answered is said by the rules of
-docs/HTTP.md; the program never ends in another way than by its rules, and each answer is a whole one of HTTP. 300,000 bytes of noise
-by default, ten million where NULVRADER_LONG is 1."""
+"""Requests that mean harm: bodies nested deeply, numbers that are no whole ones or out of range, heads that are too
+long, have too many lines or two lengths, and noise from a seeded generator, through `replay` and `serve`. What must
+be answered is said by the rules of docs/HTTP.md; the program never ends in another way than by its rules, and each
+answer is a whole one of HTTP. 300,000 bytes of noise by default, ten million where NULVRADER_LONG is 1."""
 import json
 import os
 import random
@@ -14,13 +14,28 @@ from test_program import AT, HERE, Serving, over_sockets, run
 from test_scripts import state
 
 NOISE = 10_000_000 if os.environ.get('NULVRADER_LONG') == '1' else 300_000
-STREAM = 6_000      # bytes of noise in one stream, about
-REASONS = {200: 'OK', 204: 'No Content', 400: 'Bad Request', 404: 'Not Found', 405: 'Method Not Allowed', 409: 'Conflict', 411: 'Length Required',
-           413: 'Payload Too Large', 422: 'Unprocessable Entity', 501: 'Not Implemented', 503: 'Service Unavailable'}
+STREAM = 6_000  # bytes of noise in one stream, about
+REASONS = {
+    200: 'OK',
+    204: 'No Content',
+    400: 'Bad Request',
+    404: 'Not Found',
+    405: 'Method Not Allowed',
+    409: 'Conflict',
+    411: 'Length Required',
+    413: 'Payload Too Large',
+    422: 'Unprocessable Entity',
+    501: 'Not Implemented',
+    503: 'Service Unavailable',
+}
 
 with open(os.path.join(HERE, '..', 'docs', 'HTTP.md')) as page:
-    REFUSALS = {name: (int(number), int(status)) for number, name, status in
-                re.findall(r'^\| (\d+) \| (\w+) \| (\d+) \|', page.read().split('## All refusals')[1], re.M)}
+    REFUSALS = {
+        name: (int(number), int(status))
+        for number, name, status in re.findall(
+            r'^\| (\d+) \| (\w+) \| (\d+) \|', page.read().split('## All refusals')[1], re.M
+        )
+    }
 
 # Each call with a JSON body, as a new desk is asked it: its body, and which refusal it then earns, or none.
 CALLS = [
@@ -29,13 +44,34 @@ CALLS = [
     ('POST /loads/L1/correct', {'ref': 'R1', 'station': 'A'}, 'NoLoad'),
     ('POST /loads/L1/leave', {'ref': 'R1'}, 'NoLoad'),
     ('POST /jobs', {'job': 'J1', 'load': 'L1', 'to': 'B'}, 'NoLoad'),
-    ('POST /orders', {'order': 'O1', 'job': 'J1', 'manufacturer': 'KIT', 'serialNumber': '0001', 'edges': 1}, 'NoVehicle'),
-    ('POST /orders', {'order': 'O1', 'stops': [{'action': 'pick', 'job': 'J1'}, {'action': 'drop', 'job': 'J1'}], 'manufacturer': 'KIT',
-                      'serialNumber': '0001', 'edges': 1}, 'NoVehicle'),
+    (
+        'POST /orders',
+        {'order': 'O1', 'job': 'J1', 'manufacturer': 'KIT', 'serialNumber': '0001', 'edges': 1},
+        'NoVehicle',
+    ),
+    (
+        'POST /orders',
+        {
+            'order': 'O1',
+            'stops': [{'action': 'pick', 'job': 'J1'}, {'action': 'drop', 'job': 'J1'}],
+            'manufacturer': 'KIT',
+            'serialNumber': '0001',
+            'edges': 1,
+        },
+        'NoVehicle',
+    ),
     ('POST /vehicles/KIT/0001/advance', {'order': 'O1', 'orderUpdateId': 1, 'edges': 1}, 'NoVehicle'),
     ('POST /vehicles/KIT/0001/place', {'ref': 'R1', 'node': 'N1'}, 'NoVehicle'),
-    (*state(1, statuses=[('x', 'FINISHED')], nodeStates=[{'nodeId': 'N2', 'sequenceId': 2, 'released': True}],
-            edgeStates=[{'edgeId': 'E12', 'sequenceId': 1, 'released': True}], errors=[{'errorType': 'x', 'errorLevel': 'WARNING'}]), 'NoVehicle'),
+    (
+        *state(
+            1,
+            statuses=[('x', 'FINISHED')],
+            nodeStates=[{'nodeId': 'N2', 'sequenceId': 2, 'released': True}],
+            edgeStates=[{'edgeId': 'E12', 'sequenceId': 1, 'released': True}],
+            errors=[{'errorType': 'x', 'errorLevel': 'WARNING'}],
+        ),
+        'NoVehicle',
+    ),
 ]
 # Where a body has a number of 32 bits, by the name of the member.
 NUMBERS = {'headerId', 'orderUpdateId', 'lastNodeSequenceId', 'edges', 'capacity'}
@@ -80,7 +116,8 @@ class Answer:
 
 
 def answers_of(data):
-    """The answers that an output has, each checked to be a whole one in the form that the desk writes; and what is left."""
+    """The answers that an output has, each checked to be a whole one in the form that the desk writes; and what is
+    left."""
     found = []
     while data:
         end = data.find(b'\r\n\r\n')
@@ -90,7 +127,9 @@ def answers_of(data):
         status = int(re.fullmatch(r'HTTP/1\.1 (\d{3}) [A-Za-z ]+', first).group(1))
         if first[13:] != REASONS[status]:
             raise AssertionError(first)
-        form = '' if status == 204 else r'Content-Length: (\d+)\nContent-Type: (application/json|text/plain|text/csv)\n'
+        form = (
+            '' if status == 204 else r'Content-Length: (\d+)\nContent-Type: (application/json|text/plain|text/csv)\n'
+        )
         form += r'Allow: (GET|PUT|POST|DELETE)\n' if status == 405 else ''
         form += r'(?:Connection: close\n)?'
         told = re.fullmatch(form, ''.join(line + '\n' for line in lines))
@@ -99,10 +138,10 @@ def answers_of(data):
         length = int(told.group(1)) if status != 204 else 0
         if len(data) < end + 4 + length:
             break
-        body = data[end + 4:end + 4 + length]
+        body = data[end + 4 : end + 4 + length]
         check_body(status, told.group(2) if status != 204 else None, body)
         found.append(Answer(status, lines, body))
-        data = data[end + 4 + length:]
+        data = data[end + 4 + length :]
     return found, data
 
 
@@ -169,7 +208,10 @@ class Bodies(Bytes):
                 pairs.append((request(line, with_text(dict(body, x=0), ('x',), text)), refusal(name)))
             for path in places_in(body):
                 if path[-1] in NUMBERS or path == ('nodeStates', 0, 'sequenceId'):
-                    pairs += [(request(line, with_text(body, path, text)), refusal('BadBody')) for text in ('4294967296', '-1', '18446744073709551615', '"1"', 'true')]
+                    pairs += [
+                        (request(line, with_text(body, path, text)), refusal('BadBody'))
+                        for text in ('4294967296', '-1', '18446744073709551615', '"1"', 'true')
+                    ]
                     pairs.append((request(line, with_text(body, path, '4294967295')), refusal(name)))
         self.assertEqual(sum(b'"headerId": 4294967296' in data or b'"headerId": -1,' in data for data, _ in pairs), 2)
         self.check(pairs)
@@ -177,22 +219,38 @@ class Bodies(Bytes):
     def test_numbers_in_tables(self):
         """A capacity is one to three digits."""
         rows = 'kind,id,from,to\nnode,N1,,\nstation,A,N1,%s\n'
-        self.check([(request('PUT /layout', rows % text), refusal('BadCsv')) for text in ('1e0', '-0.0', '-1', '+1', '1.0', '0001', '18446744073709551616', ' 1', '')]
-                   + [(request('PUT /layout', rows % text), refusal('LayoutBad')) for text in ('0', '000')]
-                   + [(request('PUT /layout', rows % '999'), (200, b'{}'))])
+        self.check(
+            [
+                (request('PUT /layout', rows % text), refusal('BadCsv'))
+                for text in ('1e0', '-0.0', '-1', '+1', '1.0', '0001', '18446744073709551616', ' 1', '')
+            ]
+            + [(request('PUT /layout', rows % text), refusal('LayoutBad')) for text in ('0', '000')]
+            + [(request('PUT /layout', rows % '999'), (200, b'{}'))]
+        )
 
     def test_bodies_that_nobody_looks_at(self):
         """Of a call without a body in the table."""
         pairs = []
         for text in ('1e0', '-0.0', '18446744073709551616', '[' * 200, '\0', '{"ref":'):
-            pairs += [(request('POST /vehicles/KIT/0001/' + call, text), refusal('NoVehicle')) for call in ('cancel', 'pause', 'resume', 'resync')]
-            pairs += [(request('DELETE /jobs/J1', text), refusal('NoJob')), (request('GET /loads/L1', text), refusal('NoLoad'))]
+            pairs += [
+                (request('POST /vehicles/KIT/0001/' + call, text), refusal('NoVehicle'))
+                for call in ('cancel', 'pause', 'resume', 'resync')
+            ]
+            pairs += [
+                (request('DELETE /jobs/J1', text), refusal('NoJob')),
+                (request('GET /loads/L1', text), refusal('NoLoad')),
+            ]
         self.check(pairs)
 
     def test_the_longest_body(self):
         long = '{"load":"L1","x":"%s"}'
         room = 65_536 - len(long % '')
-        self.check([(request('POST /loads', long % ('a' * room)), (200, b'{}')), (request('POST /loads', long % ('a' * (room + 1))), refusal('TooLarge'))])
+        self.check(
+            [
+                (request('POST /loads', long % ('a' * room)), (200, b'{}')),
+                (request('POST /loads', long % ('a' * (room + 1))), refusal('TooLarge')),
+            ]
+        )
 
 
 class Heads(Bytes):
@@ -217,22 +275,40 @@ class Heads(Bytes):
     def test_content_length(self):
         line = 'POST /loads HTTP/1.1\r\n'
         body = '{"load":"L1"}'
-        for two in ('Content-Length: 13\r\nContent-Length: 13\r\n', 'content-length: 13\r\nCONTENT-LENGTH: 0\r\n', 'Content-Length: 13\r\na: b\r\nContent-Length: x\r\n',
-                    'Content-Length: 13\r\nContent-Length: 13\r\nTransfer-Encoding: chunked\r\n'):
+        for two in (
+            'Content-Length: 13\r\nContent-Length: 13\r\n',
+            'content-length: 13\r\nCONTENT-LENGTH: 0\r\n',
+            'Content-Length: 13\r\na: b\r\nContent-Length: x\r\n',
+            'Content-Length: 13\r\nContent-Length: 13\r\nTransfer-Encoding: chunked\r\n',
+        ):
             self.ends((line + two + '\r\n' + body).encode(), 'BadHead')
         for value in ('', '-1', '+13', '13,13', '0x0d', '1 3', '13.0', '1e1', '\xb9'):
             self.ends(('%sContent-Length: %s\r\n\r\n%s' % (line, value, body)).encode('latin-1'), 'BadHead')
         for value in ('65537', '4294967296', '18446744073709551616', '9' * 1_000):
             self.ends(('%sContent-Length: %s\r\n\r\n%s' % (line, value, body)).encode(), 'TooLarge')
-        for more in ('Transfer-Encoding: chunked\r\n', 'transfer-encoding: x\r\nContent-Length: 13\r\n', 'Content-Length: 65537\r\nTransfer-Encoding: gzip\r\n'):
+        for more in (
+            'Transfer-Encoding: chunked\r\n',
+            'transfer-encoding: x\r\nContent-Length: 13\r\n',
+            'Content-Length: 65537\r\nTransfer-Encoding: gzip\r\n',
+        ):
             self.ends((line + more + '\r\n' + body).encode(), 'Coding')
         self.ends((line + '\r\n' + body).encode(), 'NoLength')
         for value in ('13', '0013', '0' * 100 + '13'):
             self.check([(('%scontent-LENGTH: %s\r\n\r\n%s' % (line, value, body)).encode(), (200, b'{}'))])
 
     def test_ends_in_the_middle(self):
-        for data in (b'\0', b'G', b'GET /loads/L1 HTTP/1.1', b'GET /loads/L1 HTTP/1.1\r\n', b'\r\n', b'POST /loads HTTP/1.1\r\nContent-Length: 13\r\n\r\n{"load":"L1"',
-                     b'GET /loads/L1 HTTP/2.0\r\n\r\n', b'GET  /loads/L1 HTTP/1.1\r\n\r\n', b'GET /loads/L1 HTTP/1.1\r\nno colon\r\n\r\n', b'GET /loads/L1 HTTP/1.1\r\na b: c\r\n\r\n'):
+        for data in (
+            b'\0',
+            b'G',
+            b'GET /loads/L1 HTTP/1.1',
+            b'GET /loads/L1 HTTP/1.1\r\n',
+            b'\r\n',
+            b'POST /loads HTTP/1.1\r\nContent-Length: 13\r\n\r\n{"load":"L1"',
+            b'GET /loads/L1 HTTP/2.0\r\n\r\n',
+            b'GET  /loads/L1 HTTP/1.1\r\n\r\n',
+            b'GET /loads/L1 HTTP/1.1\r\nno colon\r\n\r\n',
+            b'GET /loads/L1 HTTP/1.1\r\na b: c\r\n\r\n',
+        ):
             self.check([(request('GET /loads/L1'), refusal('NoLoad')), (data, refusal('BadHead'))])
 
 
@@ -259,46 +335,123 @@ class Broken:
         if kind == 1:
             return request('POST /loads', '{"load":"%s"}' % known), refusal('Exists')
         if kind == 2:
-            return request('GET /loads/' + known), (200, b'{"job":null,"load":"%s","place":"checking"}' % known.encode())
+            return request('GET /loads/' + known), (
+                200,
+                b'{"job":null,"load":"%s","place":"checking"}' % known.encode(),
+            )
         if kind == 3:
-            path = '/~' + ''.join(chr(chance.randint(0x21, 0x7e)) for _ in range(chance.randint(0, 200)))
+            path = '/~' + ''.join(chr(chance.randint(0x21, 0x7E)) for _ in range(chance.randint(0, 200)))
             return request('%s %s' % (chance.choice(('GET', 'POST', 'BREW')), path), ''), refusal('NoPath')
         if kind == 4:
-            target = chance.choice(('/loads/%s~' % self.word(), '/loads/' + 'a' * 33, '/loads/', '/loads//leave', '/LOADS', '/loads/%41', '/vehicles/a/b/c'))
+            target = chance.choice(
+                (
+                    '/loads/%s~' % self.word(),
+                    '/loads/' + 'a' * 33,
+                    '/loads/',
+                    '/loads//leave',
+                    '/LOADS',
+                    '/loads/%41',
+                    '/vehicles/a/b/c',
+                )
+            )
             return request('GET ' + target), refusal('NoPath')
         if kind == 5:
             number, status = REFUSALS['BadMethod']
-            return request('%s /loads?%s' % (chance.choice(('GET', 'PUT', 'DELETE', 'HEAD', 'PATCH', 'TRACE', 'BREW', 'post')), self.word()), self.junk()), \
-                (status, b'{"name":"BadMethod","refusal":%d}' % number)
+            return request(
+                '%s /loads?%s'
+                % (chance.choice(('GET', 'PUT', 'DELETE', 'HEAD', 'PATCH', 'TRACE', 'BREW', 'post')), self.word()),
+                self.junk(),
+            ), (status, b'{"name":"BadMethod","refusal":%d}' % number)
         if kind == 6:
-            return request('POST /loads', chance.choice((b'', b'\xff' + self.junk(), b'{' + self.junk(), b'{"load":"L1",}', b'{"load":"a\nb"}', b'nul', b'1e400',
-                                                         b'{"load":"\\ud800"}', b'[' * chance.randint(128, 5_000), b'{} {}'))), refusal('BadJson')
+            return request(
+                'POST /loads',
+                chance.choice(
+                    (
+                        b'',
+                        b'\xff' + self.junk(),
+                        b'{' + self.junk(),
+                        b'{"load":"L1",}',
+                        b'{"load":"a\nb"}',
+                        b'nul',
+                        b'1e400',
+                        b'{"load":"\\ud800"}',
+                        b'[' * chance.randint(128, 5_000),
+                        b'{} {}',
+                    )
+                ),
+            ), refusal('BadJson')
         if kind == 7:
-            number = chance.choice(('%d.%d' % (chance.randrange(10 ** 6), chance.randrange(10 ** 6)), '%de%d' % (chance.randrange(10 ** 6), chance.randrange(200)), '-0',
-                                    str(2 ** 64 + chance.randrange(10 ** 9)), str(-2 ** 63 - 1 - chance.randrange(10 ** 9))))
+            number = chance.choice(
+                (
+                    '%d.%d' % (chance.randrange(10**6), chance.randrange(10**6)),
+                    '%de%d' % (chance.randrange(10**6), chance.randrange(200)),
+                    '-0',
+                    str(2**64 + chance.randrange(10**9)),
+                    str(-(2**63) - 1 - chance.randrange(10**9)),
+                )
+            )
             return request('POST /loads', '{"load":"%s","a":{"b":[%s]}}' % (self.word(), number)), refusal('Fraction')
         if kind == 8:
-            wrong = chance.choice(('1', 'true', '[]', '{}', '"a b"', '""', '"%s"' % ('x' * 33), '"\\u00e9"', 'null', '"a/b"', '"\\u0000"'))
-            return request('POST /loads', chance.choice(('{"load":%s}' % wrong, '[]', '"load"', '1', 'null', 'true', '{}', '{"Load":"L1"}'))), refusal('BadBody')
+            wrong = chance.choice(
+                (
+                    '1',
+                    'true',
+                    '[]',
+                    '{}',
+                    '"a b"',
+                    '""',
+                    '"%s"' % ('x' * 33),
+                    '"\\u00e9"',
+                    'null',
+                    '"a/b"',
+                    '"\\u0000"',
+                )
+            )
+            return request(
+                'POST /loads',
+                chance.choice(('{"load":%s}' % wrong, '[]', '"load"', '1', 'null', 'true', '{}', '{"Load":"L1"}')),
+            ), refusal('BadBody')
         if kind == 9:
-            return request(chance.choice(('PUT /layout', 'POST /stocktakes/' + self.word())), b'x' + self.junk()), refusal('BadCsv')
-        return chance.choice((
-            (request(*CALLS[0][:1], json.dumps(CALLS[0][1])), refusal('NoNode')), (request('DELETE /jobs/' + self.word()), refusal('NoJob')),
-            (request('POST /uagv/v2/KIT/%s/pause' % self.word(), self.junk()), refusal('NoPath')), (request('POST /vehicles/KIT/0001/pause', self.junk()), refusal('NoVehicle')),
-            (request('POST /uagv/v2/KIT/0002/state', json.dumps(state(1)[1])), refusal('WrongVehicle'))))
+            return request(
+                chance.choice(('PUT /layout', 'POST /stocktakes/' + self.word())), b'x' + self.junk()
+            ), refusal('BadCsv')
+        return chance.choice(
+            (
+                (request(*CALLS[0][:1], json.dumps(CALLS[0][1])), refusal('NoNode')),
+                (request('DELETE /jobs/' + self.word()), refusal('NoJob')),
+                (request('POST /uagv/v2/KIT/%s/pause' % self.word(), self.junk()), refusal('NoPath')),
+                (request('POST /vehicles/KIT/0001/pause', self.junk()), refusal('NoVehicle')),
+                (request('POST /uagv/v2/KIT/0002/state', json.dumps(state(1)[1])), refusal('WrongVehicle')),
+            )
+        )
 
     def ends(self):
         """The last bytes of a stream: nothing, a request that ends it, or what is no request."""
         chance = self.chance
         behind = self.junk()
-        return chance.choice((
-            (b'', None), (b'\0' + behind, refusal('BadHead')), (b'GET / HTTP/3.0\r\n\r\n' + behind, refusal('BadHead')),
-            (b'GET /' + b'a' * chance.randint(8_192, 20_000), refusal('BadHead')), (request('GET /', more='a: b\r\n' * chance.randint(33, 200)) + behind, refusal('BadHead')),
-            (b'POST /loads HTTP/1.1\r\nContent-Length: 1\r\nContent-Length: 1\r\n\r\n' + behind, refusal('BadHead')),
-            (b'POST /loads HTTP/1.1\r\nContent-Length: %d\r\n\r\n' % chance.randint(65_537, 10 ** 12) + behind, refusal('TooLarge')),
-            (b'POST /loads HTTP/1.1\r\nTransfer-Encoding: chunked\r\n\r\n' + behind, refusal('Coding')), (b'PUT /layout HTTP/1.1\r\n\r\n' + behind, refusal('NoLength')),
-            (b'POST /loads HTTP/1.1\r\nContent-Length: 1000\r\n\r\n' + behind, refusal('BadHead')), (request('GET /loads/L1')[:chance.randint(1, 20)], refusal('BadHead')),
-            (request('GET /loads/no', more='Connection: x , CLOSE\r\n') + behind, refusal('NoLoad')), (b'GET /loads/no HTTP/1.0\r\n\r\n' + behind, refusal('NoLoad'))))
+        return chance.choice(
+            (
+                (b'', None),
+                (b'\0' + behind, refusal('BadHead')),
+                (b'GET / HTTP/3.0\r\n\r\n' + behind, refusal('BadHead')),
+                (b'GET /' + b'a' * chance.randint(8_192, 20_000), refusal('BadHead')),
+                (request('GET /', more='a: b\r\n' * chance.randint(33, 200)) + behind, refusal('BadHead')),
+                (
+                    b'POST /loads HTTP/1.1\r\nContent-Length: 1\r\nContent-Length: 1\r\n\r\n' + behind,
+                    refusal('BadHead'),
+                ),
+                (
+                    b'POST /loads HTTP/1.1\r\nContent-Length: %d\r\n\r\n' % chance.randint(65_537, 10**12) + behind,
+                    refusal('TooLarge'),
+                ),
+                (b'POST /loads HTTP/1.1\r\nTransfer-Encoding: chunked\r\n\r\n' + behind, refusal('Coding')),
+                (b'PUT /layout HTTP/1.1\r\n\r\n' + behind, refusal('NoLength')),
+                (b'POST /loads HTTP/1.1\r\nContent-Length: 1000\r\n\r\n' + behind, refusal('BadHead')),
+                (request('GET /loads/L1')[: chance.randint(1, 20)], refusal('BadHead')),
+                (request('GET /loads/no', more='Connection: x , CLOSE\r\n') + behind, refusal('NoLoad')),
+                (b'GET /loads/no HTTP/1.0\r\n\r\n' + behind, refusal('NoLoad')),
+            )
+        )
 
     def stream(self):
         """Requests up to the length of a stream, and its end; what is answered, and whether the last answer closes."""
@@ -319,16 +472,17 @@ class Broken:
             if kind == 0:
                 data[at] = self.chance.randrange(256)
             elif kind == 1:
-                del data[at:at + self.chance.randint(1, 40)]
+                del data[at : at + self.chance.randint(1, 40)]
             elif kind == 2:
-                data[at:at] = data[at:at + self.chance.randint(1, 400)]
+                data[at:at] = data[at : at + self.chance.randint(1, 400)]
             else:
                 data[at:at] = self.junk(20)
         return bytes(data)
 
 
 def talk(desk, data):
-    """One connection: what it is answered, and whether the desk has closed it without a reset, by which answers may be lost."""
+    """One connection: what it is answered, and whether the desk has closed it without a reset, by which answers may
+    be lost."""
     plain, out = desk.plain(), b''
     try:
         plain.sendall(data)
@@ -349,10 +503,13 @@ class Noise(Bytes):
         found, left = answers_of(out)
         self.assertEqual(left, b'', seed)
         self.assertEqual([(answer.status, answer.body) for answer in found], wanted, seed)
-        self.assertEqual([number for number, answer in enumerate(found) if answer.closes], [len(found) - 1] if closes else [], seed)
+        self.assertEqual(
+            [number for number, answer in enumerate(found) if answer.closes], [len(found) - 1] if closes else [], seed
+        )
 
     def check_changed(self, found, seed):
-        """Answers to requests that may mean anything: a refusal that ends a stream is the last one, and none is for want of the machine."""
+        """Answers to requests that may mean anything: a refusal that ends a stream is the last one, and none is for
+        want of the machine."""
         for number, answer in enumerate(found):
             self.assertNotEqual(answer.status, 503, seed)
             if answer.closes:
@@ -385,7 +542,8 @@ class Noise(Bytes):
 
     @over_sockets
     def test_serve(self):
-        """A connection for each stream, over one desk on a file; where the desk closes with bytes unread the answers may be cut."""
+        """A connection for each stream, over one desk on a file; where the desk closes with bytes unread the answers
+        may be cut."""
         sent, seed, whole = 0, 2_000_000, 0
         with tempfile.TemporaryDirectory() as folder, Serving(os.path.join(folder, 'noise.db'), 4294967295) as desk:
             while sent < NOISE / 3:
@@ -397,7 +555,7 @@ class Noise(Bytes):
                     whole += 1
                 else:
                     found, _ = answers_of(out)
-                    self.assertEqual([(answer.status, answer.body) for answer in found], wanted[:len(found)], seed)
+                    self.assertEqual([(answer.status, answer.body) for answer in found], wanted[: len(found)], seed)
                 data = Broken(-seed).changed()
                 found, left = answers_of(talk(desk, data)[0])
                 self.check_changed(found, seed)
@@ -410,10 +568,17 @@ class Noise(Bytes):
 class Checker(unittest.TestCase):
     def test_what_is_no_answer(self):
         """Outputs that must not pass for answers."""
-        good = b'HTTP/1.1 404 Not Found\r\nContent-Length: 30\r\nContent-Type: application/json\r\n\r\n{"name":"NoLoad","refusal":23}'
+        good = b'HTTP/1.1 404 Not Found\r\nContent-Length: 30\r\nContent-Type: application/json\r\n\r\n'
+        good += b'{"name":"NoLoad","refusal":23}'
         self.assertEqual(len(answers_of(good + good)[0]), 2)
-        for bad in (good.replace(b'404', b'409'), good.replace(b'23', b'24'), good.replace(b'Not Found', b'Found'), good.replace(b'json', b'html'),
-                    good.replace(b'\r\nContent-Type', b'\r\nAllow: GET\r\nContent-Type'), good.replace(b'404 Not Found', b'200 OK')):
+        for bad in (
+            good.replace(b'404', b'409'),
+            good.replace(b'23', b'24'),
+            good.replace(b'Not Found', b'Found'),
+            good.replace(b'json', b'html'),
+            good.replace(b'\r\nContent-Type', b'\r\nAllow: GET\r\nContent-Type'),
+            good.replace(b'404 Not Found', b'200 OK'),
+        ):
             with self.assertRaises(Exception):
                 answers_of(bad)
         self.assertEqual(answers_of(good[:-1]), ([], good[:-1]))

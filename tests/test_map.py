@@ -1,4 +1,5 @@
-"""`examples/map` draws what the file of a desk has, and the same of a running desk; docs/map.svg is what README's commands make."""
+"""`examples/map` draws what the file of a desk has, and the same of a running desk; docs/map.svg is what README's
+commands make."""
 import csv
 import os
 import re
@@ -18,8 +19,14 @@ ROOT = os.path.join(HERE, '..')
 MAP = os.path.join(ROOT, 'examples', 'map')
 SVG = '{http://www.w3.org/2000/svg}'
 
-# Two vehicles: KIT/0001 has picked L1 up at N1 and may go to N2, KIT/0002 stands on N3; L3 is at C and L4 at the checking place.
-LINES = FIRST_EDGE + [accepted(state(2, 'O1', statuses=[('O1.0', 'FINISHED')])), vehicle('0002', 'N3'), load('L3', 'C'), load('L4')]
+# Two vehicles: KIT/0001 has picked L1 up at N1 and may go to N2, KIT/0002 stands on N3; L3 is at C and L4 at the
+# checking place.
+LINES = FIRST_EDGE + [
+    accepted(state(2, 'O1', statuses=[('O1.0', 'FINISHED')])),
+    vehicle('0002', 'N3'),
+    load('L3', 'C'),
+    load('L4'),
+]
 HELD = {'0001': (['N1', 'N2'], ['E12']), '0002': (['N3'], [])}
 
 
@@ -31,7 +38,8 @@ def drawn(*words):
 
 
 class Picture:
-    """What an SVG shows: of each node its place and its colour, of each edge its colour and its line, and the texts of each label."""
+    """What an SVG shows: of each node its place and its colour, of each edge its colour and its line, and the texts
+    of each label."""
 
     def __init__(self, data):
         root = ElementTree.fromstring(data)
@@ -40,7 +48,11 @@ class Picture:
         for group in root.iter(SVG + 'g'):
             if group.get('class') == 'node':
                 circle = group.find(SVG + 'circle')
-                self.nodes[group.get('data-node')] = (float(circle.get('cx')), float(circle.get('cy'))), circle.get('fill'), group.find(SVG + 'text').text
+                self.nodes[group.get('data-node')] = (
+                    (float(circle.get('cx')), float(circle.get('cy'))),
+                    circle.get('fill'),
+                    group.find(SVG + 'text').text,
+                )
             elif group.get('class') == 'edge':
                 line = group.find(SVG + 'line')
                 ends = [float(line.get(name)) for name in ('x1', 'y1', 'x2', 'y2')]
@@ -66,6 +78,7 @@ class Picture:
         def away(node):
             (x, y), _, _ = self.nodes[node]
             return max(left - x, 0, x - left - width) ** 2 + max(top - y, 0, y - top - height) ** 2
+
         return min(self.nodes, key=away)
 
 
@@ -87,13 +100,20 @@ class Map(unittest.TestCase):
         self.assertEqual(out.count(b'HTTP/1.1 200 OK'), len(LINES))
         picture = Picture(drawn('--db', self.db))
         self.assertEqual(set(picture.nodes), {'N1', 'N2', 'N3'})
-        self.assertEqual({name: said for name, (_, _, said) in picture.nodes.items()}, {name: name for name in picture.nodes})
+        self.assertEqual(
+            {name: said for name, (_, _, said) in picture.nodes.items()}, {name: name for name in picture.nodes}
+        )
         self.assertEqual(set(picture.edges), {'E12', 'E21', 'E23', 'E32'})
         self.check_colours(picture)
         self.check_places(picture)
         labels = {picture.nearest(box): words for box, words in picture.labels}
-        self.assertEqual(labels, {'N1': ['station A: 0 of 1', 'KIT/0001', 'L1'],
-                                  'N3': ['station B: 0 of 1', 'station C: 1 of 2', 'L3', 'KIT/0002']})
+        self.assertEqual(
+            labels,
+            {
+                'N1': ['station A: 0 of 1', 'KIT/0001', 'L1'],
+                'N3': ['station B: 0 of 1', 'station C: 1 of 2', 'L3', 'KIT/0002'],
+            },
+        )
         self.assertEqual(picture.foot, ['checking place: L4'])
 
     def check_colours(self, picture):
@@ -133,7 +153,9 @@ class Map(unittest.TestCase):
         """README's two lines make docs/map.svg: the same of everything, and places that are no pixel apart."""
         with open(os.path.join(ROOT, 'README.md')) as file:
             text = file.read()
-        serve, draw = re.search(r'^(\./desk replay .* < examples/map\.http) > /dev/null\n(examples/map .* > docs/map\.svg)$', text, re.M).groups()
+        serve, draw = re.search(
+            r'^(\./desk replay .* < examples/map\.http) > /dev/null\n(examples/map .* > docs/map\.svg)$', text, re.M
+        ).groups()
         words, source = serve.split(' < ')
         words = [self.db if word == 'map.db' else word for word in shlex.split(words)]
         with open(os.path.join(ROOT, source), 'rb') as file:
@@ -152,7 +174,9 @@ class Map(unittest.TestCase):
         """How far apart the numbers of two texts are that else are the same."""
         number = r'-?\d+\.\d'
         self.assertEqual(re.sub(number, '0', one), re.sub(number, '0', other))
-        return max([abs(float(a) - float(b)) for a, b in zip(re.findall(number, one), re.findall(number, other))], default=0)
+        return max(
+            [abs(float(a) - float(b)) for a, b in zip(re.findall(number, one), re.findall(number, other))], default=0
+        )
 
     def test_parts_that_nothing_joins(self):
         """They are drawn beside one another, and so is a layout of one node, or of none."""

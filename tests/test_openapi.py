@@ -1,5 +1,6 @@
-"""docs/openapi.json against the table of calls and a running desk: each path and method of the table is described and no other, each
-example is answered as it stands there, each answer fits its schema, and so do the answers to requests that can't be read."""
+"""docs/openapi.json against the table of calls and a running desk: each path and method of the table is described and
+no other, each example is answered as it stands there, each answer fits its schema, and so do the answers to requests
+that can't be read."""
 import json
 import os
 import re
@@ -31,8 +32,12 @@ SETUPS = DOCUMENT['x-setups']
 
 def operations():
     """Each method, path and operation of the document, with the parameters of its path."""
-    return [(method.upper(), path, item[method], item.get('parameters', []))
-            for path, item in DOCUMENT['paths'].items() for method in item if method in METHODS]
+    return [
+        (method.upper(), path, item[method], item.get('parameters', []))
+        for path, item in DOCUMENT['paths'].items()
+        for method in item
+        if method in METHODS
+    ]
 
 
 def is_kind(value, kind):
@@ -104,7 +109,11 @@ class Asked:
         connection = desk.connect()
         connection.request(method, path, data_of(body))
         answer = connection.getresponse()
-        self.status, self.kind, self.allow = answer.status, answer.getheader('Content-Type'), answer.getheader('Allow')
+        self.status, self.kind, self.allow = (
+            answer.status,
+            answer.getheader('Content-Type'),
+            answer.getheader('Allow'),
+        )
         self.data = answer.read()
         connection.close()
 
@@ -117,7 +126,7 @@ def wanted_of(operation, status):
     content = operation['responses'][str(status)].get('content')
     if content is None:
         return None
-    (kind, media), = content.items()
+    ((kind, media),) = content.items()
     return kind, media['schema'], media.get('examples', {})
 
 
@@ -135,7 +144,7 @@ def body_of(operation):
     """Of the operation's body: its type, its schema and its examples; none where it has none."""
     if 'requestBody' not in operation:
         return None
-    (kind, media), = operation['requestBody']['content'].items()
+    ((kind, media),) = operation['requestBody']['content'].items()
     return kind, media['schema'], media['examples']
 
 
@@ -143,7 +152,7 @@ class Document(unittest.TestCase):
     def test_the_paths_are_those_of_the_table(self):
         described = {(method, path) for method, path, _, _ in operations()}
         page = text_of('docs', 'HTTP.md')
-        page = page[page.index('## The table of calls'):page.index('## Answers')]
+        page = page[page.index('## The table of calls') : page.index('## Answers')]
         self.assertEqual(described, set(re.findall(r'^- `(\w+) (/\S+)`\.', page, re.M)))
         table = text_of('crates', 'agv_http', 'src', 'table.rt')
         lines = re.findall(r'Verb::(\w+),\s*"(/[^"]*)"', table)
@@ -154,18 +163,26 @@ class Document(unittest.TestCase):
         for _, path, _, parameters in operations():
             self.assertEqual(re.findall(r'\{(\w+)\}', path), [one['name'] for one in parameters])
             for one in parameters:
-                self.assertEqual((one['in'], one['required'], one['schema']), ('path', True, {'$ref': '#/components/schemas/Name'}))
+                self.assertEqual(
+                    (one['in'], one['required'], one['schema']), ('path', True, {'$ref': '#/components/schemas/Name'})
+                )
         names = [operation['operationId'] for _, _, operation, _ in operations()]
         self.assertEqual(len(names), len(set(names)))
 
     def test_the_refusals_are_those_of_the_page(self):
         """Each refusal has its number in its schema, and is answered with its status alone."""
         page = text_of('docs', 'HTTP.md')
-        rows = re.findall(r'^\| (\d+) \| (\w+) \| (\d+) \|', page[page.index('## All refusals'):], re.M)
+        rows = re.findall(r'^\| (\d+) \| (\w+) \| (\d+) \|', page[page.index('## All refusals') :], re.M)
         self.assertGreater(len(rows), 50)
-        told = {name[len('Refusal'):]: schema['properties'] for name, schema in SCHEMAS.items() if name.startswith('Refusal')}
-        self.assertEqual({name: ({'enum': [name]}, {'enum': [int(number)]}) for number, name, _ in rows},
-                         {name: (said['name'], said['refusal']) for name, said in told.items()})
+        told = {
+            name[len('Refusal') :]: schema['properties']
+            for name, schema in SCHEMAS.items()
+            if name.startswith('Refusal')
+        }
+        self.assertEqual(
+            {name: ({'enum': [name]}, {'enum': [int(number)]}) for number, name, _ in rows},
+            {name: (said['name'], said['refusal']) for name, said in told.items()},
+        )
         status_of = {name: status for _, name, status in rows}
         for _, path, operation, _ in operations():
             for status in operation['responses']:
@@ -178,26 +195,48 @@ class Document(unittest.TestCase):
         return re.findall(r'#/components/schemas/Refusal(\w+)', said)
 
     def test_the_checks_are_those_of_the_page(self):
-        """Each call's refusals of the statuses 404 and 409, but that for a path, are those which docs/CALLS.md names for it."""
+        """Each call's refusals of the statuses 404 and 409, but that for a path, are those which docs/CALLS.md names
+        for it."""
         page = text_of('docs', 'CALLS.md')
-        names = [name[len('Refusal'):] for name in SCHEMAS if name.startswith('Refusal')]
+        names = [name[len('Refusal') :] for name in SCHEMAS if name.startswith('Refusal')]
         for title, ids in {
-                'Set the layout': ['setLayout'], 'Register a vehicle': ['registerVehicle'], 'Pause, go on, cancel': ['startPause', 'stopPause', 'cancelOrder'],
-                'Place a vehicle': ['placeVehicle'], 'Begin anew': ['resync'], 'Register a load': ['registerLoad'], 'Correct its place': ['correctLoad'],
-                'It leaves': ['leaveLoad'], 'Stocktake': ['takeStock'], 'Add a job': ['addJob'], 'Take a job back': ['stopJob'], 'Start an order': ['startOrder'],
-                'Release more': ['advance'], 'A state': ['postState']}.items():
+            'Set the layout': ['setLayout'],
+            'Register a vehicle': ['registerVehicle'],
+            'Pause, go on, cancel': ['startPause', 'stopPause', 'cancelOrder'],
+            'Place a vehicle': ['placeVehicle'],
+            'Begin anew': ['resync'],
+            'Register a load': ['registerLoad'],
+            'Correct its place': ['correctLoad'],
+            'It leaves': ['leaveLoad'],
+            'Stocktake': ['takeStock'],
+            'Add a job': ['addJob'],
+            'Take a job back': ['stopJob'],
+            'Start an order': ['startOrder'],
+            'Release more': ['advance'],
+            'A state': ['postState'],
+        }.items():
             said = re.search(r'^\*\*%s\*\*(.*?)\n\n' % re.escape(title), page, re.S | re.M).group(1)
             for first, last in re.findall(r'from (\w+) to (\w+)\)', said):
-                said += ' ' + ' '.join(names[names.index(first):names.index(last) + 1])
+                said += ' ' + ' '.join(names[names.index(first) : names.index(last) + 1])
             wanted = {name for name in names if re.search(r'\b%s\b' % name, said)}
             self.assertTrue(wanted, title)
             for _, _, operation, _ in operations():
                 if operation['operationId'] in ids:
-                    found = {name for status in ('404', '409') if status in operation['responses'] for name in self.refusals(operation, status)}
-                    self.assertEqual(found - {'NoPath'}, wanted - ({'NoOrder'} if 'Pause' in operation['operationId'] else set()), title)
+                    found = {
+                        name
+                        for status in ('404', '409')
+                        if status in operation['responses']
+                        for name in self.refusals(operation, status)
+                    }
+                    self.assertEqual(
+                        found - {'NoPath'},
+                        wanted - ({'NoOrder'} if 'Pause' in operation['operationId'] else set()),
+                        title,
+                    )
 
     def test_the_examples_fit(self):
-        """A body that is refused for what its schema says doesn't fit it, and each other one does; each answer's example fits."""
+        """A body that is refused for what its schema says doesn't fit it, and each other one does; each answer's
+        example fits."""
         for _, path, operation, _ in operations():
             body, title = body_of(operation), operation['operationId']
             examples = operation['x-examples']
@@ -218,18 +257,27 @@ class Document(unittest.TestCase):
     def test_the_checker_finds_faults(self):
         """What must not fit: each rule of a schema once."""
         for value, schema in (
-                ({}, {'$ref': '#/components/schemas/NewLoad'}), ({'load': 'a b'}, {'$ref': '#/components/schemas/NewLoad'}),
-                ({'load': 'L1', 'station': 1}, {'$ref': '#/components/schemas/NewLoad'}), ('L1\n', {'$ref': '#/components/schemas/Name'}),
-                ({'a': 1}, {'$ref': '#/components/schemas/Done'}), (1.0, {'type': 'integer'}), (True, {'type': 'integer'}), (-1, {'$ref': '#/components/schemas/Number'}),
-                (4294967296, {'$ref': '#/components/schemas/Number'}), ([1, 'a'], {'type': 'array', 'items': {'type': 'integer'}}), (1, {'enum': [True]}),
-                (1, {'oneOf': [{'type': 'integer'}, {'enum': [1]}]})):
+            ({}, {'$ref': '#/components/schemas/NewLoad'}),
+            ({'load': 'a b'}, {'$ref': '#/components/schemas/NewLoad'}),
+            ({'load': 'L1', 'station': 1}, {'$ref': '#/components/schemas/NewLoad'}),
+            ('L1\n', {'$ref': '#/components/schemas/Name'}),
+            ({'a': 1}, {'$ref': '#/components/schemas/Done'}),
+            (1.0, {'type': 'integer'}),
+            (True, {'type': 'integer'}),
+            (-1, {'$ref': '#/components/schemas/Number'}),
+            (4294967296, {'$ref': '#/components/schemas/Number'}),
+            ([1, 'a'], {'type': 'array', 'items': {'type': 'integer'}}),
+            (1, {'enum': [True]}),
+            (1, {'oneOf': [{'type': 'integer'}, {'enum': [1]}]}),
+        ):
             self.assertNotEqual(faults(value, schema), [], (value, schema))
 
 
 @over_sockets
 class Answers(unittest.TestCase):
     def test_each_example(self):
-        """Over a new desk with what the example needs. What is refused or only asked changes nothing, so such examples share a desk."""
+        """Over a new desk with what the example needs. What is refused or only asked changes nothing, so such
+        examples share a desk."""
         shared, alone = {}, []
         for method, _, operation, _ in operations():
             for name, said in operation['x-examples'].items():
@@ -256,9 +304,15 @@ class Answers(unittest.TestCase):
         fits(self, operation, answer)
         wanted = wanted_of(operation, answer.status)
         if wanted:
-            told = answer.data.decode() if answer.kind != 'application/json' else json.loads(without_moments(answer.data))
+            told = (
+                answer.data.decode()
+                if answer.kind != 'application/json'
+                else json.loads(without_moments(answer.data))
+            )
             shown = wanted[2][name]['value']
-            self.assertEqual(told, shown if isinstance(shown, str) else json.loads(without_moments(json.dumps(shown).encode())))
+            self.assertEqual(
+                told, shown if isinstance(shown, str) else json.loads(without_moments(json.dumps(shown).encode()))
+            )
 
     def test_other_methods_and_paths(self):
         with tempfile.TemporaryDirectory() as folder, Serving(os.path.join(folder, 'desk.db')) as desk:
@@ -285,7 +339,7 @@ class Raw(unittest.TestCase):
         """One request as bytes, which is answered by a refusal that the operation has."""
         status, out, said = run('replay', '--db', 'memory', '--at', AT, stdin=data)
         self.assertEqual((status, said), (0, b''))
-        (code, body), = answers_of(out)
+        ((code, body),) = answers_of(out)
         self.assertEqual(json.loads(body)['name'], name, data)
         self.assertEqual(faults(json.loads(body), wanted_of(operation, code)[1]), [])
 
@@ -295,7 +349,11 @@ class Raw(unittest.TestCase):
             if not body:
                 continue
             head = '%s %s HTTP/1.1\r\nContent-Length: %%d\r\n\r\n' % (method, re.sub(r'\{\w+\}', 'X1', path))
-            for text, name in (('nonsense', 'BadCsv'),) if body[0] == 'text/csv' else (('{', 'BadJson'), ('{"x":0.5}', 'Fraction'), ('[]', 'BadBody')):
+            for text, name in (
+                (('nonsense', 'BadCsv'),)
+                if body[0] == 'text/csv'
+                else (('{', 'BadJson'), ('{"x":0.5}', 'Fraction'), ('[]', 'BadBody'))
+            ):
                 self.check(operation, (head % len(text) + text).encode(), name)
 
     def test_heads_that_are_refused(self):

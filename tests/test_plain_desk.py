@@ -1,5 +1,6 @@
-"""The program beside `bench/plain_desk.py`, which is another desk, in plain Python over another SQLite: both answer the same bytes to the
-scripts, to the examples of docs/openapi.json, and to random lawful traffic as `bench/soak` makes it."""
+"""The program beside `bench/plain_desk.py`, which is another desk, in plain Python over another SQLite: both answer
+the same bytes to the scripts, to the examples of docs/openapi.json, and to random lawful traffic as `bench/soak`
+makes it."""
 import importlib.machinery
 import importlib.util
 import os
@@ -50,7 +51,8 @@ class BesideAPlainDesk(unittest.TestCase):
                 self.assertEqual(self.check(b''.join(map(bytes_of, lines))), len(lines))
 
     def test_examples_of_the_description(self):
-        """What is refused or only asked goes behind its setup in one stream; each other example has a stream of its own."""
+        """What is refused or only asked goes behind its setup in one stream; each other example has a stream of its
+        own."""
         for before in SETUPS:
             front = [as_bytes(one['method'], one['path'], one.get('body')) for one in requests_before(before)]
             quiet, streams = [], []
@@ -58,7 +60,11 @@ class BesideAPlainDesk(unittest.TestCase):
                 body = body_of(operation)
                 for name, said in operation['x-examples'].items():
                     if said['before'] == before:
-                        line = as_bytes(method, said['path'], body[2][name]['value'] if body else ('' if method == 'POST' else None))
+                        line = as_bytes(
+                            method,
+                            said['path'],
+                            body[2][name]['value'] if body else ('' if method == 'POST' else None),
+                        )
                         if method == 'GET' or said['status'] != 200:
                             quiet.append(line)
                         else:
@@ -75,7 +81,9 @@ class BesideAPlainDesk(unittest.TestCase):
         chance = random.Random(seed)
         for number, node in enumerate(chance.sample(model.layout.nodes, vehicles), 1):
             model.register_vehicle('%04d' % number, node)
-            data.append(as_bytes('POST', '/vehicles', {'manufacturer': 'KIT', 'serialNumber': '%04d' % number, 'node': node}))
+            data.append(
+                as_bytes('POST', '/vehicles', {'manufacturer': 'KIT', 'serialNumber': '%04d' % number, 'node': node})
+            )
         traffic = module.Traffic(model, chance)
         for _ in range(count):
             method, path, body, _ = traffic.next()

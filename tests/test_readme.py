@@ -1,5 +1,5 @@
-"""The sessions with curl that README.md and docs/HTTP.md show, as they stand there: each command is run against a desk on a new file,
-and what it writes is what the page shows. Only the port and the moments differ."""
+"""The sessions with curl that README.md and docs/HTTP.md show, as they stand there: each command is run against a
+desk on a new file, and what it writes is what the page shows. Only the port and the moments differ."""
 import os
 import re
 import shlex
@@ -46,7 +46,13 @@ def without_moments(text):
 
 def words_of_serving(blocks):
     """The words behind `./desk` of the section's line that starts the desk."""
-    lines = [line for language, text in blocks if language == '' for line in text.splitlines() if line.startswith('./desk serve ')]
+    lines = [
+        line
+        for language, text in blocks
+        if language == ''
+        for line in text.splitlines()
+        if line.startswith('./desk serve ')
+    ]
     if len(lines) != 1:
         raise AssertionError(lines)
     return shlex.split(lines[0])[1:]
@@ -66,8 +72,13 @@ class Pages(unittest.TestCase):
             with Serving(db, words[6]) as desk:
                 script = ''.join('%s\necho "%s"\n' % (commands, END) for commands, _ in session)
                 self.assertIn(':' + PORT, script)
-                done = subprocess.run(['sh', '-e', '-c', script.replace(':' + PORT, ':%d' % desk.port)], capture_output=True, text=True,
-                                      cwd=folder, timeout=120)
+                done = subprocess.run(
+                    ['sh', '-e', '-c', script.replace(':' + PORT, ':%d' % desk.port)],
+                    capture_output=True,
+                    text=True,
+                    cwd=folder,
+                    timeout=120,
+                )
             self.assertEqual((done.returncode, done.stderr), (0, ''))
             told = done.stdout.split(END + '\n')
             self.assertEqual(told.pop(), '')
@@ -78,7 +89,7 @@ class Pages(unittest.TestCase):
 
     def questions(self, folder):
         """What README asks of the file once the desk is stopped; each line as `sqlite3` writes it."""
-        (commands, answers), = session_of(blocks_of('README.md', 'What is in the file'))
+        ((commands, answers),) = session_of(blocks_of('README.md', 'What is in the file'))
         told = []
         for line in commands.splitlines():
             name, file, question = shlex.split(line)
@@ -99,25 +110,50 @@ class Pages(unittest.TestCase):
 class Lines(unittest.TestCase):
     def test_pages_keep_their_width(self):
         """Each line of a page but the rows of tables, which can't be broken."""
-        pages = [os.path.join(ROOT, 'README.md')] + [os.path.join(ROOT, 'docs', name) for name in os.listdir(os.path.join(ROOT, 'docs')) if name.endswith('.md')]
+        pages = [os.path.join(ROOT, 'README.md')] + [
+            os.path.join(ROOT, 'docs', name)
+            for name in os.listdir(os.path.join(ROOT, 'docs'))
+            if name.endswith('.md')
+        ]
         self.assertGreater(len(pages), 10)
         for page in pages:
             with open(page) as file:
-                self.assertEqual([line for line in file.read().splitlines() if len(line) >= 100 and not line.startswith('|')], [], page)
+                self.assertEqual(
+                    [line for line in file.read().splitlines() if len(line) >= 100 and not line.startswith('|')],
+                    [],
+                    page,
+                )
 
     def test_the_questions_of_the_page(self):
-        """Each question of docs/TABLES.md is answered by the file of a desk, here at the end of the worked transport: L1 is at B, and
-        the vehicle holds N3 alone."""
+        """Each question of docs/TABLES.md is answered by the file of a desk, here at the end of the worked transport:
+        L1 is at B, and the vehicle holds N3 alone."""
         text = blocks_of('docs/TABLES.md', 'Questions that a person may ask')[0][1]
         questions = ' '.join(line for line in text.splitlines() if not line.startswith('--')).split(';')[:-1]
         with tempfile.TemporaryDirectory() as folder:
             db = os.path.join(folder, 'desk.db')
             with open(os.path.join(ROOT, 'examples', 'transport.http'), 'rb') as requests:
-                self.assertEqual(subprocess.run([DESK, 'replay', '--db', db, '--at', '0'], stdin=requests, stdout=subprocess.DEVNULL, timeout=60).returncode, 0)
+                self.assertEqual(
+                    subprocess.run(
+                        [DESK, 'replay', '--db', db, '--at', '0'],
+                        stdin=requests,
+                        stdout=subprocess.DEVNULL,
+                        timeout=60,
+                    ).returncode,
+                    0,
+                )
             base = sqlite3.connect(db)
             told = [base.execute(question).fetchall() for question in questions]
             base.close()
-        self.assertEqual(told, [[('L1', 'station', 'B')], [('A', 1, 0, 0), ('B', 1, 1, 0), ('C', 2, 0, 0)], [('node', 'N3', 'KIT/0001')], [], []])
+        self.assertEqual(
+            told,
+            [
+                [('L1', 'station', 'B')],
+                [('A', 1, 0, 0), ('B', 1, 1, 0), ('C', 2, 0, 0)],
+                [('node', 'N3', 'KIT/0001')],
+                [],
+                [],
+            ],
+        )
 
     def test_the_command_that_replays(self):
         """The second command of README answers each request of the file that it is given."""

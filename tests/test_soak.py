@@ -1,5 +1,5 @@
-"""A short run of `bench/soak`: random lawful traffic of a few vehicles, each answer and the rows of the file as its model has them. The
-variable SOAK sets its seconds."""
+"""A short run of `bench/soak`: random lawful traffic of a few vehicles, each answer and the rows of the file as its
+model has them. The variable SOAK sets its seconds."""
 import importlib.machinery
 import importlib.util
 import os
@@ -17,8 +17,12 @@ SECONDS = os.environ.get('SOAK', '5')
 @over_sockets
 class Soak(unittest.TestCase):
     def test_a_short_run(self):
-        done = subprocess.run([sys.executable, SOAK, '--program', DESK, '--vehicles', '12', '--seconds', SECONDS, '--seed', '7'],
-                              capture_output=True, text=True, timeout=float(SECONDS) + 120)
+        done = subprocess.run(
+            [sys.executable, SOAK, '--program', DESK, '--vehicles', '12', '--seconds', SECONDS, '--seed', '7'],
+            capture_output=True,
+            text=True,
+            timeout=float(SECONDS) + 120,
+        )
         self.assertEqual((done.returncode, done.stderr), (0, ''))
         said = re.search(r'^end: (\d+) requests .* each answered as the model says', done.stdout, re.M)
         self.assertIsNotNone(said, done.stdout)
@@ -43,18 +47,43 @@ class Model(unittest.TestCase):
         with self.assertRaises(soak.Refused) as refused:
             model.start_order('O1', 'J1', '0001', 1)
         self.assertEqual(refused.exception.answer, (409, {'name': 'NotReady', 'refusal': 41}))
-        told = {'headerId': 1, 'orderId': '', 'orderUpdateId': 0, 'lastNodeId': 'N01-00', 'lastNodeSequenceId': 0, 'nodeStates': [], 'actionStates': [],
-                'operatingMode': 'AUTOMATIC', 'errors': [], 'paused': False, 'safetyState': {'eStop': 'NONE'}}
+        told = {
+            'headerId': 1,
+            'orderId': '',
+            'orderUpdateId': 0,
+            'lastNodeId': 'N01-00',
+            'lastNodeSequenceId': 0,
+            'nodeStates': [],
+            'actionStates': [],
+            'operatingMode': 'AUTOMATIC',
+            'errors': [],
+            'paused': False,
+            'safetyState': {'eStop': 'NONE'},
+        }
         self.assertEqual(model.state('0001', told), (200, {'accepted': True}))
         self.assertEqual(model.state('0001', told), (200, {'accepted': False}))
         self.assertEqual(model.start_order('O1', 'J1', '0001', 1), (200, {'orderUpdateId': 0}))
-        self.assertEqual(model.holds, {'node N01-00': '0001', 'edge 01-00.01-01': '0001', 'node N01-01': '0001', 'node N01-02': '0002'})
-        picked = dict(told, headerId=2, orderId='O1', lastNodeId='N01-01', lastNodeSequenceId=2, actionStates=[{'actionId': 'O1.0', 'actionStatus': 'FINISHED'}])
+        self.assertEqual(
+            model.holds,
+            {'node N01-00': '0001', 'edge 01-00.01-01': '0001', 'node N01-01': '0001', 'node N01-02': '0002'},
+        )
+        picked = dict(
+            told,
+            headerId=2,
+            orderId='O1',
+            lastNodeId='N01-01',
+            lastNodeSequenceId=2,
+            actionStates=[{'actionId': 'O1.0', 'actionStatus': 'FINISHED'}],
+        )
         self.assertEqual(model.state('0001', picked), (200, {'accepted': True}))
-        self.assertEqual((model.loads['L1'], model.holds), ('vehicle KIT/0001', {'node N01-01': '0001', 'node N01-02': '0002'}))
+        self.assertEqual(
+            (model.loads['L1'], model.holds), ('vehicle KIT/0001', {'node N01-01': '0001', 'node N01-02': '0002'})
+        )
         with self.assertRaises(soak.Refused) as refused:
             model.advance('0001', 'O1', 1, 2)
-        self.assertEqual(refused.exception.answer, (409, {'by': 'KIT/0002', 'name': 'Held', 'refusal': 33, 'what': 'node N01-02'}))
+        self.assertEqual(
+            refused.exception.answer, (409, {'by': 'KIT/0002', 'name': 'Held', 'refusal': 33, 'what': 'node N01-02'})
+        )
 
 
 if __name__ == '__main__':
