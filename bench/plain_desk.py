@@ -1,8 +1,10 @@
 """A plain desk to compare with: all calls of the table, in Python over the SQLite of C, by WAL with
 `synchronous=FULL` and one commit a call, over the same eleven tables with the same indexes. It keeps the layout in
-memory. It reads requests from standard input, writes the answers to standard output, and proves nothing.
+memory. It reads requests from standard input, writes the answers to standard output, and proves nothing; with a
+port it serves one connection instead.
 
     python3 bench/plain_desk.py FILE|:memory: [MILLIS] < requests
+    python3 bench/plain_desk.py FILE|:memory: MILLIS PORT
 """
 import csv
 import datetime
@@ -10,6 +12,7 @@ import io
 import json
 import os
 import re
+import socket
 import sqlite3
 import sys
 
@@ -920,8 +923,19 @@ def served(method, target, body):
         return answer(status, 'json', compact(dict(refused.more, name=refused.name, refusal=code)), allow)
 
 
+def streams():
+    """Standard input and output, or those of one connection on the port that is the third word."""
+    if len(sys.argv) < 4:
+        return sys.stdin.buffer, sys.stdout.buffer
+    listener = socket.create_server(('127.0.0.1', int(sys.argv[3])))
+    print('listening on 127.0.0.1:%d' % listener.getsockname()[1], flush=True)
+    connection, _ = listener.accept()
+    connection.setsockopt(socket.IPPROTO_TCP, socket.TCP_NODELAY, 1)
+    return connection.makefile('rb'), connection.makefile('wb')
+
+
 def main():
-    source, out = sys.stdin.buffer, sys.stdout.buffer
+    source, out = streams()
     while True:
         first = source.readline()
         if not first:

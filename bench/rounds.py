@@ -47,7 +47,8 @@ class Rounds:
     def round(self):
         self.number += 1
         n = self.number
-        load, job, stopped, order = 'A%06d' % n, 'P%06d' % n, 'Q%06d' % n, 'O%06d' % n
+        load, job, stopped, back = 'A%06d' % n, 'P%06d' % n, 'Q%06d' % n, 'R%06d' % n
+        order, second = 'O%06d' % n, 'T%06d' % n
         pick, drop = order + '.0', order + '.1'
         yield 'register a load', request('POST', '/loads', {'load': load, 'station': 'A'})
         yield 'add a job', request('POST', '/jobs', {'job': stopped, 'load': load, 'to': 'B'})
@@ -62,6 +63,10 @@ class Rounds:
         dropped = self.next_state(order=order, update=1, node='N3', seq=4, actions=[(pick, 'FINISHED'), (drop, 'FINISHED')])
         yield 'a state: dropped, the order ends', dropped
         yield 'the same state again', dropped
+        yield 'add a job', request('POST', '/jobs', {'job': back, 'load': load, 'to': 'A'})
+        yield 'start an order', request('POST', '/orders', {'order': second, 'job': back, **VEHICLE, 'edges': 1})
+        yield 'cancel an order', request('POST', '/vehicles/KIT/0001/cancel')
+        yield 'a state: the cancel is done', self.next_state(order=second, node='N3', nodes=[('N2', 2)], actions=[(self.next_instant(), 'FINISHED')])
         yield 'correct a load', request('POST', '/loads/%s/correct' % load, {'ref': 'C%06d' % n})
         yield 'get a load', request('GET', '/loads/' + load)
         yield 'get a vehicle', request('GET', '/vehicles/KIT/0001')
@@ -69,8 +74,9 @@ class Rounds:
         yield 'place a vehicle', request('POST', '/vehicles/KIT/0001/place', {'ref': 'E%06d' % n, 'node': 'N1'})
         yield 'pause', request('POST', '/vehicles/KIT/0001/pause')
         yield 'get an instantActions message', request('GET', '/uagv/v2/KIT/0001/instantActions')
-        yield 'a state: the pause is done', self.next_state(order=order, update=1, node='N1', seq=4,
-                                                             actions=[(pick, 'FINISHED'), (drop, 'FINISHED'), (self.next_instant(), 'FINISHED')])
+        yield 'a state: the pause is done', self.next_state(order=second, actions=[(self.next_instant(), 'FINISHED')])
+        yield 'resume', request('POST', '/vehicles/KIT/0001/resume')
+        yield 'a state: resumed', self.next_state(order=second, actions=[(self.next_instant(), 'FINISHED')])
         yield 'begin anew', request('POST', '/vehicles/KIT/0001/resync')
         yield 'a state without an order', self.next_state()
         yield 'stocktake of two stations', request('POST', '/stocktakes/F%06d' % n, 'station,load\nA,\nB,\n')

@@ -2,7 +2,8 @@
 have ended: the wall time from the last byte of the request written to the answer read, the median of some rounds, and the
 instructions of the program for it. Beside, in the same run and on copies of the same files, the statements that the desk carries out
 for the call (bench/statements.txt) by the SQLite of C (bench/plain_calls.c; WAL, synchronous=FULL, each text prepared once). Besides
-the time and the memory of an opening. Python's standard library, gcc with SQLite's header and library, and valgrind.
+the time and the memory of an opening, and the time in which C reads all rows of the tables. The layout and the vehicle are set once,
+and reports are in bench/many_loads.py. Python's standard library, gcc with SQLite's header and library, and valgrind.
 
     DESK=crates/agv_app/out/agv_app python3 bench/statements.py [SIZE..]
 """
@@ -114,8 +115,8 @@ def instructions(name, folder):
     return {what: statistics.mean(some) for what, some in counts.items()}
 
 
-def plain_times(plain, name):
-    done = subprocess.run([plain, name, os.path.join(HERE, 'statements.txt'), str(TURNS)], capture_output=True, check=True, text=True)
+def plain_times(plain, name, statements=os.path.join(HERE, 'statements.txt'), turns=TURNS):
+    done = subprocess.run([plain, name, statements, str(turns)], capture_output=True, check=True, text=True)
     return {what: float(spent) for what, spent in (line.rsplit(None, 1) for line in done.stdout.splitlines())}
 
 
@@ -142,14 +143,19 @@ def main():
         subprocess.run(['gcc', '-O2', '-o', plain, os.path.join(HERE, 'plain_calls.c'), '-lsqlite3'], check=True)
         start = os.path.join(folder, 'start.db')
         subprocess.run([DESK, 'replay', '--db', start, '--at', rounds.AT], input=b''.join(rounds.START), stdout=subprocess.DEVNULL, check=True)
+        tables = os.path.join(folder, 'tables.txt')
+        with open(tables, 'w') as file:
+            file.write('= opening\n' + ''.join('SELECT * FROM %s\n' % name for name in (
+                'meta', 'node', 'edge', 'station', 'vehicle', 'trip', 'leg', 'load', 'job', 'hold', 'used')))
         for size in sizes:
             rounds.fill(start, size)
             run = os.path.join(folder, 'run.db')
             ours, opened, memory = times(copied(start, run))
             theirs = plain_times(plain, copied(start, run))
+            read = plain_times(plain, copied(start, run), tables, 1)['opening']
             counts = instructions(copied(start, run), folder)
             plain_counts = plain_instructions(plain, copied(start, run), folder)
-            print('%d loads and ended jobs: opened in %.2f s, %d MB' % (size, opened, memory // 1024))
+            print('%d loads and ended jobs: opened in %.2f s, %d MB; SQLite reads the rows in %.2f s' % (size, opened, memory // 1024, read))
             print('%-34s %10s %10s %6s %12s %12s' % ('', 'desk, us', 'SQLite, us', 'times', 'desk, instr.', 'SQLite'))
             for what in ours:
                 print('%-34s %10.0f %10.0f %6.2f %12d %12d' % (what, ours[what] * 1e6, theirs[what] * 1e6, ours[what] / theirs[what],

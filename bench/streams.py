@@ -82,9 +82,9 @@ def counted(name, before, requests, folder):
         print('%-24s %-7s %9d instructions' % (name, 'memory' if db == 'memory' else 'file', (figures[1] - figures[0]) // 100), flush=True)
 
 
-def sockets(count, folder):
-    db = os.path.join(folder, 'served.db')
-    desk = subprocess.Popen([DESK, 'serve', '--db', db, '--port', '0', '--connections', '1'], stdout=subprocess.PIPE)
+def sockets(words, count):
+    """The seconds in which a desk answers so many registrations over one connection, the client's own time among them."""
+    desk = subprocess.Popen(words, stdout=subprocess.PIPE)
     port = int(desk.stdout.readline().split(b':')[1])
     connection = http.client.HTTPConnection('127.0.0.1', port)
     begun = time.perf_counter()
@@ -98,6 +98,7 @@ def sockets(count, folder):
     return spent
 
 
+
 with tempfile.TemporaryDirectory() as folder:
     file = os.path.join(folder, 'desk.db')
     plain = os.path.join(folder, 'plain.db')
@@ -108,7 +109,9 @@ with tempfile.TemporaryDirectory() as folder:
         if out.count(b'200 OK') - 2 != count or plain_out != out:
             sys.exit('not all requests were answered 200, and alike')
         print('%6d mixed requests, %-6s  desk %7.3f s, plain desk %7.3f s' % (count, where, ours, theirs), flush=True)
-    print('%6d registrations over one connection, file  %7.3f s' % (2_000, sockets(2_000, folder)), flush=True)
+    ours = sockets([DESK, 'serve', '--db', os.path.join(folder, 'served.db'), '--port', '0', '--connections', '1'], 2_000)
+    theirs = sockets([sys.executable, PLAIN, os.path.join(folder, 'plain_served.db'), AT, '0'], 2_000)
+    print('%6d registrations over one connection, file: desk %d requests a second, plain desk %d' % (2_000, 2_000 / ours, 2_000 / theirs), flush=True)
     counted('registration', START, [load(i) for i in range(200)], folder)
     counted('state', START, [state(i + 1) for i in range(200)], folder)
     orders = START + state(1) + request('POST', '/loads', {'load': 'L1', 'station': 'A'}) + request('POST', '/jobs', {'job': 'J1', 'load': 'L1', 'to': 'B'}) + request(

@@ -7,7 +7,7 @@ import time
 import unittest
 
 DESK = os.path.join(os.path.dirname(os.path.abspath(__file__)), '..', 'desk')
-TOOLS = ('awk', 'cat', 'cp', 'date', 'dirname', 'find', 'flock', 'head', 'mkdir', 'mktemp', 'mv', 'rm', 'sed', 'sh', 'sleep', 'tail', 'touch', 'wc')
+TOOLS = ('awk', 'cat', 'cmp', 'cp', 'date', 'dirname', 'find', 'flock', 'head', 'mkdir', 'mktemp', 'mv', 'rm', 'sed', 'sh', 'sleep', 'tail', 'touch', 'wc')
 
 CRATES = """# a comment
 agv_low:
@@ -72,7 +72,7 @@ class DeskScript(unittest.TestCase):
 
     def run_desk(self, *words):
         process = self.start(*words)
-        out, said = process.communicate(timeout=30)
+        out, said = process.communicate(timeout=120)
         return process.returncode, out, said
 
     def calls(self):
@@ -97,8 +97,8 @@ class DeskScript(unittest.TestCase):
     def test_it_builds_anew_where_a_source_is_newer(self):
         self.run_desk()
         later = time.time() + 10
-        watched = ['crates/agv_app/src/lib.rt', 'crates/agv_low/specs/Lib.antt', 'crates/agv_middle/proofs/Lib.antt', 'crates.txt']
-        others = ['crates/agv_low/must-fail/one.edit', 'crates/agv_tests/src/lib.rt', 'crates/agv_low/out/old', 'desk']
+        watched = ['crates/agv_app/src/lib.rt', 'crates/agv_low/specs/Lib.antt', 'crates/agv_middle/proofs/Lib.antt']
+        others = ['crates.txt', 'crates/agv_low/must-fail/one.edit', 'crates/agv_tests/src/lib.rt', 'crates/agv_low/out/old', 'desk']
         for path in others:
             os.utime(os.path.join(self.top, path), (later, later))
         self.assertEqual(self.run_desk(), (3, '|', ''))
@@ -109,6 +109,15 @@ class DeskScript(unittest.TestCase):
             self.assertEqual(self.run_desk()[0], 3)
             self.assertEqual(self.calls(), ['ci'] * number, path)
             os.utime(path, (0, 0))
+
+    def test_it_builds_anew_where_a_line_of_its_crates_is_another(self):
+        self.run_desk()
+        self.write('crates.txt', CRATES + 'agv_more: agv_app\n')
+        self.assertEqual(self.run_desk(), (3, '|', ''))
+        self.assertEqual(self.calls(), ['ci'])
+        self.write('crates.txt', CRATES.replace('agv_middle: agv_low', 'agv_middle: agv_low kit_crate'))
+        self.assertEqual(self.run_desk()[0], 3)
+        self.assertEqual(self.calls(), ['ci', 'ci'])
 
     def test_a_failed_build_is_told_and_nothing_is_run(self):
         self.write(os.path.join(self.notes, 'fails'), '')
@@ -140,7 +149,7 @@ class DeskScript(unittest.TestCase):
     def test_two_at_once_build_once(self):
         self.write(os.path.join(self.notes, 'slow'), '')
         both = [self.start('a'), self.start('b')]
-        told = [process.communicate(timeout=30) for process in both]
+        told = [process.communicate(timeout=120) for process in both]
         self.assertEqual([process.returncode for process in both], [3, 3])
         self.assertEqual([out for out, _ in told], ['a|', 'b|'])
         self.assertEqual(self.calls(), ['ci'])

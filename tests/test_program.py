@@ -17,6 +17,7 @@ import subprocess
 import sys
 import tempfile
 import threading
+import time
 import unittest
 
 HERE = os.path.dirname(os.path.abspath(__file__))
@@ -182,6 +183,30 @@ class Replay(ProgramTest):
             self.assertEqual(base.execute('SELECT * FROM load').fetchall(), [(load, 'checking', None, None, None) for load in loads])
             base.close()
 
+    def test_a_copy_by_another_sqlite(self):
+        """What README says of a backup: a copy by SQLite's own means is a desk's file, with the same report."""
+        self.replay(self.transport)
+        copy = os.path.join(self.folder.name, 'copy.db')
+        base, other = sqlite3.connect(self.db), sqlite3.connect(copy)
+        base.backup(other)
+        base.close()
+        other.close()
+        told = run('report', '--db', copy, 'stock')
+        self.assertEqual((told[0], told[2]), (0, b''))
+        self.assertIn(b'  L1\n', told[1])
+        self.assertEqual(told, run('report', '--db', self.db, 'stock'))
+
+    def test_the_program_is_one_file(self):
+        """A copy in an empty folder runs with an empty environment, and loads nothing of the kit."""
+        alone = os.path.join(self.folder.name, 'alone')
+        os.mkdir(alone)
+        shutil.copy(DESK, os.path.join(alone, 'desk'))
+        done = subprocess.run(['./desk', 'replay', '--db', 'memory', '--at', AT], cwd=alone, env={}, input=b'GET /loads/L1 HTTP/1.1\r\n\r\n', capture_output=True, timeout=60)
+        self.assertEqual((done.returncode, done.stderr), (0, b''))
+        self.assertTrue(done.stdout.endswith(b'{"name":"NoLoad","refusal":23}'))
+        loads = subprocess.run(['ldd', DESK], capture_output=True, text=True).stdout
+        self.assertNotIn('rattle', loads)
+
     def test_the_file_is_a_database(self):
         self.replay(self.transport)
         base = sqlite3.connect(self.db)
@@ -218,6 +243,16 @@ class Serve(ProgramTest):
         with Serving(self.db, 1) as desk:
             self.assertEqual(desk.ask('GET', '/loads/L1')[0], 404)
             self.assertEqual(desk.process.wait(30), 0)
+
+    def test_a_request_of_http_1_0(self):
+        """It is answered to the byte, and the connection ends behind it."""
+        with Serving(self.db) as desk:
+            plain = desk.plain()
+            plain.sendall(b'GET /loads/L1 HTTP/1.0\r\n\r\n')
+            self.assertEqual(read_all(plain), (
+                b'HTTP/1.1 404 Not Found\r\nContent-Length: 30\r\nContent-Type: application/json\r\nConnection: close\r\n\r\n'
+                b'{"name":"NoLoad","refusal":23}'))
+            plain.close()
 
     def test_no_connection_at_all(self):
         status, out, said = run('serve', '--db', self.db, '--port', '0', '--connections', '0')
@@ -282,6 +317,21 @@ class Serve(ProgramTest):
         self.assertRegex(said.encode(), MOMENT)
         moment = datetime.datetime.fromisoformat(said[:-1] + '0+00:00')
         self.assertLess(abs((moment - before).total_seconds()), 60)
+
+    def test_a_connection_has_one_moment(self):
+        """An order and an instant action of one connection have its moment, though a second lies between them."""
+        requests = requests_of(self.transport)
+        order = [target.endswith('/order') for _, target, _ in requests].index(True)
+        with Serving(self.db) as desk:
+            connection = desk.connect()
+            for request in requests[:order]:
+                self.assertEqual(desk.ask(*request, connection)[0], 200)
+            first = json.loads(desk.ask(*requests[order], connection)[1])
+            time.sleep(1.1)
+            self.assertEqual(desk.ask('POST', '/vehicles/KIT/0001/pause', None, connection)[0], 200)
+            second = json.loads(desk.ask('GET', '/uagv/v2/KIT/0001/instantActions', None, connection)[1])
+            connection.close()
+        self.assertEqual(first['timestamp'], second['timestamp'])
 
 
 @over_sockets
@@ -358,7 +408,8 @@ class Full(ProgramTest):
 @over_sockets
 class Demo(ProgramTest):
     def test_three_vehicles_on_one_ring(self):
-        """The demo ends once each load is where it is to go; and no node or edge is held by two vehicles at a time."""
+        """Each load ends at the station to which its job goes, as the report at the end has it; and no node or edge is held by two
+        vehicles at a time."""
         demo = os.path.join(HERE, '..', 'examples', 'demo')
         done = subprocess.run([sys.executable, demo, '--program', DESK, '--step', '0.01'], capture_output=True, timeout=120)
         self.assertEqual((done.returncode, done.stderr), (0, b''))
@@ -367,6 +418,9 @@ class Demo(ProgramTest):
         for line in lines:
             things = [thing for thing in re.sub(r'KIT/\d+:', '', line.split(' s  ')[1]).split()]
             self.assertEqual(len(things), len(set(things)), line)
+        wanted = ''.join('station T%d at S%d: 1 of 9, reserved 0\n  L-000%d-%d\n' % (n, n, (n - 1) % 3 + 1, n <= 3) for n in range(1, 7))
+        wanted += 'checking: 0\n' + ''.join('vehicle KIT/000%d: 0\n' % n for n in (1, 2, 3)) + 'left: 0\n'
+        self.assertTrue(done.stdout.decode().endswith(wanted), done.stdout.decode())
 
 
 @over_sockets

@@ -236,8 +236,8 @@ class Scripts(unittest.TestCase):
         self.assertEqual(len(told), len(requests_of(data)))
         self.assertEqual({status for status, _ in told}, {200})
 
-    def test_each_prefix(self):
-        """Of two registrations and a cut one each front is served up to its last whole request, and then refused, or at its end."""
+    def test_fronts_of_an_input(self):
+        """Of two registrations and a cut one each third front is served up to its last whole request, and then refused, or at its end."""
         first = b'POST /loads HTTP/1.1\r\nContent-Length: 13\r\n\r\n{"load":"L1"}'
         second = first.replace(b'L1', b'L2')
         whole = first + second + first[:-8]
