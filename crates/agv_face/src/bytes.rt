@@ -63,7 +63,7 @@ pub(crate) fn read_some<R: Read>(
 }
 
 /// Writes all the bytes, and tells whether they were written. A write that takes none is a fault, and so is any error.
-pub(crate) fn write_whole<W: Write>(writer: &mut Watched<W>, bytes: &[u8]) -> bool
+pub fn write_whole<W: Write>(writer: &mut Watched<W>, bytes: &[u8]) -> bool
     ensures { IsPutWhole W.contents writer.old writer.new bytes.now result }
 {
     let mut done = 0;

@@ -26,6 +26,7 @@ mod served;
 mod stream;
 mod watched;
 
+pub use bytes::write_whole;
 pub use served::{Ended, Served, StreamFault};
 pub use stream::{serve_stream, serve_stream_within};
 pub use watched::Watched;
