@@ -104,9 +104,9 @@ with tempfile.TemporaryDirectory() as folder:
     for count, where in ((20_000, 'memory'), (2_000, 'file')):
         stdin = mixed(count)
         ours, out = best([DESK, 'replay', '--db', 'memory' if where == 'memory' else file, '--at', AT], START + stdin, file)
-        theirs, plain_out = best([sys.executable, PLAIN, ':memory:' if where == 'memory' else plain], stdin, plain)
-        if out.count(b'200 OK') - 2 != count or plain_out.count(b'200 OK') != count:
-            sys.exit('not all requests were answered 200')
+        theirs, plain_out = best([sys.executable, PLAIN, ':memory:' if where == 'memory' else plain, AT], START + stdin, plain)
+        if out.count(b'200 OK') - 2 != count or plain_out != out:
+            sys.exit('not all requests were answered 200, and alike')
         print('%6d mixed requests, %-6s  desk %7.3f s, plain desk %7.3f s' % (count, where, ours, theirs), flush=True)
     print('%6d registrations over one connection, file  %7.3f s' % (2_000, sockets(2_000, folder)), flush=True)
     counted('registration', START, [load(i) for i in range(200)], folder)

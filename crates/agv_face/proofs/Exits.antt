@@ -1,20 +1,23 @@
 -- How a stream goes on or ends after its next request.
-use Rattle.std.proofs.Common.{◌≡◌, ◌+◌, ◌<◌, ◌≤◌, ◌++◌, ℕ, Bool, true, false, not, nat_lt, if◌then◌else◌, List, [], length, codes, Option, Result, Ok, Err, drop, inl, inr, refl, sym, ap, ◌∙◌, subst}
+use Rattle.std.proofs.Common.{◌≡◌, ◌+◌, ◌<◌, ◌≤◌, ◌⊎◌, ◌++◌, ℕ, Bool, true, false, not, nat_lt, if◌then◌else◌, List, [], ◌∷◌, length, codes, Option, Result, Ok, Err, drop, inl, inr, refl, sym, ap, ◌∙◌, subst}
 use Rattle.std.specs.Io.KnownBytes.{Appends, Keeps}
 use Rattle.sqlite_trees.specs.declared.store.Store.{Ghosts}
 use Rattle.agv_header.specs.declared.refusal.Refusal.{Refusal}
+use Rattle.agv_header.specs.declared.refusal.Refusal.TheVariants as refusal
 use Rattle.agv_http.specs.Lines.{Length, absent, content_length, given, has_line, wrong}
+use Rattle.agv_http.specs.Output.{calls_of}
 use Rattle.agv_http.specs.Requests.{IsFault, length_needed, lines_of, most_body, sends_body}
-use Rattle.agv_http.specs.StreamEnds.{IsOfMachine}
+use Rattle.agv_http.specs.StreamEnds.{HasCallNext, HasMachineFault, IsOfMachine}
 use Rattle.agv_http.specs.declared.request.Heard.TheVariants as heard
 use Rattle.agv_store.specs.Floors.{Keyed, Knows, world_at}
 use Rattle.agv_tables.specs.sql.Connections.{IsClean, IsOpen}
 use Rattle.agv_world.specs.declared.fault.Fault.{Fault}
 use Rattle.agv_world.specs.declared.fault.Fault.TheVariants as machine
 use Rattle.agv_face.specs.Bytes.{IsCut, IsPutWhole, IsRead}
-use Rattle.agv_face.specs.Ends.{IsStreamEnd, failed_by, most_reads}
-use Rattle.agv_face.specs.Nexts.{IsNext}
+use Rattle.agv_face.specs.Ends.{IsCounted, IsStreamEnd, failed_by, most_reads}
+use Rattle.agv_face.specs.Nexts.{IsNext, IsNextFault}
 use Rattle.agv_face.specs.Refusals.{IsRefused, refusal_for}
+use Rattle.agv_face.specs.Replies.{IsLaterDesk, failed_after}
 use Rattle.agv_face.specs.Watched.{inner_of, RanOut}
 use Rattle.agv_face.specs.declared.next.Next.{Next}
 use Rattle.agv_face.specs.declared.next.Next.TheVariants as next
@@ -23,8 +26,10 @@ use Rattle.agv_face.specs.declared.served.Served.{Served}
 use Rattle.agv_face.specs.declared.served.StreamFault.{StreamFault}
 use Rattle.agv_face.specs.declared.served.StreamFault.TheVariants as fault
 use Rattle.agv_face.specs.declared.watched.Watched.{Watched}
-use Rattle.agv_face.proofs.InTurn.{AnswersInTurn, GoesOnBehind, WorldsInTurn}
-use Rattle.agv_face.proofs.Streams.{HasServed, cut_answer, cut_faulty, cut_refused, ends_at_end, ends_closed, ends_faulty, ends_refused, ends_roomless, ends_unread, none_served, reads_on, serves_on}
+use Rattle.agv_face.proofs.Counting.{counts_at_end, counts_closed, counts_cut, counts_faulty, counts_refused, counts_unread}
+use Rattle.agv_face.proofs.Serving.{later_still}
+use Rattle.agv_face.proofs.InTurn.{AnswersInTurn, CallsInTurn, GoesOnBehind, WorldsInTurn}
+use Rattle.agv_face.proofs.Streams.{HasServed, cut_answer, cut_faulty, cut_refused, ends_at_end, ends_closed, ends_faulty, ends_refused, ends_unread, has_call, input, machine_fault, no_call_asked, none_served, reads_on, serves_on}
 use Rattle.agv_face.proofs.Writing.{failed_then}
 
 -- ---- a fault of HTTP is none of the machine
@@ -75,6 +80,11 @@ module _ {S R W : Type 0} (g : Ghosts S) (remaining : R → Option (List ℕ)) (
       let goes = hears s.front buf ended s.requests heard.End s.cut found.0 in
       ((λ clean. ends_at_end g remaining contents at desk reader writer desk_then reader_now writer_now ended buf answers s knows goes found.0.0 clean), s.read, s.put)
 
+  pub end_counted : what ≡ next.End → IsCounted remaining contents at desk desk_then reader reader_now writer writer_now (Ok (record { answers = answers; ended = ended_by.End }))
+  end_counted is =
+      let found = of next.End is in
+      counts_at_end g remaining contents at desk reader writer now reader_now writer_now ended buf answers so_far desk_then reader_now (hears so_far.front buf ended so_far.requests heard.End so_far.cut found.0) found.0.0
+
   -- more bytes are needed, and none come
   pub none_come : what ≡ next.Need → (reader_then : Watched R) → Keeps (remaining (inner_of reader_now)) (remaining (inner_of reader_then)) → RanOut (most_reads reads) reader reader_then
       → IsStreamEnd g remaining contents at reads desk desk_then reader reader_then writer writer_now (Err (fault.Read answers))
@@ -83,6 +93,12 @@ module _ {S R W : Type 0} (g : Ghosts S) (remaining : R → Option (List ℕ)) (
       let s = same_desk found.1 in
       let goes = hears s.front buf ended s.requests heard.Need s.cut found.0 in
       ((λ clean. ends_unread g remaining contents at desk reader writer desk_then reader_now writer_now ended buf answers s knows reader_then goes kept clean), out_of, s.put)
+
+  pub none_counted : what ≡ next.Need → (reader_then : Watched R) → Keeps (remaining (inner_of reader_now)) (remaining (inner_of reader_then))
+      → IsCounted remaining contents at desk desk_then reader reader_then writer writer_now (Err (fault.Read answers))
+  none_counted is reader_then kept =
+      let found = of next.Need is in
+      counts_unread g remaining contents at desk reader writer now reader_now writer_now ended buf answers so_far desk_then reader_then writer_now (hears so_far.front buf ended so_far.requests heard.Need so_far.cut found.0) kept
 
   -- some come, or the end
   pub some_come : what ≡ next.Need → (reader_then : Watched R) (buf_then : List ℕ) (more : Bool) → IsRead remaining reader_now reader_then buf buf_then more
@@ -106,6 +122,19 @@ module _ {S R W : Type 0} (g : Ghosts S) (remaining : R → Option (List ℕ)) (
         let Wrote : List ℕ → Type 0 = λ bytes. Appends (contents (inner_of writer_now)) (contents (inner_of writer_then)) bytes in
         ((λ clean. ends_faulty g remaining contents at desk reader writer desk_then reader_now writer_now ended buf answers s knows why found.0 goes writer_then (subst Wrote (sent_is ∙ found.1) put.0) clean), s.read, put.1 ∙ s.put)
 
+    pub told_counted : IsPutWhole contents writer_now writer_then sent true
+        → IsCounted remaining contents at desk desk_then reader reader_now writer writer_then (Ok (record { answers = answers + 1; ended = ended_by.Refused why }))
+    told_counted put =
+        let found = of (next.Fault why) is in
+        let Wrote : List ℕ → Type 0 = λ bytes. Appends (contents (inner_of writer_now)) (contents (inner_of writer_then)) bytes in
+        counts_faulty g remaining contents at desk reader writer now reader_now writer_now ended buf answers so_far desk_then reader_now writer_then why
+        (hears so_far.front buf ended so_far.requests (heard.Fault why) so_far.cut found.0) (subst Wrote (sent_is ∙ found.1) put.0)
+
+    pub cut_counted : IsCounted remaining contents at desk desk_then reader reader_now writer writer_then (Err (fault.Write answers))
+    cut_counted =
+        let found = of (next.Fault why) is in
+        counts_cut g remaining contents at desk reader writer now reader_now writer_now ended buf answers so_far desk_then reader_now writer_then (inl (ap (λ (d : Keyed S). d.failed) found.2 ∙ so_far.failed))
+
     pub fault_cut : IsPutWhole contents writer_now writer_then sent false
         → IsStreamEnd g remaining contents at reads desk desk_then reader reader_now writer writer_then (Err (fault.Write answers))
     fault_cut put =
@@ -116,7 +145,7 @@ module _ {S R W : Type 0} (g : Ghosts S) (remaining : R → Option (List ℕ)) (
         ((λ clean. cut_faulty g remaining contents at desk reader writer desk_then reader_now writer_now ended buf answers s knows why found.0 goes writer_then (subst Cut (sent_is ∙ found.1) put.0) clean), s.read, failed_then writer writer_now writer_then s.put put.1)
 
   -- a request was served
-  module _ (later : IsClean g desk_then.held → IsClean g now.held) (failed : desk_then.failed ≡ now.failed) (answers_turn : AnswersInTurn) (worlds_turn : WorldsInTurn)
+  module _ (step : IsLaterDesk g now desk_then) (failed : desk_then.failed ≡ now.failed) (answers_turn : AnswersInTurn) (worlds_turn : WorldsInTurn) (calls_turn : CallsInTurn)
       (len : ℕ) (close : Bool) (is : what ≡ next.Request len close) (writer_then : Watched W) (sent : List ℕ) (sent_is : sent ≡ out) where
     pub answer_cut : IsPutWhole contents writer_now writer_then sent false
         → IsStreamEnd g remaining contents at reads desk desk_then reader reader_now writer writer_then (Err (fault.Write answers))
@@ -124,10 +153,13 @@ module _ {S R W : Type 0} (g : Ghosts S) (remaining : R → Option (List ℕ)) (
         let found = of (next.Request len close) is in
         let goes = hears so_far.front buf ended so_far.requests (heard.Request found.request) so_far.cut found.heard_is in
         let Cut : List ℕ → Type 0 = λ bytes. IsCut (contents (inner_of writer_now)) (contents (inner_of writer_then)) bytes in (
-          (λ clean. cut_answer g remaining contents at desk reader writer now reader_now writer_now ended buf answers so_far desk_then writer_then later failed found.request goes.0 goes.1 out found.answered answers_turn worlds_turn knows (subst Cut sent_is put.0) clean),
+          (λ clean. cut_answer g remaining contents at desk reader writer now reader_now writer_now ended buf answers so_far desk_then writer_then step failed found.request goes.0 goes.1 out found.answered answers_turn worlds_turn knows (subst Cut sent_is put.0) clean),
           so_far.read,
           failed_then writer writer_now writer_then so_far.put put.1,
         )
+
+    pub answer_cut_counted : IsCounted remaining contents at desk desk_then reader reader_now writer writer_then (Err (fault.Write answers))
+    answer_cut_counted = counts_cut g remaining contents at desk reader writer now reader_now writer_now ended buf answers so_far desk_then reader_now writer_then (inl (failed ∙ so_far.failed))
 
     pub some_bytes : (0 < len) × (len ≤ length buf)
     some_bytes =
@@ -143,10 +175,24 @@ module _ {S R W : Type 0} (g : Ghosts S) (remaining : R → Option (List ℕ)) (
       last_answered last =
           let found = of (next.Request len close) is in
           let goes = hears so_far.front buf ended so_far.requests (heard.Request found.request) so_far.cut found.heard_is in (
-            (λ clean. ends_closed g remaining contents at desk reader writer now reader_now writer_now ended buf answers so_far desk_then writer_then later failed found.request goes.0 goes.1 out found.answered answers_turn worlds_turn knows (sym found.close_is ∙ last) wrote clean),
+            (λ clean. ends_closed g remaining contents at desk reader writer now reader_now writer_now ended buf answers so_far desk_then writer_then step failed found.request goes.0 goes.1 out found.answered answers_turn worlds_turn knows (sym found.close_is ∙ last) wrote clean),
             so_far.read,
             put.1 ∙ so_far.put,
           )
+
+      none_asked : let found = of (next.Request len close) is in
+          let goes = hears so_far.front buf ended so_far.requests (heard.Request found.request) so_far.cut found.heard_is in
+          desk.failed ≡ true → calls_of (so_far.requests ++ goes.0 ∷ []) at ≡ []
+      none_asked =
+          let found = of (next.Request len close) is in
+          let goes = hears so_far.front buf ended so_far.requests (heard.Request found.request) so_far.cut found.heard_is in
+          no_call_asked g remaining contents at desk reader writer now reader_now writer_now ended buf answers so_far desk_then writer_then step failed found.request goes.0 goes.1 out found.answered answers_turn worlds_turn calls_turn found.no_call
+
+      pub last_counted : close ≡ true → IsCounted remaining contents at desk desk_then reader reader_now writer writer_then (Ok (record { answers = answers + 1; ended = ended_by.Close }))
+      last_counted last =
+          let found = of (next.Request len close) is in
+          let goes = hears so_far.front buf ended so_far.requests (heard.Request found.request) so_far.cut found.heard_is in
+          counts_closed g remaining contents at desk reader writer now reader_now writer_now ended buf answers so_far desk_then reader_now writer_then goes.0 out (goes.1.closes (sym found.close_is ∙ last)) none_asked wrote
 
       pub answered_on : close ≡ false → HasServed g remaining contents at desk reader writer desk_then reader_now writer_then ended (drop len buf) (answers + 1)
       answered_on goes_on =
@@ -154,7 +200,7 @@ module _ {S R W : Type 0} (g : Ghosts S) (remaining : R → Option (List ℕ)) (
           let goes = hears so_far.front buf ended so_far.requests (heard.Request found.request) so_far.cut found.heard_is in
           let So : ℕ → Type 0 = λ n. HasServed g remaining contents at desk reader writer desk_then reader_now writer_then ended (drop n buf) (answers + 1) in
           subst So (sym found.len_is)
-          (serves_on g remaining contents at desk reader writer now reader_now writer_now ended buf answers so_far desk_then writer_then later failed found.request goes.0 goes.1 out found.answered answers_turn worlds_turn (sym found.close_is ∙ goes_on) wrote put.1)
+          (serves_on g remaining contents at desk reader writer now reader_now writer_now ended buf answers so_far desk_then writer_then step failed found.request goes.0 goes.1 out found.answered answers_turn worlds_turn (sym found.close_is ∙ goes_on) wrote put.1 none_asked)
 
 -- ---- a fault of the machine
 
@@ -164,32 +210,68 @@ is_of_machine machine.Storage = inr refl
 
 module _ {S R W : Type 0} (g : Ghosts S) (remaining : R → Option (List ℕ)) (contents : W → Option (List ℕ)) (at reads : ℕ)
     (desk now desk_then : Keyed S) (reader reader_now : Watched R) (writer writer_now writer_then : Watched W) (ended : Bool) (buf : List ℕ) (answers : ℕ) (why : Fault)
-    (so_far : HasServed g remaining contents at desk reader writer now reader_now writer_now ended buf answers)
-    (later : IsClean g desk_then.held → IsClean g now.held) (left : IsClean g desk_then.held → IsOpen g desk_then.held → world_at g desk_then.held ≡ world_at g now.held)
-    (knows : IsClean g desk_then.held → IsOpen g desk_then.held → Knows g desk_then.held (world_at g desk_then.held)) where
+    (so_far : HasServed g remaining contents at desk reader writer now reader_now writer_now ended buf answers) (hears : GoesOnBehind)
+    (step : IsLaterDesk g now desk_then) (left : IsClean g desk_then.held → IsOpen g desk_then.held → world_at g desk_then.held ≡ world_at g now.held)
+    (knows : IsClean g desk_then.held → IsOpen g desk_then.held → Knows g desk_then.held (world_at g desk_then.held))
+    (seen : List ℕ) (seen_is : seen ≡ buf) (comes : IsNextFault seen ended why) where
+  abbrev all : List ℕ
+  all = input g remaining contents at desk reader writer now reader_now writer_now ended buf answers so_far
+
+  of_call : (f : Fault) → IsNextFault buf ended f → refusal_for f ≡ refusal.Storage → HasCallNext all so_far.requests
+  of_call machine.Memory found is = absurd (let e : refusal.Memory ≡ refusal.Storage = is in cc)
+  of_call machine.Storage found is =
+      let goes = hears so_far.front buf ended so_far.requests (heard.Request found.0) so_far.cut found.1 in
+      has_call g remaining contents at desk reader writer now reader_now writer_now ended buf answers so_far found.0 goes.0 goes.1 found.2
+
+  is_fault : HasMachineFault all so_far.requests (refusal_for why)
+  is_fault =
+      let Comes : List ℕ → Type 0 = λ bytes. IsNextFault bytes ended why in
+      machine_fault g remaining contents at desk reader writer now reader_now writer_now ended buf answers so_far (refusal_for why) (is_of_machine why) (of_call why (subst Comes seen_is comes))
+
   pub machine_failed : (result : Result Served StreamFault) → IsRefused contents writer_now writer_then why answers result
       → IsStreamEnd g remaining contents at reads desk desk_then reader reader_now writer writer_then result
   machine_failed (Ok served) told =
       let Ended : Served → Type 0 = λ s. IsStreamEnd g remaining contents at reads desk desk_then reader reader_now writer writer_then (Ok s) in
-      subst Ended (sym told.0)
-      ((λ clean. ends_refused g remaining contents at desk reader writer now reader_now writer_now ended buf answers so_far desk_then writer_then later left knows (refusal_for why) (is_of_machine why) told.1 clean), so_far.read, told.2 ∙ so_far.put)
+      subst Ended (sym told.0) (
+        (λ clean. ends_refused g remaining contents at desk reader writer now reader_now writer_now ended buf answers so_far desk_then writer_then step.clean left knows (refusal_for why) is_fault told.1 clean),
+        so_far.read,
+        told.2 ∙ so_far.put,
+      )
   machine_failed (Err (fault.Read n)) told = absurd told
   machine_failed (Err (fault.Write n)) told =
       let Ended : ℕ → Type 0 = λ m. IsStreamEnd g remaining contents at reads desk desk_then reader reader_now writer writer_then (Err (fault.Write m)) in
       subst Ended (sym told.0) (
-        (λ clean. cut_refused g remaining contents at desk reader writer now reader_now writer_now ended buf answers so_far desk_then writer_then later left knows (refusal_for why) (is_of_machine why) told.1 clean),
+        (λ clean. cut_refused g remaining contents at desk reader writer now reader_now writer_now ended buf answers so_far desk_then writer_then step.clean left knows (refusal_for why) is_fault told.1 clean),
         so_far.read,
         failed_then writer writer_now writer_then so_far.put told.2,
       )
 
+  -- where the store has failed, it has at a call
+  fails : (f : Fault) → IsNextFault buf ended f → desk_then.failed ≡ failed_after {A = Next} (Err f) now.failed → (desk_then.failed ≡ desk.failed) ⊎ HasCallNext all so_far.requests
+  fails machine.Memory found same = inl (same ∙ so_far.failed)
+  fails machine.Storage found same = inr (of_call machine.Storage found refl)
+
+  pub machine_counted : desk_then.failed ≡ failed_after {A = Next} (Err why) now.failed → (result : Result Served StreamFault) → IsRefused contents writer_now writer_then why answers result
+      → IsCounted remaining contents at desk desk_then reader reader_now writer writer_then result
+  machine_counted same (Ok served) told =
+      let Counted : Served → Type 0 = λ s. IsCounted remaining contents at desk desk_then reader reader_now writer writer_then (Ok s) in
+      subst Counted (sym told.0) (counts_refused g remaining contents at desk reader writer now reader_now writer_now ended buf answers so_far desk_then reader_now writer_then (refusal_for why) (inr is_fault) told.1)
+  machine_counted same (Err (fault.Read n)) told = absurd told
+  machine_counted same (Err (fault.Write n)) told =
+      let Counted : ℕ → Type 0 = λ m. IsCounted remaining contents at desk desk_then reader reader_now writer writer_then (Err (fault.Write m)) in
+      let Comes : List ℕ → Type 0 = λ bytes. IsNextFault bytes ended why in
+      subst Counted (sym told.0) (counts_cut g remaining contents at desk reader writer now reader_now writer_now ended buf answers so_far desk_then reader_now writer_then (fails why (subst Comes seen_is comes) same))
+
 -- no room could be reserved
 module _ {S R W : Type 0} (g : Ghosts S) (remaining : R → Option (List ℕ)) (contents : W → Option (List ℕ)) (at reads : ℕ) (desk : Keyed S) (reader : Watched R) (writer writer_then : Watched W)
-    (knows : IsClean g desk.held → IsOpen g desk.held → Knows g desk.held (world_at g desk.held)) where
-  pub no_room : (result : Result Served StreamFault) → IsRefused contents writer writer_then machine.Memory 0 result → IsStreamEnd g remaining contents at reads desk desk reader reader writer writer_then result
-  no_room (Ok served) told =
-      let Ended : Served → Type 0 = λ s. IsStreamEnd g remaining contents at reads desk desk reader reader writer writer_then (Ok s) in
-      subst Ended (sym told.0) ((λ clean. ends_roomless g remaining contents at desk reader writer writer_then knows told.1 clean), refl, told.2)
-  no_room (Err (fault.Read n)) told = absurd told
-  no_room (Err (fault.Write n)) told =
-      machine_failed g remaining contents at reads desk desk desk reader reader writer writer writer_then false [] 0 machine.Memory (none_served g remaining contents at desk reader writer)
-      (λ clean. clean) (λ _ _. refl) knows (Err (fault.Write n)) told
+    (hears : GoesOnBehind) (knows : IsClean g desk.held → IsOpen g desk.held → Knows g desk.held (world_at g desk.held))
+    (result : Result Served StreamFault) (told : IsRefused contents writer writer_then machine.Memory 0 result) where
+  pub no_room : IsStreamEnd g remaining contents at reads desk desk reader reader writer writer_then result
+  no_room =
+      machine_failed g remaining contents at reads desk desk desk reader reader writer writer writer_then false [] 0 machine.Memory (none_served g remaining contents at desk reader writer) hears
+      (later_still g desk) (λ _ _. refl) knows [] refl tt result told
+
+  pub no_room_counted : IsCounted remaining contents at desk desk reader reader writer writer_then result
+  no_room_counted =
+      machine_counted g remaining contents at reads desk desk desk reader reader writer writer writer_then false [] 0 machine.Memory (none_served g remaining contents at desk reader writer) hears
+      (later_still g desk) (λ _ _. refl) knows [] refl tt refl result told

@@ -1,12 +1,15 @@
 -- One request more: what is written for it, and the world after it.
-use Rattle.std.proofs.Common.{◌≡◌, ℕ, Bool, true, List, [], ◌∷◌, ◌++◌, Option, Some, None, IfSome, refl, sym, ap, ap₂, ◌∙◌, append-nil}
+use Rattle.std.proofs.Common.{◌≡◌, ℕ, Bool, true, false, List, [], ◌∷◌, ◌++◌, Option, Some, None, Result, Ok, Err, IfSome, IsErr, IsOk, refl, sym, ap, ap₂, ◌∙◌, subst, append-nil}
 use Rattle.std.specs.Io.KnownBytes.{Consumes, IsAtEnd}
+use Rattle.std.specs.List.{cons_option}
 use Rattle.agv_desk.specs.Outcomes.{Outcome, after, answer_of}
+use Rattle.agv_desk.specs.declared.call.Call.{Call}
+use Rattle.agv_header.specs.declared.refusal.Refusal.{Refusal}
 use Rattle.agv_http.specs.Answers.{answer_text}
 use Rattle.agv_http.specs.Cut.{Cut, at_end}
 use Rattle.agv_http.specs.Fronts.{GoesOn}
 use Rattle.agv_http.specs.Heard.{Follows, IsHeard, IsLent}
-use Rattle.agv_http.specs.Output.{answer_to, answers_to, call_by, call_for, outcome_by, outcome_for, world_after}
+use Rattle.agv_http.specs.Output.{answer_to, answers_to, call_at, call_by, call_for, calls_of, outcome_by, outcome_for, world_after}
 use Rattle.agv_http.specs.Requests.{Request}
 use Rattle.agv_http.specs.Table.{route_at}
 use Rattle.agv_http.specs.declared.request.Heard.{Heard}
@@ -29,7 +32,20 @@ abbrev pub WorldsInTurn : Type 0
 WorldsInTurn = (seats : ℕ) (world : World) (at : ℕ) (requests more : List Request)
     → world_after seats world at (requests ++ more) ≡ world_after seats (world_after seats world at requests) at more
 
+abbrev pub CallsInTurn : Type 0
+CallsInTurn = (requests more : List Request) (at : ℕ) → calls_of (requests ++ more) at ≡ calls_of requests at ++ calls_of more at
+
 -- ---- a request, by its lent parts
+
+call_is : (request : Request) (lent : LentRequest) → IsLent request lent → call_of lent ≡ call_for request
+unfolding call_for
+call_is request lent is =
+    ap (λ (body : List ℕ). call_by body (route_at lent.method lent.target.now)) is.body
+    ∙ ap (λ (target : List ℕ). call_by request.body (route_at lent.method target)) is.target
+    ∙ ap (λ (method : List ℕ). call_by request.body (route_at method request.target)) is.method
+
+pub is_call : (request : Request) (lent : LentRequest) → IsLent request lent → IsOk (call_of lent) → IsOk (call_for request)
+is_call request lent is made = let Made : Result Call Refusal → Type 0 = λ read. IsOk read in subst Made (call_is request lent is) made
 
 outcome_is : (world : World) (at : ℕ) (request : Request) (lent : LentRequest) → IsLent request lent → outcome_in world at (call_of lent) ≡ outcome_for desk_seats world at request
 unfolding call_for outcome_for
@@ -59,6 +75,21 @@ one_answer world at request = append-nil (answer_to desk_seats world at request)
 one_world : (world : World) (at : ℕ) (request : Request) → world_after desk_seats world at (request ∷ []) ≡ after world (outcome_for desk_seats world at request)
 unfolding world_after
 one_world world at request = refl
+
+pub no_calls : (at : ℕ) → calls_of [] at ≡ []
+no_calls at = refl
+
+none_made : (at : ℕ) (read : Result Call Refusal) → IsErr read → cons_option (call_at at read) [] ≡ []
+none_made at (Ok made) is = absurd (let e : false ≡ true = is in cc)
+none_made at (Err why) is = refl
+
+-- a request more that is none
+pub next_no_call : (at : ℕ) (requests : List Request) (request : Request) (lent : LentRequest) → IsLent request lent → CallsInTurn
+    → calls_of requests at ≡ [] → IsErr (call_of lent) → calls_of (requests ++ request ∷ []) at ≡ []
+next_no_call at requests request lent is turn none refused =
+    let Refused : Result Call Refusal → Type 0 = λ read. IsErr read in
+    let last : calls_of (request ∷ []) at ≡ [] = none_made at (call_for request) (subst Refused (call_is request lent is) refused) in
+    turn requests (request ∷ []) at ∙ ap₂ ◌++◌ none last
 
 module _ (world : World) (at : ℕ) (requests : List Request) (request : Request) (lent : LentRequest) (is : IsLent request lent) where
   abbrev reached : World

@@ -3,3 +3,4 @@ pub mod Serving
 pub mod Streams
 pub mod Writing
 pub mod Exits
+pub mod Counting

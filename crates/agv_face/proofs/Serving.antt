@@ -20,14 +20,19 @@ use Rattle.agv_http.specs.Table.{route_at}
 use Rattle.agv_http.specs.declared.request.LentRequest.{LentRequest}
 use Rattle.agv_http.specs.declared.route.Route.{Route}
 use Rattle.agv_reports.specs.Reports.{names_report, report_of}
-use Rattle.agv_store.specs.Floors.{Knows, world_at}
+use Rattle.agv_store.specs.Floors.{Keyed, Knows, world_at}
 use Rattle.agv_store.specs.Served.{world_after}
 use Rattle.agv_tables.specs.questions.WorldAnswers.{HasWorld}
 use Rattle.agv_tables.specs.readings.WorldIn.{world_in}
 use Rattle.agv_tables.specs.rows.DeskRows.{Placing}
 use Rattle.agv_tables.specs.schema.SchemaNumbers.{desk_seats}
 use Rattle.agv_world.specs.Worlds.{World}
-use Rattle.agv_face.specs.Replies.{IsServed, call_of, outcome_in}
+use Rattle.agv_http.specs.Heard.{IsHeard}
+use Rattle.agv_http.specs.declared.request.Heard.TheVariants as heard
+use Rattle.agv_world.specs.declared.fault.Fault.{Fault}
+use Rattle.agv_world.specs.declared.fault.Fault.TheVariants as machine
+use Rattle.agv_face.specs.Nexts.{IsNextFault}
+use Rattle.agv_face.specs.Replies.{ComesOfCall, IsLaterDesk, IsServed, call_of, outcome_in}
 use Rattle.agv_face.specs.declared.reply.Reply.{Reply}
 
 -- ---- the laws that are cited
@@ -124,6 +129,24 @@ pub stays_or_fits : TellsWithoutChange → (world world_then : World) (at : ℕ)
     → IsServed world world_then at (call_of request) reply → (world_then ≡ world) ⊎ HasRoom reply.answer
 stays_or_fits changes_none world world_then at request reply fits short served =
     of_route changes_none reply.answer fits world world_then at request.body.now short (route_at request.method request.target.now) served.answer_is served.world_is
+
+-- ---- moments of a desk
+
+pub later_still : {S : Type 0} (g : Ghosts S) (desk : Keyed S) → IsLaterDesk g desk desk
+later_still g desk = record { clean = λ is. is; was_open = λ _ is. is; stopped = λ _. refl }
+
+pub later_then : {S : Type 0} (g : Ghosts S) (desk now then : Keyed S) → IsLaterDesk g desk now → IsLaterDesk g now then → IsLaterDesk g desk then
+later_then {S = S} g desk now then first second = record {
+  clean = λ clean. first.clean (second.clean clean);
+  was_open = λ clean still. first.was_open (second.clean clean) (second.was_open clean still);
+  stopped = λ failed. let same = first.stopped failed in second.stopped (ap (λ (d : Keyed S). d.failed) same ∙ failed) ∙ same;
+}
+
+-- ---- a fault before there is an answer
+
+pub comes_of_next : (buf : List ℕ) (ended : Bool) (lent : LentRequest) → IsHeard buf ended (heard.Request lent) → (why : Fault) → ComesOfCall (call_of lent) why → IsNextFault buf ended why
+comes_of_next buf ended lent told machine.Memory comes = tt
+comes_of_next buf ended lent told machine.Storage comes = (lent, told, comes)
 
 -- ---- in general
 

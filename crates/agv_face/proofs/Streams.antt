@@ -1,5 +1,5 @@
 -- A stream, one request after another.
-use Rattle.std.proofs.Common.{◌≡◌, ◌+◌, ℕ, Bool, true, false, not, List, [], ◌∷◌, ◌++◌, length, take, drop, Option, refl, sym, ap, ◌∙◌, subst, inl, inr, arith, append_assoc, append-nil, length-append, take-append-drop}
+use Rattle.std.proofs.Common.{◌≡◌, ◌+◌, ℕ, Bool, true, false, not, List, [], ◌∷◌, ◌++◌, length, take, drop, Option, IsErr, IsOk, refl, sym, ap, ◌∙◌, subst, inl, inr, arith, append_assoc, append-nil, length-append, take-append-drop}
 use Rattle.std.specs.Io.KnownBytes.{Appends, Consumes, IsAtEnd, Keeps}
 use Rattle.std.proofs.KnownBytes.{Appends-trans, Appends-nil, Consumes-nil, Consumes-trans, Consumes-kept}
 use Rattle.sqlite_trees.specs.declared.store.Store.{Ghosts}
@@ -7,11 +7,11 @@ use Rattle.agv_header.specs.declared.refusal.Refusal.{Refusal}
 use Rattle.agv_header.specs.declared.refusal.Refusal.TheVariants as refusal
 use Rattle.agv_desk.specs.Outcomes.{after}
 use Rattle.agv_http.specs.Cut.{Cut, at_end, closed, faulty, no_more}
-use Rattle.agv_http.specs.Fronts.{GoesOnBy, HasNext, IsSoFar}
+use Rattle.agv_http.specs.Fronts.{Begins, GoesOnBy, HasNext, IsSoFar}
 use Rattle.agv_http.specs.Heard.{IsHeard}
-use Rattle.agv_http.specs.Output.{answers_to, refusal_text, world_after}
+use Rattle.agv_http.specs.Output.{answers_to, calls_of, refusal_text, world_after}
 use Rattle.agv_http.specs.Requests.{Request}
-use Rattle.agv_http.specs.StreamEnds.{IsOfMachine, IsReadFault, IsWriteFault}
+use Rattle.agv_http.specs.StreamEnds.{HasCallNext, HasMachineFault, IsOfMachine, IsReadFault, IsWriteFault}
 use Rattle.agv_http.specs.declared.request.Heard.TheVariants as heard
 use Rattle.agv_http.specs.declared.request.LentRequest.{LentRequest}
 use Rattle.agv_store.specs.Floors.{Keyed, Knows, world_at}
@@ -20,11 +20,12 @@ use Rattle.agv_tables.specs.sql.Connections.{IsClean, IsOpen}
 use Rattle.agv_world.specs.Worlds.{World}
 use Rattle.agv_face.specs.Bytes.{IsCut, IsRead}
 use Rattle.agv_face.specs.Ends.{HaveCome, IsEnd, IsInput, Leaves}
-use Rattle.agv_face.specs.Replies.{IsAnswered, call_of, outcome_in, text_for}
+use Rattle.agv_face.specs.Replies.{IsAnswered, IsLaterDesk, call_of, outcome_in, text_for}
 use Rattle.agv_face.specs.Watched.{inner_of, FailedNever}
 use Rattle.agv_face.specs.declared.served.Ended.TheVariants as ended_by
 use Rattle.agv_face.specs.declared.watched.Watched.{Watched}
-use Rattle.agv_face.proofs.InTurn.{AnswersInTurn, WorldsInTurn, next_answers, next_text, next_world, no_answer, no_change, whole}
+use Rattle.agv_face.proofs.Serving.{later_still, later_then}
+use Rattle.agv_face.proofs.InTurn.{AnswersInTurn, CallsInTurn, WorldsInTurn, is_call, next_answers, next_no_call, next_text, next_world, no_answer, no_calls, no_change, whole}
 
 -- the desk, the reader and the writer, each at the start and now; whether the input has ended, what has come and isn't served, and how many answers were written
 module _ {S R W : Type 0} (g : Ghosts S) (remaining : R → Option (List ℕ)) (contents : W → Option (List ℕ)) (at : ℕ) (desk : Keyed S) (reader : Watched R) (writer : Watched W) where
@@ -39,8 +40,12 @@ module _ {S R W : Type 0} (g : Ghosts S) (remaining : R → Option (List ℕ)) (
     pub counted : answers ≡ length requests
     pub came : Consumes (remaining (inner_of reader)) (remaining (inner_of reader_now)) (front ++ buf)
     pub at_its_end : ended ≡ true → IsAtEnd (remaining (inner_of reader_now))
-    pub clean : IsClean g now.held → IsClean g desk.held
-    pub wrote : IsClean g now.held → Appends (contents (inner_of writer)) (contents (inner_of writer_now)) (answers_to desk_seats start at requests)
+    pub later : IsLaterDesk g desk now
+    -- where the store had failed before, none of them is a call
+    pub none_asked : desk.failed ≡ true → calls_of requests at ≡ []
+    pub sent : List ℕ
+    pub wrote : Appends (contents (inner_of writer)) (contents (inner_of writer_now)) sent
+    pub sent_is : IsClean g now.held → sent ≡ answers_to desk_seats start at requests
     pub world_is : IsClean g now.held → world_at g now.held ≡ world_after desk_seats start at requests
     pub failed : now.failed ≡ desk.failed
     pub read : FailedNever reader reader_now
@@ -56,8 +61,11 @@ module _ {S R W : Type 0} (g : Ghosts S) (remaining : R → Option (List ℕ)) (
     counted = refl;
     came = Consumes-nil (remaining (inner_of reader));
     at_its_end = λ e. let absurdly : false ≡ true = e in cc;
-    clean = λ is. is;
-    wrote = λ _. let Wrote : List ℕ → Type 0 = λ text. Appends (contents (inner_of writer)) (contents (inner_of writer)) text in subst Wrote (sym (no_answer start at)) (Appends-nil (contents (inner_of writer)));
+    later = later_still g desk;
+    none_asked = λ _. no_calls at;
+    sent = [];
+    wrote = Appends-nil (contents (inner_of writer));
+    sent_is = λ _. sym (no_answer start at);
     world_is = λ _. sym (no_change start at);
     failed = refl;
     read = refl;
@@ -74,19 +82,34 @@ module _ {S R W : Type 0} (g : Ghosts S) (remaining : R → Option (List ℕ)) (
     reached = world_after desk_seats start at s.requests
 
     -- the whole input
-    abbrev input : List ℕ
+    abbrev pub input : List ℕ
     input = (whole _ _ (s.front ++ buf) ended s.came s.at_its_end).0
 
-    abbrev more : List ℕ
+    abbrev pub more : List ℕ
     more = (whole _ _ (s.front ++ buf) ended s.came s.at_its_end).1
 
     pub is_input : IsInput remaining reader input
     is_input = (whole _ _ (s.front ++ buf) ended s.came s.at_its_end).2
 
-    parts : input ≡ s.front ++ (buf ++ more)
+    pub parts : input ≡ s.front ++ (buf ++ more)
     parts = (whole _ _ (s.front ++ buf) ended s.came s.at_its_end).3 ∙ append_assoc s.front buf more
 
-    follows : ended ≡ true → more ≡ []
+    pub begins : Begins input s.requests
+    begins = record { front = s.front; rest = buf ++ more; parts = parts; cut = s.cut; rest_is = tt }
+
+    -- the next request is a call
+    pub has_call : (lent : LentRequest) (request : Request) → GoesOnBy s.front buf s.requests lent request → IsOk (call_of lent) → HasCallNext input s.requests
+    has_call lent request goes made = let HasNextSo : List ℕ → Type 0 = λ bytes. HasNext bytes s.requests request in (request, subst HasNextSo (sym parts) (goes.next more), is_call request lent goes.is_lent made)
+
+    -- there is a fault of the machine
+    pub machine_fault : (why : Refusal) → IsOfMachine why → (why ≡ refusal.Storage → HasCallNext input s.requests) → HasMachineFault input s.requests why
+    machine_fault why of_machine of_call = record { begins = begins; of_machine = of_machine; of_call = of_call }
+
+    -- what was written
+    wrote_answers : IsClean g now.held → Appends (contents (inner_of writer)) (contents (inner_of writer_now)) written
+    wrote_answers clean = let Wrote : List ℕ → Type 0 = λ text. Appends (contents (inner_of writer)) (contents (inner_of writer_now)) text in subst Wrote (s.sent_is clean) s.wrote
+
+    pub follows : ended ≡ true → more ≡ []
     follows = (whole _ _ (s.front ++ buf) ended s.came s.at_its_end).4
 
     -- what is written behind that, and which world the desk knows then
@@ -98,7 +121,7 @@ module _ {S R W : Type 0} (g : Ghosts S) (remaining : R → Option (List ℕ)) (
         out = written ++ text;
         left = left;
         is_so = is_so;
-        written = Appends-trans _ _ _ _ _ (s.wrote (later clean)) wrote;
+        written = Appends-trans _ _ _ _ _ (wrote_answers (later clean)) wrote;
         knows = knows;
       }
 
@@ -113,7 +136,7 @@ module _ {S R W : Type 0} (g : Ghosts S) (remaining : R → Option (List ℕ)) (
         out = written;
         left = reached;
         is_so = is_so;
-        written = s.wrote clean;
+        written = wrote_answers clean;
         knows = knows_reached clean;
       }
 
@@ -204,7 +227,7 @@ module _ {S R W : Type 0} (g : Ghosts S) (remaining : R → Option (List ℕ)) (
 
     -- a fault of the machine leaves the world
     module _ (then : Keyed S) (writer_then : Watched W) (later : IsClean g then.held → IsClean g now.held) (left : IsClean g then.held → IsOpen g then.held → world_at g then.held ≡ world_at g now.held)
-        (knows : IsClean g then.held → IsOpen g then.held → Knows g then.held (world_at g then.held)) (why : Refusal) (of_machine : IsOfMachine why) where
+        (knows : IsClean g then.held → IsOpen g then.held → Knows g then.held (world_at g then.held)) (why : Refusal) (machine : HasMachineFault input s.requests why) where
       knows_still : IsClean g then.held → IsOpen g then.held → Knows g then.held reached
       knows_still clean still = let Known : World → Type 0 = λ world. Knows g then.held world in subst Known (left clean still ∙ s.world_is (later clean)) (knows clean still)
 
@@ -214,13 +237,12 @@ module _ {S R W : Type 0} (g : Ghosts S) (remaining : R → Option (List ℕ)) (
         input,
         is_input,
         leaves then writer_then later (IsEnd input at (answers + 1) (ended_by.Refused why)) (refusal_text why) reached clean
-            (inr (inl (record {
+            (inr (record {
               requests = s.requests;
-              begins = record { front = s.front; rest = buf ++ more; parts = parts; cut = s.cut; rest_is = tt };
-              of_machine = of_machine;
+              cause = machine;
               served = record { written = refl; world_is = refl };
               counted = omega (arith, s.counted);
-            })))
+            }))
             wrote (knows_still clean),
       )
 
@@ -235,7 +257,7 @@ module _ {S R W : Type 0} (g : Ghosts S) (remaining : R → Option (List ℕ)) (
               text = refusal_text why;
               is_next = inr (record {
                 why = why;
-                cause = inr (record { front = s.front; rest = buf ++ more; parts = parts; cut = s.cut; rest_is = tt }, of_machine);
+                cause = inr machine;
                 text_is = refl;
                 world_is = refl;
               });
@@ -250,9 +272,12 @@ module _ {S R W : Type 0} (g : Ghosts S) (remaining : R → Option (List ℕ)) (
       )
 
     -- a request is served, and its answer is to be written
-    module _ (then : Keyed S) (writer_then : Watched W) (later : IsClean g then.held → IsClean g now.held) (failed : then.failed ≡ now.failed) (lent : LentRequest) (request : Request)
+    module _ (then : Keyed S) (writer_then : Watched W) (step : IsLaterDesk g now then) (failed : then.failed ≡ now.failed) (lent : LentRequest) (request : Request)
         (goes : GoesOnBy s.front buf s.requests lent request) (out : List ℕ) (answered : IsClean g then.held → IsAnswered (world_at g now.held) (world_at g then.held) at lent out)
         (answers_turn : AnswersInTurn) (worlds_turn : WorldsInTurn) where
+      later : IsClean g then.held → IsClean g now.held
+      later clean = step.clean clean
+
       out_is : IsClean g then.held → out ≡ text_for reached at lent
       out_is clean = (answered clean).text_is ∙ ap (λ (world : World). text_for world at lent) (s.world_is (later clean))
 
@@ -270,12 +295,15 @@ module _ {S R W : Type 0} (g : Ghosts S) (remaining : R → Option (List ℕ)) (
           → Appends (contents (inner_of writer)) (contents (inner_of writer_then)) (answers_to desk_seats start at (s.requests ++ request ∷ []))
       wrote_all clean wrote =
           let Wrote : List ℕ → Type 0 = λ text. Appends (contents (inner_of writer)) (contents (inner_of writer_then)) text in
-          subst Wrote (all_written clean) (Appends-trans _ _ _ _ _ (s.wrote (later clean)) wrote)
+          subst Wrote (all_written clean) (Appends-trans _ _ _ _ _ (wrote_answers (later clean)) wrote)
+
+      pub no_call_asked : CallsInTurn → (now.failed ≡ true → IsErr (call_of lent)) → desk.failed ≡ true → calls_of (s.requests ++ request ∷ []) at ≡ []
+      no_call_asked calls_turn no_call was = next_no_call at s.requests request lent goes.is_lent calls_turn (s.none_asked was) (no_call (s.failed ∙ was))
 
       -- the stream goes on
       pub serves_on : lent.close ≡ false → Appends (contents (inner_of writer_now)) (contents (inner_of writer_then)) out → FailedNever writer_now writer_then
-          → HasServed then reader_now writer_then ended (drop lent.len buf) (answers + 1)
-      serves_on stays wrote worked =
+          → (desk.failed ≡ true → calls_of (s.requests ++ request ∷ []) at ≡ []) → HasServed then reader_now writer_then ended (drop lent.len buf) (answers + 1)
+      serves_on stays wrote worked none_asked =
           let here : s.front ++ buf ≡ (s.front ++ take lent.len buf) ++ drop lent.len buf =
           ap (λ (l : List ℕ). s.front ++ l) (sym (take-append-drop lent.len buf)) ∙ sym (append_assoc s.front (take lent.len buf) (drop lent.len buf)) in
           let Come : List ℕ → Type 0 = λ bytes. Consumes (remaining (inner_of reader)) (remaining (inner_of reader_now)) bytes in
@@ -286,8 +314,11 @@ module _ {S R W : Type 0} (g : Ghosts S) (remaining : R → Option (List ℕ)) (
             counted = many;
             came = subst Come here s.came;
             at_its_end = s.at_its_end;
-            clean = λ clean. s.clean (later clean);
-            wrote = λ clean. wrote_all clean wrote;
+            later = later_then g desk now then s.later step;
+            none_asked = none_asked;
+            sent = s.sent ++ out;
+            wrote = Appends-trans _ _ _ _ _ s.wrote wrote;
+            sent_is = λ clean. ap (λ (l : List ℕ). l ++ out) (s.sent_is (later clean)) ∙ all_written clean;
             world_is = world_then;
             failed = failed ∙ s.failed;
             read = s.read;
@@ -331,7 +362,7 @@ module _ {S R W : Type 0} (g : Ghosts S) (remaining : R → Option (List ℕ)) (
             let HasNextSo : List ℕ → Type 0 = λ bytes. HasNext bytes s.requests request in (
               input,
               is_input,
-              leaves then writer_then later (λ world text left. IsWriteFault desk_seats world at input text left answers) part.front (world_after desk_seats start at (s.requests ++ request ∷ [])) clean
+              leaves then writer_then step.clean (λ world text left. IsWriteFault desk_seats world at input text left answers) part.front (world_after desk_seats start at (s.requests ++ request ∷ [])) clean
                   (record {
                     requests = s.requests;
                     text = out;
@@ -364,26 +395,13 @@ module _ {S R W : Type 0} (g : Ghosts S) (remaining : R → Option (List ℕ)) (
         counted = s.counted;
         came = subst Come here (Consumes-trans _ _ _ (s.front ++ buf) r.bytes s.came r.came);
         at_its_end = elim got as (λ m. (m ≡ false → (r.bytes ≡ []) × IsAtEnd (remaining (inner_of reader_then))) → not m ≡ true → IsAtEnd (remaining (inner_of reader_then))) [ true ↦ λ f t. cc | false ↦ λ f t. (f refl).1 ] r.at_end;
-        clean = s.clean;
+        later = s.later;
+        none_asked = s.none_asked;
+        sent = s.sent;
         wrote = s.wrote;
+        sent_is = s.sent_is;
         world_is = s.world_is;
         failed = s.failed;
         read = r.worked ∙ s.read;
         put = s.put;
       }
-
-  -- no room could be reserved
-  module _ (writer_then : Watched W) (knows : IsClean g desk.held → IsOpen g desk.held → Knows g desk.held start) where
-    pub ends_roomless : Appends (contents (inner_of writer)) (contents (inner_of writer_then)) (refusal_text refusal.Memory) → IsClean g desk.held
-        → (bytes : List ℕ) × IsInput remaining reader bytes × Leaves g contents desk desk writer writer_then (IsEnd bytes at 1 (ended_by.Refused refusal.Memory))
-    ends_roomless wrote clean = (
-      input desk reader writer false [] 0 none_served,
-      is_input desk reader writer false [] 0 none_served,
-      record {
-        out = refusal_text refusal.Memory;
-        left = start;
-        is_so = inr (inr (refl, record { written = refl; world_is = refl; counted = refl }));
-        written = wrote;
-        knows = knows clean;
-      },
-    )

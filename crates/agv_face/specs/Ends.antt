@@ -1,10 +1,13 @@
 -- How the serving of a stream ends: what has come of its input, what is written, and which world the desk then knows. What is written at each end is defined by `agv_http` (its StreamEnds).
-use Rattle.std.specs.Prelude.{◌≡◌, ◌⊎◌, ℕ, Bool, true, List, Option, IfSome, Result, Ok, Err, min}
+use Rattle.std.specs.Prelude.{◌≡◌, ◌⊎◌, ◌+◌, ℕ, Bool, true, List, [], ◌++◌, length, Option, IfSome, Result, Ok, Err, min}
 use Rattle.std.specs.Io.KnownBytes.{Appends, Consumes}
 use Rattle.sqlite_trees.specs.declared.store.Store.{Ghosts}
 use Rattle.agv_header.specs.declared.refusal.Refusal.TheVariants as refusal
-use Rattle.agv_http.specs.Cut.{at_end, closed, faulty}
-use Rattle.agv_http.specs.StreamEnds.{HasNoRoom, IsReadFault, IsRefusedByMachine, IsServedToEnd, IsWriteFault}
+use Rattle.agv_http.specs.Cut.{Cut, at_end, closed, faulty}
+use Rattle.agv_http.specs.Fronts.{Begins, IsSoFar}
+use Rattle.agv_http.specs.Output.{calls_of, refusal_text}
+use Rattle.agv_http.specs.Requests.{Request}
+use Rattle.agv_http.specs.StreamEnds.{HasCallNext, HasMachineFault, IsReadFault, IsRefusedByMachine, IsServedToEnd, IsWriteFault}
 use Rattle.agv_store.specs.Floors.{Keyed, Knows, world_at}
 use Rattle.agv_tables.specs.schema.SchemaNumbers.{desk_seats}
 use Rattle.agv_tables.specs.sql.Connections.{IsClean, IsOpen}
@@ -47,7 +50,6 @@ IsEnd input at answers ended.Close world out left = IsServedToEnd desk_seats wor
 IsEnd input at answers (ended.Refused why) world out left =
     IsServedToEnd desk_seats world at input (faulty why) out left answers
     ⊎ IsRefusedByMachine desk_seats world at input why out left answers
-    ⊎ ((why ≡ refusal.Memory) × HasNoRoom desk_seats world at out left answers)
 
 -- ---- the input, and what a stream leaves
 
@@ -88,3 +90,45 @@ module _ {S R W : Type 0} (g : Ghosts S) (remaining : R → Option (List ℕ)) (
       (IsClean g desk_then.held → (input : List ℕ) × IsInput remaining reader input
       × Leaves g contents desk desk_then writer writer_then (λ world out left. IsWriteFault desk_seats world at input out left answers))
       × FailedNever reader reader_then × FailedOnce writer writer_then
+
+-- ---- how far a stream has come, whatever the disk answers
+
+-- how the input goes on behind the requests that were answered, where a stream was served to this end
+abbrev pub GoesOnTo : List ℕ → List Request → Ended → Type 0
+GoesOnTo input requests ended.End = Cut input requests at_end
+GoesOnTo input requests ended.Close = Cut input requests closed
+GoesOnTo input requests (ended.Refused why) = Cut input requests (faulty why) ⊎ HasMachineFault input requests why
+
+-- how many answers are written behind those to the requests
+abbrev pub last_answers : Ended → ℕ
+last_answers ended.End = 0
+last_answers ended.Close = 0
+last_answers (ended.Refused why) = 1
+
+-- and which bytes
+abbrev pub last_bytes : Ended → List ℕ
+last_bytes ended.End = []
+last_bytes ended.Close = []
+last_bytes (ended.Refused why) = refusal_text why
+
+-- the desk, the reader and the writer, each before and after
+module _ {S R W : Type 0} (remaining : R → Option (List ℕ)) (contents : W → Option (List ℕ)) (at : ℕ)
+    (desk desk_then : Keyed S) (reader reader_then : Watched R) (writer writer_then : Watched W) where
+  -- none of the requests is a call, where the store had failed before
+  abbrev pub AskNothing : List Request → Type 0
+  AskNothing requests = desk.failed ≡ true → calls_of requests at ≡ []
+
+  -- the requests that were answered are the first ones of the input, as many as is said; a last refusal is whole
+  abbrev pub IsCounted : Result Served StreamFault → Type 0
+  IsCounted (Ok served) =
+      (input : List ℕ) × IsInput remaining reader input × (requests : List Request) × GoesOnTo input requests served.ended
+      × (served.answers ≡ length requests + last_answers served.ended) × AskNothing requests
+      × (sent : List ℕ) × Appends (contents (inner_of writer)) (contents (inner_of writer_then)) (sent ++ last_bytes served.ended)
+  -- they are all those that had come whole
+  IsCounted (Err (fault.Read answers)) =
+      (bytes : List ℕ) × HaveCome remaining reader reader_then bytes × (requests : List Request) × IsSoFar bytes requests
+      × (answers ≡ length requests) × AskNothing requests
+  -- the store can have failed at the request whose answer was cut
+  IsCounted (Err (fault.Write answers)) =
+      (input : List ℕ) × IsInput remaining reader input × (requests : List Request) × Begins input requests
+      × (answers ≡ length requests) × AskNothing requests × ((desk_then.failed ≡ desk.failed) ⊎ HasCallNext input requests)

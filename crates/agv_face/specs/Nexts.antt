@@ -1,5 +1,5 @@
 -- What became of the next request of a buffer.
-use Rattle.std.specs.Prelude.{◌≡◌, ℕ, Bool, List}
+use Rattle.std.specs.Prelude.{◌≡◌, ℕ, Bool, true, List, IsErr}
 use Rattle.sqlite_trees.specs.declared.store.Store.{Ghosts}
 use Rattle.agv_http.specs.Heard.{IsHeard}
 use Rattle.agv_http.specs.Output.{refusal_text}
@@ -7,7 +7,9 @@ use Rattle.agv_http.specs.declared.request.Heard.TheVariants as heard
 use Rattle.agv_http.specs.declared.request.LentRequest.{LentRequest}
 use Rattle.agv_store.specs.Floors.{Keyed, world_at}
 use Rattle.agv_tables.specs.sql.Connections.{IsClean}
-use Rattle.agv_face.specs.Replies.{IsAnswered}
+use Rattle.agv_world.specs.declared.fault.Fault.{Fault}
+use Rattle.agv_world.specs.declared.fault.Fault.TheVariants as machine
+use Rattle.agv_face.specs.Replies.{ComesOfCall, IsAnswered, call_of}
 use Rattle.agv_face.specs.declared.next.Next.{Next}
 use Rattle.agv_face.specs.declared.next.Next.TheVariants as next
 
@@ -18,6 +20,8 @@ module _ {S : Type 0} (g : Ghosts S) (at : ℕ) (desk desk_then : Keyed S) (buf 
     pub heard_is : IsHeard buf ended (heard.Request request)
     pub len_is : len ≡ request.len
     pub close_is : close ≡ request.close
+    -- where the store had failed before, the request is no call
+    pub no_call : desk.failed ≡ true → IsErr (call_of request)
     pub answered : IsClean g desk_then.held → IsAnswered (world_at g desk.held) (world_at g desk_then.held) at request out
 
   abbrev pub IsNext : Next → Type 0
@@ -25,3 +29,8 @@ module _ {S : Type 0} (g : Ghosts S) (at : ℕ) (desk desk_then : Keyed S) (buf 
   IsNext next.End = IsHeard buf ended heard.End × (desk_then ≡ desk)
   IsNext (next.Fault why) = IsHeard buf ended (heard.Fault why) × (out ≡ refusal_text why) × (desk_then ≡ desk)
   IsNext (next.Request len close) = IsRequestServed len close
+
+-- a fault of the machine, before there is an answer to the next request; one of the store comes of a request of the buffer that is a call
+abbrev pub IsNextFault : List ℕ → Bool → Fault → Type 0
+IsNextFault buf ended machine.Memory = Unit {0}
+IsNextFault buf ended machine.Storage = (request : LentRequest) × IsHeard buf ended (heard.Request request) × ComesOfCall (call_of request) machine.Storage

@@ -1,8 +1,11 @@
 -- What a desk makes of one request, and what is written for it.
-use Rattle.std.specs.Prelude.{◌≡◌, ℕ, Bool, true, List, Result, Ok, Err}
+use Rattle.std.specs.Prelude.{◌≡◌, ℕ, Bool, true, List, Result, Ok, Err, IsOk}
+use Rattle.sqlite_trees.specs.declared.store.Store.{Ghosts}
 use Rattle.agv_header.specs.declared.refusal.Refusal.{Refusal}
 use Rattle.agv_reports.specs.Reports.{report_of}
+use Rattle.agv_store.specs.Floors.{Keyed}
 use Rattle.agv_tables.specs.schema.SchemaNumbers.{desk_seats}
+use Rattle.agv_tables.specs.sql.Connections.{IsClean, IsOpen}
 use Rattle.agv_world.specs.Worlds.{World}
 use Rattle.agv_world.specs.declared.fault.Fault.{Fault}
 use Rattle.agv_world.specs.declared.fault.Fault.TheVariants as machine
@@ -36,6 +39,17 @@ text_for world at request = let told = answer_of (outcome_in world at (call_of r
 pub record IsAnswered (world world_then : World) (at : ℕ) (request : LentRequest) (text : List ℕ) : Type 0 where
   pub text_is : text ≡ text_for world at request
   pub world_is : world_then ≡ after world (outcome_in world at (call_of request))
+
+-- a later moment of a desk: where it is clean it was, and where it is open it was; where its store had failed before, it is as it was
+pub record IsLaterDesk {S : Type 0} (g : Ghosts S) (desk desk_then : Keyed S) : Type 0 where
+  pub clean : IsClean g desk_then.held → IsClean g desk.held
+  pub was_open : IsClean g desk_then.held → IsOpen g desk_then.held → IsOpen g desk.held
+  pub stopped : desk.failed ≡ true → desk_then ≡ desk
+
+-- a fault of the store comes of a call
+abbrev pub ComesOfCall : Result Call Refusal → Fault → Type 0
+ComesOfCall call machine.Memory = Unit {0}
+ComesOfCall call machine.Storage = IsOk call
 
 -- whether the store has failed, once a call has ended so
 abbrev pub failed_after : {A : Type 0} → Result A Fault → Bool → Bool

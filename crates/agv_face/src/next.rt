@@ -1,11 +1,11 @@
 //! The next request of a buffer is answered.
-ghost use Rattle.std.specs.Prelude.{◌≡◌, ◌≤◌, [], IfOk, OnErr, OnOk, vec_capacity};
+ghost use Rattle.std.specs.Prelude.{◌≡◌, ◌≤◌, [], IfErr, IfOk, OnErr, OnOk, vec_capacity};
 ghost use Rattle.agv_http.specs.Output.{refusal_text};
 ghost use Rattle.agv_http.specs.Sizes.{most_answer};
 ghost use Rattle.agv_store.specs.Floors.{world_at};
 ghost use Rattle.agv_tables.specs.sql.Connections.{IsClean, IsOpen};
-ghost use Rattle.agv_face.specs.Nexts.{IsNext};
-ghost use Rattle.agv_face.specs.Replies.{failed_after};
+ghost use Rattle.agv_face.specs.Nexts.{IsNext, IsNextFault};
+ghost use Rattle.agv_face.specs.Replies.{IsLaterDesk, failed_after};
 
 use crate::reply::answer_request;
 use agv_desk::Answer;
@@ -51,10 +51,11 @@ pub(crate) fn serve_next<S: Alter + Drop>(
     out: &mut Vec<u8>,
 ) -> Result<Next, Fault>
     requires { most_answer ≤ vec_capacity out.old }
-    ensures clean { IsClean S.Store desk.new.held → IsClean S.Store desk.old.held }
+    ensures later { IsLaterDesk S.Store desk.old desk.new }
     ensures next { IfOk result (IsNext S.Store at desk.old desk.new buf.now ended out.new.items) }
     ensures left { IsClean S.Store desk.new.held → IsOpen S.Store desk.new.held → OnErr result (world_at S.Store desk.new.held ≡ world_at S.Store desk.old.held) }
     ensures failed { desk.new.failed ≡ failed_after result desk.old.failed }
+    ensures fault { IfErr result (IsNextFault buf.now ended) }
     ensures grown { vec_capacity out.old ≤ vec_capacity out.new }
 {
     bodies_fit();

@@ -1,10 +1,11 @@
 //! The answer to one request.
-ghost use Rattle.std.specs.Prelude.{◌≡◌, ◌≤◌, [], IfOk, OnErr, OnOk, length, vec_capacity};
+ghost use Rattle.std.specs.Prelude.{◌≡◌, ◌≤◌, [], true, Err, IfErr, IfOk, IsErr, OnErr, OnOk, length, vec_capacity};
 ghost use Rattle.agv_http.specs.Requests.{most_body};
 ghost use Rattle.agv_http.specs.Sizes.{most_answer};
 ghost use Rattle.agv_store.specs.Floors.{world_at};
 ghost use Rattle.agv_tables.specs.sql.Connections.{IsClean, IsOpen};
-ghost use Rattle.agv_face.specs.Replies.{IsAnswered, IsServed, call_of, failed_after};
+ghost use Rattle.agv_world.specs.declared.fault.Fault.TheVariants as fault;
+ghost use Rattle.agv_face.specs.Replies.{ComesOfCall, IsAnswered, IsLaterDesk, IsServed, call_of, failed_after};
 
 use crate::call::call_in;
 use agv_desk::laws::tells_without_change;
@@ -29,10 +30,11 @@ pub(crate) struct Reply {
 
 /// Serves the call. What it changes is committed before its report is asked for.
 fn serve_call<S: Alter + Drop>(desk: &mut Desk<S>, at: Moment, call: &Call) -> Result<Reply, Fault>
-    ensures clean { IsClean S.Store desk.new.held → IsClean S.Store desk.old.held }
+    ensures later { IsLaterDesk S.Store desk.old desk.new }
     ensures serves { IsClean S.Store desk.new.held → IfOk result (IsServed (world_at S.Store desk.old.held) (world_at S.Store desk.new.held) at (Ok call.now)) }
     ensures left { IsClean S.Store desk.new.held → IsOpen S.Store desk.new.held → OnErr result (world_at S.Store desk.new.held ≡ world_at S.Store desk.old.held) }
     ensures failed { desk.new.failed ≡ failed_after result desk.old.failed }
+    ensures stopped { desk.old.failed ≡ true → result ≡ Err fault.Storage }
 {
     tells_outcomes();
     tells_without_change();
@@ -51,10 +53,12 @@ fn reply_to<S: Alter + Drop>(
     at: Moment,
     request: &LentRequest<'_>,
 ) -> Result<Reply, Fault>
-    ensures clean { IsClean S.Store desk.new.held → IsClean S.Store desk.old.held }
+    ensures later { IsLaterDesk S.Store desk.old desk.new }
     ensures serves { IsClean S.Store desk.new.held → IfOk result (IsServed (world_at S.Store desk.old.held) (world_at S.Store desk.new.held) at (call_of request.now)) }
     ensures left { IsClean S.Store desk.new.held → IsOpen S.Store desk.new.held → OnErr result (world_at S.Store desk.new.held ≡ world_at S.Store desk.old.held) }
     ensures failed { desk.new.failed ≡ failed_after result desk.old.failed }
+    ensures stopped { desk.old.failed ≡ true → OnOk result (IsErr (call_of request.now)) }
+    ensures fault { IfErr result (ComesOfCall (call_of request.now)) }
 {
     match call_in(alloc, routes, request) {
         Ok(call) => serve_call(desk, at, &call),
@@ -79,10 +83,12 @@ pub(crate) fn answer_request<S: Alter + Drop>(
     requires empty { out.old.items ≡ [] }
     requires room { most_answer ≤ vec_capacity out.old }
     requires short { length request.now.body.now ≤ most_body }
-    ensures clean { IsClean S.Store desk.new.held → IsClean S.Store desk.old.held }
+    ensures later { IsLaterDesk S.Store desk.old desk.new }
     ensures answers { IsClean S.Store desk.new.held → OnOk result (IsAnswered (world_at S.Store desk.old.held) (world_at S.Store desk.new.held) at request.now out.new.items) }
     ensures left { IsClean S.Store desk.new.held → IsOpen S.Store desk.new.held → OnErr result (world_at S.Store desk.new.held ≡ world_at S.Store desk.old.held) }
     ensures failed { desk.new.failed ≡ failed_after result desk.old.failed }
+    ensures stopped { desk.old.failed ≡ true → OnOk result (IsErr (call_of request.now)) }
+    ensures fault { IfErr result (ComesOfCall (call_of request.now)) }
     ensures grown { vec_capacity out.old ≤ vec_capacity out.new }
 {
     tells_without_change();

@@ -1,7 +1,8 @@
 //! A stream of requests is served, one after another.
 ghost use Rattle.std.specs.Prelude.{◌≡◌, ◌<◌, ◌≤◌, [], IfOk, vec_capacity};
-ghost use Rattle.agv_face.specs.Ends.{EndsFailed, IsStreamEnd, most_reads};
+ghost use Rattle.agv_face.specs.Ends.{EndsFailed, IsCounted, IsStreamEnd, most_reads};
 ghost use Rattle.agv_face.specs.Refusals.{IsRefused};
+ghost use Rattle.agv_face.specs.Replies.{IsLaterDesk};
 ghost use Rattle.agv_face.specs.Watched.{HadCallsAtMost};
 ghost use Rattle.agv_http.specs.Sizes.{most_answer};
 
@@ -86,6 +87,8 @@ fn serve_requests<S: Alter + Drop, R: Read, W: Write>(
     requires input { 73728 ≤ vec_capacity room.old.input }
     requires output { most_answer ≤ vec_capacity room.old.output }
     ensures ends { IsStreamEnd S.Store R.remaining W.contents at max_reads desk.old desk.new reader.old reader.new writer.old writer.new result }
+    ensures counts { IsCounted R.remaining W.contents at desk.old desk.new reader.old reader.new writer.old writer.new result }
+    ensures later { IsLaterDesk S.Store desk.old desk.new }
     ensures failed { EndsFailed desk.old.failed desk.new.failed result }
     ensures reads { HadCallsAtMost (most_reads max_reads) reader.old reader.new }
 {
@@ -162,6 +165,10 @@ fn serve_requests<S: Alter + Drop, R: Read, W: Write>(
 /// machine. Where the store has failed as the stream ends, `failed` says by which end. No clause says that an answer is
 /// written before more is read; a test does.
 ///
+/// Which requests were answered, and how many, holds whatever the disk answers (`counts`). Where the store is open as the
+/// stream ends it was open before, so another stream goes on from the world that is known (`later`). A desk that had failed
+/// before stays as it is and serves no call: the first one is answered `Storage`, and the stream ends.
+///
 /// # Errors
 /// `Read` where a read failed, or the most reads were made and one more is needed. `Write` where a write failed or took no
 /// byte. The desk can go on after both.
@@ -174,9 +181,12 @@ pub fn serve_stream_within<S: Alter + Drop, R: Read, W: Write>(
     max_reads: u64,
 ) -> Result<Served, StreamFault>
     ensures ends { IsStreamEnd S.Store R.remaining W.contents at max_reads desk.old desk.new reader.old reader.new writer.old writer.new result }
+    ensures counts { IsCounted R.remaining W.contents at desk.old desk.new reader.old reader.new writer.old writer.new result }
+    ensures later { IsLaterDesk S.Store desk.old desk.new }
     ensures failed { EndsFailed desk.old.failed desk.new.failed result }
     ensures reads { HadCallsAtMost (most_reads max_reads) reader.old reader.new }
 {
+    hears_how_it_goes_on();
     desk.knows();
     let _calls = reader.calls();
     match reserve(alloc) {
@@ -197,6 +207,8 @@ pub fn serve_stream<S: Alter + Drop, R: Read, W: Write>(
     writer: &mut Watched<W>,
 ) -> Result<Served, StreamFault>
     ensures ends { IsStreamEnd S.Store R.remaining W.contents at 16777216 desk.old desk.new reader.old reader.new writer.old writer.new result }
+    ensures counts { IsCounted R.remaining W.contents at desk.old desk.new reader.old reader.new writer.old writer.new result }
+    ensures later { IsLaterDesk S.Store desk.old desk.new }
     ensures failed { EndsFailed desk.old.failed desk.new.failed result }
     ensures reads { HadCallsAtMost 16777216 reader.old reader.new }
 {

@@ -7,7 +7,7 @@ use Rattle.agv_http.specs.Cut.{Cut, Ending, faulty, a_fault}
 use Rattle.agv_http.specs.Fronts.{Begins, HasFaultNext, HasFront, HasNext}
 use Rattle.agv_http.specs.Output.{IsOutput, answer_to, answers_to, last_text, outcome_for, refusal_text, world_after}
 use Rattle.agv_http.specs.Requests.{Request}
-use Rattle.agv_http.specs.StreamEnds.{EndsInMachineFault, IsFrontOf, IsLastRefusal, IsNextAnswer, IsOfMachine, IsReadFault, IsRefusedByMachine, IsWriteFault}
+use Rattle.agv_http.specs.StreamEnds.{EndsInMachineFault, HasMachineFault, IsFrontOf, IsLastRefusal, IsNextAnswer, IsReadFault, IsRefusedByMachine, IsWriteFault}
 use Rattle.agv_http.proofs.Cuts.{one_cut}
 use Rattle.agv_http.proofs.Joining.{answers_join, cut_begins, cuts_part}
 
@@ -82,14 +82,14 @@ module _ (seats : ℕ) (world : World) (at : ℕ) (input whole : List ℕ) (beyo
     sent = answers_to seats world at is.requests;
     last = refusal_text why;
     why = why;
-    of_machine = is.of_machine;
-    sent_is = front_written is.requests _ is.begins;
+    of_machine = is.cause.of_machine;
+    sent_is = front_written is.requests _ is.cause.begins;
     last_is = ([], sym (append-nil (refusal_text why)));
     out_is = is.served.written;
   }
 
   refused_end : (requests : List Request) (text part out : List ℕ) → IsFrontOf part text → out ≡ answers_to seats world at requests ++ part → (why : Refusal) → text ≡ refusal_text why
-      → HasFaultNext input requests why ⊎ (Begins input requests × IsOfMachine why) → IsFrontOf out whole ⊎ EndsInMachineFault out whole
+      → HasFaultNext input requests why ⊎ HasMachineFault input requests why → IsFrontOf out whole ⊎ EndsInMachineFault out whole
   refused_end requests text part out first written why is (inl fault) =
       let P : List ℕ → Type 0 = λ l. IsFrontOf l whole in inl (subst P (sym written) (fault_written requests why fault part text is first))
   refused_end requests text part out first written why is (inr machine) =
@@ -98,8 +98,8 @@ module _ (seats : ℕ) (world : World) (at : ℕ) (input whole : List ℕ) (beyo
         sent = answers_to seats world at requests;
         last = part;
         why = why;
-        of_machine = machine.1;
-        sent_is = front_written requests _ machine.0;
+        of_machine = machine.of_machine;
+        sent_is = front_written requests _ machine.begins;
         last_is = subst P is first;
         out_is = written;
       })

@@ -30,3 +30,5 @@ mod Outcomes
 mod SaidCounts
 mod Fitting
 mod Requested
+mod TypedBodies
+mod TypedCalls

@@ -1,16 +1,26 @@
 -- How a stream of requests ends: what is then written, which world is left, and how many answers are written whole. At each end requests are served in their order, each in the world that those before it have left.
-use Rattle.std.specs.Prelude.{◌≡◌, ◌<◌, ◌+◌, ◌⊎◌, ℕ, List, [], ◌∷◌, ◌++◌, length}
+use Rattle.std.specs.Prelude.{◌≡◌, ◌<◌, ◌+◌, ◌⊎◌, ℕ, List, [], ◌∷◌, ◌++◌, length, IsOk}
 use Rattle.agv_header.specs.declared.refusal.Refusal.{Refusal}
 use Rattle.agv_header.specs.declared.refusal.Refusal.TheVariants as refusal
 use Rattle.agv_world.specs.Worlds.{World}
 use Rattle.agv_http.specs.Cut.{Ending, at_end, closed, faulty}
 use Rattle.agv_http.specs.Fronts.{Begins, HasFaultNext, HasNext, IsSoFar}
-use Rattle.agv_http.specs.Output.{IsOutput, answer_to, answers_to, refusal_text, world_after}
+use Rattle.agv_http.specs.Output.{IsOutput, answer_to, answers_to, call_for, refusal_text, world_after}
 use Rattle.agv_http.specs.Requests.{Request}
 
 -- a fault of the machine: memory is wanting, or the store has failed
 abbrev pub IsOfMachine : Refusal → Type 0
 IsOfMachine why = (why ≡ refusal.Memory) ⊎ (why ≡ refusal.Storage)
+
+-- behind these requests the next one is a call
+abbrev pub HasCallNext : List ℕ → List Request → Type 0
+HasCallNext input requests = (request : Request) × HasNext input requests request × IsOk (call_for request)
+
+-- behind these requests there is a fault of the machine; one of the store comes of a call
+pub record HasMachineFault (input : List ℕ) (requests : List Request) (why : Refusal) : Type 0 where
+  pub begins : Begins input requests
+  pub of_machine : IsOfMachine why
+  pub of_call : why ≡ refusal.Storage → HasCallNext input requests
 
 -- how many answers are written behind those to the requests, at an end of the input: the refusal of a fault is one
 abbrev pub last_answers : Ending → ℕ
@@ -30,19 +40,12 @@ module _ (seats : ℕ) (world : World) (at : ℕ) where
     pub ending_is : output.ending ≡ ending
     pub counted : answers ≡ length output.requests + last_answers ending
 
-  -- behind the answers to some requests the stream ends with the refusal for a fault of the machine
+  -- behind the answers to some requests, or before any, the stream ends with the refusal for a fault of the machine
   pub record IsRefusedByMachine (input : List ℕ) (why : Refusal) (out : List ℕ) (left : World) (answers : ℕ) : Type 0 where
     pub requests : List Request
-    pub begins : Begins input requests
-    pub of_machine : IsOfMachine why
+    pub cause : HasMachineFault input requests why
     pub served : AreServed requests (refusal_text why) out left
     pub counted : answers ≡ length requests + 1
-
-  -- there was no room to serve any request: that memory is wanting is all that is written
-  pub record HasNoRoom (out : List ℕ) (left : World) (answers : ℕ) : Type 0 where
-    pub written : out ≡ refusal_text refusal.Memory
-    pub world_is : left ≡ world
-    pub counted : answers ≡ 1
 
   -- the reader failed behind these bytes: all requests that have come whole are answered, and nothing else is written
   pub record IsReadFault (bytes out : List ℕ) (left : World) (answers : ℕ) : Type 0 where
@@ -61,7 +64,7 @@ module _ (seats : ℕ) (world : World) (at : ℕ) where
   -- what is to be written behind the answers to some requests is the refusal of a fault, of the input or of the machine
   pub record IsLastRefusal (input : List ℕ) (requests : List Request) (text : List ℕ) (left : World) : Type 0 where
     pub why : Refusal
-    pub cause : HasFaultNext input requests why ⊎ (Begins input requests × IsOfMachine why)
+    pub cause : HasFaultNext input requests why ⊎ HasMachineFault input requests why
     pub text_is : text ≡ refusal_text why
     pub world_is : left ≡ world_after seats world at requests
 

@@ -1,9 +1,10 @@
 //! What holds of a stream of requests that is served one after another, for who serves it in parts: fronts of an input
 //! and what follows them, and what is written at each end of a stream (`specs/StreamEnds.antt`). Each function does
-//! nothing: its clause is the law.
+//! nothing, but that one reads a moment: its clause is the law.
 ghost use Rattle.std.specs.Prelude.{◌≡◌, ◌⊎◌, ◌++◌, ℕ, Bool, List, Err, true};
 ghost use Rattle.agv_desk.specs.Outcomes.{after};
 ghost use Rattle.agv_desk.specs.Step.{steps};
+ghost use Rattle.agv_desk.specs.WellTyped.{AreWellTyped};
 ghost use Rattle.agv_header.specs.declared.refusal.Refusal.{Refusal};
 ghost use Rattle.agv_world.specs.Worlds.{World};
 ghost use Rattle.agv_http.specs.Cut.{Cut, Ending, at_end};
@@ -17,6 +18,7 @@ ghost use Rattle.agv_http.specs.declared.request.Heard.{Heard as HeardOf};
 
 use crate::output_laws::writes_one_output;
 use agv_desk::laws::tells_without_change;
+use agv_header::Moment;
 
 /// An input is cut into the requests of a front and those of what follows it.
 pub fn joins_cuts()
@@ -67,6 +69,14 @@ pub fn serves_its_calls()
     ensures { (seats : ℕ) (world : World) (at : ℕ) (requests : List Request)
         → world_after seats world at requests ≡ steps seats world (calls_of requests at) }
 {}
+
+/// The calls that requests ask at a moment are well typed, whatever the requests are: so the laws of `agv_desk` on lists of
+/// well-typed calls speak of each stream.
+pub fn asks_well_typed_calls(at: Moment)
+    ensures { (requests : List Request) → AreWellTyped (calls_of requests at) }
+{
+    let _ms = at.ms();
+}
 
 /// Whatever the end of a stream, what is written is the output of the whole input; or a front of it; or a front of it, and
 /// then a front of the refusal for a fault of the machine, which is whole where the writer hasn't failed.

@@ -7,7 +7,6 @@
 //! - `bodies` has the bodies of requests, and the calls that they say.
 //! - `answers` has the bytes of answers.
 //! - `repeated` reads one request often, and puts one answer often, for `examples/measure-requests`.
-//! - `stream` has whole streams of requests to a desk that keeps its world in memory.
 #![tactic(auto)]
 
 #[cfg(test)]
@@ -22,5 +21,3 @@ mod repeated;
 mod requests;
 #[cfg(test)]
 mod routes;
-#[cfg(test)]
-mod stream;

@@ -2,4 +2,3 @@ pub mod First
 pub mod Listed
 pub mod Members
 pub mod Plain
-pub mod Within

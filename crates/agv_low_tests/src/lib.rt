@@ -2,10 +2,7 @@
 //! twice. The expected values are written out or worked out by hand, or come from another program.
 //!
 //! - `cases` compares what is found with what is wanted.
-//! - `desk` has calls of the desk over a world in memory, one after the other, and `desk_calls` one call of each
-//!   kind, in a warehouse with few loads and with many.
-//! - `floors` has the answers of a world in memory to each question. `fails_at` is such a world that counts the
-//!   questions, and whose store fails once it has answered so many.
+//! - `floors` has the answers of a world in memory to each question.
 //! - `headers` has names, topics, stamps and header numbers, `messages` state messages and the texts of
 //!   orders and instant actions, the largest among them.
 //! - `holds` has what vehicles claim and shed, and who holds what then.
@@ -28,12 +25,6 @@
 mod cases;
 #[cfg(test)]
 mod counts;
-#[cfg(test)]
-mod desk;
-#[cfg(test)]
-mod desk_calls;
-#[cfg(test)]
-mod fails_at;
 #[cfg(test)]
 mod floors;
 #[cfg(test)]

@@ -13,7 +13,6 @@ use agv_tables::readings::world_laws::a_database_tells_its_world;
 use agv_tables::schema::making_laws::trees_tell_schemas;
 use agv_world::Fault;
 use sqlite::Alter;
-use std::alloc::Global;
 
 impl<S: Alter + Drop> Desk<S> {
     /// Serves the calls in turn, each at its moment, up to the first fault, which is given beside the answers. Room for the
@@ -31,7 +30,7 @@ impl<S: Alter + Drop> Desk<S> {
     /// failed or had failed before. Of a store that hadn't failed before, the fault is `Storage` exactly where
     /// [`failed`](Desk::failed) is `true` in the end (`ends`). One that had failed before answers no call, and has failed
     /// still (`fails`).
-    pub fn run(&mut self, alloc: Global, calls: &[(Moment, Call)]) -> (Vec<Answer>, Option<Fault>)
+    pub fn run(&mut self, calls: &[(Moment, Call)]) -> (Vec<Answer>, Option<Fault>)
         ensures runs { IsClean S.Store self.new.held → IsRun S.Store self.old.held self.new.held calls.now result.0.items result.1 }
         ensures answered { HasAnswered calls.now result.0.items result.1 }
         ensures crash { IsClean S.Store self.new.held → Knows S.Store self.old.held (world_at S.Store self.old.held) → LeavesLast S.Store self.old.held self.new.held calls.now (length result.0.items) result.1 }
@@ -43,6 +42,7 @@ impl<S: Alter + Drop> Desk<S> {
         other_tables_stay();
         trees_tell_schemas();
         self.knows();
+        let alloc = self.floor.alloc;
         let room = Vec::with_capacity(alloc, calls.len());
         let mut given = match room {
             Ok(given) => given,

@@ -2,12 +2,11 @@
 //! and gives its connection back.
 
 use crate::cases::check;
-use crate::damages::example_with;
 use crate::table_cases::{
     Request, adopted, answer_in_memory, call_in, check_rows, check_served, decided, made, moment,
     opened, serve_calls,
 };
-use crate::written::{DROPPED, DROPPED_ROWS, NO_ROWS, PICKED, PICKED_ROWS};
+use crate::written::{DROPPED, DROPPED_ROWS, NO_ROWS, PICKED, PICKED_ROWS, example_with};
 use agv_desk::Answer;
 use agv_http::Routes;
 use agv_store::Desk;

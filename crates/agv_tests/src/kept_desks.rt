@@ -1,9 +1,8 @@
 //! Databases that others changed once a desk had served a worked example, and that have the rows of a lawful world still: the
 //! desk is adopted and opened, and the rows are as they were.
 
-use crate::damages::example_with;
 use crate::table_cases::{adopted, check_rows, opened, rows_text, serve_calls};
-use crate::written::DROPPED;
+use crate::written::{DROPPED, example_with};
 use std::alloc::Global;
 use std::process::Abort;
 

@@ -7,8 +7,7 @@
 //! - `asked` asks the desk's tables in a file with 1,000 loads and with 100,000.
 //! - `written` has a desk serve a worked example, on a disk and in a file too, and reads the rows back.
 //! - `two_vehicles` does so with an example of two vehicles, of which one is cancelled on its way.
-//! - `damages` damages the database of the worked example in many ways: there is no desk then.
-//! - `kept_desks` changes it in lawful ways, and the desk is taken over.
+//! - `kept_desks` changes the database of the worked example in lawful ways, and the desk is taken over.
 //! - `desks` makes, opens and adopts a desk, has it serve calls without a break, and asks and is refused.
 //! - `failing_stores` has a desk serve the worked example over files that fail from some call on.
 //! - `failing_streams` has it serve streams over such files.
@@ -27,8 +26,6 @@ mod asked;
 mod beginnings;
 #[cfg(test)]
 mod cases;
-#[cfg(test)]
-mod damages;
 #[cfg(test)]
 mod desks;
 #[cfg(test)]

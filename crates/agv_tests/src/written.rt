@@ -8,10 +8,10 @@
 
 use crate::disks::{blank, close, open};
 use crate::table_cases::{
-    LAYOUT, Request, adopted, check_read, check_rows, made, opened, write_calls,
+    LAYOUT, Request, adopted, check_read, check_rows, made, opened, serve_calls, write_calls,
 };
 use agv_world::World;
-use sqlite::{Alter, Connection};
+use sqlite::{Alter, Connection, MemStore};
 use std::alloc::Global;
 use std::process::Abort;
 
@@ -129,6 +129,16 @@ used order O1
 used ref R1
 used ref R2
 ";
+
+/// The database of the example, in which an order is under way, once these statements were carried out.
+pub(crate) fn example_with(rt: &impl Abort, alloc: Global, texts: &str) -> Connection<MemStore> {
+    let conn = Connection::open_in_memory(alloc).expect(rt, "memory");
+    let mut desk = made(rt, alloc, conn);
+    serve_calls(rt, alloc, &mut desk, PICKED);
+    let mut conn = desk.release_conn();
+    conn.execute_batch(texts).expect(rt, texts);
+    conn
+}
 
 /// Carries out these texts.
 fn execute_all<S: Alter>(rt: &impl Abort, conn: &mut Connection<S>, texts: &[&str]) {

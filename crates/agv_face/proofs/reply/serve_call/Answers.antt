@@ -4,7 +4,8 @@ use Rattle.agv_store.specs.Floors.{Keyed, world_at}
 use Rattle.agv_tables.specs.sql.Connections.{IsClean}
 use Rattle.agv_tables.specs.readings.WorldIn.{world_in}
 use Rattle.agv_world.specs.Worlds.{World}
-use Rattle.agv_face.proofs.Serving.{by_both, on_err, same_report, stays, true_where, world_known}
+use Rattle.agv_face.proofs.Serving.{by_both, later_then, on_err, same_report, stays, true_where, world_known}
+use Rattle.agv_face.specs.Replies.{IsLaterDesk}
 use Rattle.agv_face.proofs.reply.serve_call.Goals as goal
 
 -- the report has failed, so one was asked for: the call has changed nothing
@@ -34,3 +35,28 @@ returns-clause-serves g c clean =
           (λ none. ap (λ (desk : Keyed g.row.S.Denot). world_at g.S.Store desk.held) (c.in_ok-report.ensures.silent none).1)
           ∙ known;
     }
+
+-- ---- the desk at a later moment
+
+pub returns-in_err-answer-clause-later : goal.returns-in_err-answer-clause-later
+returns-in_err-answer-clause-later g c = record { clean = λ clean. omega (arith, c.serve.ensures.crash.clean, clean); was_open = c.serve.ensures.was_open; stopped = λ failed. (c.serve.ensures.stopped failed).1 }
+
+pub returns-in_err-report-clause-later : goal.returns-in_err-report-clause-later
+returns-in_err-report-clause-later g c =
+    let served : IsLaterDesk g.S.Store c.args.desk.now c.serve.new.self = record { clean = λ clean. omega (arith, c.serve.ensures.crash.clean, clean); was_open = c.serve.ensures.was_open; stopped = λ failed. (c.serve.ensures.stopped failed).1 } in
+    let told : IsLaterDesk g.S.Store c.serve.new.self c.report.new.self = record {
+      clean = λ clean. omega (arith, c.report.ensures.crash.clean, clean);
+      was_open = c.report.ensures.was_open;
+      stopped = λ failed. by_both (names_report c.in_ok-answer.answer) (λ named. (c.report.ensures.stopped named failed).1) (λ none. (c.report.ensures.silent none).1);
+    } in
+    later_then g.S.Store c.args.desk.now c.serve.new.self c.report.new.self served told
+
+pub returns-clause-later : goal.returns-clause-later
+returns-clause-later g c =
+    let served : IsLaterDesk g.S.Store c.args.desk.now c.serve.new.self = record { clean = λ clean. omega (arith, c.serve.ensures.crash.clean, clean); was_open = c.serve.ensures.was_open; stopped = λ failed. (c.serve.ensures.stopped failed).1 } in
+    let told : IsLaterDesk g.S.Store c.serve.new.self c.report.new.self = record {
+      clean = λ clean. omega (arith, c.report.ensures.crash.clean, clean);
+      was_open = c.report.ensures.was_open;
+      stopped = λ failed. by_both (names_report c.in_ok-answer.answer) (λ named. (c.report.ensures.stopped named failed).1) (λ none. (c.report.ensures.silent none).1);
+    } in
+    later_then g.S.Store c.args.desk.now c.serve.new.self c.report.new.self served told

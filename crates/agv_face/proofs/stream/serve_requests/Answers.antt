@@ -4,8 +4,9 @@ use Rattle.std.proofs.KnownBytes.{Keeps-refl}
 use Rattle.agv_face.specs.Ends.{most_reads}
 use Rattle.agv_face.specs.Watched.{calls_of, counted}
 use Rattle.agv_face.specs.declared.next.Next.TheVariants as next
+use Rattle.agv_face.proofs.Serving.{later_then}
 use Rattle.agv_face.proofs.Streams.{HasServed, none_served}
-use Rattle.agv_face.proofs.Exits.{answer_cut, answered_on, end_found, failed_still, fault_cut, fault_told, last_answered, machine_failed, none_come, some_bytes}
+use Rattle.agv_face.proofs.Exits.{answer_cut, answer_cut_counted, answered_on, cut_counted, end_counted, end_found, failed_still, fault_cut, fault_told, last_answered, last_counted, machine_counted, machine_failed, none_come, none_counted, some_bytes, told_counted}
 use Rattle.agv_face.proofs.Writing.{failed_then}
 use Rattle.agv_face.proofs.stream.serve_requests.Goals as goal
 
@@ -48,20 +49,20 @@ returns-in-Err-read_some-clause-ends g c =
 
 -- an answer was cut
 pub returns-then-not-write_whole-clause-ends : goal.returns-then-not-write_whole-clause-ends
-returns-then-not-write_whole-clause-ends g c = answer_cut g.S.Store g.R.Read.remaining g.W.Write.contents c.args.at c.args.max_reads c.args.desk.now c.loop-reads.desk c.serve_next-next.new.desk c.args.reader.now c.loop-reads.reader c.args.writer.now c.loop-reads.writer c.loop-reads.ended c.loop-reads.room.input.items c.deref.result.now c.serve_next-next.new.out.items c.loop-reads.answers c.in-Ok-Request.field-0 c.loop-reads.invariant.0 c.hears_how_it_goes_on.ensures c.deref.ensures.value c.in-Ok-Request.ensures.next c.knows.ensures c.in-Ok-Request.ensures.clean c.in-Ok-Request.ensures.failed c.answers_in_turn.ensures.answers c.answers_in_turn.ensures.world _ _ (c.in-Ok-Request.field-0-is ∙ ap₂ next.Request (sym c.in-Ok-Request.len-is) (sym c.in-Ok-Request.close-is)) c.write_whole.new.writer c.deref-in-Ok-Request.result.now c.deref-in-Ok-Request.ensures.value c.if-not-write_whole.ensures
+returns-then-not-write_whole-clause-ends g c = answer_cut g.S.Store g.R.Read.remaining g.W.Write.contents c.args.at c.args.max_reads c.args.desk.now c.loop-reads.desk c.serve_next-next.new.desk c.args.reader.now c.loop-reads.reader c.args.writer.now c.loop-reads.writer c.loop-reads.ended c.loop-reads.room.input.items c.deref.result.now c.serve_next-next.new.out.items c.loop-reads.answers c.in-Ok-Request.field-0 c.loop-reads.invariant.0 c.hears_how_it_goes_on.ensures c.deref.ensures.value c.in-Ok-Request.ensures.next c.knows.ensures c.in-Ok-Request.ensures.later c.in-Ok-Request.ensures.failed c.answers_in_turn.ensures.answers c.answers_in_turn.ensures.world c.answers_in_turn.ensures.calls _ _ (c.in-Ok-Request.field-0-is ∙ ap₂ next.Request (sym c.in-Ok-Request.len-is) (sym c.in-Ok-Request.close-is)) c.write_whole.new.writer c.deref-in-Ok-Request.result.now c.deref-in-Ok-Request.ensures.value c.if-not-write_whole.ensures
 
 -- the last request was answered
 pub returns-then-close-clause-ends : goal.returns-then-close-clause-ends
-returns-then-close-clause-ends g c = last_answered g.S.Store g.R.Read.remaining g.W.Write.contents c.args.at c.args.max_reads c.args.desk.now c.loop-reads.desk c.serve_next-next.new.desk c.args.reader.now c.loop-reads.reader c.args.writer.now c.loop-reads.writer c.loop-reads.ended c.loop-reads.room.input.items c.deref.result.now c.serve_next-next.new.out.items c.loop-reads.answers c.in-Ok-Request.field-0 c.loop-reads.invariant.0 c.hears_how_it_goes_on.ensures c.deref.ensures.value c.in-Ok-Request.ensures.next c.knows.ensures c.in-Ok-Request.ensures.clean c.in-Ok-Request.ensures.failed c.answers_in_turn.ensures.answers c.answers_in_turn.ensures.world _ _ (c.in-Ok-Request.field-0-is ∙ ap₂ next.Request (sym c.in-Ok-Request.len-is) (sym c.in-Ok-Request.close-is)) c.write_whole.new.writer c.deref-in-Ok-Request.result.now c.deref-in-Ok-Request.ensures.value c.if-not-write_whole.ensures c.if-close.true
+returns-then-close-clause-ends g c = last_answered g.S.Store g.R.Read.remaining g.W.Write.contents c.args.at c.args.max_reads c.args.desk.now c.loop-reads.desk c.serve_next-next.new.desk c.args.reader.now c.loop-reads.reader c.args.writer.now c.loop-reads.writer c.loop-reads.ended c.loop-reads.room.input.items c.deref.result.now c.serve_next-next.new.out.items c.loop-reads.answers c.in-Ok-Request.field-0 c.loop-reads.invariant.0 c.hears_how_it_goes_on.ensures c.deref.ensures.value c.in-Ok-Request.ensures.next c.knows.ensures c.in-Ok-Request.ensures.later c.in-Ok-Request.ensures.failed c.answers_in_turn.ensures.answers c.answers_in_turn.ensures.world c.answers_in_turn.ensures.calls _ _ (c.in-Ok-Request.field-0-is ∙ ap₂ next.Request (sym c.in-Ok-Request.len-is) (sym c.in-Ok-Request.close-is)) c.write_whole.new.writer c.deref-in-Ok-Request.result.now c.deref-in-Ok-Request.ensures.value c.if-not-write_whole.ensures c.if-close.true
 
 -- a request was answered, and the stream goes on
 pub loop-reads-preserved : goal.loop-reads-preserved
 loop-reads-preserved g c =
     let now = c.loop-reads.invariant in
-    let size = some_bytes g.S.Store g.R.Read.remaining g.W.Write.contents c.args.at c.args.max_reads c.args.desk.now c.loop-reads.desk c.serve_next-next.new.desk c.args.reader.now c.loop-reads.reader c.args.writer.now c.loop-reads.writer c.loop-reads.ended c.loop-reads.room.input.items c.deref.result.now c.serve_next-next.new.out.items c.loop-reads.answers c.in-Ok-Request.field-0 c.loop-reads.invariant.0 c.hears_how_it_goes_on.ensures c.deref.ensures.value c.in-Ok-Request.ensures.next c.knows.ensures c.in-Ok-Request.ensures.clean c.in-Ok-Request.ensures.failed c.answers_in_turn.ensures.answers c.answers_in_turn.ensures.world c.in-Ok-Request.len c.in-Ok-Request.close (c.in-Ok-Request.field-0-is ∙ ap₂ next.Request (sym c.in-Ok-Request.len-is) (sym c.in-Ok-Request.close-is)) c.write_whole.new.writer c.deref-in-Ok-Request.result.now c.deref-in-Ok-Request.ensures.value in
+    let size = some_bytes g.S.Store g.R.Read.remaining g.W.Write.contents c.args.at c.args.max_reads c.args.desk.now c.loop-reads.desk c.serve_next-next.new.desk c.args.reader.now c.loop-reads.reader c.args.writer.now c.loop-reads.writer c.loop-reads.ended c.loop-reads.room.input.items c.deref.result.now c.serve_next-next.new.out.items c.loop-reads.answers c.in-Ok-Request.field-0 c.loop-reads.invariant.0 c.hears_how_it_goes_on.ensures c.deref.ensures.value c.in-Ok-Request.ensures.next c.knows.ensures c.in-Ok-Request.ensures.later c.in-Ok-Request.ensures.failed c.answers_in_turn.ensures.answers c.answers_in_turn.ensures.world c.answers_in_turn.ensures.calls c.in-Ok-Request.len c.in-Ok-Request.close (c.in-Ok-Request.field-0-is ∙ ap₂ next.Request (sym c.in-Ok-Request.len-is) (sym c.in-Ok-Request.close-is)) c.write_whole.new.writer c.deref-in-Ok-Request.result.now c.deref-in-Ok-Request.ensures.value in
     let So : List ℕ → Type 0 = λ l. HasServed g.S.Store g.R.Read.remaining g.W.Write.contents c.args.at c.args.desk.now c.args.reader.now c.args.writer.now c.serve_next-next.new.desk c.loop-reads.reader c.write_whole.new.writer c.loop-reads.ended l (c.loop-reads.answers + 1) in
     let left : vec_len c.drop_front.new.buf ≡ length c.loop-reads.room.input.items - c.in-Ok-Request.len = c.drop_front.new.buf.ok.0 ∙ ap length c.drop_front.ensures.items ∙ length-drop c.in-Ok-Request.len c.loop-reads.room.input.items in (
-      subst So (sym c.drop_front.ensures.items) (answered_on g.S.Store g.R.Read.remaining g.W.Write.contents c.args.at c.args.max_reads c.args.desk.now c.loop-reads.desk c.serve_next-next.new.desk c.args.reader.now c.loop-reads.reader c.args.writer.now c.loop-reads.writer c.loop-reads.ended c.loop-reads.room.input.items c.deref.result.now c.serve_next-next.new.out.items c.loop-reads.answers c.in-Ok-Request.field-0 c.loop-reads.invariant.0 c.hears_how_it_goes_on.ensures c.deref.ensures.value c.in-Ok-Request.ensures.next c.knows.ensures c.in-Ok-Request.ensures.clean c.in-Ok-Request.ensures.failed c.answers_in_turn.ensures.answers c.answers_in_turn.ensures.world c.in-Ok-Request.len c.in-Ok-Request.close (c.in-Ok-Request.field-0-is ∙ ap₂ next.Request (sym c.in-Ok-Request.len-is) (sym c.in-Ok-Request.close-is)) c.write_whole.new.writer c.deref-in-Ok-Request.result.now c.deref-in-Ok-Request.ensures.value c.if-not-write_whole.ensures c.if-close.false),
+      subst So (sym c.drop_front.ensures.items) (answered_on g.S.Store g.R.Read.remaining g.W.Write.contents c.args.at c.args.max_reads c.args.desk.now c.loop-reads.desk c.serve_next-next.new.desk c.args.reader.now c.loop-reads.reader c.args.writer.now c.loop-reads.writer c.loop-reads.ended c.loop-reads.room.input.items c.deref.result.now c.serve_next-next.new.out.items c.loop-reads.answers c.in-Ok-Request.field-0 c.loop-reads.invariant.0 c.hears_how_it_goes_on.ensures c.deref.ensures.value c.in-Ok-Request.ensures.next c.knows.ensures c.in-Ok-Request.ensures.later c.in-Ok-Request.ensures.failed c.answers_in_turn.ensures.answers c.answers_in_turn.ensures.world c.answers_in_turn.ensures.calls c.in-Ok-Request.len c.in-Ok-Request.close (c.in-Ok-Request.field-0-is ∙ ap₂ next.Request (sym c.in-Ok-Request.len-is) (sym c.in-Ok-Request.close-is)) c.write_whole.new.writer c.deref-in-Ok-Request.result.now c.deref-in-Ok-Request.ensures.value c.if-not-write_whole.ensures c.if-close.false),
       omega (arith, now.1, c.in-Ok-Request.ensures.grown),
       omega (arith, now.2, c.drop_front.ensures.room),
       now.3,
@@ -85,4 +86,58 @@ returns-in-Ok-Fault-clause-failed g c = failed_still g.S.Store g.R.Read.remainin
 pub returns-in-Err-clause-ends : goal.returns-in-Err-clause-ends
 returns-in-Err-clause-ends g c =
     machine_failed g.S.Store g.R.Read.remaining g.W.Write.contents c.args.at c.args.max_reads c.args.desk.now c.loop-reads.desk c.serve_next-next.new.desk c.args.reader.now c.loop-reads.reader c.args.writer.now c.loop-reads.writer c.refuse.new.writer c.loop-reads.ended c.loop-reads.room.input.items c.loop-reads.answers
-    c.in-Err.fault c.loop-reads.invariant.0 c.in-Err.ensures.clean c.in-Err.ensures.left c.knows.ensures c.refuse.result c.refuse.ensures
+    c.in-Err.fault c.loop-reads.invariant.0 c.hears_how_it_goes_on.ensures c.in-Err.ensures.later c.in-Err.ensures.left c.knows.ensures c.deref.result.now c.deref.ensures.value c.in-Err.ensures.fault c.refuse.result c.refuse.ensures
+
+-- ---- how far the stream has come
+
+pub returns-in-Ok-End-clause-counts : goal.returns-in-Ok-End-clause-counts
+returns-in-Ok-End-clause-counts g c = end_counted g.S.Store g.R.Read.remaining g.W.Write.contents c.args.at c.args.max_reads c.args.desk.now c.loop-reads.desk c.serve_next-next.new.desk c.args.reader.now c.loop-reads.reader c.args.writer.now c.loop-reads.writer c.loop-reads.ended c.loop-reads.room.input.items c.deref.result.now c.serve_next-next.new.out.items c.loop-reads.answers c.in-Ok-End.field-0 c.loop-reads.invariant.0 c.hears_how_it_goes_on.ensures c.deref.ensures.value c.in-Ok-End.ensures.next c.knows.ensures c.in-Ok-End.field-0-is
+
+pub returns-then-reads-most-clause-counts : goal.returns-then-reads-most-clause-counts
+returns-then-reads-most-clause-counts g c = none_counted g.S.Store g.R.Read.remaining g.W.Write.contents c.args.at c.args.max_reads c.args.desk.now c.loop-reads.desk c.serve_next-next.new.desk c.args.reader.now c.loop-reads.reader c.args.writer.now c.loop-reads.writer c.loop-reads.ended c.loop-reads.room.input.items c.deref.result.now c.serve_next-next.new.out.items c.loop-reads.answers c.in-Ok-Need.field-0 c.loop-reads.invariant.0 c.hears_how_it_goes_on.ensures c.deref.ensures.value c.in-Ok-Need.ensures.next c.knows.ensures c.in-Ok-Need.field-0-is c.loop-reads.reader (Keeps-refl _)
+
+pub returns-in-Err-read_some-clause-counts : goal.returns-in-Err-read_some-clause-counts
+returns-in-Err-read_some-clause-counts g c = none_counted g.S.Store g.R.Read.remaining g.W.Write.contents c.args.at c.args.max_reads c.args.desk.now c.loop-reads.desk c.serve_next-next.new.desk c.args.reader.now c.loop-reads.reader c.args.writer.now c.loop-reads.writer c.loop-reads.ended c.loop-reads.room.input.items c.deref.result.now c.serve_next-next.new.out.items c.loop-reads.answers c.in-Ok-Need.field-0 c.loop-reads.invariant.0 c.hears_how_it_goes_on.ensures c.deref.ensures.value c.in-Ok-Need.ensures.next c.knows.ensures c.in-Ok-Need.field-0-is c.read_some.new.reader c.in-Err-read_some.ensures.failed.1
+
+pub returns-then-not-write_whole-clause-counts : goal.returns-then-not-write_whole-clause-counts
+returns-then-not-write_whole-clause-counts g c = answer_cut_counted g.S.Store g.R.Read.remaining g.W.Write.contents c.args.at c.args.max_reads c.args.desk.now c.loop-reads.desk c.serve_next-next.new.desk c.args.reader.now c.loop-reads.reader c.args.writer.now c.loop-reads.writer c.loop-reads.ended c.loop-reads.room.input.items c.deref.result.now c.serve_next-next.new.out.items c.loop-reads.answers c.in-Ok-Request.field-0 c.loop-reads.invariant.0 c.hears_how_it_goes_on.ensures c.deref.ensures.value c.in-Ok-Request.ensures.next c.knows.ensures c.in-Ok-Request.ensures.later c.in-Ok-Request.ensures.failed c.answers_in_turn.ensures.answers c.answers_in_turn.ensures.world c.answers_in_turn.ensures.calls _ _ (c.in-Ok-Request.field-0-is ∙ ap₂ next.Request (sym c.in-Ok-Request.len-is) (sym c.in-Ok-Request.close-is)) c.write_whole.new.writer c.deref-in-Ok-Request.result.now c.deref-in-Ok-Request.ensures.value
+
+pub returns-then-close-clause-counts : goal.returns-then-close-clause-counts
+returns-then-close-clause-counts g c = last_counted g.S.Store g.R.Read.remaining g.W.Write.contents c.args.at c.args.max_reads c.args.desk.now c.loop-reads.desk c.serve_next-next.new.desk c.args.reader.now c.loop-reads.reader c.args.writer.now c.loop-reads.writer c.loop-reads.ended c.loop-reads.room.input.items c.deref.result.now c.serve_next-next.new.out.items c.loop-reads.answers c.in-Ok-Request.field-0 c.loop-reads.invariant.0 c.hears_how_it_goes_on.ensures c.deref.ensures.value c.in-Ok-Request.ensures.next c.knows.ensures c.in-Ok-Request.ensures.later c.in-Ok-Request.ensures.failed c.answers_in_turn.ensures.answers c.answers_in_turn.ensures.world c.answers_in_turn.ensures.calls _ _ (c.in-Ok-Request.field-0-is ∙ ap₂ next.Request (sym c.in-Ok-Request.len-is) (sym c.in-Ok-Request.close-is)) c.write_whole.new.writer c.deref-in-Ok-Request.result.now c.deref-in-Ok-Request.ensures.value c.if-not-write_whole.ensures c.if-close.true
+
+pub returns-then-not-write_whole-2-clause-counts : goal.returns-then-not-write_whole-2-clause-counts
+returns-then-not-write_whole-2-clause-counts g c = cut_counted g.S.Store g.R.Read.remaining g.W.Write.contents c.args.at c.args.max_reads c.args.desk.now c.loop-reads.desk c.serve_next-next.new.desk c.args.reader.now c.loop-reads.reader c.args.writer.now c.loop-reads.writer c.loop-reads.ended c.loop-reads.room.input.items c.deref.result.now c.serve_next-next.new.out.items c.loop-reads.answers c.in-Ok-Fault.field-0 c.loop-reads.invariant.0 c.hears_how_it_goes_on.ensures c.deref.ensures.value c.in-Ok-Fault.ensures.next c.knows.ensures _ (c.in-Ok-Fault.field-0-is ∙ ap next.Fault (sym c.in-Ok-Fault.why-is)) c.write_whole-in-Ok-Fault.new.writer c.deref-in-Ok-Fault.result.now c.deref-in-Ok-Fault.ensures.value
+
+pub returns-in-Ok-Fault-clause-counts : goal.returns-in-Ok-Fault-clause-counts
+returns-in-Ok-Fault-clause-counts g c = told_counted g.S.Store g.R.Read.remaining g.W.Write.contents c.args.at c.args.max_reads c.args.desk.now c.loop-reads.desk c.serve_next-next.new.desk c.args.reader.now c.loop-reads.reader c.args.writer.now c.loop-reads.writer c.loop-reads.ended c.loop-reads.room.input.items c.deref.result.now c.serve_next-next.new.out.items c.loop-reads.answers c.in-Ok-Fault.field-0 c.loop-reads.invariant.0 c.hears_how_it_goes_on.ensures c.deref.ensures.value c.in-Ok-Fault.ensures.next c.knows.ensures _ (c.in-Ok-Fault.field-0-is ∙ ap next.Fault (sym c.in-Ok-Fault.why-is)) c.write_whole-in-Ok-Fault.new.writer c.deref-in-Ok-Fault.result.now c.deref-in-Ok-Fault.ensures.value c.if-not-write_whole-2.ensures
+
+pub returns-in-Err-clause-counts : goal.returns-in-Err-clause-counts
+returns-in-Err-clause-counts g c =
+    machine_counted g.S.Store g.R.Read.remaining g.W.Write.contents c.args.at c.args.max_reads c.args.desk.now c.loop-reads.desk c.serve_next-next.new.desk c.args.reader.now c.loop-reads.reader c.args.writer.now c.loop-reads.writer c.refuse.new.writer c.loop-reads.ended c.loop-reads.room.input.items c.loop-reads.answers
+    c.in-Err.fault c.loop-reads.invariant.0 c.hears_how_it_goes_on.ensures c.in-Err.ensures.later c.in-Err.ensures.left c.knows.ensures c.deref.result.now c.deref.ensures.value c.in-Err.ensures.fault c.in-Err.ensures.failed c.refuse.result c.refuse.ensures
+
+-- ---- the desk at a later moment
+
+pub returns-in-Ok-End-clause-later : goal.returns-in-Ok-End-clause-later
+returns-in-Ok-End-clause-later g c = later_then g.S.Store c.args.desk.now c.loop-reads.desk c.serve_next-next.new.desk c.loop-reads.invariant.0.later c.in-Ok-End.ensures.later
+
+pub returns-then-reads-most-clause-later : goal.returns-then-reads-most-clause-later
+returns-then-reads-most-clause-later g c = later_then g.S.Store c.args.desk.now c.loop-reads.desk c.serve_next-next.new.desk c.loop-reads.invariant.0.later c.in-Ok-Need.ensures.later
+
+pub returns-in-Err-read_some-clause-later : goal.returns-in-Err-read_some-clause-later
+returns-in-Err-read_some-clause-later g c = later_then g.S.Store c.args.desk.now c.loop-reads.desk c.serve_next-next.new.desk c.loop-reads.invariant.0.later c.in-Ok-Need.ensures.later
+
+pub returns-then-not-write_whole-clause-later : goal.returns-then-not-write_whole-clause-later
+returns-then-not-write_whole-clause-later g c = later_then g.S.Store c.args.desk.now c.loop-reads.desk c.serve_next-next.new.desk c.loop-reads.invariant.0.later c.in-Ok-Request.ensures.later
+
+pub returns-then-close-clause-later : goal.returns-then-close-clause-later
+returns-then-close-clause-later g c = later_then g.S.Store c.args.desk.now c.loop-reads.desk c.serve_next-next.new.desk c.loop-reads.invariant.0.later c.in-Ok-Request.ensures.later
+
+pub returns-then-not-write_whole-2-clause-later : goal.returns-then-not-write_whole-2-clause-later
+returns-then-not-write_whole-2-clause-later g c = later_then g.S.Store c.args.desk.now c.loop-reads.desk c.serve_next-next.new.desk c.loop-reads.invariant.0.later c.in-Ok-Fault.ensures.later
+
+pub returns-in-Ok-Fault-clause-later : goal.returns-in-Ok-Fault-clause-later
+returns-in-Ok-Fault-clause-later g c = later_then g.S.Store c.args.desk.now c.loop-reads.desk c.serve_next-next.new.desk c.loop-reads.invariant.0.later c.in-Ok-Fault.ensures.later
+
+pub returns-in-Err-clause-later : goal.returns-in-Err-clause-later
+returns-in-Err-clause-later g c = later_then g.S.Store c.args.desk.now c.loop-reads.desk c.serve_next-next.new.desk c.loop-reads.invariant.0.later c.in-Err.ensures.later

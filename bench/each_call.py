@@ -1,0 +1,160 @@
+"""Measures each kind of call over `serve` on a file with 1,000, 100,000 and 1,000,000 loads at the checking place and as many jobs that
+have ended: the wall time from the last byte of the request written to the answer read, the median of some rounds, and the
+instructions of the program for it. Beside, in the same run and on copies of the same files, the statements that the desk carries out
+for the call (bench/statements.txt) by the SQLite of C (bench/plain_calls.c; WAL, synchronous=FULL, each text prepared once). Besides
+the time and the memory of an opening. Python's standard library, gcc with SQLite's header and library, and valgrind.
+
+    DESK=crates/agv_app/out/agv_app python3 bench/each_call.py [SIZE..]
+"""
+import glob
+import os
+import re
+import shutil
+import socket
+import statistics
+import subprocess
+import sys
+import tempfile
+import time
+
+import rounds
+
+HERE = os.path.dirname(os.path.abspath(__file__))
+DESK = os.path.abspath(os.environ.get('DESK', os.path.join(HERE, '..', 'build', 'desk')))
+TURNS = int(os.environ.get('TURNS', '40'))
+
+
+def remove(name):
+    for end in ('', '-wal', '-shm'):
+        if os.path.exists(name + end):
+            os.remove(name + end)
+
+
+def copied(source, name):
+    remove(name)
+    shutil.copy(source, name)
+    return name
+
+
+class Served:
+    """A desk that serves one connection."""
+
+    def __init__(self, name, before=()):
+        begun = time.perf_counter()
+        self.desk = subprocess.Popen([*before, DESK, 'serve', '--db', name, '--port', '0', '--connections', '1'], stdout=subprocess.PIPE)
+        line = self.desk.stdout.readline()
+        self.opened = time.perf_counter() - begun
+        self.memory = int(re.search(r'VmHWM:\s+(\d+)', open('/proc/%d/status' % self.desk.pid).read()).group(1))
+        self.line = socket.create_connection(('127.0.0.1', int(line.rsplit(b':', 1)[1])))
+        self.line.setsockopt(socket.IPPROTO_TCP, socket.TCP_NODELAY, 1)
+
+    def ask(self, what, bytes_):
+        begun = time.perf_counter()
+        self.line.sendall(bytes_)
+        answer = self.line.recv(131_072)
+        spent = time.perf_counter() - begun
+        if not answer.startswith((b'HTTP/1.1 200', b'HTTP/1.1 204')):
+            raise SystemExit('%s: %r' % (what, answer))
+        return spent
+
+    def close(self):
+        self.line.close()
+        self.desk.wait()
+        self.desk.stdout.close()
+
+
+def times(name):
+    """The median seconds of each kind of call, and the opening."""
+    desk, calls, found = Served(name), rounds.Rounds(), {}
+    for turn in range(TURNS + 5):
+        for what, bytes_ in calls.round():
+            spent = desk.ask(what, bytes_)
+            if turn >= 5:
+                found.setdefault(what, []).append(spent)
+    desk.close()
+    return {what: statistics.median(spent) for what, spent in found.items()}, desk.opened, desk.memory
+
+
+def totals(folder, mark):
+    """The instructions that callgrind has written for each request, by the number of its dump."""
+    found = {}
+    for path in glob.glob(os.path.join(folder, mark + '.*')):
+        total = re.search(r'^(?:totals|summary):\s*(\d+)', open(path).read(), re.M)
+        if total and path.rsplit('.', 1)[1].isdigit():
+            found[int(path.rsplit('.', 1)[1])] = int(total.group(1))
+    return found
+
+
+def instructions(name, folder):
+    """The instructions of each kind of call, the mean of a round's."""
+    out = os.path.join(folder, 'desk.callgrind')
+    desk = Served(name, ['valgrind', '-q', '--tool=callgrind', '--instr-atstart=no', '--callgrind-out-file=' + out])
+    calls = rounds.Rounds()
+    for _ in range(3):
+        for what, bytes_ in calls.round():
+            desk.ask(what, bytes_)
+
+    def control(*words):
+        subprocess.run(['callgrind_control', *words, str(desk.desk.pid)], stdout=subprocess.DEVNULL, check=True)
+    control('-i', 'on')
+    for what, bytes_ in calls.round():
+        desk.ask(what, bytes_)
+    control('-d')
+    kinds = []
+    for what, bytes_ in calls.round():
+        desk.ask(what, bytes_)
+        control('-d')
+        kinds.append(what)
+    desk.close()
+    found, counts = totals(folder, 'desk.callgrind'), {}
+    for number, what in enumerate(kinds, 2):
+        counts.setdefault(what, []).append(found[number])
+    for path in glob.glob(out + '*'):
+        os.remove(path)
+    return {what: statistics.mean(some) for what, some in counts.items()}
+
+
+def plain_times(plain, name):
+    done = subprocess.run([plain, name, os.path.join(HERE, 'statements.txt'), str(TURNS)], capture_output=True, check=True, text=True)
+    return {what: float(spent) for what, spent in (line.rsplit(None, 1) for line in done.stdout.splitlines())}
+
+
+def plain_instructions(plain, name, folder):
+    out = os.path.join(folder, 'plain.callgrind')
+    done = subprocess.run(['valgrind', '-q', '--tool=callgrind', '--callgrind-out-file=' + out, plain, name,
+                           os.path.join(HERE, 'statements.txt'), '2'], capture_output=True, check=True, text=True)
+    kinds = [line.rsplit(None, 1)[0] for line in done.stdout.splitlines()]
+    found = {}
+    for path in glob.glob(out + '*'):
+        text = open(path).read()
+        what = re.search(r'^desc: Trigger: Client Request: (.*)$', text, re.M)
+        total = re.search(r'^(?:totals|summary):\s*(\d+)', text, re.M)
+        if what and what.group(1) in kinds:
+            found[what.group(1)] = int(total.group(1))
+        os.remove(path)
+    return found
+
+
+def main():
+    sizes = [int(word) for word in sys.argv[1:]] or [1_000, 100_000, 1_000_000]
+    with tempfile.TemporaryDirectory() as folder:
+        plain = os.path.join(folder, 'plain')
+        subprocess.run(['gcc', '-O2', '-o', plain, os.path.join(HERE, 'plain_calls.c'), '-lsqlite3'], check=True)
+        start = os.path.join(folder, 'start.db')
+        subprocess.run([DESK, 'replay', '--db', start, '--at', rounds.AT], input=b''.join(rounds.START), stdout=subprocess.DEVNULL, check=True)
+        for size in sizes:
+            rounds.fill(start, size)
+            run = os.path.join(folder, 'run.db')
+            ours, opened, memory = times(copied(start, run))
+            theirs = plain_times(plain, copied(start, run))
+            counts = instructions(copied(start, run), folder)
+            plain_counts = plain_instructions(plain, copied(start, run), folder)
+            print('%d loads and ended jobs: opened in %.2f s, %d MB' % (size, opened, memory // 1024))
+            print('%-34s %10s %10s %6s %12s %12s' % ('', 'desk, us', 'SQLite, us', 'times', 'desk, instr.', 'SQLite'))
+            for what in ours:
+                print('%-34s %10.0f %10.0f %6.2f %12d %12d' % (what, ours[what] * 1e6, theirs[what] * 1e6, ours[what] / theirs[what],
+                                                              counts[what], plain_counts.get(what, 0)), flush=True)
+            remove(run)
+
+
+main()

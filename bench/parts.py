@@ -1,0 +1,68 @@
+"""The instructions of a request from its first byte read to the last byte of its answer written, and those of its parts, on a file:
+of a registration, a state, and an order with its look-ups of the way. Each figure is a twentieth of what 20 more of them take, after
+20; what a part calls counts as its own. Python's standard library and valgrind.
+
+    DESK=crates/agv_app/out/agv_app python3 bench/parts.py
+"""
+import os
+import re
+import subprocess
+import tempfile
+
+import rounds
+
+HERE = os.path.dirname(os.path.abspath(__file__))
+DESK = os.path.abspath(os.environ.get('DESK', os.path.join(HERE, '..', 'build', 'desk')))
+PARTS = [('read from the stream', r'agv_face::bytes::read_some'), ('the request is found', r'agv_http::\S*\bread_request'),
+         ('its line of the table', r'agv_http::\S*\broute_of'), ('its call', r'agv_http::\S*\bcall_of'),
+         ('served by the desk', r'agv_store::desk::Desk::serve'), ('its report', r'agv_store::\S*Desk::report'),
+         ('the bytes of its answer', r'agv_http::\S*\bput_answer'), ('written to the stream', r'agv_face::bytes::write_whole')]
+COUNT = 20
+
+
+def counted(stdin, folder):
+    """The instructions in all, and those of each part."""
+    db, out = os.path.join(folder, 'parts.db'), os.path.join(folder, 'parts.out')
+    for end in ('', '-wal', '-shm'):
+        if os.path.exists(db + end):
+            os.remove(db + end)
+    subprocess.run(['valgrind', '-q', '--tool=callgrind', '--callgrind-out-file=' + out, DESK, 'replay', '--db', db, '--at', rounds.AT],
+                   input=stdin, stdout=subprocess.DEVNULL, check=True)
+    text = subprocess.run(['callgrind_annotate', '--inclusive=yes', '--threshold=100', out], capture_output=True, text=True, check=True).stdout
+    rows = [(int(row[0].replace(',', '')), row[1]) for row in re.findall(r'^\s*([\d,]+) \([^)]*\)\s+(.*)$', text, re.M)]
+    whole = max(count for count, _ in rows)
+    return [whole] + [sum(count for count, name in rows if re.search(part + r'(?![\w])', name)) for _, part in PARTS]
+
+
+def orders(count):
+    """Jobs for so many vehicles, and the order of each: what comes before, and the orders."""
+    nodes = ['N%03d' % i for i in range(2 * count + 2)]
+    layout = 'kind,id,from,to\n' + ''.join('node,%s,,\n' % name for name in nodes) + ''.join(
+        'edge,E%03d,%s,%s\n' % (i, nodes[2 * i], nodes[2 * i + 1]) for i in range(count)) + ''.join(
+        'station,A%03d,%s,1\nstation,B%03d,%s,1\n' % (i, nodes[2 * i], i, nodes[2 * i + 1]) for i in range(count))
+    before, orders_ = [rounds.request('PUT', '/layout', layout)], []
+    for i in range(count):
+        key = {'manufacturer': 'KIT', 'serialNumber': '%04d' % i}
+        state = rounds.state(1, node=nodes[2 * i]).replace(b'"0001"', b'"%04d"' % i).replace(b'/0001/', b'/%04d/' % i)
+        before += [rounds.request('POST', '/vehicles', {**key, 'node': nodes[2 * i]}), state,
+                   rounds.request('POST', '/loads', {'load': 'L%03d' % i, 'station': 'A%03d' % i}),
+                   rounds.request('POST', '/jobs', {'job': 'J%03d' % i, 'load': 'L%03d' % i, 'to': 'B%03d' % i})]
+        orders_.append(rounds.request('POST', '/orders', {'order': 'O%03d' % i, 'job': 'J%03d' % i, **key, 'edges': 1}))
+    return before, orders_
+
+
+def main():
+    loads = [rounds.request('POST', '/loads', {'load': 'L%07d' % i}) for i in range(2 * COUNT)]
+    states = [rounds.state(i + 2) for i in range(2 * COUNT)]
+    with tempfile.TemporaryDirectory() as folder:
+        for name, before, requests in (('a registration', rounds.START, loads), ('a state', rounds.START, states), ('an order', *orders(2 * COUNT))):
+            few = counted(b''.join(before + requests[:COUNT]), folder)
+            more = counted(b''.join(before + requests), folder)
+            whole, *parts = [(b - a) // COUNT for a, b in zip(few, more)]
+            print('%-24s %10d' % (name, whole))
+            for (part, _), count in zip(PARTS, parts):
+                print('  %-24s %10d' % (part, count))
+            print('  %-24s %10d' % ('their sum', sum(parts)), flush=True)
+
+
+main()

@@ -1,0 +1,225 @@
+-- The calls that requests ask are well typed: the names in their paths are names, and what their bodies say is well typed.
+use Rattle.std.proofs.Common.{◌≡◌, ℕ, Bool, true, false, cond, List, [], ◌∷◌, All, Option, None, Some, Result, Ok, Err, IfOk, IfSome, option_map, option_and_then, bytes_eq, refl}
+use Rattle.std.specs.List.{cons_option}
+use Rattle.std.proofs.lemmas.List.Elements.{All-cons, All-head, All-nil}
+use Rattle.agv_header.specs.Name.{IsName, is_name}
+use Rattle.agv_header.specs.declared.key.VehicleKey.{VehicleKey}
+use Rattle.agv_header.specs.declared.refusal.Refusal.{Refusal}
+use Rattle.agv_header.specs.declared.refusal.Refusal.TheVariants as refusal
+use Rattle.agv_desk.specs.WellTyped.{AreWellTyped, IsMoment}
+use Rattle.agv_desk.specs.declared.call.Call.{Call}
+use Rattle.agv_http.specs.CallIn.{call_in}
+use Rattle.agv_http.specs.Heads.{verb_text}
+use Rattle.agv_http.specs.Output.{call_at, call_by, call_for, calls_of}
+use Rattle.agv_http.specs.Paths.{Part, Word, AName, names_in, path_of, segments_of}
+use Rattle.agv_http.specs.Requests.{Request}
+use Rattle.agv_http.specs.Table.{Row, Served, at_path, fixed, if_method, of_name, of_vehicle, or_next, route_at, served_at, served_by, table, with_route}
+use Rattle.agv_http.specs.declared.route.Route.{Route}
+use Rattle.agv_http.specs.declared.route.Route.TheVariants as route
+use Rattle.agv_http.proofs.TypedBodies.{IsTypedIfSaid, reads_advance, reads_correction, reads_count, reads_job, reads_layout, reads_leave, reads_load, reads_order, reads_place, reads_state, reads_vehicle}
+
+-- ---- the names in paths
+
+names_named : (parts : List Part) (segments : List (List ℕ)) → IfSome (names_in parts segments) (All IsName)
+names_named [] [] = All-nil IsName
+names_named [] (s ∷ segments) = tt
+names_named (part ∷ parts) [] = tt
+names_named (Word w ∷ parts) (s ∷ segments) = by (bytes_eq s w) (names_named parts segments)
+  where
+    by : (test : Bool) → IfSome (names_in parts segments) (All IsName) → IfSome (cond test (names_in parts segments) None) (All IsName)
+    by true are = are
+    by false are = tt
+names_named (AName ∷ parts) (s ∷ segments) = by (is_name s) refl (names_in parts segments) (names_named parts segments)
+  where
+    with_name : IsName s → (names : Option (List (List ℕ))) → IfSome names (All IsName) → IfSome (option_map (λ names. s ∷ names) names) (All IsName)
+    with_name is None are = tt
+    with_name is (Some names) are = All-cons IsName s names is are
+
+    by : (test : Bool) → is_name s ≡ test → (names : Option (List (List ℕ))) → IfSome names (All IsName) → IfSome (cond test (option_map (λ names. s ∷ names) names) None) (All IsName)
+    by true is names are = with_name is names are
+    by false is names are = tt
+
+-- ---- routes
+
+-- where a route's path has the name that its call makes known, it is one
+abbrev IsNamedRoute : Route → Type 0
+IsNamedRoute (route.Stocktake reference) = IsName reference
+IsNamedRoute _ = Unit {0}
+
+-- a line makes such routes of names
+abbrev IsNamedLine : (List (List ℕ) → Option Route) → Type 0
+IsNamedLine line = (names : List (List ℕ)) → All IsName names → IfSome (line names) IsNamedRoute
+
+of_none : (r : Route) → IsNamedRoute r → IsNamedLine (fixed r)
+of_none r is [] are = is
+of_none r is (name ∷ names) are = tt
+
+of_one : (f : List ℕ → Route) → ((name : List ℕ) → IsName name → IsNamedRoute (f name)) → IsNamedLine (of_name f)
+of_one f is [] are = tt
+of_one f is (name ∷ []) are = is name (All-head IsName name [] are)
+of_one f is (name ∷ other ∷ names) are = tt
+
+of_two : (f : VehicleKey → Route) → ((key : VehicleKey) → IsNamedRoute (f key)) → IsNamedLine (of_vehicle f)
+of_two f is [] are = tt
+of_two f is (name ∷ []) are = tt
+of_two f is (manufacturer ∷ serial ∷ []) are = is (record { manufacturer = manufacturer; serial = serial })
+of_two f is (manufacturer ∷ serial ∷ name ∷ names) are = tt
+
+abbrev AreNamedLines : List Row → Type 0
+AreNamedLines [] = Unit {0}
+AreNamedLines (r ∷ rows) = IsNamedLine r.route × AreNamedLines rows
+
+no_name_made : (f : List ℕ → Route) → ((name : List ℕ) → IsNamedRoute (f name)) → IsNamedLine (of_name f)
+no_name_made f is = of_one f (λ name _. is name)
+
+lines_named : AreNamedLines table
+lines_named = (
+  of_none route.SetLayout tt,
+  (
+    of_none route.RegisterVehicle tt,
+    (
+      of_none route.RegisterLoad tt,
+      (
+        no_name_made route.CorrectLoad (λ _. tt),
+        (
+          no_name_made route.LeaveLoad (λ _. tt),
+          (
+            of_none route.AddJob tt,
+            (
+              no_name_made route.StopJob (λ _. tt),
+              (
+                of_none route.StartOrder tt,
+                (
+                  of_two route.Advance (λ _. tt),
+                  (
+                    of_two route.Cancel (λ _. tt),
+                    (
+                      of_two route.Pause (λ _. tt),
+                      (
+                        of_two route.Resume (λ _. tt),
+                        (
+                          of_two route.PlaceVehicle (λ _. tt),
+                          (
+                            of_two route.Resync (λ _. tt),
+                            (
+                              of_two route.State (λ _. tt),
+                              (
+                                of_two route.GetOrder (λ _. tt),
+                                (
+                                  of_two route.GetInstant (λ _. tt),
+                                  (
+                                    of_one route.Stocktake (λ reference is. is),
+                                    (
+                                      no_name_made route.GetLoad (λ _. tt),
+                                      (
+                                        of_two route.GetVehicle (λ _. tt),
+                                        (
+                                          of_none route.StockReport tt,
+                                          (
+                                            of_none route.HoldReport tt,
+                                            (
+                                              of_none route.LoadsExport tt,
+                                              tt,
+                                            ),
+                                          ),
+                                        ),
+                                      ),
+                                    ),
+                                  ),
+                                ),
+                              ),
+                            ),
+                          ),
+                        ),
+                      ),
+                    ),
+                  ),
+                ),
+              ),
+            ),
+          ),
+        ),
+      ),
+    ),
+  ),
+)
+
+-- what is served has such a route
+abbrev IsNamedServed : Option Served → Type 0
+IsNamedServed served = IfSome served (λ found. IsNamedRoute found.1)
+
+line_served : (r : Row) → IsNamedLine r.route → (names : Option (List (List ℕ))) → IfSome names (All IsName) → IsNamedServed (with_route r.method (option_and_then r.route names))
+line_served r is None are = tt
+line_served r is (Some names) are = made (r.route names) (is names are)
+  where
+    made : (found : Option Route) → IfSome found IsNamedRoute → IsNamedServed (with_route r.method found)
+    made None h = tt
+    made (Some found) h = h
+
+either : (one other : Option Served) → IsNamedServed one → IsNamedServed other → IsNamedServed (or_next one other)
+either None other is also = also
+either (Some found) other is also = is
+
+served_named : (rows : List Row) → AreNamedLines rows → (segments : List (List ℕ)) → IsNamedServed (served_at rows segments)
+served_named [] are segments = tt
+served_named (r ∷ rows) are segments =
+    either (served_by r segments) (served_at rows segments) (line_served r are.0 (names_in r.pattern segments) (names_named r.pattern segments)) (served_named rows are.1 segments)
+
+path_named : (segments : Option (List (List ℕ))) → IsNamedServed (option_and_then (served_at table) segments)
+path_named None = tt
+path_named (Some segments) = served_named table lines_named segments
+
+by_method : (method : List ℕ) (served : Option Served) → IsNamedServed served → IfOk (if_method method served) IsNamedRoute
+by_method method None is = tt
+by_method method (Some found) is = by (bytes_eq method (verb_text found.0))
+  where
+    by : (test : Bool) → IfOk {E = Refusal} (cond test (Ok found.1) (Err (refusal.BadMethod found.0))) IsNamedRoute
+    by true = is
+    by false = tt
+
+route_named : (method target : List ℕ) → IfOk (route_at method target) IsNamedRoute
+route_named method target = by_method method (at_path (path_of target)) (path_named (segments_of (path_of target)))
+
+-- ---- calls
+
+reads_call : (line : Route) → IsNamedRoute line → (body : List ℕ) → IsTypedIfSaid (call_in line body)
+unfolding call_in
+reads_call route.SetLayout is body = reads_layout body
+reads_call route.RegisterVehicle is body = reads_vehicle body
+reads_call route.RegisterLoad is body = reads_load body
+reads_call (route.CorrectLoad load) is body = reads_correction load body
+reads_call (route.LeaveLoad load) is body = reads_leave load body
+reads_call route.AddJob is body = reads_job body
+reads_call (route.StopJob job) is body = tt
+reads_call route.StartOrder is body = reads_order body
+reads_call (route.Advance key) is body = reads_advance key body
+reads_call (route.Cancel key) is body = tt
+reads_call (route.Pause key) is body = tt
+reads_call (route.Resume key) is body = tt
+reads_call (route.PlaceVehicle key) is body = reads_place key body
+reads_call (route.Resync key) is body = tt
+reads_call (route.State key) is body = reads_state key body
+reads_call (route.GetOrder key) is body = tt
+reads_call (route.GetInstant key) is body = tt
+reads_call (route.Stocktake reference) is body = reads_count reference body is
+reads_call (route.GetLoad load) is body = tt
+reads_call (route.GetVehicle key) is body = tt
+reads_call route.StockReport is body = tt
+reads_call route.HoldReport is body = tt
+reads_call route.LoadsExport is body = tt
+
+call_typed : (body : List ℕ) (line : Result Route Refusal) → IfOk line IsNamedRoute → IsTypedIfSaid (call_by body line)
+call_typed body (Err why) is = tt
+call_typed body (Ok line) is = reads_call line is body
+
+request_typed : (request : Request) → IsTypedIfSaid (call_for request)
+unfolding call_for
+request_typed request = call_typed request.body (route_at request.method request.target) (route_named request.method request.target)
+
+one_typed : (at : ℕ) → IsMoment at → (read : Result Call Refusal) → IsTypedIfSaid read → (calls : List (ℕ × Call)) → AreWellTyped calls → AreWellTyped (cons_option (call_at at read) calls)
+one_typed at moment (Err why) is calls are = are
+one_typed at moment (Ok made) is calls are = (moment, is, are)
+
+pub calls_typed : (at : ℕ) → IsMoment at → (requests : List Request) → AreWellTyped (calls_of requests at)
+calls_typed at moment [] = tt
+calls_typed at moment (request ∷ requests) = one_typed at moment (call_for request) (request_typed request) (calls_of requests at) (calls_typed at moment requests)

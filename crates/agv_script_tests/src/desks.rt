@@ -1,0 +1,94 @@
+//! Desks over a database in memory and on a disk in memory.
+
+use agv_store::Desk;
+use sqlite::{Alter, Connection, FileStore, Files, MemStore, Options};
+use sqlite_disk::{Crash, Disk, Fuse, Memory};
+use std::alloc::Global;
+use std::process::Abort;
+
+/// A disk in memory that fails from some call on.
+pub(crate) type FailingDisk = Fuse<Memory>;
+
+/// An empty database in memory.
+pub(crate) fn no_tables(rt: &impl Abort, alloc: Global) -> Connection<MemStore> {
+    Connection::open_in_memory(alloc).expect(rt, "memory")
+}
+
+/// Two empty files: so many calls go through on the log, and so many on the database file.
+pub(crate) fn blank(alloc: Global, log: u64, db: u64) -> Files<FailingDisk> {
+    Files {
+        log: Fuse::new(Memory::new(alloc), log),
+        db: Fuse::new(Memory::new(alloc), db),
+    }
+}
+
+/// Two empty files that don't fail.
+pub(crate) fn no_fuse(alloc: Global) -> Files<Memory> {
+    Files {
+        log: Memory::new(alloc),
+        db: Memory::new(alloc),
+    }
+}
+
+/// The database that the files have.
+pub(crate) fn open<D: Disk + Drop>(
+    rt: &impl Abort,
+    alloc: Global,
+    files: Files<D>,
+) -> Connection<FileStore<D>> {
+    assert!(rt; files.log.may_be_used(), "the log");
+    assert!(rt; files.db.may_be_used(), "the database file");
+    match Connection::open_files(alloc, files, Options::new(7)) {
+        Ok(conn) => conn,
+        Err(_) => panic!(rt; "the files open"),
+    }
+}
+
+/// The files of a database that was closed.
+pub(crate) fn close<D: Disk + Drop>(rt: &impl Abort, conn: Connection<FileStore<D>>) -> Files<D> {
+    match conn.close_files() {
+        Ok(files) => files,
+        Err(_) => panic!(rt; "the files close"),
+    }
+}
+
+/// The machine stops, and what was not synced is lost. It comes back with files that fail no more.
+pub(crate) fn reopen<D: Crash + Drop>(
+    rt: &impl Abort,
+    alloc: Global,
+    conn: Connection<FileStore<D>>,
+) -> Connection<FileStore<D>> {
+    let mut files = match conn.close_files() {
+        Ok(files) => files,
+        Err((_, store)) => store.close(),
+    };
+    files.log.crash();
+    files.db.crash();
+    open(rt, alloc, files)
+}
+
+/// A new desk.
+pub(crate) fn made<S: Alter + Drop>(
+    rt: &impl Abort,
+    alloc: Global,
+    conn: Connection<S>,
+) -> Desk<S> {
+    assert!(rt; conn.is_autocommit(), "idle");
+    match Desk::create(alloc, conn) {
+        Ok(desk) => desk,
+        Err(_) => panic!(rt; "a desk is made"),
+    }
+}
+
+/// The desk that a database has.
+pub(crate) fn adopted<S: Alter + Drop>(
+    rt: &impl Abort,
+    alloc: Global,
+    conn: Connection<S>,
+) -> Desk<S> {
+    assert!(rt; conn.is_autocommit(), "idle");
+    match Desk::adopt(alloc, conn) {
+        Ok(desk) => desk,
+        Err(_) => panic!(rt; "the desk is adopted"),
+    }
+}

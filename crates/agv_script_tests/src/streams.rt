@@ -1,0 +1,132 @@
+//! Streams of requests, as bytes in and bytes out, in pieces: scripts, each as one stream, and streams byte for byte.
+
+use crate::cases::{check, check_bytes, moment};
+use crate::desks::{made, no_tables};
+use crate::fakes::{Drip, Trickle};
+use crate::memory::MOMENT;
+use crate::steps::Step;
+use agv_face::{Ended, Served, serve_stream};
+use agv_header::Moment;
+use agv_store::Desk;
+use sqlite::MemStore;
+use std::alloc::Global;
+use std::process::Abort;
+
+/// The most bytes of a read, and those of a write.
+type Pace = (usize, usize);
+
+/// The paces at which streams go.
+const PACES: [Pace; 3] = [(1, 5), (7, 1), (4096, 5)];
+
+/// Serves a stream, and compares how it ends and what is written.
+pub(crate) fn check_stream(
+    rt: &impl Abort,
+    alloc: Global,
+    desk: &mut Desk<MemStore>,
+    at: Moment,
+    pace: Pace,
+    input: &str,
+    wanted: (&str, Served),
+) {
+    let (answers, end) = wanted;
+    let mut reader = Drip::watched(input.as_bytes(), pace.0);
+    let mut writer = Trickle::watched(alloc, pace.1);
+    let served = serve_stream(alloc, desk, at, &mut reader, &mut writer);
+    check(rt, served == Ok(end), input);
+    let taken = writer.inner().taken.as_slice();
+    check_bytes(rt, taken, answers, input);
+}
+
+/// The requests of a script that come at one moment, and their answers.
+#[derive(Drop)]
+struct Part {
+    at: Moment,
+    input: String,
+    answers: String,
+    count: u64,
+}
+
+/// Nothing was asked yet.
+fn no_part(alloc: Global, at: Moment) -> Part {
+    Part {
+        at,
+        input: String::new(alloc),
+        answers: String::new(alloc),
+        count: 0,
+    }
+}
+
+impl Part {
+    /// Serves what was put as one stream.
+    fn serve(&self, rt: &impl Abort, alloc: Global, desk: &mut Desk<MemStore>, pace: Pace) {
+        let end = Served {
+            answers: self.count,
+            ended: Ended::End,
+        };
+        let wanted = (self.answers.as_str(), end);
+        check_stream(rt, alloc, desk, self.at, pace, self.input.as_str(), wanted);
+    }
+
+    /// Puts a request. A stream has one moment: where another one comes, what was put is served.
+    fn put(
+        &mut self,
+        rt: &impl Abort,
+        alloc: Global,
+        desk: &mut Desk<MemStore>,
+        pace: Pace,
+        step: &Step,
+    ) {
+        match step {
+            Step::Call { request, answer } => {
+                self.input.push_str(request.as_str()).expect(rt, "memory");
+                self.answers.push_str(answer.as_str()).expect(rt, "memory");
+                self.count = self.count.saturating_add(1);
+            }
+            Step::At(then) => {
+                self.serve(rt, alloc, desk, pace);
+                *self = no_part(alloc, *then);
+            }
+            _ => {}
+        }
+    }
+}
+
+/// Serves a script as one stream at this pace.
+fn stream_at(rt: &impl Abort, alloc: Global, pace: Pace, steps: &[Step]) {
+    let mut desk = made(rt, alloc, no_tables(rt, alloc));
+    let mut part = no_part(alloc, moment(rt, MOMENT));
+    for step in steps {
+        part.put(rt, alloc, &mut desk, pace, step);
+    }
+    part.serve(rt, alloc, &mut desk, pace);
+}
+
+/// Serves a script as one stream at each pace.
+pub(crate) fn stream(rt: &impl Abort, alloc: Global, steps: &[Step]) {
+    for pace in PACES {
+        stream_at(rt, alloc, pace, steps);
+    }
+}
+
+/// An input, what is written, how many answers that is, and how the stream ends.
+pub(crate) type Stream<'s> = (&'s str, &'s str, u64, Ended);
+
+/// Serves these streams one after the other by a new desk at this pace.
+fn streams_at(rt: &impl Abort, alloc: Global, pace: Pace, streams: &[Stream<'_>]) {
+    let mut desk = made(rt, alloc, no_tables(rt, alloc));
+    for (input, answers, count, ended) in streams {
+        let end = Served {
+            answers: *count,
+            ended: *ended,
+        };
+        let at = moment(rt, MOMENT);
+        check_stream(rt, alloc, &mut desk, at, pace, input, (answers, end));
+    }
+}
+
+/// Serves these streams one after the other by a new desk, at each pace.
+pub(crate) fn check_streams(rt: &impl Abort, alloc: Global, streams: &[Stream<'_>]) {
+    for pace in PACES {
+        streams_at(rt, alloc, pace, streams);
+    }
+}

@@ -1,0 +1,140 @@
+//! The desk's tables: their rows as text, and the world that is read of them.
+
+use crate::cases::check;
+use agv_tables::readings::world_reading::read_world;
+use agv_world::World;
+use sqlite::types::ValueRef;
+use sqlite::{Alter, Connection, Row};
+use std::alloc::Global;
+use std::process::Abort;
+use std::str;
+
+/// The name of each table, and all its rows in the order of its key.
+const TABLES: [(&str, &str); 11] = [
+    ("meta", "SELECT * FROM meta ORDER BY id"),
+    ("node", "SELECT * FROM node ORDER BY id"),
+    ("edge", "SELECT * FROM edge ORDER BY id"),
+    ("station", "SELECT * FROM station ORDER BY id"),
+    (
+        "vehicle",
+        "SELECT * FROM vehicle ORDER BY manufacturer, serial",
+    ),
+    ("trip", "SELECT * FROM trip ORDER BY order_id"),
+    ("leg", "SELECT * FROM leg ORDER BY order_id, k"),
+    ("load", "SELECT * FROM load ORDER BY id"),
+    ("job", "SELECT * FROM job ORDER BY id"),
+    ("hold", "SELECT * FROM hold ORDER BY kind, id"),
+    ("used", "SELECT * FROM used ORDER BY kind, id"),
+];
+
+/// Appends a value.
+fn put_value(rt: &impl Abort, text: &mut String, value: ValueRef<'_>) {
+    let put = match value {
+        ValueRef::Null => write!(text, " NULL"),
+        ValueRef::Int(n) => write!(text, " {n}"),
+        ValueRef::Text(bytes) => {
+            let word = str::from_utf8(bytes).expect(rt, "a text");
+            write!(text, " {word}")
+        }
+        ValueRef::Real(_) | ValueRef::Blob(_) => panic!(rt; "no value of the desk"),
+    };
+    put.expect(rt, "memory");
+}
+
+/// Appends a row of a table.
+fn put_row(rt: &impl Abort, text: &mut String, table: &str, row: &Row) {
+    text.push_str(table).expect(rt, "memory");
+    for at in 0..row.column_count() {
+        put_value(rt, text, row.get_ref(at).expect(rt, table));
+    }
+    text.push_str("\n").expect(rt, "memory");
+}
+
+/// Appends all rows of a table, or that it isn't there.
+fn put_table<S: Alter>(
+    rt: &impl Abort,
+    text: &mut String,
+    conn: &mut Connection<S>,
+    table: &str,
+    sql: &str,
+) {
+    let Ok(rows) = conn.query_all(sql, &[]) else {
+        write!(text, "no {table}\n").expect(rt, "memory");
+        return;
+    };
+    for row in &rows {
+        put_row(rt, text, table, row);
+    }
+}
+
+/// The rows of all tables, a line each.
+pub(crate) fn rows_text<S: Alter>(
+    rt: &impl Abort,
+    alloc: Global,
+    conn: &mut Connection<S>,
+) -> String {
+    let mut text = String::new(alloc);
+    for (table, sql) in &TABLES {
+        put_table(rt, &mut text, conn, table, sql);
+    }
+    text
+}
+
+/// Compares the rows of all tables with these.
+pub(crate) fn check_rows<S: Alter>(
+    rt: &impl Abort,
+    alloc: Global,
+    conn: &mut Connection<S>,
+    wanted: &str,
+) {
+    let text = rows_text(rt, alloc, conn);
+    check(rt, text.as_str() == wanted, text.as_str());
+}
+
+/// Looks for a row.
+pub(crate) fn check_row<S: Alter>(
+    rt: &impl Abort,
+    alloc: Global,
+    conn: &mut Connection<S>,
+    wanted: &str,
+) {
+    let text = rows_text(rt, alloc, conn);
+    let mut found = false;
+    for line in text.as_str().lines() {
+        if line == wanted {
+            found = true;
+        }
+    }
+    check(rt, found, wanted);
+}
+
+/// The text of a world.
+pub(crate) fn world_text(rt: &impl Abort, alloc: Global, world: &World) -> String {
+    format!(in alloc; "{world:?}").expect(rt, "memory")
+}
+
+/// The text of the world that the tables have. It is lawful, and its vehicles hold what the tables say.
+pub(crate) fn told_text<S: Alter>(
+    rt: &impl Abort,
+    alloc: Global,
+    conn: &mut Connection<S>,
+) -> String {
+    let (world, holds) = read_world(alloc, conn).expect(rt, "the world");
+    let lawful = world.is_lawful(alloc, 1).expect(rt, "memory");
+    check(rt, lawful, "it is lawful");
+    let fit = holds.are_footprints(alloc, &world).expect(rt, "memory");
+    check(rt, fit, "what is held is what the vehicles hold");
+    world_text(rt, alloc, &world)
+}
+
+/// Compares the world that the tables have with the one in memory.
+pub(crate) fn check_read<S: Alter>(
+    rt: &impl Abort,
+    alloc: Global,
+    world: &World,
+    conn: &mut Connection<S>,
+) {
+    let found = told_text(rt, alloc, conn);
+    let wanted = world_text(rt, alloc, world);
+    check(rt, found.as_str() == wanted.as_str(), found.as_str());
+}

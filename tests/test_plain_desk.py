@@ -1,0 +1,105 @@
+"""The program beside `bench/plain_desk.py`, which is another desk, in plain Python over another SQLite: both answer the same bytes to the
+scripts, to the examples of docs/openapi.json, and to random lawful traffic as `bench/soak` makes it."""
+import importlib.machinery
+import importlib.util
+import os
+import random
+import subprocess
+import sys
+import tempfile
+import unittest
+
+from test_openapi import body_of, operations, requests_before, SETUPS
+from test_program import AT, HERE, run
+from test_scripts import SCRIPTS, bytes_of
+
+ROOT = os.path.join(HERE, '..')
+PLAIN = os.path.join(ROOT, 'bench', 'plain_desk.py')
+REQUESTS = int(os.environ.get('REQUESTS', '1500'))
+
+
+def as_bytes(method, path, body):
+    return bytes_of(('%s %s' % (method, path), body, None, None))
+
+
+def soak():
+    """`bench/soak` as a module."""
+    path = os.path.join(ROOT, 'bench', 'soak')
+    loader = importlib.machinery.SourceFileLoader('soak', path)
+    module = importlib.util.module_from_spec(importlib.util.spec_from_loader('soak', loader))
+    loader.exec_module(module)
+    return module
+
+
+class BesideAPlainDesk(unittest.TestCase):
+    def check(self, stdin, db='memory', plain=':memory:'):
+        """One stream through both; how many answers there were."""
+        status, out, said = run('replay', '--db', db, '--at', AT, stdin=stdin, limit=300)
+        self.assertEqual((status, said), (0, b''))
+        other = subprocess.run([sys.executable, PLAIN, plain, AT], input=stdin, capture_output=True, timeout=300)
+        self.assertEqual((other.returncode, other.stderr), (0, b''))
+        ours, theirs = out.split(b'HTTP/1.1 '), other.stdout.split(b'HTTP/1.1 ')
+        for number, (one, two) in enumerate(zip(ours, theirs)):
+            self.assertEqual(one, two, 'answer %d' % number)
+        self.assertEqual(len(ours), len(theirs))
+        return len(ours) - 1
+
+    def test_scripts(self):
+        for title, lines in SCRIPTS.items():
+            with self.subTest(title):
+                self.assertEqual(self.check(b''.join(map(bytes_of, lines))), len(lines))
+
+    def test_examples_of_the_description(self):
+        """What is refused or only asked goes behind its setup in one stream; each other example has a stream of its own."""
+        for before in SETUPS:
+            front = [as_bytes(one['method'], one['path'], one.get('body')) for one in requests_before(before)]
+            quiet, streams = [], []
+            for method, _, operation, _ in operations():
+                body = body_of(operation)
+                for name, said in operation['x-examples'].items():
+                    if said['before'] == before:
+                        line = as_bytes(method, said['path'], body[2][name]['value'] if body else ('' if method == 'POST' else None))
+                        if method == 'GET' or said['status'] != 200:
+                            quiet.append(line)
+                        else:
+                            streams.append([line])
+            for lines in [quiet, *streams]:
+                with self.subTest(before):
+                    self.assertEqual(self.check(b''.join(front + lines)), len(front) + len(lines))
+
+    def traffic(self, seed, vehicles, count):
+        """Random requests, as the model of the soak makes them."""
+        module = soak()
+        model = module.Model(module.Layout(6, 5))
+        data = [as_bytes('PUT', '/layout', model.layout.rows())]
+        chance = random.Random(seed)
+        for number, node in enumerate(chance.sample(model.layout.nodes, vehicles), 1):
+            model.register_vehicle('%04d' % number, node)
+            data.append(as_bytes('POST', '/vehicles', {'manufacturer': 'KIT', 'serialNumber': '%04d' % number, 'node': node}))
+        traffic = module.Traffic(model, chance)
+        for _ in range(count):
+            method, path, body, _ = traffic.next()
+            data.append(as_bytes(method, path, body))
+        return data, model
+
+    def test_random_traffic(self):
+        for seed, vehicles in ((1, 1), (2, 3), (3, 9)):
+            data, model = self.traffic(seed, vehicles, REQUESTS // 3)
+            self.assertEqual(self.check(b''.join(data)), len(data))
+            self.assertIn('done', {job['phase'] for job in model.jobs.values()})
+
+    def test_each_goes_on_with_the_file_of_the_other(self):
+        """Both keep the same tables, so that half of the traffic may be served by one and half by the other."""
+        data, model = self.traffic(4, 4, 300)
+        half = len(data) // 2
+        with tempfile.TemporaryDirectory() as folder:
+            ours, theirs = os.path.join(folder, 'ours.db'), os.path.join(folder, 'theirs.db')
+            self.check(b''.join(data[:half]), ours, theirs)
+            self.check(b''.join(data[half:]), theirs, ours)
+            module = soak()
+            self.assertEqual(module.differences(model, ours), [])
+            self.assertEqual(module.differences(model, theirs), [])
+
+
+if __name__ == '__main__':
+    unittest.main()

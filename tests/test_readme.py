@@ -1,0 +1,120 @@
+"""The sessions with curl that README.md and docs/HTTP.md show, as they stand there: each command is run against a desk on a new file,
+and what it writes is what the page shows. Only the port and the moments differ."""
+import os
+import re
+import shlex
+import shutil
+import sqlite3
+import subprocess
+import tempfile
+import unittest
+
+from test_program import DESK, Serving, over_sockets
+
+HERE = os.path.dirname(os.path.abspath(__file__))
+ROOT = os.path.join(HERE, '..')
+PORT = '8080'
+END = '-- the end of a block --'
+
+# A moment, perhaps broken by a line's end.
+MOMENT = re.compile(r'\n?'.join(r'\d' if sign == '0' else re.escape(sign) for sign in '0000-00-00T00:00:00.00Z'))
+
+
+def blocks_of(page, title):
+    """The fenced blocks of a section: each its language, as `sh` or nothing, and its text."""
+    with open(os.path.join(ROOT, page)) as file:
+        text = file.read()
+    section = re.search(r'^## %s\n(.*?)(?=^## |\Z)' % re.escape(title), text, re.S | re.M).group(1)
+    return re.findall(r'^```(\w*)\n(.*?)^```$', section, re.S | re.M)
+
+
+def session_of(blocks):
+    """Each block of commands with the answers that are shown under it."""
+    found = []
+    for at, (language, text) in enumerate(blocks):
+        if language == 'sh':
+            answers = blocks[at + 1]
+            if answers[0] != '':
+                raise AssertionError('no answers are shown under\n' + text)
+            found.append((text, answers[1]))
+    return found
+
+
+def without_moments(text):
+    return MOMENT.sub('MOMENT', text)
+
+
+def words_of_serving(blocks):
+    """The words behind `./desk` of the section's line that starts the desk."""
+    lines = [line for language, text in blocks if language == '' for line in text.splitlines() if line.startswith('./desk serve ')]
+    if len(lines) != 1:
+        raise AssertionError(lines)
+    return shlex.split(lines[0])[1:]
+
+
+@over_sockets
+class Pages(unittest.TestCase):
+    def check(self, page, title):
+        """Runs a section's commands in one shell, and compares what each block writes."""
+        self.assertIsNotNone(shutil.which('curl'), 'curl is needed here')
+        blocks = blocks_of(page, title)
+        words = words_of_serving(blocks)
+        self.assertEqual(words[:2] + words[3:5], ['serve', '--db', '--port', PORT])
+        session = session_of(blocks)
+        with tempfile.TemporaryDirectory() as folder:
+            db = os.path.join(folder, words[2])
+            with Serving(db, words[6]) as desk:
+                script = ''.join('%s\necho "%s"\n' % (commands, END) for commands, _ in session)
+                self.assertIn(':' + PORT, script)
+                done = subprocess.run(['sh', '-e', '-c', script.replace(':' + PORT, ':%d' % desk.port)], capture_output=True, text=True,
+                                      cwd=folder, timeout=120)
+            self.assertEqual((done.returncode, done.stderr), (0, ''))
+            told = done.stdout.split(END + '\n')
+            self.assertEqual(told.pop(), '')
+            self.assertEqual(len(told), len(session))
+            for (commands, answers), found in zip(session, told):
+                self.assertEqual(without_moments(found), without_moments(answers), commands)
+            return self.questions(folder) if page == 'README.md' else None
+
+    def questions(self, folder):
+        """What README asks of the file once the desk is stopped; each line as `sqlite3` writes it."""
+        (commands, answers), = session_of(blocks_of('README.md', 'What is in the file'))
+        told = []
+        for line in commands.splitlines():
+            name, file, question = shlex.split(line)
+            self.assertEqual((name, file), ('sqlite3', 'warehouse.db'))
+            base = sqlite3.connect(os.path.join(folder, file))
+            told += ['|'.join('' if cell is None else str(cell) for cell in row) for row in base.execute(question)]
+            base.close()
+        self.assertEqual(told, answers.splitlines())
+        return len(told)
+
+    def test_readme(self):
+        self.assertGreater(self.check('README.md', 'A session'), 0)
+
+    def test_each_call(self):
+        self.check('docs/HTTP.md', 'Each call by an example')
+
+
+class Lines(unittest.TestCase):
+    def test_readme_keeps_its_width(self):
+        with open(os.path.join(ROOT, 'README.md')) as file:
+            self.assertEqual([line for line in file.read().splitlines() if len(line) >= 100], [])
+
+    def test_the_command_that_replays(self):
+        """The second command of README answers each request of the file that it is given."""
+        commands = blocks_of('README.md', 'Two commands')[0][1].splitlines()
+        words, file = commands[1].split(' < ')
+        words = shlex.split(words)
+        self.assertEqual(words[:2], ['./desk', 'replay'])
+        with open(os.path.join(ROOT, file), 'rb') as requests:
+            done = subprocess.run([DESK, *words[1:]], stdin=requests, capture_output=True, timeout=60)
+        self.assertEqual((done.returncode, done.stderr), (0, b''))
+        with open(os.path.join(ROOT, file), 'rb') as requests:
+            asked = len(re.findall(rb' HTTP/1\.1\r\n', requests.read()))
+        self.assertGreater(asked, 0)
+        self.assertEqual(len(re.findall(rb'HTTP/1\.1 200 OK\r\n', done.stdout)), asked)
+
+
+if __name__ == '__main__':
+    unittest.main()
