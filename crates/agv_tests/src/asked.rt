@@ -32,7 +32,7 @@ fn name(rt: &impl Abort, text: &str) -> Name {
 }
 
 /// A letter and a number.
-fn numbered(rt: &impl Abort, alloc: Global, letter: char, number: u32) -> Name {
+pub(crate) fn numbered(rt: &impl Abort, alloc: Global, letter: char, number: u32) -> Name {
     let text = format!(in alloc; "{letter}{number:06}").expect(rt, "memory");
     name(rt, text.as_str())
 }
@@ -44,7 +44,7 @@ fn vehicle(rt: &impl Abort) -> VehicleKey {
     }
 }
 
-fn write<S: Alter>(rt: &impl Abort, conn: &mut Connection<S>, changes: &[Change]) {
+pub(crate) fn write<S: Alter>(rt: &impl Abort, conn: &mut Connection<S>, changes: &[Change]) {
     assert!(rt; conn.is_autocommit(), "idle");
     write_changes(conn, changes).expect(rt, "a commit");
 }

@@ -5,7 +5,7 @@ use crate::fakes::{Drip, Trickle};
 use crate::table_cases::{made, moment};
 use agv_face::{Served, StreamFault, Watched, serve_stream};
 use agv_store::Desk;
-use sqlite::{Connection, MemStore};
+use sqlite::{Alter, Connection, MemStore};
 use std::alloc::Global;
 use std::process::Abort;
 
@@ -21,10 +21,10 @@ pub(crate) fn new_desk(rt: &impl Abort, alloc: Global) -> Desk<MemStore> {
 }
 
 /// Serves what the reader gives, and compares the end and the answers.
-pub(crate) fn check_stream(
+pub(crate) fn check_stream<S: Alter + Drop>(
     rt: &impl Abort,
     alloc: Global,
-    desk: &mut Desk<MemStore>,
+    desk: &mut Desk<S>,
     reader: &mut Watched<Drip<'_>>,
     writer: &mut Watched<Trickle>,
     end: Result<Served, StreamFault>,

@@ -10,6 +10,8 @@
 //! - `kept_desks` changes the database of the worked example in lawful ways, and the desk is taken over.
 //! - `desks` makes, opens and adopts a desk, has it serve calls without a break, and asks and is refused.
 //! - `failing_stores` has a desk serve the worked example over files that fail from some call on.
+//! - `failing_streams` has it serve streams over such files.
+//! - `large_streams` asks for the stock report of 500 stations and 100,000 loads.
 //! - `refused_changes` writes a list of changes of which SQL refuses one.
 //! - `table_cases` makes and takes over desks, serves and reads for these, and `disks` has files in memory that fail.
 //! - `streams` has a desk serve requests as bytes, of which `examples` has some: in pieces, with a reader or a writer of `fakes`
@@ -33,9 +35,13 @@ mod examples;
 #[cfg(test)]
 mod failing_stores;
 #[cfg(test)]
+mod failing_streams;
+#[cfg(test)]
 mod fakes;
 #[cfg(test)]
 mod kept_desks;
+#[cfg(test)]
+mod large_streams;
 #[cfg(test)]
 mod refused_changes;
 #[cfg(test)]
