@@ -1,8 +1,6 @@
 -- How a run of the program ends: which fault it tells, its exit status, and what it says.
 use Rattle.std.specs.Prelude.{◌≡◌, ◌⊎◌, ◌<◌, ◌≤◌, ℕ, ◌++◌, Bool, List, [], Option, Some, None, Result, Ok, Err, codes}
-use Rattle.sqlite_trees.specs.declared.memory.MemStore.{MemStore}
 use Rattle.sqlite_trees.specs.declared.store.Store.{Ghosts}
-use Rattle.sqlite.specs.Steps.{over_memory}
 use Rattle.agv_header.specs.declared.refusal.Refusal.TheVariants as refusal
 use Rattle.agv_world.specs.Worlds.{empty_world}
 use Rattle.agv_face.specs.Bytes.{IsPutWhole}
@@ -13,6 +11,7 @@ use Rattle.agv_face.specs.declared.served.Served.{Served}
 use Rattle.agv_face.specs.declared.served.StreamFault.{StreamFault}
 use Rattle.agv_face.specs.declared.served.StreamFault.TheVariants as stream
 use Rattle.agv_face.specs.declared.watched.Watched.{Watched}
+use Rattle.agv_memory.specs.MemoryStores.{MemoryStore, over_memory_files}
 use Rattle.agv_store.specs.Floors.{Keyed, world_at}
 use Rattle.agv_store.specs.declared.open_fault.OpenFault.{OpenFault}
 use Rattle.agv_store.specs.declared.open_fault.OpenFault.TheVariants as opening
@@ -105,7 +104,7 @@ module _ {R W : Type 0} (remaining : R → Option (List ℕ)) (contents : W → 
   abbrev pub IsReplayedInMemory : ℕ → RunEnd → Type 0
   IsReplayedInMemory at end =
       (IsUntouched × ((end ≡ Err fault.Memory) ⊎ (end ≡ Err fault.Storage)))
-      ⊎ ((desk : Keyed MemStore) × (world_at over_memory desk.held ≡ empty_world) × IsReplayed over_memory at desk end)
+      ⊎ ((desk : Keyed MemoryStore) × (world_at over_memory_files desk.held ≡ empty_world) × IsReplayed over_memory_files at desk end)
 
   -- the end of a line; of files and sockets nothing is said here
   abbrev pub IsCarriedOut : Line → RunEnd → Type 0

@@ -1,6 +1,6 @@
 //! What the program does with its line: it opens a desk, and serves a stream or connections, or prints a report.
 ghost use Rattle.std.specs.Prelude.{◌≡◌, ◌⊎◌, ◌≤◌, ◌<◌, codes, IfErr, IfOk, IfSome, None};
-ghost use Rattle.sqlite.specs.Steps.{over_memory};
+ghost use Rattle.agv_memory.specs.MemoryStores.{over_memory_files};
 ghost use Rattle.agv_store.specs.Floors.{world_at};
 ghost use Rattle.agv_world.specs.Worlds.{empty_world};
 ghost use Rattle.agv_app.specs.CommandLine.{last_moment};
@@ -12,11 +12,12 @@ use crate::outcome::{RunFault, end_of};
 use agv_desk::Answer;
 use agv_face::{Served, StreamFault, Watched, serve_stream, write_whole};
 use agv_header::Moment;
+use agv_memory::MemoryFile;
+use agv_memory::laws::stores_in_memory_are_clean;
 use agv_store::Desk;
-use agv_tables::laws::memory_is_clean_and_open;
 use agv_tables::readings::world_laws::a_database_tells_its_world;
 use agv_world::Fault;
-use sqlite::{Alter, Connection, Error, ErrorCode, FileStore, MemStore};
+use sqlite::{Alter, Connection, Error, ErrorCode, FileStore};
 use sqlite_std_file::File;
 use std::alloc::Global;
 use std::io::{Read, Write};
@@ -32,15 +33,26 @@ pub enum NextFault {
     Clock,
 }
 
-/// A desk in a new store in memory, which knows nothing yet.
-fn open_in_memory(alloc: Global) -> Result<Desk<MemStore>, RunFault>
-    ensures new { IfOk result (λ desk. world_at over_memory desk.held ≡ empty_world) }
+/// Why a database couldn't be opened.
+fn fault_of(error: Error) -> RunFault
+    ensures { (result ≡ fault.Memory) ⊎ (result ≡ fault.Storage) }
+{
+    match error {
+        Error::SqliteFailure(ErrorCode::OutOfMemory) => RunFault::Memory,
+        _ => RunFault::Storage,
+    }
+}
+
+/// A desk in a new database in memory, which knows nothing yet.
+fn open_in_memory(alloc: Global) -> Result<Desk<FileStore<MemoryFile>>, RunFault>
+    ensures new { IfOk result (λ desk. world_at over_memory_files desk.held ≡ empty_world) }
     ensures fault { IfErr result (λ why. (why ≡ fault.Memory) ⊎ (why ≡ fault.Storage)) }
 {
-    memory_is_clean_and_open();
+    stores_in_memory_are_clean();
     a_database_tells_its_world();
-    let Ok(conn) = Connection::open_in_memory(alloc) else {
-        return Err(RunFault::Memory);
+    let conn = match agv_memory::open_in_memory(alloc) {
+        Ok(conn) => conn,
+        Err(error) => return Err(fault_of(error)),
     };
     match Desk::open(alloc, conn) {
         Ok(desk) => Ok(desk),
@@ -52,8 +64,7 @@ fn open_in_memory(alloc: Global) -> Result<Desk<MemStore>, RunFault>
 fn open_in_file(rt: &HostRuntime, file: &str) -> Result<Desk<FileStore<File>>, RunFault> {
     let conn = match Connection::open(rt, file) {
         Ok(conn) => conn,
-        Err(Error::SqliteFailure(ErrorCode::OutOfMemory)) => return Err(RunFault::Memory),
-        Err(_) => return Err(RunFault::Storage),
+        Err(error) => return Err(fault_of(error)),
     };
     match Desk::open(rt.alloc(), conn) {
         Ok(desk) => Ok(desk),
