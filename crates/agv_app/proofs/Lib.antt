@@ -4,3 +4,4 @@ pub mod Subcommands
 pub mod Readings
 pub mod Commands
 pub mod Lines
+pub mod NewDesks

@@ -1,6 +1,6 @@
 //! The program of the desk. `main` reads its words and hands over the real streams. The module
-//! `line` says what the words ask for, `run` does it, and `outcome` says how a run ends; all else is
-//! in the crates below.
+//! `line` says what the words ask for (`line_of`), `run` does it (`run_line`), and `outcome` says
+//! how a run ends; all else is in the crates below.
 //!
 //! It exits with 0; with 1 after one line `fault: ..` on standard error; and with 2 where the words
 //! are refused, also at `--help`, with the text on standard error.
@@ -13,8 +13,10 @@ mod line;
 mod outcome;
 mod run;
 
-use crate::outcome::{Outcome, RunFault};
-use crate::run::run;
+use crate::line::line_of;
+use crate::outcome::NoLine;
+use crate::run::run_line;
+use agv_face::Watched;
 use std::alloc::Global;
 use std::env::{self, Env};
 use std::io::{self, ErrorKind};
@@ -30,26 +32,40 @@ fn drop_first(words: &mut Vec<String>)
 }
 
 /// The words after the program's name.
-fn words_of(rt: &(impl Env + Alloc<A = Global>)) -> Result<Vec<String>, Outcome>
+fn words_of(rt: &(impl Env + Alloc<A = Global>)) -> Result<Vec<String>, NoLine>
     ensures { IfErr result IsWithoutWords }
 {
     let all = match env::args(rt) {
         Ok(all) => all,
-        Err(error) if error.kind() == ErrorKind::InvalidData => return Err(Outcome::NotText),
-        Err(_) => return Err(Outcome::Failed(RunFault::Memory)),
+        Err(error) if error.kind() == ErrorKind::InvalidData => return Err(NoLine::NotText),
+        Err(_) => return Err(NoLine::Memory),
     };
     let Ok(mut words) = all.collect::<Vec<String>>(rt.alloc()) else {
-        return Err(Outcome::Failed(RunFault::Memory));
+        return Err(NoLine::Memory);
     };
     drop_first(&mut words);
     Ok(words)
 }
 
+/// Reads the line, carries it out over the standard streams, and gives the exit status.
+fn run_words(rt: &HostRuntime, words: &[String]) -> Result<u8, NoLine> {
+    let line = line_of(rt.alloc(), words)?;
+    let mut reader = Watched::new(rt.reader());
+    let mut writer = Watched::new(io::writer(rt));
+    let mut errors = Watched::new(rt.stderr());
+    Ok(run_line(rt, rt.alloc(), &line, &mut reader, &mut writer, &mut errors))
+}
+
 fn main(rt: HostRuntime) -> ExitCode {
-    let outcome = match words_of(&rt) {
-        Ok(words) => run(&rt, rt.alloc(), &words, rt.reader(), io::writer(&rt)),
-        Err(outcome) => outcome,
+    let ended = match words_of(&rt) {
+        Ok(words) => run_words(&rt, &words),
+        Err(why) => Err(why),
     };
-    let _ = rt.eprint(&outcome);
-    outcome.status()
+    match ended {
+        Ok(status) => ExitCode::from(status),
+        Err(why) => {
+            let _ = rt.eprint(&why);
+            ExitCode::from(why.status())
+        }
+    }
 }

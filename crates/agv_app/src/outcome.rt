@@ -1,14 +1,13 @@
-//! How a run of the program ends.
+//! How a run of the program ends, and what it says where it has no line to carry out.
 ghost use Rattle.std.specs.Prelude.{◌≡◌};
-ghost use Rattle.std.specs.Process.{exit_status};
-ghost use Rattle.agv_app.specs.Runs.{outcome_by, outcome_of, said_of, status_of};
+ghost use Rattle.agv_app.specs.Runs.{end_by, end_of, fault_line, opening_fault, said_of, status_of, status_without};
 
+use crate::line::LineFault;
 use agv_face::{Ended, Served, StreamFault};
 use agv_header::Refusal;
 use agv_store::OpenFault;
 use clap::Error;
 use std::fmt;
-use std::process::ExitCode;
 
 /// Why a run came to no end, as the program says it.
 #[derive(Clone, Copy, Debug, PartialEq, Eq)]
@@ -33,18 +32,18 @@ impl RunFault {
     ghost use Rattle.std.specs.Prelude.{◌≡◌};
     ghost use Rattle.agv_app.specs.Runs.{fault_line};
 
-    /// The line that says it, with no line end: `fault: ` and its name.
+    /// The line that says it, with its line end: `fault: ` and its name.
     pub fn line(self) -> &'static str
         ensures { result.now ≡ fault_line self }
     {
         match self {
-            RunFault::Damaged => "fault: Damaged",
-            RunFault::Memory => "fault: Memory",
-            RunFault::Storage => "fault: Storage",
-            RunFault::Read => "fault: Read",
-            RunFault::Write => "fault: Write",
-            RunFault::Net => "fault: Net",
-            RunFault::Clock => "fault: Clock",
+            RunFault::Damaged => "fault: Damaged\n",
+            RunFault::Memory => "fault: Memory\n",
+            RunFault::Storage => "fault: Storage\n",
+            RunFault::Read => "fault: Read\n",
+            RunFault::Write => "fault: Write\n",
+            RunFault::Net => "fault: Net\n",
+            RunFault::Clock => "fault: Clock\n",
         }
     }
 }
@@ -63,64 +62,73 @@ impl From<OpenFault> for RunFault {
     }
 }
 
-/// How a run ends. It is shown as the text that goes to standard error.
-#[derive(Drop)]
-pub enum Outcome {
-    /// All was done.
-    Done,
-    /// A fault.
-    Failed(RunFault),
-    /// The words are refused, or ask for help; the error is the text.
-    Refused(Error),
-    /// A word is no text.
-    NotText,
-}
-
-impl Outcome {
-    /// 0 where all was done, 1 after a fault, 2 where the words are refused.
-    pub fn status(&self) -> ExitCode
-        ensures { exit_status result ≡ status_of self.now }
-    {
-        match self {
-            Outcome::Done => ExitCode::SUCCESS,
-            Outcome::Failed(_) => ExitCode::FAILURE,
-            _ => ExitCode::from(2),
-        }
-    }
-}
-
-impl fmt::Display for Outcome {
-    ghost output = { said_of };
-
-    fn fmt<W: fmt::Write>(&self, f: &mut fmt::Formatter<W>) -> fmt::Result {
-        match self {
-            Outcome::Done => Ok(()),
-            Outcome::Failed(fault) => write!(f, "{}\n", fault.line()),
-            Outcome::Refused(error) => write!(f, "{error}"),
-            Outcome::NotText => write!(f, "error: a word of the line is not UTF-8\n"),
-        }
-    }
-}
-
 /// How a run ends whose stream has ended so: its last answer was the refusal for a fault of the machine, or it was served
 /// or refused as its requests had it.
-pub fn outcome_of(ended: Result<Served, StreamFault>) -> Outcome
-    ensures { result ≡ outcome_of ended }
+pub fn end_of(ended: Result<Served, StreamFault>) -> Result<(), RunFault>
+    ensures { result ≡ end_of ended }
 {
     match ended {
-        Ok(served) => outcome_by(served.ended),
-        Err(StreamFault::Read { .. }) => Outcome::Failed(RunFault::Read),
-        Err(StreamFault::Write { .. }) => Outcome::Failed(RunFault::Write),
+        Ok(served) => end_by(served.ended),
+        Err(StreamFault::Read { .. }) => Err(RunFault::Read),
+        Err(StreamFault::Write { .. }) => Err(RunFault::Write),
     }
 }
 
 /// How a run ends whose stream was served to this end.
-fn outcome_by(ended: Ended) -> Outcome
-    ensures { result ≡ outcome_by ended }
+fn end_by(ended: Ended) -> Result<(), RunFault>
+    ensures { result ≡ end_by ended }
 {
     match ended {
-        Ended::Refused(Refusal::Memory) => Outcome::Failed(RunFault::Memory),
-        Ended::Refused(Refusal::Storage) => Outcome::Failed(RunFault::Storage),
-        _ => Outcome::Done,
+        Ended::Refused(Refusal::Memory) => Err(RunFault::Memory),
+        Ended::Refused(Refusal::Storage) => Err(RunFault::Storage),
+        _ => Ok(()),
+    }
+}
+
+/// Why there is no line to carry out. It is shown as the text that goes to standard error.
+#[derive(Drop)]
+pub enum NoLine {
+    /// The words are refused, or ask for help; the error is the text.
+    Refused(Error),
+    /// A word is no text.
+    NotText,
+    /// Want of memory.
+    Memory,
+}
+
+impl NoLine {
+    /// The exit status: 2 where the words are refused, 1 for want of memory.
+    pub fn status(&self) -> u8
+        ensures { result ≡ status_without self.now }
+    {
+        match self {
+            NoLine::Memory => 1,
+            _ => 2,
+        }
+    }
+}
+
+impl From<LineFault> for NoLine {
+    ghost use Rattle.agv_app.specs.Runs.{without_line};
+
+    ghost from_gives = { λ why without. without ≡ without_line why };
+
+    fn from(why: LineFault) -> NoLine {
+        match why {
+            LineFault::Refused(error) => NoLine::Refused(error),
+            LineFault::Memory => NoLine::Memory,
+        }
+    }
+}
+
+impl fmt::Display for NoLine {
+    ghost output = { said_of };
+
+    fn fmt<W: fmt::Write>(&self, f: &mut fmt::Formatter<W>) -> fmt::Result {
+        match self {
+            NoLine::Refused(error) => write!(f, "{error}"),
+            NoLine::NotText => write!(f, "error: a word of the line is not UTF-8\n"),
+            NoLine::Memory => write!(f, "{}", RunFault::Memory.line()),
+        }
     }
 }

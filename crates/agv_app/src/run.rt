@@ -1,13 +1,23 @@
 //! What the program does with its line: it opens a desk, and serves a stream or connections, or prints a report.
+ghost use Rattle.std.specs.Prelude.{◌≡◌, ◌⊎◌, ◌≤◌, ◌<◌, codes, IfErr, IfOk, IfSome, None};
+ghost use Rattle.agv_memory.specs.MemoryStores.{over_memory_files};
+ghost use Rattle.agv_store.specs.Floors.{world_at};
+ghost use Rattle.agv_world.specs.Worlds.{empty_world};
+ghost use Rattle.agv_app.specs.CommandLine.{last_moment};
+ghost use Rattle.agv_app.specs.Runs.{IsCarriedOut, IsReplayed, IsReplayedInMemory, IsRun, IsTold, status_of};
+ghost use Rattle.agv_app.specs.declared.outcome.RunFault.TheVariants as fault;
 
-use crate::line::{Line, LineFault, ReportKind, line_of};
-use crate::outcome::{Outcome, RunFault, outcome_of};
+use crate::line::{Line, ReportKind};
+use crate::outcome::{RunFault, end_of};
 use agv_desk::Answer;
-use agv_face::{Served, StreamFault, Watched, serve_stream};
+use agv_face::{Served, StreamFault, Watched, serve_stream, write_whole};
 use agv_header::Moment;
+use agv_memory::MemoryFile;
+use agv_memory::laws::stores_in_memory_are_clean;
 use agv_store::Desk;
+use agv_tables::readings::world_laws::a_database_tells_its_world;
 use agv_world::Fault;
-use sqlite::{Alter, Connection, Error, ErrorCode, FileStore, MemStore};
+use sqlite::{Alter, Connection, Error, ErrorCode, FileStore};
 use sqlite_std_file::File;
 use std::alloc::Global;
 use std::io::{Read, Write};
@@ -23,10 +33,26 @@ pub enum NextFault {
     Clock,
 }
 
-/// A desk in a new store in memory.
-fn open_in_memory(alloc: Global) -> Result<Desk<MemStore>, RunFault> {
-    let Ok(conn) = Connection::open_in_memory(alloc) else {
-        return Err(RunFault::Memory);
+/// Why a database couldn't be opened.
+fn fault_of(error: Error) -> RunFault
+    ensures { (result ≡ fault.Memory) ⊎ (result ≡ fault.Storage) }
+{
+    match error {
+        Error::SqliteFailure(ErrorCode::OutOfMemory) => RunFault::Memory,
+        _ => RunFault::Storage,
+    }
+}
+
+/// A desk in a new database in memory, which knows nothing yet.
+fn open_in_memory(alloc: Global) -> Result<Desk<FileStore<MemoryFile>>, RunFault>
+    ensures new { IfOk result (λ desk. world_at over_memory_files desk.held ≡ empty_world) }
+    ensures fault { IfErr result (λ why. (why ≡ fault.Memory) ⊎ (why ≡ fault.Storage)) }
+{
+    stores_in_memory_are_clean();
+    a_database_tells_its_world();
+    let conn = match agv_memory::open_in_memory(alloc) {
+        Ok(conn) => conn,
+        Err(error) => return Err(fault_of(error)),
     };
     match Desk::open(alloc, conn) {
         Ok(desk) => Ok(desk),
@@ -38,8 +64,7 @@ fn open_in_memory(alloc: Global) -> Result<Desk<MemStore>, RunFault> {
 fn open_in_file(rt: &HostRuntime, file: &str) -> Result<Desk<FileStore<File>>, RunFault> {
     let conn = match Connection::open(rt, file) {
         Ok(conn) => conn,
-        Err(Error::SqliteFailure(ErrorCode::OutOfMemory)) => return Err(RunFault::Memory),
-        Err(_) => return Err(RunFault::Storage),
+        Err(error) => return Err(fault_of(error)),
     };
     match Desk::open(rt.alloc(), conn) {
         Ok(desk) => Ok(desk),
@@ -47,29 +72,64 @@ fn open_in_file(rt: &HostRuntime, file: &str) -> Result<Desk<FileStore<File>>, R
     }
 }
 
-/// Serves the reader's requests, all at this moment.
-fn replay<S: Alter + Drop, R: Read + Drop, W: Write + Drop>(
+/// The moment at so many milliseconds since 1970, up to 2099.
+fn moment_of(ms: u64) -> Result<Moment, RunFault>
+    ensures moment { IfOk result (λ at. (at ≡ ms) × (ms ≤ last_moment)) }
+    ensures none { IfErr result (λ why. (why ≡ fault.Clock) × (last_moment < ms)) }
+{
+    let Ok(ms) = i64::try_from(ms) else {
+        return Err(RunFault::Clock);
+    };
+    match Moment::of(ms) {
+        Some(at) => Ok(at),
+        None => Err(RunFault::Clock),
+    }
+}
+
+/// Serves the reader's requests by this desk, all at this moment.
+fn replay_on<S: Alter + Drop, R: Read, W: Write>(
     alloc: Global,
     desk: Desk<S>,
     at: u64,
-    reader: R,
-    writer: W,
-) -> Outcome {
-    let Some(at) = moment_of(at) else {
-        return Outcome::Failed(RunFault::Clock);
-    };
+    reader: &mut Watched<R>,
+    writer: &mut Watched<W>,
+) -> Result<(), RunFault>
+    ensures { IsReplayed R.remaining W.contents reader.old reader.new writer.old writer.new S.Store at desk result }
+{
+    let at = moment_of(at)?;
     let mut desk = desk;
-    let mut reader = Watched::new(reader);
-    let mut writer = Watched::new(writer);
-    outcome_of(serve_stream(alloc, &mut desk, at, &mut reader, &mut writer))
+    end_of(serve_stream(alloc, &mut desk, at, reader, writer))
 }
 
-/// The moment at so many milliseconds since 1970, up to 2099.
-fn moment_of(ms: u64) -> Option<Moment> {
-    match i64::try_from(ms) {
-        Ok(ms) => Moment::of(ms),
-        Err(_) => None,
+/// Serves the reader's requests by a new desk in memory.
+fn replay_in_memory<R: Read, W: Write>(
+    alloc: Global,
+    at: u64,
+    reader: &mut Watched<R>,
+    writer: &mut Watched<W>,
+) -> Result<(), RunFault>
+    ensures { IsReplayedInMemory R.remaining W.contents reader.old reader.new writer.old writer.new at result }
+{
+    let desk = open_in_memory(alloc)?;
+    replay_on(alloc, desk, at, reader, writer)
+}
+
+/// Serves the reader's requests by the desk in the file, or in memory where it is named `memory`.
+fn replay<R: Read, W: Write>(
+    rt: &HostRuntime,
+    alloc: Global,
+    db: &str,
+    at: u64,
+    reader: &mut Watched<R>,
+    writer: &mut Watched<W>,
+) -> Result<(), RunFault>
+    ensures { db.now ≡ codes "memory" → IsReplayedInMemory R.remaining W.contents reader.old reader.new writer.old writer.new at result }
+{
+    if db == "memory" {
+        return replay_in_memory(alloc, at, reader, writer);
     }
+    let desk = open_in_file(rt, db)?;
+    replay_on(alloc, desk, at, reader, writer)
 }
 
 /// The moment that the clock shows.
@@ -112,106 +172,113 @@ fn serve_connections<S: Alter + Drop>(
     desk: &mut Desk<S>,
     listener: &mut TcpListener,
     connections: u32,
-) -> Outcome {
+) -> Result<(), RunFault> {
     for _ in 0..connections {
         match serve_next(rt, alloc, desk, listener) {
             Ok(_) => {}
-            Err(NextFault::Net) => return Outcome::Failed(RunFault::Net),
-            Err(NextFault::Clock) => return Outcome::Failed(RunFault::Clock),
+            Err(NextFault::Net) => return Err(RunFault::Net),
+            Err(NextFault::Clock) => return Err(RunFault::Clock),
         }
         if desk.failed() {
-            return Outcome::Failed(RunFault::Storage);
+            return Err(RunFault::Storage);
         }
     }
-    Outcome::Done
+    Ok(())
 }
 
 /// Listens on the port of this machine, says on which, and serves connections.
-fn serve<S: Alter + Drop, W: Write + Drop>(
+fn serve<S: Alter + Drop, W: Write>(
     rt: &HostRuntime,
     alloc: Global,
     desk: Desk<S>,
     port: u16,
     connections: u32,
-    writer: W,
-) -> Outcome {
+    writer: &mut Watched<W>,
+) -> Result<(), RunFault> {
     let local = SocketAddr::V4(SocketAddrV4::new(Ipv4Addr::LOCALHOST, port));
     let Ok(mut listener) = TcpListener::bind(rt, local) else {
-        return Outcome::Failed(RunFault::Net);
+        return Err(RunFault::Net);
     };
     let Ok(bound) = listener.local_addr() else {
-        return Outcome::Failed(RunFault::Net);
+        return Err(RunFault::Net);
     };
-    let mut writer = writer;
     let said = writeln!(writer, "listening on 127.0.0.1:{}", bound.port());
     if said.is_err() || writer.flush().is_err() {
-        return Outcome::Failed(RunFault::Write);
+        return Err(RunFault::Write);
     }
     let mut desk = desk;
     serve_connections(rt, alloc, &mut desk, &mut listener, connections)
 }
 
 /// Prints a report.
-fn report<S: Alter + Drop, W: Write + Drop>(desk: Desk<S>, kind: ReportKind, writer: W) -> Outcome {
+fn report<S: Alter + Drop, W: Write>(
+    desk: Desk<S>,
+    kind: ReportKind,
+    writer: &mut Watched<W>,
+) -> Result<(), RunFault> {
     let named = match kind {
         ReportKind::Stock => Answer::StockReport,
         ReportKind::Holds => Answer::HoldReport,
     };
     let mut desk = desk;
-    let mut writer = writer;
     match desk.report(&named) {
-        Ok(bytes) => match writer.write_all(&bytes) {
-            Ok(()) => Outcome::Done,
-            Err(_) => Outcome::Failed(RunFault::Write),
-        },
-        Err(Fault::Memory) => Outcome::Failed(RunFault::Memory),
-        Err(Fault::Storage) => Outcome::Failed(RunFault::Storage),
+        Ok(bytes) if write_whole(writer, &bytes) => Ok(()),
+        Ok(_) => Err(RunFault::Write),
+        Err(Fault::Memory) => Err(RunFault::Memory),
+        Err(Fault::Storage) => Err(RunFault::Storage),
     }
 }
 
-/// Carries a line out.
-fn carry_out<R: Read + Drop, W: Write + Drop>(
+/// Does what the line says.
+fn carry_out<R: Read, W: Write>(
     rt: &HostRuntime,
     alloc: Global,
     line: &Line<'_>,
-    reader: R,
-    writer: W,
-) -> Outcome {
+    reader: &mut Watched<R>,
+    writer: &mut Watched<W>,
+) -> Result<(), RunFault>
+    ensures { IsCarriedOut R.remaining W.contents reader.old reader.new writer.old writer.new line.now result }
+{
     match *line {
-        Line::Replay { db: "memory", at } => match open_in_memory(alloc) {
-            Ok(desk) => replay(alloc, desk, at, reader, writer),
-            Err(fault) => Outcome::Failed(fault),
-        },
-        Line::Replay { db, at } => match open_in_file(rt, db) {
-            Ok(desk) => replay(alloc, desk, at, reader, writer),
-            Err(fault) => Outcome::Failed(fault),
-        },
+        Line::Replay { db, at } => replay(rt, alloc, db, at, reader, writer),
         Line::Serve {
             db,
             port,
             connections,
-        } => match open_in_file(rt, db) {
-            Ok(desk) => serve(rt, alloc, desk, port, connections, writer),
-            Err(fault) => Outcome::Failed(fault),
-        },
-        Line::Report { db, kind } => match open_in_file(rt, db) {
-            Ok(desk) => report(desk, kind, writer),
-            Err(fault) => Outcome::Failed(fault),
-        },
+        } => serve(rt, alloc, open_in_file(rt, db)?, port, connections, writer),
+        Line::Report { db, kind } => report(open_in_file(rt, db)?, kind, writer),
     }
 }
 
-/// Reads the line, and does what it asks for.
-pub fn run<R: Read + Drop, W: Write + Drop>(
+/// Says a fault in its line, and gives the exit status. A write that fails here changes nothing about it.
+fn tell<E: Write>(end: Result<(), RunFault>, errors: &mut Watched<E>) -> u8
+    ensures told { IsTold E.contents errors.old errors.new end }
+    ensures status { result ≡ status_of end }
+{
+    match end {
+        Ok(()) => 0,
+        Err(fault) => {
+            write_whole(errors, fault.line().as_bytes());
+            1
+        }
+    }
+}
+
+/// Carries a line out over a reader of its input, a writer of its output and one of its faults, and gives the exit
+/// status: 0 where all was done; 1 after a fault, which is one line on the writer of faults (`IsRun`, `specs/Runs.antt`).
+///
+/// Of a `replay` in memory it is said besides what was written: the output of its input, from the world of a desk that
+/// knows nothing yet.
+pub fn run_line<R: Read, W: Write, E: Write>(
     rt: &HostRuntime,
     alloc: Global,
-    words: &[String],
-    reader: R,
-    writer: W,
-) -> Outcome {
-    match line_of(alloc, words) {
-        Ok(line) => carry_out(rt, alloc, &line, reader, writer),
-        Err(LineFault::Memory) => Outcome::Failed(RunFault::Memory),
-        Err(LineFault::Refused(error)) => Outcome::Refused(error),
-    }
+    line: &Line<'_>,
+    reader: &mut Watched<R>,
+    writer: &mut Watched<W>,
+    errors: &mut Watched<E>,
+) -> u8
+    ensures { IsRun R.remaining W.contents E.contents line.now reader.old reader.new writer.old writer.new errors.old errors.new result }
+{
+    let end = carry_out(rt, alloc, line, reader, writer);
+    tell(end, errors)
 }

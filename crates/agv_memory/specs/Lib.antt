@@ -1,0 +1,2 @@
+pub mod MemoryFiles
+pub mod MemoryStores
