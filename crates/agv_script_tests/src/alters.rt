@@ -46,24 +46,41 @@ fn sent(rt: &impl Abort, count: &str, at: &str) -> Sent {
 }
 
 /// A vehicle's row with a part of it written.
-fn with_field(rt: &impl Abort, row: &mut VehicleRow, words: &Words<'_>) {
+fn with_field(rt: &impl Abort, row: VehicleRow, words: &Words<'_>) -> VehicleRow {
     let [_, _, field, first, second, _] = *words;
     match field {
-        "capacity" => row.capacity = number(rt, first),
-        "node" => row.node = name(rt, first),
-        "rest" => row.rest = Some((name(rt, first), name(rt, second))),
-        "pending" => row.pending = Some(InstantKind::StartPause),
-        "orders" => row.orders = sent(rt, first, second),
-        "instants" => row.instants = sent(rt, first, second),
+        "capacity" => VehicleRow {
+            capacity: number(rt, first),
+            ..row
+        },
+        "node" => VehicleRow {
+            node: name(rt, first),
+            ..row
+        },
+        "rest" => VehicleRow {
+            rest: Some((name(rt, first), name(rt, second))),
+            ..row
+        },
+        "pending" => VehicleRow {
+            pending: Some(InstantKind::StartPause),
+            ..row
+        },
+        "orders" => VehicleRow {
+            orders: sent(rt, first, second),
+            ..row
+        },
+        "instants" => VehicleRow {
+            instants: sent(rt, first, second),
+            ..row
+        },
         _ => panic!(rt; "`{field}` is no part of a vehicle's row"),
     }
 }
 
 fn alter_vehicle(rt: &impl Abort, world: &mut World, words: &Words<'_>) {
-    let key = kit(rt, words[1]);
-    let mut row = *world.vehicles.get(key).expect(rt, words[1]);
-    with_field(rt, &mut row, words);
-    let written = world.vehicles.insert(key, row);
+    let row = *world.vehicles.get(kit(rt, words[1])).expect(rt, words[1]);
+    let row = with_field(rt, row, words);
+    let written = world.vehicles.insert(kit(rt, words[1]), row);
     written.expect(rt, "memory");
 }
 

@@ -291,7 +291,8 @@ fn check_front(rt: &impl Abort, alloc: Global, n: usize) {
     let mut desk = made(rt, alloc, no_tables(rt, alloc));
     let front = WHOLE.get(..n).expect(rt, "a front");
     let at = moment(rt, MOMENT);
-    check_stream(rt, alloc, &mut desk, at, (4096, 4096), front, cut_at(n));
+    let (answers, end) = cut_at(n);
+    check_stream(rt, alloc, &mut desk, at, (4096, 4096), front, answers, end);
 }
 
 /// Every front of them is served as far as it is whole.

@@ -144,6 +144,13 @@ pub(crate) fn run_script(rt: &impl Abort, alloc: Global, steps: &[Step]) {
     check_whole(rt, alloc, &list, 0, desk);
 }
 
+/// A desk is opened there.
+fn check_opens<S: Alter + Drop>(rt: &impl Abort, alloc: Global, conn: Connection<S>) {
+    assert!(rt; conn.is_autocommit(), "idle");
+    let opened = Desk::open(alloc, conn);
+    check(rt, opened.is_ok(), "a desk");
+}
+
 /// A new desk whose log or database file fails from this call on, unless it fails before: then the files have no desk, or one
 /// that knows nothing.
 fn failing_desk(
@@ -163,9 +170,7 @@ fn failing_desk(
         Ok(desk) => Some(desk),
         Err((conn, why)) => {
             check(rt, why == OpenFault::Storage, "the store fails");
-            let conn = reopen(rt, alloc, conn);
-            assert!(rt; conn.is_autocommit(), "idle");
-            check(rt, Desk::open(alloc, conn).is_ok(), "a desk");
+            check_opens(rt, alloc, reopen(rt, alloc, conn));
             None
         }
     }

@@ -174,9 +174,13 @@ fn at(rt: &impl Abort, digits: &str) -> Step {
 
 /// Gives the last request its answer.
 fn put_answer(rt: &impl Abort, alloc: Global, steps: &mut Vec<Step>, status: &str, body: &str) {
-    match steps.last_mut() {
-        Some(Step::Call { request, answer }) if answer.is_empty() => {
-            *answer = answer_text(rt, alloc, request.as_str(), status, body);
+    match steps.pop() {
+        Some(Step::Call { request, answer }) => {
+            check(rt, answer.is_empty(), request.as_str());
+            let answer = answer_text(rt, alloc, request.as_str(), status, body);
+            steps
+                .push(Step::Call { request, answer })
+                .expect(rt, "memory");
         }
         _ => panic!(rt; "no request before `{status} {body}`"),
     }

@@ -1,11 +1,11 @@
 //! Streams of requests, as bytes in and bytes out, in pieces: scripts, each as one stream, and streams byte for byte.
 
-use crate::cases::{check, check_bytes, moment};
+use crate::cases::{check, moment};
 use crate::desks::{made, no_tables};
 use crate::fakes::{Drip, Trickle};
 use crate::memory::MOMENT;
 use crate::steps::Step;
-use agv_face::{Ended, Served, serve_stream};
+use agv_face::{Ended, Served, StreamFault, Watched, serve_stream};
 use agv_header::Moment;
 use agv_store::Desk;
 use sqlite::MemStore;
@@ -18,7 +18,24 @@ type Pace = (usize, usize);
 /// The paces at which streams go.
 const PACES: [Pace; 3] = [(1, 5), (7, 1), (4096, 5)];
 
-/// Serves a stream, and compares how it ends and what is written.
+/// Serves what the reader gives, and compares how it ends and what is written.
+fn check_served(
+    rt: &impl Abort,
+    alloc: Global,
+    desk: &mut Desk<MemStore>,
+    at: Moment,
+    reader: &mut Watched<Drip<'_>>,
+    writer: &mut Watched<Trickle>,
+    end: Result<Served, StreamFault>,
+    answers: &[u8],
+) {
+    let served = serve_stream(alloc, desk, at, reader, writer);
+    check(rt, served == end, "the end of the stream");
+    let taken = writer.inner().taken.as_slice();
+    check(rt, taken == answers, "the answers");
+}
+
+/// Serves a stream at this pace, and compares how it ends and what is written.
 pub(crate) fn check_stream(
     rt: &impl Abort,
     alloc: Global,
@@ -26,15 +43,21 @@ pub(crate) fn check_stream(
     at: Moment,
     pace: Pace,
     input: &str,
-    wanted: (&str, Served),
+    answers: &str,
+    end: Served,
 ) {
-    let (answers, end) = wanted;
     let mut reader = Drip::watched(input.as_bytes(), pace.0);
     let mut writer = Trickle::watched(alloc, pace.1);
-    let served = serve_stream(alloc, desk, at, &mut reader, &mut writer);
-    check(rt, served == Ok(end), input);
-    let taken = writer.inner().taken.as_slice();
-    check_bytes(rt, taken, answers, input);
+    check_served(
+        rt,
+        alloc,
+        desk,
+        at,
+        &mut reader,
+        &mut writer,
+        Ok(end),
+        answers.as_bytes(),
+    );
 }
 
 /// The requests of a script that come at one moment, and their answers.
@@ -63,8 +86,8 @@ impl Part {
             answers: self.count,
             ended: Ended::End,
         };
-        let wanted = (self.answers.as_str(), end);
-        check_stream(rt, alloc, desk, self.at, pace, self.input.as_str(), wanted);
+        let (input, answers) = (self.input.as_str(), self.answers.as_str());
+        check_stream(rt, alloc, desk, self.at, pace, input, answers, end);
     }
 
     /// Puts a request. A stream has one moment: where another one comes, what was put is served.
@@ -120,7 +143,7 @@ fn streams_at(rt: &impl Abort, alloc: Global, pace: Pace, streams: &[Stream<'_>]
             ended: *ended,
         };
         let at = moment(rt, MOMENT);
-        check_stream(rt, alloc, &mut desk, at, pace, input, (answers, end));
+        check_stream(rt, alloc, &mut desk, at, pace, input, answers, end);
     }
 }
 
