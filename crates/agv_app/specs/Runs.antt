@@ -15,7 +15,6 @@ use Rattle.agv_memory.specs.MemoryStores.{MemoryStore, over_memory_files}
 use Rattle.agv_store.specs.Floors.{Keyed, world_at}
 use Rattle.agv_store.specs.declared.open_fault.OpenFault.{OpenFault}
 use Rattle.agv_store.specs.declared.open_fault.OpenFault.TheVariants as opening
-use Rattle.agv_tables.specs.sql.Connections.{IsClean}
 use Rattle.agv_app.specs.CommandLine.{last_moment}
 use Rattle.agv_app.specs.declared.line.Line.{Line}
 use Rattle.agv_app.specs.declared.line.Line.TheVariants as line
