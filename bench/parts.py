@@ -1,6 +1,7 @@
 """The instructions of a request from its first byte read to the last byte of its answer written, and those of its parts, on a file:
 of a registration, a state, and an order with its look-ups of the way. Each figure is a twentieth of what 20 more of them take, after
-20; what a part calls counts as its own. Python's standard library and valgrind.
+20; what a part calls counts as its own. The parts are functions that the compiler leaves apart; what is left is the reading of the
+stream, the request in it, the begin of the transaction, and the writing. Python's standard library and valgrind.
 
     DESK=crates/agv_app/out/agv_app python3 bench/parts.py
 """
@@ -13,10 +14,9 @@ import rounds
 
 HERE = os.path.dirname(os.path.abspath(__file__))
 DESK = os.path.abspath(os.environ.get('DESK', os.path.join(HERE, '..', 'build', 'desk')))
-PARTS = [('read from the stream', r'agv_face::bytes::read_some'), ('the request is found', r'agv_http::\S*\bread_request'),
-         ('its line of the table', r'agv_http::\S*\broute_of'), ('its call', r'agv_http::\S*\bcall_of'),
-         ('served by the desk', r'agv_store::desk::Desk::serve'), ('its report', r'agv_store::\S*Desk::report'),
-         ('the bytes of its answer', r'agv_http::\S*\bput_answer'), ('written to the stream', r'agv_face::bytes::write_whole')]
+PARTS = [('which call it is', r'agv_face::call::call_in'), ('decided, with its questions', r'agv_desk::table::decide_each'),
+         ('its rows are written', r'sqlite::transaction::Transaction::execute'), ('committed', r'sqlite::connection::Connection::commit'),
+         ('the bytes of its answer', r'agv_http::\S*\bput_answer')]
 COUNT = 20
 
 
@@ -59,10 +59,10 @@ def main():
             few = counted(b''.join(before + requests[:COUNT]), folder)
             more = counted(b''.join(before + requests), folder)
             whole, *parts = [(b - a) // COUNT for a, b in zip(few, more)]
-            print('%-24s %10d' % (name, whole))
+            print('%-30s %10d' % (name, whole))
             for (part, _), count in zip(PARTS, parts):
-                print('  %-24s %10d' % (part, count))
-            print('  %-24s %10d' % ('their sum', sum(parts)), flush=True)
+                print('  %-28s %10d' % (part, count))
+            print('  %-28s %10d' % ('their sum', sum(parts)), flush=True)
 
 
 main()

@@ -1,4 +1,4 @@
-"""Measures each kind of call over `serve` on a file with 1,000, 100,000 and 1,000,000 loads at the checking place and as many jobs that
+"""Measures each kind of call over `serve` on a file with 1,000, 100,000 and 999,000 loads at the checking place and as many jobs that
 have ended: the wall time from the last byte of the request written to the answer read, the median of some rounds, and the
 instructions of the program for it. Beside, in the same run and on copies of the same files, the statements that the desk carries out
 for the call (bench/statements.txt) by the SQLite of C (bench/plain_calls.c; WAL, synchronous=FULL, each text prepared once). Besides
@@ -96,7 +96,7 @@ def instructions(name, folder):
             desk.ask(what, bytes_)
 
     def control(*words):
-        subprocess.run(['callgrind_control', *words, str(desk.desk.pid)], stdout=subprocess.DEVNULL, check=True)
+        subprocess.run(['callgrind_control', *words, str(desk.desk.pid)], stdout=subprocess.DEVNULL, stderr=subprocess.DEVNULL, check=True)
     control('-i', 'on')
     for what, bytes_ in calls.round():
         desk.ask(what, bytes_)
@@ -137,7 +137,7 @@ def plain_instructions(plain, name, folder):
 
 
 def main():
-    sizes = [int(word) for word in sys.argv[1:]] or [1_000, 100_000, 1_000_000]
+    sizes = [int(word) for word in sys.argv[1:]] or [1_000, 100_000, 999_000]
     with tempfile.TemporaryDirectory() as folder:
         plain = os.path.join(folder, 'plain')
         subprocess.run(['gcc', '-O2', '-o', plain, os.path.join(HERE, 'plain_calls.c'), '-lsqlite3'], check=True)
