@@ -6,4 +6,4 @@ pub mod TableRows
 pub mod ReadSoFar
 pub mod FieldLemmas
 pub mod Pieces
-pub mod ShelfLemmas
+pub mod LoadsByPlaceLemmas

@@ -43,8 +43,8 @@ row_in (kind ∷ id ∷ from ∷ to ∷ []) =
 row_in other = None
 
 -- the rows of a layout file, if the bytes are one
-abbrev pub layout_in : List ℕ → Option (List LayoutRow)
-layout_in bytes = rows_under layout_columns row_in (records_of bytes)
+abbrev pub layout_rows_in : List ℕ → Option (List LayoutRow)
+layout_rows_in bytes = rows_under layout_columns row_in (records_of bytes)
 
 -- a record of other than four fields says no row
 pub no_layout_row : (fields : List (List ℕ)) → has_fields 4 fields ≡ false → row_in fields ≡ None

@@ -4,5 +4,5 @@ pub mod Fault
 pub mod LayoutFile
 pub mod Records
 pub mod Reports
-pub mod Shelves
+pub mod LoadsByPlace
 pub mod Table

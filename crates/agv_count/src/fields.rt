@@ -37,12 +37,12 @@ impl<'a> Fields<'a> {
 }
 
 /// The most digits of a capacity.
-const MOST_DIGITS: usize = 3;
+const MAX_CAPACITY_DIGITS: usize = 3;
 
 fn writes_capacity(field: &[u8]) -> bool
     ensures { result ≡ is_capacity field.now }
 {
-    !field.is_empty() && field.len() <= MOST_DIGITS && are_digits(field)
+    !field.is_empty() && field.len() <= MAX_CAPACITY_DIGITS && are_digits(field)
 }
 
 /// The capacity that a field writes.

@@ -2,7 +2,7 @@
 ghost use Rattle.std.specs.Prelude.{◌≡◌, ◌&&◌, ◌==◌, Err, IfOk, None, Some, codes, length};
 ghost use Rattle.std.specs.Str.{bytes_eq};
 ghost use Rattle.csv.specs.Records.{fields_of};
-ghost use Rattle.agv_count.specs.LayoutFile.{edge_row, layout_columns, layout_in, no_layout_row, node_row, row_in, station_row};
+ghost use Rattle.agv_count.specs.LayoutFile.{edge_row, layout_columns, layout_rows_in, no_layout_row, node_row, row_in, station_row};
 ghost use Rattle.agv_count.specs.Table.{is_record};
 
 use crate::CsvFault;
@@ -111,8 +111,8 @@ impl Row for LayoutRow {
 /// `station`, one of its names is none, a node's `from` or `to` isn't empty, or a station's
 /// capacity isn't 1 to 3 digits. `Memory` where an allocation was refused.
 pub fn read_layout(alloc: Global, bytes: &[u8]) -> Result<Vec<LayoutRow>, CsvFault>
-    ensures ok { IfOk result (λ rows. layout_in bytes.now ≡ Some rows.items) }
-    ensures bad { result ≡ Err CsvFault.BadCsv → layout_in bytes.now ≡ None }
+    ensures ok { IfOk result (λ rows. layout_rows_in bytes.now ≡ Some rows.items) }
+    ensures bad { result ≡ Err CsvFault.BadCsv → layout_rows_in bytes.now ≡ None }
 {
     read_table(alloc, bytes)
 }

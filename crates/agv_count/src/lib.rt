@@ -21,7 +21,7 @@ mod holds;
 pub mod laws;
 mod layout_file;
 mod records;
-mod shelves;
+mod loads_by_place;
 mod stock;
 mod table;
 

@@ -5,9 +5,9 @@ ghost use Rattle.agv_header.specs.Key.{key_cmp};
 ghost use Rattle.agv_header.specs.Name.{name_cmp};
 ghost use Rattle.agv_count.specs.Reports.{checking_part, left_part, listed, station_part, stock_text, vehicle_part};
 ghost use Rattle.agv_stock.specs.Room.{has_left};
-ghost use Rattle.agv_count.specs.Shelves.{loads_at};
+ghost use Rattle.agv_count.specs.LoadsByPlace.{loads_at};
 
-use crate::shelves::{Shelf, Shelves, loads_at};
+use crate::loads_by_place::{Shelf, LoadsByPlace, loads_at};
 use agv_header::{Memory, Name, VehicleKey};
 use agv_layout::Station;
 use agv_stock::Place;
@@ -120,7 +120,7 @@ pub fn stock_report(
 ) -> Result<Vec<u8>, Memory>
     ensures { IfOk result (λ report. report.items ≡ stock_text stations.now loads.now vehicles.now) }
 {
-    let shelves = Shelves::of_loads(alloc, loads)?;
+    let shelves = LoadsByPlace::of_loads(alloc, loads)?;
     let mut out = String::new(alloc);
     write_stations(&mut out, stations, &shelves.stations)?;
     write_checking(&mut out, &shelves.checking)?;

@@ -9,7 +9,7 @@ use Rattle.agv_order.specs.StopPlaces.{IsAt}
 use Rattle.agv_order.specs.declared.stop.Stop.{Stop}
 use Rattle.agv_stock.specs.Phase.{is_live}
 use Rattle.agv_stock.specs.declared.job.Phase.TheVariants as phase
-use Rattle.agv_world.specs.Cargo.{Jobs, coming}
+use Rattle.agv_world.specs.StockInvariant.{Jobs, coming}
 use Rattle.agv_world.specs.Questions.{is_live_to}
 use Rattle.agv_world.specs.TableChanges.{written}
 use Rattle.agv_world.specs.Worlds.{World}

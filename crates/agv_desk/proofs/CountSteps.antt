@@ -34,8 +34,8 @@ use Rattle.agv_desk.specs.declared.answer.Answer.{Answer}
 use Rattle.agv_desk.specs.declared.answer.Answer.TheVariants as answer
 use Rattle.agv_desk.specs.declared.call.Call.{Call}
 use Rattle.agv_desk.specs.declared.call.Call.TheVariants as call
-use Rattle.agv_desk.proofs.CargoCounts.{as_many_loads}
-use Rattle.agv_desk.proofs.CargoOrders.{made_planned}
+use Rattle.agv_desk.proofs.StockInvariantCounts.{as_many_loads}
+use Rattle.agv_desk.proofs.StockInvariantOrders.{made_planned}
 use Rattle.agv_desk.proofs.CausedMoves.{refused_leaves}
 use Rattle.agv_desk.proofs.Grown.{Grows, IsKnown, as_many, counted_is, grown, len_act_jobs, len_act_moves, len_known, len_name, len_new, len_riding, len_stopped, one_reference, same}
 use Rattle.agv_desk.proofs.Known.{has_trip, known, none_some, same_some, unknown, vehicle_with}

@@ -10,7 +10,7 @@ use Rattle.std.specs.Ordering.{eq_by_cmp}
 use Rattle.std.proofs.lemmas.Bool.{false≢true, and_parts, or_left, or_right}
 use Rattle.std.proofs.lemmas.List.Folds.{list_any-append}
 use Rattle.agv_header.specs.Name.{name_cmp}
-use Rattle.agv_layout.specs.declared.station.Spot.{Spot}
+use Rattle.agv_layout.specs.declared.station.StationSite.{StationSite}
 use Rattle.agv_stock.specs.Room.{is_at}
 use Rattle.agv_stock.specs.declared.place.Place.{Place}
 use Rattle.agv_stock.specs.declared.place.Place.TheVariants as place
@@ -31,7 +31,7 @@ same_some : {A : Type 0} (x y : A) → Some x ≡ Some y → x ≡ y
 same_some x y e = ap (λ o. unwrap_or o x) e
 
 -- ---- the stations that were counted
-counted_known : (spots : finite.FinMap name_cmp Spot) (rows : List Row) (id : List ℕ) → list_all (λ (row : Row). is_some (finite.get spots row.0)) rows ≡ true → is_counted rows id ≡ true → is_some (finite.get spots id) ≡ true
+counted_known : (spots : finite.FinMap name_cmp StationSite) (rows : List Row) (id : List ℕ) → list_all (λ (row : Row). is_some (finite.get spots row.0)) rows ≡ true → is_counted rows id ≡ true → is_some (finite.get spots id) ≡ true
 counted_known spots [] id known counted = absurd (false≢true counted)
 counted_known spots (row ∷ rows) id known counted =
     let parts = and_parts (is_some (finite.get spots row.0)) _ known in
@@ -40,7 +40,7 @@ counted_known spots (row ∷ rows) id known counted =
       | false ↦ λ _ rest. counted_known spots rows id parts.1 rest
     ] refl counted
 
-is_there : (b : Bool) (o : Option Spot) → (b ≡ true → is_some o ≡ true) → is_some (cond b o None) ≡ b
+is_there : (b : Bool) (o : Option StationSite) → (b ≡ true → is_some o ≡ true) → is_some (cond b o None) ≡ b
 is_there true o known = known refl
 is_there false o known = refl
 
@@ -112,7 +112,7 @@ module _ (world : World) where
   there-append [] other a b = b
   there-append (x ∷ one) other a b = (a.0, there-append one other a.1 b)
 
-  standing_there : (stations : List (List ℕ × Spot)) → There (standing world stations)
+  standing_there : (stations : List (List ℕ × StationSite)) → There (standing world stations)
   unfolding There loads_at
   standing_there [] = tt
   standing_there (station ∷ stations) =
@@ -134,14 +134,14 @@ module _ (world : World) where
             elim (is_at id load.1) as (λ b. is_in q (after b) ≡ true) [ true ↦ or_right (pointwise nat_eq load.0 q) (is_in q (after false)) rest | false ↦ rest ]
       ] refl is
 
-  among_standing : (id q : List ℕ) (stations : List (List ℕ × Spot)) → finite.get world.places q ≡ Some (place.Station id) → list_any (eq_by_cmp name_cmp id) (map (λ (s : List ℕ × Spot). s.0) stations) ≡ true
+  among_standing : (id q : List ℕ) (stations : List (List ℕ × StationSite)) → finite.get world.places q ≡ Some (place.Station id) → list_any (eq_by_cmp name_cmp id) (map (λ (s : List ℕ × StationSite). s.0) stations) ≡ true
       → is_in q (standing world stations) ≡ true
   unfolding loads_at
   among_standing id q [] is one = absurd (false≢true one)
   among_standing id q (station ∷ stations) is one =
       let loads = standing_at station.0 (loads_at world station.0) in
       let joined = list_any-append (λ (load : List ℕ × Place). pointwise nat_eq load.0 q) loads (standing world stations) in
-      elim (eq_by_cmp name_cmp id station.0) as (λ b. eq_by_cmp name_cmp id station.0 ≡ b → (b || list_any (eq_by_cmp name_cmp id) (map (λ (s : List ℕ × Spot). s.0) stations)) ≡ true → is_in q (loads ++ standing world stations) ≡ true) [
+      elim (eq_by_cmp name_cmp id station.0) as (λ b. eq_by_cmp name_cmp id station.0 ≡ b → (b || list_any (eq_by_cmp name_cmp id) (map (λ (s : List ℕ × StationSite). s.0) stations)) ≡ true → is_in q (loads ++ standing world stations) ≡ true) [
         | true ↦ λ same _.
             let here = among_kept station.0 q (finite.entries world.places) (sym (finite.get-entries world.places q) ∙ is ∙ ap (λ k. Some (place.Station k)) (sym (same_name station.0 id (sym (tie_turned id station.0) ∙ same)))) in
             joined ∙ or_left (is_in q loads) (is_in q (standing world stations)) here
@@ -154,7 +154,7 @@ module _ (world : World) where
   counted_at false id to e = absurd (not_some to e)
 
   module _ (rows : List Row) where
-    stations : finite.FinMap name_cmp Spot
+    stations : finite.FinMap name_cmp StationSite
     stations = stations_in world rows
 
     not_found : (q : List ℕ) (at to : Place) → finite.get world.places q ≡ Some at → new_place (finite.contains_key stations) None at ≡ Some to → is_in q (standing world (finite.entries stations)) ≡ true

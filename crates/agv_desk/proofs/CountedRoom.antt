@@ -11,7 +11,7 @@ use Rattle.agv_header.specs.Name.{name_cmp}
 use Rattle.agv_stock.specs.Room.{is_at}
 use Rattle.agv_stock.specs.declared.place.Place.{Place}
 use Rattle.agv_stock.specs.declared.place.Place.TheVariants as place
-use Rattle.agv_world.specs.Cargo.{Places, stored}
+use Rattle.agv_world.specs.StockInvariant.{Places, stored}
 use Rattle.agv_world.specs.Worlds.{World}
 use Rattle.agv_world.proofs.Entries.{entries_found, same_Some}
 use Rattle.agv_world.proofs.Orders.{names_total}

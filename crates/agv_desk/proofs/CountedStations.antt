@@ -9,7 +9,7 @@ use Rattle.std.proofs.lemmas.List.{at_drop_all}
 use Rattle.std.proofs.lemmas.List.Folds.{list_all_at}
 use Rattle.std.proofs.lemmas.Option.{cond_some}
 use Rattle.agv_header.specs.Name.{name_cmp}
-use Rattle.agv_layout.specs.declared.station.Spot.{Spot}
+use Rattle.agv_layout.specs.declared.station.StationSite.{StationSite}
 use Rattle.agv_world.specs.Worlds.{World}
 use Rattle.agv_world.proofs.Orders.{names_total, names_apart}
 use Rattle.agv_desk.specs.CountParts.{AreCounted, noted_station, stations_in}
@@ -17,7 +17,7 @@ use Rattle.agv_desk.specs.StocktakeSteps.{Row, are_known, is_counted}
 use Rattle.agv_desk.proofs.SameNames.{same_name, tie_turned}
 
 abbrev pub Spots : Type 0
-Spots = map.FinMap name_cmp Spot
+Spots = map.FinMap name_cmp StationSite
 
 module _ (layout : Spots) where
   -- the stations that are noted after some rows more, if all are known
@@ -40,13 +40,13 @@ module _ (layout : Spots) where
   kept-none = map.same_map names_total names_apart _ _ (λ q. map.get-empty name_cmp q ∙ sym (get-kept (λ _. false) q))
 
   -- one station more
-  chosen : (here there : Bool) (found : Option Spot) (spot : Spot) → (here ≡ true → Some spot ≡ found) → cond here (Some spot) (cond there found None) ≡ cond (there || here) found None
+  chosen : (here there : Bool) (found : Option StationSite) (spot : StationSite) → (here ≡ true → Some spot ≡ found) → cond here (Some spot) (cond there found None) ≡ cond (there || here) found None
   chosen true true found spot same = same refl
   chosen true false found spot same = same refl
   chosen false true found spot same = refl
   chosen false false found spot same = refl
 
-  with_one : (test : List ℕ → Bool) (id : List ℕ) (spot : Spot) → map.get layout id ≡ Some spot → map.insert (kept test) id spot ≡ kept (λ q. test q || pointwise nat_eq id q)
+  with_one : (test : List ℕ → Bool) (id : List ℕ) (spot : StationSite) → map.get layout id ≡ Some spot → map.insert (kept test) id spot ≡ kept (λ q. test q || pointwise nat_eq id q)
   with_one test id spot known =
       map.same_map names_total names_apart _ _ (λ q.
       map.get-insert names_total (kept test) id spot q
@@ -73,7 +73,7 @@ module _ (layout : Spots) where
       let id = row.0 in
       let all = list_all knows rows in
       let next : (Bool × Spots) → Option Spots = λ more. cond more.0 (gathered more.1 rows) None in
-      let by : (there : Bool) (found : Option Spot) → test id ≡ there → map.get layout id ≡ found
+      let by : (there : Bool) (found : Option StationSite) → test id ≡ there → map.get layout id ≡ found
       → next (noted_station (kept test) id (cond there found None) found) ≡ cond (is_some found && all) (Some (kept (λ q. test q || (pointwise nat_eq id q || is_counted rows q)))) None =
       λ there found. elim there as (λ there. test id ≡ there → map.get layout id ≡ found → next (noted_station (kept test) id (cond there found None) found) ≡ cond (is_some found && all) (Some (kept (λ q. test q || (pointwise nat_eq id q || is_counted rows q)))) None) [
         | true ↦ elim found as (λ found. test id ≡ true → map.get layout id ≡ found → next (noted_station (kept test) id found found) ≡ cond (is_some found && all) (Some (kept (λ q. test q || (pointwise nat_eq id q || is_counted rows q)))) None) [
@@ -103,7 +103,7 @@ all_noted world rows noted i past is =
     let found = cond_some (are_known world rows) (stations_in world rows) noted (sym (gathered_all world rows) ∙ sym is ∙ at_drop_all (gathered world.layout.stations noted) rows i past) in
     (found.0, sym found.1)
 
-not_there : (noted after : Spots) (id : List ℕ) (here there : Option Spot) (known : Bool) → (known, after) ≡ noted_station noted id here there → known ≡ false → is_some there ≡ false
+not_there : (noted after : Spots) (id : List ℕ) (here there : Option StationSite) (known : Bool) → (known, after) ≡ noted_station noted id here there → known ≡ false → is_some there ≡ false
 not_there noted after id (Some spot) there known is missing = absurd (false≢true (sym missing ∙ ap (λ (p : Bool × Spots). p.0) is))
 not_there noted after id None None known is missing = refl
 not_there noted after id None (Some spot) known is missing = absurd (false≢true (sym missing ∙ ap (λ (p : Bool × Spots). p.0) is))

@@ -10,7 +10,7 @@ use Rattle.std.proofs.lemmas.List.{length-map}
 use Rattle.std.proofs.lemmas.List.Sums.{sum_by-cons}
 use Rattle.agv_header.specs.Name.{name_cmp}
 use Rattle.agv_header.specs.declared.refusal.Refusal.TheVariants as refusal
-use Rattle.agv_layout.specs.declared.station.Spot.{Spot}
+use Rattle.agv_layout.specs.declared.station.StationSite.{StationSite}
 use Rattle.agv_stock.specs.declared.place.Place.{Place}
 use Rattle.agv_world.specs.Questions.{reserved, count_of}
 use Rattle.agv_world.specs.Worlds.{World}
@@ -20,7 +20,7 @@ use Rattle.agv_world.proofs.Orders.{names_total}
 use Rattle.agv_desk.specs.CountParts.{all_have_room, count_by_parts, found_in, has_room, is_found_at, moves_list, seen_at, sightings, stations_in, unknown_one}
 use Rattle.agv_desk.specs.LoadSteps.{most, is_in_job, reference_key}
 use Rattle.agv_desk.specs.Outcomes.{Outcome, Made, Move, require, told}
-use Rattle.agv_desk.specs.StocktakeSteps.{Row, are_known, count_loads, count_move, finds_aboard, finds_known, fits, found_here, is_aboard, is_counted, is_here, new_places, unknown_in, unknown_on}
+use Rattle.agv_desk.specs.StocktakeSteps.{Row, are_known, count_loads, count_move, finds_on_vehicle, finds_known, fits, found_here, is_on_vehicle, is_counted, is_here, new_places, unknown_in, unknown_on}
 use Rattle.agv_desk.specs.declared.answer.Answer.TheVariants as answer
 use Rattle.agv_desk.specs.declared.stocktake.sighting.Sighting.{Sighting}
 use Rattle.agv_desk.proofs.CountedMoves.{get-stations_in, has-stations_in, moves_are}
@@ -55,11 +55,11 @@ same_all name other test xs ys same =
     (λ all. all_pass name test xs (λ q one. passes other test ys q all (sym (same q) ∙ one)))
 
 -- ---- the stations
-keys_named : (q : List ℕ) (stations : List (List ℕ × Spot)) → list_any (eq_by_cmp name_cmp q) (map (λ (s : List ℕ × Spot). s.0) stations) ≡ list_any (λ (s : List ℕ × Spot). pointwise nat_eq s.0 q) stations
+keys_named : (q : List ℕ) (stations : List (List ℕ × StationSite)) → list_any (eq_by_cmp name_cmp q) (map (λ (s : List ℕ × StationSite). s.0) stations) ≡ list_any (λ (s : List ℕ × StationSite). pointwise nat_eq s.0 q) stations
 keys_named q [] = refl
 keys_named q (station ∷ stations) = λ i. tie_turned q station.0 i || keys_named q stations i
 
-kept_spot : (counted : Bool) (found : Option Spot) (spot : Spot) → cond counted found None ≡ Some spot → found ≡ Some spot
+kept_spot : (counted : Bool) (found : Option StationSite) (spot : StationSite) → cond counted found None ≡ Some spot → found ≡ Some spot
 kept_spot true found spot e = e
 kept_spot false found spot e = absurd (false≢true (ap is_some e))
 
@@ -69,13 +69,13 @@ no_more false n = omega arith
 
 module _ (world : World) where
   -- ---- what was found
-  aboard_are : (rows : List Row) → list_any (λ (one : Sighting). is_aboard one.place) (sightings world rows) ≡ list_any (λ (row : Row). finds_aboard world row.1) rows
+  on_vehicle_are : (rows : List Row) → list_any (λ (one : Sighting). is_on_vehicle one.place) (sightings world rows) ≡ list_any (λ (row : Row). finds_on_vehicle world row.1) rows
   unfolding sightings
-  aboard_are [] = refl
-  aboard_are (row ∷ rows) =
-      elim row.1 as (λ load. list_any (λ (one : Sighting). is_aboard one.place) (sightings world ((row.0, load) ∷ rows)) ≡ (finds_aboard world load || list_any (λ (row : Row). finds_aboard world row.1) rows)) [
-        | None ↦ aboard_are rows
-        | Some load ↦ ap (λ b. is_aboard (finite.get world.places load) || b) (aboard_are rows)
+  on_vehicle_are [] = refl
+  on_vehicle_are (row ∷ rows) =
+      elim row.1 as (λ load. list_any (λ (one : Sighting). is_on_vehicle one.place) (sightings world ((row.0, load) ∷ rows)) ≡ (finds_on_vehicle world load || list_any (λ (row : Row). finds_on_vehicle world row.1) rows)) [
+        | None ↦ on_vehicle_are rows
+        | Some load ↦ ap (λ b. is_on_vehicle (finite.get world.places load) || b) (on_vehicle_are rows)
       ]
 
   unknown_are : (rows : List Row) → filter_map unknown_one (sightings world rows) ≡ unknown_in world rows
@@ -105,8 +105,8 @@ module _ (world : World) where
     abbrev fits_at : List ℕ → Bool
     fits_at station = fits world rows station (finite.get world.layout.stations station)
 
-    room_of_each : (stations : List (List ℕ × Spot)) → AllByRecursion (λ (s : List ℕ × Spot). finite.get (stations_in world rows) s.0 ≡ Some s.1) stations
-        → all_have_room world (sightings world rows) stations ≡ list_all (λ (s : List ℕ × Spot). fits_at s.0) stations
+    room_of_each : (stations : List (List ℕ × StationSite)) → AllByRecursion (λ (s : List ℕ × StationSite). finite.get (stations_in world rows) s.0 ≡ Some s.1) stations
+        → all_have_room world (sightings world rows) stations ≡ list_all (λ (s : List ℕ × StationSite). fits_at s.0) stations
     room_of_each [] there = refl
     room_of_each (station ∷ stations) there =
         let known = kept_spot (is_counted rows station.0) (finite.get world.layout.stations station.0) station.1 (sym (get-stations_in world rows station.0) ∙ there.0) in
@@ -118,7 +118,7 @@ module _ (world : World) where
     room_is known =
         let stations = finite.entries (stations_in world rows) in
         room_of_each stations (entries_found names_total (stations_in world rows))
-        ∙ same_all (λ (s : List ℕ × Spot). s.0) (λ (row : Row). row.0) fits_at stations rows
+        ∙ same_all (λ (s : List ℕ × StationSite). s.0) (λ (row : Row). row.0) fits_at stations rows
         (λ q. sym (keys_named q stations) ∙ sym (finite.contains_key-keys (stations_in world rows) q) ∙ has-stations_in world rows known q)
 
   jobs_of : (moves : List (List ℕ × Place)) → list_any (λ (load : List ℕ × Place). is_in_job world load.0) moves ≡ list_any (λ (move : Move). is_in_job world move.load) (map count_move moves)
@@ -132,7 +132,7 @@ module _ (world : World) where
       let in_job = ap (λ (moves : List (List ℕ × Place)). list_any (λ (load : List ℕ × Place). is_in_job world load.0) moves) moves ∙ jobs_of (new_places world rows) in
       let count = ap (λ (moves : List (List ℕ × Place)). length moves) moves ∙ sym (length-map (new_places world rows) count_move) in
       λ i.
-      require (not (aboard_are rows i)) refusal.OnVehicle
+      require (not (on_vehicle_are rows i)) refusal.OnVehicle
       (require (not (in_job i)) refusal.InJob
       (require (room_is rows known i) refusal.Full
       (require (nat_lt (count_of world counted.References) most) refusal.Limit

@@ -3,7 +3,7 @@ use Rattle.std.proofs.Common.{◌≡◌, ℕ, zero, suc, ◌+◌, ◌-◌, ◌<�
 use Rattle.std.specs.List.{slice_get}
 use Rattle.agv_message.specs.declared.order.ActKind.{ActKind}
 use Rattle.agv_message.specs.declared.order.ActKind.TheVariants.{Pick, Drop}
-use Rattle.agv_order.specs.StopPlaces.{IsAt, IsServed, CanBeDone}
+use Rattle.agv_order.specs.StopPlaces.{IsAt, IsPickedThenDropped, CanBeDone}
 use Rattle.agv_order.specs.declared.stop.Stop.{Stop}
 use Rattle.agv_desk.proofs.Known.{none_some, same_some}
 
@@ -28,17 +28,17 @@ no_pick_after stop stops fit is k at =
     fit.0 drop.0 (subst (λ kind. IsAt stops stop.job kind drop.0) (sym is) drop.1)
 
 -- a job is picked at one place, and dropped at one
-pub one_place : (all : List Stop) (job : List ℕ) (kind : ActKind) (i k : ℕ) → IsServed all job → IsAt all job kind i → IsAt all job kind k → i ≡ k
+pub one_place : (all : List Stop) (job : List ℕ) (kind : ActKind) (i k : ℕ) → IsPickedThenDropped all job → IsAt all job kind i → IsAt all job kind k → i ≡ k
 one_place all job Pick i k served a b = served.3.1 i a ∙ sym (served.3.1 k b)
 one_place all job Drop i k served a b = served.4.1 i a ∙ sym (served.4.1 k b)
 
 -- the stops from place n on
-fit_from : (all stops : List Stop) (n : ℕ) → ((k : ℕ) (stop : Stop) → slice_get all k ≡ Some stop → IsServed all stop.job)
+fit_from : (all stops : List Stop) (n : ℕ) → ((k : ℕ) (stop : Stop) → slice_get all k ≡ Some stop → IsPickedThenDropped all stop.job)
     → ((k : ℕ) → slice_get stops k ≡ slice_get all (n + k)) → Fit stops
 fit_from all [] n each at = tt
 fit_from all (stop ∷ stops) n each at =
     let here : IsAt all stop.job stop.kind n = ap (slice_get all) (plus_zero n) ∙ sym (at 0) in
-    let served : IsServed all stop.job = each n stop here in
+    let served : IsPickedThenDropped all stop.job = each n stop here in
     let later : (k : ℕ) → slice_get stops k ≡ slice_get all (n + suc k) = λ k. at (suc k) in (
       λ k same. apart n k (one_place all stop.job stop.kind (n + suc k) n served (sym (later k) ∙ same) here),
       λ is.

@@ -11,24 +11,24 @@ use Rattle.agv_order.specs.Statuses.{is_finished}
 use Rattle.agv_order.specs.WellFormed.{is_in_turn}
 use Rattle.agv_order.specs.declared.trip.Trip.{Trip}
 use Rattle.agv_stock.specs.declared.place.Place.TheVariants as place
-use Rattle.agv_track.specs.Eight.{length-new_statuses, zip-eight}
+use Rattle.agv_track.proofs.Eight.{length-new_statuses, zip-eight}
 use Rattle.agv_track.specs.Judgements.{eight, judged, new_acts, new_statuses, progress_of}
-use Rattle.agv_track.specs.Judging.{judged-ok}
+use Rattle.agv_track.proofs.Judging.{judged-ok}
 use Rattle.agv_track.specs.Reports.{renewed, with_status}
 use Rattle.agv_track.specs.declared.pending.Pending.{Pending}
 use Rattle.agv_track.specs.declared.progress.Progress.{Progress}
-use Rattle.agv_world.specs.Cargo.{Errand, Jobs, Places}
+use Rattle.agv_world.specs.StockInvariant.{ActionView, Jobs, Places}
 use Rattle.agv_world.specs.GoodOrder.{HasTrip}
 use Rattle.agv_world.specs.Worlds.{World}
 use Rattle.agv_desk.specs.ActedMoves.{FindsItsLoad}
 use Rattle.agv_desk.specs.JobSteps.{Renewed, act_move, act_moves}
 use Rattle.agv_desk.specs.Outcomes.{Acted, Cause, Move, moved}
-use Rattle.agv_desk.proofs.Errands.{AfterPicks, IsPicked, after, all_after, all_before, in_rest, stops_by, whole}
+use Rattle.agv_desk.proofs.ActionViews.{AfterPicks, IsPicked, after, all_after, all_before, in_rest, stops_by, whole}
 use Rattle.agv_desk.proofs.FitStops.{Fit}
 use Rattle.agv_desk.proofs.KeptPlaces.{kept_place}
 use Rattle.agv_desk.proofs.Known.{none_some, same_some}
 use Rattle.agv_desk.proofs.WalkHeads.{Untouched, move_by, row_in, untouched_next}
-use Rattle.agv_desk.proofs.WalkSteps.{Fits, Now, an_errand, fits_here, on_vehicle}
+use Rattle.agv_desk.proofs.WalkSteps.{Fits, Now, an_action_view, fits_here, on_vehicle}
 use Rattle.agv_desk.proofs.Walks.{Renews, pick_before, walk_first}
 
 -- ---- moves one after the other
@@ -87,22 +87,22 @@ same_cause world places move kind order job cause finds other_kind other_order o
     job_in Cause.Registered = job
     job_in Cause.Recorded = job
 
-module _ (layout : Layout) (carries : VehicleKey → List Errand) (capacity : VehicleKey → ℕ) (key : VehicleKey) (world : World) (trip : Trip) (has : HasTrip world key trip) where
-  abbrev With : List Errand → Places → Jobs → Type 0
+module _ (layout : Layout) (carries : VehicleKey → List ActionView) (capacity : VehicleKey → ℕ) (key : VehicleKey) (world : World) (trip : Trip) (has : HasTrip world key trip) where
+  abbrev With : List ActionView → Places → Jobs → Type 0
   With carried places jobs = Now layout carries capacity key carried places jobs
 
   -- the first act that is left
-  head_finds : (gone rest : List Errand) (kind : ActKind) (job load station : List ℕ) (was is : Bool) (places : Places) (jobs : Jobs)
+  head_finds : (gone rest : List ActionView) (kind : ActKind) (job load station : List ℕ) (was is : Bool) (places : Places) (jobs : Jobs)
       → (was ≡ true → is ≡ true)
-      → (kind ≡ Drop → was ≡ false → is ≡ true → IsPicked (whole gone (an_errand kind job load station was ∷ rest)) job)
+      → (kind ≡ Drop → was ≡ false → is ≡ true → IsPicked (whole gone (an_action_view kind job load station was ∷ rest)) job)
       → finite.get jobs job ≡ finite.get world.jobs job
-      → With (whole gone (an_errand kind job load station was ∷ rest)) places jobs
+      → With (whole gone (an_action_view kind job load station was ∷ rest)) places jobs
       → (move : Move) → move_by key trip.order kind job load station was is ≡ Some move → Finds world places move
   head_finds gone rest kind job load station true true places jobs renews picked same now move e = none_some e
   head_finds gone rest kind job load station true false places jobs renews picked same now move e = none_some e
   head_finds gone rest kind job load station false false places jobs renews picked same now move e = none_some e
   head_finds gone rest Pick job load station false true places jobs renews picked same now move e =
-      let old : Errand = an_errand Pick job load station false in
+      let old : ActionView = an_action_view Pick job load station false in
       let spot = in_rest gone (old ∷ rest) 0 old refl in
       let row = row_in layout carries capacity key world trip.order (whole gone (old ∷ rest)) places jobs spot.0 old now spot.1 same in
       let h : Fits places key old row.0 = fits_here layout carries capacity key (whole gone (old ∷ rest)) places jobs now spot.0 old spot.1 row.0 row.1 in
@@ -121,8 +121,8 @@ module _ (layout : Layout) (carries : VehicleKey → List Errand) (capacity : Ve
         to = refl;
       }))
   head_finds gone rest Drop job load station false true places jobs renews picked same now move e =
-      let old : Errand = an_errand Drop job load station false in
-      let carried : List Errand = whole gone (old ∷ rest) in
+      let old : ActionView = an_action_view Drop job load station false in
+      let carried : List ActionView = whole gone (old ∷ rest) in
       let spot = in_rest gone (old ∷ rest) 0 old refl in
       let row = row_in layout carries capacity key world trip.order carried places jobs spot.0 old now spot.1 same in
       let h : Fits places key old row.0 = fits_here layout carries capacity key carried places jobs now spot.0 old spot.1 row.0 row.1 in
@@ -149,7 +149,7 @@ module _ (layout : Layout) (carries : VehicleKey → List Errand) (capacity : Ve
   untouched_here act acts jobs fit untouched Pick is = let drop = fit.1 is in untouched (suc drop.0) act.0.job drop.1
   untouched_here act acts jobs fit untouched Drop is = untouched 0 act.0.job (λ i. Some (record { kind = is i; job = act.0.job }))
 
-  pub walk_finds : (gone : List Errand) (acts : List Renewed) (places : Places) (jobs : Jobs) → Renews acts → Fit (stops_by acts) → AfterPicks (whole gone (all_after acts))
+  pub walk_finds : (gone : List ActionView) (acts : List Renewed) (places : Places) (jobs : Jobs) → Renews acts → Fit (stops_by acts) → AfterPicks (whole gone (all_after acts))
       → Untouched world acts jobs → With (whole gone (all_before acts)) places jobs → EachMove (Finds world) places (act_moves key trip.order acts)
   walk_finds gone [] places jobs renews fit turns untouched now = tt
   walk_finds gone (act ∷ acts) places jobs renews fit turns untouched now =

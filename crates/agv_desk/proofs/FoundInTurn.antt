@@ -3,7 +3,7 @@ use Rattle.std.proofs.Common.{◌≡◌, ◌⊎◌, inl, inr, ℕ, List, [], ◌
 use Rattle.agv_message.specs.declared.order.ActKind.{ActKind}
 use Rattle.agv_message.specs.declared.order.ActKind.TheVariants.{Drop}
 use Rattle.agv_stock.specs.Phase.{is_live}
-use Rattle.agv_world.specs.Cargo.{Places}
+use Rattle.agv_world.specs.StockInvariant.{Places}
 use Rattle.agv_world.specs.Lawful.{IsLawful}
 use Rattle.agv_world.specs.Worlds.{World}
 use Rattle.agv_desk.specs.ActedMoves.{DropsForItsJob, DropsLoads, FindsItsLoad, FindsLoads, HasEffectAfter, IsFoundIn}

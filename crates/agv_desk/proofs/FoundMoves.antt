@@ -11,7 +11,7 @@ use Rattle.agv_order.specs.Trips.{task_of}
 use Rattle.agv_order.specs.declared.stop.Stop.{Stop}
 use Rattle.agv_order.specs.declared.trip.Trip.{Trip}
 use Rattle.agv_stock.specs.declared.place.Place.{Place}
-use Rattle.agv_world.specs.Cargo.{HasCargo, Places, capacity_of, errands_of}
+use Rattle.agv_world.specs.StockInvariant.{HasStockInvariant, Places, capacity_of, action_views_of}
 use Rattle.agv_world.specs.Lawful.{HasLawfulVehicles}
 use Rattle.agv_world.specs.Questions.{row_of, trip_of}
 use Rattle.agv_world.specs.Worlds.{World}
@@ -28,9 +28,9 @@ use Rattle.agv_desk.specs.StocktakeSteps.{Row, count_move, take_stock}
 use Rattle.agv_desk.specs.VehicleSteps.{cancel, instruct, pause, place_vehicle, register_vehicle, resume, resync}
 use Rattle.agv_desk.specs.declared.call.Call.{Call}
 use Rattle.agv_desk.specs.declared.call.Call.TheVariants as call
-use Rattle.agv_desk.proofs.CargoOrders.{made_planned}
-use Rattle.agv_desk.proofs.CargoTrips.{FitsAsSaid, entered, fit_zip, is_trip}
-use Rattle.agv_desk.proofs.Errands.{AfterPicks}
+use Rattle.agv_desk.proofs.StockInvariantOrders.{made_planned}
+use Rattle.agv_desk.proofs.StockInvariantTrips.{FitsAsSaid, entered, fit_zip, is_trip}
+use Rattle.agv_desk.proofs.ActionViews.{AfterPicks}
 use Rattle.agv_desk.proofs.FoundActs.{EachMove, Finds, each_at, turns_kept, walk_finds}
 use Rattle.agv_desk.proofs.Given.{AdvancesTrips}
 use Rattle.agv_desk.proofs.Known.{known, vehicle_with}
@@ -144,20 +144,20 @@ module _ (world : World) where
   hears_idle : (key : VehicleKey) (row : VehicleRow) (state : StateMessage) → IfMade P (idle_state key row state)
   hears_idle key row state = made_judged P _ _ (λ over is. plain _ tt)
 
-  module _ (fits : FitsAsSaid) (advances : AdvancesTrips) (seats : ℕ) (lawful : HasLawfulVehicles seats world) (cargo : HasCargo world) where
+  module _ (fits : FitsAsSaid) (advances : AdvancesTrips) (seats : ℕ) (lawful : HasLawfulVehicles seats world) (stock : HasStockInvariant world) where
     goes_on_trip : (key : VehicleKey) (row : VehicleRow) (trip : Trip) (state : StateMessage) → finite.get world.vehicles key ≡ Some (vehicle_with row (Some trip)) → IfMade P (trip_state world key row trip state)
     goes_on_trip key row trip state there =
         made_judged P _ _ (λ progress judged.
-        let well = (is_trip fits advances seats world lawful cargo key row trip there).well_formed in
+        let well = (is_trip fits advances seats world lawful stock key row trip there).well_formed in
         let few : length trip.acts ≤ 8 = few_acts well.planned.few in
         let step = advances trip (pending_of row) state progress well.under_way few judged in
         let turns = turns_kept trip (pending_of row) state progress few judged in
         let acts = zip trip.acts progress.statuses in
         finds_loads world _
-        (walk_finds world.layout (errands_of world) (capacity_of world) key world trip (vehicle_with row (Some trip), there, refl) [] acts world.places world.jobs
-        (zip_renews trip.acts progress.statuses step.acts) (fit_zip fits advances seats world lawful cargo key row trip there state progress step)
+        (walk_finds world.layout (action_views_of world) (capacity_of world) key world trip (vehicle_with row (Some trip), there, refl) [] acts world.places world.jobs
+        (zip_renews trip.acts progress.statuses step.acts) (fit_zip fits advances seats world lawful stock key row trip there state progress step)
         (subst AfterPicks (sym (all_after_is acts)) (after_picks _ turns)) (λ k job at. refl)
-        (entered fits advances seats world lawful cargo key row trip there state progress step)))
+        (entered fits advances seats world lawful stock key row trip there state progress step)))
       where
         few_acts : length (map task_of trip.acts) ≤ 8 → length trip.acts ≤ 8
         few_acts few = omega (arith, length-map trip.acts task_of)

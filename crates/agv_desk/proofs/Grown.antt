@@ -15,7 +15,7 @@ use Rattle.agv_order.specs.declared.trip.Trip.{Trip}
 use Rattle.agv_stock.specs.declared.job.Job.{Job}
 use Rattle.agv_stock.specs.declared.job.Phase.{Phase}
 use Rattle.agv_stock.specs.declared.job.Phase.TheVariants as phase
-use Rattle.agv_world.specs.Cargo.{Jobs, Places}
+use Rattle.agv_world.specs.StockInvariant.{Jobs, Places}
 use Rattle.agv_world.specs.Questions.{count_of}
 use Rattle.agv_world.specs.TableChanges.{written}
 use Rattle.agv_world.specs.Worlds.{World}
@@ -27,7 +27,7 @@ use Rattle.agv_desk.specs.Counts.{one_more}
 use Rattle.agv_desk.specs.JobSteps.{Renewed, act_job, act_jobs, act_move, act_moves, as_it_is, becomes_finished, job_in, jobs_stopped, phase_by, taken_to}
 use Rattle.agv_desk.specs.OrderSteps.{jobs_for, riding}
 use Rattle.agv_desk.specs.Outcomes.{Acted, Move, moved}
-use Rattle.agv_desk.proofs.CargoCounts.{len_by}
+use Rattle.agv_desk.proofs.StockInvariantCounts.{len_by}
 use Rattle.agv_desk.proofs.Known.{none_some, same_some}
 use Rattle.agv_desk.proofs.OrderJobs.{begins, riding_is}
 use Rattle.agv_desk.proofs.Writes.{is_written, written_has}

@@ -7,7 +7,7 @@ use Rattle.agv_message.specs.declared.state.StateMessage.{StateMessage}
 use Rattle.agv_message.specs.declared.status.Status.{Status}
 use Rattle.agv_order.specs.declared.act.Act.{Act}
 use Rattle.agv_order.specs.declared.trip.Trip.{Trip}
-use Rattle.agv_track.specs.Eight.{eight_are_new}
+use Rattle.agv_track.proofs.Eight.{eight_are_new}
 use Rattle.agv_track.specs.Judgements.{act_refusals, eight, end_after, end_by, first_of, is_through, judged, new_acts, new_statuses, progress_of, unless, way_refusals}
 use Rattle.agv_track.specs.Reached.{reported_node}
 use Rattle.agv_track.specs.Reports.{Reports, is_cancelled, status_after, told}

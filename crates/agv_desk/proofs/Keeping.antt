@@ -1,4 +1,4 @@
--- What each effect of a call keeps, from a lawful world, in three parts that are proved apart: the vehicles with their trips, the cargo, and how the trips follow those before.
+-- What each effect of a call keeps, from a lawful world, in three parts that are proved apart: the vehicles with their trips, the stock invariant, and how the trips follow those before.
 use Rattle.std.specs.Prelude.{◌≡◌, ◌≤◌, ◌⊎◌, ℕ, List, Some, true, false}
 use Rattle.std.specs.FinSet as set
 use Rattle.std.specs.List.{slice_get}
@@ -6,7 +6,7 @@ use Rattle.agv_header.specs.declared.key.VehicleKey.{VehicleKey}
 use Rattle.agv_order.specs.declared.act.Act.{Act}
 use Rattle.agv_order.specs.declared.trip.Trip.{Trip}
 use Rattle.agv_track.specs.Progressed.{GoesOn}
-use Rattle.agv_world.specs.Cargo.{HasCargo}
+use Rattle.agv_world.specs.StockInvariant.{HasStockInvariant}
 use Rattle.agv_world.specs.GoodOrder.{HasTrip}
 use Rattle.agv_world.specs.Lawful.{HasLawfulVehicles}
 use Rattle.agv_world.specs.Worlds.{World}
@@ -17,8 +17,8 @@ pub record KeepsVehicles (seats : ℕ) (world : World) (effect : Effect) : Type 
   pub vehicles : HasLawfulVehicles seats (with_effect world effect)
 
 -- the loads, the jobs and the trips are joined afterwards
-pub record KeepsCargo (world : World) (effect : Effect) : Type 0 where
-  pub cargo : HasCargo (with_effect world effect)
+pub record KeepsStock (world : World) (effect : Effect) : Type 0 where
+  pub stock : HasStockInvariant (with_effect world effect)
 
 -- a trip that went on: of the same order, at least as far, each act with the same task and a status that may follow
 pub record Continues (before after : Trip) : Type 0 where

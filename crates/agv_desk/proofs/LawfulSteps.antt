@@ -1,6 +1,6 @@
 -- From a lawful world each call leads to a lawful world, and each act that becomes finished finds its load.
 use Rattle.std.proofs.Common.{◌≡◌, ◌↔◌, ℕ}
-use Rattle.agv_world.specs.Cargo.{HasCargo}
+use Rattle.agv_world.specs.StockInvariant.{HasStockInvariant}
 use Rattle.agv_world.specs.Lawful.{HasLawfulVehicles, HasLawfulLoads, IsLawful}
 use Rattle.agv_world.specs.Worlds.{World}
 use Rattle.agv_desk.specs.ActedMoves.{FindsLoads}
@@ -14,31 +14,31 @@ abbrev pub KeepsVehiclesLawful : Type 0
 KeepsVehiclesLawful = (seats : ℕ) (world : World) (at : ℕ) (call : Call) → IsSeats seats → IsMoment at → IsWellTyped call
     → HasLawfulVehicles seats world → HasLawfulVehicles seats (after world (step seats world at call))
 
--- the cargo is joined after each call
-abbrev pub KeepsCargoJoined : Type 0
-KeepsCargoJoined = (seats : ℕ) (world : World) (at : ℕ) (call : Call) → IsWellTyped call
-    → HasLawfulVehicles seats world → HasCargo world → HasCargo (after world (step seats world at call))
+-- the stock invariant holds after each call
+abbrev pub KeepsStockInvariant : Type 0
+KeepsStockInvariant = (seats : ℕ) (world : World) (at : ℕ) (call : Call) → IsWellTyped call
+    → HasLawfulVehicles seats world → HasStockInvariant world → HasStockInvariant (after world (step seats world at call))
 
--- the loads are lawful exactly where the cargo is joined
-abbrev pub LoadsAreCargo : Type 0
-LoadsAreCargo = (seats : ℕ) (world : World) → HasLawfulVehicles seats world → HasLawfulLoads world ↔ HasCargo world
+-- the loads are lawful exactly where the stock invariant holds
+abbrev pub LoadsMeetInvariant : Type 0
+LoadsMeetInvariant = (seats : ℕ) (world : World) → HasLawfulVehicles seats world → HasLawfulLoads world ↔ HasStockInvariant world
 
 -- each act that becomes finished finds its load
 abbrev pub ActsFindTheirLoads : Type 0
 ActsFindTheirLoads = (seats : ℕ) (world : World) (at : ℕ) (call : Call) (effect : Effect)
-    → HasLawfulVehicles seats world → HasCargo world → step seats world at call ≡ Made effect → FindsLoads world effect
+    → HasLawfulVehicles seats world → HasStockInvariant world → step seats world at call ≡ Made effect → FindsLoads world effect
 
-pub step_lawful : KeepsVehiclesLawful → KeepsCargoJoined → LoadsAreCargo → (seats : ℕ) → IsSeats seats
+pub step_lawful : KeepsVehiclesLawful → KeepsStockInvariant → LoadsMeetInvariant → (seats : ℕ) → IsSeats seats
     → (world : World) (at : ℕ) (call : Call) → IsLawful seats world → IsMoment at → IsWellTyped call → IsLawful seats (after world (step seats world at call))
-step_lawful vehicles cargo loads seats seated world at call lawful moment typed =
+step_lawful vehicles stock loads seats seated world at call lawful moment typed =
     let kept = vehicles seats world at call seated moment typed lawful.vehicles in
-    let joined = cargo seats world at call typed lawful.vehicles ((loads seats world lawful.vehicles).0 lawful.loads) in
+    let joined = stock seats world at call typed lawful.vehicles ((loads seats world lawful.vehicles).0 lawful.loads) in
     record {
       vehicles = kept;
       loads = (loads seats (after world (step seats world at call)) kept).1 joined;
     }
 
-pub lawful_finds : ActsFindTheirLoads → LoadsAreCargo → (seats : ℕ) (world : World) (at : ℕ) (call : Call) (effect : Effect)
+pub lawful_finds : ActsFindTheirLoads → LoadsMeetInvariant → (seats : ℕ) (world : World) (at : ℕ) (call : Call) (effect : Effect)
     → IsLawful seats world → step seats world at call ≡ Made effect → FindsLoads world effect
 lawful_finds finds loads seats world at call effect lawful made =
     finds seats world at call effect lawful.vehicles ((loads seats world lawful.vehicles).0 lawful.loads) made

@@ -137,8 +137,8 @@ module _ (given : Given) (more : GivenMore) (seats : ℕ) (world : World) (lawfu
       → IsSeats seats → IsMoment at → IsName order → is_used world used.Order order ≡ false → row_of world key ≡ Some row → stops_fit stops ≡ true
       → IfMade P (take_order world at order key row stops jobs edges)
   takes_order at order key row stops jobs edges seated moment named unused there fit =
-      made_require P _ _ _ (λ a. made_require P _ _ _ (λ b. made_require P _ _ _ (λ idle. made_require P _ _ _ (λ astray. made_require P _ _ _ (λ laden. made_require P _ _ _ (λ e. made_require P _ _ _ (λ f.
-      let fits = leb-true (loads_on world key + count_by is_pick stops) row.capacity laden in
+      made_require P _ _ _ (λ a. made_require P _ _ _ (λ b. made_require P _ _ _ (λ idle. made_require P _ _ _ (λ astray. made_require P _ _ _ (λ within_capacity. made_require P _ _ _ (λ e. made_require P _ _ _ (λ f.
+      let fits = leb-true (loads_on world key + count_by is_pick stops) row.capacity within_capacity in
       let places = (lawful.vehicles key (vehicle_with row (trip_of world key)) (known world key row there)).seated in
       let few = few_stops stops (loads_on world key) row.capacity seats (more.twice stops fit) fits places seated.1 in
       sends_order at order key row stops jobs edges moment named unused there (missing _ idle) fit few (omega (arith, fits)) (missing _ astray))))))))

@@ -6,7 +6,7 @@ use Rattle.std.specs.List.{slice_get}
 use Rattle.agv_layout.specs.Layout.{Layout, IsEdge, IsNode, KeepsRules}
 use Rattle.agv_layout.specs.Walk.{IsWalk}
 use Rattle.agv_layout.specs.declared.edge.Edge.{Edge}
-use Rattle.agv_layout.specs.declared.edge.Ends.{Ends}
+use Rattle.agv_layout.specs.declared.edge.EdgeEnds.{EdgeEnds}
 use Rattle.agv_order.specs.StopPlaces.{is_pick}
 use Rattle.agv_order.specs.Stops.{is_drop}
 use Rattle.agv_order.specs.Tours.{MakesStops}
@@ -24,8 +24,8 @@ use Rattle.agv_desk.proofs.Known.{none_some, same_some}
 
 module _ (layout : Layout) where
   -- an edge of the layout has one pair of ends
-  same_end : (id : List ℕ) (ends others : Ends) → IsEdge layout id ends → IsEdge layout id others → ends.finish ≡ others.finish
-  same_end id ends others a b = ap (λ (e : Ends). e.finish) (same_some (sym a ∙ b))
+  same_end : (id : List ℕ) (ends others : EdgeEnds) → IsEdge layout id ends → IsEdge layout id others → ends.finish ≡ others.finish
+  same_end id ends others a b = ap (λ (e : EdgeEnds). e.finish) (same_some (sym a ∙ b))
 
   -- the walk goes on at the finish of its first edge
   goes_on : (start finish : List ℕ) (edge : Edge) (edges : List Edge) → All (IsEdgeOf layout) (edge ∷ edges) → IsWalk layout start (ids_of (edge ∷ edges)) finish
@@ -54,7 +54,7 @@ module _ (layout : Layout) where
   way_edges start finish (first ∷ edges) known walk zero name edge is there =
       let here : first ≡ edge = same_some there in
       let at : start ≡ name = same_some is in
-      let ends : ◌≡◌ {A = Ends} (record { start = start; finish = walk.0 }) (record { start = start; finish = first.finish }) =
+      let ends : ◌≡◌ {A = EdgeEnds} (record { start = start; finish = walk.0 }) (record { start = start; finish = first.finish }) =
       ap (λ finish. record { start = start; finish = finish }) (same_end first.id _ _ walk.1 (All-head (IsEdgeOf layout) first edges known)) in
       subst (λ (e : Edge). IsEdge layout e.id (record { start = name; finish = e.finish })) here
       (subst (λ from. IsEdge layout first.id (record { start = from; finish = first.finish })) at (walk.1 ∙ ap Some ends))

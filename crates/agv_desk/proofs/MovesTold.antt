@@ -8,8 +8,8 @@ use Rattle.agv_header.specs.declared.key.VehicleKey.{VehicleKey}
 use Rattle.agv_layout.specs.Layout.{Layout}
 use Rattle.agv_layout.specs.LayoutOf.{nodes_of}
 use Rattle.agv_layout.specs.declared.edge.Edge.{Edge}
-use Rattle.agv_layout.specs.declared.edge.Ends.{Ends}
-use Rattle.agv_layout.specs.declared.station.Spot.{Spot}
+use Rattle.agv_layout.specs.declared.edge.EdgeEnds.{EdgeEnds}
+use Rattle.agv_layout.specs.declared.station.StationSite.{StationSite}
 use Rattle.agv_order.specs.declared.trip.Trip.{Trip}
 use Rattle.agv_track.specs.Footprints.{footprint_of}
 use Rattle.agv_track.specs.Holders.{gained}
@@ -51,8 +51,8 @@ layout_none : (layout : Option Layout) → HasNone (laid_changes layout)
 layout_none None = record { none = refl }
 layout_none (Some layout) =
     both_none (none_of (λ id. row.Node id) (λ id. refl) (nodes_of layout))
-    (both_none (none_of (λ (edge : List ℕ × Ends). row.Edge edge.0 edge.1) (λ edge. refl) (finite.entries layout.edges))
-    (none_of (λ (station : List ℕ × Spot). row.Station station.0 station.1) (λ station. refl) (finite.entries layout.stations)))
+    (both_none (none_of (λ (edge : List ℕ × EdgeEnds). row.Edge edge.0 edge.1) (λ edge. refl) (finite.entries layout.edges))
+    (none_of (λ (station : List ℕ × StationSite). row.Station station.0 station.1) (λ station. refl) (finite.entries layout.stations)))
 
 -- a vehicle's own row
 own_none : (key : VehicleKey) (old : Option VehicleRow) (new : VehicleRow) → HasNone (own_changes key old new)

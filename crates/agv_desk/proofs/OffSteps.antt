@@ -1,4 +1,4 @@
--- An act of a vehicle's trip goes, as the trip ends: its errand is no more, and its job is done or stops.
+-- An act of a vehicle's trip goes, as the trip ends: its action is no more, and its job is done or stops.
 use Rattle.std.proofs.Common.{◌≡◌, ◌≢◌, ◌+◌, ◌≤◌, ◌&&◌, ℕ, zero, suc, true, false, List, ◌∷◌, Some, nat_eq, true≢false, arith, inl, inr, refl, sym, ap, subst, ◌∙◌}
 use Rattle.std.specs.Cmp.Lexicographic.{pointwise}
 use Rattle.std.specs.FinMap as finite
@@ -6,7 +6,7 @@ use Rattle.std.specs.List.{slice_get}
 use Rattle.agv_header.specs.KeyOrder.{key_cmp-total, key_cmp-IsAntisymmetric}
 use Rattle.agv_header.specs.declared.key.VehicleKey.{VehicleKey}
 use Rattle.agv_layout.specs.Layout.{Layout, IsStation}
-use Rattle.agv_layout.specs.declared.station.Spot.{Spot}
+use Rattle.agv_layout.specs.declared.station.StationSite.{StationSite}
 use Rattle.agv_message.specs.declared.order.ActKind.TheVariants.{Drop}
 use Rattle.agv_stock.specs.Phase.{is_live}
 use Rattle.agv_stock.specs.Room.{is_at, is_on}
@@ -14,25 +14,25 @@ use Rattle.agv_stock.specs.declared.job.Phase.{Phase}
 use Rattle.agv_stock.specs.declared.job.Phase.TheVariants as phase
 use Rattle.agv_stock.specs.declared.place.Place.{Place}
 use Rattle.agv_stock.specs.declared.place.Place.TheVariants as place
-use Rattle.agv_world.specs.Cargo.{Errand, IsSpot, Jobs, Places, aboard, due, is_due}
+use Rattle.agv_world.specs.StockInvariant.{ActionView, IsSpot, Jobs, Places, loads_on_vehicle, to_pick, is_to_pick}
 use Rattle.agv_world.specs.Questions.{is_live_to}
 use Rattle.agv_world.specs.declared.row.JobRow.{JobRow}
 use Rattle.agv_world.proofs.Orders.{names_total, names_apart}
-use Rattle.agv_desk.proofs.Errands.{due-cons}
+use Rattle.agv_desk.proofs.ActionViews.{due-cons}
 use Rattle.agv_desk.proofs.Known.{same_some}
 use Rattle.agv_desk.proofs.Shifts.{live_if_riding, shift_kept}
-use Rattle.agv_desk.proofs.WalkSteps.{Fits, Now, alone_of, an_errand, boarded, fits_here, own, owned, there, with_errands, with_here}
+use Rattle.agv_desk.proofs.WalkSteps.{Fits, Now, alone_of, an_action_view, boarded, fits_here, own, owned, there, with_action_views, with_here}
 use Rattle.agv_desk.proofs.Writes.{IsWritten, is_written, is_written_already, one_if, same_or_other}
 
-module _ (layout : Layout) (carries : VehicleKey → List Errand) (capacity : VehicleKey → ℕ) (key : VehicleKey) where
-  abbrev With : List Errand → Places → Jobs → Type 0
+module _ (layout : Layout) (carries : VehicleKey → List ActionView) (capacity : VehicleKey → ℕ) (key : VehicleKey) where
+  abbrev With : List ActionView → Places → Jobs → Type 0
   With carried places jobs = Now layout carries capacity key carried places jobs
 
-  abbrev at_all : List Errand → VehicleKey → List Errand
-  at_all carried = with_errands carries key carried
+  abbrev at_all : List ActionView → VehicleKey → List ActionView
+  at_all carried = with_action_views carries key carried
 
-  -- an errand less, that is no drop, or a finished one
-  pub less : (one : Errand) (rest : List Errand) (places : Places) (jobs : Jobs) → (one.kind ≡ Drop → one.finished ≡ true) → With (one ∷ rest) places jobs → With rest places jobs
+  -- an action less, that is no drop, or a finished one
+  pub less : (one : ActionView) (rest : List ActionView) (places : Places) (jobs : Jobs) → (one.kind ≡ Drop → one.finished ≡ true) → With (one ∷ rest) places jobs → With rest places jobs
   less one rest places jobs over now = record {
     few_loads = now.few_loads;
     few_jobs = now.few_jobs;
@@ -42,9 +42,9 @@ module _ (layout : Layout) (carries : VehicleKey → List Errand) (capacity : Ve
     known = now.known;
     room = now.room;
     boards = λ other. elim (same_or_other key_cmp-total key_cmp-IsAntisymmetric other key) [
-      | inl same ↦ subst (λ v. aboard places v + due (at_all rest v) ≤ capacity v) (sym same)
-          (subst (λ xs. aboard places key + due xs ≤ capacity key) (sym (with_here carries key rest)) (fewer (one_if (is_due one)) (due (one ∷ rest)) (due rest) _ _ (due-cons one rest) (boarded layout carries capacity key (one ∷ rest) places jobs now)))
-      | inr apart ↦ subst (λ xs. aboard places other + due xs ≤ capacity other) (there layout carries capacity key rest (one ∷ rest) other apart) (now.boards other)
+      | inl same ↦ subst (λ v. loads_on_vehicle places v + to_pick (at_all rest v) ≤ capacity v) (sym same)
+          (subst (λ xs. loads_on_vehicle places key + to_pick xs ≤ capacity key) (sym (with_here carries key rest)) (fewer (one_if (is_to_pick one)) (to_pick (one ∷ rest)) (to_pick rest) _ _ (due-cons one rest) (boarded layout carries capacity key (one ∷ rest) places jobs now)))
+      | inr apart ↦ subst (λ xs. loads_on_vehicle places other + to_pick xs ≤ capacity other) (there layout carries capacity key rest (one ∷ rest) other apart) (now.boards other)
     ];
     one_job = now.one_job;
     waiting = now.waiting;
@@ -52,61 +52,61 @@ module _ (layout : Layout) (carries : VehicleKey → List Errand) (capacity : Ve
         let t = now.riding job row at rides in
         elim (same_or_other key_cmp-total key_cmp-IsAntisymmetric t.key key) [
           | inl same ↦
-              let z = later t.k t.errand (owned layout carries capacity key (one ∷ rest) t.k t.errand (subst (λ b. slice_get (at_all (one ∷ rest) b) t.k ≡ Some t.errand) same t.here)) t.drop t.undone in
-              record { key = key; k = z.0; errand = t.errand; here = own layout carries capacity key rest z.0 t.errand z.1; drop = t.drop; of_job = t.of_job; undone = t.undone }
+              let z = later t.k t.action_view (owned layout carries capacity key (one ∷ rest) t.k t.action_view (subst (λ b. slice_get (at_all (one ∷ rest) b) t.k ≡ Some t.action_view) same t.here)) t.drop t.undone in
+              record { key = key; k = z.0; action_view = t.action_view; here = own layout carries capacity key rest z.0 t.action_view z.1; drop = t.drop; of_job = t.of_job; undone = t.undone }
           | inr apart ↦
-              record { key = t.key; k = t.k; errand = t.errand; here = subst (λ xs. slice_get xs t.k ≡ Some t.errand) (there layout carries capacity key rest (one ∷ rest) t.key apart) t.here; drop = t.drop; of_job = t.of_job; undone = t.undone }
+              record { key = t.key; k = t.k; action_view = t.action_view; here = subst (λ xs. slice_get xs t.k ≡ Some t.action_view) (there layout carries capacity key rest (one ∷ rest) t.key apart) t.here; drop = t.drop; of_job = t.of_job; undone = t.undone }
         ];
-    carried = λ other k errand at. let h = back other k errand at in now.carried other h.0 errand h.1;
-    once = λ one_key other i k errand more at further e.
-        let same : one_key ≡ other = (let h = back one_key i errand at in let q = back other k more further in (now.once one_key other h.0 q.0 errand more h.1 q.1 e).0) in
-        (same, λ f. same_spot one_key i k errand more at (subst (λ v. slice_get (at_all rest v) k ≡ Some more) (sym same) further) e f);
+    carried = λ other k action_view at. let h = back other k action_view at in now.carried other h.0 action_view h.1;
+    once = λ one_key other i k action_view more at further e.
+        let same : one_key ≡ other = (let h = back one_key i action_view at in let q = back other k more further in (now.once one_key other h.0 q.0 action_view more h.1 q.1 e).0) in
+        (same, λ f. same_spot one_key i k action_view more at (subst (λ v. slice_get (at_all rest v) k ≡ Some more) (sym same) further) e f);
   }
     where
       fewer : (t all d n c : ℕ) → all ≡ t + d → n + all ≤ c → n + d ≤ c
       fewer t all d n c e h = omega (arith, e, h)
 
-      later : (k : ℕ) (errand : Errand) → slice_get (one ∷ rest) k ≡ Some errand → errand.kind ≡ Drop → errand.finished ≡ false → (i : ℕ) × (slice_get rest i ≡ Some errand)
-      later zero errand at e f = let same : one ≡ errand = same_some at in absurd (true≢false (sym (over (ap (λ (x : Errand). x.kind) same ∙ e)) ∙ ap (λ (x : Errand). x.finished) same ∙ f))
-      later (suc k) errand at e f = (k, at)
+      later : (k : ℕ) (action_view : ActionView) → slice_get (one ∷ rest) k ≡ Some action_view → action_view.kind ≡ Drop → action_view.finished ≡ false → (i : ℕ) × (slice_get rest i ≡ Some action_view)
+      later zero action_view at e f = let same : one ≡ action_view = same_some at in absurd (true≢false (sym (over (ap (λ (x : ActionView). x.kind) same ∙ e)) ∙ ap (λ (x : ActionView). x.finished) same ∙ f))
+      later (suc k) action_view at e f = (k, at)
 
-      back : (other : VehicleKey) (k : ℕ) (errand : Errand) → slice_get (at_all rest other) k ≡ Some errand → (i : ℕ) × (slice_get (at_all (one ∷ rest) other) i ≡ Some errand)
-      back other k errand at = elim (same_or_other key_cmp-total key_cmp-IsAntisymmetric other key) [
-        | inl e ↦ (suc k, subst (λ v. slice_get (at_all (one ∷ rest) v) (suc k) ≡ Some errand) (sym e) (own layout carries capacity key (one ∷ rest) (suc k) errand (owned layout carries capacity key rest k errand (subst (λ v. slice_get (at_all rest v) k ≡ Some errand) e at))))
-        | inr n ↦ (k, subst (λ xs. slice_get xs k ≡ Some errand) (there layout carries capacity key (one ∷ rest) rest other n) at)
+      back : (other : VehicleKey) (k : ℕ) (action_view : ActionView) → slice_get (at_all rest other) k ≡ Some action_view → (i : ℕ) × (slice_get (at_all (one ∷ rest) other) i ≡ Some action_view)
+      back other k action_view at = elim (same_or_other key_cmp-total key_cmp-IsAntisymmetric other key) [
+        | inl e ↦ (suc k, subst (λ v. slice_get (at_all (one ∷ rest) v) (suc k) ≡ Some action_view) (sym e) (own layout carries capacity key (one ∷ rest) (suc k) action_view (owned layout carries capacity key rest k action_view (subst (λ v. slice_get (at_all rest v) k ≡ Some action_view) e at))))
+        | inr n ↦ (k, subst (λ xs. slice_get xs k ≡ Some action_view) (there layout carries capacity key (one ∷ rest) rest other n) at)
       ]
 
       suc_same : (i k : ℕ) → suc i ≡ suc k → i ≡ k
       suc_same i k e = omega (arith, e)
 
-      same_spot : (other : VehicleKey) (i k : ℕ) (errand more : Errand) → slice_get (at_all rest other) i ≡ Some errand → slice_get (at_all rest other) k ≡ Some more → errand.job ≡ more.job → errand.kind ≡ more.kind → i ≡ k
-      same_spot other i k errand more at further e f = elim (same_or_other key_cmp-total key_cmp-IsAntisymmetric other key) [
+      same_spot : (other : VehicleKey) (i k : ℕ) (action_view more : ActionView) → slice_get (at_all rest other) i ≡ Some action_view → slice_get (at_all rest other) k ≡ Some more → action_view.job ≡ more.job → action_view.kind ≡ more.kind → i ≡ k
+      same_spot other i k action_view more at further e f = elim (same_or_other key_cmp-total key_cmp-IsAntisymmetric other key) [
         | inl q ↦
-            let h = own layout carries capacity key (one ∷ rest) (suc i) errand (owned layout carries capacity key rest i errand (subst (λ v. slice_get (at_all rest v) i ≡ Some errand) q at)) in
+            let h = own layout carries capacity key (one ∷ rest) (suc i) action_view (owned layout carries capacity key rest i action_view (subst (λ v. slice_get (at_all rest v) i ≡ Some action_view) q at)) in
             let g = own layout carries capacity key (one ∷ rest) (suc k) more (owned layout carries capacity key rest k more (subst (λ v. slice_get (at_all rest v) k ≡ Some more) q further)) in
-            suc_same i k ((now.once key key (suc i) (suc k) errand more h g e).1 f)
+            suc_same i k ((now.once key key (suc i) (suc k) action_view more h g e).1 f)
         | inr n ↦
-            (now.once other other i k errand more (subst (λ xs. slice_get xs i ≡ Some errand) (there layout carries capacity key (one ∷ rest) rest other n) at) (subst (λ xs. slice_get xs k ≡ Some more) (there layout carries capacity key (one ∷ rest) rest other n) further) e).1 f
+            (now.once other other i k action_view more (subst (λ xs. slice_get xs i ≡ Some action_view) (there layout carries capacity key (one ∷ rest) rest other n) at) (subst (λ xs. slice_get xs k ≡ Some more) (there layout carries capacity key (one ∷ rest) rest other n) further) e).1 f
       ]
 
-  -- a drop that was not finished goes, as the only errand of its job, which is no longer live; its load stays or goes to a place that takes none of another vehicle
-  off_step : (rest : List Errand) (job load station : List ℕ) (places places_after : Places) (jobs : Jobs) (row : JobRow) (next : Phase) (from to : Place)
-      → ((k : ℕ) (one : Errand) → slice_get rest k ≡ Some one → one.job ≡ job → ⊥)
+  -- a drop that was not finished goes, as the only action of its job, which is no longer live; its load stays or goes to a place that takes none of another vehicle
+  off_step : (rest : List ActionView) (job load station : List ℕ) (places places_after : Places) (jobs : Jobs) (row : JobRow) (next : Phase) (from to : Place)
+      → ((k : ℕ) (one : ActionView) → slice_get rest k ≡ Some one → one.job ≡ job → ⊥)
       → finite.get jobs job ≡ Some row → next ≢ phase.Waiting → next ≢ phase.Riding
       → finite.get places row.load ≡ Some from → IsWritten places row.load to places_after → IsSpot layout to
       → ((name : List ℕ) → one_if (is_at name to) + one_if (is_live_to name (record row { phase = next })) ≤ one_if (is_at name from) + one_if (is_live_to name row))
       → ((other : VehicleKey) → one_if (is_on other to) ≤ one_if (is_on other from))
-      → With (an_errand Drop job load station false ∷ rest) places jobs
+      → With (an_action_view Drop job load station false ∷ rest) places jobs
       → With rest places_after (finite.insert jobs job (record row { phase = next }))
   off_step rest job load station places places_after jobs row next from to none here not_waiting not_riding place_was place_is spot room off now =
-      let old : Errand = an_errand Drop job load station false in
-      let olds : List Errand = old ∷ rest in
+      let old : ActionView = an_action_view Drop job load station false in
+      let olds : List ActionView = old ∷ rest in
       let h : Fits places key old row = fits_here layout carries capacity key olds places jobs now 0 old refl row here in
-      shift_kept layout (with_errands carries key olds) capacity places jobs now (record {
+      shift_kept layout (with_action_views carries key olds) capacity places jobs now (record {
         key = key;
         before = olds;
         after = rest;
-        carries_after = with_errands carries key rest;
+        carries_after = with_action_views carries key rest;
         was = with_here carries key olds;
         now = with_here carries key rest;
         there = there layout carries capacity key olds rest;
@@ -135,8 +135,8 @@ module _ (layout : Layout) (carries : VehicleKey → List Errand) (capacity : Ve
         off = λ other apart. off other;
       })
     where
-      kept : (k : ℕ) (one : Errand) → slice_get (an_errand Drop job load station false ∷ rest) k ≡ Some one → one.job ≢ job → (i : ℕ) × (slice_get rest i ≡ Some one)
-      kept zero one at other = absurd (other (ap (λ (x : Errand). x.job) (sym (same_some at))))
+      kept : (k : ℕ) (one : ActionView) → slice_get (an_action_view Drop job load station false ∷ rest) k ≡ Some one → one.job ≢ job → (i : ℕ) × (slice_get rest i ≡ Some one)
+      kept zero one at other = absurd (other (ap (λ (x : ActionView). x.job) (sym (same_some at))))
       kept (suc k) one at other = (k, at)
 
       suc_same : (i k : ℕ) → suc i ≡ suc k → i ≡ k
@@ -146,9 +146,9 @@ module _ (layout : Layout) (carries : VehicleKey → List Errand) (capacity : Ve
       off_boards all d n c p o e h g = omega (arith, e, h, g)
 
   -- a drop goes that is not finished, and its job stops
-  pub stop_step : (rest : List Errand) (job load station : List ℕ) (places : Places) (jobs : Jobs) (row : JobRow)
-      → ((k : ℕ) (one : Errand) → slice_get rest k ≡ Some one → one.job ≡ job → ⊥) → finite.get jobs job ≡ Some row
-      → With (an_errand Drop job load station false ∷ rest) places jobs → With rest places (finite.insert jobs job (record row { phase = phase.Stopped }))
+  pub stop_step : (rest : List ActionView) (job load station : List ℕ) (places : Places) (jobs : Jobs) (row : JobRow)
+      → ((k : ℕ) (one : ActionView) → slice_get rest k ≡ Some one → one.job ≡ job → ⊥) → finite.get jobs job ≡ Some row
+      → With (an_action_view Drop job load station false ∷ rest) places jobs → With rest places (finite.insert jobs job (record row { phase = phase.Stopped }))
   stop_step rest job load station places jobs row none here now =
       let place = (now.known job row here).load in
       off_step rest job load station places places jobs row phase.Stopped place.0 place.0 none here (λ e. cc) (λ e. cc)
@@ -156,18 +156,18 @@ module _ (layout : Layout) (carries : VehicleKey → List Errand) (capacity : Ve
       (λ name. omega arith) (λ other. omega arith) now
 
   -- a drop becomes finished and goes, and its job is done
-  pub done_step : (rest : List Errand) (job load station : List ℕ) (places : Places) (jobs : Jobs) (row : JobRow)
-      → ((k : ℕ) (one : Errand) → slice_get rest k ≡ Some one → one.job ≡ job → ⊥) → finite.get jobs job ≡ Some row
-      → With (an_errand Drop job load station false ∷ rest) places jobs
+  pub done_step : (rest : List ActionView) (job load station : List ℕ) (places : Places) (jobs : Jobs) (row : JobRow)
+      → ((k : ℕ) (one : ActionView) → slice_get rest k ≡ Some one → one.job ≡ job → ⊥) → finite.get jobs job ≡ Some row
+      → With (an_action_view Drop job load station false ∷ rest) places jobs
       → With rest (finite.insert places load (place.Station station)) (finite.insert jobs job (record row { phase = phase.Done }))
   done_step rest job load station places jobs row none here now =
-      let old : Errand = an_errand Drop job load station false in
+      let old : ActionView = an_action_view Drop job load station false in
       let h : Fits places key old row = fits_here layout carries capacity key (old ∷ rest) places jobs now 0 old refl row here in
       let was = (now.known job row here).load in
       let after : Places = finite.insert places load (place.Station station) in
       off_step rest job load station places after jobs row phase.Done was.0 (place.Station station) none here (λ e. cc) (λ e. cc)
       was.1 (subst (λ name. IsWritten places name (place.Station station) after) (sym h.load) (is_written names_total names_apart places load (place.Station station)))
-      (subst (λ name. (spot : Spot) × IsStation layout name spot) h.station (now.known job row here).target)
+      (subst (λ name. (spot : StationSite) × IsStation layout name spot) h.station (now.known job row here).target)
       (λ name. drop_room _ _ _ _ (ap (λ target. one_if (pointwise nat_eq target name)) (sym h.station)) (ap (λ f. one_if (is_live f && pointwise nat_eq row.target name)) h.stands))
       (λ other. omega arith) now
     where

@@ -10,7 +10,7 @@ use Rattle.agv_layout.specs.declared.edge.Edge.{Edge}
 use Rattle.agv_message.specs.declared.order.ActKind.{ActKind}
 use Rattle.agv_message.specs.declared.order.ActKind.TheVariants.{Pick, Drop}
 use Rattle.agv_message.specs.declared.status.Status.TheVariants as status
-use Rattle.agv_order.specs.Plans.{job_named, station_of}
+use Rattle.agv_order.specs.Plans.{job_named, stop_station}
 use Rattle.agv_order.specs.StopPlaces.{is_pick}
 use Rattle.agv_order.specs.Tours.{MakesStop, MakesStops}
 use Rattle.agv_order.specs.declared.act.Act.{Act}
@@ -24,7 +24,7 @@ use Rattle.agv_world.specs.declared.row.JobRow.{JobRow}
 use Rattle.agv_desk.specs.JobSteps.{job_in}
 use Rattle.agv_desk.specs.LoadSteps.{is_waiting}
 use Rattle.agv_desk.specs.OrderSteps.{job_for, named, riding, riding_by, waits}
-use Rattle.agv_desk.proofs.Errands.{stop_by}
+use Rattle.agv_desk.proofs.ActionViews.{stop_by}
 use Rattle.agv_desk.proofs.Known.{none_some, same_some}
 use Rattle.agv_desk.proofs.SameNames.{same_name}
 
@@ -121,7 +121,7 @@ module _ (world : World) where
     pub station : station_for act.kind row ≡ act.station
     pub waiting : act.status ≡ status.Waiting
 
-  station_same : (kind : ActKind) (name : List ℕ) (row : JobRow) → station_of kind (named name row) ≡ station_for kind row
+  station_same : (kind : ActKind) (name : List ℕ) (row : JobRow) → stop_station kind (named name row) ≡ station_for kind row
   station_same Pick name row = refl
   station_same Drop name row = refl
 
@@ -134,7 +134,7 @@ module _ (world : World) where
           row = found.0;
           here = ap (λ (a : Act). finite.get world.jobs a.job) does ∙ found.1;
           load = ap (λ (j : Job). j.load) (sym found.2) ∙ ap (λ (a : Act). a.load) (sym does);
-          station = ap (λ (a : Act). station_for a.kind found.0) does ∙ sym (station_same stop.kind stop.job found.0) ∙ ap (station_of stop.kind) (sym found.2) ∙ ap (λ (a : Act). a.station) (sym does);
+          station = ap (λ (a : Act). station_for a.kind found.0) does ∙ sym (station_same stop.kind stop.job found.0) ∙ ap (stop_station stop.kind) (sym found.2) ∙ ap (λ (a : Act). a.station) (sym does);
           waiting = ap (λ (a : Act). a.status) does;
         }
 

@@ -4,7 +4,7 @@ use Rattle.std.specs.Cmp.Lexicographic.{pointwise}
 use Rattle.std.specs.FinSet as set
 use Rattle.agv_header.specs.declared.key.VehicleKey.{VehicleKey}
 use Rattle.agv_layout.specs.Layout.{Layout}
-use Rattle.agv_order.specs.Plans.{planned, trip_along, trip_over, legs_to, way_of}
+use Rattle.agv_order.specs.Plans.{planned, trip_along, trip_over, stop_routes_to, way_of}
 use Rattle.agv_order.specs.Releases.{released}
 use Rattle.agv_order.specs.Trips.{node_at}
 use Rattle.agv_order.specs.declared.fault.PlanFault.{PlanFault}
@@ -48,7 +48,7 @@ pub record IsBegun (vehicle : VehicleKey) (order at : List ℕ) (trip : Trip) : 
 pub plan_begins : (layout : Layout) (vehicle : VehicleKey) (jobs : List Job) (stops : List Stop) (order at : List ℕ) (base : ℕ) (trip : Trip)
     → planned layout vehicle jobs stops order at base ≡ Ok trip → IsBegun vehicle order at trip
 plan_begins layout vehicle jobs stops order at base trip =
-    elim (legs_to layout jobs at stops) as (λ legs. trip_along vehicle order at base legs ≡ Ok trip → IsBegun vehicle order at trip) [
+    elim (stop_routes_to layout jobs at stops) as (λ legs. trip_along vehicle order at base legs ≡ Ok trip → IsBegun vehicle order at trip) [
       | None ↦ λ h. err_ok h
       | Some legs ↦ λ h. subst (IsBegun vehicle order at)
           (two_tests (nat_lt 200 (length (way_of legs))) (nat_lt (length (way_of legs)) base) fault.TooLong fault.Beyond (trip_over vehicle order at base legs) trip h)

@@ -3,7 +3,7 @@ use Rattle.std.proofs.Common.{◌≡◌, ℕ, ◌≤◌, Bool, true, false, nat_
 use Rattle.std.proofs.lemmas.Bool.{ltb-false}
 use Rattle.agv_header.specs.declared.key.VehicleKey.{VehicleKey}
 use Rattle.agv_layout.specs.Layout.{Layout}
-use Rattle.agv_order.specs.Plans.{legs_to, planned, trip_along, trip_over, way_of}
+use Rattle.agv_order.specs.Plans.{stop_routes_to, planned, trip_along, trip_over, way_of}
 use Rattle.agv_order.specs.declared.fault.PlanFault.{PlanFault}
 use Rattle.agv_order.specs.declared.stop.Stop.{Stop}
 use Rattle.agv_order.specs.declared.trip.Trip.{Trip}
@@ -21,7 +21,7 @@ made_short made trip long further false false over is =
 pub planned_short : (layout : Layout) (vehicle : VehicleKey) (jobs : List Job) (stops : List Stop) (order at : List ℕ) (base : ℕ) (trip : Trip)
     → planned layout vehicle jobs stops order at base ≡ Ok trip → length trip.edges ≤ 200
 planned_short layout vehicle jobs stops order at base trip =
-    elim (legs_to layout jobs at stops) as (λ legs. trip_along vehicle order at base legs ≡ Ok trip → length trip.edges ≤ 200) [
+    elim (stop_routes_to layout jobs at stops) as (λ legs. trip_along vehicle order at base legs ≡ Ok trip → length trip.edges ≤ 200) [
       | None ↦ λ e. cc
       | Some legs ↦ made_short (trip_over vehicle order at base legs) trip _ _ _ (nat_lt (length (way_of legs)) base) refl
     ]

@@ -14,7 +14,7 @@ use Rattle.agv_layout.specs.declared.fault.LayoutFault.TheVariants as unlaid
 use Rattle.agv_layout.specs.declared.row.LayoutRow.{LayoutRow}
 use Rattle.agv_message.specs.declared.instant.InstantKind.{InstantKind}
 use Rattle.agv_message.specs.declared.state.StateMessage.{StateMessage}
-use Rattle.agv_order.specs.Plans.{legs_to, planned, trip_along, trip_over, way_of}
+use Rattle.agv_order.specs.Plans.{stop_routes_to, planned, trip_along, trip_over, way_of}
 use Rattle.agv_order.specs.declared.fault.PlanFault.TheVariants as unplanned
 use Rattle.agv_order.specs.declared.stop.Stop.{Stop}
 use Rattle.agv_order.specs.declared.trip.Trip.{Trip}
@@ -121,7 +121,7 @@ by_plan : (layout : Layout) (vehicle : VehicleKey) (jobs : List Job) (stops : Li
     → Fits (if_planned (planned layout vehicle jobs stops order at base) rest)
 unfolding if_planned answer_of
 by_plan layout vehicle jobs stops order at base rest h =
-    elim (legs_to layout jobs at stops) as (λ legs. Fits (if_planned (trip_along vehicle order at base legs) rest)) [
+    elim (stop_routes_to layout jobs at stops) as (λ legs. Fits (if_planned (trip_along vehicle order at base legs) rest)) [
       | None ↦ refl
       | Some legs ↦ by_length (nat_lt 200 (length (way_of legs))) (nat_lt (length (way_of legs)) base) (trip_over vehicle order at base legs) rest (h _)
     ]

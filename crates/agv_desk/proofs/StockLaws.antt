@@ -15,7 +15,7 @@ use Rattle.agv_world.specs.Worlds.{World}
 use Rattle.agv_world.proofs.Orders.{names_total}
 use Rattle.agv_desk.specs.Outcomes.{Effect, Outcome, Made, Refused, moved, require, with_effect}
 use Rattle.agv_desk.specs.StockTaken.{IsStockTaken}
-use Rattle.agv_desk.specs.StocktakeSteps.{Row, count_move, count_moves, finds_aboard, found_at, has_load, is_aboard, is_counted, is_here, new_place, new_places, recounted, take_stock}
+use Rattle.agv_desk.specs.StocktakeSteps.{Row, count_move, count_moves, finds_on_vehicle, found_at, has_load, is_on_vehicle, is_counted, is_here, new_place, new_places, recounted, take_stock}
 use Rattle.agv_desk.proofs.PlacedLoads.{Loads, Places, find_below, find_moved, sorted_moved}
 use Rattle.agv_desk.proofs.SameNames.{same_name, tie_turned}
 
@@ -100,7 +100,7 @@ module _ (counted : List ℕ → Bool) (station : List ℕ) (is_one : counted st
   come_there true id same = ap (λ k. Some (place.Station k)) (sym (same_name station id same))
   come_there false id same = refl
 
-  to_after : (at : Option Place) → is_here at ≡ true → is_aboard at ≡ false → after counted (Some station) at ≡ Some (place.Station station)
+  to_after : (at : Option Place) → is_here at ≡ true → is_on_vehicle at ≡ false → after counted (Some station) at ≡ Some (place.Station station)
   to_after None here aboard = absurd (false≢true here)
   to_after (Some (place.Station id)) here aboard = come_there (pointwise nat_eq station id) id refl
   to_after (Some (place.Vehicle key)) here aboard = absurd (false≢true (sym aboard))
@@ -124,25 +124,25 @@ gone_after counted found (Some (place.Vehicle key)) gone = refl
 gone_after counted found (Some place.Checking) gone = absurd (false≢true (sym gone))
 gone_after counted found (Some place.Left) gone = refl
 
-not_aboard : (world : World) (rows : List Row) (load station : List ℕ) → list_any (λ (row : Row). finds_aboard world row.1) rows ≡ false → found_at rows load ≡ Some station → is_aboard (finite.get world.places load) ≡ false
-not_aboard world [] load station none found = absurd (false≢true (ap is_some found))
-not_aboard world (row ∷ rows) load station none found =
-    let parts = or_parts (finds_aboard world row.1) _ none in
-    elim row.1 as (λ on. finds_aboard world on ≡ false → cond (has_load load on) (Some row.0) (found_at rows load) ≡ Some station → is_aboard (finite.get world.places load) ≡ false) [
-      | None ↦ λ _ later. not_aboard world rows load station parts.1 later
-      | Some name ↦ λ ashore. elim (pointwise nat_eq name load) as (λ b. pointwise nat_eq name load ≡ b → cond b (Some row.0) (found_at rows load) ≡ Some station → is_aboard (finite.get world.places load) ≡ false) [
-        | true ↦ λ same _. ap (λ k. is_aboard (finite.get world.places k)) (sym (same_name name load same)) ∙ ashore
-        | false ↦ λ _ later. not_aboard world rows load station parts.1 later
+not_on_vehicle : (world : World) (rows : List Row) (load station : List ℕ) → list_any (λ (row : Row). finds_on_vehicle world row.1) rows ≡ false → found_at rows load ≡ Some station → is_on_vehicle (finite.get world.places load) ≡ false
+not_on_vehicle world [] load station none found = absurd (false≢true (ap is_some found))
+not_on_vehicle world (row ∷ rows) load station none found =
+    let parts = or_parts (finds_on_vehicle world row.1) _ none in
+    elim row.1 as (λ on. finds_on_vehicle world on ≡ false → cond (has_load load on) (Some row.0) (found_at rows load) ≡ Some station → is_on_vehicle (finite.get world.places load) ≡ false) [
+      | None ↦ λ _ later. not_on_vehicle world rows load station parts.1 later
+      | Some name ↦ λ ashore. elim (pointwise nat_eq name load) as (λ b. pointwise nat_eq name load ≡ b → cond b (Some row.0) (found_at rows load) ≡ Some station → is_on_vehicle (finite.get world.places load) ≡ false) [
+        | true ↦ λ same _. ap (λ k. is_on_vehicle (finite.get world.places k)) (sym (same_name name load same)) ∙ ashore
+        | false ↦ λ _ later. not_on_vehicle world rows load station parts.1 later
       ] refl
     ] parts.0 found
 
 -- ---- the whole
-pub taken : (world : World) (rows : List Row) → list_any (λ (row : Row). finds_aboard world row.1) rows ≡ false → IsStockTaken world rows (moved world.places (count_moves world rows))
+pub taken : (world : World) (rows : List Row) → list_any (λ (row : Row). finds_on_vehicle world row.1) rows ≡ false → IsStockTaken world rows (moved world.places (count_moves world rows))
 taken world rows ashore = record {
   found = λ station load counted.
       let is = get-after world rows load in (
         λ there. from_after (is_counted rows) station counted (found_at rows load) (finite.get world.places load) (sym is ∙ there),
-        λ both. is ∙ ap (λ f. after (is_counted rows) f (finite.get world.places load)) both.0 ∙ to_after (is_counted rows) station counted (finite.get world.places load) both.1 (not_aboard world rows load station ashore both.0),
+        λ both. is ∙ ap (λ f. after (is_counted rows) f (finite.get world.places load)) both.0 ∙ to_after (is_counted rows) station counted (finite.get world.places load) both.1 (not_on_vehicle world rows load station ashore both.0),
       );
   missed = λ station load counted there none.
       get-after world rows load ∙ (λ i. after (is_counted rows) (none i) (there i)) ∙ missed_after (is_counted rows) station counted;

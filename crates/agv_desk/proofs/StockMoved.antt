@@ -13,7 +13,7 @@ use Rattle.agv_stock.specs.declared.place.Place.{Place}
 use Rattle.agv_stock.specs.declared.place.Place.TheVariants as place
 use Rattle.agv_world.proofs.Entries.{entries_found}
 use Rattle.agv_world.proofs.Orders.{names_total}
-use Rattle.agv_world.specs.Cargo.{Places}
+use Rattle.agv_world.specs.StockInvariant.{Places}
 use Rattle.agv_world.specs.Worlds.{World}
 use Rattle.agv_desk.specs.Outcomes.{Effect, Made, moved, with_effect}
 use Rattle.agv_desk.specs.StockTaken.{count_moved, is_still_at}

@@ -11,17 +11,17 @@ use Rattle.agv_order.specs.StopPlaces.{IsAt}
 use Rattle.agv_order.specs.Stops.{is_drop}
 use Rattle.agv_stock.specs.declared.job.Phase.{Phase}
 use Rattle.agv_stock.specs.declared.job.Phase.TheVariants as phase
-use Rattle.agv_world.specs.Cargo.{Errand, Jobs, Places}
+use Rattle.agv_world.specs.StockInvariant.{ActionView, Jobs, Places}
 use Rattle.agv_world.specs.TableChanges.{written}
 use Rattle.agv_world.specs.Worlds.{World}
 use Rattle.agv_world.specs.declared.row.JobRow.{JobRow}
 use Rattle.agv_world.proofs.Orders.{names_total, names_apart}
 use Rattle.agv_desk.specs.JobSteps.{Renewed, act_job, job_in, taken_to}
 use Rattle.agv_desk.specs.Outcomes.{Acted, Move, moved}
-use Rattle.agv_desk.proofs.Errands.{IsPicked, in_rest, stops_by, whole}
+use Rattle.agv_desk.proofs.ActionViews.{IsPicked, in_rest, stops_by, whole}
 use Rattle.agv_desk.proofs.FitStops.{Fit}
 use Rattle.agv_desk.proofs.OffSteps.{done_step, less, stop_step}
-use Rattle.agv_desk.proofs.WalkSteps.{Now, an_errand, drop_step, own, pick_step}
+use Rattle.agv_desk.proofs.WalkSteps.{Now, an_action_view, drop_step, own, pick_step}
 use Rattle.agv_desk.proofs.Writes.{is_written}
 
 -- ---- the first of several
@@ -82,23 +82,23 @@ untouched_next world ended act acts jobs fit untouched k job at =
     (λ is same. fit.0 k (subst (λ kind. IsAt (stops_by acts) act.0.job kind k) (sym is) (subst (λ name. IsAt (stops_by acts) name Drop k) same at)))
     ∙ untouched (suc k) job at
 
-module _ (layout : Layout) (carries : VehicleKey → List Errand) (capacity : VehicleKey → ℕ) (key : VehicleKey) (world : World) (order : List ℕ) where
-  abbrev With : List Errand → Places → Jobs → Type 0
+module _ (layout : Layout) (carries : VehicleKey → List ActionView) (capacity : VehicleKey → ℕ) (key : VehicleKey) (world : World) (order : List ℕ) where
+  abbrev With : List ActionView → Places → Jobs → Type 0
   With carried places jobs = Now layout carries capacity key carried places jobs
 
-  -- the row of an errand's job, as the world has it
-  pub row_in : (carried : List Errand) (places : Places) (jobs : Jobs) (k : ℕ) (one : Errand) → With carried places jobs → slice_get carried k ≡ Some one
+  -- the row of an action's job, as the world has it
+  pub row_in : (carried : List ActionView) (places : Places) (jobs : Jobs) (k : ℕ) (one : ActionView) → With carried places jobs → slice_get carried k ≡ Some one
       → finite.get jobs one.job ≡ finite.get world.jobs one.job → (row : JobRow) × (finite.get jobs one.job ≡ Some row) × (finite.get world.jobs one.job ≡ Some row)
   row_in carried places jobs k one now at same =
       let h = now.carried key k one (own layout carries capacity key carried k one at) in (h.row, h.here, sym same ∙ h.here)
 
   -- one act of a trip that goes on
-  pub head : (gone rest : List Errand) (kind : ActKind) (job load station : List ℕ) (was is : Bool) (places : Places) (jobs : Jobs)
+  pub head : (gone rest : List ActionView) (kind : ActKind) (job load station : List ℕ) (was is : Bool) (places : Places) (jobs : Jobs)
       → (was ≡ true → is ≡ true)
-      → (kind ≡ Drop → was ≡ false → is ≡ true → IsPicked (whole gone (an_errand kind job load station was ∷ rest)) job)
+      → (kind ≡ Drop → was ≡ false → is ≡ true → IsPicked (whole gone (an_action_view kind job load station was ∷ rest)) job)
       → (kind ≡ Drop → finite.get jobs job ≡ finite.get world.jobs job)
-      → With (whole gone (an_errand kind job load station was ∷ rest)) places jobs
-      → With (whole gone (an_errand kind job load station is ∷ rest)) (moved places (cons_option (move_by key order kind job load station was is) [])) (written jobs (cons_option (job_by world false kind job was is) []))
+      → With (whole gone (an_action_view kind job load station was ∷ rest)) places jobs
+      → With (whole gone (an_action_view kind job load station is ∷ rest)) (moved places (cons_option (move_by key order kind job load station was is) [])) (written jobs (cons_option (job_by world false kind job was is) []))
   head gone rest Pick job load station true true places jobs renews picked same now = now
   head gone rest Drop job load station true true places jobs renews picked same now = now
   head gone rest kind job load station true false places jobs renews picked same now = absurd (true≢false (sym (renews refl)))
@@ -106,33 +106,33 @@ module _ (layout : Layout) (carries : VehicleKey → List Errand) (capacity : Ve
   head gone rest Drop job load station false false places jobs renews picked same now = now
   head gone rest Pick job load station false true places jobs renews picked same now = pick_step layout carries capacity key gone rest job load station places jobs now
   head gone rest Drop job load station false true places jobs renews picked same now =
-      let old : Errand = an_errand Drop job load station false in
+      let old : ActionView = an_action_view Drop job load station false in
       let spot = in_rest gone (old ∷ rest) 0 old refl in
       let row = row_in (whole gone (old ∷ rest)) places jobs spot.0 old now spot.1 (same refl) in
-      subst (λ after. With (whole gone (an_errand Drop job load station true ∷ rest)) (finite.insert places load (taken_to key Drop station)) after)
+      subst (λ after. With (whole gone (an_action_view Drop job load station true ∷ rest)) (finite.insert places load (taken_to key Drop station)) after)
       (sym (written_job world jobs job row.0 phase.Done row.2))
       (drop_step layout carries capacity key gone rest job load station places jobs row.0 (picked refl refl refl) row.1 now)
 
   -- one act of a trip that has ended
-  pub off_head : (rest : List Errand) (kind : ActKind) (job load station : List ℕ) (was is : Bool) (places : Places) (jobs : Jobs)
+  pub off_head : (rest : List ActionView) (kind : ActKind) (job load station : List ℕ) (was is : Bool) (places : Places) (jobs : Jobs)
       → (was ≡ true → is ≡ true)
-      → (kind ≡ Drop → (k : ℕ) (one : Errand) → slice_get rest k ≡ Some one → one.job ≡ job → ⊥)
+      → (kind ≡ Drop → (k : ℕ) (one : ActionView) → slice_get rest k ≡ Some one → one.job ≡ job → ⊥)
       → (kind ≡ Drop → finite.get jobs job ≡ finite.get world.jobs job)
-      → With (an_errand kind job load station was ∷ rest) places jobs
+      → With (an_action_view kind job load station was ∷ rest) places jobs
       → With rest (moved places (cons_option (move_by key order kind job load station was is) [])) (written jobs (cons_option (job_by world true kind job was is) []))
   off_head rest kind job load station true false places jobs renews none same now = absurd (true≢false (sym (renews refl)))
-  off_head rest Pick job load station true true places jobs renews none same now = less layout carries capacity key (an_errand Pick job load station true) rest places jobs (λ e. cc) now
-  off_head rest Pick job load station false false places jobs renews none same now = less layout carries capacity key (an_errand Pick job load station false) rest places jobs (λ e. cc) now
+  off_head rest Pick job load station true true places jobs renews none same now = less layout carries capacity key (an_action_view Pick job load station true) rest places jobs (λ e. cc) now
+  off_head rest Pick job load station false false places jobs renews none same now = less layout carries capacity key (an_action_view Pick job load station false) rest places jobs (λ e. cc) now
   off_head rest Pick job load station false true places jobs renews none same now =
-      less layout carries capacity key (an_errand Pick job load station true) rest _ jobs (λ e. cc) (pick_step layout carries capacity key [] rest job load station places jobs now)
-  off_head rest Drop job load station true true places jobs renews none same now = less layout carries capacity key (an_errand Drop job load station true) rest places jobs (λ e. refl) now
+      less layout carries capacity key (an_action_view Pick job load station true) rest _ jobs (λ e. cc) (pick_step layout carries capacity key [] rest job load station places jobs now)
+  off_head rest Drop job load station true true places jobs renews none same now = less layout carries capacity key (an_action_view Drop job load station true) rest places jobs (λ e. refl) now
   off_head rest Drop job load station false false places jobs renews none same now =
-      let old : Errand = an_errand Drop job load station false in
+      let old : ActionView = an_action_view Drop job load station false in
       let row = row_in (old ∷ rest) places jobs 0 old now refl (same refl) in
       subst (λ after. With rest places after) (sym (written_job world jobs job row.0 phase.Stopped row.2))
       (stop_step layout carries capacity key rest job load station places jobs row.0 (none refl) row.1 now)
   off_head rest Drop job load station false true places jobs renews none same now =
-      let old : Errand = an_errand Drop job load station false in
+      let old : ActionView = an_action_view Drop job load station false in
       let row = row_in (old ∷ rest) places jobs 0 old now refl (same refl) in
       subst (λ after. With rest (finite.insert places load (taken_to key Drop station)) after) (sym (written_job world jobs job row.0 phase.Done row.2))
       (done_step layout carries capacity key rest job load station places jobs row.0 (none refl) row.1 now)

@@ -6,7 +6,7 @@ use Rattle.std.specs.List.{list_all, list_any}
 use Rattle.std.specs.Option.{option_map}
 use Rattle.agv_header.specs.declared.refusal.Refusal.TheVariants as refusal
 use Rattle.agv_header.specs.Name.{name_cmp}
-use Rattle.agv_layout.specs.declared.station.Spot.{Spot}
+use Rattle.agv_layout.specs.declared.station.StationSite.{StationSite}
 use Rattle.agv_stock.specs.declared.place.Place.{Place}
 use Rattle.agv_stock.specs.declared.place.Place.TheVariants as place
 use Rattle.agv_world.specs.Questions.{loads_at, reserved, count_of}
@@ -14,23 +14,23 @@ use Rattle.agv_world.specs.Worlds.{World}
 use Rattle.agv_world.specs.declared.floor.Counted.TheVariants as counted
 use Rattle.agv_desk.specs.LoadSteps.{most, reference_key, is_in_job}
 use Rattle.agv_desk.specs.Outcomes.{Outcome, Effect, Made, require, told}
-use Rattle.agv_desk.specs.StocktakeSteps.{Row, are_known, count_move, has_twice, is_aboard, is_counted, is_here, new_place}
+use Rattle.agv_desk.specs.StocktakeSteps.{Row, are_known, count_move, has_twice, is_on_vehicle, is_counted, is_here, new_place}
 use Rattle.agv_desk.specs.declared.answer.Answer.TheVariants as answer
 use Rattle.agv_desk.specs.declared.stocktake.sighting.Sighting.{Sighting}
 
 -- ---- the stations
 
 -- the stations that were counted, with what the layout says of each
-unfoldable pub stations_in : World → List Row → finite.FinMap name_cmp Spot
+unfoldable pub stations_in : World → List Row → finite.FinMap name_cmp StationSite
 stations_in world rows = finite.retain_keys world.layout.stations (is_counted rows)
 
 -- these are they; or one of the rows has a station that is not known
-abbrev pub AreCounted : World → List Row → Option (finite.FinMap name_cmp Spot) → Type 0
+abbrev pub AreCounted : World → List Row → Option (finite.FinMap name_cmp StationSite) → Type 0
 AreCounted world rows None = are_known world rows ≡ false
 AreCounted world rows (Some stations) = (are_known world rows ≡ true) × (stations ≡ stations_in world rows)
 
 -- whether the station is known, by what is noted of it and by what the layout says, and the stations that are noted then
-abbrev pub noted_station : finite.FinMap name_cmp Spot → List ℕ → Option Spot → Option Spot → Bool × finite.FinMap name_cmp Spot
+abbrev pub noted_station : finite.FinMap name_cmp StationSite → List ℕ → Option StationSite → Option StationSite → Bool × finite.FinMap name_cmp StationSite
 noted_station stations station (Some noted) spot = (true, stations)
 noted_station stations station None None = (false, stations)
 noted_station stations station None (Some spot) = (true, finite.insert stations station spot)
@@ -115,28 +115,28 @@ abbrev pub standing_at : List ℕ → List (List ℕ) → List (List ℕ × Plac
 standing_at station loads = map (λ (load : List ℕ). (load, place.Station station)) loads
 
 -- the loads that stand at these stations
-abbrev pub standing : World → List (List ℕ × Spot) → List (List ℕ × Place)
-standing world stations = flat_map (λ (station : List ℕ × Spot). standing_at station.0 (loads_at world station.0)) stations
+abbrev pub standing : World → List (List ℕ × StationSite) → List (List ℕ × Place)
+standing world stations = flat_map (λ (station : List ℕ × StationSite). standing_at station.0 (loads_at world station.0)) stations
 
 -- where all loads go: those that were found, and those that stand at counted stations
-unfoldable pub moves_in : World → finite.FinMap name_cmp Spot → finite.FinMap name_cmp (List ℕ) → List Sighting → finite.FinMap name_cmp Place
+unfoldable pub moves_in : World → finite.FinMap name_cmp StationSite → finite.FinMap name_cmp (List ℕ) → List Sighting → finite.FinMap name_cmp Place
 moves_in world stations found seen =
     settled (finite.contains_key stations) found (settled (finite.contains_key stations) found finite.empty (recorded seen)) (standing world (finite.entries stations))
 
 -- ---- whether they fit
 
 -- so many loads and so many jobs fit there
-abbrev pub has_room : ℕ → ℕ → Spot → Bool
+abbrev pub has_room : ℕ → ℕ → StationSite → Bool
 has_room found jobs spot = nat_le (found + jobs) spot.capacity
 
 -- at each of the stations there is room for the known loads that were found there and the live jobs to it
-abbrev pub all_have_room : World → List Sighting → List (List ℕ × Spot) → Bool
-all_have_room world seen stations = list_all (λ (station : List ℕ × Spot). has_room (seen_at seen station.0) (reserved world station.0) station.1) stations
+abbrev pub all_have_room : World → List Sighting → List (List ℕ × StationSite) → Bool
+all_have_room world seen stations = list_all (λ (station : List ℕ × StationSite). has_room (seen_at seen station.0) (reserved world station.0) station.1) stations
 
 -- ---- the whole
 
 -- the loads that move, and their new places
-abbrev pub moves_list : World → finite.FinMap name_cmp Spot → finite.FinMap name_cmp (List ℕ) → List Sighting → List (List ℕ × Place)
+abbrev pub moves_list : World → finite.FinMap name_cmp StationSite → finite.FinMap name_cmp (List ℕ) → List Sighting → List (List ℕ × Place)
 moves_list world stations found seen = finite.entries (moves_in world stations found seen)
 
 -- what is done with such moves
@@ -144,9 +144,9 @@ abbrev pub counted_effect : List ℕ → List (List ℕ × Place) → List Sight
 counted_effect reference moves seen = record (told (answer.Counted (length moves) (filter_map unknown_one seen))) { moves = map count_move moves; uses = reference_key reference ∷ [] }
 
 -- what a stocktake is answered once its stations and found loads are known, by these parts
-abbrev pub count_by_parts : World → List ℕ → finite.FinMap name_cmp Spot → finite.FinMap name_cmp (List ℕ) → List Sighting → Outcome
+abbrev pub count_by_parts : World → List ℕ → finite.FinMap name_cmp StationSite → finite.FinMap name_cmp (List ℕ) → List Sighting → Outcome
 count_by_parts world reference stations found seen =
-    require (not (list_any (λ (one : Sighting). is_aboard one.place) seen)) refusal.OnVehicle
+    require (not (list_any (λ (one : Sighting). is_on_vehicle one.place) seen)) refusal.OnVehicle
     (require (not (list_any (λ (load : List ℕ × Place). is_in_job world load.0) (moves_list world stations found seen))) refusal.InJob
     (require (all_have_room world seen (finite.entries stations)) refusal.Full
     (require (nat_lt (count_of world counted.References) most) refusal.Limit

@@ -4,7 +4,7 @@ use Rattle.std.specs.FinMap as finite
 use Rattle.agv_stock.specs.Room.{has_left, is_at, is_checking, is_on}
 use Rattle.agv_stock.specs.declared.place.Place.{Place}
 use Rattle.agv_stock.specs.declared.place.Place.TheVariants as place
-use Rattle.agv_world.specs.Cargo.{Places}
+use Rattle.agv_world.specs.StockInvariant.{Places}
 use Rattle.agv_world.specs.Worlds.{World}
 use Rattle.agv_desk.specs.StocktakeSteps.{Row, found_at, is_counted, is_here}
 

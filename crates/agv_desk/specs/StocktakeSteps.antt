@@ -5,7 +5,7 @@ use Rattle.std.specs.FinMap as finite
 use Rattle.std.specs.List.{list_all, list_any}
 use Rattle.std.specs.Option.{option_map}
 use Rattle.agv_header.specs.declared.refusal.Refusal.TheVariants as refusal
-use Rattle.agv_layout.specs.declared.station.Spot.{Spot}
+use Rattle.agv_layout.specs.declared.station.StationSite.{StationSite}
 use Rattle.agv_stock.specs.declared.place.Place.{Place}
 use Rattle.agv_stock.specs.declared.place.Place.TheVariants as place
 use Rattle.agv_world.specs.Questions.{reserved, count_of}
@@ -86,17 +86,17 @@ count_moves world rows = map count_move (new_places world rows)
 -- ---- what the rows find
 
 -- the load is on a vehicle
-abbrev pub is_aboard : Option Place → Bool
-is_aboard None = false
-is_aboard (Some (place.Station id)) = false
-is_aboard (Some (place.Vehicle key)) = true
-is_aboard (Some place.Checking) = false
-is_aboard (Some place.Left) = false
+abbrev pub is_on_vehicle : Option Place → Bool
+is_on_vehicle None = false
+is_on_vehicle (Some (place.Station id)) = false
+is_on_vehicle (Some (place.Vehicle key)) = true
+is_on_vehicle (Some place.Checking) = false
+is_on_vehicle (Some place.Left) = false
 
 -- the load of a row is on a vehicle
-abbrev pub finds_aboard : World → Option (List ℕ) → Bool
-finds_aboard world None = false
-finds_aboard world (Some load) = is_aboard (finite.get world.places load)
+abbrev pub finds_on_vehicle : World → Option (List ℕ) → Bool
+finds_on_vehicle world None = false
+finds_on_vehicle world (Some load) = is_on_vehicle (finite.get world.places load)
 
 -- the load is registered, and has not left
 abbrev pub is_here : Option Place → Bool
@@ -125,7 +125,7 @@ abbrev pub found_here : World → List Row → List ℕ → ℕ
 found_here world rows station = count_by (λ (row : Row). pointwise nat_eq row.0 station && finds_known world row.1) rows
 
 -- they fit, with the live jobs to it
-abbrev pub fits : World → List Row → List ℕ → Option Spot → Bool
+abbrev pub fits : World → List Row → List ℕ → Option StationSite → Bool
 fits world rows station None = false
 fits world rows station (Some spot) = nat_le (found_here world rows station + reserved world station) spot.capacity
 
@@ -134,7 +134,7 @@ fits world rows station (Some spot) = nat_le (found_here world rows station + re
 -- once the rows are in order: OnVehicle where a found load is on a vehicle, InJob where a load that would move has a live job, Full where the found loads and the live jobs to a counted station exceed its capacity, Limit
 abbrev pub count_loads : World → List ℕ → List Row → Outcome
 count_loads world reference rows =
-    require (not (list_any (λ (row : Row). finds_aboard world row.1) rows)) refusal.OnVehicle
+    require (not (list_any (λ (row : Row). finds_on_vehicle world row.1) rows)) refusal.OnVehicle
     (require (not (list_any (λ (move : Move). is_in_job world move.load) (count_moves world rows))) refusal.InJob
     (require (list_all (λ (row : Row). fits world rows row.0 (finite.get world.layout.stations row.0)) rows) refusal.Full
     (require (nat_lt (count_of world counted.References) most) refusal.Limit

@@ -1,6 +1,6 @@
 //! What holds of the loads and the jobs, for every lawful world and call.
 ghost use Rattle.std.specs.Prelude.{◌≡◌, ℕ};
-ghost use Rattle.agv_world.specs.Cargo.{HasCargo};
+ghost use Rattle.agv_world.specs.StockInvariant.{HasStockInvariant};
 ghost use Rattle.agv_world.specs.Lawful.{HasLawfulVehicles};
 ghost use Rattle.agv_world.specs.Worlds.{World};
 ghost use Rattle.agv_desk.specs.ActedMoves.{FindsLoads};
@@ -14,9 +14,9 @@ use agv_order::laws::{fits_as_said, plans_go_by_routes};
 use agv_track::laws::advances;
 
 /// Where the vehicles are lawful, and the loads, the jobs and the trips are joined, these are joined after each call.
-pub fn keeps_cargo_joined()
+pub fn keeps_stock_invariant()
     ensures { (seats : ℕ) (world : World) (at : ℕ) (call : Call) → IsWellTyped call
-        → HasLawfulVehicles seats world → HasCargo world → HasCargo (after world (step seats world at call)) }
+        → HasLawfulVehicles seats world → HasStockInvariant world → HasStockInvariant (after world (step seats world at call)) }
 {
     gives_itself();
     fits_as_said();
@@ -28,7 +28,7 @@ pub fn keeps_cargo_joined()
 /// job rides still.
 pub fn acts_find_their_loads()
     ensures { (seats : ℕ) (world : World) (at : ℕ) (call : Call) (effect : Effect)
-        → HasLawfulVehicles seats world → HasCargo world → step seats world at call ≡ Made effect → FindsLoads world effect }
+        → HasLawfulVehicles seats world → HasStockInvariant world → step seats world at call ≡ Made effect → FindsLoads world effect }
 {
     fits_as_said();
     advances();

@@ -10,9 +10,9 @@ ghost use Rattle.agv_desk.specs.Step.{step};
 ghost use Rattle.agv_desk.specs.WellTyped.{IsMoment, IsSeats, IsWellTyped};
 ghost use Rattle.agv_desk.specs.declared.call.Call.{Call};
 
-use crate::cargo_laws::{acts_find_their_loads, keeps_cargo_joined};
+use crate::cargo_laws::{acts_find_their_loads, keeps_stock_invariant};
 use crate::vehicle_laws::keeps_vehicles_lawful;
-use agv_world::lawful_laws::loads_are_cargo;
+use agv_world::lawful_laws::loads_meet_invariant;
 
 /// From a lawful world each call, refused or not, leads to a lawful world. So no node or edge is ever in the footprints of
 /// two vehicles, and no room is ever negative.
@@ -21,8 +21,8 @@ pub fn keeps_lawful()
         → IsLawful seats (after world (step seats world at call)) }
 {
     keeps_vehicles_lawful();
-    keeps_cargo_joined();
-    loads_are_cargo();
+    keeps_stock_invariant();
+    loads_meet_invariant();
 }
 
 /// In a lawful world each pick that becomes finished finds its load at the origin of its job, and each drop finds it on
@@ -32,7 +32,7 @@ pub fn finds_each_load()
         → IsLawful seats world → step seats world at call ≡ Made effect → FindsLoads world effect }
 {
     acts_find_their_loads();
-    loads_are_cargo();
+    loads_meet_invariant();
 }
 
 /// A lawful world is in order, and each call is served in it as the table of calls says.

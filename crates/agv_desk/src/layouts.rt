@@ -8,7 +8,7 @@ ghost use Rattle.agv_desk.specs.Outcomes.{decided};
 use crate::decisions::{made, refused};
 use crate::{Answer, Decision};
 use agv_header::{Memory, Refusal};
-use agv_layout::{Ends, Layout, LayoutFault, LayoutRow, Spot};
+use agv_layout::{EdgeEnds, Layout, LayoutFault, LayoutRow, StationSite};
 use agv_world::{Change, Fault, Floor};
 use std::alloc::Global;
 
@@ -51,11 +51,11 @@ fn row_written(row: &LayoutRow) -> Change
         LayoutRow::Node { id } => Change::Node(*id),
         LayoutRow::Edge { id, start, finish } => {
             let (start, finish) = (*start, *finish);
-            Change::Edge(*id, Ends { start, finish })
+            Change::Edge(*id, EdgeEnds { start, finish })
         }
         LayoutRow::Station { id, node, capacity } => {
             let (node, capacity) = (*node, *capacity);
-            Change::Station(*id, Spot { node, capacity })
+            Change::Station(*id, StationSite { node, capacity })
         }
     }
 }

@@ -20,7 +20,7 @@ use crate::stocktake::found::found_loads;
 use crate::stocktake::moves::{Count, moves_in_job};
 use crate::stocktake::room::all_fit;
 use crate::stocktake::sighting::Sighting;
-use crate::stocktake::sightings::{finds_aboard, look_up, unknown};
+use crate::stocktake::sightings::{finds_on_vehicle, look_up, unknown};
 use crate::stocktake::stations::counted_stations;
 use crate::{Answer, Decision};
 use agv_header::{Memory, Name, Refusal};
@@ -75,7 +75,7 @@ fn count_loads<F: Floor>(
 ) -> Result<Decision, Fault>
     ensures { Asks F.facts floor.old floor.new result (λ world decision. decision ≡ decided (count_by_parts world reference count.now.stations count.now.found seen.now)) }
 {
-    if finds_aboard(seen) {
+    if finds_on_vehicle(seen) {
         return Ok(refused(alloc, Refusal::OnVehicle));
     }
     let moves = count.moves(alloc, floor, seen)?;

@@ -7,7 +7,7 @@ ghost use Rattle.agv_desk.specs.Step.{step};
 ghost use Rattle.agv_desk.specs.WellTyped.{IsMoment, IsSeats, IsWellTyped};
 ghost use Rattle.agv_desk.specs.declared.call.Call.{Call};
 
-use agv_layout::laws::{gives_itself, keeps_rules};
+use agv_layout::laws::{gives_itself, rules_law};
 use agv_order::laws::{
     plans_are_well_formed, plans_go_by_routes, releases_keep_trips_well_formed, stops_twice,
 };
@@ -24,7 +24,7 @@ pub fn keeps_vehicles_lawful()
         → HasLawfulVehicles seats world → HasLawfulVehicles seats (after world (step seats world at call)) }
 {
     gives_itself();
-    keeps_rules();
+    rules_law();
     plans_are_well_formed();
     plans_go_by_routes();
     releases_keep_trips_well_formed();

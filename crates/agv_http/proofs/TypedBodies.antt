@@ -24,7 +24,7 @@ use Rattle.agv_count.specs.Table.{is_record, rows_under}
 use Rattle.agv_message.specs.Body.{body_of}
 use Rattle.agv_message.specs.Member.{below_2_32, member_at, text_at, whole_at}
 use Rattle.agv_message.specs.Position.{has_position}
-use Rattle.agv_message.specs.State.{is_bad, is_other_version, judged, message_of, stamped, state_of, text}
+use Rattle.agv_message.specs.State.{is_bad, is_other_version, state_or_refusal, state_message, stamped, state_of, text}
 use Rattle.agv_message.specs.declared.state.StateMessage.{StateMessage}
 use Rattle.agv_world.specs.Lawful.{IsKey}
 use Rattle.agv_desk.specs.StocktakeSteps.{Row}
@@ -167,8 +167,8 @@ reads_order body = json_typed order_said order_typed body
 abbrev IsNumbered : StateMessage → Type 0
 IsNumbered state = state.header_id ≤ 4294967295
 
-number_below : (at : ℕ) (d : Data) → IsNumbered (message_of at d)
-unfolding message_of
+number_below : (at : ℕ) (d : Data) → IsNumbered (state_message at d)
+unfolding state_message
 number_below at d = member_below (codes "headerId") d
 
 stamped_numbered : (said : Option ℕ) (d : Data) → IfOk (stamped said d) IsNumbered
@@ -179,11 +179,11 @@ unless : (test : Bool) (why : Refusal) (read : Result StateMessage Refusal) → 
 unless true why read is = tt
 unless false why read is = is
 
-judged_numbered : (d : Data) → IfOk (judged d) IsNumbered
+judged_numbered : (d : Data) → IfOk (state_or_refusal d) IsNumbered
 judged_numbered d = unless (is_bad d) refusal.BadBody _ (unless (is_other_version d) refusal.Version _ (stamped_numbered (moment_said (text (codes "timestamp") d)) d))
 
 state_numbered : (d : Data) → IfOk (state_of d) IsNumbered
-state_numbered d = unless (has_position d) refusal.Position (judged d) (judged_numbered d)
+state_numbered d = unless (has_position d) refusal.Position (state_or_refusal d) (judged_numbered d)
 
 value_numbered : (read : Result Data Refusal) → IfOk (unless_refused state_of read) IsNumbered
 value_numbered (Err why) = tt

@@ -12,21 +12,21 @@ use Rattle.std.proofs.lemmas.Bool.Decides.{Decides-at, Decides-and, Decides-not,
 use Rattle.std.proofs.lemmas.Map.Keys.{IsDistinct-from_sorted}
 use Rattle.agv_header.specs.Name.{name_cmp}
 use Rattle.agv_layout.specs.declared.draft.Draft.{Draft}
-use Rattle.agv_layout.specs.declared.edge.Ends.{Ends}
-use Rattle.agv_layout.specs.declared.station.Spot.{Spot}
+use Rattle.agv_layout.specs.declared.edge.EdgeEnds.{EdgeEnds}
+use Rattle.agv_layout.specs.declared.station.StationSite.{StationSite}
 use Rattle.agv_layout.specs.Draft.{drawn, leads_in_draft, stands_in_draft, HasNode, AllLead, AllStand}
-use Rattle.agv_layout.specs.Layout.{Name, Layout, IsNode, Leads, Stands}
+use Rattle.agv_layout.specs.Layout.{Name, Layout, IsNode, Leads, StationFits}
 use Rattle.agv_layout.proofs.Maps.{names_total, contains-shown, each_found, all_values}
 
 -- layouts with equal parts are equal
-pub same_parts : (a b : set.FinSet name_cmp) (c d : map.FinMap name_cmp Ends) (e f : map.FinMap name_cmp Spot) → a ≡ b → c ≡ d → e ≡ f
+pub same_parts : (a b : set.FinSet name_cmp) (c d : map.FinMap name_cmp EdgeEnds) (e f : map.FinMap name_cmp StationSite) → a ≡ b → c ≡ d → e ≡ f
     → ◌≡◌ {A = Layout} (record { nodes = a; edges = c; stations = e }) (record { nodes = b; edges = d; stations = f })
 same_parts a b c d e f p q r = λ i. record { nodes = p i; edges = q i; stations = r i }
 
 node-Decides : (draft : Draft) (id : Name) → Decides (set.contains (drawn draft).nodes id) (IsNode (drawn draft) id)
 node-Decides draft id = (λ has. has, λ has. has)
 
-leads-Decides : (draft : Draft) (ends : Ends) → Decides (leads_in_draft draft ends) (Leads (drawn draft) ends)
+leads-Decides : (draft : Draft) (ends : EdgeEnds) → Decides (leads_in_draft draft ends) (Leads (drawn draft) ends)
 leads-Decides draft ends =
     let at = λ (id : Name). Decides-at _ _ (sym (contains-shown draft.nodes.keys id)) (node-Decides draft id) in
     Decides-like _ (λ w. (w.0, w.1.0, w.1.1)) (λ w. (w.0, (w.1, w.2)))
@@ -35,7 +35,7 @@ leads-Decides draft ends =
 pub le-Decides : (a b : ℕ) → Decides (nat_le a b) (a ≤ b)
 le-Decides a b = (leb-true a b, le-leb a b)
 
-stands-Decides : (draft : Draft) (spot : Spot) → Decides (stands_in_draft draft spot) (Stands (drawn draft) spot)
+stands-Decides : (draft : Draft) (spot : StationSite) → Decides (stands_in_draft draft spot) (StationFits (drawn draft) spot)
 stands-Decides draft spot =
     let at = Decides-at _ _ (sym (contains-shown draft.nodes.keys spot.node)) (node-Decides draft spot.node) in
     Decides-like _ (λ w. (w.0, w.1.0, w.1.1)) (λ w. (w.0, (w.1, w.2)))
@@ -51,7 +51,7 @@ AllLead-Decides draft ordered =
 pub AllStand-Decides : (draft : Draft) → IsStrictlySortedBy name_cmp (keys_of draft.stations.entries) → Decides (list_all (stands_in_draft draft) (values_of draft.stations.entries)) (AllStand (drawn draft))
 AllStand-Decides draft ordered =
     let es = draft.stations.entries in
-    let P = Stands (drawn draft) in
+    let P = StationFits (drawn draft) in
     Decides-like _ (each_found P es) (all_values P es (IsDistinct-from_sorted name_cmp (keys_of es) ordered))
     (Decides-by_and (stands_in_draft draft) P (list_all (stands_in_draft draft)) (stands-Decides draft) refl (λ _ _. refl) (values_of es))
 

@@ -13,7 +13,7 @@ use Rattle.std.proofs.lemmas.Cmp.{tied_itself}
 use Rattle.std.proofs.lemmas.List.{nil_from_length}
 use Rattle.std.proofs.lemmas.Option.{same_Some}
 use Rattle.agv_header.specs.Name.{name_cmp}
-use Rattle.agv_layout.specs.declared.edge.Ends.{Ends}
+use Rattle.agv_layout.specs.declared.edge.EdgeEnds.{EdgeEnds}
 use Rattle.agv_layout.specs.Layout.{Layout, Name, IsEdge}
 use Rattle.agv_layout.specs.RouteOf.{onward, first_onward, walk_of}
 use Rattle.agv_layout.specs.Walk.{IsWalk, IsBefore}
@@ -22,7 +22,7 @@ use Rattle.agv_layout.proofs.Maps.{names_total, same_name, ties_with_itself}
 
 -- ---- entries in the order of their names
 -- an entry that is found among those after a name comes after it
-comes_after : (x id : Name) (ends : Ends) (es : List (Name × Ends)) → below_all name_cmp x es ≡ true → find name_cmp id es ≡ Some ends → name_cmp x id ≡ Less
+comes_after : (x id : Name) (ends : EdgeEnds) (es : List (Name × EdgeEnds)) → below_all name_cmp x es ≡ true → find name_cmp id es ≡ Some ends → name_cmp x id ≡ Less
 comes_after x id ends [] below found = cc
 comes_after x id ends (e ∷ es) below found =
     let parts = and_parts (is_lt (name_cmp x e.0)) (below_all name_cmp x es) below in
@@ -32,7 +32,7 @@ comes_after x id ends (e ∷ es) below found =
     ] refl found
 
 -- the first of these edges has this name, or the name comes after it and is that of a later edge
-here_or_later : (id : Name) (ends : Ends) (e : Name × Ends) (es : List (Name × Ends)) → below_all name_cmp e.0 es ≡ true → find name_cmp id (e ∷ es) ≡ Some ends
+here_or_later : (id : Name) (ends : EdgeEnds) (e : Name × EdgeEnds) (es : List (Name × EdgeEnds)) → below_all name_cmp e.0 es ≡ true → find name_cmp id (e ∷ es) ≡ Some ends
     → ((id ≡ e.0) × (e.1 ≡ ends)) ⊎ ((name_cmp e.0 id ≡ Less) × (find name_cmp id es ≡ Some ends))
 here_or_later id ends e es below found =
     elim (is_at (name_cmp id) e.0) as (λ b. is_at (name_cmp id) e.0 ≡ b → cond b (Some e.1) (find name_cmp id es) ≡ Some ends → ((id ≡ e.0) × (e.1 ≡ ends)) ⊎ ((name_cmp e.0 id ≡ Less) × (find name_cmp id es ≡ Some ends))) [
@@ -44,7 +44,7 @@ less_is_not_tied : (r : Ordering) → r ≡ Less → is_eq r ≡ true → ⊥
 less_is_not_tied r less tied = true≢false (sym tied ∙ ap is_eq less)
 
 -- what is found later is found
-found_later : (id : Name) (ends : Ends) (e : Name × Ends) (es : List (Name × Ends)) → below_all name_cmp e.0 es ≡ true → find name_cmp id es ≡ Some ends → find name_cmp id (e ∷ es) ≡ Some ends
+found_later : (id : Name) (ends : EdgeEnds) (e : Name × EdgeEnds) (es : List (Name × EdgeEnds)) → below_all name_cmp e.0 es ≡ true → find name_cmp id es ≡ Some ends → find name_cmp id (e ∷ es) ≡ Some ends
 found_later id ends e es below found =
     elim (is_at (name_cmp id) e.0) as (λ b. is_at (name_cmp id) e.0 ≡ b → cond b (Some e.1) (find name_cmp id es) ≡ Some ends) [
       | true ↦ λ here.
@@ -81,41 +81,41 @@ module _ (layout : Layout) (to : Name) where
 
   module _ (n : ℕ) (from : Name) where
     -- a walk of one edge more, whose first edge is one of these
-    record Begins (es : List (Name × Ends)) (id : Name) (ids : List Name) : Type 0 where
+    record Begins (es : List (Name × EdgeEnds)) (id : Name) (ids : List Name) : Type 0 where
       next : Name
       edge : find name_cmp id es ≡ Some (record { start = from; finish = next })
       walk : IsWalk layout next ids to
       count : length ids ≡ n
 
     -- of those walks this is the first
-    record IsFirstBy (es : List (Name × Ends)) (ids : List Name) : Type 0 where
+    record IsFirstBy (es : List (Name × EdgeEnds)) (ids : List Name) : Type 0 where
       walk : IsWalk layout from ids to
       count : length ids ≡ suc n
       first : (id : Name) (others : List Name) → Begins es id others → IsNotAfter ids (id ∷ others)
 
-    abbrev IsFirstByIfAny : List (Name × Ends) → Option (List Name) → Type 0
+    abbrev IsFirstByIfAny : List (Name × EdgeEnds) → Option (List Name) → Type 0
     IsFirstByIfAny es None = (id : Name) (ids : List Name) → Begins es id ids → ⊥
     IsFirstByIfAny es (Some ids) = IsFirstBy es ids
 
     -- of the walks that begin with one edge this is the first, or there is none
-    abbrev IsOnward : Name × Ends → Option (List Name) → Type 0
+    abbrev IsOnward : Name × EdgeEnds → Option (List Name) → Type 0
     IsOnward e None = (next : Name) (ids : List Name) → e.1 ≡ record { start = from; finish = next } → IsWalk layout next ids to → length ids ≡ n → ⊥
     IsOnward e (Some ids) = (rest : List Name) × (ids ≡ e.0 ∷ rest) × (e.1.start ≡ from) × IsFirst n e.1.finish rest
 
     module _ (goes_on : Name → Option (List Name)) (goes : (next : Name) → IsFirstIfAny n next (goes_on next)) where
-      onward_after : (e : Name × Ends) → e.1.start ≡ from → (o : Option (List Name)) → IsFirstIfAny n e.1.finish o → IsOnward e (option_map (λ ids. e.0 ∷ ids) o)
-      onward_after e starts None none = λ next ids ends walk count. none ids (subst (λ (at : Name). IsWalk layout at ids to) (ap (λ (x : Ends). x.finish) (sym ends)) walk) count
+      onward_after : (e : Name × EdgeEnds) → e.1.start ≡ from → (o : Option (List Name)) → IsFirstIfAny n e.1.finish o → IsOnward e (option_map (λ ids. e.0 ∷ ids) o)
+      onward_after e starts None none = λ next ids ends walk count. none ids (subst (λ (at : Name). IsWalk layout at ids to) (ap (λ (x : EdgeEnds). x.finish) (sym ends)) walk) count
       onward_after e starts (Some rest) first = (rest, refl, starts, first)
 
-      is_onward : (e : Name × Ends) → IsOnward e (onward goes_on from e)
+      is_onward : (e : Name × EdgeEnds) → IsOnward e (onward goes_on from e)
       is_onward e =
           elim (is_at (name_cmp e.1.start) from) as (λ b. is_at (name_cmp e.1.start) from ≡ b → IsOnward e (cond b (option_map (λ ids. e.0 ∷ ids) (goes_on e.1.finish)) None)) [
             | true ↦ λ here. onward_after e (same_name e.1.start from here) (goes_on e.1.finish) (goes e.1.finish)
             | false ↦ λ apart next ids ends walk count.
-                true≢false (sym (ap (λ (x : Ends). is_at (name_cmp x.start) from) ends ∙ ties_with_itself from) ∙ apart)
+                true≢false (sym (ap (λ (x : EdgeEnds). is_at (name_cmp x.start) from) ends ∙ ties_with_itself from) ∙ apart)
           ] refl
 
-      module _ (e : Name × Ends) (es : List (Name × Ends)) (below : below_all name_cmp e.0 es ≡ true) (edge : IsEdge layout e.0 e.1) where
+      module _ (e : Name × EdgeEnds) (es : List (Name × EdgeEnds)) (below : below_all name_cmp e.0 es ≡ true) (edge : IsEdge layout e.0 e.1) where
         later : (id : Name) (ids : List Name) (begins : Begins (e ∷ es) id ids) → find name_cmp id es ≡ Some (record { start = from; finish = begins.next }) → Begins es id ids
         later id ids begins there = record { next = begins.next; edge = there; walk = begins.walk; count = begins.count }
 
@@ -143,12 +143,12 @@ module _ (layout : Layout) (to : Name) where
                   ⊎_elim
                   (λ (here : (id ≡ e.0) × (e.1 ≡ record { start = from; finish = begins.next })).
                   same_head e.0 id some.0 others here.0
-                  (some.3.first others (subst (λ (at : Name). IsWalk layout at others to) (ap (λ (x : Ends). x.finish) (sym here.1)) begins.walk) begins.count))
+                  (some.3.first others (subst (λ (at : Name). IsWalk layout at others to) (ap (λ (x : EdgeEnds). x.finish) (sym here.1)) begins.walk) begins.count))
                   (λ (there : (name_cmp e.0 id ≡ Less) × (find name_cmp id es ≡ Some (record { start = from; finish = begins.next }))). lesser_head e.0 id some.0 others there.0)
                   (here_or_later id _ e es below begins.edge);
             })
 
-      first_by : (es : List (Name × Ends)) → is_sorted name_cmp es ≡ true → ((id : Name) (ends : Ends) → find name_cmp id es ≡ Some ends → IsEdge layout id ends) → IsFirstByIfAny es (first_onward goes_on from es)
+      first_by : (es : List (Name × EdgeEnds)) → is_sorted name_cmp es ≡ true → ((id : Name) (ends : EdgeEnds) → find name_cmp id es ≡ Some ends → IsEdge layout id ends) → IsFirstByIfAny es (first_onward goes_on from es)
       first_by [] sorted edges = λ id ids begins. let found = begins.edge in cc
       first_by (e ∷ es) sorted edges =
           let parts = and_parts (below_all name_cmp e.0 es) (is_sorted name_cmp es) sorted in

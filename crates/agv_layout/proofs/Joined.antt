@@ -16,7 +16,7 @@ use Rattle.std.proofs.lemmas.List.Elements.{All-head, All-tail}
 use Rattle.std.proofs.lemmas.Map.Keys.{IsDistinct-from_sorted}
 use Rattle.std.proofs.lemmas.Map.Made.{length-le_from_is_member, is_some-lookup}
 use Rattle.agv_header.specs.Name.{name_cmp}
-use Rattle.agv_layout.specs.declared.edge.Ends.{Ends}
+use Rattle.agv_layout.specs.declared.edge.EdgeEnds.{EdgeEnds}
 use Rattle.agv_layout.specs.Layout.{Name}
 use Rattle.agv_layout.specs.Arrivals.{is_among, leads, leads_to_one, is_so, Joins}
 use Rattle.agv_layout.proofs.Maps.{names_total, same_name, ties_with_itself, contains-shown}
@@ -44,13 +44,13 @@ among_of_any p (x ∷ xs) h =
     ] refl h
 
 -- ---- edges
-is_so-itself : (start finish : Name) (id : Name) (ends : Ends) → ends ≡ record { start = start; finish = finish } → is_so start finish (id, ends) ≡ true
+is_so-itself : (start finish : Name) (id : Name) (ends : EdgeEnds) → ends ≡ record { start = start; finish = finish } → is_so start finish (id, ends) ≡ true
 is_so-itself start finish id ends e =
-    ap (λ (x : Ends). is_at (name_cmp x.finish) finish && is_at (name_cmp x.start) start) e
+    ap (λ (x : EdgeEnds). is_at (name_cmp x.finish) finish && is_at (name_cmp x.start) start) e
     ∙ ap (λ b. b && is_at (name_cmp start) start) (ties_with_itself finish)
     ∙ ties_with_itself start
 
-any_joined : (test : Name → Bool) (start finish : Name) (es : List (Name × Ends)) → lookup test es ≡ Some (record { start = start; finish = finish }) → list_any (is_so start finish) es ≡ true
+any_joined : (test : Name → Bool) (start finish : Name) (es : List (Name × EdgeEnds)) → lookup test es ≡ Some (record { start = start; finish = finish }) → list_any (is_so start finish) es ≡ true
 any_joined test start finish [] h = cc
 any_joined test start finish (e ∷ es) h =
     elim (test e.0) as (λ b. cond b (Some e.1) (lookup test es) ≡ Some (record { start = start; finish = finish }) → (is_so start finish e || list_any (is_so start finish) es) ≡ true) [
@@ -58,7 +58,7 @@ any_joined test start finish (e ∷ es) h =
       | false ↦ λ later. ap (λ b. is_so start finish e || b) (any_joined test start finish es later) ∙ or_true (is_so start finish e)
     ] h
 
-joined_any : (edges : BTreeMap Name Ends) (start finish : Name) (es : List (Name × Ends)) → All (λ e. get name_cmp edges e.0 ≡ Some e.1) es → list_any (is_so start finish) es ≡ true → Joins edges start finish
+joined_any : (edges : BTreeMap Name EdgeEnds) (start finish : Name) (es : List (Name × EdgeEnds)) → All (λ e. get name_cmp edges e.0 ≡ Some e.1) es → list_any (is_so start finish) es ≡ true → Joins edges start finish
 joined_any edges start finish [] all h = absurd (true≢false (sym h))
 joined_any edges start finish (e ∷ es) all h =
     elim (is_so start finish e) as (λ b. is_so start finish e ≡ b → (b || list_any (is_so start finish) es) ≡ true → Joins edges start finish) [
@@ -66,12 +66,12 @@ joined_any edges start finish (e ∷ es) all h =
           let ends = and_parts (is_at (name_cmp e.1.finish) finish) (is_at (name_cmp e.1.start) start) here in
           let to = same_name e.1.finish finish ends.0 in
           let from = same_name e.1.start start ends.1 in
-          (e.0, All-head (λ (x : Name × Ends). get name_cmp edges x.0 ≡ Some x.1) e es all ∙ (λ i. Some (record { start = from i; finish = to i })))
-      | false ↦ λ _ there. joined_any edges start finish es (All-tail (λ (x : Name × Ends). get name_cmp edges x.0 ≡ Some x.1) e es all) there
+          (e.0, All-head (λ (x : Name × EdgeEnds). get name_cmp edges x.0 ≡ Some x.1) e es all ∙ (λ i. Some (record { start = from i; finish = to i })))
+      | false ↦ λ _ there. joined_any edges start finish es (All-tail (λ (x : Name × EdgeEnds). get name_cmp edges x.0 ≡ Some x.1) e es all) there
     ] refl h
 
 -- ---- one step from a level
-pub IsOneFrom-leads : {A : Type 0} (edges : BTreeMap Name Ends) (arrivals : BTreeMap Name (Vec Name A)) (goal : Name) (level : List Name) → ((start finish : Name) → leads arrivals start finish ≡ list_any (is_so start finish) edges.entries) → All (λ e. get name_cmp edges e.0 ≡ Some e.1) edges.entries → IsOneFrom (Joins edges) goal (is_among level) (λ start. leads_to_one arrivals start level)
+pub IsOneFrom-leads : {A : Type 0} (edges : BTreeMap Name EdgeEnds) (arrivals : BTreeMap Name (Vec Name A)) (goal : Name) (level : List Name) → ((start finish : Name) → leads arrivals start finish ≡ list_any (is_so start finish) edges.entries) → All (λ e. get name_cmp edges e.0 ≡ Some e.1) edges.entries → IsOneFrom (Joins edges) goal (is_among level) (λ start. leads_to_one arrivals start level)
 IsOneFrom-leads edges arrivals goal level all found = record {
   has = λ start next among joins. any_of_among (leads arrivals start) level next among (all start next ∙ any_joined (is_at (name_cmp joins.0)) start next edges.entries joins.1);
   is = λ start one. let next = among_of_any (leads arrivals start) level one in (next.0, next.1, joined_any edges start next.0 edges.entries found (sym (all start next.0) ∙ next.2));
@@ -129,7 +129,7 @@ either None true hops k e = inr refl
 either None false hops k e = cc
 
 -- every node that has a distance is known, one level farther too
-pub known_next : {A : Type 0} (edges : BTreeMap Name Ends) (arrivals : BTreeMap Name (Vec Name A)) (goal : Name) (level : List Name) (nodes : BTreeSet Name) (hops : ℕ) (old new : BTreeMap Name ℕ) → IsOneFrom (Joins edges) goal (is_among level) (λ start. leads_to_one arrivals start level) → ((id : Name) (ends : Ends) → get name_cmp edges id ≡ Some ends → contains name_cmp nodes ends.start ≡ true) → ((v : Name) → get name_cmp new v ≡ option_or (get name_cmp old v) (cond (leads_to_one arrivals v level) (Some hops) None)) → ((v : Name) (k : ℕ) → get name_cmp old v ≡ Some k → contains name_cmp nodes v ≡ true) → (v : Name) (k : ℕ) → get name_cmp new v ≡ Some k → contains name_cmp nodes v ≡ true
+pub known_next : {A : Type 0} (edges : BTreeMap Name EdgeEnds) (arrivals : BTreeMap Name (Vec Name A)) (goal : Name) (level : List Name) (nodes : BTreeSet Name) (hops : ℕ) (old new : BTreeMap Name ℕ) → IsOneFrom (Joins edges) goal (is_among level) (λ start. leads_to_one arrivals start level) → ((id : Name) (ends : EdgeEnds) → get name_cmp edges id ≡ Some ends → contains name_cmp nodes ends.start ≡ true) → ((v : Name) → get name_cmp new v ≡ option_or (get name_cmp old v) (cond (leads_to_one arrivals v level) (Some hops) None)) → ((v : Name) (k : ℕ) → get name_cmp old v ≡ Some k → contains name_cmp nodes v ≡ true) → (v : Name) (k : ℕ) → get name_cmp new v ≡ Some k → contains name_cmp nodes v ≡ true
 known_next edges arrivals goal level nodes hops old new from starts next known v k e =
     ⊎_elim
     (λ (was : get name_cmp old v ≡ Some k). known v k was)

@@ -8,11 +8,11 @@ use Rattle.std.proofs.lemmas.Bool.{not-true}
 use Rattle.std.proofs.lemmas.Bool.Decides.{Decides-and, Decides-or, Decides-not, Decides-like, Decides-ltb, Decides-by_and, not_from_Decides}
 use Rattle.std.proofs.lemmas.Option.{same_Some}
 use Rattle.std.proofs.lemmas.Map.Made.{is_member-Decides, AllPairs-from_IsDistinct, IsDistinct-from_AllPairs}
-use Rattle.agv_layout.specs.declared.edge.Ends.{Ends}
+use Rattle.agv_layout.specs.declared.edge.EdgeEnds.{EdgeEnds}
 use Rattle.agv_layout.specs.declared.fault.LayoutFault.{LayoutFault}
 use Rattle.agv_layout.specs.declared.fault.LayoutFault.TheVariants as fault
 use Rattle.agv_layout.specs.declared.row.LayoutRow.{LayoutRow}
-use Rattle.agv_layout.specs.declared.station.Spot.{Spot}
+use Rattle.agv_layout.specs.declared.station.StationSite.{StationSite}
 use Rattle.agv_layout.specs.Layout.{Name, Layout}
 use Rattle.agv_layout.specs.LayoutOf.{is_among, differ, leads_among, stands_among, is_over_limit, is_each_once, is_sound, layout_in, layout_of}
 use Rattle.agv_layout.specs.Rows.{nodes_in, edges_in, stations_in, Differ, LeadsAmong, StandsAmong, IsEachOnce, IsOverLimit, IsSound}
@@ -34,12 +34,12 @@ distinct_decides (id ∷ ids) = Decides-and _ _ (absent_decides ids id) (distinc
 differ_decides : (ids : List Name) → Decides (differ ids) (Differ ids)
 differ_decides ids = Decides-like _ (AllPairs-from_IsDistinct bytes_decides ids) (IsDistinct-from_AllPairs bytes_decides ids) (distinct_decides ids)
 
-leads_decides : (nodes : List Name) (ends : Ends) → Decides (leads_among nodes ends) (LeadsAmong nodes ends)
+leads_decides : (nodes : List Name) (ends : EdgeEnds) → Decides (leads_among nodes ends) (LeadsAmong nodes ends)
 leads_decides nodes ends =
     Decides-like _ (λ w. (w.0, w.1.0, w.1.1)) (λ w. (w.0, (w.1, w.2)))
     (Decides-and _ _ (among_decides nodes ends.start) (Decides-and _ _ (among_decides nodes ends.finish) (Decides-not _ (bytes_decides ends.start ends.finish))))
 
-stands_decides : (nodes : List Name) (spot : Spot) → Decides (stands_among nodes spot) (StandsAmong nodes spot)
+stands_decides : (nodes : List Name) (spot : StationSite) → Decides (stands_among nodes spot) (StandsAmong nodes spot)
 stands_decides nodes spot =
     Decides-like _ (λ w. (w.0, w.1.0, w.1.1)) (λ w. (w.0, (w.1, w.2)))
     (Decides-and _ _ (among_decides nodes spot.node) (Decides-and _ _ (le-Decides 1 spot.capacity) (le-Decides spot.capacity 999)))

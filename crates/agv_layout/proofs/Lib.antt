@@ -17,3 +17,4 @@ mod Rows
 mod RowsBack
 mod Sound
 mod Uniques
+pub mod Walking

@@ -9,7 +9,7 @@ use Rattle.std.proofs.lemmas.Map.Keys.{IsDistinct-cons, IsDistinct-tail}
 use Rattle.std.proofs.lemmas.Map.Steps.{length-le_from_keys}
 use Rattle.std.proofs.lemmas.Option.{same_Some}
 use Rattle.agv_header.specs.Name.{name_cmp}
-use Rattle.agv_layout.specs.declared.edge.Ends.{Ends}
+use Rattle.agv_layout.specs.declared.edge.EdgeEnds.{EdgeEnds}
 use Rattle.agv_layout.specs.Layout.{Layout, Name, IsEdge}
 use Rattle.agv_layout.specs.Walk.{IsWalk}
 use Rattle.agv_layout.proofs.Maps.{all_fail, names_equiv, same_name, find-lookup}
@@ -29,11 +29,11 @@ module _ (layout : Layout) (to : Name) where
     walk : IsWalk layout from ids to
     apart : AreApart ids
 
-  same_start : (id : Name) (one other : Ends) → IsEdge layout id one → IsEdge layout id other → one.start ≡ other.start
-  same_start id one other is was = ap (λ (ends : Ends). ends.start) (same_Some _ _ (sym is ∙ was))
+  same_start : (id : Name) (one other : EdgeEnds) → IsEdge layout id one → IsEdge layout id other → one.start ≡ other.start
+  same_start id one other is was = ap (λ (ends : EdgeEnds). ends.start) (same_Some _ _ (sym is ∙ was))
 
   -- from one of its edges on, it is a walk from where that edge starts
-  from_edge_on : (id : Name) (ends : Ends) → IsEdge layout id ends → (at : Name) (ids : List Name) → IsWalk layout at ids to → AreApart ids → list_any (is_at (name_cmp id)) ids ≡ true → Straight ends.start
+  from_edge_on : (id : Name) (ends : EdgeEnds) → IsEdge layout id ends → (at : Name) (ids : List Name) → IsWalk layout at ids to → AreApart ids → list_any (is_at (name_cmp id)) ids ≡ true → Straight ends.start
   from_edge_on id ends edge at [] walk apart among = absurd (true≢false (sym among))
   from_edge_on id ends edge at (x ∷ xs) walk apart among =
       elim (is_at (name_cmp id) x) as (λ b. is_at (name_cmp id) x ≡ b → (b || list_any (is_at (name_cmp id)) xs) ≡ true → Straight ends.start) [
@@ -57,10 +57,10 @@ module _ (layout : Layout) (to : Name) where
         }
       ] refl
 
-  is_edge : (from : Name) (ids : List Name) → IsWalk layout from ids to → (q : Name) → list_any (is_at (name_cmp q)) ids ≡ true → (ends : Ends) × IsEdge layout q ends
+  is_edge : (from : Name) (ids : List Name) → IsWalk layout from ids to → (q : Name) → list_any (is_at (name_cmp q)) ids ≡ true → (ends : EdgeEnds) × IsEdge layout q ends
   is_edge from [] walk q among = absurd (true≢false (sym among))
   is_edge from (id ∷ ids) walk q among =
-      elim (is_at (name_cmp q) id) as (λ b. is_at (name_cmp q) id ≡ b → (b || list_any (is_at (name_cmp q)) ids) ≡ true → (ends : Ends) × IsEdge layout q ends) [
+      elim (is_at (name_cmp q) id) as (λ b. is_at (name_cmp q) id ≡ b → (b || list_any (is_at (name_cmp q)) ids) ≡ true → (ends : EdgeEnds) × IsEdge layout q ends) [
         | true ↦ λ here _. (record { start = from; finish = walk.0 }, subst (λ (x : Name). IsEdge layout x (record { start = from; finish = walk.0 })) (sym (same_name q id here)) walk.1)
         | false ↦ λ _ there. is_edge walk.0 ids walk.2 q there
       ] refl among

@@ -11,13 +11,13 @@ use Rattle.std.proofs.lemmas.Bool.{and_parts}
 use Rattle.std.proofs.lemmas.Map.Keys.{sorted_tail}
 use Rattle.agv_header.specs.Name.{name_cmp}
 use Rattle.agv_layout.specs.declared.edge.Edge.{Edge}
-use Rattle.agv_layout.specs.declared.edge.Ends.{Ends}
+use Rattle.agv_layout.specs.declared.edge.EdgeEnds.{EdgeEnds}
 use Rattle.agv_layout.specs.Layout.{Name, edge_of}
 use Rattle.agv_layout.specs.Ways.{is_nearer, is_way, first_way}
 use Rattle.agv_layout.proofs.Maps.{names_total, same_name, ties_with_itself}
 
 -- an entry that is found among those after a name comes after it
-after_name : (x id : Name) (ends : Ends) (es : List (Name × Ends)) → AllByRecursion (λ y. name_cmp x y ≡ Less) (keys_of es) → lookup (is_at (name_cmp id)) es ≡ Some ends → name_cmp x id ≡ Less
+after_name : (x id : Name) (ends : EdgeEnds) (es : List (Name × EdgeEnds)) → AllByRecursion (λ y. name_cmp x y ≡ Less) (keys_of es) → lookup (is_at (name_cmp id)) es ≡ Some ends → name_cmp x id ≡ Less
 after_name x id ends [] below h = cc
 after_name x id ends (e ∷ es) below h =
     elim (is_at (name_cmp id) e.0) as (λ b. is_at (name_cmp id) e.0 ≡ b → cond b (Some e.1) (lookup (is_at (name_cmp id)) es) ≡ Some ends → name_cmp x id ≡ Less) [
@@ -28,24 +28,24 @@ after_name x id ends (e ∷ es) below h =
 untied : (x id : Name) → name_cmp x id ≡ Less → is_at (name_cmp id) x ≡ false
 untied x id less = ap is_eq (names_total.antisymm id x ∙ ap ordering_reverse less)
 
-same_Ends : (a b : Ends) → Some a ≡ Some b → a ≡ b
+same_Ends : (a b : EdgeEnds) → Some a ≡ Some b → a ≡ b
 same_Ends a b e = ap (λ o. unwrap_or o a) e
 
 same_Edge : (a b : Edge) → Some a ≡ Some b → a ≡ b
 same_Edge a b e = ap (λ o. unwrap_or o a) e
 
-head_below : (e : Name × Ends) (es : List (Name × Ends)) → IsStrictlySortedBy name_cmp (keys_of (e ∷ es)) → AllByRecursion (λ y. name_cmp e.0 y ≡ Less) (keys_of es)
+head_below : (e : Name × EdgeEnds) (es : List (Name × EdgeEnds)) → IsStrictlySortedBy name_cmp (keys_of (e ∷ es)) → AllByRecursion (λ y. name_cmp e.0 y ≡ Less) (keys_of es)
 unfolding IsStrictlySortedBy
 head_below e es h = h.0
 
 module _ (distances : BTreeMap Name ℕ) (at : Name) where
-  abbrev Found : List (Name × Ends) → Edge → Type 0
+  abbrev Found : List (Name × EdgeEnds) → Edge → Type 0
   Found es edge = (lookup (is_at (name_cmp edge.id)) es ≡ Some (record { start = at; finish = edge.finish })) × (is_nearer distances (record { start = at; finish = edge.finish }) ≡ true)
 
-  starts_here : (ends : Ends) → is_way distances at ends ≡ true → ends ≡ record { start = at; finish = ends.finish }
+  starts_here : (ends : EdgeEnds) → is_way distances at ends ≡ true → ends ≡ record { start = at; finish = ends.finish }
   starts_here ends way = let from = same_name ends.start at (and_parts (is_at (name_cmp ends.start) at) (is_nearer distances ends) way).0 in λ i. record { start = from i; finish = ends.finish }
 
-  found_here : (e : Name × Ends) (es : List (Name × Ends)) → is_way distances at e.1 ≡ true → Found (e ∷ es) (edge_of e.0 e.1)
+  found_here : (e : Name × EdgeEnds) (es : List (Name × EdgeEnds)) → is_way distances at e.1 ≡ true → Found (e ∷ es) (edge_of e.0 e.1)
   found_here e es way =
       let same = starts_here e.1 way in (
         ap (λ b. cond b (Some e.1) (lookup (is_at (name_cmp e.0)) es)) (ties_with_itself e.0) ∙ ap Some same,
@@ -53,7 +53,7 @@ module _ (distances : BTreeMap Name ℕ) (at : Name) where
       )
 
   -- the edge that is found is one, starts at the node and leads nearer
-  pub first_found : (es : List (Name × Ends)) → IsStrictlySortedBy name_cmp (keys_of es) → (edge : Edge) → first_way distances at es ≡ Some edge → Found es edge
+  pub first_found : (es : List (Name × EdgeEnds)) → IsStrictlySortedBy name_cmp (keys_of es) → (edge : Edge) → first_way distances at es ≡ Some edge → Found es edge
   first_found [] sorted edge h = cc
   first_found (e ∷ es) sorted edge h =
       elim (is_way distances at e.1) as (λ b. is_way distances at e.1 ≡ b → cond b (Some (edge_of e.0 e.1)) (first_way distances at es) ≡ Some edge → Found (e ∷ es) edge) [
@@ -65,7 +65,7 @@ module _ (distances : BTreeMap Name ℕ) (at : Name) where
       ] refl h
 
   -- no edge before it does so
-  pub first_least : (es : List (Name × Ends)) → IsStrictlySortedBy name_cmp (keys_of es) → (id : Name) (ends : Ends) → lookup (is_at (name_cmp id)) es ≡ Some ends → is_way distances at ends ≡ true → (edge : Edge) → first_way distances at es ≡ Some edge → (id ≡ edge.id) ⊎ (name_cmp edge.id id ≡ Less)
+  pub first_least : (es : List (Name × EdgeEnds)) → IsStrictlySortedBy name_cmp (keys_of es) → (id : Name) (ends : EdgeEnds) → lookup (is_at (name_cmp id)) es ≡ Some ends → is_way distances at ends ≡ true → (edge : Edge) → first_way distances at es ≡ Some edge → (id ≡ edge.id) ⊎ (name_cmp edge.id id ≡ Less)
   first_least [] sorted id ends found way edge h = cc
   first_least (e ∷ es) sorted id ends found way edge h =
       elim (is_way distances at e.1) as (λ b. is_way distances at e.1 ≡ b → cond b (Some (edge_of e.0 e.1)) (first_way distances at es) ≡ Some edge → (id ≡ edge.id) ⊎ (name_cmp edge.id id ≡ Less)) [
@@ -83,7 +83,7 @@ module _ (distances : BTreeMap Name ℕ) (at : Name) where
       ] refl h
 
   -- where an edge does so, one is found
-  pub first_exists : (es : List (Name × Ends)) (id : Name) (ends : Ends) → lookup (is_at (name_cmp id)) es ≡ Some ends → is_way distances at ends ≡ true → (edge : Edge) × (first_way distances at es ≡ Some edge)
+  pub first_exists : (es : List (Name × EdgeEnds)) (id : Name) (ends : EdgeEnds) → lookup (is_at (name_cmp id)) es ≡ Some ends → is_way distances at ends ≡ true → (edge : Edge) × (first_way distances at es ≡ Some edge)
   first_exists [] id ends found way = cc
   first_exists (e ∷ es) id ends found way =
       elim (is_way distances at e.1) as (λ b. is_way distances at e.1 ≡ b → (edge : Edge) × (cond b (Some (edge_of e.0 e.1)) (first_way distances at es) ≡ Some edge)) [

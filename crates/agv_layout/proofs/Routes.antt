@@ -14,7 +14,7 @@ use Rattle.std.proofs.lemmas.List.{nil_from_length}
 use Rattle.agv_header.specs.Name.{name_cmp}
 use Rattle.agv_layout.specs.declared.layout.Layout.TheInside.{Inside}
 use Rattle.agv_layout.specs.declared.edge.Edge.{Edge}
-use Rattle.agv_layout.specs.declared.edge.Ends.{Ends}
+use Rattle.agv_layout.specs.declared.edge.EdgeEnds.{EdgeEnds}
 use Rattle.agv_layout.specs.Layout.{Layout, Name, IsNode}
 use Rattle.agv_layout.specs.Shown.{shown}
 use Rattle.agv_layout.specs.Arrivals.{Joins}
@@ -31,14 +31,14 @@ same_Some a b e = ap (λ o. unwrap_or o a) e
 some_none : (n : ℕ) → Some n ≡ None → ⊥
 some_none n e = cc
 
-same_finish : (a b : Ends) → Some a ≡ Some b → a.finish ≡ b.finish
-same_finish a b e = ap (λ (o : Option Ends). (unwrap_or o a).finish) e
+same_finish : (a b : EdgeEnds) → Some a ≡ Some b → a.finish ≡ b.finish
+same_finish a b e = ap (λ (o : Option EdgeEnds). (unwrap_or o a).finish) e
 
 module _ (inside : Inside) (goal : Name) where
   abbrev layout : Layout
   layout = shown inside
 
-  abbrev edges : BTreeMap Name Ends
+  abbrev edges : BTreeMap Name EdgeEnds
   edges = inside.edges
 
   -- the edges of the walk are steps

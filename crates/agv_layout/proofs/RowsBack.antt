@@ -9,11 +9,11 @@ use Rattle.std.specs.Ordering.{eq_by_cmp}
 use Rattle.std.proofs.lemmas.List.Elements.{filter_map-append}
 use Rattle.std.proofs.lemmas.Map.Keys.{IsDistinct-from_sorted}
 use Rattle.agv_header.specs.Name.{name_cmp}
-use Rattle.agv_layout.specs.declared.edge.Ends.{Ends}
+use Rattle.agv_layout.specs.declared.edge.EdgeEnds.{EdgeEnds}
 use Rattle.agv_layout.specs.declared.layout.Layout.TheInside.{Inside}
 use Rattle.agv_layout.specs.declared.row.LayoutRow.{LayoutRow}
 use Rattle.agv_layout.specs.declared.row.LayoutRow.TheVariants as row
-use Rattle.agv_layout.specs.declared.station.Spot.{Spot}
+use Rattle.agv_layout.specs.declared.station.StationSite.{StationSite}
 use Rattle.agv_layout.specs.Layout.{Name, Layout, KeepsRules}
 use Rattle.agv_layout.specs.LayoutOf.{layout_in, layout_of, edge_row, station_row, nodes_of, rows_in}
 use Rattle.agv_layout.specs.Rows.{node_in, edge_in, station_in, nodes_in, edges_in, stations_in, AreNamed, IsLayoutOf}
@@ -47,10 +47,10 @@ module _ {Y : Type 0} (says : LayoutRow → Option Y) (layout : Layout) where
       ∙ (λ i. nodes i ++ (edges i ++ stations i))
 
 module _ (layout : Layout) where
-  abbrev edges : List (Name × Ends)
+  abbrev edges : List (Name × EdgeEnds)
   edges = finite.entries layout.edges
 
-  abbrev stations : List (Name × Spot)
+  abbrev stations : List (Name × StationSite)
   stations = finite.entries layout.stations
 
   nodes_back : nodes_in (rows_in layout) ≡ nodes_of layout

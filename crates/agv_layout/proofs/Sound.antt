@@ -4,13 +4,13 @@ use Rattle.std.specs.List.{filter_map, cons_option}
 use Rattle.std.proofs.lemmas.List.Elements.{All-contains, Contains-append_right, Contains-append_cases, Contains-push_cases}
 use Rattle.std.proofs.lemmas.Option.{none-some, same_Some, some_pair_parts}
 use Rattle.agv_header.specs.Name.{IsName}
-use Rattle.agv_layout.specs.declared.edge.Ends.{Ends}
+use Rattle.agv_layout.specs.declared.edge.EdgeEnds.{EdgeEnds}
 use Rattle.agv_layout.specs.declared.row.LayoutRow.{LayoutRow}
 use Rattle.agv_layout.specs.declared.row.LayoutRow.TheVariants as row
-use Rattle.agv_layout.specs.declared.station.Spot.{Spot}
+use Rattle.agv_layout.specs.declared.station.StationSite.{StationSite}
 use Rattle.agv_layout.specs.Draft.{IsWhole}
 use Rattle.agv_layout.specs.LayoutOf.{layout_in}
-use Rattle.agv_layout.specs.Layout.{Name, Leads, Stands, KeepsRules}
+use Rattle.agv_layout.specs.Layout.{Name, Leads, StationFits, KeepsRules}
 use Rattle.agv_layout.specs.Rows.{node_in, edge_in, station_in, nodes_in, edges_in, stations_in, LeadsAmong, StandsAmong, AreNamed, id_in, IsEachOnce, IsOverLimit, IsSound, IsLayoutOf}
 use Rattle.agv_layout.proofs.Maps.{contains-Decides, get_found, get_entry, each_found, all_values, len-distinct, set_len-distinct}
 use Rattle.agv_layout.proofs.Rows.{distinct_from}
@@ -57,14 +57,14 @@ node_row (row.Node a) id says = ap row.Node (same_Some a id says)
 node_row (row.Edge a start finish) id says = absurd (none-some id says)
 node_row (row.Station a node capacity) id says = absurd (none-some id says)
 
-edge_row : (r : LayoutRow) (id : Name) (ends : Ends) → edge_in r ≡ Some (id, ends) → r ≡ row.Edge id ends.start ends.finish
+edge_row : (r : LayoutRow) (id : Name) (ends : EdgeEnds) → edge_in r ≡ Some (id, ends) → r ≡ row.Edge id ends.start ends.finish
 edge_row (row.Node a) id ends says = absurd (none-some (id, ends) says)
 edge_row (row.Edge a start finish) id ends says =
     let is = some_pair_parts a id _ ends says in
     λ i. row.Edge (is.0 i) (is.1 i).start (is.1 i).finish
 edge_row (row.Station a node capacity) id ends says = absurd (none-some (id, ends) says)
 
-station_row : (r : LayoutRow) (id : Name) (spot : Spot) → station_in r ≡ Some (id, spot) → r ≡ row.Station id spot.node spot.capacity
+station_row : (r : LayoutRow) (id : Name) (spot : StationSite) → station_in r ≡ Some (id, spot) → r ≡ row.Station id spot.node spot.capacity
 station_row (row.Node a) id spot says = absurd (none-some (id, spot) says)
 station_row (row.Edge a start finish) id spot says = absurd (none-some (id, spot) says)
 station_row (row.Station a node capacity) id spot says =
@@ -74,10 +74,10 @@ station_row (row.Station a node capacity) id spot says =
 found_node : (rows : List LayoutRow) (id : Name) → Contains (nodes_in rows) id → Contains rows (row.Node id)
 found_node rows id among = let from = sayer node_in rows id among in subst (Contains rows) (node_row from.0 id from.2) from.1
 
-found_edge : (rows : List LayoutRow) (id : Name) (ends : Ends) → Contains (edges_in rows) (id, ends) → Contains rows (row.Edge id ends.start ends.finish)
+found_edge : (rows : List LayoutRow) (id : Name) (ends : EdgeEnds) → Contains (edges_in rows) (id, ends) → Contains rows (row.Edge id ends.start ends.finish)
 found_edge rows id ends among = let from = sayer edge_in rows (id, ends) among in subst (Contains rows) (edge_row from.0 id ends from.2) from.1
 
-found_station : (rows : List LayoutRow) (id : Name) (spot : Spot) → Contains (stations_in rows) (id, spot) → Contains rows (row.Station id spot.node spot.capacity)
+found_station : (rows : List LayoutRow) (id : Name) (spot : StationSite) → Contains (stations_in rows) (id, spot) → Contains rows (row.Station id spot.node spot.capacity)
 found_station rows id spot among = let from = sayer station_in rows (id, spot) among in subst (Contains rows) (station_row from.0 id spot from.2) from.1
 
 -- ---- the layout of the rows
@@ -99,16 +99,16 @@ is_layout_of rows once =
       );
     }
 
-leads_among : (rows : List LayoutRow) (ends : Ends) → Leads (layout_in rows) ends → LeadsAmong (nodes_in rows) ends
+leads_among : (rows : List LayoutRow) (ends : EdgeEnds) → Leads (layout_in rows) ends → LeadsAmong (nodes_in rows) ends
 leads_among rows ends leads = let at = contains-Decides (nodes_in rows) in ((at ends.start).0 leads.0, (at ends.finish).0 leads.1, leads.2)
 
-leads_in : (rows : List LayoutRow) (ends : Ends) → LeadsAmong (nodes_in rows) ends → Leads (layout_in rows) ends
+leads_in : (rows : List LayoutRow) (ends : EdgeEnds) → LeadsAmong (nodes_in rows) ends → Leads (layout_in rows) ends
 leads_in rows ends leads = let at = contains-Decides (nodes_in rows) in ((at ends.start).1 leads.0, (at ends.finish).1 leads.1, leads.2)
 
-stands_among : (rows : List LayoutRow) (spot : Spot) → Stands (layout_in rows) spot → StandsAmong (nodes_in rows) spot
+stands_among : (rows : List LayoutRow) (spot : StationSite) → StationFits (layout_in rows) spot → StandsAmong (nodes_in rows) spot
 stands_among rows spot stands = ((contains-Decides (nodes_in rows) spot.node).0 stands.0, stands.1, stands.2)
 
-stands_in : (rows : List LayoutRow) (spot : Spot) → StandsAmong (nodes_in rows) spot → Stands (layout_in rows) spot
+stands_in : (rows : List LayoutRow) (spot : StationSite) → StandsAmong (nodes_in rows) spot → StationFits (layout_in rows) spot
 stands_in rows spot stands = ((contains-Decides (nodes_in rows) spot.node).1 stands.0, stands.1, stands.2)
 
 pub sound_from : (rows : List LayoutRow) → IsEachOnce rows → IsWhole (layout_in rows) → IsSound rows

@@ -8,7 +8,7 @@ use Rattle.std.specs.Cmp.Lexicographic.{slice_cmp, lists_total}
 use Rattle.agv_header.specs.Name.{name_cmp}
 use Rattle.agv_layout.specs.Layout.{Layout, Name, IsNode, KeepsRules}
 use Rattle.agv_layout.specs.Walk.{IsWalk, IsHops, IsBefore, IsRoute, IsWayTo}
-use Rattle.agv_layout.specs.Walking.{begins_at_node, ends_at_node}
+use Rattle.agv_layout.proofs.Walking.{begins_at_node, ends_at_node}
 use Rattle.agv_layout.proofs.Maps.{names_total}
 
 less_is_not_greater : Less ≡ Greater → ⊥

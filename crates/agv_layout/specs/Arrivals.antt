@@ -5,7 +5,7 @@ use Rattle.std.specs.Option.{unwrap_or, option_map}
 use Rattle.std.specs.BTreeMap.{BTreeMap, is_at, get}
 use Rattle.std.specs.declared.vec.Vec.{Vec}
 use Rattle.agv_header.specs.Name.{name_cmp}
-use Rattle.agv_layout.specs.declared.edge.Ends.{Ends}
+use Rattle.agv_layout.specs.declared.edge.EdgeEnds.{EdgeEnds}
 use Rattle.agv_layout.specs.Layout.{Name}
 
 -- the name is one of these
@@ -13,7 +13,7 @@ abbrev pub is_among : List Name → Name → Bool
 is_among names id = list_any (λ name. is_at (name_cmp name) id) names
 
 -- the edge leads from the first node to the second
-abbrev pub is_so : Name → Name → Name × Ends → Bool
+abbrev pub is_so : Name → Name → Name × EdgeEnds → Bool
 is_so start finish edge = is_at (name_cmp edge.1.finish) finish && is_at (name_cmp edge.1.start) start
 
 module _ {A : Type 0} where
@@ -30,5 +30,5 @@ module _ {A : Type 0} where
   leads_to_one arrivals start level = list_any (leads arrivals start) level
 
 -- an edge leads from the first node to the second
-abbrev pub Joins : BTreeMap Name Ends → Name → Name → Type 0
+abbrev pub Joins : BTreeMap Name EdgeEnds → Name → Name → Type 0
 Joins edges start finish = (id : Name) × (get name_cmp edges id ≡ Some (record { start = start; finish = finish }))

@@ -6,11 +6,11 @@ use Rattle.std.specs.FinMap as map
 use Rattle.std.specs.FinSet as set
 use Rattle.agv_header.specs.Name.{name_cmp}
 use Rattle.agv_layout.specs.declared.draft.Draft.{Draft}
-use Rattle.agv_layout.specs.declared.edge.Ends.{Ends}
+use Rattle.agv_layout.specs.declared.edge.EdgeEnds.{EdgeEnds}
 use Rattle.agv_layout.specs.declared.row.LayoutRow.{LayoutRow}
 use Rattle.agv_layout.specs.declared.row.LayoutRow.TheVariants as row
-use Rattle.agv_layout.specs.declared.station.Spot.{Spot}
-use Rattle.agv_layout.specs.Layout.{Name, Layout, IsEdge, IsStation, Leads, Stands}
+use Rattle.agv_layout.specs.declared.station.StationSite.{StationSite}
+use Rattle.agv_layout.specs.Layout.{Name, Layout, IsEdge, IsStation, Leads, StationFits}
 
 -- the parts of a draft
 abbrev pub drawn : Draft → Layout
@@ -41,12 +41,12 @@ with_row plan (row.Station id node capacity) = record {
 }
 
 -- an edge leads from a node of the draft to another
-abbrev pub leads_in_draft : Draft → Ends → Bool
+abbrev pub leads_in_draft : Draft → EdgeEnds → Bool
 leads_in_draft draft ends =
     contains name_cmp draft.nodes ends.start && (contains name_cmp draft.nodes ends.finish && not (pointwise nat_eq ends.start ends.finish))
 
 -- a station at a node, with a capacity of 1 to 999
-abbrev pub stands_in_draft : Draft → Spot → Bool
+abbrev pub stands_in_draft : Draft → StationSite → Bool
 stands_in_draft draft spot = contains name_cmp draft.nodes spot.node && (nat_le 1 spot.capacity && nat_le spot.capacity 999)
 
 -- there is a node
@@ -55,11 +55,11 @@ HasNode plan = 1 ≤ set.len plan.nodes
 
 -- each edge leads from a node to another node
 abbrev pub AllLead : Layout → Type 0
-AllLead plan = (id : Name) (ends : Ends) → IsEdge plan id ends → Leads plan ends
+AllLead plan = (id : Name) (ends : EdgeEnds) → IsEdge plan id ends → Leads plan ends
 
 -- each station is at a node, and has room for 1 to 999 loads
 abbrev pub AllStand : Layout → Type 0
-AllStand plan = (id : Name) (spot : Spot) → IsStation plan id spot → Stands plan spot
+AllStand plan = (id : Name) (spot : StationSite) → IsStation plan id spot → StationFits plan spot
 
 -- there is a node, and edges and stations are at nodes
 pub record IsWhole (plan : Layout) : Type 0 where

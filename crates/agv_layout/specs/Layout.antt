@@ -4,9 +4,9 @@ use Rattle.std.specs.FinMap as map
 use Rattle.std.specs.FinSet as set
 use Rattle.std.specs.List.Sorted.{IsStrictlySortedBy}
 use Rattle.agv_header.specs.Name.{name_cmp, IsName}
-use Rattle.agv_layout.specs.declared.edge.Ends.{Ends}
+use Rattle.agv_layout.specs.declared.edge.EdgeEnds.{EdgeEnds}
 use Rattle.agv_layout.specs.declared.edge.Edge.{Edge}
-use Rattle.agv_layout.specs.declared.station.Spot.{Spot}
+use Rattle.agv_layout.specs.declared.station.StationSite.{StationSite}
 use Rattle.agv_layout.specs.declared.station.Station.{Station}
 
 -- a name, as the list of its bytes
@@ -16,28 +16,28 @@ Name = List ℕ
 -- the set of the nodes, what each edge leads from and to, and where each station is and how much room it has
 pub record Layout : Type 0 where
   pub nodes : set.FinSet name_cmp
-  pub edges : map.FinMap name_cmp Ends
-  pub stations : map.FinMap name_cmp Spot
+  pub edges : map.FinMap name_cmp EdgeEnds
+  pub stations : map.FinMap name_cmp StationSite
 
 -- it is a node of the layout
 abbrev pub IsNode : Layout → Name → Type 0
 IsNode layout id = IsTrue (set.contains layout.nodes id)
 
 -- the edge of this name leads so
-abbrev pub IsEdge : Layout → Name → Ends → Type 0
+abbrev pub IsEdge : Layout → Name → EdgeEnds → Type 0
 IsEdge layout id ends = map.get layout.edges id ≡ Some ends
 
 -- the station of this name is there
-abbrev pub IsStation : Layout → Name → Spot → Type 0
+abbrev pub IsStation : Layout → Name → StationSite → Type 0
 IsStation layout id spot = map.get layout.stations id ≡ Some spot
 
 -- an edge leads from a node to another node
-abbrev pub Leads : Layout → Ends → Type 0
+abbrev pub Leads : Layout → EdgeEnds → Type 0
 Leads layout ends = IsNode layout ends.start × IsNode layout ends.finish × (ends.start ≢ ends.finish)
 
 -- a station is at a node, and has room for 1 to 999 loads
-abbrev pub Stands : Layout → Spot → Type 0
-Stands layout spot = IsNode layout spot.node × (1 ≤ spot.capacity) × (spot.capacity ≤ 999)
+abbrev pub StationFits : Layout → StationSite → Type 0
+StationFits layout spot = IsNode layout spot.node × (1 ≤ spot.capacity) × (spot.capacity ≤ 999)
 
 -- what holds of every layout: there is a node, there are at most 500 nodes, 1,500 edges and 500 stations, and each has a name;
 -- edges lead from a node to another, and stations are at nodes and have room for 1 to 999 loads
@@ -47,10 +47,10 @@ pub record KeepsRules (layout : Layout) : Type 0 where
   pub few_edges : map.len layout.edges ≤ 1500
   pub few_stations : map.len layout.stations ≤ 500
   pub nodes_named : (id : Name) → IsNode layout id → IsName id
-  pub edges_named : (id : Name) (ends : Ends) → IsEdge layout id ends → IsName id
-  pub stations_named : (id : Name) (spot : Spot) → IsStation layout id spot → IsName id
-  pub leads : (id : Name) (ends : Ends) → IsEdge layout id ends → Leads layout ends
-  pub stands : (id : Name) (spot : Spot) → IsStation layout id spot → Stands layout spot
+  pub edges_named : (id : Name) (ends : EdgeEnds) → IsEdge layout id ends → IsName id
+  pub stations_named : (id : Name) (spot : StationSite) → IsStation layout id spot → IsName id
+  pub leads : (id : Name) (ends : EdgeEnds) → IsEdge layout id ends → Leads layout ends
+  pub stands : (id : Name) (spot : StationSite) → IsStation layout id spot → StationFits layout spot
 
 -- the nodes, each once, in the order of their names
 pub record AreNodesInOrder (layout : Layout) (ids : List Name) : Type 0 where
@@ -58,9 +58,9 @@ pub record AreNodesInOrder (layout : Layout) (ids : List Name) : Type 0 where
   pub all : set.from_list ids ≡ layout.nodes
 
 -- the edge of this name, with these ends
-abbrev pub edge_of : Name → Ends → Edge
+abbrev pub edge_of : Name → EdgeEnds → Edge
 edge_of id ends = record { id = id; start = ends.start; finish = ends.finish }
 
 -- the station of this name, at this spot
-abbrev pub station_of : Name → Spot → Station
+abbrev pub station_of : Name → StationSite → Station
 station_of id spot = record { id = id; node = spot.node; capacity = spot.capacity }

@@ -8,12 +8,12 @@ use Rattle.std.specs.Map.{keys_of, values_of}
 use Rattle.agv_header.specs.Name.{name_cmp}
 use Rattle.agv_layout.specs.Layout.{Name, Layout}
 use Rattle.agv_layout.specs.Rows.{nodes_in, edges_in, stations_in}
-use Rattle.agv_layout.specs.declared.edge.Ends.{Ends}
+use Rattle.agv_layout.specs.declared.edge.EdgeEnds.{EdgeEnds}
 use Rattle.agv_layout.specs.declared.fault.LayoutFault.{LayoutFault}
 use Rattle.agv_layout.specs.declared.fault.LayoutFault.TheVariants as fault
 use Rattle.agv_layout.specs.declared.row.LayoutRow.{LayoutRow}
 use Rattle.agv_layout.specs.declared.row.LayoutRow.TheVariants as row
-use Rattle.agv_layout.specs.declared.station.Spot.{Spot}
+use Rattle.agv_layout.specs.declared.station.StationSite.{StationSite}
 
 -- the name is one of these
 abbrev pub is_among : List Name → Name → Bool
@@ -25,11 +25,11 @@ differ [] = true
 differ (id ∷ ids) = not (is_among ids id) && differ ids
 
 -- the edge leads from one of these nodes to another of them
-abbrev pub leads_among : List Name → Ends → Bool
+abbrev pub leads_among : List Name → EdgeEnds → Bool
 leads_among nodes ends = is_among nodes ends.start && (is_among nodes ends.finish && not (pointwise nat_eq ends.start ends.finish))
 
 -- the station is at one of these nodes, and has room for 1 to 999 loads
-abbrev pub stands_among : List Name → Spot → Bool
+abbrev pub stands_among : List Name → StationSite → Bool
 stands_among nodes spot = is_among nodes spot.node && (nat_le 1 spot.capacity && nat_le spot.capacity 999)
 
 -- there are more than 500 nodes, 1,500 edges or 500 stations
@@ -61,11 +61,11 @@ unfoldable pub layout_of : List LayoutRow → Result Layout LayoutFault
 layout_of rows = if is_over_limit rows then Err fault.Limit else (if is_sound rows then Ok (layout_in rows) else Err fault.Bad)
 
 -- the row of an edge
-abbrev pub edge_row : Name × Ends → LayoutRow
+abbrev pub edge_row : Name × EdgeEnds → LayoutRow
 edge_row edge = row.Edge edge.0 edge.1.start edge.1.finish
 
 -- the row of a station
-abbrev pub station_row : Name × Spot → LayoutRow
+abbrev pub station_row : Name × StationSite → LayoutRow
 station_row station = row.Station station.0 station.1.node station.1.capacity
 
 -- the nodes of a layout, each once, in the order of their names, as the keys of a map are

@@ -7,6 +7,5 @@ pub mod RouteOf
 pub mod Rows
 pub mod Shown
 pub mod Walk
-pub mod Walking
 pub mod Ways
 pub mod LayoutOf

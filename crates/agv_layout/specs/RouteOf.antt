@@ -5,15 +5,15 @@ use Rattle.std.specs.FinMap as map
 use Rattle.std.specs.FinSet as set
 use Rattle.std.specs.Option.{option_or}
 use Rattle.agv_header.specs.Name.{name_cmp}
-use Rattle.agv_layout.specs.declared.edge.Ends.{Ends}
+use Rattle.agv_layout.specs.declared.edge.EdgeEnds.{EdgeEnds}
 use Rattle.agv_layout.specs.Layout.{Layout, Name}
 
 -- the walk that takes this edge and goes on from its finish, if the edge starts at the node and a walk goes on
-abbrev pub onward : (Name → Option (List Name)) → Name → Name × Ends → Option (List Name)
+abbrev pub onward : (Name → Option (List Name)) → Name → Name × EdgeEnds → Option (List Name)
 onward goes_on at e = cond (is_at (name_cmp e.1.start) at) (option_map (λ ids. e.0 ∷ ids) (goes_on e.1.finish)) None
 
 -- of these edges, the first with such a walk gives it
-abbrev pub first_onward : (Name → Option (List Name)) → Name → List (Name × Ends) → Option (List Name)
+abbrev pub first_onward : (Name → Option (List Name)) → Name → List (Name × EdgeEnds) → Option (List Name)
 first_onward goes_on at [] = None
 first_onward goes_on at (e ∷ es) = option_or (onward goes_on at e) (first_onward goes_on at es)
 

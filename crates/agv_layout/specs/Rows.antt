@@ -3,10 +3,10 @@ use Rattle.std.specs.Prelude.{◌≢◌, ◌⊎◌, ◌↔◌, ◌<◌, ◌≤�
 use Rattle.std.specs.List.{filter_map}
 use Rattle.std.specs.Map.{keys_of, values_of}
 use Rattle.agv_header.specs.Name.{IsName}
-use Rattle.agv_layout.specs.declared.edge.Ends.{Ends}
+use Rattle.agv_layout.specs.declared.edge.EdgeEnds.{EdgeEnds}
 use Rattle.agv_layout.specs.declared.row.LayoutRow.{LayoutRow}
 use Rattle.agv_layout.specs.declared.row.LayoutRow.TheVariants as row
-use Rattle.agv_layout.specs.declared.station.Spot.{Spot}
+use Rattle.agv_layout.specs.declared.station.StationSite.{StationSite}
 use Rattle.agv_layout.specs.Layout.{Name, Layout, IsNode, IsEdge, IsStation}
 
 -- what a row says of a node: its id
@@ -16,13 +16,13 @@ node_in (row.Edge id start finish) = None
 node_in (row.Station id node capacity) = None
 
 -- what a row says of an edge: its id, and where it leads
-abbrev pub edge_in : LayoutRow → Option (Name × Ends)
+abbrev pub edge_in : LayoutRow → Option (Name × EdgeEnds)
 edge_in (row.Node id) = None
 edge_in (row.Edge id start finish) = Some (id, record { start = start; finish = finish })
 edge_in (row.Station id node capacity) = None
 
 -- what a row says of a station: its id, and where it is with how much room
-abbrev pub station_in : LayoutRow → Option (Name × Spot)
+abbrev pub station_in : LayoutRow → Option (Name × StationSite)
 station_in (row.Node id) = None
 station_in (row.Edge id start finish) = None
 station_in (row.Station id node capacity) = Some (id, record { node = node; capacity = capacity })
@@ -42,11 +42,11 @@ abbrev pub nodes_in : List LayoutRow → List Name
 nodes_in rows = filter_map node_in rows
 
 -- the edges among rows
-abbrev pub edges_in : List LayoutRow → List (Name × Ends)
+abbrev pub edges_in : List LayoutRow → List (Name × EdgeEnds)
 edges_in rows = filter_map edge_in rows
 
 -- the stations among rows
-abbrev pub stations_in : List LayoutRow → List (Name × Spot)
+abbrev pub stations_in : List LayoutRow → List (Name × StationSite)
 stations_in rows = filter_map station_in rows
 
 -- there are more than 500 nodes, 1,500 edges or 500 stations
@@ -64,11 +64,11 @@ pub record IsEachOnce (rows : List LayoutRow) : Type 0 where
   pub stations : Differ (keys_of (stations_in rows))
 
 -- it leads from one of these nodes to another of them
-abbrev pub LeadsAmong : List Name → Ends → Type 0
+abbrev pub LeadsAmong : List Name → EdgeEnds → Type 0
 LeadsAmong nodes ends = Contains nodes ends.start × Contains nodes ends.finish × (ends.start ≢ ends.finish)
 
 -- it is at one of these nodes, and has room for 1 to 999 loads
-abbrev pub StandsAmong : List Name → Spot → Type 0
+abbrev pub StandsAmong : List Name → StationSite → Type 0
 StandsAmong nodes spot = Contains nodes spot.node × (1 ≤ spot.capacity) × (spot.capacity ≤ 999)
 
 -- a layout can be made of the rows: there is a node, each id is once in its kind, and edges and stations are at listed nodes
@@ -81,8 +81,8 @@ pub record IsSound (rows : List LayoutRow) : Type 0 where
 -- the layout has the nodes, edges and stations that stand among the rows, and no others
 pub record IsLayoutOf (rows : List LayoutRow) (layout : Layout) : Type 0 where
   pub nodes : (id : Name) → IsNode layout id ↔ Contains rows (row.Node id)
-  pub edges : (id : Name) (ends : Ends) → IsEdge layout id ends ↔ Contains rows (row.Edge id ends.start ends.finish)
-  pub stations : (id : Name) (spot : Spot) → IsStation layout id spot ↔ Contains rows (row.Station id spot.node spot.capacity)
+  pub edges : (id : Name) (ends : EdgeEnds) → IsEdge layout id ends ↔ Contains rows (row.Edge id ends.start ends.finish)
+  pub stations : (id : Name) (spot : StationSite) → IsStation layout id spot ↔ Contains rows (row.Station id spot.node spot.capacity)
 
 -- both are over the limit or neither, both give a layout or neither, and both give the same
 pub record IsReadAlike (rows others : List LayoutRow) : Type 0 where

@@ -3,7 +3,7 @@ use Rattle.std.specs.Prelude.{ℕ, zero, suc, Bool, false, cond, ◌&&◌, nat_l
 use Rattle.std.specs.BTreeMap.{BTreeMap, is_at, get}
 use Rattle.agv_header.specs.Name.{name_cmp}
 use Rattle.agv_layout.specs.declared.edge.Edge.{Edge}
-use Rattle.agv_layout.specs.declared.edge.Ends.{Ends}
+use Rattle.agv_layout.specs.declared.edge.EdgeEnds.{EdgeEnds}
 use Rattle.agv_layout.specs.Layout.{Name, edge_of}
 
 -- the second distance is less than the first
@@ -13,15 +13,15 @@ is_less (Some here) None = false
 is_less (Some here) (Some there) = nat_lt there here
 
 -- an edge leads nearer to the goal
-abbrev pub is_nearer : BTreeMap Name ℕ → Ends → Bool
+abbrev pub is_nearer : BTreeMap Name ℕ → EdgeEnds → Bool
 is_nearer distances ends = is_less (get name_cmp distances ends.start) (get name_cmp distances ends.finish)
 
 -- the edge starts at the node and leads nearer
-abbrev pub is_way : BTreeMap Name ℕ → Name → Ends → Bool
+abbrev pub is_way : BTreeMap Name ℕ → Name → EdgeEnds → Bool
 is_way distances at ends = is_at (name_cmp ends.start) at && is_nearer distances ends
 
 -- of these edges, the first that starts at the node and leads nearer
-abbrev pub first_way : BTreeMap Name ℕ → Name → List (Name × Ends) → Option Edge
+abbrev pub first_way : BTreeMap Name ℕ → Name → List (Name × EdgeEnds) → Option Edge
 first_way distances at [] = None
 first_way distances at (e ∷ es) = cond (is_way distances at e.1) (Some (edge_of e.0 e.1)) (first_way distances at es)
 

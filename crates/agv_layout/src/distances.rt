@@ -6,13 +6,13 @@ ghost use Rattle.std.specs.BTreeMap.{btree_map_len};
 ghost use Rattle.std.specs.BTreeSet.{contains};
 ghost use Rattle.std.specs.FinSet as set;
 ghost use Rattle.std.specs.List.{All, list_any};
-ghost use Rattle.agv_layout.specs.declared.edge.Ends.{Ends as EndsOf};
+ghost use Rattle.agv_layout.specs.declared.edge.EdgeEnds.{EdgeEnds as EndsOf};
 ghost use Rattle.agv_layout.specs.Levels.{AreDistances};
 ghost use Rattle.agv_header.specs.Name.{name_cmp};
 ghost use Rattle.agv_layout.specs.Layout.{Name as NameOf};
 ghost use Rattle.agv_layout.specs.Arrivals.{is_among, starts_of, leads, leads_to_one, is_so, Joins};
 
-use crate::Ends;
+use crate::EdgeEnds;
 use agv_header::{Memory, Name};
 use std::alloc::Global;
 use std::collections::{BTreeMap, BTreeSet};
@@ -24,11 +24,11 @@ pub(crate) type Arrivals = BTreeMap<Name, Vec<Name>>;
 pub(crate) type Distances = BTreeMap<Name, u32>;
 
 /// Adds the start of an edge to those of its finish.
-fn add_arrival(alloc: Global, arrivals: &mut Arrivals, ends: Ends) -> Result<(), Memory>
+fn add_arrival(alloc: Global, arrivals: &mut Arrivals, ends: EdgeEnds) -> Result<(), Memory>
     ensures { OnOk result ((start finish : NameOf) → leads arrivals.new start finish
         ≡ (leads arrivals.old start finish || (tree.is_at (name_cmp ends.finish) finish && tree.is_at (name_cmp ends.start) start))) }
 {
-    let Ends { start, finish } = ends;
+    let EdgeEnds { start, finish } = ends;
     let mut starts = arrivals.remove(&finish).unwrap_or(Vec::new(alloc));
     starts.push(start)?;
     arrivals.insert(finish, starts)?;
@@ -110,7 +110,7 @@ fn next_level(
 }
 
 /// The starts of all edges, by their finishes.
-fn arrivals_of(alloc: Global, edges: &BTreeMap<Name, Ends>) -> Result<Arrivals, Memory>
+fn arrivals_of(alloc: Global, edges: &BTreeMap<Name, EdgeEnds>) -> Result<Arrivals, Memory>
     ensures all { IfOk result (λ arrivals. (start finish : NameOf) → leads arrivals start finish
         ≡ list_any (is_so start finish) edges.now.entries) }
     ensures found { All (λ e. tree.get name_cmp edges.now e.0 ≡ Some e.1) edges.now.entries }
@@ -129,7 +129,7 @@ fn arrivals_of(alloc: Global, edges: &BTreeMap<Name, Ends>) -> Result<Arrivals, 
 pub(crate) fn distances_to(
     alloc: Global,
     nodes: &BTreeSet<Name>,
-    edges: &BTreeMap<Name, Ends>,
+    edges: &BTreeMap<Name, EdgeEnds>,
     goal: Name,
 ) -> Result<Distances, Memory>
     requires goal { contains name_cmp nodes.now goal ≡ true }

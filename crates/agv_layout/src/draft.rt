@@ -7,13 +7,13 @@ ghost use Rattle.agv_layout.specs.LayoutOf.{layout_in};
 ghost use Rattle.agv_header.specs.Name.{IsName};
 ghost use Rattle.agv_layout.specs.Rows.{AreNamed, IsEachOnce, id_in};
 
-use crate::{Ends, LayoutFault, LayoutRow, Spot};
+use crate::{EdgeEnds, LayoutFault, LayoutRow, StationSite};
 use agv_header::Name;
 use std::alloc::Global;
 use std::collections::{BTreeMap, BTreeSet};
 
 /// Whether an edge finishes elsewhere than it starts.
-fn is_no_loop(ends: Ends) -> bool
+fn is_no_loop(ends: EdgeEnds) -> bool
     ensures { result ≡ not (pointwise nat_eq ends.start ends.finish) }
 {
     ends.start != ends.finish
@@ -30,8 +30,8 @@ fn is_capacity(capacity: u32) -> bool
 #[derive(Drop)]
 pub(crate) struct Draft {
     pub(crate) nodes: BTreeSet<Name>,
-    pub(crate) edges: BTreeMap<Name, Ends>,
-    pub(crate) stations: BTreeMap<Name, Spot>,
+    pub(crate) edges: BTreeMap<Name, EdgeEnds>,
+    pub(crate) stations: BTreeMap<Name, StationSite>,
 }
 
 impl Draft {
@@ -54,10 +54,10 @@ impl Draft {
         match row {
             LayoutRow::Node { id } => Ok(self.nodes.insert(id)?),
             LayoutRow::Edge { id, start, finish } => {
-                Ok(self.edges.insert(id, Ends { start, finish })?.is_none())
+                Ok(self.edges.insert(id, EdgeEnds { start, finish })?.is_none())
             }
             LayoutRow::Station { id, node, capacity } => {
-                Ok(self.stations.insert(id, Spot { node, capacity })?.is_none())
+                Ok(self.stations.insert(id, StationSite { node, capacity })?.is_none())
             }
         }
     }
@@ -99,13 +99,13 @@ impl Draft {
         !self.nodes.is_empty()
     }
 
-    fn leads(&self, ends: Ends) -> bool
+    fn leads(&self, ends: EdgeEnds) -> bool
         ensures { result ≡ leads_in_draft self.now ends }
     {
         self.nodes.contains(&ends.start) && self.nodes.contains(&ends.finish) && is_no_loop(ends)
     }
 
-    fn stands(&self, spot: Spot) -> bool
+    fn stands(&self, spot: StationSite) -> bool
         ensures { result ≡ stands_in_draft self.now spot }
     {
         self.nodes.contains(&spot.node) && is_capacity(spot.capacity)

@@ -4,7 +4,7 @@ use agv_header::Name;
 
 /// Where an edge leads: from its start to its finish.
 #[derive(Clone, Copy, Debug, PartialEq, Eq)]
-pub struct Ends {
+pub struct EdgeEnds {
     pub start: Name,
     pub finish: Name,
 }

@@ -39,7 +39,7 @@ pub fn lists_its_nodes()
 {}
 
 /// What rows give keeps the rules of a layout.
-pub fn keeps_rules()
+pub fn rules_law()
     ensures { (rows : List LayoutRow) (layout : Plan) → AreNamed rows → layout_of rows ≡ Ok layout → KeepsRules layout }
 {}
 

@@ -9,7 +9,7 @@ ghost use Rattle.agv_layout.specs.Rows.{IsOverLimit, IsSound, IsLayoutOf};
 
 use crate::draft::Draft;
 use crate::row::are_over_limit;
-use crate::{Edge, Ends, LayoutFault, LayoutRow, Spot, Station};
+use crate::{Edge, EdgeEnds, LayoutFault, LayoutRow, StationSite, Station};
 use agv_header::{Memory, Name};
 use std::alloc::Global;
 use std::collections::{BTreeMap, BTreeSet, btree_map, btree_set};
@@ -19,8 +19,8 @@ use std::marker::Model;
 #[derive(Debug, Drop)]
 pub struct Layout {
     pub(crate) nodes: BTreeSet<Name>,
-    pub(crate) edges: BTreeMap<Name, Ends>,
-    pub(crate) stations: BTreeMap<Name, Spot>,
+    pub(crate) edges: BTreeMap<Name, EdgeEnds>,
+    pub(crate) stations: BTreeMap<Name, StationSite>,
 }
 
 impl Model for Layout {
@@ -38,7 +38,7 @@ impl Model for Layout {
 }
 
 /// The edges again.
-fn copy_edges(edges: &BTreeMap<Name, Ends>) -> Result<BTreeMap<Name, Ends>, Memory>
+fn copy_edges(edges: &BTreeMap<Name, EdgeEnds>) -> Result<BTreeMap<Name, EdgeEnds>, Memory>
     ensures { IfOk result (λ copy. copy.entries ≡ edges.now.entries) }
 {
     let copy = edges.clone()?;
@@ -107,14 +107,14 @@ impl Layout {
     }
 
     /// The edges, in the order of their names: the name of each, and where it leads.
-    pub fn edges(&self) -> btree_map::Iter<'_, Name, Ends>
+    pub fn edges(&self) -> btree_map::Iter<'_, Name, EdgeEnds>
         ensures edges { result ≡ map.entries self.now.edges }
     {
         self.edges.iter()
     }
 
     /// The stations, in the order of their names: the name of each, and where it is with how much room.
-    pub fn stations(&self) -> btree_map::Iter<'_, Name, Spot>
+    pub fn stations(&self) -> btree_map::Iter<'_, Name, StationSite>
         ensures stations { result ≡ map.entries self.now.stations }
     {
         self.stations.iter()

@@ -22,8 +22,8 @@ mod route;
 mod row;
 mod station;
 
-pub use edge::{Edge, Ends};
+pub use edge::{Edge, EdgeEnds};
 pub use fault::LayoutFault;
 pub use layout::Layout;
 pub use row::LayoutRow;
-pub use station::{Spot, Station};
+pub use station::{StationSite, Station};

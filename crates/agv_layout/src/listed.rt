@@ -6,7 +6,7 @@ ghost use Rattle.agv_header.specs.Name.{name_cmp};
 ghost use Rattle.agv_layout.specs.declared.row.LayoutRow.TheVariants as row;
 ghost use Rattle.agv_layout.specs.LayoutOf.{edge_row, station_row, rows_in};
 
-use crate::{Ends, Layout, LayoutRow, Spot};
+use crate::{EdgeEnds, Layout, LayoutRow, StationSite};
 use agv_header::{Memory, Name};
 use std::alloc::Global;
 use std::collections::{BTreeMap, BTreeSet};
@@ -23,7 +23,7 @@ fn push_nodes(rows: &mut Vec<LayoutRow>, nodes: &BTreeSet<Name>) -> Result<(), M
 }
 
 /// Adds the rows of edges.
-fn push_edges(rows: &mut Vec<LayoutRow>, edges: &BTreeMap<Name, Ends>) -> Result<(), Memory>
+fn push_edges(rows: &mut Vec<LayoutRow>, edges: &BTreeMap<Name, EdgeEnds>) -> Result<(), Memory>
     ensures items { OnOk result (rows.new.items ≡ rows.old.items ++ map edge_row edges.now.entries) }
     ensures ordered { tree.IsOrdered name_cmp edges.now }
 {
@@ -38,7 +38,7 @@ fn push_edges(rows: &mut Vec<LayoutRow>, edges: &BTreeMap<Name, Ends>) -> Result
 }
 
 /// Adds the rows of stations.
-fn push_stations(rows: &mut Vec<LayoutRow>, stations: &BTreeMap<Name, Spot>) -> Result<(), Memory>
+fn push_stations(rows: &mut Vec<LayoutRow>, stations: &BTreeMap<Name, StationSite>) -> Result<(), Memory>
     ensures items { OnOk result (rows.new.items ≡ rows.old.items ++ map station_row stations.now.entries) }
     ensures ordered { tree.IsOrdered name_cmp stations.now }
 {

@@ -9,7 +9,7 @@ ghost use Rattle.agv_layout.specs.Walk.{IsHops, IsWayTo};
 ghost use Rattle.agv_layout.specs.Ways.{is_nearer, is_way, first_way, followed};
 
 use crate::distances::{Distances, distances_to};
-use crate::{Edge, Ends, Layout};
+use crate::{Edge, EdgeEnds, Layout};
 use agv_header::{Memory, Name};
 use std::alloc::Global;
 use std::collections::BTreeMap;
@@ -18,7 +18,7 @@ use std::collections::BTreeMap;
 type Ways = BTreeMap<Name, Edge>;
 
 /// Whether an edge leads nearer to the goal.
-fn is_nearer(distances: &Distances, ends: &Ends) -> bool
+fn is_nearer(distances: &Distances, ends: &EdgeEnds) -> bool
     ensures { result ≡ is_nearer distances.now ends.now }
 {
     match (distances.get(&ends.start), distances.get(&ends.finish)) {
@@ -28,7 +28,7 @@ fn is_nearer(distances: &Distances, ends: &Ends) -> bool
 }
 
 /// Takes an edge that leads nearer for the one to take at its start, if there is none yet.
-fn consider(ways: &mut Ways, distances: &Distances, id: Name, ends: Ends) -> Result<(), Memory>
+fn consider(ways: &mut Ways, distances: &Distances, id: Name, ends: EdgeEnds) -> Result<(), Memory>
     ensures { OnOk result ((at : NameOf) → tree.get name_cmp ways.new at
         ≡ option_or (tree.get name_cmp ways.old at) (cond (is_way distances.now at ends) (Some (edge_of id ends)) None)) }
 {
@@ -50,7 +50,7 @@ fn consider(ways: &mut Ways, distances: &Distances, id: Name, ends: Ends) -> Res
 /// For each node the edge of least name that leads nearer. The edges come in the order of their names.
 fn first_ways(
     alloc: Global,
-    edges: &BTreeMap<Name, Ends>,
+    edges: &BTreeMap<Name, EdgeEnds>,
     distances: &Distances,
 ) -> Result<Ways, Memory>
     ensures first { IfOk result (λ ways. (at : NameOf) → tree.get name_cmp ways at ≡ first_way distances.now at edges.now.entries) }

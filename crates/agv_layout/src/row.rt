@@ -30,18 +30,18 @@ impl LayoutRow {
 }
 
 /// The most nodes of a layout.
-const MOST_NODES: usize = 500;
+const MAX_LAYOUT_NODES: usize = 500;
 
 /// The most edges.
-const MOST_EDGES: usize = 1500;
+const MAX_LAYOUT_EDGES: usize = 1500;
 
 /// The most stations.
-const MOST_STATIONS: usize = 500;
+const MAX_LAYOUT_STATIONS: usize = 500;
 
 fn are_too_many(nodes: usize, edges: usize, stations: usize) -> bool
     ensures { IsTrue result ↔ ((500 < nodes) ⊎ ((1500 < edges) ⊎ (500 < stations))) }
 {
-    nodes > MOST_NODES || edges > MOST_EDGES || stations > MOST_STATIONS
+    nodes > MAX_LAYOUT_NODES || edges > MAX_LAYOUT_EDGES || stations > MAX_LAYOUT_STATIONS
 }
 
 pub(crate) fn are_over_limit(rows: &[LayoutRow]) -> bool

@@ -98,11 +98,11 @@ fn check_stock(rt: &impl Abort, alloc: Global, floor: &mut impl Floor) {
 const STATIONS: [(&str, &str); 3] = [
     (
         "A",
-        "(Ok(Some(Spot { node: N1, capacity: 1 })), Ok(Some(0)), Ok(Sequence { kept: [L1] }), Ok(0))",
+        "(Ok(Some(StationSite { node: N1, capacity: 1 })), Ok(Some(0)), Ok(Sequence { kept: [L1] }), Ok(0))",
     ),
     (
         "B",
-        "(Ok(Some(Spot { node: N3, capacity: 2 })), Ok(Some(1)), Ok(Sequence { kept: [] }), Ok(1))",
+        "(Ok(Some(StationSite { node: N3, capacity: 2 })), Ok(Some(1)), Ok(Sequence { kept: [] }), Ok(1))",
     ),
     (
         "C",

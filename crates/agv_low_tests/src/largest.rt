@@ -4,7 +4,7 @@ use crate::cases::{check, check_debug};
 use crate::layouts::layout_of;
 use crate::routes::{numbered, path_rows};
 use agv_count::read_layout;
-use agv_layout::{Ends, Layout, LayoutRow, Spot};
+use agv_layout::{EdgeEnds, Layout, LayoutRow, StationSite};
 use std::alloc::Global;
 use std::process::Abort;
 
@@ -61,12 +61,12 @@ fn check_edges(rt: &impl Abort, alloc: Global, layout: &Layout) {
         let here = numbered(rt, alloc, 'P', i);
         let there = numbered(rt, alloc, 'P', i + 1);
         let wanted = if letter == 'B' {
-            Ends {
+            EdgeEnds {
                 start: there,
                 finish: here,
             }
         } else {
-            Ends {
+            EdgeEnds {
                 start: here,
                 finish: there,
             }
@@ -92,7 +92,7 @@ fn check_stations(rt: &impl Abort, alloc: Global, layout: &Layout) {
             *id == numbered(rt, alloc, 'S', i),
             "the name of a station",
         );
-        check(rt, *spot == Spot { node, capacity }, "where a station is");
+        check(rt, *spot == StationSite { node, capacity }, "where a station is");
         i = i.saturating_add(1);
     }
     check(rt, i == 500, "500 stations");

@@ -106,10 +106,10 @@ fn in_any_order(rt: HostRuntime) {
 
 /// What the layout of the examples prints, in the order of names.
 const SHOWN: &str = concat!(
-    "Layout { nodes: {N1, N2, N3}, edges: {E12: Ends { start: N1, finish: N2 }, ",
-    "E21: Ends { start: N2, finish: N1 }, E23: Ends { start: N2, finish: N3 }, ",
-    "E32: Ends { start: N3, finish: N2 }}, stations: {A: Spot { node: N1, capacity: 1 }, ",
-    "B: Spot { node: N3, capacity: 1 }, C: Spot { node: N3, capacity: 2 }} }",
+    "Layout { nodes: {N1, N2, N3}, edges: {E12: EdgeEnds { start: N1, finish: N2 }, ",
+    "E21: EdgeEnds { start: N2, finish: N1 }, E23: EdgeEnds { start: N2, finish: N3 }, ",
+    "E32: EdgeEnds { start: N3, finish: N2 }}, stations: {A: StationSite { node: N1, capacity: 1 }, ",
+    "B: StationSite { node: N3, capacity: 1 }, C: StationSite { node: N3, capacity: 2 }} }",
 );
 
 #[test]

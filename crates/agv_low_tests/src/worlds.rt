@@ -2,7 +2,7 @@
 
 use crate::cases::{check, check_debug, name, vehicle};
 use agv_header::{Moment, Name};
-use agv_layout::{Ends, Spot};
+use agv_layout::{EdgeEnds, StationSite};
 use agv_message::Sequence;
 use agv_stock::{Phase, Place};
 use agv_world::{Change, JobRow, LegKey, Sent, TripRow, UseKey, UseKind, VehicleRow, World};
@@ -12,12 +12,12 @@ use std::process::Abort;
 fn edge(rt: &impl Abort, id: &str, start: &str, finish: &str) -> Change {
     let start = name(rt, start);
     let finish = name(rt, finish);
-    Change::Edge(name(rt, id), Ends { start, finish })
+    Change::Edge(name(rt, id), EdgeEnds { start, finish })
 }
 
 fn station(rt: &impl Abort, id: &str, node: &str, capacity: u32) -> Change {
     let node = name(rt, node);
-    Change::Station(name(rt, id), Spot { node, capacity })
+    Change::Station(name(rt, id), StationSite { node, capacity })
 }
 
 /// Three nodes in a row, with two edges, and two stations.
@@ -97,10 +97,10 @@ const LAYOUT: [(&str, &str); 8] = [
     ("N2", "(true, None, None)"),
     ("N3", "(true, None, None)"),
     ("N4", "(false, None, None)"),
-    ("E12", "(false, Some(Ends { start: N1, finish: N2 }), None)"),
-    ("E23", "(false, Some(Ends { start: N2, finish: N3 }), None)"),
-    ("A", "(false, None, Some(Spot { node: N1, capacity: 1 }))"),
-    ("B", "(false, None, Some(Spot { node: N3, capacity: 2 }))"),
+    ("E12", "(false, Some(EdgeEnds { start: N1, finish: N2 }), None)"),
+    ("E23", "(false, Some(EdgeEnds { start: N2, finish: N3 }), None)"),
+    ("A", "(false, None, Some(StationSite { node: N1, capacity: 1 }))"),
+    ("B", "(false, None, Some(StationSite { node: N3, capacity: 2 }))"),
 ];
 
 #[test]
@@ -163,8 +163,8 @@ fn has_the_vehicle_the_load_and_the_job(rt: HostRuntime) {
 
 /// The stations with a third one, in the order of their names.
 const STATIONS: &str = concat!(
-    "[(A, Spot { node: N1, capacity: 1 }), (AB, Spot { node: N2, capacity: 3 }), ",
-    "(B, Spot { node: N3, capacity: 2 })]",
+    "[(A, StationSite { node: N1, capacity: 1 }), (AB, StationSite { node: N2, capacity: 3 }), ",
+    "(B, StationSite { node: N3, capacity: 2 })]",
 );
 
 #[test]

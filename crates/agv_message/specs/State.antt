@@ -90,8 +90,8 @@ is_ready mode stop levels =
     is_automatic mode && bytes_eq stop (codes "NONE") && not (list_any is_fatal levels)
 
 -- what a state says that isn't bad, at its moment
-unfoldable pub message_of : ℕ → Data → StateMessage
-message_of at d = record {
+unfoldable pub state_message : ℕ → Data → StateMessage
+state_message at d = record {
   header_id = whole (codes "headerId") d;
   at = at;
   manufacturer = text (codes "manufacturer") d;
@@ -109,15 +109,15 @@ message_of at d = record {
 -- the message at that moment, if its timestamp says one
 abbrev pub stamped : Option ℕ → Data → Result StateMessage Refusal
 stamped None d = Err refusal.BadTimestamp
-stamped (Some at) d = Ok (message_of at d)
+stamped (Some at) d = Ok (state_message at d)
 
 -- what becomes of a state that has no position
-abbrev pub judged : Data → Result StateMessage Refusal
-judged d =
+abbrev pub state_or_refusal : Data → Result StateMessage Refusal
+state_or_refusal d =
     if is_bad d then Err refusal.BadBody
     else (if is_other_version d then Err refusal.Version
     else stamped (moment_said (text (codes "timestamp") d)) d)
 
 -- the message, or the first of these refusals that holds: Position, BadBody, Version, BadTimestamp
 abbrev pub state_of : Data → Result StateMessage Refusal
-state_of d = if has_position d then Err refusal.Position else judged d
+state_of d = if has_position d then Err refusal.Position else state_or_refusal d

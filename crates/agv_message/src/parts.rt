@@ -2,7 +2,7 @@
 ghost use Rattle.std.specs.Prelude.{◌≡◌, ℕ, true, false, None, Ok, IfNone, IfOk, IfSome, codes};
 ghost use Rattle.serde_json.specs.View.{view};
 ghost use Rattle.agv_message.specs.Parts.{message_from, message_with, texts_of};
-ghost use Rattle.agv_message.specs.State.{is_bad, lacks_members, message_of, text};
+ghost use Rattle.agv_message.specs.State.{is_bad, lacks_members, state_message, text};
 
 use crate::condition::Condition;
 use crate::opening::{Opening, Progress};
@@ -50,7 +50,7 @@ impl<'a> Parts<'a> {
         ensures version { IfOk result (λ parts. IfSome parts
             (λ p. p.opening.version.now ≡ text (codes "version") (view state.now))) }
         ensures message { IfOk result (λ parts. IfSome parts
-            (λ p. (at : ℕ) → message_of at (view state.now) ≡ message_from at p)) }
+            (λ p. (at : ℕ) → state_message at (view state.now) ≡ message_from at p)) }
     {
         let Some(opening) = Opening::of(state) else {
             return Ok(None);

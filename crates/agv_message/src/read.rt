@@ -5,7 +5,7 @@ ghost use Rattle.serde_json.specs.View.{view};
 ghost use Rattle.agv_header.specs.declared.refusal.Refusal.TheVariants as refusal;
 ghost use Rattle.agv_message.specs.Body.{IsFaultOf};
 ghost use Rattle.agv_message.specs.Position.{has_position as holds_position};
-ghost use Rattle.agv_message.specs.State.{judged, lacks_members, state_of};
+ghost use Rattle.agv_message.specs.State.{state_or_refusal, lacks_members, state_of};
 ghost use Rattle.agv_message.specs.declared.body.BodyFault.TheVariants as fault;
 
 use crate::parts::Parts;
@@ -22,8 +22,8 @@ fn is_served(version: &str) -> bool
 }
 
 fn read_located(alloc: Global, state: &Value) -> Result<StateMessage, BodyFault>
-    ensures ok { IfOk result (λ message. judged (view state.now) ≡ Ok message) }
-    ensures err { IfErr result (λ fault. IsFaultOf fault (judged (view state.now))) }
+    ensures ok { IfOk result (λ message. state_or_refusal (view state.now) ≡ Ok message) }
+    ensures err { IfErr result (λ fault. IsFaultOf fault (state_or_refusal (view state.now))) }
     ensures lacking { lacks_members (view state.now) ≡ true
         → result ≡ Err (fault.Refused refusal.BadBody) }
 {

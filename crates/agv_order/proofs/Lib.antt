@@ -1,4 +1,4 @@
-mod Legs
+mod StopRoutes
 mod Messaging
 pub mod NewTrips
 mod PlanTests

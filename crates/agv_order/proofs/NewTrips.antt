@@ -7,34 +7,34 @@ use Rattle.std.proofs.lemmas.Bool.Decides.{nat_tests}
 use Rattle.agv_header.specs.declared.key.VehicleKey.{VehicleKey}
 use Rattle.agv_layout.specs.Layout.{Layout}
 use Rattle.agv_stock.specs.declared.job.Job.{Job}
-use Rattle.agv_order.specs.Plans.{legs_to, way_of, acts_along, trip_over, trip_along, planned}
+use Rattle.agv_order.specs.Plans.{stop_routes_to, way_of, acts_along, trip_over, trip_along, planned}
 use Rattle.agv_order.specs.Stops.{is_drop, stops_fit}
 use Rattle.agv_order.specs.Trips.{plan_of, stop_of}
 use Rattle.agv_order.specs.WellFormed.{IsRising, IsWellFormed, is_reached, is_in_turn, has_not_begun}
 use Rattle.agv_order.specs.declared.act.Act.{Act}
 use Rattle.agv_order.specs.declared.fault.PlanFault.TheVariants as fault
-use Rattle.agv_order.specs.declared.leg.Leg.{Leg}
+use Rattle.agv_order.specs.declared.stop_route.StopRoute.{StopRoute}
 use Rattle.agv_order.specs.declared.stop.Stop.{Stop}
 use Rattle.agv_order.specs.declared.trip.Trip.{Trip}
-use Rattle.agv_order.proofs.Walked.{AreLegs, are_legs}
+use Rattle.agv_order.proofs.Walked.{AreStopRoutes, are_legs}
 use Rattle.agv_order.proofs.Ways.{tasks_along, way_known, whole_walk, tasks_stops, stations, rising}
 
 -- ---- acts that have not begun
-all_waiting : (from : ℕ) (legs : List Leg) → list_all has_not_begun (acts_along from legs) ≡ true
+all_waiting : (from : ℕ) (stop_routes : List StopRoute) → list_all has_not_begun (acts_along from stop_routes) ≡ true
 all_waiting from [] = refl
-all_waiting from (leg ∷ legs) = all_waiting (from + length leg.edges) legs
+all_waiting from (stop_route ∷ stop_routes) = all_waiting (from + length stop_route.edges) stop_routes
 
-all_reached : (seen from : ℕ) (legs : List Leg) → list_all (is_reached seen) (acts_along from legs) ≡ true
+all_reached : (seen from : ℕ) (stop_routes : List StopRoute) → list_all (is_reached seen) (acts_along from stop_routes) ≡ true
 all_reached seen from [] = refl
-all_reached seen from (leg ∷ legs) = all_reached seen (from + length leg.edges) legs
+all_reached seen from (stop_route ∷ stop_routes) = all_reached seen (from + length stop_route.edges) stop_routes
 
 none_finished : (b : Bool) → not (b && false) ≡ true
 none_finished true = refl
 none_finished false = refl
 
-all_in_turn : (all : List Act) (from : ℕ) (legs : List Leg) → list_all (is_in_turn all) (acts_along from legs) ≡ true
+all_in_turn : (all : List Act) (from : ℕ) (stop_routes : List StopRoute) → list_all (is_in_turn all) (acts_along from stop_routes) ≡ true
 all_in_turn all from [] = refl
-all_in_turn all from (leg ∷ legs) = grind (arith, none_finished (is_drop leg.stop.kind), all_in_turn all (from + length leg.edges) legs)
+all_in_turn all from (stop_route ∷ stop_routes) = grind (arith, none_finished (is_drop stop_route.stop.kind), all_in_turn all (from + length stop_route.edges) stop_routes)
 
 -- ---- the tests of a plan
 by_bools : (long beyond : Bool) (made trip : Trip) → (if long then Err fault.TooLong else (if beyond then Err fault.Beyond else Ok made)) ≡ Ok trip
@@ -47,12 +47,12 @@ not_above : (n m : ℕ) → nat_lt n m ≡ false → m ≤ n
 not_above n m e = grind (arith, nat_tests)
 
 module _ (layout : Layout) (jobs : List Job) (vehicle : VehicleKey) (order : List ℕ) (at : List ℕ) (base : ℕ) where
-  -- over legs that are there, not too long, with a base within
-  over_legs : (stop : Stop) (stops : List Stop) (legs : List Leg) → stops_fit (stop ∷ stops) ≡ true → length (stop ∷ stops) ≤ 8 → AreLegs layout jobs at (stop ∷ stops) legs
-      → length (way_of legs) ≤ 200 → base ≤ length (way_of legs) → IsWellFormed layout (trip_over vehicle order at base legs)
+  -- over routes that are there, not too long, with a base within
+  over_legs : (stop : Stop) (stops : List Stop) (stop_routes : List StopRoute) → stops_fit (stop ∷ stops) ≡ true → length (stop ∷ stops) ≤ 8 → AreStopRoutes layout jobs at (stop ∷ stops) stop_routes
+      → length (way_of stop_routes) ≤ 200 → base ≤ length (way_of stop_routes) → IsWellFormed layout (trip_over vehicle order at base stop_routes)
   over_legs stop stops [] fit few are short within = elim are [ ]
-  over_legs stop stops (leg ∷ legs) fit few are short within =
-      let all : List Leg = leg ∷ legs in
+  over_legs stop stops (stop_route ∷ stop_routes) fit few are short within =
+      let all : List StopRoute = stop_route ∷ stop_routes in
       let made = tasks_stops layout jobs 0 at (stop ∷ stops) all are in
       let from_zero : 0 + length (way_of all) ≡ length (way_of all) = omega arith in
       let count : length (tasks_along 0 all) ≡ length (stop ∷ stops) = sym (length-map (tasks_along 0 all) stop_of) ∙ ap length made in
@@ -80,28 +80,28 @@ module _ (layout : Layout) (jobs : List Job) (vehicle : VehicleKey) (order : Lis
         };
       }
 
-  some_stop : (stops : List Stop) (legs : List Leg) → stops_fit stops ≡ true → length stops ≤ 8 → AreLegs layout jobs at stops legs
-      → length (way_of legs) ≤ 200 → base ≤ length (way_of legs) → IsWellFormed layout (trip_over vehicle order at base legs)
+  some_stop : (stops : List Stop) (stop_routes : List StopRoute) → stops_fit stops ≡ true → length stops ≤ 8 → AreStopRoutes layout jobs at stops stop_routes
+      → length (way_of stop_routes) ≤ 200 → base ≤ length (way_of stop_routes) → IsWellFormed layout (trip_over vehicle order at base stop_routes)
   unfolding stops_fit
-  some_stop [] legs fit few are short within = absurd (true≢false (sym fit))
-  some_stop (stop ∷ stops) legs fit few are short within = over_legs stop stops legs fit few are short within
+  some_stop [] stop_routes fit few are short within = absurd (true≢false (sym fit))
+  some_stop (stop ∷ stops) stop_routes fit few are short within = over_legs stop stops stop_routes fit few are short within
 
   -- whatever the tests say, a trip comes only where they pass
-  pub by_tests : (legs : List Leg) (trip : Trip) → trip_along vehicle order at base (Some legs) ≡ Ok trip
-      → (length (way_of legs) ≤ 200) × (base ≤ length (way_of legs)) × (trip_over vehicle order at base legs ≡ trip)
-  by_tests legs trip e =
-      let tests = by_bools (nat_lt 200 (length (way_of legs))) (nat_lt (length (way_of legs)) base) (trip_over vehicle order at base legs) trip e in
-      (not_above 200 (length (way_of legs)) tests.0, not_above (length (way_of legs)) base tests.1, tests.2)
+  pub by_tests : (stop_routes : List StopRoute) (trip : Trip) → trip_along vehicle order at base (Some stop_routes) ≡ Ok trip
+      → (length (way_of stop_routes) ≤ 200) × (base ≤ length (way_of stop_routes)) × (trip_over vehicle order at base stop_routes ≡ trip)
+  by_tests stop_routes trip e =
+      let tests = by_bools (nat_lt 200 (length (way_of stop_routes))) (nat_lt (length (way_of stop_routes)) base) (trip_over vehicle order at base stop_routes) trip e in
+      (not_above 200 (length (way_of stop_routes)) tests.0, not_above (length (way_of stop_routes)) base tests.1, tests.2)
 
-  by_legs : (stops : List Stop) (found : Option (List Leg)) (trip : Trip) → stops_fit stops ≡ true → length stops ≤ 8
-      → ((legs : List Leg) → found ≡ Some legs → AreLegs layout jobs at stops legs) → trip_along vehicle order at base found ≡ Ok trip → IsWellFormed layout trip
+  by_legs : (stops : List Stop) (found : Option (List StopRoute)) (trip : Trip) → stops_fit stops ≡ true → length stops ≤ 8
+      → ((stop_routes : List StopRoute) → found ≡ Some stop_routes → AreStopRoutes layout jobs at stops stop_routes) → trip_along vehicle order at base found ≡ Ok trip → IsWellFormed layout trip
   by_legs stops None trip fit few are e = cc
-  by_legs stops (Some legs) trip fit few are e =
-      let tests = by_tests legs trip e in
-      subst (IsWellFormed layout) tests.2 (some_stop stops legs fit few (are legs refl) tests.0 tests.1)
+  by_legs stops (Some stop_routes) trip fit few are e =
+      let tests = by_tests stop_routes trip e in
+      subst (IsWellFormed layout) tests.2 (some_stop stops stop_routes fit few (are stop_routes refl) tests.0 tests.1)
 
 -- a planned trip is well formed
 pub planned_well : (layout : Layout) (vehicle : VehicleKey) (jobs : List Job) (stops : List Stop) (order at : List ℕ) (base : ℕ) (trip : Trip)
     → IsTrue (stops_fit stops) → length stops ≤ 8 → planned layout vehicle jobs stops order at base ≡ Ok trip → IsWellFormed layout trip
 planned_well layout vehicle jobs stops order at base trip fit few e =
-    by_legs layout jobs vehicle order at base stops (legs_to layout jobs at stops) trip fit few (λ legs f. are_legs layout jobs at stops legs f) e
+    by_legs layout jobs vehicle order at base stops (stop_routes_to layout jobs at stops) trip fit few (λ stop_routes f. are_legs layout jobs at stops stop_routes f) e

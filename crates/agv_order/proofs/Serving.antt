@@ -3,21 +3,21 @@ use Rattle.std.proofs.Common.{◌≡◌, ℕ, false, List, [], ◌∷◌, refl}
 use Rattle.std.specs.List.{fold}
 use Rattle.agv_message.specs.declared.order.ActKind.{ActKind}
 use Rattle.agv_message.specs.declared.order.ActKind.TheVariants.{Pick, Drop}
-use Rattle.agv_order.specs.declared.served.Served.{Served}
-use Rattle.agv_order.specs.declared.served.Served.TheVariants.{Waiting, Wrong}
+use Rattle.agv_order.specs.declared.job_progress.JobProgress.{JobProgress}
+use Rattle.agv_order.specs.declared.job_progress.JobProgress.TheVariants.{Waiting, Wrong}
 use Rattle.agv_order.specs.declared.stop.Stop.{Stop}
-use Rattle.agv_order.specs.Served.{served_then, is_over}
+use Rattle.agv_order.specs.JobProgress.{progress_then, is_over}
 use Rattle.agv_order.specs.Stops.{kinds_of, is_pick_then_drop}
 
 -- what the stops do for the job
-abbrev pub served_by : List Stop → List ℕ → Served
-served_by stops job = fold served_then Waiting (kinds_of stops job)
+abbrev pub served_by : List Stop → List ℕ → JobProgress
+served_by stops job = fold progress_then Waiting (kinds_of stops job)
 
-wrong : (kinds : List ActKind) → is_over (fold served_then Wrong kinds) ≡ false
+wrong : (kinds : List ActKind) → is_over (fold progress_then Wrong kinds) ≡ false
 wrong [] = refl
 wrong (kind ∷ kinds) = wrong kinds
 
-pub over : (kinds : List ActKind) → is_over (fold served_then Waiting kinds) ≡ is_pick_then_drop kinds
+pub over : (kinds : List ActKind) → is_over (fold progress_then Waiting kinds) ≡ is_pick_then_drop kinds
 over [] = refl
 over (Pick ∷ []) = refl
 over (Drop ∷ []) = refl

@@ -11,7 +11,7 @@ use Rattle.std.specs.Cmp.Lexicographic.{pointwise, same_text}
 use Rattle.agv_message.specs.declared.order.ActKind.{ActKind}
 use Rattle.agv_message.specs.declared.order.ActKind.TheVariants.{Pick, Drop}
 use Rattle.agv_order.specs.declared.stop.Stop.{Stop}
-use Rattle.agv_order.specs.StopPlaces.{IsAt, IsServed, CanBeDone, is_pick}
+use Rattle.agv_order.specs.StopPlaces.{IsAt, IsPickedThenDropped, CanBeDone, is_pick}
 use Rattle.agv_order.specs.Stops.{is_drop, is_of, kinds_of, is_pick_then_drop, stops_fit}
 
 -- ---- the stops of one job
@@ -172,7 +172,7 @@ module _ (job : List ℕ) where
       let kinds : Some Pick ≡ Some Drop = ap (option_map (λ (stop : Stop). stop.kind)) one in
       cc
 
-  served : (xs : List Stop) → is_pick_then_drop (kinds_of xs job) ≡ true → IsServed xs job
+  served : (xs : List Stop) → is_pick_then_drop (kinds_of xs job) ≡ true → IsPickedThenDropped xs job
   unfolding IsTwo
   served xs is =
       let found = two_at xs Pick Drop (pick_and_drop (kinds_of xs job) is) in
@@ -186,7 +186,7 @@ module _ (job : List ℕ) where
         (two.2, λ m at. elim (two.3 m Drop at) [ inl e ↦ absurd (not_both xs pick m (sym e) two.1 at) | inr e ↦ e ]),
       )
 
-  test_from : (xs : List Stop) → IsServed xs job → is_pick_then_drop (kinds_of xs job) ≡ true
+  test_from : (xs : List Stop) → IsPickedThenDropped xs job → is_pick_then_drop (kinds_of xs job) ≡ true
   unfolding IsTwo
   test_from xs (pick, drop, before, picked, dropped) = ap is_pick_then_drop (two_from xs Pick Drop pick drop (before, picked.0, dropped.0, either))
     where

@@ -1,4 +1,4 @@
--- Each leg of a plan leads by a walk from the stop before it to its own.
+-- Each route of a plan leads by a walk from the stop before it to its own.
 use Rattle.std.proofs.Common.{◌≡◌, ℕ, List, [], ◌∷◌, All, Option, None, Some, refl, sym, ap, subst, ◌∙◌}
 use Rattle.std.specs.List.{cons_option}
 use Rattle.std.specs.Option.{option_map, option_and_then}
@@ -8,14 +8,14 @@ use Rattle.std.proofs.lemmas.List.Elements.{All-nil, All-cons}
 use Rattle.agv_layout.specs.Layout.{Layout, IsStation, edge_of}
 use Rattle.agv_layout.specs.Walk.{IsWalk, IsRoute, IsWayTo}
 use Rattle.agv_layout.specs.declared.edge.Edge.{Edge}
-use Rattle.agv_layout.specs.declared.edge.Ends.{Ends}
-use Rattle.agv_layout.specs.declared.station.Spot.{Spot}
+use Rattle.agv_layout.specs.declared.edge.EdgeEnds.{EdgeEnds}
+use Rattle.agv_layout.specs.declared.station.StationSite.{StationSite}
 use Rattle.agv_stock.specs.declared.job.Job.{Job}
-use Rattle.agv_order.specs.Plans.{job_named, station_of, edges_named, leg_over, leg_for, leg_to, legs_to}
+use Rattle.agv_order.specs.Plans.{job_named, stop_station, edges_named, stop_route_over, stop_route_for, stop_route_to, stop_routes_to}
 use Rattle.agv_layout.specs.RouteOf.{route_of}
 use Rattle.agv_layout.proofs.RouteFound.{route_is_found}
 use Rattle.agv_order.specs.WellFormed.{IsEdgeOf, ids_of}
-use Rattle.agv_order.specs.declared.leg.Leg.{Leg}
+use Rattle.agv_order.specs.declared.stop_route.StopRoute.{StopRoute}
 use Rattle.agv_order.specs.declared.stop.Stop.{Stop}
 
 -- what is chained to a value that is there
@@ -43,7 +43,7 @@ module _ (layout : Layout) where
     pub named : ids_of edges ≡ ids
     pub known : All (IsEdgeOf layout) edges
 
-  one_more : (id : List ℕ) (ends : Ends) (ids : List (List ℕ)) (edges more : List Edge) → finite.get layout.edges id ≡ Some ends
+  one_more : (id : List ℕ) (ends : EdgeEnds) (ids : List (List ℕ)) (edges more : List Edge) → finite.get layout.edges id ≡ Some ends
       → AreEdges ids edges → cons_option (option_map (edge_of id) (finite.get layout.edges id)) edges ≡ more → AreEdges (id ∷ ids) more
   one_more id ends ids edges more e are same =
       let first : edge_of id ends ∷ edges ≡ more = ap (λ o. cons_option (option_map (edge_of id) o) edges) (sym e) ∙ same in
@@ -57,19 +57,19 @@ module _ (layout : Layout) where
   are_edges from to (id ∷ ids) walk =
       one_more id _ ids (edges_named layout ids) (edges_named layout (id ∷ ids)) walk.1 (are_edges walk.0 to ids walk.2) refl
 
-  -- a leg: for its stop, by a walk from a node to the node of its station, over edges of the layout
-  pub record IsLeg (jobs : List Job) (at : List ℕ) (stop : Stop) (leg : Leg) : Type 0 where
-    pub made : leg.stop ≡ stop
-    pub named : job_named jobs leg.stop.job ≡ Some leg.job
-    pub walk : IsWalk layout at (ids_of leg.edges) leg.goal
-    pub route : IsRoute layout at leg.goal (ids_of leg.edges)
-    pub known : All (IsEdgeOf layout) leg.edges
-    pub spot : Spot
-    pub station : IsStation layout (station_of leg.stop.kind leg.job) spot
-    pub stands : spot.node ≡ leg.goal
+  -- a route: for its stop, by a walk from a node to the node of its station, over edges of the layout
+  pub record IsStopRoute (jobs : List Job) (at : List ℕ) (stop : Stop) (stop_route : StopRoute) : Type 0 where
+    pub made : stop_route.stop ≡ stop
+    pub named : job_named jobs stop_route.stop.job ≡ Some stop_route.job
+    pub walk : IsWalk layout at (ids_of stop_route.edges) stop_route.goal
+    pub route : IsRoute layout at stop_route.goal (ids_of stop_route.edges)
+    pub known : All (IsEdgeOf layout) stop_route.edges
+    pub spot : StationSite
+    pub station : IsStation layout (stop_station stop_route.stop.kind stop_route.job) spot
+    pub stands : spot.node ≡ stop_route.goal
 
-  leg_by : (jobs : List Job) (at : List ℕ) (stop : Stop) (job : Job) (spot : Spot) (ids : List (List ℕ)) → job_named jobs stop.job ≡ Some job → finite.get layout.stations (station_of stop.kind job) ≡ Some spot
-      → route_of layout at spot.node ≡ Some ids → IsLeg jobs at stop (leg_over layout stop job spot.node ids)
+  leg_by : (jobs : List Job) (at : List ℕ) (stop : Stop) (job : Job) (spot : StationSite) (ids : List (List ℕ)) → job_named jobs stop.job ≡ Some job → finite.get layout.stations (stop_station stop.kind job) ≡ Some spot
+      → route_of layout at spot.node ≡ Some ids → IsStopRoute jobs at stop (stop_route_over layout stop job spot.node ids)
   leg_by jobs at stop job spot ids j e r =
       let route = subst (IsWayTo layout at spot.node) r (route_is_found layout at spot.node) in
       let are = are_edges at spot.node ids route.walk in
@@ -84,25 +84,25 @@ module _ (layout : Layout) where
         stands = refl;
       }
 
-  pub is_leg : (jobs : List Job) (at : List ℕ) (stop : Stop) (leg : Leg) → leg_to layout jobs at stop ≡ Some leg → IsLeg jobs at stop leg
-  unfolding leg_to
-  is_leg jobs at stop leg e =
-      let job = chained (leg_for layout at stop) (job_named jobs stop.job) leg e in
-      let spot = chained (λ (spot : Spot). option_map (leg_over layout stop job.value spot.node) (route_of layout at spot.node)) (finite.get layout.stations (station_of stop.kind job.value)) leg job.gives in
-      let ids = mapped (leg_over layout stop job.value spot.value.node) (route_of layout at spot.value.node) leg spot.gives in
-      subst (IsLeg jobs at stop) ids.gives (leg_by jobs at stop job.value spot.value ids.value job.here spot.here ids.here)
+  pub is_leg : (jobs : List Job) (at : List ℕ) (stop : Stop) (stop_route : StopRoute) → stop_route_to layout jobs at stop ≡ Some stop_route → IsStopRoute jobs at stop stop_route
+  unfolding stop_route_to
+  is_leg jobs at stop stop_route e =
+      let job = chained (stop_route_for layout at stop) (job_named jobs stop.job) stop_route e in
+      let spot = chained (λ (spot : StationSite). option_map (stop_route_over layout stop job.value spot.node) (route_of layout at spot.node)) (finite.get layout.stations (stop_station stop.kind job.value)) stop_route job.gives in
+      let ids = mapped (stop_route_over layout stop job.value spot.value.node) (route_of layout at spot.value.node) stop_route spot.gives in
+      subst (IsStopRoute jobs at stop) ids.gives (leg_by jobs at stop job.value spot.value ids.value job.here spot.here ids.here)
 
-  -- the legs lead on from one to the next, a leg for each stop
-  abbrev pub AreLegs : List Job → List ℕ → List Stop → List Leg → Type 0
-  AreLegs jobs at [] [] = Unit {0}
-  AreLegs jobs at [] (leg ∷ legs) = ⊥
-  AreLegs jobs at (stop ∷ stops) [] = ⊥
-  AreLegs jobs at (stop ∷ stops) (leg ∷ legs) = IsLeg jobs at stop leg × AreLegs jobs leg.goal stops legs
+  -- the routes lead on from one to the next, a route for each stop
+  abbrev pub AreStopRoutes : List Job → List ℕ → List Stop → List StopRoute → Type 0
+  AreStopRoutes jobs at [] [] = Unit {0}
+  AreStopRoutes jobs at [] (stop_route ∷ stop_routes) = ⊥
+  AreStopRoutes jobs at (stop ∷ stops) [] = ⊥
+  AreStopRoutes jobs at (stop ∷ stops) (stop_route ∷ stop_routes) = IsStopRoute jobs at stop stop_route × AreStopRoutes jobs stop_route.goal stops stop_routes
 
-  pub are_legs : (jobs : List Job) (at : List ℕ) (stops : List Stop) (legs : List Leg) → legs_to layout jobs at stops ≡ Some legs → AreLegs jobs at stops legs
-  are_legs jobs at [] legs e = subst (AreLegs jobs at []) (same_Some _ _ e) tt
-  are_legs jobs at (stop ∷ stops) legs e =
-      let leg = chained (λ (leg : Leg). option_map (λ (others : List Leg). leg ∷ others) (legs_to layout jobs leg.goal stops)) (leg_to layout jobs at stop) legs e in
-      let rest = mapped (λ (others : List Leg). leg.value ∷ others) (legs_to layout jobs leg.value.goal stops) legs leg.gives in
-      subst (AreLegs jobs at (stop ∷ stops)) rest.gives
-      (is_leg jobs at stop leg.value leg.here, are_legs jobs leg.value.goal stops rest.value rest.here)
+  pub are_legs : (jobs : List Job) (at : List ℕ) (stops : List Stop) (stop_routes : List StopRoute) → stop_routes_to layout jobs at stops ≡ Some stop_routes → AreStopRoutes jobs at stops stop_routes
+  are_legs jobs at [] stop_routes e = subst (AreStopRoutes jobs at []) (same_Some _ _ e) tt
+  are_legs jobs at (stop ∷ stops) stop_routes e =
+      let stop_route = chained (λ (stop_route : StopRoute). option_map (λ (others : List StopRoute). stop_route ∷ others) (stop_routes_to layout jobs stop_route.goal stops)) (stop_route_to layout jobs at stop) stop_routes e in
+      let rest = mapped (λ (others : List StopRoute). stop_route.value ∷ others) (stop_routes_to layout jobs stop_route.value.goal stops) stop_routes stop_route.gives in
+      subst (AreStopRoutes jobs at (stop ∷ stops)) rest.gives
+      (is_leg jobs at stop stop_route.value stop_route.here, are_legs jobs stop_route.value.goal stops rest.value rest.here)

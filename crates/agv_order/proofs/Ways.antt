@@ -1,4 +1,4 @@
--- The way of all legs: it is a walk, the acts rise along it, and each is done at the node of its station.
+-- The way of all routes: it is a walk, the acts rise along it, and each is done at the node of its station.
 use Rattle.std.proofs.Common.{arith, ◌≡◌, ℕ, suc, ◌+◌, List, [], ◌∷◌, ◌++◌, length, map, All, Some, refl, sym, ap, subst, ◌∙◌, append_assoc, length-append}
 use Rattle.std.specs.List.{slice_get}
 use Rattle.std.proofs.lemmas.List.{map-append}
@@ -6,20 +6,20 @@ use Rattle.std.proofs.lemmas.List.Elements.{All-nil, All-cons, All-head, All-tai
 use Rattle.std.proofs.lemmas.Option.{same_Some}
 use Rattle.agv_layout.specs.Layout.{Layout, IsNode}
 use Rattle.agv_layout.specs.Walk.{IsWalk}
-use Rattle.agv_layout.specs.Walking.{walks_join, ends_at_node}
+use Rattle.agv_layout.proofs.Walking.{walks_join, ends_at_node}
 use Rattle.agv_layout.specs.declared.edge.Edge.{Edge}
-use Rattle.agv_layout.specs.declared.edge.Ends.{Ends}
+use Rattle.agv_layout.specs.declared.edge.EdgeEnds.{EdgeEnds}
 use Rattle.agv_stock.specs.declared.job.Job.{Job}
 use Rattle.agv_order.specs.Plans.{way_of, act_at, acts_along}
 use Rattle.agv_order.specs.Trips.{Task, task_of, stop_of, Plan, nodes_on}
 use Rattle.agv_order.specs.WellFormed.{IsEdgeOf, ids_of, IsRising, IsAtStation}
-use Rattle.agv_order.specs.declared.leg.Leg.{Leg}
+use Rattle.agv_order.specs.declared.stop_route.StopRoute.{StopRoute}
 use Rattle.agv_order.specs.declared.stop.Stop.{Stop}
-use Rattle.agv_order.proofs.Walked.{AreLegs}
+use Rattle.agv_order.proofs.Walked.{AreStopRoutes}
 
--- the tasks at the ends of the legs
-abbrev pub tasks_along : ℕ → List Leg → List Task
-tasks_along from legs = map task_of (acts_along from legs)
+-- the tasks at the ends of the routes
+abbrev pub tasks_along : ℕ → List StopRoute → List Task
+tasks_along from stop_routes = map task_of (acts_along from stop_routes)
 
 -- ---- the node where edges end
 abbrev end_of : List ℕ → List Edge → List ℕ
@@ -40,88 +40,88 @@ module _ (layout : Layout) (jobs : List Job) where
   ends_there : (at to : List ℕ) (edges : List Edge) → IsWalk layout at (ids_of edges) to → All (IsEdgeOf layout) edges → end_of at edges ≡ to
   ends_there at to [] walk known = walk.1
   ends_there at to (edge ∷ edges) walk known =
-      let here : edge.finish ≡ walk.0 = ap (λ (ends : Ends). ends.finish) (same_Some _ _ (sym (All-head (IsEdgeOf layout) edge edges known) ∙ walk.1)) in
+      let here : edge.finish ≡ walk.0 = ap (λ (ends : EdgeEnds). ends.finish) (same_Some _ _ (sym (All-head (IsEdgeOf layout) edge edges known) ∙ walk.1)) in
       ends_there edge.finish to edges (subst (λ next. IsWalk layout next (ids_of edges) to) (sym here) walk.2) (All-tail (IsEdgeOf layout) edge edges known)
 
-  -- ---- all legs
-  pub way_known : (at : List ℕ) (stops : List Stop) (legs : List Leg) → AreLegs layout jobs at stops legs → All (IsEdgeOf layout) (way_of legs)
+  -- ---- all routes
+  pub way_known : (at : List ℕ) (stops : List Stop) (stop_routes : List StopRoute) → AreStopRoutes layout jobs at stops stop_routes → All (IsEdgeOf layout) (way_of stop_routes)
   way_known at [] [] are = All-nil (IsEdgeOf layout)
-  way_known at [] (leg ∷ legs) are = elim are [ ]
+  way_known at [] (stop_route ∷ stop_routes) are = elim are [ ]
   way_known at (stop ∷ stops) [] are = elim are [ ]
-  way_known at (stop ∷ stops) (leg ∷ legs) are =
-      All-append (IsEdgeOf layout) leg.edges (way_of legs) are.0.known (way_known leg.goal stops legs are.1)
+  way_known at (stop ∷ stops) (stop_route ∷ stop_routes) are =
+      All-append (IsEdgeOf layout) stop_route.edges (way_of stop_routes) are.0.known (way_known stop_route.goal stops stop_routes are.1)
 
-  rest_walk : (at : List ℕ) (stops : List Stop) (legs : List Leg) → IsNode layout at → AreLegs layout jobs at stops legs
-      → (finish : List ℕ) × IsWalk layout at (ids_of (way_of legs)) finish
+  rest_walk : (at : List ℕ) (stops : List Stop) (stop_routes : List StopRoute) → IsNode layout at → AreStopRoutes layout jobs at stops stop_routes
+      → (finish : List ℕ) × IsWalk layout at (ids_of (way_of stop_routes)) finish
   rest_walk at [] [] node are = (at, (node, refl))
-  rest_walk at [] (leg ∷ legs) node are = elim are [ ]
+  rest_walk at [] (stop_route ∷ stop_routes) node are = elim are [ ]
   rest_walk at (stop ∷ stops) [] node are = elim are [ ]
-  rest_walk at (stop ∷ stops) (leg ∷ legs) node are =
-      let rest = rest_walk leg.goal stops legs (ends_at_node layout at leg.goal (ids_of leg.edges) are.0.walk) are.1 in (
+  rest_walk at (stop ∷ stops) (stop_route ∷ stop_routes) node are =
+      let rest = rest_walk stop_route.goal stops stop_routes (ends_at_node layout at stop_route.goal (ids_of stop_route.edges) are.0.walk) are.1 in (
         rest.0,
-        subst (λ ids. IsWalk layout at ids rest.0) (sym (map-append (λ (edge : Edge). edge.id) leg.edges (way_of legs)))
-            (walks_join layout at leg.goal rest.0 (ids_of leg.edges) (ids_of (way_of legs)) are.0.walk rest.1),
+        subst (λ ids. IsWalk layout at ids rest.0) (sym (map-append (λ (edge : Edge). edge.id) stop_route.edges (way_of stop_routes)))
+            (walks_join layout at stop_route.goal rest.0 (ids_of stop_route.edges) (ids_of (way_of stop_routes)) are.0.walk rest.1),
       )
 
-  pub whole_walk : (at : List ℕ) (stop : Stop) (stops : List Stop) (legs : List Leg) → AreLegs layout jobs at (stop ∷ stops) legs
-      → (finish : List ℕ) × IsWalk layout at (ids_of (way_of legs)) finish
+  pub whole_walk : (at : List ℕ) (stop : Stop) (stops : List Stop) (stop_routes : List StopRoute) → AreStopRoutes layout jobs at (stop ∷ stops) stop_routes
+      → (finish : List ℕ) × IsWalk layout at (ids_of (way_of stop_routes)) finish
   whole_walk at stop stops [] are = elim are [ ]
-  whole_walk at stop stops (leg ∷ legs) are =
-      let rest = rest_walk leg.goal stops legs (ends_at_node layout at leg.goal (ids_of leg.edges) are.0.walk) are.1 in (
+  whole_walk at stop stops (stop_route ∷ stop_routes) are =
+      let rest = rest_walk stop_route.goal stops stop_routes (ends_at_node layout at stop_route.goal (ids_of stop_route.edges) are.0.walk) are.1 in (
         rest.0,
-        subst (λ ids. IsWalk layout at ids rest.0) (sym (map-append (λ (edge : Edge). edge.id) leg.edges (way_of legs)))
-            (walks_join layout at leg.goal rest.0 (ids_of leg.edges) (ids_of (way_of legs)) are.0.walk rest.1),
+        subst (λ ids. IsWalk layout at ids rest.0) (sym (map-append (λ (edge : Edge). edge.id) stop_route.edges (way_of stop_routes)))
+            (walks_join layout at stop_route.goal rest.0 (ids_of stop_route.edges) (ids_of (way_of stop_routes)) are.0.walk rest.1),
       )
 
   -- ---- the tasks
-  pub tasks_stops : (from : ℕ) (at : List ℕ) (stops : List Stop) (legs : List Leg) → AreLegs layout jobs at stops legs → map stop_of (tasks_along from legs) ≡ stops
+  pub tasks_stops : (from : ℕ) (at : List ℕ) (stops : List Stop) (stop_routes : List StopRoute) → AreStopRoutes layout jobs at stops stop_routes → map stop_of (tasks_along from stop_routes) ≡ stops
   tasks_stops from at [] [] are = refl
-  tasks_stops from at [] (leg ∷ legs) are = elim are [ ]
+  tasks_stops from at [] (stop_route ∷ stop_routes) are = elim are [ ]
   tasks_stops from at (stop ∷ stops) [] are = elim are [ ]
-  tasks_stops from at (stop ∷ stops) (leg ∷ legs) are =
+  tasks_stops from at (stop ∷ stops) (stop_route ∷ stop_routes) are =
       let first = are.0.made in
-      let rest = tasks_stops (from + length leg.edges) leg.goal stops legs are.1 in
+      let rest = tasks_stops (from + length stop_route.edges) stop_route.goal stops stop_routes are.1 in
       λ i. first i ∷ rest i
 
-  -- the station of each task is at the node where its leg ends
-  stations_past : (start : List ℕ) (before : List Edge) (at : List ℕ) (stops : List Stop) (legs : List Leg) → end_of start before ≡ at → AreLegs layout jobs at stops legs
-      → (plan : Plan) → plan.start ≡ start → plan.edges ≡ before ++ way_of legs → All (IsAtStation layout plan) (tasks_along (length before) legs)
+  -- the station of each task is at the node where its route ends
+  stations_past : (start : List ℕ) (before : List Edge) (at : List ℕ) (stops : List Stop) (stop_routes : List StopRoute) → end_of start before ≡ at → AreStopRoutes layout jobs at stops stop_routes
+      → (plan : Plan) → plan.start ≡ start → plan.edges ≡ before ++ way_of stop_routes → All (IsAtStation layout plan) (tasks_along (length before) stop_routes)
   stations_past start before at [] [] here are plan s e = All-nil (IsAtStation layout plan)
-  stations_past start before at [] (leg ∷ legs) here are plan s e = elim are [ ]
+  stations_past start before at [] (stop_route ∷ stop_routes) here are plan s e = elim are [ ]
   stations_past start before at (stop ∷ stops) [] here are plan s e = elim are [ ]
-  stations_past start before at (stop ∷ stops) (leg ∷ legs) here are plan s e =
-      All-cons (IsAtStation layout plan) (task_of (act_at leg (length before + length leg.edges))) (tasks_along (length before + length leg.edges) legs)
+  stations_past start before at (stop ∷ stops) (stop_route ∷ stop_routes) here are plan s e =
+      All-cons (IsAtStation layout plan) (task_of (act_at stop_route (length before + length stop_route.edges))) (tasks_along (length before + length stop_route.edges) stop_routes)
       (are.0.spot, are.0.station, node ∙ ap Some (there ∙ sym are.0.stands))
-      (subst (λ n. All (IsAtStation layout plan) (tasks_along n legs)) longer
-      (stations_past start (before ++ leg.edges) leg.goal stops legs there are.1 plan s (e ∙ sym (append_assoc before leg.edges (way_of legs)))))
+      (subst (λ n. All (IsAtStation layout plan) (tasks_along n stop_routes)) longer
+      (stations_past start (before ++ stop_route.edges) stop_route.goal stops stop_routes there are.1 plan s (e ∙ sym (append_assoc before stop_route.edges (way_of stop_routes)))))
     where
-      longer : length (before ++ leg.edges) ≡ length before + length leg.edges
-      longer = length-append before leg.edges
+      longer : length (before ++ stop_route.edges) ≡ length before + length stop_route.edges
+      longer = length-append before stop_route.edges
 
-      there : end_of start (before ++ leg.edges) ≡ leg.goal
-      there = end_of-append start before leg.edges ∙ ap (λ from. end_of from leg.edges) here ∙ ends_there at leg.goal leg.edges are.0.walk are.0.known
+      there : end_of start (before ++ stop_route.edges) ≡ stop_route.goal
+      there = end_of-append start before stop_route.edges ∙ ap (λ from. end_of from stop_route.edges) here ∙ ends_there at stop_route.goal stop_route.edges are.0.walk are.0.known
 
-      node : slice_get (nodes_on plan.start plan.edges) (length before + length leg.edges) ≡ Some (end_of start (before ++ leg.edges))
+      node : slice_get (nodes_on plan.start plan.edges) (length before + length stop_route.edges) ≡ Some (end_of start (before ++ stop_route.edges))
       node =
-          (λ i. slice_get (nodes_on (s i) ((e ∙ sym (append_assoc before leg.edges (way_of legs))) i)) (sym longer i))
-          ∙ node_past start (before ++ leg.edges) (way_of legs)
+          (λ i. slice_get (nodes_on (s i) ((e ∙ sym (append_assoc before stop_route.edges (way_of stop_routes))) i)) (sym longer i))
+          ∙ node_past start (before ++ stop_route.edges) (way_of stop_routes)
 
-  pub stations : (at : List ℕ) (stops : List Stop) (legs : List Leg) (plan : Plan) → AreLegs layout jobs at stops legs → plan.start ≡ at → plan.edges ≡ way_of legs
-      → All (IsAtStation layout plan) (tasks_along 0 legs)
-  stations at stops legs plan are s e = stations_past at [] at stops legs refl are plan s e
+  pub stations : (at : List ℕ) (stops : List Stop) (stop_routes : List StopRoute) (plan : Plan) → AreStopRoutes layout jobs at stops stop_routes → plan.start ≡ at → plan.edges ≡ way_of stop_routes
+      → All (IsAtStation layout plan) (tasks_along 0 stop_routes)
+  stations at stops stop_routes plan are s e = stations_past at [] at stops stop_routes refl are plan s e
 
 -- the acts don't fall, and the last is done at the end
-pub rising : (from : ℕ) (legs : List Leg) → IsRising from (tasks_along from legs) (from + length (way_of legs))
+pub rising : (from : ℕ) (stop_routes : List StopRoute) → IsRising from (tasks_along from stop_routes) (from + length (way_of stop_routes))
 rising from [] = omega arith
-rising from (leg ∷ legs) = (
+rising from (stop_route ∷ stop_routes) = (
   omega arith,
-  subst (IsRising (from + length leg.edges) (tasks_along (from + length leg.edges) legs)) longer (rising (from + length leg.edges) legs),
+  subst (IsRising (from + length stop_route.edges) (tasks_along (from + length stop_route.edges) stop_routes)) longer (rising (from + length stop_route.edges) stop_routes),
 )
   where
-    longer : (from + length leg.edges) + length (way_of legs) ≡ from + length (leg.edges ++ way_of legs)
-    longer = omega (arith, length-append leg.edges (way_of legs))
+    longer : (from + length stop_route.edges) + length (way_of stop_routes) ≡ from + length (stop_route.edges ++ way_of stop_routes)
+    longer = omega (arith, length-append stop_route.edges (way_of stop_routes))
 
--- an act for each leg
-pub length-tasks_along : (from : ℕ) (legs : List Leg) → length (tasks_along from legs) ≡ length legs
+-- an act for each route
+pub length-tasks_along : (from : ℕ) (stop_routes : List StopRoute) → length (tasks_along from stop_routes) ≡ length stop_routes
 length-tasks_along from [] = refl
-length-tasks_along from (leg ∷ legs) = ap suc (length-tasks_along (from + length leg.edges) legs)
+length-tasks_along from (stop_route ∷ stop_routes) = ap suc (length-tasks_along (from + length stop_route.edges) stop_routes)

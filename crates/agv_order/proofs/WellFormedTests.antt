@@ -13,8 +13,8 @@ use Rattle.std.proofs.lemmas.Option.{none-some, same_Some}
 use Rattle.agv_layout.specs.Layout.{Layout, IsEdge}
 use Rattle.agv_layout.specs.Walk.{IsWalk}
 use Rattle.agv_layout.specs.declared.edge.Edge.{Edge}
-use Rattle.agv_layout.specs.declared.edge.Ends.{Ends}
-use Rattle.agv_layout.specs.declared.station.Spot.{Spot}
+use Rattle.agv_layout.specs.declared.edge.EdgeEnds.{EdgeEnds}
+use Rattle.agv_layout.specs.declared.station.StationSite.{StationSite}
 use Rattle.agv_order.specs.Stops.{stops_fit}
 use Rattle.agv_order.specs.Trips.{task_of, plan_of, node_at}
 use Rattle.agv_order.specs.WellFormed.{IsEdgeOf, ids_of, IsRising, IsAtStation, IsPlanned, is_reached, is_in_turn, has_not_begun, is_over, IsConfirmed, IsUnderWay, IsWellFormed}
@@ -31,13 +31,13 @@ itself b = (λ e. e, λ e. e)
 -- ---- the way
 
 -- the ends of an edge
-ends_said : (edge : Edge) (ends : Option Ends) → Decides (has_ends edge ends) (ends ≡ Some (record { start = edge.start; finish = edge.finish }))
+ends_said : (edge : Edge) (ends : Option EdgeEnds) → Decides (has_ends edge ends) (ends ≡ Some (record { start = edge.start; finish = edge.finish }))
 ends_said edge None = (λ e. absurd (false≢true e), λ e. absurd (none-some _ e))
 ends_said edge (Some ends) =
     let both = Decides-and _ _ (bytes_decides ends.start edge.start) (bytes_decides ends.finish edge.finish) in (
       λ e. let same : (ends.start ≡ edge.start) × (ends.finish ≡ edge.finish) = both.0 e in λ i. Some (record { start = same.0 i; finish = same.1 i }),
       λ e. let same : ends ≡ record { start = edge.start; finish = edge.finish } = same_Some _ _ e in
-          both.1 (ap (λ (x : Ends). x.start) same, ap (λ (x : Ends). x.finish) same),
+          both.1 (ap (λ (x : EdgeEnds). x.start) same, ap (λ (x : EdgeEnds). x.finish) same),
     )
 
 module _ (layout : Layout) where
@@ -66,8 +66,8 @@ module _ (layout : Layout) where
       let walk = way.0.1 in
       let known : IsEdgeOf layout edge = All-head (IsEdgeOf layout) edge edges way.1 in
       let same : record { start = edge.start; finish = edge.finish } ≡ record { start = at; finish = walk.0 } = same_Some _ _ (sym known ∙ walk.1) in
-      let starts : edge.start ≡ at = ap (λ (x : Ends). x.start) same in
-      let goes : walk.0 ≡ edge.finish = ap (λ (x : Ends). x.finish) (sym same) in
+      let starts : edge.start ≡ at = ap (λ (x : EdgeEnds). x.start) same in
+      let goes : walk.0 ≡ edge.finish = ap (λ (x : EdgeEnds). x.finish) (sym same) in
       let rest : IsWay edge.finish edges =
       ((way.0.0, subst (λ next. IsWalk layout next (ids_of edges) way.0.0) goes walk.2), All-tail (IsEdgeOf layout) edge edges way.1) in
       and_from _ _ (and_from _ _ ((bytes_decides edge.start at).1 starts) ((edge_said edge).1 known)) (way_to edge.finish edges rest)
@@ -79,17 +79,17 @@ module _ (layout : Layout) where
   rising_said from (act ∷ acts) to = Decides-and _ _ (at_most from act.place_at) (rising_said act.place_at acts to)
 
   -- a spot at a node
-  abbrev IsSpotAt : Option (List ℕ) → Option Spot → Type 0
-  IsSpotAt node found = (spot : Spot) × (found ≡ Some spot) × (node ≡ Some spot.node)
+  abbrev IsSpotAt : Option (List ℕ) → Option StationSite → Type 0
+  IsSpotAt node found = (spot : StationSite) × (found ≡ Some spot) × (node ≡ Some spot.node)
 
-  spot_said : (node : Option (List ℕ)) (found : Option Spot) → Decides (is_spot_at node found) (IsSpotAt node found)
+  spot_said : (node : Option (List ℕ)) (found : Option StationSite) → Decides (is_spot_at node found) (IsSpotAt node found)
   spot_said None found = (λ e. absurd (false≢true e), λ at. absurd (none-some _ at.2))
   spot_said (Some node) None = (λ e. absurd (false≢true e), λ at. absurd (none-some _ at.1))
   spot_said (Some node) (Some spot) = (
     λ e. (spot, refl, ap Some (sym ((bytes_decides spot.node node).0 e))),
     λ at. let same : spot ≡ at.0 = same_Some _ _ at.1 in
         let here : node ≡ at.0.node = same_Some _ _ at.2 in
-        (bytes_decides spot.node node).1 (ap (λ (s : Spot). s.node) same ∙ sym here),
+        (bytes_decides spot.node node).1 (ap (λ (s : StationSite). s.node) same ∙ sym here),
   )
 
   station_said : (trip : Trip) (act : Act) → Decides (is_at_station layout trip act) (IsAtStation layout (plan_of trip) (task_of act))

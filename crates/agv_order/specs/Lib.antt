@@ -1,6 +1,6 @@
 pub mod Statuses
 pub mod Stops
-pub mod Served
+pub mod JobProgress
 pub mod StopPlaces
 pub mod Trips
 pub mod WellFormed

@@ -15,13 +15,13 @@ abbrev pub IsJustAt : List Stop → List ℕ → ActKind → ℕ → Type 0
 IsJustAt stops job kind k = IsAt stops job kind k × ((other : ℕ) → IsAt stops job kind other → other ≡ k)
 
 -- the load of the job is picked at just one place, dropped at just one place, and dropped later
-abbrev pub IsServed : List Stop → List ℕ → Type 0
-IsServed stops job = (pick : ℕ) × (drop : ℕ) × (pick < drop) × IsJustAt stops job Pick pick × IsJustAt stops job Drop drop
+abbrev pub IsPickedThenDropped : List Stop → List ℕ → Type 0
+IsPickedThenDropped stops job = (pick : ℕ) × (drop : ℕ) × (pick < drop) × IsJustAt stops job Pick pick × IsJustAt stops job Drop drop
 
 -- there is a stop, and each job that a stop names is served
 pub record CanBeDone (stops : List Stop) : Type 0 where
   pub some : stops ≢ []
-  pub each : (k : ℕ) (stop : Stop) → slice_get stops k ≡ Some stop → IsServed stops stop.job
+  pub each : (k : ℕ) (stop : Stop) → slice_get stops k ≡ Some stop → IsPickedThenDropped stops stop.job
 
 -- the load is picked
 abbrev pub is_pick : Stop → Bool

@@ -3,10 +3,10 @@ use Rattle.std.specs.Prelude.{◌≡◌, ℕ, ◌+◌, ◌≤◌, List, [], ◌�
 use Rattle.agv_layout.specs.Layout.{Layout, IsStation}
 use Rattle.agv_layout.specs.Walk.{IsRoute}
 use Rattle.agv_layout.specs.declared.edge.Edge.{Edge}
-use Rattle.agv_layout.specs.declared.station.Spot.{Spot}
+use Rattle.agv_layout.specs.declared.station.StationSite.{StationSite}
 use Rattle.agv_message.specs.declared.status.Status.TheVariants.{Waiting}
 use Rattle.agv_stock.specs.declared.job.Job.{Job}
-use Rattle.agv_order.specs.Plans.{job_named, station_of}
+use Rattle.agv_order.specs.Plans.{job_named, stop_station}
 use Rattle.agv_order.specs.WellFormed.{IsEdgeOf, ids_of}
 use Rattle.agv_order.specs.declared.act.Act.{Act}
 use Rattle.agv_order.specs.declared.stop.Stop.{Stop}
@@ -17,15 +17,15 @@ module _ (layout : Layout) (jobs : List Job) where
   pub record MakesStop (at : List ℕ) (place : ℕ) (stop : Stop) (edges : List Edge) (act : Act) : Type 0 where
     pub job : Job
     pub named : job_named jobs stop.job ≡ Some job
-    pub spot : Spot
-    pub station : IsStation layout (station_of stop.kind job) spot
+    pub spot : StationSite
+    pub station : IsStation layout (stop_station stop.kind job) spot
     pub route : IsRoute layout at spot.node (ids_of edges)
     pub known : All (IsEdgeOf layout) edges
     pub does : act ≡ record {
       kind = stop.kind;
       job = stop.job;
       load = job.load;
-      station = station_of stop.kind job;
+      station = stop_station stop.kind job;
       place_at = place + length edges;
       status = Waiting;
     }
@@ -36,8 +36,8 @@ module _ (layout : Layout) (jobs : List Job) where
   MakesStops at place [] edges (act ∷ acts) = ⊥
   MakesStops at place (stop ∷ stops) edges [] = ⊥
   MakesStops at place (stop ∷ stops) edges (act ∷ acts) =
-      (leg : List Edge) × (rest : List Edge) × (edges ≡ leg ++ rest)
-      × ((made : MakesStop at place stop leg act) × MakesStops made.spot.node (place + length leg) stops rest acts)
+      (stop_route : List Edge) × (rest : List Edge) × (edges ≡ stop_route ++ rest)
+      × ((made : MakesStop at place stop stop_route act) × MakesStops made.spot.node (place + length stop_route) stops rest acts)
 
   -- the trip starts at the vehicle's node and goes from stop to stop by the routes, over at most 200 edges, of which the first are released
   pub record IsPlanOf (stops : List Stop) (at : List ℕ) (base : ℕ) (trip : Trip) : Type 0 where

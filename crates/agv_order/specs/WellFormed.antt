@@ -5,7 +5,7 @@ use Rattle.std.specs.Cmp.Lexicographic.{pointwise}
 use Rattle.agv_layout.specs.Layout.{Layout, IsEdge, IsStation}
 use Rattle.agv_layout.specs.Walk.{IsWalk}
 use Rattle.agv_layout.specs.declared.edge.Edge.{Edge}
-use Rattle.agv_layout.specs.declared.station.Spot.{Spot}
+use Rattle.agv_layout.specs.declared.station.StationSite.{StationSite}
 use Rattle.agv_order.specs.Statuses.{is_waiting, is_finished, is_final}
 use Rattle.agv_order.specs.Stops.{is_drop, stops_fit}
 use Rattle.agv_order.specs.Trips.{Task, stop_of, Plan, plan_of, nodes_on}
@@ -30,7 +30,7 @@ IsRising from (task ∷ tasks) to = (from ≤ task.place_at) × IsRising task.pl
 -- the station of the task is at the node of its place
 abbrev pub IsAtStation : Layout → Plan → Task → Type 0
 IsAtStation layout plan task =
-    (spot : Spot) × IsStation layout task.station spot × (slice_get (nodes_on plan.start plan.edges) task.place_at ≡ Some spot.node)
+    (spot : StationSite) × IsStation layout task.station spot × (slice_get (nodes_on plan.start plan.edges) task.place_at ≡ Some spot.node)
 
 -- a walk of at most 200 edges; one to four jobs, each picked and later dropped; each task at its station, in the order of the way, the last at its end
 pub record IsPlanned (layout : Layout) (plan : Plan) : Type 0 where

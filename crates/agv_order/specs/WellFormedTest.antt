@@ -6,8 +6,8 @@ use Rattle.std.specs.FinSet as set
 use Rattle.std.specs.Cmp.Lexicographic.{pointwise}
 use Rattle.agv_layout.specs.Layout.{Layout}
 use Rattle.agv_layout.specs.declared.edge.Edge.{Edge}
-use Rattle.agv_layout.specs.declared.edge.Ends.{Ends}
-use Rattle.agv_layout.specs.declared.station.Spot.{Spot}
+use Rattle.agv_layout.specs.declared.edge.EdgeEnds.{EdgeEnds}
+use Rattle.agv_layout.specs.declared.station.StationSite.{StationSite}
 use Rattle.agv_order.specs.Stops.{stops_fit}
 use Rattle.agv_order.specs.Trips.{task_of, stop_of, node_at}
 use Rattle.agv_order.specs.WellFormed.{is_reached, is_in_turn, has_not_begun, is_over}
@@ -18,7 +18,7 @@ use Rattle.agv_order.specs.declared.trip.Trip.{Trip}
 -- ---- the plan
 
 -- the edge has these ends
-abbrev pub has_ends : Edge → Option Ends → Bool
+abbrev pub has_ends : Edge → Option EdgeEnds → Bool
 has_ends edge None = false
 has_ends edge (Some ends) = pointwise nat_eq ends.start edge.start && pointwise nat_eq ends.finish edge.finish
 
@@ -41,7 +41,7 @@ is_rising from [] to = from == to
 is_rising from (act ∷ acts) to = nat_le from act.place_at && is_rising act.place_at acts to
 
 -- the node is there, and the spot is at it
-abbrev pub is_spot_at : Option (List ℕ) → Option Spot → Bool
+abbrev pub is_spot_at : Option (List ℕ) → Option StationSite → Bool
 is_spot_at None spot = false
 is_spot_at (Some node) None = false
 is_spot_at (Some node) (Some spot) = pointwise nat_eq spot.node node

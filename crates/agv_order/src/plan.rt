@@ -1,11 +1,11 @@
 //! Planning a trip.
 ghost use Rattle.std.specs.Prelude.{◌≡◌, ◌≢◌, ◌⊎◌, ◌≤◌, ◌++◌, [], ◌∷◌, length, map, Some, None, Ok, Err, IfOk, IfErr, OnOk, IsTrue};
-ghost use Rattle.agv_order.specs.Plans.{legs_to, way_of, acts_along, planned};
+ghost use Rattle.agv_order.specs.Plans.{stop_routes_to, way_of, acts_along, planned};
 ghost use Rattle.agv_order.specs.Stops.{stops_fit};
 ghost use Rattle.agv_order.specs.WellFormed.{IsWellFormed};
 ghost use Rattle.agv_order.specs.declared.fault.PlanFault.TheVariants as fault;
 
-use crate::leg::{Leg, act_at, leg_to};
+use crate::stop_route::{StopRoute, act_at, stop_route_to};
 use crate::{Act, PlanFault, Stop, Trip};
 use agv_header::{Memory, Name, VehicleKey};
 use agv_layout::{Edge, Layout};
@@ -14,59 +14,59 @@ use agv_stock::Job;
 use std::alloc::Global;
 
 /// The most edges of a trip.
-const MOST_EDGES: usize = 200;
+const MAX_TRIP_EDGES: usize = 200;
 
-/// The legs from a node to each stop in turn; `NoWalk` where one of them can't be had.
-fn legs_to(
+/// The routes from a node to each stop in turn; `NoWalk` where one of them can't be had.
+fn stop_routes_to(
     alloc: Global,
     layout: &Layout,
     jobs: &[Job],
     start: Name,
     stops: &[Stop],
-) -> Result<Vec<Leg>, PlanFault>
-    ensures ok { IfOk result (λ legs. legs_to layout.now jobs.now start stops.now ≡ Some legs.items) }
-    ensures no_walk { result ≡ Err fault.NoWalk → legs_to layout.now jobs.now start stops.now ≡ None }
+) -> Result<Vec<StopRoute>, PlanFault>
+    ensures ok { IfOk result (λ stop_routes. stop_routes_to layout.now jobs.now start stops.now ≡ Some stop_routes.items) }
+    ensures no_walk { result ≡ Err fault.NoWalk → stop_routes_to layout.now jobs.now start stops.now ≡ None }
     ensures err { IfErr result (λ error. (error ≡ fault.NoWalk) ⊎ (error ≡ fault.Memory)) }
 {
-    let mut legs = Vec::new(alloc);
+    let mut stop_routes = Vec::new(alloc);
     let mut at = start;
     for stop in stops {
-        let leg = leg_to(alloc, layout, jobs, at, *stop)?;
-        at = leg.goal;
-        legs.push(leg)?;
+        let stop_route = stop_route_to(alloc, layout, jobs, at, *stop)?;
+        at = stop_route.goal;
+        stop_routes.push(stop_route)?;
     }
-    Ok(legs)
+    Ok(stop_routes)
 }
 
-/// Adds the edges of a leg.
-fn add_edges(way: &mut Vec<Edge>, leg: &Leg) -> Result<(), Memory>
-    ensures { OnOk result (way.new.items ≡ way.old.items ++ leg.now.edges) }
+/// Adds the edges of a route.
+fn add_edges(way: &mut Vec<Edge>, stop_route: &StopRoute) -> Result<(), Memory>
+    ensures { OnOk result (way.new.items ≡ way.old.items ++ stop_route.now.edges) }
 {
-    way.extend_from_slice(leg.edges.as_slice())?;
+    way.extend_from_slice(stop_route.edges.as_slice())?;
     Ok(())
 }
 
-/// The edges of all legs.
-fn way_of(alloc: Global, legs: &[Leg]) -> Result<Vec<Edge>, Memory>
-    ensures { IfOk result (λ way. way.items ≡ way_of legs.now) }
+/// The edges of all routes.
+fn way_of(alloc: Global, stop_routes: &[StopRoute]) -> Result<Vec<Edge>, Memory>
+    ensures { IfOk result (λ way. way.items ≡ way_of stop_routes.now) }
 {
     let mut way = Vec::new(alloc);
-    for leg in legs {
-        add_edges(&mut way, leg)?;
+    for stop_route in stop_routes {
+        add_edges(&mut way, stop_route)?;
     }
     Ok(way)
 }
 
-/// The acts at the ends of the legs.
-fn acts_along(alloc: Global, legs: &[Leg]) -> Result<Vec<Act>, Memory>
-    requires { length (way_of legs.now) ≤ 200 }
-    ensures { IfOk result (λ acts. acts.items ≡ acts_along 0 legs.now) }
+/// The acts at the ends of the routes.
+fn acts_along(alloc: Global, stop_routes: &[StopRoute]) -> Result<Vec<Act>, Memory>
+    requires { length (way_of stop_routes.now) ≤ 200 }
+    ensures { IfOk result (λ acts. acts.items ≡ acts_along 0 stop_routes.now) }
 {
     let mut acts = Vec::new(alloc);
     let mut place = 0;
-    for leg in legs {
-        place += leg.edges.len() as u32;
-        acts.push(act_at(leg, place))?;
+    for stop_route in stop_routes {
+        place += stop_route.edges.len() as u32;
+        acts.push(act_at(stop_route, place))?;
     }
     Ok(acts)
 }
@@ -98,9 +98,9 @@ impl Trip {
         ensures err { IfErr result (λ error. error ≢ fault.Memory → planned layout.now vehicle jobs.now stops.now order at_node edges ≡ Err error) }
         ensures well_formed { IsTrue (stops_fit stops.now) → length stops.now ≤ 8 → IfOk result (IsWellFormed layout.now) }
     {
-        let legs = legs_to(alloc, layout, jobs, at_node, stops)?;
-        let way = way_of(alloc, &legs)?;
-        if way.len() > MOST_EDGES {
+        let stop_routes = stop_routes_to(alloc, layout, jobs, at_node, stops)?;
+        let way = way_of(alloc, &stop_routes)?;
+        if way.len() > MAX_TRIP_EDGES {
             return Err(PlanFault::TooLong);
         }
         if edges as usize > way.len() {
@@ -116,7 +116,7 @@ impl Trip {
             sent: 0,
             confirmed: None,
             seen: 0,
-            acts: Sequence::from(acts_along(alloc, &legs)?),
+            acts: Sequence::from(acts_along(alloc, &stop_routes)?),
         })
     }
 }

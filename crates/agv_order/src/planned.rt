@@ -5,16 +5,16 @@ ghost use Rattle.std.specs.Cmp.Lexicographic.{pointwise};
 ghost use Rattle.agv_order.specs.Stops.{kinds_of, is_pick_then_drop, stops_fit};
 ghost use Rattle.agv_order.specs.WellFormedTest.{is_edge_of, is_way_of, is_rising, is_at_station, is_planned, stops_of};
 
-use crate::served::Served;
+use crate::job_progress::JobProgress;
 use crate::{Act, Trip};
 use agv_header::Name;
 use agv_layout::{Edge, Layout};
 
 /// The most edges of a trip.
-const MOST_EDGES: usize = 200;
+const MAX_TRIP_EDGES: usize = 200;
 
 /// The most acts of a trip.
-const MOST_ACTS: usize = 8;
+const MAX_TRIP_ACTS: usize = 8;
 
 /// Whether the edge leads as the layout says.
 fn is_edge_of(layout: &Layout, edge: &Edge) -> bool
@@ -51,7 +51,7 @@ fn is_way_of(layout: &Layout, start: Name, edges: &[Edge]) -> bool
 fn is_carried(acts: &[Act], job: Name) -> bool
     ensures { result ≡ is_pick_then_drop (kinds_of (stops_of acts.now) job) }
 {
-    let mut served = Served::Waiting;
+    let mut served = JobProgress::Waiting;
     for act in acts {
         if act.job == job {
             served = served.then(act.kind);
@@ -118,8 +118,8 @@ impl Trip {
     {
         let edges = self.edges.as_slice();
         let acts = self.acts.as_slice();
-        edges.len() <= MOST_EDGES
-            && acts.len() <= MOST_ACTS
+        edges.len() <= MAX_TRIP_EDGES
+            && acts.len() <= MAX_TRIP_ACTS
             && is_way_of(layout, self.start, edges)
             && acts_fit(acts)
             && is_rising(acts, edges.len())

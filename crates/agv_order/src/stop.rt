@@ -3,7 +3,7 @@ ghost use Rattle.std.specs.Prelude.{◌≡◌};
 ghost use Rattle.std.specs.List.{list_all};
 ghost use Rattle.agv_order.specs.Stops.{kinds_of, is_pick_then_drop, stops_fit};
 
-use crate::served::is_served;
+use crate::job_progress::is_picked_then_dropped;
 use agv_header::Name;
 use agv_message::ActKind;
 
@@ -18,7 +18,7 @@ pub struct Stop {
 fn are_all_served(stops: &[Stop]) -> bool
     ensures { result ≡ list_all (λ one. is_pick_then_drop (kinds_of stops.now one.job)) stops.now }
 {
-    stops.iter().all(|stop| is_served(stops, stop.job))
+    stops.iter().all(|stop| is_picked_then_dropped(stops, stop.job))
 }
 
 /// Whether these stops can be carried out: there is at least one, and the load of each job that is named

@@ -3,7 +3,7 @@ use Rattle.std.specs.Prelude.{ℕ, ◌+◌, Bool, true, false, List, [], map}
 use Rattle.std.specs.FinMap as finite
 use Rattle.std.specs.FinSet as set
 use Rattle.std.specs.Map.{keys_of}
-use Rattle.agv_layout.specs.declared.station.Spot.{Spot}
+use Rattle.agv_layout.specs.declared.station.StationSite.{StationSite}
 use Rattle.agv_layout.specs.declared.station.Station.{Station}
 use Rattle.agv_count.specs.Reports.{stock_text, hold_text, loads_text}
 use Rattle.agv_world.specs.Questions.{reserved}
@@ -13,12 +13,12 @@ use Rattle.agv_desk.specs.declared.answer.Answer.{Answer}
 use Rattle.agv_desk.specs.declared.answer.Answer.TheVariants as answer
 
 -- a station with its name
-abbrev pub station_named : List ℕ × Spot → Station
+abbrev pub station_named : List ℕ × StationSite → Station
 station_named spot = record { id = spot.0; node = spot.1.node; capacity = spot.1.capacity }
 
 -- the stations in the order of their names, each with the number of live jobs to it
 abbrev pub stations_told : World → List (Station × ℕ)
-stations_told world = map (λ (spot : List ℕ × Spot). (station_named spot, reserved world spot.0)) (finite.entries world.layout.stations)
+stations_told world = map (λ (spot : List ℕ × StationSite). (station_named spot, reserved world spot.0)) (finite.entries world.layout.stations)
 
 -- the report that an answer names, of this world: the stock report, the hold report or the export
 abbrev pub report_of : World → Answer → List ℕ

@@ -15,7 +15,7 @@
 //! ```
 
 use crate::cases::{kit, moment, name, number};
-use agv_layout::{Ends, Spot};
+use agv_layout::{EdgeEnds, StationSite};
 use agv_message::{InstantKind, Sequence, Status};
 use agv_order::Act;
 use agv_stock::{Phase, Place};
@@ -215,12 +215,12 @@ fn set_row(rt: &impl Abort, world: &mut World, words: &Words<'_>) {
         "edge" => {
             let start = name(rt, first);
             let finish = name(rt, second);
-            world.edges.insert(id, Ends { start, finish })
+            world.edges.insert(id, EdgeEnds { start, finish })
         }
         "station" => {
             let node = name(rt, first);
             let capacity = number(rt, second);
-            world.stations.insert(id, Spot { node, capacity })
+            world.stations.insert(id, StationSite { node, capacity })
         }
         "leg" => {
             let k = number(rt, first);

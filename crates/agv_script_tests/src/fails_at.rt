@@ -3,7 +3,7 @@ ghost use Rattle.std.specs.Prelude.{◌≡◌, true, IfErr, IfOk};
 ghost use Rattle.agv_world.specs.declared.fault.Fault.TheVariants as fault;
 
 use agv_header::{Name, Thing, VehicleKey};
-use agv_layout::{Layout, Spot};
+use agv_layout::{Layout, StationSite};
 use agv_message::Sequence;
 use agv_order::Trip;
 use agv_stock::Place;
@@ -96,7 +96,7 @@ impl Floor for FailsAt<'_> {
         self.floor.node(id)
     }
 
-    fn station(&mut self, id: Name) -> Result<Option<Spot>, Fault> {
+    fn station(&mut self, id: Name) -> Result<Option<StationSite>, Fault> {
         self.ask()?;
         self.floor.station(id)
     }

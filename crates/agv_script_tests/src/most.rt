@@ -5,7 +5,7 @@ use crate::scripts::layouts::ALONE;
 use crate::scripts::starts::LAYOUT;
 use crate::unlawful::{is_lawful, world_after};
 use agv_header::Memory;
-use agv_layout::{Ends, Spot};
+use agv_layout::{EdgeEnds, StationSite};
 use agv_stock::{Phase, Place};
 use agv_world::{JobRow, UseKey, UseKind, World};
 use std::alloc::Global;
@@ -17,15 +17,15 @@ POST /loads {"load":"L1","station":"A"}
 200 {}
 "#;
 
-fn ends(rt: &impl Abort) -> Ends {
-    Ends {
+fn ends(rt: &impl Abort) -> EdgeEnds {
+    EdgeEnds {
         start: name(rt, "N1"),
         finish: name(rt, "N2"),
     }
 }
 
-fn spot(rt: &impl Abort) -> Spot {
-    Spot {
+fn spot(rt: &impl Abort) -> StationSite {
+    StationSite {
         node: name(rt, "N2"),
         capacity: 1,
     }

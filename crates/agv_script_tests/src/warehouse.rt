@@ -7,7 +7,7 @@
 
 use crate::cases::{name, numbered};
 use agv_header::{Moment, Name, VehicleKey};
-use agv_layout::{Ends, Spot};
+use agv_layout::{EdgeEnds, StationSite};
 use agv_message::{ActKind, InstantKind, Sequence, Status};
 use agv_order::Act;
 use agv_stock::{Phase, Place};
@@ -32,17 +32,17 @@ fn add_node(rt: &impl Abort, alloc: Global, world: &mut World, number: u32) {
     world.nodes.insert(start).expect(rt, "memory");
     world
         .edges
-        .insert(forward, Ends { start, finish })
+        .insert(forward, EdgeEnds { start, finish })
         .expect(rt, "memory");
     let (start, finish) = (finish, start);
     world
         .edges
-        .insert(back, Ends { start, finish })
+        .insert(back, EdgeEnds { start, finish })
         .expect(rt, "memory");
 }
 
 fn add_station(rt: &impl Abort, alloc: Global, world: &mut World, number: u32, node: u32) {
-    let spot = Spot {
+    let spot = StationSite {
         node: numbered(rt, alloc, 'P', node),
         capacity: 4,
     };

@@ -21,8 +21,8 @@ use Rattle.agv_header.specs.declared.key.Thing.{Thing}
 use Rattle.agv_header.specs.declared.key.VehicleKey.{VehicleKey}
 use Rattle.agv_header.specs.Name.{name_cmp}
 use Rattle.agv_layout.specs.Layout.{KeepsRules, Layout}
-use Rattle.agv_layout.specs.declared.edge.Ends.{Ends}
-use Rattle.agv_layout.specs.declared.station.Spot.{Spot}
+use Rattle.agv_layout.specs.declared.edge.EdgeEnds.{EdgeEnds}
+use Rattle.agv_layout.specs.declared.station.StationSite.{StationSite}
 use Rattle.agv_layout.specs.declared.station.Station.{Station}
 use Rattle.agv_track.specs.Holds.{Holds, is_own}
 use Rattle.agv_world.specs.Lawful.{IsLawful}
@@ -177,7 +177,7 @@ few_jobs world station lawful =
 few_laid : (layout : Layout) → (layout ≡ empty_layout) ⊎ KeepsRules layout → set.len layout.nodes + finite.len layout.edges ≤ 2000
 few_laid layout (inl empty) =
     subst (λ (l : Layout). set.len l.nodes + finite.len l.edges ≤ 2000) (sym empty)
-    (let nodes = set.len-empty name_cmp in let edges = finite.len-empty name_cmp Ends in omega (arith, nodes, edges))
+    (let nodes = set.len-empty name_cmp in let edges = finite.len-empty name_cmp EdgeEnds in omega (arith, nodes, edges))
 few_laid layout (inr rules) = let nodes = rules.few_nodes in let edges = rules.few_edges in omega (arith, nodes, edges)
 
 pub few_things : (world : World) → IsLawful desk_seats world → set.len world.layout.nodes + finite.len world.layout.edges ≤ 2000
@@ -193,14 +193,14 @@ counted nodes edges n m sum told few n_is m_is sum_is told_is =
 -- ---- the stations
 
 -- a station with its name, and the live jobs to it
-abbrev pub with_jobs_to : World → List ℕ × Spot → Station × ℕ
+abbrev pub with_jobs_to : World → List ℕ × StationSite → Station × ℕ
 with_jobs_to world spot = (station_named spot, reserved world spot.0)
 
 append_one : {A : Type 0} (xs more : List A) (x : A) (rest : List A) → more ≡ xs ++ x ∷ [] → more ++ rest ≡ xs ++ x ∷ rest
 append_one xs more x rest is = ap (λ ys. ys ++ rest) is ∙ append_assoc xs (x ∷ []) rest
 
 -- one station more is listed
-pub one_more_station : (world now : World) (spots : List (List ℕ × Spot)) (i : ℕ) (spot : List ℕ × Spot) (jobs : ℕ) (so_far more : List (Station × ℕ)) → now ≡ world
+pub one_more_station : (world now : World) (spots : List (List ℕ × StationSite)) (i : ℕ) (spot : List ℕ × StationSite) (jobs : ℕ) (so_far more : List (Station × ℕ)) → now ≡ world
     → i < length spots → spot ≡ get_or spots i spot → (IsLawful desk_seats now → jobs ≡ reserved now spot.0) → more ≡ so_far ++ (station_named spot, jobs) ∷ []
     → (IsLawful desk_seats world → so_far ++ map (with_jobs_to world) (drop i spots) ≡ map (with_jobs_to world) spots)
     → IsLawful desk_seats world → more ++ map (with_jobs_to world) (drop (i + 1) spots) ≡ map (with_jobs_to world) spots
@@ -208,6 +208,6 @@ one_more_station world now spots i spot jobs so_far more same low is told pushed
     let jobs_are : jobs ≡ reserved world spot.0 = told (subst (IsLawful desk_seats) (sym same) lawful) ∙ ap (λ (w : World). reserved w spot.0) same in
     append_one so_far more (station_named spot, jobs) (map (with_jobs_to world) (drop (i + 1) spots)) pushed
     ∙ ap (λ (n : ℕ). so_far ++ (station_named spot, n) ∷ map (with_jobs_to world) (drop (i + 1) spots)) jobs_are
-    ∙ ap (λ (x : List ℕ × Spot). so_far ++ with_jobs_to world x ∷ map (with_jobs_to world) (drop (i + 1) spots)) is
-    ∙ sym (at_drop_more (λ (xs : List (List ℕ × Spot)). so_far ++ map (with_jobs_to world) xs) spots i spot low)
+    ∙ ap (λ (x : List ℕ × StationSite). so_far ++ with_jobs_to world x ∷ map (with_jobs_to world) (drop (i + 1) spots)) is
+    ∙ sym (at_drop_more (λ (xs : List (List ℕ × StationSite)). so_far ++ map (with_jobs_to world) xs) spots i spot low)
     ∙ before lawful

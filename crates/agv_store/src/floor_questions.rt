@@ -3,7 +3,7 @@
 use crate::flags::note;
 use crate::keyed_floor::KeyedFloor;
 use agv_header::{Name, Thing, VehicleKey};
-use agv_layout::{Layout, Spot};
+use agv_layout::{Layout, StationSite};
 use agv_message::Sequence;
 use agv_order::Trip;
 use agv_stock::Place;
@@ -75,7 +75,7 @@ impl<S: Alter + Drop> Floor for KeyedFloor<S> {
         note(&mut self.failed, &mut self.in_doubt, asked)
     }
 
-    fn station(&mut self, id: Name) -> Result<Option<Spot>, Fault> {
+    fn station(&mut self, id: Name) -> Result<Option<StationSite>, Fault> {
         let asked = ask_station(&mut self.conn, &id);
         note(&mut self.failed, &mut self.in_doubt, asked)
     }

@@ -3,7 +3,7 @@ ghost use Rattle.std.specs.Prelude.{◌≡◌, ◌<◌, ◌+◌, ◌^◌, ℕ, L
 ghost use Rattle.std.specs.FinMap as finite;
 ghost use Rattle.std.specs.FinSet as set;
 ghost use Rattle.std.specs.Map.{keys_of};
-ghost use Rattle.agv_layout.specs.declared.station.Spot.{Spot as SpotOf};
+ghost use Rattle.agv_layout.specs.declared.station.StationSite.{StationSite as SpotOf};
 ghost use Rattle.agv_world.specs.Asks.{Asks};
 ghost use Rattle.agv_world.specs.Lawful.{IsLawful};
 ghost use Rattle.agv_world.specs.Questions.{reserved};
@@ -15,7 +15,7 @@ ghost use Rattle.agv_store.specs.ReportLists.{entered};
 
 use crate::keyed_floor::KeyedFloor;
 use agv_header::{Memory, Name, Thing, VehicleKey};
-use agv_layout::{Spot, Station};
+use agv_layout::{StationSite, Station};
 use agv_stock::Place;
 use agv_tables::HeldThings;
 use agv_world::{ByVehicle, Fault, Floor, VehicleRow};
@@ -31,7 +31,7 @@ fn told_number(number: usize) -> u32
 }
 
 // A station with its name.
-fn station_named(id: Name, spot: &Spot) -> Station
+fn station_named(id: Name, spot: &StationSite) -> Station
     ensures { result ≡ station_named (id, spot.now) }
 {
     Station {
@@ -88,7 +88,7 @@ impl<S: Alter + Drop> KeyedFloor<S> {
     }
 
     // These stations, each with the number of live jobs to it.
-    fn with_jobs(&mut self, spots: &[(Name, Spot)]) -> Result<Vec<(Station, u32)>, Fault>
+    fn with_jobs(&mut self, spots: &[(Name, StationSite)]) -> Result<Vec<(Station, u32)>, Fault>
         ensures { Asks (facts_of S.Store) self.old self.new result (λ world stations. IsLawful desk_seats world → stations.items ≡ map (λ (spot : List ℕ × SpotOf). (station_named spot, reserved world spot.0)) spots.now) }
     {
         let mut stations = Vec::new(self.alloc);

@@ -6,7 +6,7 @@ ghost use Rattle.agv_store.specs.Floors.{facts_of};
 
 use crate::flags::note;
 use crate::keyed_floor::KeyedFloor;
-use agv_layout::{Ends, Spot};
+use agv_layout::{EdgeEnds, StationSite};
 use agv_stock::Place;
 use agv_tables::HeldThings;
 use agv_tables::readings::hold_reading::ask_holds;
@@ -26,7 +26,7 @@ impl<S: Alter + Drop> KeyedFloor<S> {
     }
 
     // The edges of the layout.
-    pub(crate) fn all_edges(&mut self) -> Result<ByName<Ends>, Fault>
+    pub(crate) fn all_edges(&mut self) -> Result<ByName<EdgeEnds>, Fault>
         ensures { Asks (facts_of S.Store) self.old self.new result (λ world table. table ≡ world.layout.edges) }
     {
         let asked = ask_edges(self.alloc, &mut self.conn);
@@ -34,7 +34,7 @@ impl<S: Alter + Drop> KeyedFloor<S> {
     }
 
     // The stations of the layout.
-    pub(crate) fn all_stations(&mut self) -> Result<ByName<Spot>, Fault>
+    pub(crate) fn all_stations(&mut self) -> Result<ByName<StationSite>, Fault>
         ensures { Asks (facts_of S.Store) self.old self.new result (λ world table. table ≡ world.layout.stations) }
     {
         let asked = ask_stations(self.alloc, &mut self.conn);

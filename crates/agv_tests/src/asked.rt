@@ -6,7 +6,7 @@
 
 use crate::cases::check;
 use agv_header::{Moment, Name, Thing, VehicleKey};
-use agv_layout::{Ends, Spot};
+use agv_layout::{EdgeEnds, StationSite};
 use agv_message::{ActKind, Sequence, Status};
 use agv_order::Act;
 use agv_stock::{Phase, Place};
@@ -49,8 +49,8 @@ pub(crate) fn write<S: Alter>(rt: &impl Abort, conn: &mut Connection<S>, changes
     write_changes(conn, changes).expect(rt, "a commit");
 }
 
-fn spot(rt: &impl Abort, node: &str) -> Spot {
-    Spot {
+fn spot(rt: &impl Abort, node: &str) -> StationSite {
+    StationSite {
         node: name(rt, node),
         capacity: 4,
     }
@@ -92,8 +92,8 @@ fn job(rt: &impl Abort, load: Name, phase: Phase) -> JobRow {
     }
 }
 
-fn ends(rt: &impl Abort, start: &str, finish: &str) -> Ends {
-    Ends {
+fn ends(rt: &impl Abort, start: &str, finish: &str) -> EdgeEnds {
+    EdgeEnds {
         start: name(rt, start),
         finish: name(rt, finish),
     }

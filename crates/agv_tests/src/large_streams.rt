@@ -6,7 +6,7 @@ use crate::cases::check_stream;
 use crate::fakes::{Drip, Trickle};
 use crate::table_cases::adopted;
 use agv_face::{Ended, Served};
-use agv_layout::Spot;
+use agv_layout::StationSite;
 use agv_stock::Place;
 use agv_tables::schema::desk_tables::make_desk_tables;
 use agv_world::Change;
@@ -31,7 +31,7 @@ fn write_layout<S: Alter>(rt: &impl Abort, alloc: Global, conn: &mut Connection<
     changes.push(Change::Node(node)).expect(rt, "memory");
     for number in 0..STATIONS {
         let station = numbered(rt, alloc, 'S', number);
-        let spot = Spot {
+        let spot = StationSite {
             node,
             capacity: 999,
         };

@@ -5,8 +5,8 @@ use Rattle.agv_header.specs.declared.key.Thing.{Thing}
 use Rattle.agv_header.specs.declared.key.Thing.TheVariants as thing
 use Rattle.agv_layout.specs.declared.edge.Edge.{Edge}
 use Rattle.agv_track.specs.Footprints.{along}
-use Rattle.agv_track.specs.Once.{with_thing, with_things}
-use Rattle.agv_track.specs.Firsts.{things-append}
+use Rattle.agv_track.specs.OrderedSet.{with_thing, with_things}
+use Rattle.agv_track.proofs.Firsts.{things-append}
 
 along-append : (xs ys : List Edge) → along (xs ++ ys) ≡ along xs ++ along ys
 along-append [] ys = refl

@@ -9,7 +9,7 @@ use Rattle.agv_header.specs.KeyOrder.{key_eq}
 use Rattle.agv_header.specs.ThingOrder.{thing_eq}
 use Rattle.agv_header.specs.declared.key.Thing.{Thing}
 use Rattle.agv_header.specs.declared.key.VehicleKey.{VehicleKey}
-use Rattle.agv_track.specs.Holders.{Footprints, IsHeldBy, with_footprint, gained}
+use Rattle.agv_track.specs.Holders.{Footprints, HoldsFootprints, with_footprint, gained}
 use Rattle.agv_track.specs.Holds.{Holds, is_in, is_own, other_holder, first_held, claimed, shed_from, or_further}
 use Rattle.agv_track.proofs.Claims.{same_thing, same_vehicle, vehicle_itself, same_holds, get-claimed, none_held, own_or_free}
 use Rattle.agv_track.proofs.Sheds.{get-shed}
@@ -88,8 +88,8 @@ is_in-cond true q one other = refl
 is_in-cond false q one other = refl
 
 pub holders_move : (table : Holds) (footprint_of : Footprints) (key : VehicleKey) (next : List Thing)
-    → IsHeldBy table footprint_of → first_held table key next ≡ None
-    → IsHeldBy (shed_from (claimed table key next) key (footprint_of key) next) (with_footprint footprint_of key next)
+    → HoldsFootprints table footprint_of → first_held table key next ≡ None
+    → HoldsFootprints (shed_from (claimed table key next) key (footprint_of key) next) (with_footprint footprint_of key next)
 holders_move table footprint_of key next held none q by =
     let is = at_thing key (λ v. is_in q (footprint_of v)) (get table q) (held q) (is_in q next) (λ among. own_or_free key (get table q) (none_held table key next none q among)) by in
     let now = get-after table key (footprint_of key) next q in
@@ -107,7 +107,7 @@ as_claimed key true true o own = own refl
 as_claimed key true false o own = refl
 as_claimed key false new o own = refl
 
-pub gains_are_all : (table : Holds) (footprint_of : Footprints) (key : VehicleKey) (next : List Thing) → IsHeldBy table footprint_of
+pub gains_are_all : (table : Holds) (footprint_of : Footprints) (key : VehicleKey) (next : List Thing) → HoldsFootprints table footprint_of
     → claimed table key (gained (footprint_of key) next) ≡ claimed table key next
 gains_are_all table footprint_of key next held =
     same_holds _ _ (λ q.
@@ -124,7 +124,7 @@ first_cond : (table : Holds) (key : VehicleKey) (b : Bool) (x : Thing) (xs ys : 
 first_cond table key true x xs ys same own = ap (or_further x (other_holder key (get table x))) same
 first_cond table key false x xs ys same own = same ∙ sym (ap (λ o. or_further x o (first_held table key ys)) (own refl))
 
-pub gains_are_first : (table : Holds) (footprint_of : Footprints) (key : VehicleKey) (next : List Thing) → IsHeldBy table footprint_of
+pub gains_are_first : (table : Holds) (footprint_of : Footprints) (key : VehicleKey) (next : List Thing) → HoldsFootprints table footprint_of
     → first_held table key (gained (footprint_of key) next) ≡ first_held table key next
 gains_are_first table footprint_of key [] held = refl
 gains_are_first table footprint_of key (x ∷ xs) held =
@@ -133,7 +133,7 @@ gains_are_first table footprint_of key (x ∷ xs) held =
 
 -- ---- one table
 
-pub one_needs : (table : Holds) (footprint_of : Footprints) → IsHeldBy table footprint_of
+pub one_needs : (table : Holds) (footprint_of : Footprints) → HoldsFootprints table footprint_of
     → (q : Thing) (one other : VehicleKey) → is_in q (footprint_of one) ≡ true → is_in q (footprint_of other) ≡ true → one ≡ other
 one_needs table footprint_of held q one other a b = same_Some one other (sym ((held q one).1 a) ∙ (held q other).1 b)
 
@@ -142,9 +142,9 @@ alike (Some a) p there back = sym (there a refl)
 alike None None there back = refl
 alike None (Some b) there back = back b refl
 
-pub one_table : (footprint_of : Footprints) (table other : Holds) → IsHeldBy table footprint_of → IsHeldBy other footprint_of → table ≡ other
+pub one_table : (footprint_of : Footprints) (table other : Holds) → HoldsFootprints table footprint_of → HoldsFootprints other footprint_of → table ≡ other
 one_table footprint_of table other held also =
     same_holds _ _ (λ q. alike (get table q) (get other q) (λ by e. (also q by).1 ((held q by).0 e)) (λ by e. (held q by).1 ((also q by).0 e)))
 
-pub none_held_at_first : IsHeldBy empty (λ key. [])
+pub none_held_at_first : HoldsFootprints empty (λ key. [])
 none_held_at_first q by = (λ h. cc (get-empty {X = VehicleKey} thing_cmp q, h), λ h. absurd (false≢true h))

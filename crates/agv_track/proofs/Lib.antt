@@ -9,3 +9,8 @@ pub mod Holders
 pub mod Members
 pub mod Sheds
 mod Tables
+pub mod Firsts
+pub mod Occupied
+pub mod HeldLists
+pub mod Eight
+pub mod Judging

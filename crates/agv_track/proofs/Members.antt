@@ -6,7 +6,7 @@ use Rattle.std.proofs.lemmas.Map.Views.{Contains-from_any, list_any-from_Contain
 use Rattle.agv_header.specs.ThingOrder.{thing_cmp-total}
 use Rattle.agv_header.specs.declared.key.Thing.{Thing}
 use Rattle.agv_header.specs.declared.key.VehicleKey.{VehicleKey}
-use Rattle.agv_track.specs.Holders.{Footprints, IsHeldBy}
+use Rattle.agv_track.specs.Holders.{Footprints, HoldsFootprints}
 use Rattle.agv_track.specs.Holds.{Holds, is_in, is_own, sheds}
 use Rattle.agv_track.proofs.Claims.{same_thing, same_vehicle, vehicle_itself}
 use Rattle.agv_track.proofs.Holders.{one_needs}
@@ -36,7 +36,7 @@ sheds_own key old new thing by = (
 )
 
 -- no thing is in the footprints of two
-pub needed_by_one : (table : Holds) (footprint_of : Footprints) → IsHeldBy table footprint_of
+pub needed_by_one : (table : Holds) (footprint_of : Footprints) → HoldsFootprints table footprint_of
     → (thing : Thing) (one other : VehicleKey) → Contains (footprint_of one) thing → Contains (footprint_of other) thing → one ≡ other
 needed_by_one table footprint_of held thing one other a b =
     one_needs table footprint_of held thing one other ((is_member thing (footprint_of one)).1 a) ((is_member thing (footprint_of other)).1 b)

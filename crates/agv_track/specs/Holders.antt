@@ -11,8 +11,8 @@ abbrev pub Footprints : Type 0
 Footprints = VehicleKey → List Thing
 
 -- a vehicle holds a thing exactly if the thing is in its footprint; so no thing is in the footprints of two
-abbrev pub IsHeldBy : Holds → Footprints → Type 0
-IsHeldBy table footprint_of = (thing : Thing) (key : VehicleKey) → (get table thing ≡ Some key) ↔ IsTrue (is_in thing (footprint_of key))
+abbrev pub HoldsFootprints : Holds → Footprints → Type 0
+HoldsFootprints table footprint_of = (thing : Thing) (key : VehicleKey) → (get table thing ≡ Some key) ↔ IsTrue (is_in thing (footprint_of key))
 
 -- the footprints after one vehicle has got a new one
 abbrev pub with_footprint : Footprints → VehicleKey → List Thing → Footprints

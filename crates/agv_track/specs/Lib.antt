@@ -5,13 +5,8 @@ pub mod Ids
 pub mod Judgements
 pub mod Idle
 pub mod Footprints
-pub mod Once
-pub mod Firsts
-pub mod Occupied
-pub mod Held
+pub mod OrderedSet
 pub mod HoldCode
 pub mod Holders
 pub mod Holds
-pub mod Eight
 pub mod Progressed
-pub mod Judging

@@ -1,12 +1,12 @@
 //! What a vehicle holds.
 ghost use Rattle.std.specs.Prelude.{◌≡◌, ◌++◌, ◌∷◌, [], IfOk, OnOk, Some};
-ghost use Rattle.agv_track.specs.Once.{KnowsAll, with_things};
+ghost use Rattle.agv_track.specs.OrderedSet.{KnowsAll, with_things};
 ghost use Rattle.agv_track.specs.Footprints.{along, released_edges, from_node, rest_things, things_by, once, footprint_of};
 ghost use Rattle.agv_order.specs.Trips.{node_at};
 ghost use Rattle.agv_header.specs.declared.key.Thing.TheVariants.{Node};
 
 use crate::Standing;
-use crate::once::Once;
+use crate::ordered_set::OrderedSet;
 use crate::way::node_at;
 use agv_header::{Memory, Name, Thing};
 use agv_layout::Edge;
@@ -25,7 +25,7 @@ fn released_edges(trip: &Trip) -> &[Edge]
 }
 
 // Adds the edges, each with the node where it leads.
-fn add_edges(once: &mut Once, edges: &[Edge]) -> Result<(), Memory>
+fn add_edges(once: &mut OrderedSet, edges: &[Edge]) -> Result<(), Memory>
     requires { KnowsAll once.old }
     ensures added { OnOk result (once.new.things.items ≡ with_things once.old.things.items (along edges.now)) }
 {
@@ -37,7 +37,7 @@ fn add_edges(once: &mut Once, edges: &[Edge]) -> Result<(), Memory>
 }
 
 // Adds what a vehicle on the trip holds.
-fn add_trip(once: &mut Once, trip: &Trip) -> Result<(), Memory>
+fn add_trip(once: &mut OrderedSet, trip: &Trip) -> Result<(), Memory>
     requires { KnowsAll once.old }
     ensures added { OnOk result (once.new.things.items ≡ with_things once.old.things.items (from_node (node_at trip.now trip.now.seen) (released_edges trip.now))) }
 {
@@ -49,7 +49,7 @@ fn add_trip(once: &mut Once, trip: &Trip) -> Result<(), Memory>
 }
 
 // Adds what a vehicle without a trip holds.
-fn add_rest(once: &mut Once, node: Name, rest: Option<(Name, Name)>) -> Result<(), Memory>
+fn add_rest(once: &mut OrderedSet, node: Name, rest: Option<(Name, Name)>) -> Result<(), Memory>
     requires { KnowsAll once.old }
     ensures added { OnOk result (once.new.things.items ≡ with_things once.old.things.items (Node node ∷ rest_things rest)) }
 {
@@ -62,7 +62,7 @@ fn add_rest(once: &mut Once, node: Name, rest: Option<(Name, Name)>) -> Result<(
 }
 
 // Adds what the vehicle holds.
-fn add_standing(once: &mut Once, standing: &Standing) -> Result<(), Memory>
+fn add_standing(once: &mut OrderedSet, standing: &Standing) -> Result<(), Memory>
     requires { KnowsAll once.old }
     ensures added { OnOk result (once.new.things.items ≡ with_things once.old.things.items (things_by standing.now.node standing.now.rest standing.now.trip)) }
 {
@@ -82,7 +82,7 @@ fn add_standing(once: &mut Once, standing: &Standing) -> Result<(), Memory>
 pub fn footprint(alloc: Global, standing: &Standing) -> Result<Vec<Thing>, Memory>
     ensures { IfOk result (λ things. things.items ≡ footprint_of standing.now) }
 {
-    let mut once = Once::new(alloc);
+    let mut once = OrderedSet::new(alloc);
     add_standing(&mut once, standing)?;
     Ok(once.things)
 }

@@ -5,7 +5,7 @@ ghost use Rattle.std.specs.FinMap as map;
 ghost use Rattle.std.specs.List.{Contains};
 ghost use Rattle.agv_header.specs.declared.key.Thing.{Thing};
 ghost use Rattle.agv_header.specs.declared.key.VehicleKey.{VehicleKey};
-ghost use Rattle.agv_track.specs.Holders.{Footprints, IsHeldBy, gained, with_footprint};
+ghost use Rattle.agv_track.specs.Holders.{Footprints, HoldsFootprints, gained, with_footprint};
 ghost use Rattle.agv_track.specs.Holds.{Holds, IsFirstHeld, IsOpenTo, claimed, first_held, is_in, shed_from, sheds};
 
 /// The test for a thing of a list is membership.
@@ -52,32 +52,32 @@ pub fn frees_its_own()
 
 /// The empty table is that of vehicles that need nothing.
 pub fn is_empty_at_first()
-    ensures { IsHeldBy map.empty (λ key. []) }
+    ensures { HoldsFootprints map.empty (λ key. []) }
 {}
 
 /// Where a table says just who needs what, no thing is in the footprints of two vehicles.
 pub fn is_held_by_one()
-    ensures { (table : Holds) (footprint_of : Footprints) → IsHeldBy table footprint_of
+    ensures { (table : Holds) (footprint_of : Footprints) → HoldsFootprints table footprint_of
         → (thing : Thing) (one other : VehicleKey) → Contains (footprint_of one) thing → Contains (footprint_of other) thing → one ≡ other }
 {}
 
 /// There is one table at most that says just who needs what.
 pub fn is_one_table()
-    ensures { (footprint_of : Footprints) (table other : Holds) → IsHeldBy table footprint_of → IsHeldBy other footprint_of → table ≡ other }
+    ensures { (footprint_of : Footprints) (table other : Holds) → HoldsFootprints table footprint_of → HoldsFootprints other footprint_of → table ≡ other }
 {}
 
 /// From a table that says just who needs what, a vehicle claims its next footprint, of which no other vehicle holds
 /// anything, and then sheds what only its last one has: the table again says just who needs what.
 pub fn follows_a_vehicle()
     ensures { (table : Holds) (footprint_of : Footprints) (key : VehicleKey) (next : List Thing)
-        → IsHeldBy table footprint_of → first_held table key next ≡ None
-        → IsHeldBy (shed_from (claimed table key next) key (footprint_of key) next) (with_footprint footprint_of key next) }
+        → HoldsFootprints table footprint_of → first_held table key next ≡ None
+        → HoldsFootprints (shed_from (claimed table key next) key (footprint_of key) next) (with_footprint footprint_of key next) }
 {}
 
 /// From such a table it is one and the same to claim the next footprint, or only what it has and the last one has not:
 /// the claim is refused for the same thing, or gives the same table.
 pub fn needs_what_it_gains()
-    ensures { (table : Holds) (footprint_of : Footprints) (key : VehicleKey) (next : List Thing) → IsHeldBy table footprint_of
+    ensures { (table : Holds) (footprint_of : Footprints) (key : VehicleKey) (next : List Thing) → HoldsFootprints table footprint_of
         → (first_held table key (gained (footprint_of key) next) ≡ first_held table key next)
         × (claimed table key (gained (footprint_of key) next) ≡ claimed table key next) }
 {}

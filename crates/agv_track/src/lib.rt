@@ -18,7 +18,7 @@ mod holds;
 mod idle;
 mod judgement;
 pub mod laws;
-mod once;
+mod ordered_set;
 mod pending;
 mod progress;
 mod reported;

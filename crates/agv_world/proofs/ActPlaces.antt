@@ -6,7 +6,7 @@ use Rattle.std.proofs.lemmas.Bool.{and_parts, or_cases}
 use Rattle.agv_message.specs.declared.order.ActKind.{ActKind}
 use Rattle.agv_message.specs.declared.order.ActKind.TheVariants.{Pick, Drop}
 use Rattle.agv_order.specs.Statuses.{is_finished}
-use Rattle.agv_order.specs.StopPlaces.{IsAt, IsServed, CanBeDone}
+use Rattle.agv_order.specs.StopPlaces.{IsAt, IsPickedThenDropped, CanBeDone}
 use Rattle.agv_order.specs.Stops.{is_drop}
 use Rattle.agv_order.specs.Trips.{Task, task_of, stop_of}
 use Rattle.agv_order.specs.WellFormed.{is_in_turn, is_picked}
@@ -82,7 +82,7 @@ act_at acts kind job k at =
       job_is = ap (λ (t : Task). t.job) act.2 ∙ ap (λ (s : Stop). s.job) task.2;
     }
 
-just : (kind : ActKind) (stops : List Stop) (job : List ℕ) → IsServed stops job → (i k : ℕ) → IsAt stops job kind i → IsAt stops job kind k → i ≡ k
+just : (kind : ActKind) (stops : List Stop) (job : List ℕ) → IsPickedThenDropped stops job → (i k : ℕ) → IsAt stops job kind i → IsAt stops job kind k → i ≡ k
 just Pick stops job (pick, drop, before, picked, dropped) i k at by = picked.1 i at ∙ sym (picked.1 k by)
 just Drop stops job (pick, drop, before, picked, dropped) i k at by = dropped.1 i at ∙ sym (dropped.1 k by)
 
@@ -97,7 +97,7 @@ module _ (acts : List Act) (done : CanBeDone (stops_of acts)) where
   pub drop_of : (k : ℕ) (act : Act) → slice_get acts k ≡ Some act → ActAt acts Drop act.job
   drop_of k act at = found (done.each k (stop_of (task_of act)) (stop_at acts k act at))
     where
-      found : IsServed (stops_of acts) act.job → ActAt acts Drop act.job
+      found : IsPickedThenDropped (stops_of acts) act.job → ActAt acts Drop act.job
       found (pick, drop, before, picked, dropped) = act_at acts Drop act.job drop dropped.0
 
 -- ---- a finished drop has a finished pick

@@ -26,7 +26,7 @@ use Rattle.agv_world.specs.declared.row.TripRow.{TripRow}
 use Rattle.agv_world.specs.declared.world.World.{World as Tables}
 use Rattle.agv_world.proofs.EachElement.{all_pass, any_passes, each_passes, some_passes}
 use Rattle.agv_world.proofs.EachEntry.{all-entries, each-entry}
-use Rattle.agv_world.proofs.LadenCounts.{key_itself}
+use Rattle.agv_world.proofs.CapacityCounts.{key_itself}
 use Rattle.agv_world.proofs.Orders.{names_apart, names_total}
 use Rattle.agv_world.proofs.PlacesTold.{is_at_station, is_on_vehicle, placed_at, placed_on, same_key}
 use Rattle.agv_world.proofs.RowsTold.{act_of_row, row_of_trip}

@@ -4,8 +4,8 @@ use Rattle.std.specs.FinMap.{insert}
 use Rattle.std.specs.FinSet as set
 use Rattle.agv_header.specs.declared.key.Thing.{Thing}
 use Rattle.agv_header.specs.declared.key.VehicleKey.{VehicleKey}
-use Rattle.agv_layout.specs.declared.edge.Ends.{Ends}
-use Rattle.agv_layout.specs.declared.station.Spot.{Spot}
+use Rattle.agv_layout.specs.declared.edge.EdgeEnds.{EdgeEnds}
+use Rattle.agv_layout.specs.declared.station.StationSite.{StationSite}
 use Rattle.agv_stock.specs.declared.place.Place.{Place}
 use Rattle.agv_world.specs.Changes.{change, changed}
 use Rattle.agv_world.specs.Rows.{Rows}
@@ -54,12 +54,12 @@ unfolding changed
 changed-nodes [] r = refl
 changed-nodes (x ∷ xs) r = changed-nodes xs (record r { nodes = set.insert r.nodes x })
 
-pub changed-edges : (edges : List (List ℕ × Ends)) (r : Rows) → changed (map (λ (edge : List ℕ × Ends). row.Edge edge.0 edge.1) edges) r ≡ record r { edges = written r.edges edges }
+pub changed-edges : (edges : List (List ℕ × EdgeEnds)) (r : Rows) → changed (map (λ (edge : List ℕ × EdgeEnds). row.Edge edge.0 edge.1) edges) r ≡ record r { edges = written r.edges edges }
 unfolding changed
 changed-edges [] r = refl
 changed-edges (x ∷ xs) r = changed-edges xs (record r { edges = insert r.edges x.0 x.1 })
 
-pub changed-stations : (stations : List (List ℕ × Spot)) (r : Rows) → changed (map (λ (station : List ℕ × Spot). row.Station station.0 station.1) stations) r ≡ record r { stations = written r.stations stations }
+pub changed-stations : (stations : List (List ℕ × StationSite)) (r : Rows) → changed (map (λ (station : List ℕ × StationSite). row.Station station.0 station.1) stations) r ≡ record r { stations = written r.stations stations }
 unfolding changed
 changed-stations [] r = refl
 changed-stations (x ∷ xs) r = changed-stations xs (record r { stations = insert r.stations x.0 x.1 })

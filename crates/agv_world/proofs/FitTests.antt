@@ -14,7 +14,7 @@ use Rattle.agv_order.specs.WellFormedTest.{is_well_formed}
 use Rattle.agv_order.specs.declared.trip.Trip.{Trip}
 use Rattle.agv_world.specs.LawfulTests.{are_fit, are_fit_on, is_fit}
 use Rattle.agv_world.specs.Questions.{given, layout_set}
-use Rattle.agv_world.specs.Told.{layout_in, trip_in, world_of}
+use Rattle.agv_world.specs.Told.{layout_of_tables, trip_in, world_of}
 use Rattle.agv_world.specs.Worlds.{empty_layout}
 use Rattle.agv_world.specs.declared.row.TripRow.{TripRow}
 use Rattle.agv_world.specs.declared.world.World.{World as Tables}
@@ -41,30 +41,30 @@ no_entries m none (e ∷ es) found = absurd (none e.0 e.1 found.0)
 
 module _ (below : Below) (tables : Tables) where
   -- the layout that the rows give is that of the tables
-  pub set_layout : Laid (layout_in tables) → (layout : Layout) → layout_set (world_of tables) ≡ Some layout → layout ≡ layout_in tables
+  pub set_layout : Laid (layout_of_tables tables) → (layout : Layout) → layout_set (world_of tables) ≡ Some layout → layout ≡ layout_of_tables tables
   unfolding layout_set
-  set_layout (inl none) layout is = absurd (below.node (layout_in tables) layout (ap (λ (l : Layout). l.nodes) none) (from_given (layout_of (rows_in (layout_in tables))) layout is))
-  set_layout (inr keeps) layout is = same_Some _ _ (sym is ∙ ap given (below.again (layout_in tables) keeps))
+  set_layout (inl none) layout is = absurd (below.node (layout_of_tables tables) layout (ap (λ (l : Layout). l.nodes) none) (from_given (layout_of (rows_in (layout_of_tables tables))) layout is))
+  set_layout (inr keeps) layout is = same_Some _ _ (sym is ∙ ap given (below.again (layout_of_tables tables) keeps))
 
-  none_set : Laid (layout_in tables) → layout_set (world_of tables) ≡ None → layout_in tables ≡ empty_layout
+  none_set : Laid (layout_of_tables tables) → layout_set (world_of tables) ≡ None → layout_of_tables tables ≡ empty_layout
   unfolding layout_set
   none_set (inl none) is = none
-  none_set (inr keeps) is = absurd (no_more (layout_in tables) (sym is ∙ ap given (below.again (layout_in tables) keeps)))
+  none_set (inr keeps) is = absurd (no_more (layout_of_tables tables) (sym is ∙ ap given (below.again (layout_of_tables tables) keeps)))
 
   -- each trip is well formed
-  pub fit_told : Laid (layout_in tables) → are_fit tables ≡ true → (order : List ℕ) (row : TripRow) → get tables.trips order ≡ Some row → IsWellFormed (layout_in tables) (trip_in tables (order, row))
+  pub fit_told : Laid (layout_of_tables tables) → are_fit tables ≡ true → (order : List ℕ) (row : TripRow) → get tables.trips order ≡ Some row → IsWellFormed (layout_of_tables tables) (trip_in tables (order, row))
   fit_told laid fit order row at = on (layout_set (world_of tables)) refl fit
     where
-      on : (o : Option Layout) → layout_set (world_of tables) ≡ o → are_fit_on tables o ≡ true → IsWellFormed (layout_in tables) (trip_in tables (order, row))
+      on : (o : Option Layout) → layout_set (world_of tables) ≡ o → are_fit_on tables o ≡ true → IsWellFormed (layout_of_tables tables) (trip_in tables (order, row))
       on None is fit = absurd (no_more row (sym (get-empty name_cmp order) ∙ ap (λ trips. get trips order) (sym (empty_of_len tables.trips (eqb-true _ _ fit))) ∙ at))
       on (Some layout) is fit =
           let test = each-entry names_total names_apart (is_fit tables layout) tables.trips fit order row at in
           subst (λ (l : Layout). IsWellFormed l (trip_in tables (order, row))) (set_layout laid layout is) ((below.fits layout (trip_in tables (order, row))).0 test)
 
   -- and where each is, the test holds
-  pub fit_again : Laid (layout_in tables)
-      → ((order : List ℕ) (row : TripRow) → get tables.trips order ≡ Some row → IsWellFormed (layout_in tables) (trip_in tables (order, row)))
-      → (layout_in tables ≡ empty_layout → (order : List ℕ) (row : TripRow) → get tables.trips order ≡ Some row → ⊥)
+  pub fit_again : Laid (layout_of_tables tables)
+      → ((order : List ℕ) (row : TripRow) → get tables.trips order ≡ Some row → IsWellFormed (layout_of_tables tables) (trip_in tables (order, row)))
+      → (layout_of_tables tables ≡ empty_layout → (order : List ℕ) (row : TripRow) → get tables.trips order ≡ Some row → ⊥)
       → are_fit tables ≡ true
   fit_again laid each none = on (layout_set (world_of tables)) refl
     where

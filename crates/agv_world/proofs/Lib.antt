@@ -35,14 +35,14 @@ mod KeepsTold
 mod VehicleRowTests
 mod FitTests
 mod VehicleTests
-mod VehicleTestsAgain
+mod LawfulVehiclesPass
 mod ActPlaces
 mod PairCounts
 mod OtherLoads
-mod LadenCounts
-mod WorldErrands
-mod CargoTold
-mod CargoMade
+mod CapacityCounts
+mod WorldActionViews
+mod StockInvariantTold
+mod StockInvariantMade
 mod LawfulOrder
 mod EachElement
 mod RowsTold
@@ -50,8 +50,8 @@ mod PlacesTold
 mod LiveJobsTold
 mod ActsTold
 mod RoomTold
-mod LadenTold
+mod CapacityTold
 mod LoadsTold
-mod Strangers
+mod LoadsOfOthers
 mod LawfulTold
 pub mod Asking

@@ -12,13 +12,13 @@ use Rattle.agv_stock.specs.declared.place.Place.{Place}
 use Rattle.agv_world.specs.GoodOrder.{InGoodOrder}
 use Rattle.agv_world.specs.Kept.{Keeps}
 use Rattle.agv_world.specs.Lawful.{HasAct, HasLawfulLoads, HasLawfulVehicles, IsJob, carried_at}
-use Rattle.agv_world.specs.LoadTests.{are_acts, are_jobs, are_jobs_apart, are_laden, are_lawful_loads, are_loads_few, are_places, has_one_job_each, have_room}
+use Rattle.agv_world.specs.LoadTests.{are_acts, are_jobs, are_jobs_apart, are_within_capacity, are_lawful_loads, are_loads_few, are_places, has_one_job_each, have_room}
 use Rattle.agv_world.specs.Told.{world_of}
 use Rattle.agv_world.specs.declared.row.JobRow.{JobRow}
 use Rattle.agv_world.specs.declared.world.World.{World as Tables}
 use Rattle.agv_world.proofs.ActsTold.{ActsFit, acts_told, jobs_apart_told}
 use Rattle.agv_world.proofs.Entries.{same_Some}
-use Rattle.agv_world.proofs.LadenTold.{AllLaden, laden_told}
+use Rattle.agv_world.proofs.CapacityTold.{AllWithinCapacity, within_capacity_told}
 use Rattle.agv_world.proofs.LiveJobsTold.{one_job_told}
 use Rattle.agv_world.proofs.PlacesTold.{JobsStand, PlacesKnown, few_told, jobs_told, places_told}
 use Rattle.agv_world.proofs.RoomTold.{room_told}
@@ -38,7 +38,7 @@ record Passed (tables : Tables) : Type 0 where
   pub acts : are_acts tables ≡ true
   pub apart : are_jobs_apart tables ≡ true
   pub room : have_room tables ≡ true
-  pub laden : are_laden tables ≡ true
+  pub within_capacity : are_within_capacity tables ≡ true
 
 passed : (tables : Tables) → are_lawful_loads tables ≡ true → Passed tables
 passed tables all =
@@ -48,8 +48,8 @@ passed tables all =
     let one_job = and_parts (has_one_job_each tables) _ jobs.1 in
     let acts = and_parts (are_acts tables) _ one_job.1 in
     let apart = and_parts (are_jobs_apart tables) _ acts.1 in
-    let room = and_parts (have_room tables) (are_laden tables) apart.1 in
-    record { few = few.0; places = places.0; jobs = jobs.0; one_job = one_job.0; acts = acts.0; apart = apart.0; room = room.0; laden = room.1 }
+    let room = and_parts (have_room tables) (are_within_capacity tables) apart.1 in
+    record { few = few.0; places = places.0; jobs = jobs.0; one_job = one_job.0; acts = acts.0; apart = apart.0; room = room.0; within_capacity = room.1 }
 
 all_passed : (tables : Tables) → Passed tables → are_lawful_loads tables ≡ true
 all_passed tables its =
@@ -59,7 +59,7 @@ all_passed tables its =
     (and_from (has_one_job_each tables) _ its.one_job
     (and_from (are_acts tables) _ its.acts
     (and_from (are_jobs_apart tables) _ its.apart
-    (and_from (have_room tables) (are_laden tables) its.room its.laden))))))
+    (and_from (have_room tables) (are_within_capacity tables) its.room its.within_capacity))))))
 
 module _ {seats : ℕ} (tables : Tables) (keeps : Keeps tables (world_of tables)) (vehicles : HasLawfulVehicles seats (world_of tables)) where
   good : InGoodOrder (world_of tables)
@@ -71,7 +71,7 @@ module _ {seats : ℕ} (tables : Tables) (keeps : Keeps tables (world_of tables)
       let places : PlacesKnown tables = (places_told tables).0 its.places in
       let jobs : JobsStand tables keeps good = (jobs_told tables keeps good).0 its.jobs in
       let acts : ActsFit tables keeps good = (acts_told tables keeps good).0 its.acts in
-      let laden : AllLaden tables = (laden_told tables).0 its.laden in
+      let within_capacity : AllWithinCapacity tables = (within_capacity_told tables).0 its.within_capacity in
       let fits = λ (key : VehicleKey) (trip : Trip) (act : Act) (has : HasAct (world_of tables) key trip act) (row : JobRow) (job : IsJob (world_of tables) act.job row). same_Some (acts key trip act has).row row (sym (acts key trip act has).job ∙ job) in
       record {
         few_loads = few.0;
@@ -81,8 +81,8 @@ module _ {seats : ℕ} (tables : Tables) (keeps : Keeps tables (world_of tables)
         places = places;
         jobs = jobs.known;
         room = (room_told tables vehicles).0 its.room;
-        idle = laden.idle;
-        laden = laden.laden;
+        idle = within_capacity.idle;
+        within_capacity = within_capacity.within_capacity;
         one_job = (one_job_told tables).0 its.one_job;
         riding = λ job row known. (
           (jobs.phases job row known).riding,
@@ -120,7 +120,7 @@ module _ {seats : ℕ} (tables : Tables) (keeps : Keeps tables (world_of tables)
         });
     apart = (jobs_apart_told tables keeps good).1 loads.one_vehicle;
     room = (room_told tables vehicles).1 loads.room;
-    laden = (laden_told tables).1 (record { idle = loads.idle; laden = loads.laden });
+    within_capacity = (within_capacity_told tables).1 (record { idle = loads.idle; within_capacity = loads.within_capacity });
   }
 
   pub loads_tested : AreNamed tables → (are_lawful_loads tables ≡ true) ↔ HasLawfulLoads (world_of tables)

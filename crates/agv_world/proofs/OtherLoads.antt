@@ -11,7 +11,7 @@ use Rattle.agv_header.specs.declared.key.VehicleKey.{VehicleKey}
 use Rattle.agv_order.specs.declared.act.Act.{Act}
 use Rattle.agv_stock.specs.Room.{is_on}
 use Rattle.agv_stock.specs.declared.place.Place.{Place}
-use Rattle.agv_world.specs.Cargo.{Places, aboard}
+use Rattle.agv_world.specs.StockInvariant.{Places, loads_on_vehicle}
 use Rattle.agv_world.specs.Lawful.{is_to_drop}
 use Rattle.agv_world.proofs.ActPlaces.{any_at}
 use Rattle.agv_world.proofs.Entries.{entries_found, is_same, no_more, same_Some}
@@ -94,11 +94,11 @@ module _ {X : Type 0} (p : List ℕ × X → Bool) where
 
 module _ (places : Places) (key : VehicleKey) where
   -- a load that is there counts
-  pub boards_one : (load : List ℕ) (place : Place) → finite.get places load ≡ Some place → is_on key place ≡ true → 0 < aboard places key
+  pub boards_one : (load : List ℕ) (place : Place) → finite.get places load ≡ Some place → is_on key place ≡ true → 0 < loads_on_vehicle places key
   boards_one load place at on = one_passes (λ (e : List ℕ × Place). is_on key e.1) (finite.entries places) load place (sym (finite.get-entries places load) ∙ at) on
 
   -- and without one there are none
-  pub boards_none : ((load : List ℕ) (place : Place) → finite.get places load ≡ Some place → is_on key place ≡ false) → aboard places key ≡ 0
+  pub boards_none : ((load : List ℕ) (place : Place) → finite.get places load ≡ Some place → is_on key place ≡ false) → loads_on_vehicle places key ≡ 0
   boards_none none = none_passes (λ (e : List ℕ × Place). is_on key e.1) (finite.entries places) (each (finite.entries places) (entries_found names_total places))
     where
       each : (es : List (List ℕ × Place)) → AllByRecursion (λ (e : List ℕ × Place). finite.get places e.0 ≡ Some e.1) es → AllByRecursion (λ (e : List ℕ × Place). is_on key e.1 ≡ false) es
@@ -132,15 +132,15 @@ not_again act acts apart to_drop = false_from_ne_true (drops_one acts act.load) 
     omega (arith, same))
 
 module _ (places : Places) (key : VehicleKey) where
-  abbrev pub is_aboard : List ℕ → Bool
-  is_aboard load = is_on_some key (finite.get places load)
+  abbrev pub is_on_vehicle : List ℕ → Bool
+  is_on_vehicle load = is_on_some key (finite.get places load)
 
   abbrev pub others : List Act → ℕ
   others acts = count_by (λ (load : List ℕ × Place). is_on key load.1 && not (drops_one acts load.0)) (finite.entries places)
 
   -- the acts that are still to drop a load which is on the vehicle
   abbrev pub own : List Act → ℕ
-  own acts = count_by (λ (act : Act). is_to_drop act && is_aboard act.load) acts
+  own acts = count_by (λ (act : Act). is_to_drop act && is_on_vehicle act.load) acts
 
   module _ (act : Act) (acts : List Act) where
     -- the test of the others, with this act or without it
@@ -150,7 +150,7 @@ module _ (places : Places) (key : VehicleKey) where
     -- its load is one of the others no more
     one_less :
         drops_one acts act.load ≡ false → (place : Place) → finite.get places act.load ≡ Some place
-        → count_by (with_act true) (finite.entries places) + cond (is_aboard act.load) 1 0 ≡ count_by (with_act false) (finite.entries places)
+        → count_by (with_act true) (finite.entries places) + cond (is_on_vehicle act.load) 1 0 ≡ count_by (with_act false) (finite.entries places)
     one_less free place at =
         let gone : with_act true (act.load, place) ≡ false = and_right (is_on key place) _ (ap (λ b. not (b || drops_one acts act.load)) (nat_list_eq_equiv.refl act.load)) in
         let was : with_act false (act.load, place) ≡ is_on key place = ap (λ b. is_on key place && not b) free ∙ and_true (is_on key place) in
@@ -160,16 +160,16 @@ module _ (places : Places) (key : VehicleKey) where
         moved : (m n x y z : ℕ) {w : ℕ} → m + x ≡ n + y → y ≡ 0 → x ≡ w → z ≡ w → m + z ≡ n
         moved m n x y z e f g h = omega (arith, e, f, g, h)
 
-  pub own_and_others : (acts : List Act) → DropApart acts → DropKnown places acts → others acts + own acts ≡ aboard places key
+  pub own_and_others : (acts : List Act) → DropApart acts → DropKnown places acts → others acts + own acts ≡ loads_on_vehicle places key
   own_and_others [] apart known = add_none _ _ (λ i. count_by (λ (load : List ℕ × Place). and_true (is_on key load.1) i) (finite.entries places))
     where
       add_none : (n m : ℕ) → n ≡ m → n + 0 ≡ m
       add_none n m e = omega (arith, e)
   own_and_others (act ∷ acts) apart known =
-      let rest : others acts + own acts ≡ aboard places key =
+      let rest : others acts + own acts ≡ loads_on_vehicle places key =
       own_and_others acts (λ i k x y at by p q same. let e = apart (suc i) (suc k) x y at by p q same in omega (arith, e)) (λ k one at. known (suc k) one at) in
-      ap (λ n. others (act ∷ acts) + n) (counted-cons (λ (a : Act). is_to_drop a && is_aboard a.load) act acts)
-      ∙ elim (is_to_drop act) as (λ b. is_to_drop act ≡ b → count_by (with_act act acts b) (finite.entries places) + (cond (b && is_aboard act.load) 1 0 + own acts) ≡ aboard places key) [
+      ap (λ n. others (act ∷ acts) + n) (counted-cons (λ (a : Act). is_to_drop a && is_on_vehicle a.load) act acts)
+      ∙ elim (is_to_drop act) as (λ b. is_to_drop act ≡ b → count_by (with_act act acts b) (finite.entries places) + (cond (b && is_on_vehicle act.load) 1 0 + own acts) ≡ loads_on_vehicle places key) [
         | true ↦ λ to_drop. let at = known 0 act refl to_drop in joined _ _ _ _ _ (one_less act acts (not_again act acts apart to_drop) at.0 at.1) rest
         | false ↦ λ done. as_before _ _ _ rest
       ] refl

@@ -25,7 +25,7 @@ use Rattle.agv_world.specs.declared.world.World.{World as Tables}
 use Rattle.agv_world.proofs.EachElement.{any_passes, some_passes}
 use Rattle.agv_world.proofs.EachEntry.{all-entries, any-entry, each-entry, some-entry}
 use Rattle.agv_world.proofs.Entries.{is_same}
-use Rattle.agv_world.proofs.LadenCounts.{key_itself}
+use Rattle.agv_world.proofs.CapacityCounts.{key_itself}
 use Rattle.agv_world.proofs.Orders.{names_apart, names_total}
 use Rattle.agv_world.proofs.RowsTold.{act_of_row, known, row_of_trip, row_of_vehicle, vehicle_of_row}
 

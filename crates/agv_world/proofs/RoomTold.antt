@@ -9,12 +9,12 @@ use Rattle.std.specs.Ordering.{eq_by_cmp, is_eq}
 use Rattle.std.proofs.lemmas.Bool.{false_from_ne_true, true≢false, le-leb, leb-true, ltb-false, ltb-true}
 use Rattle.agv_header.specs.Name.{name_cmp}
 use Rattle.agv_layout.specs.Layout.{IsStation, KeepsRules}
-use Rattle.agv_layout.specs.declared.station.Spot.{Spot}
+use Rattle.agv_layout.specs.declared.station.StationSite.{StationSite}
 use Rattle.agv_stock.specs.Phase.{is_live}
 use Rattle.agv_stock.specs.Room.{is_at}
 use Rattle.agv_stock.specs.declared.place.Place.{Place}
 use Rattle.agv_stock.specs.declared.place.Place.TheVariants as place
-use Rattle.agv_world.specs.Cargo.{coming, stored}
+use Rattle.agv_world.specs.StockInvariant.{coming, stored}
 use Rattle.agv_world.specs.Lawful.{HasLawfulVehicles}
 use Rattle.agv_world.specs.LoadTests.{Tally, have_room, one_on, tallied, tally_of, with_job, with_jobs, with_loads, with_one, with_place}
 use Rattle.agv_world.specs.Questions.{is_live_to, loads_at, reserved}
@@ -26,7 +26,7 @@ use Rattle.agv_world.proofs.EachEntry.{all-entries, each-entry}
 use Rattle.agv_world.proofs.Entries.{is_same, no_more}
 use Rattle.agv_world.proofs.Orders.{names_apart, names_total}
 use Rattle.agv_world.proofs.PairCounts.{counted-cons}
-use Rattle.agv_world.proofs.WorldErrands.{coming_is, stored_is}
+use Rattle.agv_world.proofs.WorldActionViews.{coming_is, stored_is}
 
 -- ---- counting up to 1000
 
@@ -133,7 +133,7 @@ few_counted : (n k capacity : ℕ) → IsCount n k → n ≤ capacity → k ≤ 
 few_counted n k capacity (most, limit, exact) fits = omega (arith, most, fits)
 
 module _ {seats : ℕ} (tables : Tables) (vehicles : HasLawfulVehicles seats (world_of tables)) where
-  small : (station : List ℕ) (spot : Spot) → get tables.stations station ≡ Some spot → spot.capacity ≤ 999
+  small : (station : List ℕ) (spot : StationSite) → get tables.stations station ≡ Some spot → spot.capacity ≤ 999
   small station spot at = by vehicles.laid
     where
       by : ((world_of tables).layout ≡ empty_layout) ⊎ KeepsRules (world_of tables).layout → spot.capacity ≤ 999
@@ -142,14 +142,14 @@ module _ {seats : ℕ} (tables : Tables) (vehicles : HasLawfulVehicles seats (wo
 
   -- each station has room for the loads there and for those to come
   abbrev pub HasRoom : Type 0
-  HasRoom = (station : List ℕ) (spot : Spot) → IsStation (world_of tables).layout station spot → length (loads_at (world_of tables) station) + reserved (world_of tables) station ≤ spot.capacity
+  HasRoom = (station : List ℕ) (spot : StationSite) → IsStation (world_of tables).layout station spot → length (loads_at (world_of tables) station) + reserved (world_of tables) station ≤ spot.capacity
 
   counts_are : (station : List ℕ) → length (loads_at (world_of tables) station) + reserved (world_of tables) station ≡ stored tables.loads station + coming tables.jobs station
   counts_are station = λ i. stored_is (world_of tables) station i + coming_is (world_of tables) station i
 
   pub room_told : (have_room tables ≡ true) ↔ HasRoom
   room_told =
-      let test : List ℕ × Spot → Bool = λ station. leb (tallied (tally_of tables) station.0) station.1.capacity in (
+      let test : List ℕ × StationSite → Bool = λ station. leb (tallied (tally_of tables) station.0) station.1.capacity in (
         λ all station spot at.
             let fits = leb-true (tallied (tally_of tables) station) spot.capacity (each-entry names_total names_apart test tables.stations all station spot at) in
             subst (λ n. n ≤ spot.capacity) (sym (counts_are station)) (within _ _ spot.capacity (all_counted tables station) (small station spot at) fits),

@@ -9,7 +9,7 @@ use Rattle.agv_header.specs.Name.{name_cmp}
 use Rattle.agv_header.specs.declared.key.VehicleKey.{VehicleKey}
 use Rattle.agv_layout.specs.Layout.{Layout}
 use Rattle.agv_layout.specs.declared.edge.Edge.{Edge}
-use Rattle.agv_layout.specs.declared.edge.Ends.{Ends}
+use Rattle.agv_layout.specs.declared.edge.EdgeEnds.{EdgeEnds}
 use Rattle.agv_order.specs.declared.trip.Trip.{Trip}
 use Rattle.agv_world.specs.GoodOrder.{InGoodOrder, HasTrip, IsOfLayout}
 use Rattle.agv_world.specs.KeyOrders.{leg_cmp-total}
@@ -39,7 +39,7 @@ legs_of world good = spread_is key_cmp-total key_cmp-IsAntisymmetric leg_cmp leg
 -- ---- edges
 one_edge : (layout : Layout) (x y : Edge) → IsOfLayout layout x → IsOfLayout layout y → x.id ≡ y.id → x ≡ y
 one_edge layout x y p q e =
-    let ends : ◌≡◌ {A = Ends} (record { start = x.start; finish = x.finish }) (record { start = y.start; finish = y.finish }) = same_Some _ _ (sym p ∙ ap (get layout.edges) e ∙ q) in
+    let ends : ◌≡◌ {A = EdgeEnds} (record { start = x.start; finish = x.finish }) (record { start = y.start; finish = y.finish }) = same_Some _ _ (sym p ∙ ap (get layout.edges) e ∙ q) in
     λ i. record { id = e i; start = (ends i).start; finish = (ends i).finish }
 
 abbrev Among : List ℕ → ℕ → List Edge → List Edge → Type 0
@@ -85,7 +85,7 @@ module _ (w v : World) (W : InGoodOrder w) (V : InGoodOrder v) (e : rows_of w �
       let vehicle : f.1 ≡ y = same_Some _ _ (sym f.2 ∙ sym (ap (get v.vehicles) owner) ∙ h) in
       let own : t.vehicle ≡ u.vehicle = W.own a t (x, g, s) ∙ owner ∙ sym (V.own f.0 u (f.1, f.2, r.1)) in
       let edges : t.edges ≡ u.edges = same_edges w.layout t.order 0 t.edges u.edges (W.known a t (x, g, s))
-      (subst (λ (edges : FinMap name_cmp Ends). AllByRecursion (λ (edge : Edge). get edges edge.id ≡ Some (record { start = edge.start; finish = edge.finish })) u.edges) (sym (ap (λ (r : Rows). r.edges) e)) (V.known f.0 u (f.1, f.2, r.1)))
+      (subst (λ (edges : FinMap name_cmp EdgeEnds). AllByRecursion (λ (edge : Edge). get edges edge.id ≡ Some (record { start = edge.start; finish = edge.finish })) u.edges) (sym (ap (λ (r : Rows). r.edges) e)) (V.known f.0 u (f.1, f.2, r.1)))
       (legs_over w v W V e a f.0 t u (x, g, s) (f.1, f.2, r.1) order)
       (subst (λ o. Among o 0 u.edges t.edges) (sym order) (legs_over v w V W (sym e) f.0 a u t (f.1, f.2, r.1) (x, g, s) (sym order))) in
       let trip : t ≡ u = λ i. record {

@@ -3,11 +3,11 @@ use Rattle.std.proofs.Common.{◌≡◌, ℕ, ◌<◌, nat_eq, nat_lt, ◌||◌,
 use Rattle.std.proofs.lemmas.Bool.{and_parts, and_from, or_cases, cases_eq, eqb-false, eqb-true, eq-eqb, false≢true, leb-true, le-leb, lt-ltb, ltb-true, ne_eqb, not-true}
 use Rattle.std.specs.FinMap as finite
 use Rattle.std.specs.Option.{is_none}
-use Rattle.agv_layout.specs.declared.edge.Ends.{Ends}
+use Rattle.agv_layout.specs.declared.edge.EdgeEnds.{EdgeEnds}
 use Rattle.agv_message.specs.declared.instant.InstantKind.{InstantKind}
 use Rattle.agv_world.specs.Lawful.{IsRestAt, IsSent, IsVehicleOf}
 use Rattle.agv_world.specs.LawfulTests.{is_counted, is_rest, is_vehicle_row, leads_so}
-use Rattle.agv_world.specs.Told.{layout_in}
+use Rattle.agv_world.specs.Told.{layout_of_tables}
 use Rattle.agv_world.specs.Values.{IsSentValue, IsVehicleValue}
 use Rattle.agv_world.specs.declared.row.Sent.{Sent}
 use Rattle.agv_world.specs.declared.row.VehicleRow.{VehicleRow}
@@ -48,7 +48,7 @@ pending_again None count is = refl
 pending_again (Some kind) count is = lt-ltb 0 count (is kind refl)
 
 -- ---- a rest
-edge_told : (o : Option Ends) (start finish : List ℕ) → leads_so o start finish ≡ true → o ≡ Some (record { start = start; finish = finish })
+edge_told : (o : Option EdgeEnds) (start finish : List ℕ) → leads_so o start finish ≡ true → o ≡ Some (record { start = start; finish = finish })
 edge_told None start finish is = absurd (false≢true is)
 edge_told (Some ends) start finish is =
     let parts = and_parts _ _ is in
@@ -56,20 +56,20 @@ edge_told (Some ends) start finish is =
     let to = same_name ends.finish finish parts.1 in
     λ i. Some (record { start = from i; finish = to i })
 
-edge_again : (o : Option Ends) (start finish : List ℕ) → o ≡ Some (record { start = start; finish = finish }) → leads_so o start finish ≡ true
+edge_again : (o : Option EdgeEnds) (start finish : List ℕ) → o ≡ Some (record { start = start; finish = finish }) → leads_so o start finish ≡ true
 edge_again o start finish is = ap (λ e. leads_so e start finish) is ∙ and_from _ _ (name_same start start refl) (name_same finish finish refl)
 
 module _ (tables : Tables) where
-  rest_told : (node : List ℕ) (rest : Option (List ℕ × List ℕ)) → is_rest tables node rest ≡ true → IsRestAt (layout_in tables) node rest
+  rest_told : (node : List ℕ) (rest : Option (List ℕ × List ℕ)) → is_rest tables node rest ≡ true → IsRestAt (layout_of_tables tables) node rest
   rest_told node None is = tt
   rest_told node (Some rest) is = edge_told (finite.get tables.edges rest.0) node rest.1 is
 
-  rest_again : (node : List ℕ) (rest : Option (List ℕ × List ℕ)) → IsRestAt (layout_in tables) node rest → is_rest tables node rest ≡ true
+  rest_again : (node : List ℕ) (rest : Option (List ℕ × List ℕ)) → IsRestAt (layout_of_tables tables) node rest → is_rest tables node rest ≡ true
   rest_again node None is = refl
   rest_again node (Some rest) is = edge_again (finite.get tables.edges rest.0) node rest.1 is
 
   -- ---- a vehicle
-  pub vehicle_row_told : (seats : ℕ) (row : VehicleRow) → IsVehicleValue row → is_vehicle_row seats tables row ≡ true → IsVehicleOf seats (layout_in tables) row
+  pub vehicle_row_told : (seats : ℕ) (row : VehicleRow) → IsVehicleValue row → is_vehicle_row seats tables row ≡ true → IsVehicleOf seats (layout_of_tables tables) row
   vehicle_row_told seats row value is =
       let one = and_parts _ _ is in
       let seated = and_parts _ _ one.0 in
@@ -89,7 +89,7 @@ module _ (tables : Tables) where
         pending = pending_told row.pending row.instants.count five.1;
       }
 
-  pub vehicle_row_again : (seats : ℕ) (row : VehicleRow) → IsVehicleOf seats (layout_in tables) row → is_vehicle_row seats tables row ≡ true
+  pub vehicle_row_again : (seats : ℕ) (row : VehicleRow) → IsVehicleOf seats (layout_of_tables tables) row → is_vehicle_row seats tables row ≡ true
   vehicle_row_again seats row is =
       and_from _ _ (and_from _ _ (le-leb 1 row.capacity is.carries) (le-leb row.capacity seats is.seated))
       (and_from _ _ is.node

@@ -14,7 +14,7 @@ use Rattle.agv_world.specs.GoodOrder.{HasTrip, IsVehicle}
 use Rattle.agv_world.specs.Kept.{Keeps}
 use Rattle.agv_world.specs.Lawful.{HasLawfulVehicles, IsTripOf, IsVehicleOf, picks}
 use Rattle.agv_world.specs.LawfulTests.{are_apart, are_few, are_fit, are_lawful_vehicles, are_legs, are_trips, are_vehicles, is_borne_by, is_laid, is_name_of, is_vehicle_row}
-use Rattle.agv_world.specs.Told.{layout_in, names_of, trip_in, world_of}
+use Rattle.agv_world.specs.Told.{layout_of_tables, names_of, trip_in, world_of}
 use Rattle.agv_world.specs.Values.{HasValues}
 use Rattle.agv_world.specs.Worlds.{Vehicle}
 use Rattle.agv_world.specs.declared.key.UseKind.TheVariants.{Order, Reference}
@@ -59,15 +59,15 @@ named_node None name is = absurd (false≢true is)
 named_node (Some other) name is = ap Some (same_name other name is)
 
 module _ (below : Below) (seats : ℕ) (tables : Tables) (values : HasValues tables) (passes : Passes seats tables) where
-  laid_so : Laid (layout_in tables)
+  laid_so : Laid (layout_of_tables tables)
   laid_so = laid tables values passes.laid
 
   -- ---- vehicles
-  vehicle_is : (key : VehicleKey) (vehicle : Vehicle) → IsVehicle (world_of tables) key vehicle → IsVehicleOf seats (layout_in tables) vehicle.row
+  vehicle_is : (key : VehicleKey) (vehicle : Vehicle) → IsVehicle (world_of tables) key vehicle → IsVehicleOf seats (layout_of_tables tables) vehicle.row
   vehicle_is key vehicle at =
       let told = vehicle_told tables key vehicle at in
       let test = each-entry key_cmp-total key_cmp-IsAntisymmetric (λ (entry : VehicleKey × VehicleRow). is_vehicle_row seats tables entry.1) tables.vehicles passes.vehicles key told.0 told.1 in
-      subst (λ (v : Vehicle). IsVehicleOf seats (layout_in tables) v.row) told.2 (vehicle_row_told tables seats told.0 (values.vehicles key told.0 told.1) test)
+      subst (λ (v : Vehicle). IsVehicleOf seats (layout_of_tables tables) v.row) told.2 (vehicle_row_told tables seats told.0 (values.vehicles key told.0 told.1) test)
 
   -- ---- trips
   trip_row_is : (key : VehicleKey) (trip : Trip) → (told : IsTold tables key trip) → IsTripRow tables trip.order told.row
@@ -78,7 +78,7 @@ module _ (below : Below) (seats : ℕ) (tables : Tables) (values : HasValues tab
       let told = vehicle_told tables key vehicle at in
       same_Some _ _ (sym there ∙ ap (get tables.vehicles) by ∙ told.1) ∙ ap (λ (v : Vehicle). v.row) told.2
 
-  trip_is : (key : VehicleKey) (vehicle : Vehicle) (trip : Trip) → IsVehicle (world_of tables) key vehicle → vehicle.trip ≡ Some trip → IsTripOf (layout_in tables) key vehicle.row trip
+  trip_is : (key : VehicleKey) (vehicle : Vehicle) (trip : Trip) → IsVehicle (world_of tables) key vehicle → vehicle.trip ≡ Some trip → IsTripOf (layout_of_tables tables) key vehicle.row trip
   trip_is key vehicle trip at opened =
       let told = trip_told tables key trip (vehicle, at, opened) in
       let is = trip_row_is key trip told in
@@ -88,7 +88,7 @@ module _ (below : Below) (seats : ℕ) (tables : Tables) (values : HasValues tab
       let two = and_parts _ _ one.1 in
       let three = and_parts _ _ two.1 in
       record {
-        well_formed = subst (λ (t : Trip). IsWellFormed (layout_in tables) t) told.is (fit_told below tables laid_so passes.fit trip.order told.row told.here);
+        well_formed = subst (λ (t : Trip). IsWellFormed (layout_of_tables tables) t) told.is (fit_told below tables laid_so passes.fit trip.order told.row told.here);
         own = ap (λ (t : Trip). t.vehicle) (sym told.is) ∙ told.by;
         seated = leb-true (count_by picks trip.acts) vehicle.row.capacity one.0;
         sent = ltb-true 0 vehicle.row.orders.count two.0;

@@ -9,7 +9,7 @@ use Rattle.std.specs.Ordering.{eq_by_cmp, is_eq}
 use Rattle.agv_header.specs.KeyOrder.{key_cmp-total, key_cmp-IsAntisymmetric, key_cmp-ties, key_eq}
 use Rattle.agv_header.specs.Name.{name_cmp}
 use Rattle.agv_header.specs.declared.key.VehicleKey.{VehicleKey}
-use Rattle.agv_layout.specs.declared.edge.Ends.{Ends}
+use Rattle.agv_layout.specs.declared.edge.EdgeEnds.{EdgeEnds}
 use Rattle.agv_order.specs.declared.trip.Trip.{Trip}
 use Rattle.agv_world.specs.GoodOrder.{InGoodOrder, HasTrip}
 use Rattle.agv_world.specs.Kept.{Keeps}
@@ -77,7 +77,7 @@ module _ (tables : Tables) (world : World) (keeps : Keeps tables world) (good : 
       λ q y is.
       ap (λ legs. get legs q) keeps.legs
       ∙ (legs_of world good).into key has.0 q y has.1 (ap (λ o. finite.find leg_cmp q (legs_of_trip o)) has.2 ∙ is) in
-      ap (λ (edges : finite.FinMap name_cmp Ends). filter_map (λ (leg : LegKey × List ℕ). edge_named edges leg.1) (filter (is_of_order trip.order) (finite.entries tables.legs))) keeps.edges
+      ap (λ (edges : finite.FinMap name_cmp EdgeEnds). filter_map (λ (leg : LegKey × List ℕ). edge_named edges leg.1) (filter (is_of_order trip.order) (finite.entries tables.legs))) keeps.edges
       ∙ ap (filter_map (λ (leg : LegKey × List ℕ). edge_named world.layout.edges leg.1)) (rows_of_order tables.legs trip.order trip.edges from into)
       ∙ all_named world.layout trip.order 0 trip.edges (good.known key trip has)
 

@@ -7,7 +7,7 @@ use Rattle.std.specs.List.{AllByRecursion, list_any}
 use Rattle.std.specs.Ordering.{eq_by_cmp}
 use Rattle.agv_layout.specs.Layout.{Layout, AreNodesInOrder}
 use Rattle.agv_layout.specs.LayoutOf.{nodes_of}
-use Rattle.agv_layout.specs.declared.edge.Ends.{Ends}
+use Rattle.agv_layout.specs.declared.edge.EdgeEnds.{EdgeEnds}
 use Rattle.agv_stock.specs.declared.place.Place.{Place}
 use Rattle.agv_world.specs.Changes.{changed}
 use Rattle.agv_world.specs.Rows.{Rows, rows_of}
@@ -104,7 +104,7 @@ layout_written world layout listed none =
     let stations : written first.stations (entries layout.stations) ≡ layout.stations = ap (λ (l : Layout). written l.stations (entries layout.stations)) none ∙ moved_all names_total names_apart layout.stations in
     changed-append (map (λ (id : List ℕ). row.Node id) (nodes_of layout)) _ first
     ∙ ap (changed _) (changed-nodes (nodes_of layout) first)
-    ∙ changed-append (map (λ (edge : List ℕ × Ends). row.Edge edge.0 edge.1) (entries layout.edges)) _ second
+    ∙ changed-append (map (λ (edge : List ℕ × EdgeEnds). row.Edge edge.0 edge.1) (entries layout.edges)) _ second
     ∙ ap (changed _) (changed-edges (entries layout.edges) second)
     ∙ changed-stations (entries layout.stations) third
     ∙ (λ i. record first { nodes = nodes i; edges = edges i; stations = stations i })

@@ -7,7 +7,7 @@ use Rattle.std.specs.List.{list_any}
 use Rattle.agv_header.specs.Name.{IsName}
 use Rattle.agv_header.specs.declared.key.VehicleKey.{VehicleKey}
 use Rattle.agv_layout.specs.Layout.{Layout, KeepsRules, IsNode, IsEdge, IsStation}
-use Rattle.agv_layout.specs.declared.station.Spot.{Spot}
+use Rattle.agv_layout.specs.declared.station.StationSite.{StationSite}
 use Rattle.agv_message.specs.declared.instant.InstantKind.{InstantKind}
 use Rattle.agv_message.specs.declared.order.ActKind.{ActKind}
 use Rattle.agv_message.specs.declared.order.ActKind.TheVariants.{Pick, Drop}
@@ -99,7 +99,7 @@ pub record HasLawfulVehicles (seats : ℕ) (world : World) : Type 0 where
 
 -- the station or the vehicle of a place is known
 abbrev pub IsPlaceIn : World → Place → Type 0
-IsPlaceIn world (place.Station id) = (spot : Spot) × IsStation world.layout id spot
+IsPlaceIn world (place.Station id) = (spot : StationSite) × IsStation world.layout id spot
 IsPlaceIn world (place.Vehicle key) = (vehicle : Vehicle) × IsVehicle world key vehicle
 IsPlaceIn world place.Checking = Unit {0}
 IsPlaceIn world place.Left = Unit {0}
@@ -111,8 +111,8 @@ IsJob world job row = finite.get world.jobs job ≡ Some row
 -- the load and the stations of a job are known
 pub record IsJobIn (world : World) (row : JobRow) : Type 0 where
   pub load : (place : Place) × (finite.get world.places row.load ≡ Some place)
-  pub origin : (spot : Spot) × IsStation world.layout row.origin spot
-  pub target : (spot : Spot) × IsStation world.layout row.target spot
+  pub origin : (spot : StationSite) × IsStation world.layout row.origin spot
+  pub target : (spot : StationSite) × IsStation world.layout row.target spot
 
 -- the vehicle has a trip open, and this is an act of it
 pub record HasAct (world : World) (key : VehicleKey) (trip : Trip) (act : Act) : Type 0 where
@@ -169,10 +169,10 @@ pub record HasLawfulLoads (world : World) : Type 0 where
   pub places : (load : List ℕ) (place : Place) → finite.get world.places load ≡ Some place → IsPlaceIn world place
   pub jobs : (job : List ℕ) (row : JobRow) → IsJob world job row → IsJobIn world row
   -- the loads at a station and the live jobs to it are together at most its capacity
-  pub room : (station : List ℕ) (spot : Spot) → IsStation world.layout station spot → length (loads_at world station) + reserved world station ≤ spot.capacity
+  pub room : (station : List ℕ) (spot : StationSite) → IsStation world.layout station spot → length (loads_at world station) + reserved world station ≤ spot.capacity
   -- a vehicle without a trip has at most as many loads as it has places; with a trip, its other loads and the trip's jobs that are not done are together at most that many
   pub idle : (key : VehicleKey) (vehicle : Vehicle) → IsVehicle world key vehicle → vehicle.trip ≡ None → loads_on world key ≤ vehicle.row.capacity
-  pub laden : (key : VehicleKey) (vehicle : Vehicle) (trip : Trip) → IsVehicle world key vehicle → vehicle.trip ≡ Some trip → other_loads world key trip + count_by is_to_drop trip.acts ≤ vehicle.row.capacity
+  pub within_capacity : (key : VehicleKey) (vehicle : Vehicle) (trip : Trip) → IsVehicle world key vehicle → vehicle.trip ≡ Some trip → other_loads world key trip + count_by is_to_drop trip.acts ≤ vehicle.row.capacity
   -- a load has at most one live job
   pub one_job : (one other : List ℕ) (row further : JobRow) → IsJob world one row → IsJob world other further → is_live row.phase ≡ true → is_live further.phase ≡ true → row.load ≡ further.load → one ≡ other
   -- a job rides exactly where an open trip has it and its drop is not finished; where the drop is finished, the job is done

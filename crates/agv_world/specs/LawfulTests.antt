@@ -8,8 +8,8 @@ use Rattle.std.specs.Option.{is_none, is_some}
 use Rattle.agv_header.specs.declared.key.Thing.{Thing}
 use Rattle.agv_header.specs.declared.key.VehicleKey.{VehicleKey}
 use Rattle.agv_layout.specs.Layout.{Layout}
-use Rattle.agv_layout.specs.declared.edge.Ends.{Ends}
-use Rattle.agv_layout.specs.declared.station.Spot.{Spot}
+use Rattle.agv_layout.specs.declared.edge.EdgeEnds.{EdgeEnds}
+use Rattle.agv_layout.specs.declared.station.StationSite.{StationSite}
 use Rattle.agv_order.specs.Trips.{node_at}
 use Rattle.agv_order.specs.WellFormedTest.{is_well_formed}
 use Rattle.agv_order.specs.declared.trip.Trip.{Trip}
@@ -29,11 +29,11 @@ use Rattle.agv_world.specs.declared.world.World.{World as Tables}
 -- ---- the layout
 
 -- the edge leads from a node to another node
-abbrev pub does_lead : Tables → Ends → Bool
+abbrev pub does_lead : Tables → EdgeEnds → Bool
 does_lead tables ends = set.contains tables.nodes ends.start && (set.contains tables.nodes ends.finish && not (pointwise nat_eq ends.start ends.finish))
 
 -- the station is at a node, and has room for 1 to 999 loads
-abbrev pub does_stand : Tables → Spot → Bool
+abbrev pub does_stand : Tables → StationSite → Bool
 does_stand tables spot = set.contains tables.nodes spot.node && (nat_le 1 spot.capacity && nat_le spot.capacity 999)
 
 -- there are 1 to 500 nodes, and at most 1,500 edges and 500 stations
@@ -50,11 +50,11 @@ is_unset tables = nat_eq (set.len tables.nodes) 0 && (nat_eq (finite.len tables.
 
 -- each edge leads from a node to another
 abbrev pub all_lead : Tables → Bool
-all_lead tables = list_all (λ (edge : List ℕ × Ends). does_lead tables edge.1) (finite.entries tables.edges)
+all_lead tables = list_all (λ (edge : List ℕ × EdgeEnds). does_lead tables edge.1) (finite.entries tables.edges)
 
 -- each station stands at a node
 abbrev pub all_stand : Tables → Bool
-all_stand tables = list_all (λ (station : List ℕ × Spot). does_stand tables station.1) (finite.entries tables.stations)
+all_stand tables = list_all (λ (station : List ℕ × StationSite). does_stand tables station.1) (finite.entries tables.stations)
 
 -- the layout is not set, or keeps the rules of a layout
 abbrev pub is_laid : Tables → Bool
@@ -74,7 +74,7 @@ abbrev pub is_counted : Sent → Bool
 is_counted sent = not (nat_eq sent.count 0) || nat_eq sent.at 0
 
 -- the edge leads from this node to that one
-abbrev pub leads_so : Option Ends → List ℕ → List ℕ → Bool
+abbrev pub leads_so : Option EdgeEnds → List ℕ → List ℕ → Bool
 leads_so None start finish = false
 leads_so (Some ends) start finish = pointwise nat_eq ends.start start && pointwise nat_eq ends.finish finish
 

@@ -14,7 +14,7 @@ pub mod SameRows
 pub mod VehicleChanges
 pub mod TableChanges
 pub mod Lawful
-pub mod Cargo
+pub mod StockInvariant
 pub mod Values
 pub mod LawfulTests
 pub mod LoadTests

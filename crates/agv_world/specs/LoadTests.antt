@@ -8,7 +8,7 @@ use Rattle.std.specs.Option.{is_some, unwrap_or}
 use Rattle.agv_header.specs.KeyOrder.{key_eq}
 use Rattle.agv_header.specs.Name.{name_cmp}
 use Rattle.agv_header.specs.declared.key.VehicleKey.{VehicleKey}
-use Rattle.agv_layout.specs.declared.station.Spot.{Spot}
+use Rattle.agv_layout.specs.declared.station.StationSite.{StationSite}
 use Rattle.agv_message.specs.declared.order.ActKind.{ActKind}
 use Rattle.agv_message.specs.declared.order.ActKind.TheVariants.{Pick, Drop}
 use Rattle.agv_order.specs.Statuses.{is_finished}
@@ -207,7 +207,7 @@ tally_of tables = with_jobs (with_loads finite.empty (finite.entries tables.load
 
 -- each station has room for the loads there and for those to come
 abbrev pub have_room : Tables → Bool
-have_room tables = list_all (λ (station : List ℕ × Spot). nat_le (tallied (tally_of tables) station.0) station.1.capacity) (finite.entries tables.stations)
+have_room tables = list_all (λ (station : List ℕ × StationSite). nat_le (tallied (tally_of tables) station.0) station.1.capacity) (finite.entries tables.stations)
 
 -- ---- room on vehicles
 
@@ -216,27 +216,27 @@ abbrev pub is_load_by : List ℕ → List Act → Bool
 is_load_by load acts = list_any (λ (act : Act). is_to_drop act && pointwise nat_eq act.load load) acts
 
 -- how many loads are on the vehicle that are none of those that the acts are to drop
-abbrev pub strangers : Tables → VehicleKey → List Act → ℕ
-strangers tables key acts = count_by (λ (load : List ℕ × Place). is_on key load.1 && not (is_load_by load.0 acts)) (finite.entries tables.loads)
+abbrev pub loads_of_others : Tables → VehicleKey → List Act → ℕ
+loads_of_others tables key acts = count_by (λ (load : List ℕ × Place). is_on key load.1 && not (is_load_by load.0 acts)) (finite.entries tables.loads)
 
 -- the place is a vehicle
-abbrev pub is_aboard : Place → Bool
-is_aboard (place.Station id) = false
-is_aboard (place.Vehicle key) = true
-is_aboard place.Checking = false
-is_aboard place.Left = false
+abbrev pub is_on_vehicle : Place → Bool
+is_on_vehicle (place.Station id) = false
+is_on_vehicle (place.Vehicle key) = true
+is_on_vehicle place.Checking = false
+is_on_vehicle place.Left = false
 
 -- the loads on vehicles
-abbrev pub loads_aboard : Tables → List (List ℕ × Place)
-loads_aboard tables = filter (λ (load : List ℕ × Place). is_aboard load.1) (finite.entries tables.loads)
+abbrev pub loads_on_vehicles : Tables → List (List ℕ × Place)
+loads_on_vehicles tables = filter (λ (load : List ℕ × Place). is_on_vehicle load.1) (finite.entries tables.loads)
 
 -- how many of these loads are on the vehicle and none of those that the acts are to drop
-abbrev pub strangers_among : List (List ℕ × Place) → VehicleKey → List Act → ℕ
-strangers_among loads key acts = count_by (λ (load : List ℕ × Place). is_on key load.1 && not (is_load_by load.0 acts)) loads
+abbrev pub loads_of_others_among : List (List ℕ × Place) → VehicleKey → List Act → ℕ
+loads_of_others_among loads key acts = count_by (λ (load : List ℕ × Place). is_on key load.1 && not (is_load_by load.0 acts)) loads
 
 -- a vehicle has places for its other loads, among these, and for the jobs of its trip that are not done
-abbrev pub is_laden_among : List (List ℕ × Place) → VehicleKey × VehicleRow → List Act → Bool
-is_laden_among loads entry acts = nat_le (strangers_among loads entry.0 acts + count_by is_to_drop acts) entry.1.capacity
+abbrev pub is_within_capacity_among : List (List ℕ × Place) → VehicleKey × VehicleRow → List Act → Bool
+is_within_capacity_among loads entry acts = nat_le (loads_of_others_among loads entry.0 acts + count_by is_to_drop acts) entry.1.capacity
 
 -- the acts of a row; none where there is no row
 abbrev pub acts_in : Option (List ℕ × TripRow) → List Act
@@ -244,20 +244,20 @@ acts_in None = []
 acts_in (Some entry) = entry.1.acts
 
 -- a vehicle has places for its other loads and for the jobs of its trip that are not done
-abbrev pub is_laden : Tables → VehicleKey × VehicleRow → List Act → Bool
-is_laden tables entry acts = nat_le (strangers tables entry.0 acts + count_by is_to_drop acts) entry.1.capacity
+abbrev pub is_within_capacity : Tables → VehicleKey × VehicleRow → List Act → Bool
+is_within_capacity tables entry acts = nat_le (loads_of_others tables entry.0 acts + count_by is_to_drop acts) entry.1.capacity
 
 -- the acts of a vehicle's trip
 abbrev pub acts_of : Tables → VehicleKey → List Act
 acts_of tables key = acts_in (find (names_vehicle key) (finite.entries tables.trips))
 
 -- each vehicle
-abbrev pub are_laden : Tables → Bool
-are_laden tables = list_all (λ (entry : VehicleKey × VehicleRow). is_laden tables entry (acts_of tables entry.0)) (finite.entries tables.vehicles)
+abbrev pub are_within_capacity : Tables → Bool
+are_within_capacity tables = list_all (λ (entry : VehicleKey × VehicleRow). is_within_capacity tables entry (acts_of tables entry.0)) (finite.entries tables.vehicles)
 
 -- each vehicle, among these loads
-abbrev pub are_laden_among : Tables → List (List ℕ × Place) → Bool
-are_laden_among tables loads = list_all (λ (entry : VehicleKey × VehicleRow). is_laden_among loads entry (acts_of tables entry.0)) (finite.entries tables.vehicles)
+abbrev pub are_within_capacity_among : Tables → List (List ℕ × Place) → Bool
+are_within_capacity_among tables loads = list_all (λ (entry : VehicleKey × VehicleRow). is_within_capacity_among loads entry (acts_of tables entry.0)) (finite.entries tables.vehicles)
 
 -- ---- the loads and the jobs
 
@@ -271,4 +271,4 @@ are_lawful_loads tables =
     && (are_acts tables
     && (are_jobs_apart tables
     && (have_room tables
-    && are_laden tables))))))
+    && are_within_capacity tables))))))

@@ -10,7 +10,7 @@ use Rattle.agv_header.specs.declared.key.VehicleKey.{VehicleKey}
 use Rattle.agv_layout.specs.Layout.{Layout}
 use Rattle.agv_layout.specs.LayoutOf.{layout_of, rows_in}
 use Rattle.agv_layout.specs.declared.fault.LayoutFault.{LayoutFault}
-use Rattle.agv_layout.specs.declared.station.Spot.{Spot}
+use Rattle.agv_layout.specs.declared.station.StationSite.{StationSite}
 use Rattle.agv_order.specs.declared.trip.Trip.{Trip}
 use Rattle.agv_stock.specs.Phase.{is_live}
 use Rattle.agv_stock.specs.Room.{is_at, is_on, room_left}
@@ -76,7 +76,7 @@ reserved world station = count_by (λ (job : List ℕ × JobRow). is_live_to sta
 -- how many loads more fit at a station: its capacity, less the loads there, less the live jobs to it; none where there is no such station
 unfoldable pub room_at : World → List ℕ → Option ℕ
 room_at world station =
-    option_map (λ (spot : Spot). room_left spot.capacity (length (loads_at world station)) (reserved world station)) (finite.get world.layout.stations station)
+    option_map (λ (spot : StationSite). room_left spot.capacity (length (loads_at world station)) (reserved world station)) (finite.get world.layout.stations station)
 
 -- ---- the names that were used, and the counts
 

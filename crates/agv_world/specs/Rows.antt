@@ -9,8 +9,8 @@ use Rattle.agv_header.specs.Name.{name_cmp}
 use Rattle.agv_header.specs.declared.key.Thing.{Thing}
 use Rattle.agv_header.specs.declared.key.VehicleKey.{VehicleKey}
 use Rattle.agv_layout.specs.declared.edge.Edge.{Edge}
-use Rattle.agv_layout.specs.declared.edge.Ends.{Ends}
-use Rattle.agv_layout.specs.declared.station.Spot.{Spot}
+use Rattle.agv_layout.specs.declared.edge.EdgeEnds.{EdgeEnds}
+use Rattle.agv_layout.specs.declared.station.StationSite.{StationSite}
 use Rattle.agv_order.specs.declared.trip.Trip.{Trip}
 use Rattle.agv_stock.specs.declared.place.Place.{Place}
 use Rattle.agv_track.specs.Footprints.{footprint_of}
@@ -29,8 +29,8 @@ use Rattle.agv_world.specs.declared.row.VehicleRow.{VehicleRow}
 pub record Rows : Type 0 where
   pub meta : finite.FinMap nat_cmp ℕ
   pub nodes : set.FinSet name_cmp
-  pub edges : finite.FinMap name_cmp Ends
-  pub stations : finite.FinMap name_cmp Spot
+  pub edges : finite.FinMap name_cmp EdgeEnds
+  pub stations : finite.FinMap name_cmp StationSite
   pub vehicles : finite.FinMap key_cmp VehicleRow
   pub trips : finite.FinMap name_cmp TripRow
   pub legs : finite.FinMap leg_cmp (List ℕ)

@@ -5,8 +5,8 @@ use Rattle.std.specs.FinMap as finite
 use Rattle.std.specs.FinSet as set
 use Rattle.agv_layout.specs.Layout.{Layout}
 use Rattle.agv_layout.specs.LayoutOf.{nodes_of}
-use Rattle.agv_layout.specs.declared.edge.Ends.{Ends}
-use Rattle.agv_layout.specs.declared.station.Spot.{Spot}
+use Rattle.agv_layout.specs.declared.edge.EdgeEnds.{EdgeEnds}
+use Rattle.agv_layout.specs.declared.station.StationSite.{StationSite}
 use Rattle.agv_stock.specs.declared.place.Place.{Place}
 use Rattle.agv_world.specs.Worlds.{World}
 use Rattle.agv_world.specs.declared.change.Change.{Change}
@@ -43,5 +43,5 @@ with_use world used.Reference name = record world { references = set.insert worl
 abbrev pub layout_changes : Layout → List Change
 layout_changes layout =
     map (λ (id : List ℕ). row.Node id) (nodes_of layout)
-    ++ (map (λ (edge : List ℕ × Ends). row.Edge edge.0 edge.1) (finite.entries layout.edges)
-    ++ map (λ (station : List ℕ × Spot). row.Station station.0 station.1) (finite.entries layout.stations))
+    ++ (map (λ (edge : List ℕ × EdgeEnds). row.Edge edge.0 edge.1) (finite.entries layout.edges)
+    ++ map (λ (station : List ℕ × StationSite). row.Station station.0 station.1) (finite.entries layout.stations))

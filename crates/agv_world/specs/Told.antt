@@ -12,7 +12,7 @@ use Rattle.agv_header.specs.declared.key.Thing.{Thing}
 use Rattle.agv_header.specs.declared.key.VehicleKey.{VehicleKey}
 use Rattle.agv_layout.specs.Layout.{Layout, edge_of}
 use Rattle.agv_layout.specs.declared.edge.Edge.{Edge}
-use Rattle.agv_layout.specs.declared.edge.Ends.{Ends}
+use Rattle.agv_layout.specs.declared.edge.EdgeEnds.{EdgeEnds}
 use Rattle.agv_order.specs.declared.trip.Trip.{Trip}
 use Rattle.agv_track.specs.Footprints.{footprint_of}
 use Rattle.agv_world.specs.Keys.{use_rank}
@@ -29,13 +29,13 @@ use Rattle.agv_world.specs.declared.world.World.{World as Tables}
 -- ---- the layout
 
 -- the layout, of its three tables
-abbrev pub layout_in : Tables → Layout
-layout_in tables = record { nodes = tables.nodes; edges = tables.edges; stations = tables.stations }
+abbrev pub layout_of_tables : Tables → Layout
+layout_of_tables tables = record { nodes = tables.nodes; edges = tables.edges; stations = tables.stations }
 
 -- ---- trips
 
 -- the edge of this name, with its ends in the layout; none where the layout has no such edge
-abbrev pub edge_named : finite.FinMap name_cmp Ends → List ℕ → Option Edge
+abbrev pub edge_named : finite.FinMap name_cmp EdgeEnds → List ℕ → Option Edge
 edge_named edges id = option_map (edge_of id) (finite.get edges id)
 
 -- the row is one of this order
@@ -111,7 +111,7 @@ names_of tables kind = set.from_list (names_in kind (set.items tables.used))
 -- the world that the tables tell; in good order it is the world whose rows they are
 abbrev pub world_of : Tables → World
 world_of tables = record {
-  layout = layout_in tables;
+  layout = layout_of_tables tables;
   vehicles = vehicles_of tables;
   places = tables.loads;
   jobs = tables.jobs;

@@ -4,8 +4,8 @@ use Rattle.std.specs.FinMap as finite
 use Rattle.std.specs.FinSet as set
 use Rattle.agv_header.specs.Name.{IsName}
 use Rattle.agv_header.specs.declared.key.VehicleKey.{VehicleKey}
-use Rattle.agv_layout.specs.declared.edge.Ends.{Ends}
-use Rattle.agv_layout.specs.declared.station.Spot.{Spot}
+use Rattle.agv_layout.specs.declared.edge.EdgeEnds.{EdgeEnds}
+use Rattle.agv_layout.specs.declared.station.StationSite.{StationSite}
 use Rattle.agv_stock.specs.declared.place.Place.{Place}
 use Rattle.agv_world.specs.Lawful.{IsKey}
 use Rattle.agv_world.specs.declared.key.UseKey.{UseKey}
@@ -29,8 +29,8 @@ pub record IsVehicleValue (row : VehicleRow) : Type 0 where
 -- the names and the numbers of the tables
 pub record HasValues (tables : Tables) : Type 0 where
   pub nodes : (id : List ℕ) → set.contains tables.nodes id ≡ true → IsName id
-  pub edges : (id : List ℕ) (ends : Ends) → finite.get tables.edges id ≡ Some ends → IsName id
-  pub stations : (id : List ℕ) (spot : Spot) → finite.get tables.stations id ≡ Some spot → IsName id
+  pub edges : (id : List ℕ) (ends : EdgeEnds) → finite.get tables.edges id ≡ Some ends → IsName id
+  pub stations : (id : List ℕ) (spot : StationSite) → finite.get tables.stations id ≡ Some spot → IsName id
   pub keys : (key : VehicleKey) (row : VehicleRow) → finite.get tables.vehicles key ≡ Some row → IsKey key
   pub vehicles : (key : VehicleKey) (row : VehicleRow) → finite.get tables.vehicles key ≡ Some row → IsVehicleValue row
   pub loads : (load : List ℕ) (place : Place) → finite.get tables.loads load ≡ Some place → IsName load

@@ -2,7 +2,7 @@
 
 use crate::{JobRow, LegKey, TripRow, UseKey, VehicleRow};
 use agv_header::{Name, Thing, VehicleKey};
-use agv_layout::{Ends, Spot};
+use agv_layout::{EdgeEnds, StationSite};
 use agv_stock::Place;
 
 /// One row that is written, in place of the row of its key if there is one; or, where there is no row
@@ -10,8 +10,8 @@ use agv_stock::Place;
 #[derive(Debug, Drop)]
 pub enum Change {
     Node(Name),
-    Edge(Name, Ends),
-    Station(Name, Spot),
+    Edge(Name, EdgeEnds),
+    Station(Name, StationSite),
     Vehicle(VehicleKey, VehicleRow),
     /// The open trip of an order; none where it has ended.
     Trip(Name, Option<TripRow>),

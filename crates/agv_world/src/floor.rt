@@ -7,7 +7,7 @@ ghost use Rattle.agv_world.specs.Questions.{row_of, trip_of, room_at, holder_of,
 
 use crate::{Fault, JobRow, UseKind, VehicleRow};
 use agv_header::{Name, Thing, VehicleKey};
-use agv_layout::{Layout, Spot};
+use agv_layout::{Layout, StationSite};
 use agv_message::Sequence;
 use agv_order::Trip;
 use agv_stock::Place;
@@ -73,7 +73,7 @@ pub trait Floor {
         ensures { Asks facts self.old self.new result (λ world known. known ≡ set.contains world.layout.nodes id) };
 
     /// Where a station is, and how many loads fit there; none where it is unknown.
-    fn station(&mut self, id: Name) -> Result<Option<Spot>, Fault>
+    fn station(&mut self, id: Name) -> Result<Option<StationSite>, Fault>
         ensures { Asks facts self.old self.new result (λ world spot. spot ≡ map.get world.layout.stations id) };
 
     /// Whether a name was used, in its kind.

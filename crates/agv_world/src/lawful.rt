@@ -44,7 +44,7 @@ impl World {
         if !self.has_one_job_each(alloc)? || !self.are_acts() || !self.are_jobs_apart() {
             return Ok(false);
         }
-        Ok(self.have_room(alloc)? && self.are_laden(alloc)?)
+        Ok(self.have_room(alloc)? && self.are_within_capacity(alloc)?)
     }
 
     // Whether the tables pass all tests.

@@ -1,6 +1,6 @@
 //! What follows where a world is lawful, for every world. Each function does nothing: its clause is the law.
 ghost use Rattle.std.specs.Prelude.{◌↔◌, ℕ};
-ghost use Rattle.agv_world.specs.Cargo.{HasCargo};
+ghost use Rattle.agv_world.specs.StockInvariant.{HasStockInvariant};
 ghost use Rattle.agv_world.specs.GoodOrder.{InGoodOrder};
 ghost use Rattle.agv_world.specs.Lawful.{HasLawfulLoads, HasLawfulVehicles, IsLawful};
 ghost use Rattle.agv_world.specs.Worlds.{World, empty_world};
@@ -9,8 +9,8 @@ use agv_order::laws::{fits_as_said, stops_twice};
 
 /// Where the vehicles are lawful, the loads and the jobs are lawful just where they, and what each vehicle
 /// is to carry, are joined as the proofs of the rules take them.
-pub fn loads_are_cargo()
-    ensures { (seats : ℕ) (world : World) → HasLawfulVehicles seats world → HasLawfulLoads world ↔ HasCargo world }
+pub fn loads_meet_invariant()
+    ensures { (seats : ℕ) (world : World) → HasLawfulVehicles seats world → HasLawfulLoads world ↔ HasStockInvariant world }
 {
     fits_as_said();
     stops_twice();

@@ -4,7 +4,7 @@ ghost use Rattle.agv_world.specs.Told.{world_of};
 
 use crate::{Counted, Fault, Floor, JobRow, UseKind, VehicleRow, World};
 use agv_header::{Name, Thing, VehicleKey};
-use agv_layout::{Layout, Spot};
+use agv_layout::{Layout, StationSite};
 use agv_message::Sequence;
 use agv_order::Trip;
 use agv_stock::Place;
@@ -94,7 +94,7 @@ impl Floor for PlainFloor<'_> {
         Ok(self.world.nodes.contains(id))
     }
 
-    fn station(&mut self, id: Name) -> Result<Option<Spot>, Fault> {
+    fn station(&mut self, id: Name) -> Result<Option<StationSite>, Fault> {
         Ok(self.world.station(id))
     }
 

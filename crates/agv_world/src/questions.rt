@@ -9,7 +9,7 @@ ghost use Rattle.agv_world.specs.Told.{world_of, edge_named, edges_of, trip_in, 
 
 use crate::{Counted, JobRow, TripRow, UseKey, UseKind, VehicleRow, World};
 use agv_header::{Memory, Name, Thing, VehicleKey};
-use agv_layout::{Edge, Spot};
+use agv_layout::{Edge, StationSite};
 use agv_message::Sequence;
 use agv_order::Trip;
 use agv_stock::{Place, room_left};
@@ -62,7 +62,7 @@ impl World {
     }
 
     // Where a station is, and how many loads fit there; none where it is unknown.
-    pub(crate) fn station(&self, id: Name) -> Option<Spot>
+    pub(crate) fn station(&self, id: Name) -> Option<StationSite>
         ensures { result ≡ map.get self.now.stations id }
     {
         self.stations.get(id).copied()

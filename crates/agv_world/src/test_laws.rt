@@ -5,7 +5,7 @@ ghost use Rattle.agv_world.specs.GoodOrder.{SharesNothing};
 ghost use Rattle.agv_world.specs.Kept.{Keeps};
 ghost use Rattle.agv_world.specs.Lawful.{HasLawfulVehicles};
 ghost use Rattle.agv_world.specs.LawfulTests.{are_apart, are_lawful_vehicles, are_legs, are_trips, is_laid};
-ghost use Rattle.agv_world.specs.Told.{layout_in, world_of};
+ghost use Rattle.agv_world.specs.Told.{layout_of_tables, world_of};
 ghost use Rattle.agv_world.specs.Values.{HasValues};
 ghost use Rattle.agv_world.specs.Worlds.{World, empty_layout};
 ghost use Rattle.agv_world.specs.declared.world.World.{World as Tables};
@@ -16,7 +16,7 @@ use agv_order::laws::tests_well_formed;
 /// The tables of the layout pass their tests just where the layout is not set, or keeps the rules of a layout.
 pub fn tests_the_layout()
     ensures { (tables : Tables) → HasValues tables
-        → IsTrue (is_laid tables) ↔ ((layout_in tables ≡ empty_layout) ⊎ KeepsRules (layout_in tables)) }
+        → IsTrue (is_laid tables) ↔ ((layout_of_tables tables ≡ empty_layout) ⊎ KeepsRules (layout_of_tables tables)) }
 {}
 
 /// The vehicles can claim their footprints one after the other just where no node or edge is in two of them.
@@ -32,7 +32,7 @@ pub fn tests_trips()
 /// Tables that pass the tests of the layout, the vehicles and their trips are those of the world that they tell, and it has lawful
 /// vehicles; and the tables of any world with lawful vehicles pass.
 pub fn tests_vehicles()
-    ensures told { (seats : ℕ) (tables : Tables) → HasValues tables → IsTrue (are_lawful_vehicles seats tables)
+    ensures passed { (seats : ℕ) (tables : Tables) → HasValues tables → IsTrue (are_lawful_vehicles seats tables)
         → Keeps tables (world_of tables) × HasLawfulVehicles seats (world_of tables) }
     ensures again { (seats : ℕ) (tables : Tables) (world : World) → Keeps tables world → HasLawfulVehicles seats world
         → (world_of tables ≡ world) × IsTrue (are_lawful_vehicles seats tables) }

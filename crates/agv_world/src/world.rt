@@ -10,7 +10,7 @@ use crate::{
     ByLeg, ByName, ByVehicle, Change, JobRow, LegKey, Names, TripRow, UsedNames, VehicleRow,
 };
 use agv_header::{Memory, Name};
-use agv_layout::{Ends, Spot};
+use agv_layout::{EdgeEnds, StationSite};
 use agv_stock::Place;
 use std::alloc::Global;
 
@@ -21,9 +21,9 @@ pub struct World {
     /// The nodes of the layout.
     pub nodes: Names,
     /// The edges of the layout.
-    pub edges: ByName<Ends>,
+    pub edges: ByName<EdgeEnds>,
     /// The stations of the layout.
-    pub stations: ByName<Spot>,
+    pub stations: ByName<StationSite>,
     /// The vehicles, but for their open trips.
     pub vehicles: ByVehicle<VehicleRow>,
     /// The open trips by their orders, but for their edges.

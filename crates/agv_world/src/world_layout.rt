@@ -4,7 +4,7 @@ ghost use Rattle.std.specs.FinMap as finite;
 ghost use Rattle.agv_layout.specs.LayoutOf.{layout_of, nodes_of, rows_in, edge_row, station_row};
 ghost use Rattle.agv_layout.specs.declared.row.LayoutRow.TheVariants as row;
 ghost use Rattle.agv_world.specs.Questions.{given, layout_set};
-ghost use Rattle.agv_world.specs.Told.{layout_in, world_of};
+ghost use Rattle.agv_world.specs.Told.{layout_of_tables, world_of};
 
 use crate::World;
 use agv_header::Memory;
@@ -25,7 +25,7 @@ fn layout_given(alloc: Global, rows: &[LayoutRow]) -> Result<Option<Layout>, Mem
 impl World {
     // Adds the rows of the nodes.
     fn push_nodes(&self, rows: &mut Vec<LayoutRow>) -> Result<(), Memory>
-        ensures { OnOk result (rows.new.items ≡ rows.old.items ++ map (λ id. row.Node id) (nodes_of (layout_in self.now))) }
+        ensures { OnOk result (rows.new.items ≡ rows.old.items ++ map (λ id. row.Node id) (nodes_of (layout_of_tables self.now))) }
     {
         for id in self.nodes.iter() {
             rows.push(LayoutRow::Node { id: *id })?;

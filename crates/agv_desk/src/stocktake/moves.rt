@@ -9,7 +9,7 @@ ghost use Rattle.agv_desk.specs.StocktakeSteps.{from_station, new_place};
 
 use crate::stocktake::sighting::Sighting;
 use agv_header::{Memory, Name};
-use agv_layout::Spot;
+use agv_layout::StationSite;
 use agv_stock::Place;
 use agv_world::{ByName, Fault, Floor};
 use std::alloc::Global;
@@ -18,7 +18,7 @@ use std::alloc::Global;
 #[derive(Drop)]
 pub(crate) struct Count {
     /// The stations that were counted.
-    pub(crate) stations: ByName<Spot>,
+    pub(crate) stations: ByName<StationSite>,
     /// The station where each found load was found.
     pub(crate) found: ByName<Name>,
 }
@@ -91,7 +91,7 @@ impl Count {
         &self,
         floor: &mut F,
         moves: &mut ByName<Place>,
-        stations: &[(Name, Spot)],
+        stations: &[(Name, StationSite)],
     ) -> Result<(), Fault>
         ensures { Asks F.facts floor.old floor.new result (λ world done. moves.new ≡ settled (map.contains_key self.now.stations) self.now.found moves.old (standing world stations.now)) }
     {

@@ -10,12 +10,12 @@ ghost use Rattle.agv_desk.specs.CountParts.{has_room, all_have_room, seen_at};
 use crate::stocktake::sighting::Sighting;
 use crate::stocktake::sightings::counts;
 use agv_header::Name;
-use agv_layout::Spot;
+use agv_layout::StationSite;
 use agv_world::{ByName, Fault, Floor};
 use std::alloc::Global;
 
 // Whether so many loads and so many jobs fit there.
-fn has_room(found: usize, reserved: usize, spot: Spot) -> bool
+fn has_room(found: usize, reserved: usize, spot: StationSite) -> bool
     ensures { result ≡ has_room found reserved spot }
 {
     found.saturating_add(reserved) <= spot.capacity as usize
@@ -26,7 +26,7 @@ fn fits<F: Floor>(
     floor: &mut F,
     counts: &ByName<usize>,
     station: Name,
-    spot: Spot,
+    spot: StationSite,
 ) -> Result<bool, Fault>
     ensures { Asks F.facts floor.old floor.new result (λ world fits. fits ≡ has_room (unwrap_or (map.get counts.now station) 0) (reserved world station) spot) }
 {
@@ -39,7 +39,7 @@ fn fits<F: Floor>(
 fn each_fits<F: Floor>(
     floor: &mut F,
     counts: &ByName<usize>,
-    stations: &[(Name, Spot)],
+    stations: &[(Name, StationSite)],
 ) -> Result<bool, Fault>
     ensures { Asks F.facts floor.old floor.new result (λ world fit. fit ≡ list_all (λ station. has_room (unwrap_or (map.get counts.now station.0) 0) (reserved world station.0) station.1) stations.now) }
 {
@@ -55,7 +55,7 @@ fn each_fits<F: Floor>(
 pub(crate) fn all_fit<F: Floor>(
     alloc: Global,
     floor: &mut F,
-    stations: &ByName<Spot>,
+    stations: &ByName<StationSite>,
     seen: &[Sighting],
 ) -> Result<bool, Fault>
     ensures { Asks F.facts floor.old floor.new result (λ world fit. fit ≡ all_have_room world seen.now (map.entries stations.now)) }

@@ -1,6 +1,6 @@
 //! What is known of a load that was found.
 ghost use Rattle.std.specs.Prelude.{◌≡◌};
-ghost use Rattle.agv_desk.specs.StocktakeSteps.{is_aboard, is_here};
+ghost use Rattle.agv_desk.specs.StocktakeSteps.{is_on_vehicle, is_here};
 
 use agv_header::Name;
 use agv_stock::Place;
@@ -15,8 +15,8 @@ pub(crate) struct Sighting {
 
 impl Sighting {
     /// Whether the load is recorded on a vehicle.
-    pub(crate) fn is_aboard(&self) -> bool
-        ensures { result ≡ is_aboard self.now.place }
+    pub(crate) fn is_on_vehicle(&self) -> bool
+        ensures { result ≡ is_on_vehicle self.now.place }
     {
         matches!(self.place, Some(Place::Vehicle(_)))
     }

@@ -5,7 +5,7 @@ ghost use Rattle.std.specs.List.{list_any, filter_map};
 ghost use Rattle.std.specs.Option.{unwrap_or};
 ghost use Rattle.agv_world.specs.Asks.{Asks};
 ghost use Rattle.agv_desk.specs.CountParts.{sightings, unknown_one, counted_up, seen_at, with_sighting};
-ghost use Rattle.agv_desk.specs.StocktakeSteps.{is_aboard};
+ghost use Rattle.agv_desk.specs.StocktakeSteps.{is_on_vehicle};
 
 use crate::stocktake::sighting::Sighting;
 use agv_header::{Memory, Name};
@@ -48,10 +48,10 @@ pub(crate) fn look_up<F: Floor>(
 }
 
 /// Whether one of the loads is recorded on a vehicle.
-pub(crate) fn finds_aboard(seen: &[Sighting]) -> bool
-    ensures { result ≡ list_any (λ one. is_aboard one.place) seen.now }
+pub(crate) fn finds_on_vehicle(seen: &[Sighting]) -> bool
+    ensures { result ≡ list_any (λ one. is_on_vehicle one.place) seen.now }
 {
-    seen.iter().any(|one| one.is_aboard())
+    seen.iter().any(|one| one.is_on_vehicle())
 }
 
 /// The loads that are not known, or have left, in the order of the rows.

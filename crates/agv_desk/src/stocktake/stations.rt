@@ -5,14 +5,14 @@ ghost use Rattle.agv_world.specs.Asks.{Asks};
 ghost use Rattle.agv_desk.specs.CountParts.{AreCounted, noted_station};
 
 use agv_header::Name;
-use agv_layout::Spot;
+use agv_layout::StationSite;
 use agv_world::{ByName, Fault, Floor};
 use std::alloc::Global;
 
 // Whether the station is known; it is noted then. The floor is asked for a station that is not noted yet.
 fn note_station<F: Floor>(
     floor: &mut F,
-    stations: &mut ByName<Spot>,
+    stations: &mut ByName<StationSite>,
     id: Name,
 ) -> Result<bool, Fault>
     ensures { Asks F.facts floor.old floor.new result (λ world known. (known, stations.new) ≡ noted_station stations.old id (map.get stations.old id) (map.get world.layout.stations id)) }
@@ -32,7 +32,7 @@ pub(crate) fn counted_stations<F: Floor>(
     alloc: Global,
     floor: &mut F,
     rows: &[(Name, Option<Name>)],
-) -> Result<Option<ByName<Spot>>, Fault>
+) -> Result<Option<ByName<StationSite>>, Fault>
     ensures { Asks F.facts floor.old floor.new result (λ world stations. AreCounted world rows.now stations) }
 {
     let mut stations = ByName::new(alloc);

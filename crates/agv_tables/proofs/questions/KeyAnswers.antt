@@ -8,8 +8,8 @@ use Rattle.sqlite_value.specs.Order.{Row}
 use Rattle.agv_header.specs.declared.key.Thing.{Thing}
 use Rattle.agv_header.specs.declared.key.Thing.TheVariants as thing
 use Rattle.agv_header.specs.declared.key.VehicleKey.{VehicleKey}
-use Rattle.agv_layout.specs.declared.edge.Ends.{Ends}
-use Rattle.agv_layout.specs.declared.station.Spot.{Spot}
+use Rattle.agv_layout.specs.declared.edge.EdgeEnds.{EdgeEnds}
+use Rattle.agv_layout.specs.declared.station.StationSite.{StationSite}
 use Rattle.agv_stock.specs.declared.place.Place.{Place}
 use Rattle.agv_world.specs.Lawful.{IsLawful}
 use Rattle.agv_world.specs.Questions.{holder_of, is_used, row_of}
@@ -87,13 +87,13 @@ module _ (world : World) (lawful : IsLawful desk_seats world) where
       (rows_of_key the.Job key lists) rows (ap (λ k. rows_of_key the.Job k lists) is ∙ job_shown lists (rows_of world) its_own id) shown
 
   pub tells_station : (id : List ℕ) (key : Row) → key ≡ name_key id → (rows : List Row) → IsPermutation (rows_of_key the.Station key lists) rows
-      → (r : Result (Option Spot) ReadingFault) → r ≡ first_in station_in rows → Follows r (λ spot. spot ≡ finite.get world.layout.stations id)
+      → (r : Result (Option StationSite) ReadingFault) → r ≡ first_in station_in rows → Follows r (λ spot. spot ≡ finite.get world.layout.stations id)
   tells_station id key is rows shown =
       tells_it station_in (station_columns id) id (finite.get world.layout.stations id) (λ spot at. station_kept id spot (station_named world lawful id spot at) (spot_value world lawful id spot at))
       (rows_of_key the.Station key lists) rows (ap (λ k. rows_of_key the.Station k lists) is ∙ station_shown lists (rows_of world) its_own id) shown
 
   pub tells_ends : (id : List ℕ) (key : Row) → key ≡ name_key id → (rows : List Row) → IsPermutation (rows_of_key the.Edge key lists) rows
-      → (r : Result (Option Ends) ReadingFault) → r ≡ first_in edge_in rows → Follows r (λ ends. ends ≡ finite.get world.layout.edges id)
+      → (r : Result (Option EdgeEnds) ReadingFault) → r ≡ first_in edge_in rows → Follows r (λ ends. ends ≡ finite.get world.layout.edges id)
   tells_ends id key is rows shown =
       tells_it edge_in (edge_columns id) id (finite.get world.layout.edges id) (λ ends at. edge_kept id ends (edge_named world lawful id ends at) (ends_value world lawful id ends at))
       (rows_of_key the.Edge key lists) rows (ap (λ k. rows_of_key the.Edge k lists) is ∙ edge_shown lists (rows_of world) its_own id) shown

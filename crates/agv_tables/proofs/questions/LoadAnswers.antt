@@ -7,7 +7,7 @@ use Rattle.std.specs.FinMap as finite
 use Rattle.std.specs.Option.{option_map}
 use Rattle.sqlite_value.specs.Order.{Row}
 use Rattle.agv_header.specs.declared.key.VehicleKey.{VehicleKey}
-use Rattle.agv_layout.specs.declared.station.Spot.{Spot}
+use Rattle.agv_layout.specs.declared.station.StationSite.{StationSite}
 use Rattle.agv_stock.specs.Room.{is_at, is_on, room_left}
 use Rattle.agv_stock.specs.declared.place.Place.{Place}
 use Rattle.agv_world.specs.Lawful.{IsLawful}
@@ -61,9 +61,9 @@ module _ (world : World) (lawful : IsLawful desk_seats world) where
 
 pub room_none : (world : World) (station : List ℕ) → finite.get world.layout.stations station ≡ None → None ≡ room_at world station
 unfolding room_at
-room_none world station none = ap (option_map (λ (spot : Spot). room_left spot.capacity (length (loads_at world station)) (reserved world station))) (sym none)
+room_none world station none = ap (option_map (λ (spot : StationSite). room_left spot.capacity (length (loads_at world station)) (reserved world station))) (sym none)
 
-pub room_some : (world : World) (station : List ℕ) (spot : Spot) (room : ℕ) → finite.get world.layout.stations station ≡ Some spot → room ≡ room_left spot.capacity (length (loads_at world station)) (reserved world station)
+pub room_some : (world : World) (station : List ℕ) (spot : StationSite) (room : ℕ) → finite.get world.layout.stations station ≡ Some spot → room ≡ room_left spot.capacity (length (loads_at world station)) (reserved world station)
     → Some room ≡ room_at world station
 unfolding room_at
-room_some world station spot room there is = ap Some is ∙ ap (option_map (λ (spot : Spot). room_left spot.capacity (length (loads_at world station)) (reserved world station))) (sym there)
+room_some world station spot room there is = ap Some is ∙ ap (option_map (λ (spot : StationSite). room_left spot.capacity (length (loads_at world station)) (reserved world station))) (sym there)

@@ -10,7 +10,7 @@ use Rattle.sqlite_value.specs.Order.{Row}
 use Rattle.agv_header.specs.declared.key.VehicleKey.{VehicleKey}
 use Rattle.agv_layout.specs.Layout.{edge_of}
 use Rattle.agv_layout.specs.declared.edge.Edge.{Edge}
-use Rattle.agv_layout.specs.declared.edge.Ends.{Ends}
+use Rattle.agv_layout.specs.declared.edge.EdgeEnds.{EdgeEnds}
 use Rattle.agv_order.specs.declared.trip.Trip.{Trip}
 use Rattle.agv_world.specs.GoodOrder.{InGoodOrder}
 use Rattle.agv_world.specs.KeyOrders.{leg_cmp-IsAntisymmetric, leg_cmp-total}
@@ -94,7 +94,7 @@ module _ (world : World) (lawful : IsLawful 1 world) where
 
 -- the layout has the edge of a row
 abbrev pub IsKnown : World → LegKey × List ℕ → Type 0
-IsKnown world leg = (ends : Ends) × (finite.get world.layout.edges leg.1 ≡ Some ends)
+IsKnown world leg = (ends : EdgeEnds) × (finite.get world.layout.edges leg.1 ≡ Some ends)
 
 abbrev pub edge_at : World → LegKey × List ℕ → Option Edge
 edge_at world leg = edge_named world.layout.edges leg.1
@@ -140,7 +140,7 @@ module _ (world : World) (lawful : IsLawful 1 world) (good : InGoodOrder world) 
 -- ---- one edge after the other
 
 -- the edge of the next row
-pub goes_on : (world : World) (order : List ℕ) (edges : List Edge) (rest : List (LegKey × List ℕ)) (leg : LegKey × List ℕ) (more : List (LegKey × List ℕ)) (ends : Ends) (now : List Edge)
+pub goes_on : (world : World) (order : List ℕ) (edges : List Edge) (rest : List (LegKey × List ℕ)) (leg : LegKey × List ℕ) (more : List (LegKey × List ℕ)) (ends : EdgeEnds) (now : List Edge)
     → Goes edges rest order world tt → rest ≡ leg ∷ more → Some ends ≡ finite.get world.layout.edges leg.1 → now ≡ edges ++ edge_of leg.1 ends ∷ [] → Goes now more order world tt
 goes_on world order edges rest leg more ends now goes next there pushed =
     let all = subst (λ l. Goes edges l order world tt) next goes in (
@@ -155,7 +155,7 @@ goes_on world order edges rest leg more ends now goes next there pushed =
 pub goes_known : (world : World) (order : List ℕ) (edges : List Edge) (rest : List (LegKey × List ℕ)) (leg : LegKey × List ℕ) (more : List (LegKey × List ℕ)) → Goes edges rest order world tt → rest ≡ leg ∷ more → ¬ (None ≡ finite.get world.layout.edges leg.1)
 goes_known world order edges rest leg more goes next none =
     let all = subst (λ l. Goes edges l order world tt) next goes in
-    let wrong : ◌≡◌ {A = Option Ends} None (Some all.1.0.0) = none ∙ all.1.0.1 in
+    let wrong : ◌≡◌ {A = Option EdgeEnds} None (Some all.1.0.0) = none ∙ all.1.0.1 in
     cc wrong
 
 -- the way is at its end

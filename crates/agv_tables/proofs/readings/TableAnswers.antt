@@ -9,8 +9,8 @@ use Rattle.agv_header.specs.KeyOrder.{key_cmp-IsAntisymmetric, key_cmp-total}
 use Rattle.agv_header.specs.Name.{name_cmp}
 use Rattle.agv_header.specs.ThingOrder.{thing_cmp-IsAntisymmetric, thing_cmp-total}
 use Rattle.agv_header.specs.declared.key.VehicleKey.{VehicleKey}
-use Rattle.agv_layout.specs.declared.edge.Ends.{Ends}
-use Rattle.agv_layout.specs.declared.station.Spot.{Spot}
+use Rattle.agv_layout.specs.declared.edge.EdgeEnds.{EdgeEnds}
+use Rattle.agv_layout.specs.declared.station.StationSite.{StationSite}
 use Rattle.agv_stock.specs.declared.place.Place.{Place}
 use Rattle.agv_world.specs.GoodOrder.{InGoodOrder}
 use Rattle.agv_world.specs.KeyOrders.{leg_cmp-IsAntisymmetric, leg_cmp-total, use_cmp-IsAntisymmetric, use_cmp-total}
@@ -46,11 +46,11 @@ module _ (world : World) (lawful : IsLawful desk_seats world) (rows : List Row) 
   unfolding row_lists
   tells_jobs shown r read = reads_it world.jobs r (read_rows job_in finite.empty rows) read (reads_all nat_list_cmp_total names_apart world.jobs job_columns job_in (λ id x at. job_kept id x (lawful.loads.jobs_named id x at) (job_value world lawful id x at)) rows shown)
 
-  pub tells_stations : IsPermutation (all_rows_of the.Station (row_lists (rows_of world))) rows → (r : Result (finite.FinMap name_cmp Spot) ReadingFault) → Reads r (read_rows station_in finite.empty rows) → Follows r (λ table. table ≡ world.layout.stations)
+  pub tells_stations : IsPermutation (all_rows_of the.Station (row_lists (rows_of world))) rows → (r : Result (finite.FinMap name_cmp StationSite) ReadingFault) → Reads r (read_rows station_in finite.empty rows) → Follows r (λ table. table ≡ world.layout.stations)
   unfolding row_lists
   tells_stations shown r read = reads_it world.layout.stations r (read_rows station_in finite.empty rows) read (reads_all nat_list_cmp_total names_apart world.layout.stations station_columns station_in (λ id x at. station_kept id x (station_named world lawful id x at) (spot_value world lawful id x at)) rows shown)
 
-  pub tells_edges : IsPermutation (all_rows_of the.Edge (row_lists (rows_of world))) rows → (r : Result (finite.FinMap name_cmp Ends) ReadingFault) → Reads r (read_rows edge_in finite.empty rows) → Follows r (λ table. table ≡ world.layout.edges)
+  pub tells_edges : IsPermutation (all_rows_of the.Edge (row_lists (rows_of world))) rows → (r : Result (finite.FinMap name_cmp EdgeEnds) ReadingFault) → Reads r (read_rows edge_in finite.empty rows) → Follows r (λ table. table ≡ world.layout.edges)
   unfolding row_lists
   tells_edges shown r read = reads_it world.layout.edges r (read_rows edge_in finite.empty rows) read (reads_all nat_list_cmp_total names_apart world.layout.edges edge_columns edge_in (λ id x at. edge_kept id x (edge_named world lawful id x at) (ends_value world lawful id x at)) rows shown)
 

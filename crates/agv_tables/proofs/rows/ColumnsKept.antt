@@ -6,8 +6,8 @@ use Rattle.agv_header.specs.Name.{IsName}
 use Rattle.agv_header.specs.declared.key.Thing.{Thing}
 use Rattle.agv_header.specs.declared.key.Thing.TheVariants as thing
 use Rattle.agv_header.specs.declared.key.VehicleKey.{VehicleKey}
-use Rattle.agv_layout.specs.declared.edge.Ends.{Ends}
-use Rattle.agv_layout.specs.declared.station.Spot.{Spot}
+use Rattle.agv_layout.specs.declared.edge.EdgeEnds.{EdgeEnds}
+use Rattle.agv_layout.specs.declared.station.StationSite.{StationSite}
 use Rattle.agv_message.specs.Instant.{instant_name}
 use Rattle.agv_message.specs.declared.instant.InstantKind.{InstantKind}
 use Rattle.agv_stock.specs.declared.place.Place.{Place}
@@ -83,10 +83,10 @@ edge_kind_kept = refl
 pub meta_kept : (id schema : ℕ) → IsNumber id → IsNumber schema → meta_in (meta_columns id schema) ≡ Some (id, schema)
 meta_kept id schema is also = rw (number_kept id is, number_kept schema also)
 
-pub edge_kept : (id : List ℕ) (ends : Ends) → IsName id → AreEnds ends → edge_in (edge_columns id ends) ≡ Some (id, ends)
+pub edge_kept : (id : List ℕ) (ends : EdgeEnds) → IsName id → AreEnds ends → edge_in (edge_columns id ends) ≡ Some (id, ends)
 edge_kept id ends is are = rw (name_kept id is, name_kept ends.start are.0, name_kept ends.finish are.1)
 
-pub station_kept : (id : List ℕ) (spot : Spot) → IsName id → IsSpot spot → station_in (station_columns id spot) ≡ Some (id, spot)
+pub station_kept : (id : List ℕ) (spot : StationSite) → IsName id → IsSpot spot → station_in (station_columns id spot) ≡ Some (id, spot)
 station_kept id spot is at = rw (name_kept id is, name_kept spot.node at.0, number_kept spot.capacity at.1)
 
 pub vehicle_kept : (key : VehicleKey) (row : VehicleRow) → IsKey key → IsVehicleRow row → vehicle_in (vehicle_columns key row) ≡ Some (key, row)

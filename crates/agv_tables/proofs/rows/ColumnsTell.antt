@@ -8,8 +8,8 @@ use Rattle.sqlite_value.specs.Order.{Row, column}
 use Rattle.agv_header.specs.declared.key.Thing.{Thing}
 use Rattle.agv_header.specs.declared.key.Thing.TheVariants as thing
 use Rattle.agv_header.specs.declared.key.VehicleKey.{VehicleKey}
-use Rattle.agv_layout.specs.declared.edge.Ends.{Ends}
-use Rattle.agv_layout.specs.declared.station.Spot.{Spot}
+use Rattle.agv_layout.specs.declared.edge.EdgeEnds.{EdgeEnds}
+use Rattle.agv_layout.specs.declared.station.StationSite.{StationSite}
 use Rattle.agv_message.specs.Instant.{instant_name}
 use Rattle.agv_message.specs.Status.{status_name}
 use Rattle.agv_message.specs.declared.instant.InstantKind.{InstantKind}
@@ -81,13 +81,13 @@ same_at a b i e = ap (λ (row : Row). column row i) e
 pub meta_tells : (id a b : ℕ) → meta_columns id a ≡ meta_columns id b → a ≡ b
 meta_tells id a b e = number a b (same_at _ _ 1 e)
 
-pub edge_tells : (id : List ℕ) (a b : Ends) → edge_columns id a ≡ edge_columns id b → a ≡ b
+pub edge_tells : (id : List ℕ) (a b : EdgeEnds) → edge_columns id a ≡ edge_columns id b → a ≡ b
 edge_tells id a b e =
     let start : a.start ≡ b.start = text (same_at _ _ 1 e) in
     let finish : a.finish ≡ b.finish = text (same_at _ _ 2 e) in
     λ i. record { start = start i; finish = finish i }
 
-pub station_tells : (id : List ℕ) (a b : Spot) → station_columns id a ≡ station_columns id b → a ≡ b
+pub station_tells : (id : List ℕ) (a b : StationSite) → station_columns id a ≡ station_columns id b → a ≡ b
 station_tells id a b e =
     let node : a.node ≡ b.node = text (same_at _ _ 1 e) in
     let capacity = number a.capacity b.capacity (same_at _ _ 2 e) in

@@ -7,8 +7,8 @@ use Rattle.sqlite_value.specs.declared.value.Value.{Value}
 use Rattle.sqlite_value.specs.declared.value.Value.TheVariants.{Int, Text}
 use Rattle.agv_header.specs.declared.key.Thing.{Thing}
 use Rattle.agv_header.specs.declared.key.VehicleKey.{VehicleKey}
-use Rattle.agv_layout.specs.declared.edge.Ends.{Ends}
-use Rattle.agv_layout.specs.declared.station.Spot.{Spot}
+use Rattle.agv_layout.specs.declared.edge.EdgeEnds.{EdgeEnds}
+use Rattle.agv_layout.specs.declared.station.StationSite.{StationSite}
 use Rattle.agv_message.specs.Instant.{instant_name}
 use Rattle.agv_message.specs.declared.instant.InstantKind.{InstantKind}
 use Rattle.agv_stock.specs.declared.place.Place.{Place}
@@ -152,21 +152,21 @@ node_written row id e =
     let shape = in_columns 1 row _ _ e in
     all_columns 1 row shape.0 ∙ next (name_written _ id shape.1) refl
 
-pub edge_written : (row : Row) (id : List ℕ) (ends : Ends) → edge_in row ≡ Some (id, ends) → row ≡ edge_columns id ends
+pub edge_written : (row : Row) (id : List ℕ) (ends : EdgeEnds) → edge_in row ≡ Some (id, ends) → row ≡ edge_columns id ends
 edge_written row id ends e =
     let shape = in_columns 3 row _ _ e in
     let a = if_some_parts _ _ _ shape.1 in
     let b = if_some_parts _ _ _ a.2 in
     let c = if_some_parts _ _ _ b.2 in
-    all_columns 3 row shape.0 ∙ next (name_written _ a.0 a.1) (next (name_written _ b.0 b.1) (next (name_written _ c.0 c.1) refl)) ∙ ap (λ (p : List ℕ × Ends). edge_columns p.0 p.1) (some_same c.2)
+    all_columns 3 row shape.0 ∙ next (name_written _ a.0 a.1) (next (name_written _ b.0 b.1) (next (name_written _ c.0 c.1) refl)) ∙ ap (λ (p : List ℕ × EdgeEnds). edge_columns p.0 p.1) (some_same c.2)
 
-pub station_written : (row : Row) (id : List ℕ) (spot : Spot) → station_in row ≡ Some (id, spot) → row ≡ station_columns id spot
+pub station_written : (row : Row) (id : List ℕ) (spot : StationSite) → station_in row ≡ Some (id, spot) → row ≡ station_columns id spot
 station_written row id spot e =
     let shape = in_columns 3 row _ _ e in
     let a = if_some_parts _ _ _ shape.1 in
     let b = if_some_parts _ _ _ a.2 in
     let c = if_some_parts _ _ _ b.2 in
-    all_columns 3 row shape.0 ∙ next (name_written _ a.0 a.1) (next (name_written _ b.0 b.1) (next (number_written _ c.0 c.1) refl)) ∙ ap (λ (p : List ℕ × Spot). station_columns p.0 p.1) (some_same c.2)
+    all_columns 3 row shape.0 ∙ next (name_written _ a.0 a.1) (next (name_written _ b.0 b.1) (next (number_written _ c.0 c.1) refl)) ∙ ap (λ (p : List ℕ × StationSite). station_columns p.0 p.1) (some_same c.2)
 
 pub vehicle_written : (row : Row) (key : VehicleKey) (vehicle : VehicleRow) → vehicle_in row ≡ Some (key, vehicle) → row ≡ vehicle_columns key vehicle
 unfolding vehicle_in

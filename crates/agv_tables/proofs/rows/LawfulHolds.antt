@@ -12,7 +12,7 @@ use Rattle.agv_header.specs.ThingOrder.{thing_cmp-IsAntisymmetric, thing_cmp-tot
 use Rattle.agv_header.specs.declared.key.Thing.{Thing}
 use Rattle.agv_header.specs.declared.key.VehicleKey.{VehicleKey}
 use Rattle.agv_layout.specs.declared.edge.Edge.{Edge}
-use Rattle.agv_layout.specs.declared.edge.Ends.{Ends}
+use Rattle.agv_layout.specs.declared.edge.EdgeEnds.{EdgeEnds}
 use Rattle.agv_order.specs.Trips.{node_at}
 use Rattle.agv_order.specs.declared.trip.Trip.{Trip}
 use Rattle.agv_track.specs.Footprints.{along, footprint_of, from_node, once, rest_things, things_by}
@@ -56,7 +56,7 @@ module _ (world : World) (lawful : IsLawful desk_seats world) (good : InGoodOrde
   named_along : (edges : List Edge) → AllByRecursion (IsOfLayout world.layout) edges → AllByRecursion IsThing (along edges)
   named_along [] are = tt
   named_along (edge ∷ edges) are =
-      let ends : Ends = record { start = edge.start; finish = edge.finish } in
+      let ends : EdgeEnds = record { start = edge.start; finish = edge.finish } in
       (edge_named world lawful edge.id ends are.0, ((ends_value world lawful edge.id ends are.0).1, named_along edges are.1))
 
   named_from : (o : Option (List ℕ)) (node : List ℕ) → o ≡ Some node → IsName node → (edges : List Edge) → AllByRecursion IsThing (along edges) → AllByRecursion IsThing (from_node o edges)

@@ -13,7 +13,7 @@ use Rattle.agv_header.specs.declared.key.VehicleKey.{VehicleKey}
 use Rattle.agv_layout.specs.Layout.{IsNode, KeepsRules, Layout}
 use Rattle.agv_layout.specs.Walk.{IsWalk}
 use Rattle.agv_layout.specs.declared.edge.Edge.{Edge}
-use Rattle.agv_layout.specs.declared.edge.Ends.{Ends}
+use Rattle.agv_layout.specs.declared.edge.EdgeEnds.{EdgeEnds}
 use Rattle.agv_order.specs.Trips.{task_of}
 use Rattle.agv_order.specs.WellFormed.{IsConfirmed, IsRising}
 use Rattle.agv_order.specs.declared.trip.Trip.{Trip}
@@ -159,7 +159,7 @@ leg_of world good key vehicle (Some trip) is at q id found =
 
 module _ (world : World) (lawful : IsLawful 1 world) (good : InGoodOrder world) where
   -- the layout has the edge of each row, and the values of the row are in their ranges
-  pub leg_value : (q : LegKey) (id : List ℕ) → finite.get (rows_of world).legs q ≡ Some id → IsLegKey q × IsName id × (ends : Ends) × (finite.get world.layout.edges id ≡ Some ends)
+  pub leg_value : (q : LegKey) (id : List ℕ) → finite.get (rows_of world).legs q ≡ Some id → IsLegKey q × IsName id × (ends : EdgeEnds) × (finite.get world.layout.edges id ≡ Some ends)
   leg_value q id at =
       let from = spread_from key_cmp-total leg_cmp leg_cmp-total leg_rows world.vehicles q id at in
       let leg = leg_of world good from.0 from.1 from.1.trip refl from.2 q id from.3 in
@@ -167,7 +167,7 @@ module _ (world : World) (lawful : IsLawful 1 world) (good : InGoodOrder world) 
       let kept = lawful.vehicles.trips from.0 from.1 trip from.2 leg.1 in
       let short = kept.well_formed.planned.short in
       let edge = leg.4 in
-      let ends : Ends = record { start = edge.start; finish = edge.finish } in
+      let ends : EdgeEnds = record { start = edge.start; finish = edge.finish } in
       let there : finite.get world.layout.edges id ≡ Some ends = subst (λ name. finite.get world.layout.edges name ≡ Some ends) leg.5 leg.6 in (
         (subst IsName (sym leg.2) (lawful.vehicles.orders_named trip.order (lawful.vehicles.used from.0 trip (from.1, from.2, leg.1))), small q.k (length trip.edges) leg.3 short),
         edge_named world lawful id ends there,

@@ -14,8 +14,8 @@ use Rattle.agv_header.specs.ThingOrder.{thing_cmp-total}
 use Rattle.agv_header.specs.declared.key.Thing.{Thing}
 use Rattle.agv_header.specs.declared.key.VehicleKey.{VehicleKey}
 use Rattle.agv_layout.specs.Layout.{IsEdge, IsNode, IsStation, KeepsRules, Layout}
-use Rattle.agv_layout.specs.declared.edge.Ends.{Ends}
-use Rattle.agv_layout.specs.declared.station.Spot.{Spot}
+use Rattle.agv_layout.specs.declared.edge.EdgeEnds.{EdgeEnds}
+use Rattle.agv_layout.specs.declared.station.StationSite.{StationSite}
 use Rattle.agv_stock.specs.declared.place.Place.{Place}
 use Rattle.agv_stock.specs.declared.place.Place.TheVariants as place
 use Rattle.agv_world.specs.KeyOrders.{use_cmp-total}
@@ -128,32 +128,32 @@ module _ (world : World) (lawful : IsLawful desk_seats world) where
     | inr rules ↦ rules
   ]
 
-  station_rules : (id : List ℕ) (spot : Spot) → IsStation world.layout id spot → KeepsRules world.layout
+  station_rules : (id : List ℕ) (spot : StationSite) → IsStation world.layout id spot → KeepsRules world.layout
   station_rules id spot is = elim lawful.vehicles.laid [
-    | inl none ↦ absurd (let there = subst (λ (layout : Layout). finite.get layout.stations id ≡ Some spot) none is in let not = finite.get-empty {X = Spot} name_cmp id in cc)
+    | inl none ↦ absurd (let there = subst (λ (layout : Layout). finite.get layout.stations id ≡ Some spot) none is in let not = finite.get-empty {X = StationSite} name_cmp id in cc)
     | inr rules ↦ rules
   ]
 
-  edge_rules : (id : List ℕ) (ends : Ends) → IsEdge world.layout id ends → KeepsRules world.layout
+  edge_rules : (id : List ℕ) (ends : EdgeEnds) → IsEdge world.layout id ends → KeepsRules world.layout
   edge_rules id ends is = elim lawful.vehicles.laid [
-    | inl none ↦ absurd (let there = subst (λ (layout : Layout). finite.get layout.edges id ≡ Some ends) none is in let not = finite.get-empty {X = Ends} name_cmp id in cc)
+    | inl none ↦ absurd (let there = subst (λ (layout : Layout). finite.get layout.edges id ≡ Some ends) none is in let not = finite.get-empty {X = EdgeEnds} name_cmp id in cc)
     | inr rules ↦ rules
   ]
 
   pub node_named : (id : List ℕ) → IsNode world.layout id → IsName id
   node_named id is = (node_rules id is).nodes_named id is
 
-  pub station_named : (id : List ℕ) (spot : Spot) → IsStation world.layout id spot → IsName id
+  pub station_named : (id : List ℕ) (spot : StationSite) → IsStation world.layout id spot → IsName id
   station_named id spot is = (station_rules id spot is).stations_named id spot is
 
-  pub edge_named : (id : List ℕ) (ends : Ends) → IsEdge world.layout id ends → IsName id
+  pub edge_named : (id : List ℕ) (ends : EdgeEnds) → IsEdge world.layout id ends → IsName id
   edge_named id ends is = (edge_rules id ends is).edges_named id ends is
 
-  pub spot_value : (id : List ℕ) (spot : Spot) → IsStation world.layout id spot → IsSpot spot
+  pub spot_value : (id : List ℕ) (spot : StationSite) → IsStation world.layout id spot → IsSpot spot
   spot_value id spot is =
       let stands = (station_rules id spot is).stands id spot is in (node_named spot.node stands.0, few_enough spot.capacity stands.2)
 
-  pub ends_value : (id : List ℕ) (ends : Ends) → IsEdge world.layout id ends → AreEnds ends
+  pub ends_value : (id : List ℕ) (ends : EdgeEnds) → IsEdge world.layout id ends → AreEnds ends
   ends_value id ends is = let leads = (edge_rules id ends is).leads id ends is in (node_named ends.start leads.0, node_named ends.finish leads.1)
 
   place_in : (where_is : Place) → IsPlaceIn world where_is → IsPlace where_is

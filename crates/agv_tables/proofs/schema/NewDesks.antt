@@ -12,8 +12,8 @@ use Rattle.agv_header.specs.Key.{key_cmp, thing_cmp}
 use Rattle.agv_header.specs.Name.{name_cmp}
 use Rattle.agv_header.specs.declared.key.Thing.{Thing}
 use Rattle.agv_header.specs.declared.key.VehicleKey.{VehicleKey}
-use Rattle.agv_layout.specs.declared.edge.Ends.{Ends}
-use Rattle.agv_layout.specs.declared.station.Spot.{Spot}
+use Rattle.agv_layout.specs.declared.edge.EdgeEnds.{EdgeEnds}
+use Rattle.agv_layout.specs.declared.station.StationSite.{StationSite}
 use Rattle.agv_stock.specs.declared.place.Place.{Place}
 use Rattle.agv_world.specs.KeyOrders.{use_cmp-total}
 use Rattle.agv_world.specs.Keys.{leg_cmp, use_cmp}
@@ -75,8 +75,8 @@ lists_of_nothing = rw (
   no_entries {K = ℕ} {X = ℕ} nat_cmp,
   no_items name_cmp nat_list_cmp_total,
   no_items use_cmp use_cmp-total,
-  no_entries {K = List ℕ} {X = Ends} name_cmp,
-  no_entries {K = List ℕ} {X = Spot} name_cmp,
+  no_entries {K = List ℕ} {X = EdgeEnds} name_cmp,
+  no_entries {K = List ℕ} {X = StationSite} name_cmp,
   no_entries {K = VehicleKey} {X = VehicleRow} key_cmp,
   no_entries {K = List ℕ} {X = TripRow} name_cmp,
   no_entries {K = LegKey} {X = List ℕ} leg_cmp,

@@ -13,8 +13,8 @@ use Rattle.agv_header.specs.Name.{name_cmp}
 use Rattle.agv_header.specs.declared.key.Thing.{Thing}
 use Rattle.agv_header.specs.declared.key.Thing.TheVariants as thing
 use Rattle.agv_header.specs.declared.key.VehicleKey.{VehicleKey}
-use Rattle.agv_layout.specs.declared.edge.Ends.{Ends}
-use Rattle.agv_layout.specs.declared.station.Spot.{Spot}
+use Rattle.agv_layout.specs.declared.edge.EdgeEnds.{EdgeEnds}
+use Rattle.agv_layout.specs.declared.station.StationSite.{StationSite}
 use Rattle.agv_stock.specs.declared.place.Place.{Place}
 use Rattle.agv_stock.specs.declared.place.Place.TheVariants as place
 use Rattle.agv_world.specs.Keys.{leg_cmp, use_cmp, use_rank}
@@ -73,10 +73,10 @@ meta_tested k q x = and_true _ ∙ numbers_equal k q
 pub node_tested : (k q : List ℕ) → has_key the.Node (name_key k) (node_columns q) ≡ eq_by_cmp name_cmp k q
 node_tested k q = one_name k q
 
-pub edge_tested : (k q : List ℕ) (x : Ends) → has_key the.Edge (name_key k) (edge_columns q x) ≡ eq_by_cmp name_cmp k q
+pub edge_tested : (k q : List ℕ) (x : EdgeEnds) → has_key the.Edge (name_key k) (edge_columns q x) ≡ eq_by_cmp name_cmp k q
 edge_tested k q x = one_name k q
 
-pub station_tested : (k q : List ℕ) (x : Spot) → has_key the.Station (name_key k) (station_columns q x) ≡ eq_by_cmp name_cmp k q
+pub station_tested : (k q : List ℕ) (x : StationSite) → has_key the.Station (name_key k) (station_columns q x) ≡ eq_by_cmp name_cmp k q
 station_tested k q x = one_name k q
 
 pub vehicle_tested : (k q : VehicleKey) (x : VehicleRow) → has_key the.Vehicle (vehicle_key k) (vehicle_columns q x) ≡ eq_by_cmp key_cmp k q

@@ -7,8 +7,8 @@ use Rattle.sqlite_value.specs.declared.value.Value.TheVariants.{Null, Text}
 use Rattle.agv_header.specs.declared.key.Thing.{Thing}
 use Rattle.agv_header.specs.declared.key.Thing.TheVariants as thing
 use Rattle.agv_header.specs.declared.key.VehicleKey.{VehicleKey}
-use Rattle.agv_layout.specs.declared.edge.Ends.{Ends}
-use Rattle.agv_layout.specs.declared.station.Spot.{Spot}
+use Rattle.agv_layout.specs.declared.edge.EdgeEnds.{EdgeEnds}
+use Rattle.agv_layout.specs.declared.station.StationSite.{StationSite}
 use Rattle.agv_message.specs.Instant.{instant_name}
 use Rattle.agv_message.specs.Status.{status_name}
 use Rattle.agv_stock.specs.declared.place.Place.{Place}
@@ -47,20 +47,20 @@ node_in row = if_columns 1 row (name_in (column row 0))
 
 -- ---- edge: id, start, finish
 
-abbrev pub edge_columns : List ℕ → Ends → Row
+abbrev pub edge_columns : List ℕ → EdgeEnds → Row
 edge_columns id ends = Text id ∷ Text ends.start ∷ Text ends.finish ∷ []
 
-abbrev pub edge_in : Row → Option (List ℕ × Ends)
+abbrev pub edge_in : Row → Option (List ℕ × EdgeEnds)
 edge_in row = if_columns 3 row (
     if_some (name_in (column row 0)) (λ id. if_some (name_in (column row 1)) (λ start. if_some (name_in (column row 2)) (λ finish.
     Some (id, record { start = start; finish = finish })))))
 
 -- ---- station: id, node, capacity
 
-abbrev pub station_columns : List ℕ → Spot → Row
+abbrev pub station_columns : List ℕ → StationSite → Row
 station_columns id spot = Text id ∷ Text spot.node ∷ number_cell spot.capacity ∷ []
 
-abbrev pub station_in : Row → Option (List ℕ × Spot)
+abbrev pub station_in : Row → Option (List ℕ × StationSite)
 station_in row = if_columns 3 row (
     if_some (name_in (column row 0)) (λ id. if_some (name_in (column row 1)) (λ node. if_some (number_in (column row 2)) (λ capacity.
     Some (id, record { node = node; capacity = capacity })))))

@@ -3,8 +3,8 @@ use Rattle.std.specs.Prelude.{◌≡◌, ℕ, ◌≤◌, IfSome}
 use Rattle.agv_header.specs.Name.{IsName}
 use Rattle.agv_header.specs.declared.key.Thing.{Thing}
 use Rattle.agv_header.specs.declared.key.Thing.TheVariants as thing
-use Rattle.agv_layout.specs.declared.edge.Ends.{Ends}
-use Rattle.agv_layout.specs.declared.station.Spot.{Spot}
+use Rattle.agv_layout.specs.declared.edge.EdgeEnds.{EdgeEnds}
+use Rattle.agv_layout.specs.declared.station.StationSite.{StationSite}
 use Rattle.agv_stock.specs.declared.place.Place.{Place}
 use Rattle.agv_stock.specs.declared.place.Place.TheVariants as place
 use Rattle.agv_world.specs.Lawful.{IsKey}
@@ -17,10 +17,10 @@ use Rattle.agv_tables.specs.declared.rows.trip_line.TripLine.{TripLine}
 abbrev pub IsNumber : ℕ → Type 0
 IsNumber n = n ≤ 4294967295
 
-abbrev pub AreEnds : Ends → Type 0
+abbrev pub AreEnds : EdgeEnds → Type 0
 AreEnds ends = IsName ends.start × IsName ends.finish
 
-abbrev pub IsSpot : Spot → Type 0
+abbrev pub IsSpot : StationSite → Type 0
 IsSpot spot = IsName spot.node × IsNumber spot.capacity
 
 abbrev pub IsSending : Sent → Type 0

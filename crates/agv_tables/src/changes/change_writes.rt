@@ -24,7 +24,7 @@ use crate::rows::row_values::{
 use crate::rows::world_table::WorldTable;
 use crate::statements::row_writes::{delete_row, put_row};
 use agv_header::{Name, Thing, VehicleKey};
-use agv_layout::{Ends, Spot};
+use agv_layout::{EdgeEnds, StationSite};
 use agv_stock::Place;
 use agv_world::{Change, JobRow, LegKey, TripRow, UseKey, VehicleRow};
 use sqlite::{Alter, Error, Transaction};
@@ -41,7 +41,7 @@ fn write_node<S: Alter>(tx: &mut Transaction<'_, S>, id: &Name) -> Result<usize,
 }
 
 // The edge has these ends.
-fn write_edge<S: Alter>(tx: &mut Transaction<'_, S>, id: &Name, ends: &Ends) -> Result<usize, Error>
+fn write_edge<S: Alter>(tx: &mut Transaction<'_, S>, id: &Name, ends: &EdgeEnds) -> Result<usize, Error>
     ensures same_reference { tx.new.conn.ghost_name ≡ tx.old.conn.ghost_name }
     ensures survives { Survives (state S.Store tx.old.conn.now) (state S.Store tx.new.conn.now) (λ _. ⊥) }
     ensures kept { HasCleanDisk (state S.Store tx.new.conn.now) → KeepsCommit (state S.Store tx.old.conn.now) (state S.Store tx.new.conn.now) }
@@ -60,7 +60,7 @@ fn write_edge<S: Alter>(tx: &mut Transaction<'_, S>, id: &Name, ends: &Ends) -> 
 fn write_station<S: Alter>(
     tx: &mut Transaction<'_, S>,
     id: &Name,
-    spot: &Spot,
+    spot: &StationSite,
 ) -> Result<usize, Error>
     ensures same_reference { tx.new.conn.ghost_name ≡ tx.old.conn.ghost_name }
     ensures survives { Survives (state S.Store tx.old.conn.now) (state S.Store tx.new.conn.now) (λ _. ⊥) }

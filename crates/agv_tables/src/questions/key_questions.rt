@@ -19,7 +19,7 @@ use crate::rows::rows_told::{
     edge_told, hold_told, job_told, load_told, station_told, vehicle_told,
 };
 use agv_header::{Name, Thing, VehicleKey};
-use agv_layout::{Ends, Spot};
+use agv_layout::{EdgeEnds, StationSite};
 use agv_stock::Place;
 use agv_world::{JobRow, UseKey, VehicleRow};
 use sqlite::{Alter, Connection, Row};
@@ -103,7 +103,7 @@ pub fn ask_job<S: Alter>(
 }
 
 // The spot of a station that the rows of its name tell.
-fn station_in_rows(rows: &[Row]) -> Result<Option<Spot>, ReadingFault>
+fn station_in_rows(rows: &[Row]) -> Result<Option<StationSite>, ReadingFault>
     ensures { result ≡ first_in station_in rows.now }
 {
     match rows.first() {
@@ -121,7 +121,7 @@ fn station_in_rows(rows: &[Row]) -> Result<Option<Spot>, ReadingFault>
 pub fn ask_station<S: Alter>(
     conn: &mut Connection<S>,
     id: &Name,
-) -> Result<Option<Spot>, ReadingFault>
+) -> Result<Option<StationSite>, ReadingFault>
     ensures { Tells S.Store conn.old conn.new result (λ world spot. spot ≡ map.get world.layout.stations id.now) }
 {
     let rows = ask_rows(conn, RowOf::Station, &name_key_values(id))?;
@@ -129,7 +129,7 @@ pub fn ask_station<S: Alter>(
 }
 
 // The ends of an edge that the rows of its name tell.
-fn ends_in_rows(rows: &[Row]) -> Result<Option<Ends>, ReadingFault>
+fn ends_in_rows(rows: &[Row]) -> Result<Option<EdgeEnds>, ReadingFault>
     ensures { result ≡ first_in edge_in rows.now }
 {
     match rows.first() {
@@ -144,7 +144,7 @@ fn ends_in_rows(rows: &[Row]) -> Result<Option<Ends>, ReadingFault>
 /// Where an edge leads; none where it is unknown.
 ///
 /// It fails as [`ReadingFault`] says.
-pub fn ask_edge<S: Alter>(conn: &mut Connection<S>, id: &Name) -> Result<Option<Ends>, ReadingFault>
+pub fn ask_edge<S: Alter>(conn: &mut Connection<S>, id: &Name) -> Result<Option<EdgeEnds>, ReadingFault>
     ensures { Tells S.Store conn.old conn.new result (λ world ends. ends ≡ map.get world.layout.edges id.now) }
 {
     let rows = ask_rows(conn, RowOf::Edge, &name_key_values(id))?;

@@ -12,7 +12,7 @@ ghost use Rattle.agv_tables.specs.declared.schema.table_name.TableName.TheVarian
 
 use crate::ReadingFault;
 use crate::readings::table_reading::{ask_edges, ask_nodes, ask_stations};
-use agv_layout::{Ends, Layout, Spot};
+use agv_layout::{EdgeEnds, Layout, StationSite};
 use agv_world::{ByLeg, ByName, ByVehicle, Fault, Floor, Names, PlainFloor, UsedNames, World};
 use sqlite::{Alter, Connection};
 use std::alloc::Global;
@@ -21,7 +21,7 @@ use std::alloc::Global;
 pub(crate) fn ask_layout_tables<S: Alter>(
     alloc: Global,
     conn: &mut Connection<S>,
-) -> Result<(Names, ByName<Ends>, ByName<Spot>), ReadingFault>
+) -> Result<(Names, ByName<EdgeEnds>, ByName<StationSite>), ReadingFault>
     ensures { TellsAll S.Store conn.old conn.new result
         (λ world tables. (tables.0 ≡ world.layout.nodes) × (tables.1 ≡ world.layout.edges) × (tables.2 ≡ world.layout.stations))
         (λ lists tables. IsPermutation (table_at (place_of the.Node) lists) (rows_for node_columns tables.0)

@@ -13,7 +13,7 @@ use crate::rows::rows_told::{
     edge_told, job_told, leg_told, load_told, node_told, station_told, used_told, vehicle_told,
 };
 use agv_header::VehicleKey;
-use agv_layout::{Ends, Spot};
+use agv_layout::{EdgeEnds, StationSite};
 use agv_stock::Place;
 use agv_world::{ByLeg, ByName, ByVehicle, JobRow, LegKey, Names, UseKey, UsedNames, VehicleRow};
 use sqlite::Row;
@@ -39,7 +39,7 @@ pub(crate) fn nodes_in_rows(alloc: Global, rows: &[Row]) -> Result<Names, Readin
 }
 
 /// The table that these rows tell.
-pub(crate) fn edges_in_rows(alloc: Global, rows: &[Row]) -> Result<ByName<Ends>, ReadingFault>
+pub(crate) fn edges_in_rows(alloc: Global, rows: &[Row]) -> Result<ByName<EdgeEnds>, ReadingFault>
     ensures { Reads result (read_rows edge_in map.empty rows.now) }
 {
     let mut table = ByName::new(alloc);
@@ -58,7 +58,7 @@ pub(crate) fn edges_in_rows(alloc: Global, rows: &[Row]) -> Result<ByName<Ends>,
 }
 
 /// The table that these rows tell.
-pub(crate) fn stations_in_rows(alloc: Global, rows: &[Row]) -> Result<ByName<Spot>, ReadingFault>
+pub(crate) fn stations_in_rows(alloc: Global, rows: &[Row]) -> Result<ByName<StationSite>, ReadingFault>
     ensures { Reads result (read_rows station_in map.empty rows.now) }
 {
     let mut table = ByName::new(alloc);

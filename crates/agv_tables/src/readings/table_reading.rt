@@ -19,7 +19,7 @@ use crate::readings::row_tables::{
 };
 use crate::schema::table_name::TableName;
 use crate::statements::question_texts::all_rows;
-use agv_layout::{Ends, Spot};
+use agv_layout::{EdgeEnds, StationSite};
 use agv_stock::Place;
 use agv_world::lawful_laws::is_in_good_order;
 use agv_world::{ByLeg, ByName, ByVehicle, JobRow, Names, UsedNames, VehicleRow};
@@ -42,7 +42,7 @@ pub fn ask_nodes<S: Alter>(alloc: Global, conn: &mut Connection<S>) -> Result<Na
 pub fn ask_edges<S: Alter>(
     alloc: Global,
     conn: &mut Connection<S>,
-) -> Result<ByName<Ends>, ReadingFault>
+) -> Result<ByName<EdgeEnds>, ReadingFault>
     ensures { TellsAll S.Store conn.old conn.new result (λ world table. table ≡ world.layout.edges) (λ lists table. IsPermutation (table_at (place_of the.Edge) lists) (rows_in edge_columns table)) }
 {
     let rows = ask_all_rows(conn, TableName::Edge)?;
@@ -55,7 +55,7 @@ pub fn ask_edges<S: Alter>(
 pub fn ask_stations<S: Alter>(
     alloc: Global,
     conn: &mut Connection<S>,
-) -> Result<ByName<Spot>, ReadingFault>
+) -> Result<ByName<StationSite>, ReadingFault>
     ensures { TellsAll S.Store conn.old conn.new result (λ world table. table ≡ world.layout.stations) (λ lists table. IsPermutation (table_at (place_of the.Station) lists) (rows_in station_columns table)) }
 {
     let rows = ask_all_rows(conn, TableName::Station)?;

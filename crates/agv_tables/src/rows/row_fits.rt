@@ -2,8 +2,8 @@
 ghost use Rattle.std.specs.Prelude.{ℕ, List};
 ghost use Rattle.agv_header.specs.declared.key.Thing.{Thing};
 ghost use Rattle.agv_header.specs.declared.key.VehicleKey.{VehicleKey};
-ghost use Rattle.agv_layout.specs.declared.edge.Ends.{Ends};
-ghost use Rattle.agv_layout.specs.declared.station.Spot.{Spot};
+ghost use Rattle.agv_layout.specs.declared.edge.EdgeEnds.{EdgeEnds};
+ghost use Rattle.agv_layout.specs.declared.station.StationSite.{StationSite};
 ghost use Rattle.agv_stock.specs.declared.place.Place.{Place};
 ghost use Rattle.agv_world.specs.declared.key.LegKey.{LegKey};
 ghost use Rattle.agv_world.specs.declared.key.UseKey.{UseKey};
@@ -18,8 +18,8 @@ ghost use Rattle.agv_tables.specs.declared.rows.trip_line.TripLine.{TripLine};
 pub fn rows_fit_their_tables()
     ensures meta { (id schema : ℕ) → FitsTable the.Meta (meta_columns id schema) }
     ensures node { (id : List ℕ) → FitsTable the.Node (node_columns id) }
-    ensures edge { (id : List ℕ) (ends : Ends) → FitsTable the.Edge (edge_columns id ends) }
-    ensures station { (id : List ℕ) (spot : Spot) → FitsTable the.Station (station_columns id spot) }
+    ensures edge { (id : List ℕ) (ends : EdgeEnds) → FitsTable the.Edge (edge_columns id ends) }
+    ensures station { (id : List ℕ) (spot : StationSite) → FitsTable the.Station (station_columns id spot) }
     ensures vehicle { (key : VehicleKey) (row : VehicleRow) → FitsTable the.Vehicle (vehicle_columns key row) }
     ensures trip { (line : TripLine) → FitsTable the.Trip (trip_columns line) }
     ensures leg { (key : LegKey) (edge : List ℕ) → FitsTable the.Leg (leg_columns key edge) }

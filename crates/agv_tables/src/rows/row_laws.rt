@@ -4,8 +4,8 @@ ghost use Rattle.sqlite_value.specs.Order.{Row};
 ghost use Rattle.agv_header.specs.Name.{IsName};
 ghost use Rattle.agv_header.specs.declared.key.Thing.{Thing};
 ghost use Rattle.agv_header.specs.declared.key.VehicleKey.{VehicleKey};
-ghost use Rattle.agv_layout.specs.declared.edge.Ends.{Ends};
-ghost use Rattle.agv_layout.specs.declared.station.Spot.{Spot};
+ghost use Rattle.agv_layout.specs.declared.edge.EdgeEnds.{EdgeEnds};
+ghost use Rattle.agv_layout.specs.declared.station.StationSite.{StationSite};
 ghost use Rattle.agv_stock.specs.declared.place.Place.{Place};
 ghost use Rattle.agv_world.specs.Lawful.{IsKey};
 ghost use Rattle.agv_world.specs.declared.key.LegKey.{LegKey};
@@ -20,8 +20,8 @@ ghost use Rattle.agv_tables.specs.declared.rows.trip_line.TripLine.{TripLine};
 pub fn columns_tell_their_row()
     ensures meta { (id schema : ℕ) → IsNumber id → IsNumber schema → meta_in (meta_columns id schema) ≡ Some (id, schema) }
     ensures node { (id : List ℕ) → IsName id → node_in (node_columns id) ≡ Some id }
-    ensures edge { (id : List ℕ) (ends : Ends) → IsName id → AreEnds ends → edge_in (edge_columns id ends) ≡ Some (id, ends) }
-    ensures station { (id : List ℕ) (spot : Spot) → IsName id → IsSpot spot → station_in (station_columns id spot) ≡ Some (id, spot) }
+    ensures edge { (id : List ℕ) (ends : EdgeEnds) → IsName id → AreEnds ends → edge_in (edge_columns id ends) ≡ Some (id, ends) }
+    ensures station { (id : List ℕ) (spot : StationSite) → IsName id → IsSpot spot → station_in (station_columns id spot) ≡ Some (id, spot) }
     ensures vehicle { (key : VehicleKey) (row : VehicleRow) → IsKey key → IsVehicleRow row → vehicle_in (vehicle_columns key row) ≡ Some (key, row) }
     ensures trip { (line : TripLine) → IsTripLine line → trip_in (trip_columns line) ≡ Some line }
     ensures leg { (key : LegKey) (edge : List ℕ) → IsLegKey key → IsName edge → leg_in (leg_columns key edge) ≡ Some (key, edge) }
@@ -35,8 +35,8 @@ pub fn columns_tell_their_row()
 pub fn a_row_told_writes_its_columns()
     ensures meta { (row : Row) (id schema : ℕ) → meta_in row ≡ Some (id, schema) → row ≡ meta_columns id schema }
     ensures node { (row : Row) (id : List ℕ) → node_in row ≡ Some id → row ≡ node_columns id }
-    ensures edge { (row : Row) (id : List ℕ) (ends : Ends) → edge_in row ≡ Some (id, ends) → row ≡ edge_columns id ends }
-    ensures station { (row : Row) (id : List ℕ) (spot : Spot) → station_in row ≡ Some (id, spot) → row ≡ station_columns id spot }
+    ensures edge { (row : Row) (id : List ℕ) (ends : EdgeEnds) → edge_in row ≡ Some (id, ends) → row ≡ edge_columns id ends }
+    ensures station { (row : Row) (id : List ℕ) (spot : StationSite) → station_in row ≡ Some (id, spot) → row ≡ station_columns id spot }
     ensures vehicle { (row : Row) (key : VehicleKey) (vehicle : VehicleRow) → vehicle_in row ≡ Some (key, vehicle) → row ≡ vehicle_columns key vehicle }
     ensures trip { (row : Row) (line : TripLine) → trip_in row ≡ Some line → row ≡ trip_columns line }
     ensures leg { (row : Row) (key : LegKey) (edge : List ℕ) → leg_in row ≡ Some (key, edge) → row ≡ leg_columns key edge }

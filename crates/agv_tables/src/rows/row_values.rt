@@ -10,7 +10,7 @@ ghost use Rattle.agv_tables.specs.rows.Columns.{node_columns, edge_columns, stat
 use crate::TripLine;
 use crate::rows::words::{phase_text, use_text};
 use agv_header::{Name, Thing, VehicleKey};
-use agv_layout::{Ends, Spot};
+use agv_layout::{EdgeEnds, StationSite};
 use agv_message::InstantKind;
 use agv_stock::Place;
 use agv_world::{JobRow, LegKey, UseKey, VehicleRow};
@@ -72,7 +72,7 @@ pub(crate) fn node_values(id: &Name) -> [ValueRef<'_>; 1]
 }
 
 /// The row of an edge.
-pub(crate) fn edge_values<'a>(id: &'a Name, ends: &'a Ends) -> [ValueRef<'a>; 3]
+pub(crate) fn edge_values<'a>(id: &'a Name, ends: &'a EdgeEnds) -> [ValueRef<'a>; 3]
     ensures { bound result ≡ edge_columns id.now ends.now }
 {
     [
@@ -83,7 +83,7 @@ pub(crate) fn edge_values<'a>(id: &'a Name, ends: &'a Ends) -> [ValueRef<'a>; 3]
 }
 
 /// The row of a station.
-pub(crate) fn station_values<'a>(id: &'a Name, spot: &'a Spot) -> [ValueRef<'a>; 3]
+pub(crate) fn station_values<'a>(id: &'a Name, spot: &'a StationSite) -> [ValueRef<'a>; 3]
     ensures { bound result ≡ station_columns id.now spot.now }
 {
     [

@@ -9,7 +9,7 @@ use crate::rows::cells::{
 };
 use crate::{PlaceKind, ThingKind, TripLine};
 use agv_header::{Name, Thing, VehicleKey};
-use agv_layout::{Ends, Spot};
+use agv_layout::{EdgeEnds, StationSite};
 use agv_stock::Place;
 use agv_world::{JobRow, LegKey, Sent, UseKey, VehicleRow};
 use sqlite::Row;
@@ -35,7 +35,7 @@ pub(crate) fn node_told(row: &Row) -> Option<Name>
 }
 
 /// An edge.
-pub(crate) fn edge_told(row: &Row) -> Option<(Name, Ends)>
+pub(crate) fn edge_told(row: &Row) -> Option<(Name, EdgeEnds)>
     ensures { result ≡ edge_in row.now }
 {
     if row.column_count() != 3 {
@@ -44,11 +44,11 @@ pub(crate) fn edge_told(row: &Row) -> Option<(Name, Ends)>
     let id = name_at(row, 0)?;
     let start = name_at(row, 1)?;
     let finish = name_at(row, 2)?;
-    Some((id, Ends { start, finish }))
+    Some((id, EdgeEnds { start, finish }))
 }
 
 /// A station.
-pub(crate) fn station_told(row: &Row) -> Option<(Name, Spot)>
+pub(crate) fn station_told(row: &Row) -> Option<(Name, StationSite)>
     ensures { result ≡ station_in row.now }
 {
     if row.column_count() != 3 {
@@ -57,7 +57,7 @@ pub(crate) fn station_told(row: &Row) -> Option<(Name, Spot)>
     let id = name_at(row, 0)?;
     let node = name_at(row, 1)?;
     let capacity = number_at(row, 2)?;
-    Some((id, Spot { node, capacity }))
+    Some((id, StationSite { node, capacity }))
 }
 
 // The vehicle that two columns name.

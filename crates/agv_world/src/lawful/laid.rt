@@ -3,11 +3,11 @@ ghost use Rattle.std.specs.Prelude.{◌≡◌};
 ghost use Rattle.agv_world.specs.LawfulTests.{does_lead, does_stand, is_in_limits, is_unset, all_lead, all_stand, is_laid};
 
 use crate::World;
-use agv_layout::{Ends, Spot};
+use agv_layout::{EdgeEnds, StationSite};
 
 impl World {
     // Whether the edge leads from a node to another node.
-    fn does_lead(&self, ends: Ends) -> bool
+    fn does_lead(&self, ends: EdgeEnds) -> bool
         ensures { result ≡ does_lead self.now ends }
     {
         self.nodes.contains(ends.start)
@@ -16,7 +16,7 @@ impl World {
     }
 
     // Whether the station is at a node, and has room for 1 to 999 loads.
-    fn does_stand(&self, spot: Spot) -> bool
+    fn does_stand(&self, spot: StationSite) -> bool
         ensures { result ≡ does_stand self.now spot }
     {
         self.nodes.contains(spot.node) && 1 <= spot.capacity && spot.capacity <= 999

@@ -2,7 +2,7 @@
 ghost use Rattle.std.specs.Prelude.{◌≡◌, count_by, IfOk, OnOk};
 ghost use Rattle.std.specs.FinMap as map;
 ghost use Rattle.agv_world.specs.Lawful.{is_to_drop};
-ghost use Rattle.agv_world.specs.LoadTests.{acts_of, are_laden, are_laden_among, have_room, is_aboard, is_laden_among, is_load_by, loads_aboard, one_on, strangers_among, tallied, tally_of, with_job, with_jobs, with_loads, with_one, with_place};
+ghost use Rattle.agv_world.specs.LoadTests.{acts_of, are_within_capacity, are_within_capacity_among, have_room, is_on_vehicle, is_within_capacity_among, is_load_by, loads_on_vehicles, one_on, loads_of_others_among, tallied, tally_of, with_job, with_jobs, with_loads, with_one, with_place};
 
 use super::jobs::is_to_drop;
 use crate::{ByName, JobRow, VehicleRow, World};
@@ -74,8 +74,8 @@ fn drop_count(acts: &[Act]) -> usize
 }
 
 // Whether the place is a vehicle.
-fn is_aboard(place: Place) -> bool
-    ensures { result ≡ is_aboard place }
+fn is_on_vehicle(place: Place) -> bool
+    ensures { result ≡ is_on_vehicle place }
 {
     match place {
         Place::Vehicle(_) => true,
@@ -84,8 +84,8 @@ fn is_aboard(place: Place) -> bool
 }
 
 // How many of the loads are on the vehicle and none of those that the acts are to drop.
-fn strangers(loads: &[(Name, Place)], key: VehicleKey, acts: &[Act]) -> usize
-    ensures { result ≡ strangers_among loads.now key acts.now }
+fn loads_of_others(loads: &[(Name, Place)], key: VehicleKey, acts: &[Act]) -> usize
+    ensures { result ≡ loads_of_others_among loads.now key acts.now }
 {
     loads
         .iter()
@@ -95,12 +95,12 @@ fn strangers(loads: &[(Name, Place)], key: VehicleKey, acts: &[Act]) -> usize
 
 // Whether a vehicle has places for its other loads, among these, and for the jobs of its trip that are
 // not done.
-fn is_laden(loads: &[(Name, Place)], key: VehicleKey, row: &VehicleRow, acts: &[Act]) -> bool
-    ensures { result ≡ is_laden_among loads.now (key, row.now) acts.now }
+fn is_within_capacity(loads: &[(Name, Place)], key: VehicleKey, row: &VehicleRow, acts: &[Act]) -> bool
+    ensures { result ≡ is_within_capacity_among loads.now (key, row.now) acts.now }
 {
     let capacity = row.capacity as usize;
     let drops = drop_count(acts);
-    drops <= capacity && strangers(loads, key, acts) <= capacity - drops
+    drops <= capacity && loads_of_others(loads, key, acts) <= capacity - drops
 }
 
 impl World {
@@ -145,12 +145,12 @@ impl World {
     }
 
     // The loads on vehicles.
-    fn loads_aboard(&self, alloc: Global) -> Result<Vec<(Name, Place)>, Memory>
-        ensures { IfOk result (λ loads. loads.items ≡ loads_aboard self.now) }
+    fn loads_on_vehicles(&self, alloc: Global) -> Result<Vec<(Name, Place)>, Memory>
+        ensures { IfOk result (λ loads. loads.items ≡ loads_on_vehicles self.now) }
     {
         let mut loads = Vec::new(alloc);
         for (load, place) in self.loads.iter() {
-            if is_aboard(*place) {
+            if is_on_vehicle(*place) {
                 loads.push((*load, *place))?;
             }
         }
@@ -171,26 +171,26 @@ impl World {
 
     // Whether a vehicle has places for its other loads, among these, and for the jobs of its trip that are
     // not done.
-    fn is_vehicle_laden(&self, loads: &[(Name, Place)], key: &VehicleKey, row: &VehicleRow) -> bool
-        ensures { result ≡ is_laden_among loads.now (key.now, row.now) (acts_of self.now key.now) }
+    fn is_vehicle_within_capacity(&self, loads: &[(Name, Place)], key: &VehicleKey, row: &VehicleRow) -> bool
+        ensures { result ≡ is_within_capacity_among loads.now (key.now, row.now) (acts_of self.now key.now) }
     {
-        is_laden(loads, *key, row, self.acts_of(*key))
+        is_within_capacity(loads, *key, row, self.acts_of(*key))
     }
 
     // Whether each vehicle has.
-    fn are_laden_among(&self, loads: &[(Name, Place)]) -> bool
-        ensures { result ≡ are_laden_among self.now loads.now }
+    fn are_within_capacity_among(&self, loads: &[(Name, Place)]) -> bool
+        ensures { result ≡ are_within_capacity_among self.now loads.now }
     {
         self.vehicles
             .iter()
-            .all(|(key, row)| self.is_vehicle_laden(loads, key, row))
+            .all(|(key, row)| self.is_vehicle_within_capacity(loads, key, row))
     }
 
     // Whether each vehicle has places for its other loads and for the jobs of its trip that are not done.
-    pub(crate) fn are_laden(&self, alloc: Global) -> Result<bool, Memory>
-        ensures { IfOk result (λ are. are ≡ are_laden self.now) }
+    pub(crate) fn are_within_capacity(&self, alloc: Global) -> Result<bool, Memory>
+        ensures { IfOk result (λ are. are ≡ are_within_capacity self.now) }
     {
-        let loads = self.loads_aboard(alloc)?;
-        Ok(self.are_laden_among(loads.as_slice()))
+        let loads = self.loads_on_vehicles(alloc)?;
+        Ok(self.are_within_capacity_among(loads.as_slice()))
     }
 }

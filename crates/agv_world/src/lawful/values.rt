@@ -40,13 +40,13 @@ impl World {
     pub(crate) fn has_values(&self)
         ensures { HasValues self.now }
     {
-        self.nodes.are_named();
-        self.edges.are_named();
-        self.stations.are_named();
+        self.nodes.names_law();
+        self.edges.names_law();
+        self.stations.names_law();
         self.vehicles.are_keys();
         self.vehicle_values();
-        self.loads.are_named();
-        self.jobs.are_named();
-        self.used.are_named();
+        self.loads.names_law();
+        self.jobs.names_law();
+        self.used.names_law();
     }
 }

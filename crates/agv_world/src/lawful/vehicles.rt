@@ -4,7 +4,7 @@ ghost use Rattle.agv_world.specs.LawfulTests.{are_few, are_vehicles, is_counted,
 
 use crate::{Sent, UseKind, VehicleRow, World};
 use agv_header::Name;
-use agv_layout::Ends;
+use agv_layout::EdgeEnds;
 
 // Whether the moment is 0 where no message was sent.
 fn is_counted(sent: Sent) -> bool
@@ -14,7 +14,7 @@ fn is_counted(sent: Sent) -> bool
 }
 
 // Whether the edge leads from this node to that one.
-fn leads_so(ends: Option<Ends>, start: Name, finish: Name) -> bool
+fn leads_so(ends: Option<EdgeEnds>, start: Name, finish: Name) -> bool
     ensures { result ≡ leads_so ends start finish }
 {
     match ends {

@@ -6,7 +6,7 @@ ghost use Rattle.agv_header.specs.Name.{IsName};
 
 use crate::{JobRow, TripRow, VehicleRow};
 use agv_header::{Memory, Name};
-use agv_layout::{Ends, Spot};
+use agv_layout::{EdgeEnds, StationSite};
 use agv_stock::Place;
 use std::alloc::Global;
 use std::collections::{BTreeMap, btree_map};
@@ -17,11 +17,11 @@ pub trait Row: Clone + Drop {
     ghost same: { (row clone : Self) → Self.is_clone row clone → clone ≡ row };
 }
 
-impl Row for Ends {
+impl Row for EdgeEnds {
     ghost same = { λ row clone e. e };
 }
 
-impl Row for Spot {
+impl Row for StationSite {
     ghost same = { λ row clone e. e };
 }
 
@@ -99,7 +99,7 @@ impl<V: Row> ByName<V> {
     }
 
     /// Each key is a name. It does nothing: a proof calls it for its clause.
-    pub fn are_named(&self)
+    pub fn names_law(&self)
         ensures { (id : List ℕ) (row : V) → map.get self.now id ≡ Some row → IsName id }
     {
         for (id, _) in self.iter() {

@@ -60,7 +60,7 @@ impl Names {
     }
 
     /// Each is a name. It does nothing: a proof calls it for its clause.
-    pub fn are_named(&self)
+    pub fn names_law(&self)
         ensures { (id : List ℕ) → set.contains self.now id ≡ true → IsName id }
     {
         for id in self.iter() {

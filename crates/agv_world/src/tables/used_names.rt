@@ -56,7 +56,7 @@ impl UsedNames {
     }
 
     /// Each is a name. It does nothing: a proof calls it for its clause.
-    pub fn are_named(&self)
+    pub fn names_law(&self)
         ensures { (key : Used) → set.contains self.now key ≡ true → IsName key.name }
     {
         for key in self.iter() {

@@ -1,7 +1,7 @@
 use Rattle.std.proofs.Common.{List, ℕ, ◌++◌, ap, ◌∙◌, string_bytes}
 use Rattle.agv_header.specs.Name.{name_cmp}
 use Rattle.agv_count.specs.Reports.{station_part}
-use Rattle.agv_count.specs.Shelves.{loads_at}
+use Rattle.agv_count.specs.LoadsByPlace.{loads_at}
 use Rattle.agv_count.proofs.Pieces.{one_more_piece}
 use Rattle.agv_count.proofs.stock.write_stations.Goals as goal
 

@@ -30,10 +30,10 @@ returns g c =
     let moves_clean = c.in_ok-moves_in_job.ensures.was_clean job_clean in
     let listed : c.deref.result.now ≡ moves = c.deref.ensures.value ∙ moved.told moves_clean in
     let listed_again : c.deref-2.result.now ≡ moves = c.deref-2.ensures.value ∙ moved.told moves_clean in
-    let none_aboard = sym c.finds_aboard.ensures ∙ c.if-finds_aboard.false in
+    let none_on_vehicle = sym c.finds_on_vehicle.ensures ∙ c.if-finds_on_vehicle.false in
     let none_in_job = sym (jobs.told job_clean ∙ (λ i. list_any (λ (load : List ℕ × Place). is_in_job (moved.world moves_clean i) load.0) (listed i))) ∙ c.if-branch.false in
     let room = sym (fit.told fit_clean ∙ ap (λ (w : World). all_have_room w seen (map.entries stations)) (jobs.world job_clean)) ∙ c.if-not-branch.false in
     let few = ap (λ n. nat_lt n most) (sym (used.told clean ∙ ap (λ (w : World). count_of w counted.References) (fit.world fit_clean))) ∙ lt-ltb _ _ c.if-branch-ge-MOST_REFERENCES.false in
     c.in_ok-counted_decision.ensures
     ∙ ap (λ (moves : List (List ℕ × Place)). decided (Made (counted_effect c.args.reference moves seen))) listed_again
-    ∙ ap decided (passed _ _ _ _ (Made (counted_effect c.args.reference moves seen)) none_aboard none_in_job room few))
+    ∙ ap decided (passed _ _ _ _ (Made (counted_effect c.args.reference moves seen)) none_on_vehicle none_in_job room few))

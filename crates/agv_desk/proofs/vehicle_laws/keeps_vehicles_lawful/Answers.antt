@@ -30,7 +30,7 @@ returns c = λ seats world at call seated moment typed lawful. lawful_after give
       twice = c.stops_twice.ensures;
       releases = c.releases_keep_trips_well_formed.ensures;
       stays = c.stays_well_formed.ensures;
-      rules = c.keeps_rules.ensures;
+      rules = c.rules_law.ensures;
       apart = c.keeps_apart_as_before.ensures;
       one_trip = c.keeps_one_trip_as_before.ensures;
     }

@@ -1,4 +1,4 @@
-use Rattle.agv_layout.specs.Walking.{one_end}
+use Rattle.agv_layout.proofs.Walking.{one_end}
 use Rattle.agv_layout.proofs.laws.has_one_end.Goals as goal
 
 pub returns : goal.returns

@@ -1,4 +1,4 @@
-use Rattle.agv_layout.specs.Walking.{walk_splits}
+use Rattle.agv_layout.proofs.Walking.{walk_splits}
 use Rattle.agv_layout.proofs.laws.splits_walks.Goals as goal
 
 pub returns : goal.returns

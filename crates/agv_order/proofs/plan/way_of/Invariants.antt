@@ -2,5 +2,5 @@ use Rattle.std.proofs.Common.{◌≡◌, take}
 use Rattle.agv_order.specs.Plans.{way_of}
 use Rattle.agv_order.proofs.plan.way_of.Given as goal
 
-abbrev pub invariant-loop-leg : goal.invariant-loop-leg
-invariant-loop-leg l = l.way.items ≡ way_of (take l.leg-index l.legs)
+abbrev pub invariant-loop-stop_route : goal.invariant-loop-stop_route
+invariant-loop-stop_route l = l.way.items ≡ way_of (take l.stop_route-index l.stop_routes)

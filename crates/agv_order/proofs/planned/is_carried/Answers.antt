@@ -1,6 +1,6 @@
 use Rattle.std.proofs.Common.{ap, ◌≡◌, ◌∙◌, arith, take}
 use Rattle.std.proofs.lemmas.List.{take_all}
-use Rattle.agv_order.specs.Served.{is_over}
+use Rattle.agv_order.specs.JobProgress.{is_over}
 use Rattle.agv_order.specs.Stops.{kinds_of}
 use Rattle.agv_order.specs.WellFormedTest.{stops_of}
 use Rattle.agv_order.proofs.Serving.{served_by, over}

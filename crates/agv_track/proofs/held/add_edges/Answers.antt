@@ -1,6 +1,6 @@
 use Rattle.std.proofs.Common.{ap, ◌∙◌}
 use Rattle.agv_header.specs.declared.key.Thing.TheVariants as thing
-use Rattle.agv_track.specs.Once.{with_thing}
+use Rattle.agv_track.specs.OrderedSet.{with_thing}
 use Rattle.agv_track.proofs.Edges.{along-more}
 use Rattle.agv_track.proofs.held.add_edges.Goals as goal
 

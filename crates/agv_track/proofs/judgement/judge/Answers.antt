@@ -1,5 +1,5 @@
 use Rattle.std.proofs.Common.{sym, ◌∙◌}
-use Rattle.agv_track.specs.Eight.{eight_are_new}
+use Rattle.agv_track.proofs.Eight.{eight_are_new}
 use Rattle.agv_track.proofs.Judged.{refused_way, refused_acts, accepted, same_progress}
 use Rattle.agv_track.proofs.judgement.judge.Goals as goal
 

@@ -1,4 +1,4 @@
-use Rattle.agv_track.specs.Held.{footprint-distinct}
+use Rattle.agv_track.proofs.HeldLists.{footprint-distinct}
 use Rattle.agv_track.proofs.laws.lists_each_once.Goals as goal
 
 pub returns : goal.returns

@@ -1,4 +1,4 @@
-use Rattle.agv_track.specs.Held.{footprint-held}
+use Rattle.agv_track.proofs.HeldLists.{footprint-held}
 use Rattle.agv_track.proofs.laws.lists_what_is_held.Goals as goal
 
 pub returns : goal.returns

@@ -1,11 +1,11 @@
 -- Each member of the message is what one of the readers ensures.
 use Rattle.std.proofs.Common.{ℕ, List, [], Option, unwrap_or, sym, ap, ◌∙◌}
-use Rattle.agv_message.specs.State.{message_of}
+use Rattle.agv_message.specs.State.{state_message}
 use Rattle.agv_message.specs.declared.status.Status.{Status}
 use Rattle.agv_message.proofs.parts.Parts.of.Goals as goal
 
 pub returns-clause-message : goal.returns-clause-message
-unfolding message_of
+unfolding state_message
 returns-clause-message c =
     let node_seqs = ap (λ (o : Option (List ℕ)). unwrap_or o []) (sym c.in_ok-node_seqs.ensures ∙ c.in-Some-2.is) in
     let actions = ap (λ (o : Option (List (List ℕ × Status))). unwrap_or o []) (sym c.in_ok-actions.ensures ∙ c.in-Some-3.is) in

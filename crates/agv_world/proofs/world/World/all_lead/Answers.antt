@@ -2,11 +2,11 @@ use Rattle.std.proofs.Common.{rules, tests, List, ℕ}
 use Rattle.std.specs.FinMap as map
 use Rattle.std.proofs.lemmas.Iterator.Consumers.{YieldsList-from_rest}
 use Rattle.std.proofs.lemmas.Iterator.Search.{all_from_yields_List}
-use Rattle.agv_layout.specs.declared.edge.Ends.{Ends}
+use Rattle.agv_layout.specs.declared.edge.EdgeEnds.{EdgeEnds}
 use Rattle.agv_world.specs.LawfulTests.{does_lead}
 use Rattle.agv_world.proofs.world.World.all_lead.Goals as goal
 
 pub returns : goal.returns
 returns c =
-    all_from_yields_List (λ (edge : List ℕ × Ends). does_lead c.args.self.now edge.1) _ _ c.all.result c.all.ensures.ran
+    all_from_yields_List (λ (edge : List ℕ × EdgeEnds). does_lead c.args.self.now edge.1) _ _ c.all.result c.all.ensures.ran
     (YieldsList-from_rest (map.entries c.args.self.now.edges) c.iter.ensures) (λ x b q k. search (rules, tests))

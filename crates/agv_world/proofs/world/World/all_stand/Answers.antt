@@ -2,11 +2,11 @@ use Rattle.std.proofs.Common.{rules, tests, List, ℕ}
 use Rattle.std.specs.FinMap as map
 use Rattle.std.proofs.lemmas.Iterator.Consumers.{YieldsList-from_rest}
 use Rattle.std.proofs.lemmas.Iterator.Search.{all_from_yields_List}
-use Rattle.agv_layout.specs.declared.station.Spot.{Spot}
+use Rattle.agv_layout.specs.declared.station.StationSite.{StationSite}
 use Rattle.agv_world.specs.LawfulTests.{does_stand}
 use Rattle.agv_world.proofs.world.World.all_stand.Goals as goal
 
 pub returns : goal.returns
 returns c =
-    all_from_yields_List (λ (station : List ℕ × Spot). does_stand c.args.self.now station.1) _ _ c.all.result c.all.ensures.ran
+    all_from_yields_List (λ (station : List ℕ × StationSite). does_stand c.args.self.now station.1) _ _ c.all.result c.all.ensures.ran
     (YieldsList-from_rest (map.entries c.args.self.now.stations) c.iter.ensures) (λ x b q k. search (rules, tests))

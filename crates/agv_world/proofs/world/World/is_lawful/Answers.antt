@@ -8,7 +8,7 @@ pub returns : goal.returns
 returns c =
     let seats = c.args.seats in
     let tables = c.args.self.now in
-    let tests : TestsVehicles seats tables = record { told = c.tests_vehicles.ensures.told seats tables c.has_values.ensures; again = c.tests_vehicles.ensures.again seats tables } in
+    let tests : TestsVehicles seats tables = record { told = c.tests_vehicles.ensures.passed seats tables c.has_values.ensures; again = c.tests_vehicles.ensures.again seats tables } in
     let all = lawful_told seats tables c.has_values.ensures tests in
     follows_ok (λ (b : Bool). b ≡ (are_lawful_vehicles seats tables && are_lawful_loads tables)) (λ (b : Bool). (b ≡ true) ↔ AreLawful seats tables)
     (λ b is. (λ yes. all.0 (sym is ∙ yes), λ lawful. is ∙ all.1 lawful))

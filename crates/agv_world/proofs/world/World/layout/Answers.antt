@@ -4,13 +4,13 @@ use Rattle.agv_layout.specs.LayoutOf.{layout_of, nodes_of, rows_in, edge_row, st
 use Rattle.agv_layout.specs.declared.row.LayoutRow.{LayoutRow}
 use Rattle.agv_layout.specs.declared.row.LayoutRow.TheVariants as row
 use Rattle.agv_world.specs.Questions.{given, layout_set}
-use Rattle.agv_world.specs.Told.{layout_in}
+use Rattle.agv_world.specs.Told.{layout_of_tables}
 use Rattle.agv_world.proofs.world.World.layout.Goals as goal
 
 pub returns : goal.returns
 unfolding layout_set
 returns c =
-    let layout = layout_in c.args.self.now in
+    let layout = layout_of_tables c.args.self.now in
     let nodes = map (λ id. row.Node id) (nodes_of layout) in
     let edges = map edge_row (finite.entries layout.edges) in
     let stations = map station_row (finite.entries layout.stations) in

@@ -1,5 +1,5 @@
 use Rattle.std.proofs.Common.{◌∙◌, ap, length, option_map, Some}
-use Rattle.agv_layout.specs.declared.station.Spot.{Spot}
+use Rattle.agv_layout.specs.declared.station.StationSite.{StationSite}
 use Rattle.agv_stock.specs.Room.{room_left}
 use Rattle.agv_world.specs.Questions.{room_at, loads_at, reserved}
 use Rattle.agv_world.specs.Told.{world_of}
@@ -10,11 +10,11 @@ unfolding room_at
 returns-in_err-spot c =
     let world = world_of c.args.self.now in
     c.from_residual.ensures
-    ∙ ap (option_map (λ (spot : Spot). room_left spot.capacity (length (loads_at world c.args.station)) (reserved world c.args.station))) c.in_err-spot.ensures
+    ∙ ap (option_map (λ (spot : StationSite). room_left spot.capacity (length (loads_at world c.args.station)) (reserved world c.args.station))) c.in_err-spot.ensures
 
 pub returns : goal.returns
 unfolding room_at
 returns c =
     let world = world_of c.args.self.now in
     ap Some (c.room_left.ensures ∙ (λ i. room_left c.in_ok-spot.spot.capacity (c.load_count.ensures i) (c.reserved.ensures i)))
-    ∙ ap (option_map (λ (spot : Spot). room_left spot.capacity (length (loads_at world c.args.station)) (reserved world c.args.station))) c.in_ok-spot.ensures
+    ∙ ap (option_map (λ (spot : StationSite). room_left spot.capacity (length (loads_at world c.args.station)) (reserved world c.args.station))) c.in_ok-spot.ensures

@@ -1,0 +1,10 @@
+use Rattle.agv_world.proofs.StockInvariantMade.{stock_made}
+use Rattle.agv_world.proofs.StockInvariantTold.{loads_told}
+use Rattle.agv_world.proofs.CapacityCounts.{StopLaws}
+use Rattle.agv_world.proofs.lawful_laws.loads_meet_invariant.Goals as goal
+
+pub returns : goal.returns
+returns c = λ seats world vehicles. (stock_made stops world vehicles, loads_told stops world vehicles)
+  where
+    stops : StopLaws
+    stops = record { said = c.fits_as_said.ensures; twice = c.stops_twice.ensures }

@@ -1,0 +1,147 @@
+-- What joins the loads, the jobs and the trips, as the proofs take it: over what each vehicle is to carry, and how much it may. It says of the loads just what a lawful world does (`lawful_laws`).
+use Rattle.std.specs.Prelude.{◌≡◌, ◌≢◌, ℕ, ◌+◌, ◌≤◌, ◌&&◌, not, Bool, true, false, List, [], map, count_by, Option, None, Some}
+use Rattle.std.specs.FinMap as finite
+use Rattle.std.specs.List.{slice_get}
+use Rattle.agv_header.specs.Name.{IsName, name_cmp}
+use Rattle.agv_header.specs.declared.key.VehicleKey.{VehicleKey}
+use Rattle.agv_layout.specs.Layout.{Layout, IsStation}
+use Rattle.agv_layout.specs.declared.station.StationSite.{StationSite}
+use Rattle.agv_message.specs.declared.order.ActKind.{ActKind}
+use Rattle.agv_message.specs.declared.order.ActKind.TheVariants.{Pick, Drop}
+use Rattle.agv_order.specs.Statuses.{is_finished}
+use Rattle.agv_order.specs.Stops.{is_drop}
+use Rattle.agv_order.specs.declared.act.Act.{Act}
+use Rattle.agv_order.specs.declared.trip.Trip.{Trip}
+use Rattle.agv_stock.specs.Phase.{is_live}
+use Rattle.agv_stock.specs.Room.{is_at, is_on}
+use Rattle.agv_stock.specs.declared.job.Phase.{Phase}
+use Rattle.agv_stock.specs.declared.job.Phase.TheVariants as phase
+use Rattle.agv_stock.specs.declared.place.Place.{Place}
+use Rattle.agv_stock.specs.declared.place.Place.TheVariants as place
+use Rattle.agv_world.specs.Lawful.{station_for}
+use Rattle.agv_world.specs.Questions.{is_live_to}
+use Rattle.agv_world.specs.Worlds.{Vehicle, World}
+use Rattle.agv_world.specs.declared.row.JobRow.{JobRow}
+
+-- ---- what the loads see of a trip
+
+-- an act, of whose status only counts whether it is finished
+pub record ActionView : Type 0 where
+  pub kind : ActKind
+  pub job : List ℕ
+  pub load : List ℕ
+  pub station : List ℕ
+  pub finished : Bool
+
+abbrev pub action_view : Act → ActionView
+action_view act = record { kind = act.kind; job = act.job; load = act.load; station = act.station; finished = is_finished act.status }
+
+abbrev pub action_views : List Act → List ActionView
+action_views acts = map action_view acts
+
+-- what a vehicle is to carry: the actions of its open trip, none without one
+abbrev pub action_views_by : Option Trip → List ActionView
+action_views_by None = []
+action_views_by (Some trip) = action_views trip.acts
+
+abbrev pub action_views_for : Option Vehicle → List ActionView
+action_views_for None = []
+action_views_for (Some vehicle) = action_views_by vehicle.trip
+
+abbrev pub action_views_of : World → VehicleKey → List ActionView
+action_views_of world key = action_views_for (finite.get world.vehicles key)
+
+-- how many loads a vehicle may carry, none where it is not known
+abbrev pub capacity_for : Option Vehicle → ℕ
+capacity_for None = 0
+capacity_for (Some vehicle) = vehicle.row.capacity
+
+abbrev pub capacity_of : World → VehicleKey → ℕ
+capacity_of world key = capacity_for (finite.get world.vehicles key)
+
+-- a pick that is not finished
+abbrev pub is_to_pick : ActionView → Bool
+is_to_pick action_view = not (is_drop action_view.kind) && not action_view.finished
+
+-- how many loads are still to be picked
+abbrev pub to_pick : List ActionView → ℕ
+to_pick carries = count_by is_to_pick carries
+
+-- ---- loads and jobs, counted
+
+abbrev pub Places : Type 0
+Places = finite.FinMap name_cmp Place
+
+abbrev pub Jobs : Type 0
+Jobs = finite.FinMap name_cmp JobRow
+
+-- how many loads stand at a station
+abbrev pub stored : Places → List ℕ → ℕ
+stored places station = count_by (λ (load : List ℕ × Place). is_at station load.1) (finite.entries places)
+
+-- how many loads are on a vehicle
+abbrev pub loads_on_vehicle : Places → VehicleKey → ℕ
+loads_on_vehicle places key = count_by (λ (load : List ℕ × Place). is_on key load.1) (finite.entries places)
+
+-- how many live jobs go to a station
+abbrev pub coming : Jobs → List ℕ → ℕ
+coming jobs station = count_by (λ (job : List ℕ × JobRow). is_live_to station job.1) (finite.entries jobs)
+
+-- ---- what is joined
+
+-- the station of a place is known
+abbrev pub IsSpot : Layout → Place → Type 0
+IsSpot layout (place.Station id) = (spot : StationSite) × IsStation layout id spot
+IsSpot layout (place.Vehicle key) = Unit {0}
+IsSpot layout place.Checking = Unit {0}
+IsSpot layout place.Left = Unit {0}
+
+-- the load and the stations of a job are known
+pub record IsJobOn (layout : Layout) (places : Places) (row : JobRow) : Type 0 where
+  pub load : (place : Place) × (finite.get places row.load ≡ Some place)
+  pub origin : (spot : StationSite) × IsStation layout row.origin spot
+  pub target : (spot : StationSite) × IsStation layout row.target spot
+
+-- what the phase of an action's job is, and where the load stands: a pick that is not finished has its job riding and the load at its station; a pick that is finished has its job begun, and the load on the vehicle while the job rides; a drop that is not finished has its job riding; a drop that is finished has its job done
+abbrev pub ActStands : Places → VehicleKey → List ℕ → List ℕ → ActKind → Bool → Phase → Type 0
+ActStands places key load station Pick false stage = (stage ≡ phase.Riding) × (finite.get places load ≡ Some (place.Station station))
+ActStands places key load station Pick true stage = (stage ≢ phase.Waiting) × (stage ≡ phase.Riding → finite.get places load ≡ Some (place.Vehicle key))
+ActStands places key load station Drop false stage = stage ≡ phase.Riding
+ActStands places key load station Drop true stage = stage ≡ phase.Done
+
+-- the job of an action is there, with its load and its station, and they stand as above
+pub record IsCarried (places : Places) (jobs : Jobs) (key : VehicleKey) (action_view : ActionView) : Type 0 where
+  pub row : JobRow
+  pub here : finite.get jobs action_view.job ≡ Some row
+  pub load : row.load ≡ action_view.load
+  pub station : station_for action_view.kind row ≡ action_view.station
+  pub stands : ActStands places key action_view.load action_view.station action_view.kind action_view.finished row.phase
+
+-- an action of some vehicle drops the job, and is not finished
+pub record IsCarriedOn (carries : VehicleKey → List ActionView) (job : List ℕ) : Type 0 where
+  pub key : VehicleKey
+  pub k : ℕ
+  pub action_view : ActionView
+  pub here : slice_get (carries key) k ≡ Some action_view
+  pub drop : action_view.kind ≡ Drop
+  pub of_job : action_view.job ≡ job
+  pub undone : action_view.finished ≡ false
+
+pub record StockInvariant (layout : Layout) (carries : VehicleKey → List ActionView) (capacity : VehicleKey → ℕ) (places : Places) (jobs : Jobs) : Type 0 where
+  pub few_loads : finite.len places ≤ 1000000
+  pub few_jobs : finite.len jobs ≤ 1000000
+  pub loads_named : (load : List ℕ) (place : Place) → finite.get places load ≡ Some place → IsName load
+  pub jobs_named : (job : List ℕ) (row : JobRow) → finite.get jobs job ≡ Some row → IsName job
+  pub spots : (load : List ℕ) (place : Place) → finite.get places load ≡ Some place → IsSpot layout place
+  pub known : (job : List ℕ) (row : JobRow) → finite.get jobs job ≡ Some row → IsJobOn layout places row
+  pub room : (station : List ℕ) (spot : StationSite) → IsStation layout station spot → stored places station + coming jobs station ≤ spot.capacity
+  pub boards : (key : VehicleKey) → loads_on_vehicle places key + to_pick (carries key) ≤ capacity key
+  pub one_job : (one other : List ℕ) (row further : JobRow) → finite.get jobs one ≡ Some row → finite.get jobs other ≡ Some further → is_live row.phase ≡ true → is_live further.phase ≡ true → row.load ≡ further.load → one ≡ other
+  pub waiting : (job : List ℕ) (row : JobRow) → finite.get jobs job ≡ Some row → row.phase ≡ phase.Waiting → finite.get places row.load ≡ Some (place.Station row.origin)
+  pub riding : (job : List ℕ) (row : JobRow) → finite.get jobs job ≡ Some row → row.phase ≡ phase.Riding → IsCarriedOn carries job
+  pub carried : (key : VehicleKey) (k : ℕ) (action_view : ActionView) → slice_get (carries key) k ≡ Some action_view → IsCarried places jobs key action_view
+  pub once : (one other : VehicleKey) (i k : ℕ) (action_view more : ActionView) → slice_get (carries one) i ≡ Some action_view → slice_get (carries other) k ≡ Some more → action_view.job ≡ more.job → (one ≡ other) × (action_view.kind ≡ more.kind → i ≡ k)
+
+-- the loads, the jobs and the trips of a world are joined
+abbrev pub HasStockInvariant : World → Type 0
+HasStockInvariant world = StockInvariant world.layout (action_views_of world) (capacity_of world) world.places world.jobs
