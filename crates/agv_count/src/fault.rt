@@ -5,13 +5,16 @@ ghost use Rattle.agv_count.specs.declared.fault.CsvFault.TheVariants as fault;
 
 use csv::{Error, ErrorKind};
 use std::alloc::AllocFailed;
+use thiserror::Error;
 
 /// Why a file isn't read.
-#[derive(Clone, Copy, Debug, PartialEq, Eq)]
+#[derive(Clone, Copy, Debug, PartialEq, Eq, Error)]
 pub enum CsvFault {
     /// The file isn't the table that it should be.
+    #[error("the file isn't the table that it should be")]
     BadCsv,
     /// An allocation was refused; the file may be good.
+    #[error("want of memory")]
     Memory,
 }
 

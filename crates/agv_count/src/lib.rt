@@ -20,8 +20,8 @@ mod fields;
 mod holds;
 pub mod laws;
 mod layout_file;
-mod records;
 mod loads_by_place;
+mod records;
 mod stock;
 mod table;
 

@@ -7,7 +7,7 @@ ghost use Rattle.agv_count.specs.Reports.{checking_part, left_part, listed, stat
 ghost use Rattle.agv_stock.specs.Room.{has_left};
 ghost use Rattle.agv_count.specs.LoadsByPlace.{loads_at};
 
-use crate::loads_by_place::{Shelf, LoadsByPlace, loads_at};
+use crate::loads_by_place::{LoadsByPlace, Shelf, loads_at};
 use agv_header::{Memory, Name, VehicleKey};
 use agv_layout::Station;
 use agv_stock::Place;

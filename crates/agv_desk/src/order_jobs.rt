@@ -1,6 +1,5 @@
 //! The jobs of an order.
 ghost use Rattle.std.specs.Prelude.{◌≡◌, ◌++◌, count_by, IfOk, OnOk, List, ℕ, map};
-ghost use Rattle.agv_order.specs.Plans.{job_named};
 ghost use Rattle.agv_order.specs.StopPlaces.{is_pick};
 ghost use Rattle.agv_world.specs.Asks.{Asks};
 ghost use Rattle.agv_world.specs.declared.change.Change.TheVariants as row;
@@ -10,7 +9,7 @@ ghost use Rattle.agv_desk.specs.FoundJobs.{AreFound};
 
 use agv_header::{Memory, Name};
 use agv_message::{ActKind, Sequence};
-use agv_order::Stop;
+use agv_order::{Stop, job_named};
 use agv_stock::{Job, Phase};
 use agv_world::{Change, Fault, Floor, JobRow};
 use std::alloc::Global;
@@ -26,18 +25,6 @@ fn named(name: &Name, row: &JobRow) -> Job
         target: row.target,
         phase: row.phase,
     }
-}
-
-// The job of this name.
-fn job_named(jobs: &[Job], name: Name) -> Option<Job>
-    ensures { result ≡ job_named jobs.now name }
-{
-    for job in jobs {
-        if job.name == name {
-            return Some(*job);
-        }
-    }
-    None
 }
 
 // The job of a stop. It is one of those that were found, if it was asked for before.

@@ -21,7 +21,7 @@ use crate::{Answer, Decision};
 use agv_header::{Memory, Name, Refusal, VehicleKey};
 use agv_message::{Sequence, StateMessage, Status};
 use agv_order::{Act, Trip};
-use agv_track::{Pending, Progress, judge, judge_idle, node_at};
+use agv_track::{Pending, Progress, judge, judge_idle};
 use agv_world::{Change, Fault, Floor, VehicleRow};
 use std::alloc::Global;
 
@@ -130,7 +130,7 @@ fn row_after(row: &VehicleRow, trip: &Trip, state: &StateMessage, progress: &Pro
     ensures { result ≡ row_after row.now trip.now state.now progress.now }
 {
     VehicleRow {
-        node: node_at(trip, progress.seen).unwrap_or(row.node),
+        node: trip.node_at(progress.seen).unwrap_or(row.node),
         rest: progress.rest,
         ..heard(row, state, progress.pending_over)
     }

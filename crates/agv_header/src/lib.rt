@@ -11,6 +11,7 @@
 //!   and time in UTC to the hundredth of a second, and [`read_stamp`] what `jiff` reads.
 //! - [`is_fresh`] and [`next_number`] are the rules of header numbers.
 //! - [`Refusal`] lists every refusal of the desk, each with its number, name and HTTP status.
+//! - [`limits`] has the limits of the desk.
 //! - [`Memory`] is the error of a call that fails for want of memory alone. Only [`topic_text`] and
 //!   [`stamp_text`] take memory.
 #![tactic(auto)]
@@ -18,6 +19,7 @@
 mod count;
 mod digits;
 mod key;
+pub mod limits;
 mod memory;
 mod moment;
 mod name;

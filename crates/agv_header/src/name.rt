@@ -9,6 +9,7 @@ ghost use Rattle.agv_header.specs.Name.{is_name_byte, is_name, IsName, as_name};
 use std::cmp::Ordering;
 use std::marker::Model;
 use std::{fmt, str};
+use thiserror::Error;
 
 /// The most bytes that a name has.
 const LONGEST: usize = 32;
@@ -37,7 +38,8 @@ impl Model for Name {
 }
 
 /// The text is no name: it is empty, longer than 32 bytes, or has a byte that no name has.
-#[derive(Clone, Copy, Debug, PartialEq, Eq)]
+#[derive(Clone, Copy, Debug, PartialEq, Eq, Error)]
+#[error("the text is no name: 1 to 32 bytes of A-Z a-z 0-9 _ . : -")]
 pub struct NotName;
 
 fn is_allowed(byte: u8) -> bool

@@ -2,6 +2,8 @@
 ghost use Rattle.std.specs.Prelude.{◌≡◌};
 
 use crate::{Thing, VehicleKey};
+use std::error::Error;
+use std::fmt;
 
 /// A method of HTTP that the desk serves.
 #[derive(Clone, Copy, Debug, PartialEq, Eq)]
@@ -237,3 +239,11 @@ impl Refusal {
         self.row().2
     }
 }
+
+impl fmt::Display for Refusal {
+    fn fmt<W: fmt::Write>(&self, f: &mut fmt::Formatter<W>) -> fmt::Result {
+        f.write_str(self.name())
+    }
+}
+
+impl Error for Refusal {}

@@ -6,11 +6,13 @@ use crate::{Memory, Moment};
 use jiff::Timestamp;
 use jiff::fmt::temporal::DateTimePrinter;
 use std::alloc::Global;
+use thiserror::Error;
 
 /// Why a text is no stamp.
-#[derive(Clone, Copy, Debug, PartialEq, Eq)]
+#[derive(Clone, Copy, Debug, PartialEq, Eq, Error)]
 pub enum StampFault {
     /// `jiff` reads no timestamp from it, or one before 1970 or after 2099.
+    #[error("the text is no timestamp from 1970 to 2099")]
     Bad,
 }
 

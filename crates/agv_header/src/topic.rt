@@ -7,6 +7,7 @@ ghost use Rattle.agv_header.specs.Topic.{topic_name, with_levels, topic_of, IsTo
 
 use crate::{Memory, Name, VehicleKey};
 use std::alloc::Global;
+use thiserror::Error;
 
 /// The topics that the desk and a vehicle's gateway exchange.
 #[derive(Clone, Copy, Debug, PartialEq, Eq)]
@@ -17,7 +18,8 @@ pub enum Topic {
 }
 
 /// The text is no topic of the desk.
-#[derive(Clone, Copy, Debug, PartialEq, Eq)]
+#[derive(Clone, Copy, Debug, PartialEq, Eq, Error)]
+#[error("the text is no topic of the desk")]
 pub struct NotTopic;
 
 fn name_of(topic: Topic) -> &'static str

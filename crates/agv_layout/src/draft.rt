@@ -9,6 +9,7 @@ ghost use Rattle.agv_layout.specs.Rows.{AreNamed, IsEachOnce, id_in};
 
 use crate::{EdgeEnds, LayoutFault, LayoutRow, StationSite};
 use agv_header::Name;
+use agv_header::limits::MAX_STATION_CAPACITY;
 use std::alloc::Global;
 use std::collections::{BTreeMap, BTreeSet};
 
@@ -23,7 +24,7 @@ fn is_no_loop(ends: EdgeEnds) -> bool
 fn is_capacity(capacity: u32) -> bool
     ensures { result ≡ (nat_le 1 capacity && nat_le capacity 999) }
 {
-    (1..=999).contains(&capacity)
+    (1..=MAX_STATION_CAPACITY).contains(&capacity)
 }
 
 /// The nodes, edges and stations of rows, each id once in its kind.
@@ -57,7 +58,11 @@ impl Draft {
                 Ok(self.edges.insert(id, EdgeEnds { start, finish })?.is_none())
             }
             LayoutRow::Station { id, node, capacity } => {
-                Ok(self.stations.insert(id, StationSite { node, capacity })?.is_none())
+                Ok(
+                    self.stations
+                        .insert(id, StationSite { node, capacity })?
+                        .is_none(),
+                )
             }
         }
     }

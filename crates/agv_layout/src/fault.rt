@@ -1,16 +1,20 @@
 //! Why rows give no layout.
 
 use std::alloc::{AllocError, AllocFailed};
+use thiserror::Error;
 
 /// Rows that give no layout, or want of memory.
-#[derive(Clone, Copy, Debug, PartialEq, Eq)]
+#[derive(Clone, Copy, Debug, PartialEq, Eq, Error)]
 pub enum LayoutFault {
     /// More than 500 nodes, 1,500 edges or 500 stations.
+    #[error("more than 500 nodes, 1,500 edges or 500 stations")]
     Limit,
     /// No node at all; an id twice within a kind; an edge or a station whose node is not listed; an
     /// edge from a node to itself; or a capacity that is not 1 to 999.
+    #[error("the rows are no layout")]
     Bad,
     /// Want of memory; the rows may be good.
+    #[error("want of memory")]
     Memory,
 }
 

@@ -9,7 +9,7 @@ ghost use Rattle.agv_layout.specs.Rows.{IsOverLimit, IsSound, IsLayoutOf};
 
 use crate::draft::Draft;
 use crate::row::are_over_limit;
-use crate::{Edge, EdgeEnds, LayoutFault, LayoutRow, StationSite, Station};
+use crate::{Edge, EdgeEnds, LayoutFault, LayoutRow, Station, StationSite};
 use agv_header::{Memory, Name};
 use std::alloc::Global;
 use std::collections::{BTreeMap, BTreeSet, btree_map, btree_set};

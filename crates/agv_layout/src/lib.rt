@@ -26,4 +26,4 @@ pub use edge::{Edge, EdgeEnds};
 pub use fault::LayoutFault;
 pub use layout::Layout;
 pub use row::LayoutRow;
-pub use station::{StationSite, Station};
+pub use station::{Station, StationSite};

@@ -38,7 +38,10 @@ fn push_edges(rows: &mut Vec<LayoutRow>, edges: &BTreeMap<Name, EdgeEnds>) -> Re
 }
 
 /// Adds the rows of stations.
-fn push_stations(rows: &mut Vec<LayoutRow>, stations: &BTreeMap<Name, StationSite>) -> Result<(), Memory>
+fn push_stations(
+    rows: &mut Vec<LayoutRow>,
+    stations: &BTreeMap<Name, StationSite>,
+) -> Result<(), Memory>
     ensures items { OnOk result (rows.new.items ≡ rows.old.items ++ map station_row stations.now.entries) }
     ensures ordered { tree.IsOrdered name_cmp stations.now }
 {

@@ -4,6 +4,7 @@ ghost use Rattle.agv_header.specs.Name.{IsName};
 ghost use Rattle.agv_layout.specs.Rows.{IsOverLimit, id_in};
 
 use agv_header::Name;
+use agv_header::limits::{MAX_LAYOUT_EDGES, MAX_LAYOUT_NODES, MAX_LAYOUT_STATIONS};
 
 /// One node, edge or station.
 #[derive(Clone, Copy, Debug, PartialEq, Eq)]
@@ -28,15 +29,6 @@ impl LayoutRow {
         };
     }
 }
-
-/// The most nodes of a layout.
-const MAX_LAYOUT_NODES: usize = 500;
-
-/// The most edges.
-const MAX_LAYOUT_EDGES: usize = 1500;
-
-/// The most stations.
-const MAX_LAYOUT_STATIONS: usize = 500;
 
 fn are_too_many(nodes: usize, edges: usize, stations: usize) -> bool
     ensures { IsTrue result ↔ ((500 < nodes) ⊎ ((1500 < edges) ⊎ (500 < stations))) }

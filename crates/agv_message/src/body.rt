@@ -12,13 +12,16 @@ use agv_header::{Memory, Refusal};
 use serde_json::{Map, Value};
 use std::alloc::Global;
 use std::str;
+use thiserror::Error;
 
 /// Why a body isn't read.
-#[derive(Clone, Copy, Debug, PartialEq, Eq)]
+#[derive(Clone, Copy, Debug, PartialEq, Eq, Error)]
 pub enum BodyFault {
     /// The body is refused.
+    #[error("the body is refused: {0}")]
     Refused(Refusal),
     /// An allocation was refused; the body may be good.
+    #[error("want of memory")]
     Memory,
 }
 

@@ -4,17 +4,22 @@ ghost use Rattle.agv_order.specs.declared.fault.PlanFault.TheVariants as fault;
 
 use agv_header::Memory;
 use std::alloc::{AllocError, AllocFailed};
+use thiserror::Error;
 
 /// A trip that can't be planned, or want of memory.
-#[derive(Clone, Copy, Debug, PartialEq, Eq)]
+#[derive(Clone, Copy, Debug, PartialEq, Eq, Error)]
 pub enum PlanFault {
     /// The vehicle's node, or the job or the station of a stop, is unknown, or no walk leads to it.
+    #[error("no walk leads to a stop")]
     NoWalk,
     /// The whole way has more than 200 edges.
+    #[error("the way has more than 200 edges")]
     TooLong,
     /// More edges are to be released than the way has.
+    #[error("more edges are to be released than the way has")]
     Beyond,
     /// Want of memory; the trip may be possible.
+    #[error("want of memory")]
     Memory,
 }
 

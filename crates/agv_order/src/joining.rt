@@ -6,6 +6,7 @@ use crate::stitch::{is_stitched, stitched};
 use agv_header::Memory;
 use agv_message::OrderMessage;
 use std::alloc::Global;
+use thiserror::Error;
 
 /// What a vehicle that takes a message does with it.
 #[derive(Debug, Drop)]
@@ -17,17 +18,22 @@ pub enum Joined {
 }
 
 /// Why a vehicle takes no message.
-#[derive(Clone, Copy, Debug, PartialEq, Eq)]
+#[derive(Clone, Copy, Debug, PartialEq, Eq, Error)]
 pub enum JoinRefusal {
     /// It holds no order, and the message is an update.
+    #[error("the vehicle holds no order, and the message is an update")]
     NotFirst,
     /// It holds another order.
+    #[error("the vehicle holds another order")]
     OtherOrder,
     /// It has a later update already.
+    #[error("the vehicle has a later update")]
     Lower,
     /// The message does not begin at the last node of the base that it holds.
+    #[error("the message doesn't begin at the last node of the base")]
     NotStitched,
     /// Want of memory; the message may be good.
+    #[error("want of memory")]
     Memory,
 }
 

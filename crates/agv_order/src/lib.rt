@@ -14,18 +14,18 @@
 
 mod act;
 mod fault;
+mod job_progress;
 mod joining;
 pub mod laws;
-mod stop_route;
 mod message;
 mod number;
 mod plan;
 mod planned;
 mod release;
-mod job_progress;
 mod status;
 mod stitch;
 mod stop;
+mod stop_route;
 mod trip;
 mod under_way;
 mod well_formed;
@@ -36,4 +36,5 @@ pub use joining::{JoinRefusal, Joined, join};
 pub use number::{edge_seq, node_seq};
 pub use status::{is_final, is_finished, merge};
 pub use stop::{Stop, stops_fit};
+pub use stop_route::job_named;
 pub use trip::Trip;

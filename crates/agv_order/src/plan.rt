@@ -7,14 +7,12 @@ ghost use Rattle.agv_order.specs.declared.fault.PlanFault.TheVariants as fault;
 
 use crate::stop_route::{StopRoute, act_at, stop_route_to};
 use crate::{Act, PlanFault, Stop, Trip};
+use agv_header::limits::MAX_TRIP_EDGES;
 use agv_header::{Memory, Name, VehicleKey};
 use agv_layout::{Edge, Layout};
 use agv_message::Sequence;
 use agv_stock::Job;
 use std::alloc::Global;
-
-/// The most edges of a trip.
-const MAX_TRIP_EDGES: usize = 200;
 
 /// The routes from a node to each stop in turn; `NoWalk` where one of them can't be had.
 fn stop_routes_to(

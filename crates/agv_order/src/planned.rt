@@ -8,13 +8,8 @@ ghost use Rattle.agv_order.specs.WellFormedTest.{is_edge_of, is_way_of, is_risin
 use crate::job_progress::JobProgress;
 use crate::{Act, Trip};
 use agv_header::Name;
+use agv_header::limits::{MAX_TRIP_ACTS, MAX_TRIP_EDGES};
 use agv_layout::{Edge, Layout};
-
-/// The most edges of a trip.
-const MAX_TRIP_EDGES: usize = 200;
-
-/// The most acts of a trip.
-const MAX_TRIP_ACTS: usize = 8;
 
 /// Whether the edge leads as the layout says.
 fn is_edge_of(layout: &Layout, edge: &Edge) -> bool

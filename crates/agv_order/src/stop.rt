@@ -18,7 +18,9 @@ pub struct Stop {
 fn are_all_served(stops: &[Stop]) -> bool
     ensures { result ≡ list_all (λ one. is_pick_then_drop (kinds_of stops.now one.job)) stops.now }
 {
-    stops.iter().all(|stop| is_picked_then_dropped(stops, stop.job))
+    stops
+        .iter()
+        .all(|stop| is_picked_then_dropped(stops, stop.job))
 }
 
 /// Whether these stops can be carried out: there is at least one, and the load of each job that is named

@@ -24,8 +24,8 @@ pub(crate) struct StopRoute {
     pub(crate) edges: Sequence<Edge>,
 }
 
-/// The job of this name.
-fn job_named(jobs: &[Job], name: Name) -> Option<Job>
+/// The job of this name among jobs, the first if several have it.
+pub fn job_named(jobs: &[Job], name: Name) -> Option<Job>
     ensures { result ≡ job_named jobs.now name }
 {
     for job in jobs {
@@ -86,7 +86,13 @@ fn edges_named(alloc: Global, layout: &Layout, ids: &[Name]) -> Result<Sequence<
 }
 
 /// The route from a node to a stop.
-fn stop_route_for(alloc: Global, layout: &Layout, at: Name, stop: Stop, job: Job) -> Result<StopRoute, PlanFault>
+fn stop_route_for(
+    alloc: Global,
+    layout: &Layout,
+    at: Name,
+    stop: Stop,
+    job: Job,
+) -> Result<StopRoute, PlanFault>
     ensures ok { IfOk result (λ stop_route. stop_route_for layout.now at stop job ≡ Some stop_route) }
     ensures no_walk { result ≡ Err fault.NoWalk → stop_route_for layout.now at stop job ≡ None }
     ensures err { IfErr result (λ error. (error ≡ fault.NoWalk) ⊎ (error ≡ fault.Memory)) }

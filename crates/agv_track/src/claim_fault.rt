@@ -1,13 +1,16 @@
 //! Why a vehicle gets no hold.
 
 use agv_header::{Memory, Thing, VehicleKey};
+use thiserror::Error;
 
 /// Why things are not given to a vehicle.
-#[derive(Clone, Copy, Debug, PartialEq, Eq)]
+#[derive(Clone, Copy, Debug, PartialEq, Eq, Error)]
 pub enum ClaimFault {
     /// Another vehicle, `by`, holds the thing `what`.
+    #[error("another vehicle holds a node or an edge")]
     Held { what: Thing, by: VehicleKey },
     /// Want of memory.
+    #[error("want of memory")]
     Memory,
 }
 

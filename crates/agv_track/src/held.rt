@@ -7,7 +7,6 @@ ghost use Rattle.agv_header.specs.declared.key.Thing.TheVariants.{Node};
 
 use crate::Standing;
 use crate::ordered_set::OrderedSet;
-use crate::way::node_at;
 use agv_header::{Memory, Name, Thing};
 use agv_layout::Edge;
 use agv_order::Trip;
@@ -41,7 +40,7 @@ fn add_trip(once: &mut OrderedSet, trip: &Trip) -> Result<(), Memory>
     requires { KnowsAll once.old }
     ensures added { OnOk result (once.new.things.items ≡ with_things once.old.things.items (from_node (node_at trip.now trip.now.seen) (released_edges trip.now))) }
 {
-    let Some(node) = node_at(trip, trip.seen) else {
+    let Some(node) = trip.node_at(trip.seen) else {
         return Ok(());
     };
     once.add(&Thing::Node(node))?;

@@ -34,4 +34,3 @@ pub use judgement::judge;
 pub use pending::Pending;
 pub use progress::{End, Progress};
 pub use standing::Standing;
-pub use way::node_at;

@@ -1,10 +1,9 @@
 //! Where on its way a state puts a vehicle.
 ghost use Rattle.std.specs.Prelude.{◌≡◌, Ok, Some};
-ghost use Rattle.agv_order.specs.Trips.{node_at};
 ghost use Rattle.agv_track.specs.Reached.{is_at_start, reported_node, names_node, is_our_node, is_before, base_of};
 ghost use Rattle.agv_track.specs.Judgements.{way_refusals, first_of};
 
-use agv_header::{Name, Refusal};
+use agv_header::Refusal;
 use agv_message::StateMessage;
 use agv_order::Trip;
 
@@ -26,13 +25,6 @@ pub(crate) fn reported_node(state: &StateMessage) -> u32
     }
 }
 
-/// The name of node k of the trip's way: its start, and then the finish of each edge; none past the end.
-pub fn node_at(trip: &Trip, k: u32) -> Option<Name>
-    ensures { result ≡ node_at trip.now k }
-{
-    trip.node_at(k)
-}
-
 // Whether the number is that of a node of the trip, and the name is the node's.
 fn names_node(trip: &Trip, state: &StateMessage) -> bool
     ensures { result ≡ names_node trip.now state.now }
@@ -40,7 +32,7 @@ fn names_node(trip: &Trip, state: &StateMessage) -> bool
     if state.last_seq % 2 != 0 {
         return false;
     }
-    match node_at(trip, state.last_seq / 2) {
+    match trip.node_at(state.last_seq / 2) {
         Some(name) => name.as_str() == state.last_node.as_str(),
         None => false,
     }

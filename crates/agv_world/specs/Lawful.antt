@@ -88,7 +88,8 @@ pub record HasLawfulVehicles (seats : ℕ) (world : World) : Type 0 where
   pub references_named : (name : List ℕ) → set.contains world.references name ≡ true → IsName name
   -- each vehicle, and each open trip with its vehicle, is as above
   pub vehicles : (key : VehicleKey) (vehicle : Vehicle) → IsVehicle world key vehicle → IsVehicleOf seats world.layout vehicle.row
-  pub trips : (key : VehicleKey) (vehicle : Vehicle) (trip : Trip) → IsVehicle world key vehicle → vehicle.trip ≡ Some trip → IsTripOf world.layout key vehicle.row trip
+  pub trips : (key : VehicleKey) (vehicle : Vehicle) (trip : Trip)
+      → IsVehicle world key vehicle → vehicle.trip ≡ Some trip → IsTripOf world.layout key vehicle.row trip
   -- the name of an open trip's order was used, and no order has two trips
   pub used : (key : VehicleKey) (trip : Trip) → HasTrip world key trip → set.contains world.orders trip.order ≡ true
   pub one_trip : HasOneTripAnOrder world
@@ -169,20 +170,32 @@ pub record HasLawfulLoads (world : World) : Type 0 where
   pub places : (load : List ℕ) (place : Place) → finite.get world.places load ≡ Some place → IsPlaceIn world place
   pub jobs : (job : List ℕ) (row : JobRow) → IsJob world job row → IsJobIn world row
   -- the loads at a station and the live jobs to it are together at most its capacity
-  pub room : (station : List ℕ) (spot : StationSite) → IsStation world.layout station spot → length (loads_at world station) + reserved world station ≤ spot.capacity
+  pub room : (station : List ℕ) (spot : StationSite)
+      → IsStation world.layout station spot → length (loads_at world station) + reserved world station ≤ spot.capacity
   -- a vehicle without a trip has at most as many loads as it has places; with a trip, its other loads and the trip's jobs that are not done are together at most that many
   pub idle : (key : VehicleKey) (vehicle : Vehicle) → IsVehicle world key vehicle → vehicle.trip ≡ None → loads_on world key ≤ vehicle.row.capacity
-  pub within_capacity : (key : VehicleKey) (vehicle : Vehicle) (trip : Trip) → IsVehicle world key vehicle → vehicle.trip ≡ Some trip → other_loads world key trip + count_by is_to_drop trip.acts ≤ vehicle.row.capacity
+  pub within_capacity : (key : VehicleKey) (vehicle : Vehicle) (trip : Trip)
+      → IsVehicle world key vehicle → vehicle.trip ≡ Some trip
+      → other_loads world key trip + count_by is_to_drop trip.acts ≤ vehicle.row.capacity
   -- a load has at most one live job
-  pub one_job : (one other : List ℕ) (row further : JobRow) → IsJob world one row → IsJob world other further → is_live row.phase ≡ true → is_live further.phase ≡ true → row.load ≡ further.load → one ≡ other
+  pub one_job : (one other : List ℕ) (row further : JobRow)
+      → IsJob world one row → IsJob world other further → is_live row.phase ≡ true → is_live further.phase ≡ true
+      → row.load ≡ further.load → one ≡ other
   -- a job rides exactly where an open trip has it and its drop is not finished; where the drop is finished, the job is done
   pub riding : (job : List ℕ) (row : JobRow) → IsJob world job row → (row.phase ≡ phase.Riding) ↔ IsToDrop world job
-  pub done : (key : VehicleKey) (trip : Trip) (act : Act) (row : JobRow) → HasAct world key trip act → act.kind ≡ Drop → is_finished act.status ≡ true → IsJob world act.job row → row.phase ≡ phase.Done
+  pub done : (key : VehicleKey) (trip : Trip) (act : Act) (row : JobRow)
+      → HasAct world key trip act → act.kind ≡ Drop → is_finished act.status ≡ true → IsJob world act.job row
+      → row.phase ≡ phase.Done
   -- a job stands in at most one open trip
-  pub one_vehicle : (one other : VehicleKey) (trip further : Trip) (act more : Act) → HasAct world one trip act → HasAct world other further more → act.job ≡ more.job → one ≡ other
+  pub one_vehicle : (one other : VehicleKey) (trip further : Trip) (act more : Act)
+      → HasAct world one trip act → HasAct world other further more → act.job ≡ more.job → one ≡ other
   -- the load of a job that waits is at the origin; the load of one that rides is there until its pick is finished, and then on the vehicle
-  pub waiting : (job : List ℕ) (row : JobRow) → IsJob world job row → row.phase ≡ phase.Waiting → finite.get world.places row.load ≡ Some (place.Station row.origin)
-  pub carried : (key : VehicleKey) (trip : Trip) (act : Act) (row : JobRow) → HasAct world key trip act → act.kind ≡ Pick → IsJob world act.job row → is_live row.phase ≡ true → finite.get world.places row.load ≡ Some (carried_at key row.origin (is_finished act.status))
+  pub waiting : (job : List ℕ) (row : JobRow)
+      → IsJob world job row → row.phase ≡ phase.Waiting
+      → finite.get world.places row.load ≡ Some (place.Station row.origin)
+  pub carried : (key : VehicleKey) (trip : Trip) (act : Act) (row : JobRow)
+      → HasAct world key trip act → act.kind ≡ Pick → IsJob world act.job row → is_live row.phase ≡ true
+      → finite.get world.places row.load ≡ Some (carried_at key row.origin (is_finished act.status))
   -- each act of an open trip names the load and the station of its job
   pub acts : (key : VehicleKey) (trip : Trip) (act : Act) → HasAct world key trip act → NamesItsJob world act
 

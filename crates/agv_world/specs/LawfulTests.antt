@@ -1,4 +1,4 @@
--- Tests of the tables in memory, by look-ups: where all of them hold, and only there, the tables are those of a lawful world (`World::is_lawful`).
+-- Derived, not the promise: tests of the tables in memory, by look-ups. All of them hold just where the tables are those of a lawful world (`IsLawful`) of Lawful.antt (`World::is_lawful`).
 use Rattle.std.specs.Prelude.{ℕ, ◌+◌, ◌&&◌, ◌||◌, not, nat_eq, nat_le, nat_lt, Bool, true, false, List, [], ◌∷◌, find, count_by, Option, None, Some, if◌then◌else◌}
 use Rattle.std.specs.Cmp.Lexicographic.{pointwise}
 use Rattle.std.specs.FinMap as finite

@@ -3,13 +3,16 @@ ghost use Rattle.std.specs.Prelude.{◌≡◌};
 
 use agv_header::Memory;
 use std::alloc::{AllocError, AllocFailed};
+use thiserror::Error;
 
 /// Why a question to what the desk knows has no answer.
-#[derive(Clone, Copy, Debug, PartialEq, Eq)]
+#[derive(Clone, Copy, Debug, PartialEq, Eq, Error)]
 pub enum Fault {
     /// An allocation was refused.
+    #[error("want of memory")]
     Memory,
     /// The store failed, or what lies in it cannot be read.
+    #[error("the store failed, or what lies in it can't be read")]
     Storage,
 }
 

@@ -6,6 +6,7 @@ ghost use Rattle.agv_world.specs.Lawful.{is_to_drop};
 ghost use Rattle.agv_world.specs.LoadTests.{are_jobs, are_loads_few, are_places, has_one_job_each, has_station, is_carried, is_drop_of, is_in_phase, is_job, is_job_row, is_place, is_placed_at};
 
 use crate::{JobRow, Names, World};
+use agv_header::limits::MAX_RECORDS;
 use agv_header::{Memory, Name};
 use agv_message::{ActKind, Status};
 use agv_order::Act;
@@ -65,7 +66,7 @@ impl World {
     pub(crate) fn are_loads_few(&self) -> bool
         ensures { result ≡ are_loads_few self.now }
     {
-        self.loads.len() <= 1_000_000 && self.jobs.len() <= 1_000_000
+        self.loads.len() <= MAX_RECORDS && self.jobs.len() <= MAX_RECORDS
     }
 
     // Whether the station is known.

@@ -3,6 +3,9 @@ ghost use Rattle.std.specs.Prelude.{◌≡◌};
 ghost use Rattle.agv_world.specs.LawfulTests.{does_lead, does_stand, is_in_limits, is_unset, all_lead, all_stand, is_laid};
 
 use crate::World;
+use agv_header::limits::{
+    MAX_LAYOUT_EDGES, MAX_LAYOUT_NODES, MAX_LAYOUT_STATIONS, MAX_STATION_CAPACITY,
+};
 use agv_layout::{EdgeEnds, StationSite};
 
 impl World {
@@ -19,7 +22,9 @@ impl World {
     fn does_stand(&self, spot: StationSite) -> bool
         ensures { result ≡ does_stand self.now spot }
     {
-        self.nodes.contains(spot.node) && 1 <= spot.capacity && spot.capacity <= 999
+        self.nodes.contains(spot.node)
+            && 1 <= spot.capacity
+            && spot.capacity <= MAX_STATION_CAPACITY
     }
 
     // Whether there are as many nodes, edges and stations as a layout may have.
@@ -27,7 +32,10 @@ impl World {
         ensures { result ≡ is_in_limits self.now }
     {
         let nodes = self.nodes.len();
-        1 <= nodes && nodes <= 500 && self.edges.len() <= 1500 && self.stations.len() <= 500
+        1 <= nodes
+            && nodes <= MAX_LAYOUT_NODES
+            && self.edges.len() <= MAX_LAYOUT_EDGES
+            && self.stations.len() <= MAX_LAYOUT_STATIONS
     }
 
     // Whether the layout is not set.

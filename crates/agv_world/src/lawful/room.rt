@@ -95,7 +95,12 @@ fn loads_of_others(loads: &[(Name, Place)], key: VehicleKey, acts: &[Act]) -> us
 
 // Whether a vehicle has places for its other loads, among these, and for the jobs of its trip that are
 // not done.
-fn is_within_capacity(loads: &[(Name, Place)], key: VehicleKey, row: &VehicleRow, acts: &[Act]) -> bool
+fn is_within_capacity(
+    loads: &[(Name, Place)],
+    key: VehicleKey,
+    row: &VehicleRow,
+    acts: &[Act],
+) -> bool
     ensures { result ≡ is_within_capacity_among loads.now (key, row.now) acts.now }
 {
     let capacity = row.capacity as usize;
@@ -171,7 +176,12 @@ impl World {
 
     // Whether a vehicle has places for its other loads, among these, and for the jobs of its trip that are
     // not done.
-    fn is_vehicle_within_capacity(&self, loads: &[(Name, Place)], key: &VehicleKey, row: &VehicleRow) -> bool
+    fn is_vehicle_within_capacity(
+        &self,
+        loads: &[(Name, Place)],
+        key: &VehicleKey,
+        row: &VehicleRow,
+    ) -> bool
         ensures { result ≡ is_within_capacity_among loads.now (key.now, row.now) (acts_of self.now key.now) }
     {
         is_within_capacity(loads, *key, row, self.acts_of(*key))
@@ -181,9 +191,7 @@ impl World {
     fn are_within_capacity_among(&self, loads: &[(Name, Place)]) -> bool
         ensures { result ≡ are_within_capacity_among self.now loads.now }
     {
-        self.vehicles
-            .iter()
-            .all(|(key, row)| self.is_vehicle_within_capacity(loads, key, row))
+        self.vehicles.iter().all(|(key, row)| self.is_vehicle_within_capacity(loads, key, row))
     }
 
     // Whether each vehicle has places for its other loads and for the jobs of its trip that are not done.

@@ -9,7 +9,6 @@ use agv_header::{Memory, Name, VehicleKey};
 use agv_layout::Layout;
 use agv_message::ActKind;
 use agv_order::{Act, Trip};
-use agv_track::node_at;
 use std::alloc::Global;
 
 // Whether the name is this one.
@@ -46,7 +45,7 @@ fn is_borne_by(row: &VehicleRow, trip: &Trip) -> bool
 {
     pick_count(trip.acts.as_slice()) <= row.capacity as usize
         && 0 < row.orders.count
-        && is_name_of(node_at(trip, trip.seen), row.node)
+        && is_name_of(trip.node_at(trip.seen), row.node)
         && row.rest.is_none()
 }
 

@@ -4,6 +4,7 @@ ghost use Rattle.agv_world.specs.LawfulTests.{are_few, are_vehicles, is_counted,
 
 use crate::{Sent, UseKind, VehicleRow, World};
 use agv_header::Name;
+use agv_header::limits::{MAX_RECORDS, MAX_VEHICLES};
 use agv_layout::EdgeEnds;
 
 // Whether the moment is 0 where no message was sent.
@@ -73,8 +74,8 @@ impl World {
     pub(crate) fn are_few(&self) -> bool
         ensures { result ≡ are_few self.now }
     {
-        self.vehicles.len() <= 100
-            && self.used_count(UseKind::Order) <= 1_000_000
-            && self.used_count(UseKind::Reference) <= 1_000_000
+        self.vehicles.len() <= MAX_VEHICLES
+            && self.used_count(UseKind::Order) <= MAX_RECORDS
+            && self.used_count(UseKind::Reference) <= MAX_RECORDS
     }
 }
