@@ -21,7 +21,7 @@ use Rattle.agv_world.specs.Lawful.{HasLawfulVehicles}
 use Rattle.agv_world.specs.Questions.{row_of, trip_of}
 use Rattle.agv_world.specs.Worlds.{Vehicle, World}
 use Rattle.agv_world.specs.declared.row.VehicleRow.{VehicleRow}
-use Rattle.agv_desk.specs.Outcomes.{Effect, Outcome, Refused, Made, Noted, Put, after, answer_of, with_touched, with_effect}
+use Rattle.agv_desk.specs.Outcomes.{Effect, Outcome, Refused, Made, RowOnly, Whole, after, answer_of, with_touched, with_effect}
 use Rattle.agv_desk.specs.StateSteps.{idle_state, pending_of, heard, trip_left, trip_state, fresh_state, take_state}
 use Rattle.agv_desk.specs.declared.answer.Answer.TheVariants as answer
 use Rattle.agv_desk.proofs.EffectParts.{effect_orders, effect_vehicles, written_vehicle}
@@ -57,7 +57,7 @@ module _ (world : World) (key : VehicleKey) (state : StateMessage) where
       → IsHeard key state.header_id (with_effect world effect)
   number_heard effect new written is = (new.row, state.header_id, row_written effect new (effect_vehicles world effect ∙ written), is, omega arith)
 
-  idle_leaves : (effect : Effect) (row next : VehicleRow) → effect.touched ≡ Noted key row next → next.last_header ≡ Some state.header_id → ((trip : Trip) → HasTrip world key trip → trip.order ≡ state.order_id → ⊥) → P effect
+  idle_leaves : (effect : Effect) (row next : VehicleRow) → effect.touched ≡ RowOnly key row next → next.last_header ≡ Some state.header_id → ((trip : Trip) → HasTrip world key trip → trip.order ≡ state.order_id → ⊥) → P effect
   idle_leaves effect row next noted number apart = record {
     number = λ accepted. number_heard effect (vehicle_with next (trip_of world key)) (ap (λ touched. (with_touched world touched).vehicles) noted) number;
     trip = λ accepted row trip there has same. absurd (apart trip has same);
@@ -86,7 +86,7 @@ module _ (world : World) (key : VehicleKey) (state : StateMessage) where
         open_still = (not_ended trip (pending_of row) state (sym is.over ∙ open_still)).1;
       }
 
-      now_told : (effect : Effect) (old : Option Vehicle) (new : Vehicle) → effect.touched ≡ Put key old new → new.trip ≡ trip_left trip progress → IsTold state trip.order (pending_of row) (with_effect world effect)
+      now_told : (effect : Effect) (old : Option Vehicle) (new : Vehicle) → effect.touched ≡ Whole key old new → new.trip ≡ trip_left trip progress → IsTold state trip.order (pending_of row) (with_effect world effect)
       now_told effect old new put left = record {
         used = effect_orders world effect trip.order (lawful.used key trip has);
         trips = λ other more has_more same.
@@ -96,7 +96,7 @@ module _ (world : World) (key : VehicleKey) (state : StateMessage) where
       }
 
     trip_leaves : (effect : Effect) (old : Option Vehicle) (new : Vehicle) (row : VehicleRow) (trip : Trip) (progress : Progress) → row_of world key ≡ Some row → trip_of world key ≡ Some trip
-        → IsJudged trip (pending_of row) state progress → effect.touched ≡ Put key old new → new.row.last_header ≡ Some state.header_id → new.trip ≡ trip_left trip progress → P effect
+        → IsJudged trip (pending_of row) state progress → effect.touched ≡ Whole key old new → new.row.last_header ≡ Some state.header_id → new.trip ≡ trip_left trip progress → P effect
     trip_leaves effect old new row trip progress there open_trip is put number left = record {
       number = λ accepted. number_heard effect new (ap (λ touched. (with_touched world touched).vehicles) put) number;
       trip = λ accepted other more there_too has same.

@@ -6,7 +6,7 @@ use Rattle.agv_world.specs.Worlds.{World}
 use Rattle.agv_world.specs.declared.change.Change.{Change}
 use Rattle.agv_world.specs.declared.change.Change.TheVariants as row
 use Rattle.agv_world.specs.declared.row.JobRow.{JobRow}
-use Rattle.agv_desk.specs.JobSteps.{Renewed, act_job, act_jobs}
+use Rattle.agv_desk.specs.ActSteps.{Renewed, act_job, act_jobs}
 
 -- the rows of the jobs of these acts
 abbrev pub job_rows : World → Bool → List Renewed → List Change

@@ -9,7 +9,7 @@ use Rattle.agv_order.specs.declared.act.Act.{Act}
 use Rattle.agv_order.specs.declared.stop.Stop.{Stop}
 use Rattle.agv_track.specs.Reports.{with_status}
 use Rattle.agv_world.specs.StockInvariant.{ActionView, action_view, is_to_pick, to_pick}
-use Rattle.agv_desk.specs.JobSteps.{Renewed}
+use Rattle.agv_desk.specs.ActSteps.{Renewed}
 use Rattle.agv_desk.proofs.Known.{none_some, same_some}
 use Rattle.agv_desk.proofs.Writes.{one_if}
 

@@ -8,7 +8,7 @@ use Rattle.agv_header.specs.declared.key.VehicleKey.{VehicleKey}
 use Rattle.agv_message.specs.declared.order.ActKind.{ActKind}
 use Rattle.agv_message.specs.declared.order.ActKind.TheVariants.{Pick, Drop}
 use Rattle.agv_desk.specs.Histories.{is_kind, is_by, times}
-use Rattle.agv_desk.specs.JobSteps.{Renewed, becomes_finished, taken_to, act_move, act_moves}
+use Rattle.agv_desk.specs.ActSteps.{Renewed, becomes_finished, taken_to, act_move, act_moves}
 use Rattle.agv_desk.specs.Outcomes.{Acted, Move}
 use Rattle.agv_desk.proofs.SameNames.{same_name}
 

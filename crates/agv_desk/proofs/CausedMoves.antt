@@ -14,7 +14,7 @@ use Rattle.agv_stock.specs.declared.place.Place.{Place}
 use Rattle.agv_world.specs.Worlds.{World}
 use Rattle.agv_world.specs.declared.row.VehicleRow.{VehicleRow}
 use Rattle.agv_desk.specs.Causes.{is_acted, is_recorded, is_refusal, moves_for}
-use Rattle.agv_desk.specs.JobSteps.{Renewed, becomes_finished, taken_to, act_move, act_moves}
+use Rattle.agv_desk.specs.ActSteps.{Renewed, becomes_finished, taken_to, act_move, act_moves}
 use Rattle.agv_desk.specs.LayoutSteps.{if_given}
 use Rattle.agv_desk.specs.OrderSteps.{if_planned, start_order, advance}
 use Rattle.agv_desk.specs.Outcomes.{Acted, Effect, Made, Move, Outcome, Refused, after, answer_of, decided, moves_of}

@@ -23,9 +23,9 @@ use Rattle.agv_world.proofs.Orders.{names_total}
 use Rattle.agv_desk.specs.Causes.{is_refusal}
 use Rattle.agv_desk.specs.Counts.{added, adds_to, limit_of, one_more}
 use Rattle.agv_desk.specs.LayoutSteps.{set_layout}
-use Rattle.agv_desk.specs.LoadSteps.{add_job, correct_load, goal_of, is_in_job, is_new, leave_load, place_of, register_load, stop_job}
+use Rattle.agv_desk.specs.LoadAndJobSteps.{add_job, correct_load, goal_of, is_in_job, is_new, leave_load, place_of, register_load, stop_job}
 use Rattle.agv_desk.specs.OrderSteps.{advance, start_order}
-use Rattle.agv_desk.specs.Outcomes.{Effect, Made, Noted, Outcome, Refused, after, answer_of, told, with_effect}
+use Rattle.agv_desk.specs.Outcomes.{Effect, Made, RowOnly, Outcome, Refused, after, answer_of, answer_only, with_effect}
 use Rattle.agv_desk.specs.StateSteps.{fresh_state, idle_state, take_state, trip_state}
 use Rattle.agv_desk.specs.Step.{step}
 use Rattle.agv_desk.specs.StocktakeSteps.{Row, take_stock}
@@ -81,12 +81,12 @@ module _ (world : World) where
   abbrev P : Effect → Type 0
   P = IsCounted world None
 
-  tells : (said : Answer) → P (told said)
-  tells said = counts_none (told said) (λ lawful. as_many world _ refl refl refl refl refl)
+  tells : (said : Answer) → P (answer_only said)
+  tells said = counts_none (answer_only said) (λ lawful. as_many world _ refl refl refl refl refl)
 
-  notes : (said : Answer) (key : VehicleKey) (row new : VehicleRow) → row_of world key ≡ Some row → P (record (told said) { touched = Noted key row new })
+  notes : (said : Answer) (key : VehicleKey) (row new : VehicleRow) → row_of world key ≡ Some row → P (record (answer_only said) { touched = RowOnly key row new })
   notes said key row new there =
-      counts_none (record (told said) { touched = Noted key row new }) (λ lawful. as_many world _ (vehicle_len key row (vehicle_with new (trip_of world key)) there) refl refl refl refl)
+      counts_none (record (answer_only said) { touched = RowOnly key row new }) (λ lawful. as_many world _ (vehicle_len key row (vehicle_with new (trip_of world key)) there) refl refl refl refl)
 
   sets_layout : (rows : List LayoutRow) → IfMade P (set_layout world rows)
   sets_layout rows = made_require P _ _ _ (λ unset. made_given P _ _ (λ layout read. counts_none _ (λ lawful. as_many world _ refl refl refl refl refl)))

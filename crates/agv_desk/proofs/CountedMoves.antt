@@ -18,7 +18,7 @@ use Rattle.agv_world.specs.Questions.{loads_at}
 use Rattle.agv_world.specs.Worlds.{World}
 use Rattle.agv_world.proofs.Entries.{entries_found}
 use Rattle.agv_world.proofs.Orders.{names_total, names_apart}
-use Rattle.agv_desk.specs.CountParts.{moves_in, moves_list, found_in, recorded, recorded_at, sightings, standing, standing_at, stations_in}
+use Rattle.agv_desk.specs.CountParts.{moves_in, moves_list, found_in, recorded, recorded_at, counted_loads, standing, standing_at, stations_in}
 use Rattle.agv_desk.specs.StocktakeSteps.{Row, are_known, found_at, from_station, has_load, is_counted, new_place, new_places, recounted}
 use Rattle.agv_desk.proofs.FoundLoads.{get-found_in}
 use Rattle.agv_desk.proofs.PlacedLoads.{Loads, goes_from, is_in, moves_listed, settled_both}
@@ -56,33 +56,33 @@ module _ (world : World) where
   There loads = AllByRecursion (λ (load : List ℕ × Place). finite.get world.places load.0 ≡ Some load.1) loads
 
   -- ---- the found loads are where it is recorded
-  found_there : (rows : List Row) → There (recorded (sightings world rows))
-  unfolding sightings There
+  found_there : (rows : List Row) → There (recorded (counted_loads world rows))
+  unfolding counted_loads There
   found_there [] = tt
   found_there (row ∷ rows) =
-      elim row.1 as (λ load. There (recorded (sightings world ((row.0, load) ∷ rows)))) [
+      elim row.1 as (λ load. There (recorded (counted_loads world ((row.0, load) ∷ rows)))) [
         | None ↦ found_there rows
-        | Some load ↦ elim (finite.get world.places load) as (λ o. finite.get world.places load ≡ o → There (cons_option (recorded_at load o) (recorded (sightings world rows)))) [
+        | Some load ↦ elim (finite.get world.places load) as (λ o. finite.get world.places load ≡ o → There (cons_option (recorded_at load o) (recorded (counted_loads world rows)))) [
           | None ↦ λ none. found_there rows
           | Some at ↦ λ is. (is, found_there rows)
         ] refl
       ]
 
   -- a load that was found, and of which it is known where it is, is among them
-  found_among : (rows : List Row) (q : List ℕ) (at : Place) → finite.get world.places q ≡ Some at → is_in q (recorded (sightings world rows)) ≡ is_some (found_at rows q)
-  unfolding sightings
+  found_among : (rows : List Row) (q : List ℕ) (at : Place) → finite.get world.places q ≡ Some at → is_in q (recorded (counted_loads world rows)) ≡ is_some (found_at rows q)
+  unfolding counted_loads
   found_among [] q at is = refl
   found_among (row ∷ rows) q at is =
       let rest = found_among rows q at is in
-      elim row.1 as (λ load. is_in q (recorded (sightings world ((row.0, load) ∷ rows))) ≡ is_some (cond (has_load q load) (Some row.0) (found_at rows q))) [
+      elim row.1 as (λ load. is_in q (recorded (counted_loads world ((row.0, load) ∷ rows))) ≡ is_some (cond (has_load q load) (Some row.0) (found_at rows q))) [
         | None ↦ rest
-        | Some load ↦ elim (pointwise nat_eq load q) as (λ b. pointwise nat_eq load q ≡ b → is_in q (cons_option (recorded_at load (finite.get world.places load)) (recorded (sightings world rows))) ≡ is_some (cond b (Some row.0) (found_at rows q))) [
+        | Some load ↦ elim (pointwise nat_eq load q) as (λ b. pointwise nat_eq load q ≡ b → is_in q (cons_option (recorded_at load (finite.get world.places load)) (recorded (counted_loads world rows))) ≡ is_some (cond b (Some row.0) (found_at rows q))) [
           | true ↦ λ same.
-              ap (λ o. is_in q (cons_option (recorded_at load o) (recorded (sightings world rows)))) (ap (finite.get world.places) (same_name load q same) ∙ is)
-              ∙ ap (λ b. b || is_in q (recorded (sightings world rows))) same
-          | false ↦ λ other. elim (finite.get world.places load) as (λ o. is_in q (cons_option (recorded_at load o) (recorded (sightings world rows))) ≡ is_some (found_at rows q)) [
+              ap (λ o. is_in q (cons_option (recorded_at load o) (recorded (counted_loads world rows)))) (ap (finite.get world.places) (same_name load q same) ∙ is)
+              ∙ ap (λ b. b || is_in q (recorded (counted_loads world rows))) same
+          | false ↦ λ other. elim (finite.get world.places load) as (λ o. is_in q (cons_option (recorded_at load o) (recorded (counted_loads world rows))) ≡ is_some (found_at rows q)) [
             | None ↦ rest
-            | Some there ↦ ap (λ b. b || is_in q (recorded (sightings world rows))) other ∙ rest
+            | Some there ↦ ap (λ b. b || is_in q (recorded (counted_loads world rows))) other ∙ rest
           ]
         ] refl
       ]
@@ -165,9 +165,9 @@ module _ (world : World) where
     not_found q place.Left to is goes = absurd (not_some to goes)
 
     moving : (q : List ℕ) (to : Place) → goes_from world.places (finite.contains_key stations) (found_in rows) q ≡ Some to
-        → (is_in q (recorded (sightings world rows)) || is_in q (standing world (finite.entries stations))) ≡ true
+        → (is_in q (recorded (counted_loads world rows)) || is_in q (standing world (finite.entries stations))) ≡ true
     moving q to =
-        elim (finite.get world.places q) as (λ o. finite.get world.places q ≡ o → option_and_then (λ at. new_place (finite.contains_key stations) (finite.get (found_in rows) q) at) o ≡ Some to → (is_in q (recorded (sightings world rows)) || is_in q (standing world (finite.entries stations))) ≡ true) [
+        elim (finite.get world.places q) as (λ o. finite.get world.places q ≡ o → option_and_then (λ at. new_place (finite.contains_key stations) (finite.get (found_in rows) q) at) o ≡ Some to → (is_in q (recorded (counted_loads world rows)) || is_in q (standing world (finite.entries stations))) ≡ true) [
           | None ↦ λ _ goes. absurd (not_some to goes)
           | Some at ↦ λ is goes.
               let among = found_among rows q at is in
@@ -180,12 +180,12 @@ module _ (world : World) where
         ] refl
 
     -- the loads that move are those of the whole of the rows
-    pub moves_are : are_known world rows ≡ true → moves_list world (stations_in world rows) (found_in rows) (sightings world rows) ≡ new_places world rows
+    pub moves_are : are_known world rows ≡ true → moves_list world (stations_in world rows) (found_in rows) (counted_loads world rows) ≡ new_places world rows
     unfolding moves_in There stations
     moves_are known =
         let has = has-stations_in world rows known in
         moves_listed (recounted rows) world.places _
         (λ q.
-        settled_both world.places (finite.contains_key (stations_in world rows)) (found_in rows) (recorded (sightings world rows)) (standing world (finite.entries (stations_in world rows)))
+        settled_both world.places (finite.contains_key (stations_in world rows)) (found_in rows) (recorded (counted_loads world rows)) (standing world (finite.entries (stations_in world rows)))
         (found_there rows) (standing_there (finite.entries (stations_in world rows))) moving q
         ∙ (λ i. option_and_then (λ at. new_place (λ id. has id i) (get-found_in rows q i) at) (finite.get world.places q)))

@@ -17,12 +17,12 @@ use Rattle.agv_world.specs.Worlds.{World}
 use Rattle.agv_world.specs.declared.floor.Counted.TheVariants as counted
 use Rattle.agv_world.proofs.Entries.{entries_found}
 use Rattle.agv_world.proofs.Orders.{names_total}
-use Rattle.agv_desk.specs.CountParts.{all_have_room, count_by_parts, found_in, has_room, is_found_at, moves_list, seen_at, sightings, stations_in, unknown_one}
-use Rattle.agv_desk.specs.LoadSteps.{most, is_in_job, reference_key}
-use Rattle.agv_desk.specs.Outcomes.{Outcome, Made, Move, require, told}
+use Rattle.agv_desk.specs.CountParts.{all_have_room, count_by_parts, found_in, has_room_for, is_found_at, moves_list, seen_at, counted_loads, stations_in, unknown_one}
+use Rattle.agv_desk.specs.LoadAndJobSteps.{most, is_in_job, reference_key}
+use Rattle.agv_desk.specs.Outcomes.{Outcome, Made, Move, refuse_unless, answer_only}
 use Rattle.agv_desk.specs.StocktakeSteps.{Row, are_known, count_loads, count_move, finds_on_vehicle, finds_known, fits, found_here, is_on_vehicle, is_counted, is_here, new_places, unknown_in, unknown_on}
 use Rattle.agv_desk.specs.declared.answer.Answer.TheVariants as answer
-use Rattle.agv_desk.specs.declared.stocktake.sighting.Sighting.{Sighting}
+use Rattle.agv_desk.specs.declared.stocktake.counted_load.CountedLoad.{CountedLoad}
 use Rattle.agv_desk.proofs.CountedMoves.{get-stations_in, has-stations_in, moves_are}
 use Rattle.agv_desk.proofs.SameNames.{same_name, name_itself, tie_turned}
 
@@ -69,33 +69,33 @@ no_more false n = omega arith
 
 module _ (world : World) where
   -- ---- what was found
-  on_vehicle_are : (rows : List Row) → list_any (λ (one : Sighting). is_on_vehicle one.place) (sightings world rows) ≡ list_any (λ (row : Row). finds_on_vehicle world row.1) rows
-  unfolding sightings
+  on_vehicle_are : (rows : List Row) → list_any (λ (one : CountedLoad). is_on_vehicle one.place) (counted_loads world rows) ≡ list_any (λ (row : Row). finds_on_vehicle world row.1) rows
+  unfolding counted_loads
   on_vehicle_are [] = refl
   on_vehicle_are (row ∷ rows) =
-      elim row.1 as (λ load. list_any (λ (one : Sighting). is_on_vehicle one.place) (sightings world ((row.0, load) ∷ rows)) ≡ (finds_on_vehicle world load || list_any (λ (row : Row). finds_on_vehicle world row.1) rows)) [
+      elim row.1 as (λ load. list_any (λ (one : CountedLoad). is_on_vehicle one.place) (counted_loads world ((row.0, load) ∷ rows)) ≡ (finds_on_vehicle world load || list_any (λ (row : Row). finds_on_vehicle world row.1) rows)) [
         | None ↦ on_vehicle_are rows
         | Some load ↦ ap (λ b. is_on_vehicle (finite.get world.places load) || b) (on_vehicle_are rows)
       ]
 
-  unknown_are : (rows : List Row) → filter_map unknown_one (sightings world rows) ≡ unknown_in world rows
-  unfolding sightings
+  unknown_are : (rows : List Row) → filter_map unknown_one (counted_loads world rows) ≡ unknown_in world rows
+  unfolding counted_loads
   unknown_are [] = refl
   unknown_are (row ∷ rows) =
-      elim row.1 as (λ load. filter_map unknown_one (sightings world ((row.0, load) ∷ rows)) ≡ cons_option (unknown_on world load) (unknown_in world rows)) [
+      elim row.1 as (λ load. filter_map unknown_one (counted_loads world ((row.0, load) ∷ rows)) ≡ cons_option (unknown_on world load) (unknown_in world rows)) [
         | None ↦ unknown_are rows
         | Some load ↦ ap (cons_option (cond (is_here (finite.get world.places load)) None (Some load))) (unknown_are rows)
       ]
 
-  seen_are : (station : List ℕ) (rows : List Row) → seen_at (sightings world rows) station ≡ found_here world rows station
-  unfolding sightings
+  seen_are : (station : List ℕ) (rows : List Row) → seen_at (counted_loads world rows) station ≡ found_here world rows station
+  unfolding counted_loads
   seen_are station [] = refl
   seen_are station (row ∷ rows) =
       let found : Row → Bool = λ row. pointwise nat_eq row.0 station && finds_known world row.1 in
-      elim row.1 as (λ load. seen_at (sightings world ((row.0, load) ∷ rows)) station ≡ cond (pointwise nat_eq row.0 station && finds_known world load) 1 0 + found_here world rows station) [
+      elim row.1 as (λ load. seen_at (counted_loads world ((row.0, load) ∷ rows)) station ≡ cond (pointwise nat_eq row.0 station && finds_known world load) 1 0 + found_here world rows station) [
         | None ↦ seen_are station rows ∙ no_more (pointwise nat_eq row.0 station) (found_here world rows station)
         | Some load ↦
-            sum_by-cons (λ (one : Sighting). cond (is_found_at station one) 1 0) (record { station = row.0; load = load; place = finite.get world.places load }) (sightings world rows)
+            sum_by-cons (λ (one : CountedLoad). cond (is_found_at station one) 1 0) (record { station = row.0; load = load; place = finite.get world.places load }) (counted_loads world rows)
             ∙ ap (λ n. cond (pointwise nat_eq row.0 station && is_here (finite.get world.places load)) 1 0 + n) (seen_are station rows)
       ]
       ∙ sym (sum_by-cons (λ (row : Row). cond (found row) 1 0) row rows)
@@ -106,15 +106,15 @@ module _ (world : World) where
     fits_at station = fits world rows station (finite.get world.layout.stations station)
 
     room_of_each : (stations : List (List ℕ × StationSite)) → AllByRecursion (λ (s : List ℕ × StationSite). finite.get (stations_in world rows) s.0 ≡ Some s.1) stations
-        → all_have_room world (sightings world rows) stations ≡ list_all (λ (s : List ℕ × StationSite). fits_at s.0) stations
+        → all_have_room world (counted_loads world rows) stations ≡ list_all (λ (s : List ℕ × StationSite). fits_at s.0) stations
     room_of_each [] there = refl
     room_of_each (station ∷ stations) there =
         let known = kept_spot (is_counted rows station.0) (finite.get world.layout.stations station.0) station.1 (sym (get-stations_in world rows station.0) ∙ there.0) in
-        let here : has_room (seen_at (sightings world rows) station.0) (reserved world station.0) station.1 ≡ fits_at station.0 =
-        ap (λ n. has_room n (reserved world station.0) station.1) (seen_are station.0 rows) ∙ ap (fits world rows station.0) (sym known) in
+        let here : has_room_for (seen_at (counted_loads world rows) station.0) (reserved world station.0) station.1 ≡ fits_at station.0 =
+        ap (λ n. has_room_for n (reserved world station.0) station.1) (seen_are station.0 rows) ∙ ap (fits world rows station.0) (sym known) in
         λ i. here i && room_of_each stations there.1 i
 
-    room_is : are_known world rows ≡ true → all_have_room world (sightings world rows) (finite.entries (stations_in world rows)) ≡ list_all (λ (row : Row). fits_at row.0) rows
+    room_is : are_known world rows ≡ true → all_have_room world (counted_loads world rows) (finite.entries (stations_in world rows)) ≡ list_all (λ (row : Row). fits_at row.0) rows
     room_is known =
         let stations = finite.entries (stations_in world rows) in
         room_of_each stations (entries_found names_total (stations_in world rows))
@@ -126,17 +126,17 @@ module _ (world : World) where
   jobs_of (load ∷ moves) = ap (λ b. is_in_job world load.0 || b) (jobs_of moves)
 
   -- ---- the whole
-  pub by_parts : (reference : List ℕ) (rows : List Row) → are_known world rows ≡ true → count_by_parts world reference (stations_in world rows) (found_in rows) (sightings world rows) ≡ count_loads world reference rows
+  pub by_parts : (reference : List ℕ) (rows : List Row) → are_known world rows ≡ true → count_by_parts world reference (stations_in world rows) (found_in rows) (counted_loads world rows) ≡ count_loads world reference rows
   by_parts reference rows known =
-      let moves : moves_list world (stations_in world rows) (found_in rows) (sightings world rows) ≡ new_places world rows = moves_are world rows known in
+      let moves : moves_list world (stations_in world rows) (found_in rows) (counted_loads world rows) ≡ new_places world rows = moves_are world rows known in
       let in_job = ap (λ (moves : List (List ℕ × Place)). list_any (λ (load : List ℕ × Place). is_in_job world load.0) moves) moves ∙ jobs_of (new_places world rows) in
       let count = ap (λ (moves : List (List ℕ × Place)). length moves) moves ∙ sym (length-map (new_places world rows) count_move) in
       λ i.
-      require (not (on_vehicle_are rows i)) refusal.OnVehicle
-      (require (not (in_job i)) refusal.InJob
-      (require (room_is rows known i) refusal.Full
-      (require (nat_lt (count_of world counted.References) most) refusal.Limit
-      (Made (record (told (answer.Counted (count i) (unknown_are rows i))) { moves = map count_move (moves i); uses = reference_key reference ∷ [] })))))
+      refuse_unless (not (on_vehicle_are rows i)) refusal.OnVehicle
+      (refuse_unless (not (in_job i)) refusal.InJob
+      (refuse_unless (room_is rows known i) refusal.Full
+      (refuse_unless (nat_lt (count_of world counted.References) most) refusal.Limit
+      (Made (record (answer_only (answer.Counted (count i) (unknown_are rows i))) { moves = map count_move (moves i); uses = reference_key reference ∷ [] })))))
 
 -- a list of moves, as rows that change
 pub move_rows : {C : Type 0} (row : List ℕ → Place → C) (moves : List (List ℕ × Place)) → map (λ (load : List ℕ × Place). row load.0 load.1) moves ≡ map (λ (move : Move). row move.load move.place) (map count_move moves)
@@ -145,11 +145,11 @@ move_rows row (load ∷ moves) = ap (λ rest. row load.0 load.1 ∷ rest) (move_
 
 -- all checks pass
 pub passed : (aboard in_job room few : Bool) (rest : Outcome) → aboard ≡ false → in_job ≡ false → room ≡ true → few ≡ true
-    → rest ≡ require (not aboard) refusal.OnVehicle (require (not in_job) refusal.InJob (require room refusal.Full (require few refusal.Limit rest)))
-unfolding require
+    → rest ≡ refuse_unless (not aboard) refusal.OnVehicle (refuse_unless (not in_job) refusal.InJob (refuse_unless room refusal.Full (refuse_unless few refusal.Limit rest)))
+unfolding refuse_unless
 passed aboard in_job room few rest a b c d =
-    λ i. require (not (sym a i)) refusal.OnVehicle (require (not (sym b i)) refusal.InJob (require (sym c i) refusal.Full (require (sym d i) refusal.Limit rest)))
+    λ i. refuse_unless (not (sym a i)) refusal.OnVehicle (refuse_unless (not (sym b i)) refusal.InJob (refuse_unless (sym c i) refusal.Full (refuse_unless (sym d i) refusal.Limit rest)))
 
-pub opened : (used known twice : Bool) (rest : Outcome) → used ≡ false → known ≡ true → twice ≡ false → rest ≡ require (not used) refusal.RefUsed (require known refusal.NoStation (require (not twice) refusal.CountTwice rest))
-unfolding require
-opened used known twice rest a b c = λ i. require (not (sym a i)) refusal.RefUsed (require (sym b i) refusal.NoStation (require (not (sym c i)) refusal.CountTwice rest))
+pub opened : (used known twice : Bool) (rest : Outcome) → used ≡ false → known ≡ true → twice ≡ false → rest ≡ refuse_unless (not used) refusal.RefUsed (refuse_unless known refusal.NoStation (refuse_unless (not twice) refusal.CountTwice rest))
+unfolding refuse_unless
+opened used known twice rest a b c = λ i. refuse_unless (not (sym a i)) refusal.RefUsed (refuse_unless (sym b i) refusal.NoStation (refuse_unless (not (sym c i)) refusal.CountTwice rest))

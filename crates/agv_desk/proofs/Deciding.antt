@@ -7,7 +7,7 @@ use Rattle.agv_world.specs.Worlds.{World}
 use Rattle.agv_desk.specs.declared.call.Call.{Call}
 use Rattle.agv_desk.specs.declared.call.Call.TheVariants as call
 use Rattle.agv_desk.specs.InOrder.{IsInOrder, IsOpen}
-use Rattle.agv_desk.specs.Sizes.{IsOfSize, IsServed}
+use Rattle.agv_desk.specs.Sizes.{IsOfSize, IsWithinTripLimits}
 use Rattle.agv_desk.proofs.Known.{has_trip}
 
 size_of : (world : World) → IsInOrder world → (key : VehicleKey) (trip : Option Trip) → trip_of world key ≡ trip → IsOfSize trip
@@ -16,7 +16,7 @@ size_of world in_order key (Some trip) is =
     let opened : IsOpen trip = in_order.open_trips key trip (has_trip world key trip is) in
     (opened.short, opened.few, opened.under_way.sent_released)
 
-pub of_size : (world : World) → IsInOrder world → (made : Call) → IsServed world made
+pub of_size : (world : World) → IsInOrder world → (made : Call) → IsWithinTripLimits world made
 of_size world in_order (call.SetLayout rows) = tt
 of_size world in_order (call.RegisterVehicle key node capacity) = tt
 of_size world in_order (call.RegisterLoad load station) = tt

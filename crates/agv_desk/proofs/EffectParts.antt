@@ -17,7 +17,7 @@ use Rattle.agv_world.specs.Worlds.{Vehicle, World}
 use Rattle.agv_world.specs.declared.key.UseKey.{UseKey}
 use Rattle.agv_world.specs.declared.key.UseKind.{UseKind}
 use Rattle.agv_world.specs.declared.key.UseKind.TheVariants.{Order, Reference}
-use Rattle.agv_desk.specs.Outcomes.{Effect, Touched, Nothing, Noted, Put, moved, with_uses, with_touched, with_layout, with_effect}
+use Rattle.agv_desk.specs.Outcomes.{Effect, VehicleChange, Nothing, RowOnly, Whole, moved, with_uses, with_touched, with_layout, with_effect}
 
 -- the vehicle has the trip open, among these vehicles
 abbrev pub HasTripIn : finite.FinMap key_cmp Vehicle → VehicleKey → Trip → Type 0
@@ -68,27 +68,27 @@ uses_orders (key ∷ uses) world order used = uses_orders uses (with_use world k
 
 -- ---- the layout and the vehicle
 
-laid_vehicles : (world : World) (layout : Option Layout) (touched : Touched) → (with_touched (with_layout world layout) touched).vehicles ≡ (with_touched world touched).vehicles
+laid_vehicles : (world : World) (layout : Option Layout) (touched : VehicleChange) → (with_touched (with_layout world layout) touched).vehicles ≡ (with_touched world touched).vehicles
 laid_vehicles world None touched = refl
 laid_vehicles world (Some layout) Nothing = refl
-laid_vehicles world (Some layout) (Noted key old row) = refl
-laid_vehicles world (Some layout) (Put key old new) = refl
+laid_vehicles world (Some layout) (RowOnly key old row) = refl
+laid_vehicles world (Some layout) (Whole key old new) = refl
 
-laid_orders : (world : World) (layout : Option Layout) (touched : Touched) → (with_touched (with_layout world layout) touched).orders ≡ world.orders
+laid_orders : (world : World) (layout : Option Layout) (touched : VehicleChange) → (with_touched (with_layout world layout) touched).orders ≡ world.orders
 laid_orders world None Nothing = refl
-laid_orders world None (Noted key old row) = refl
-laid_orders world None (Put key old new) = refl
+laid_orders world None (RowOnly key old row) = refl
+laid_orders world None (Whole key old new) = refl
 laid_orders world (Some layout) Nothing = refl
-laid_orders world (Some layout) (Noted key old row) = refl
-laid_orders world (Some layout) (Put key old new) = refl
+laid_orders world (Some layout) (RowOnly key old row) = refl
+laid_orders world (Some layout) (Whole key old new) = refl
 
-laid_places : (world : World) (layout : Option Layout) (touched : Touched) → (with_touched (with_layout world layout) touched).places ≡ world.places
+laid_places : (world : World) (layout : Option Layout) (touched : VehicleChange) → (with_touched (with_layout world layout) touched).places ≡ world.places
 laid_places world None Nothing = refl
-laid_places world None (Noted key old row) = refl
-laid_places world None (Put key old new) = refl
+laid_places world None (RowOnly key old row) = refl
+laid_places world None (Whole key old new) = refl
 laid_places world (Some layout) Nothing = refl
-laid_places world (Some layout) (Noted key old row) = refl
-laid_places world (Some layout) (Put key old new) = refl
+laid_places world (Some layout) (RowOnly key old row) = refl
+laid_places world (Some layout) (Whole key old new) = refl
 
 -- ---- the whole effect
 

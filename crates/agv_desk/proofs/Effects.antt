@@ -9,7 +9,7 @@ use Rattle.agv_world.specs.declared.change.Change.{Change}
 use Rattle.agv_world.specs.declared.change.Change.TheVariants as row
 use Rattle.agv_world.specs.declared.key.UseKey.{UseKey}
 use Rattle.agv_world.specs.declared.row.JobRow.{JobRow}
-use Rattle.agv_desk.specs.Outcomes.{Move, Touched, Effect, moved, with_uses, with_touched, with_layout, with_effect, laid_changes, touched_changes, changes_of}
+use Rattle.agv_desk.specs.Outcomes.{Move, VehicleChange, Effect, moved, with_uses, with_touched, with_layout, with_effect, laid_changes, touched_changes, changes_of}
 
 -- one list of changes after another
 pub changed-append : (changes others : List Change) (rows : Rows) → changed (changes ++ others) rows ≡ changed others (changed changes rows)
@@ -41,7 +41,7 @@ module _ (uses : UsesARow) where
 abbrev pub LaysRows : World → Option Layout → Type 0
 LaysRows world layout = changed (laid_changes layout) (rows_of world) ≡ rows_of (with_layout world layout)
 
-abbrev pub TouchesRows : World → Touched → Type 0
+abbrev pub TouchesRows : World → VehicleChange → Type 0
 TouchesRows world touched = changed (touched_changes touched) (rows_of world) ≡ rows_of (with_touched world touched)
 
 -- all changes lead to the rows of the world after the effect
@@ -52,7 +52,7 @@ pub lays_none : (world : World) → LaysRows world None
 unfolding changed
 lays_none world = refl
 
-pub touches_none : (world : World) → TouchesRows world Touched.Nothing
+pub touches_none : (world : World) → TouchesRows world VehicleChange.Nothing
 unfolding changed
 touches_none world = refl
 

@@ -21,7 +21,7 @@ use Rattle.agv_world.specs.StockInvariant.{ActionView, Jobs, Places}
 use Rattle.agv_world.specs.GoodOrder.{HasTrip}
 use Rattle.agv_world.specs.Worlds.{World}
 use Rattle.agv_desk.specs.ActedMoves.{FindsItsLoad}
-use Rattle.agv_desk.specs.JobSteps.{Renewed, act_move, act_moves}
+use Rattle.agv_desk.specs.ActSteps.{Renewed, act_move, act_moves}
 use Rattle.agv_desk.specs.Outcomes.{Acted, Cause, Move, moved}
 use Rattle.agv_desk.proofs.ActionViews.{AfterPicks, IsPicked, after, all_after, all_before, in_rest, stops_by, whole}
 use Rattle.agv_desk.proofs.FitStops.{Fit}

@@ -16,7 +16,7 @@ use Rattle.agv_world.specs.Worlds.{Vehicle, World}
 use Rattle.agv_world.specs.declared.row.VehicleRow.{VehicleRow}
 use Rattle.std.specs.List.{slice_get}
 use Rattle.agv_desk.specs.Histories.{times}
-use Rattle.agv_desk.specs.Outcomes.{Effect, Touched, Nothing, Noted, Put, with_touched, with_effect}
+use Rattle.agv_desk.specs.Outcomes.{Effect, VehicleChange, Nothing, RowOnly, Whole, with_touched, with_effect}
 use Rattle.agv_desk.proofs.EffectParts.{HasTripIn, which_vehicle, effect_vehicles, effect_orders}
 use Rattle.agv_desk.proofs.Keeping.{Continues, FollowsBy}
 use Rattle.agv_desk.proofs.Known.{has_trip, same_some, vehicle_with}
@@ -28,10 +28,10 @@ use Rattle.agv_desk.proofs.TripsFollow.{trip_itself}
 abbrev pub TripGoesOn : World → VehicleKey → Trip → Type 0
 TripGoesOn world key trip = ((old : Trip) × HasTrip world key old × Continues old trip) ⊎ (set.contains world.orders trip.order ≡ false)
 
-abbrev pub TripsGoOn : World → Touched → Type 0
+abbrev pub TripsGoOn : World → VehicleChange → Type 0
 TripsGoOn world Nothing = Unit {0}
-TripsGoOn world (Noted key old row) = Unit {0}
-TripsGoOn world (Put key old new) = (trip : Trip) → new.trip ≡ Some trip → TripGoesOn world key trip
+TripsGoOn world (RowOnly key old row) = Unit {0}
+TripsGoOn world (Whole key old new) = (trip : Trip) → new.trip ≡ Some trip → TripGoesOn world key trip
 
 -- ---- numbers
 
@@ -41,10 +41,10 @@ pub record RowGoesOn (forgotten : Type 0) (row next : VehicleRow) : Type 0 where
   pub pending : next.instants.count ≡ row.instants.count → (kind : InstantKind) → next.pending ≡ Some kind → row.pending ≡ Some kind
   pub header : (number : ℕ) → row.last_header ≡ Some number → ((last : ℕ) × (next.last_header ≡ Some last) × (number ≤ last)) ⊎ forgotten
 
-abbrev pub RowsGoOn : World → (VehicleKey → Type 0) → Touched → Type 0
+abbrev pub RowsGoOn : World → (VehicleKey → Type 0) → VehicleChange → Type 0
 RowsGoOn world forgets Nothing = Unit {0}
-RowsGoOn world forgets (Noted key old next) = (row : VehicleRow) → row_of world key ≡ Some row → RowGoesOn (forgets key) row next
-RowsGoOn world forgets (Put key old new) = (row : VehicleRow) → row_of world key ≡ Some row → RowGoesOn (forgets key) row new.row
+RowsGoOn world forgets (RowOnly key old next) = (row : VehicleRow) → row_of world key ≡ Some row → RowGoesOn (forgets key) row next
+RowsGoOn world forgets (Whole key old new) = (row : VehicleRow) → row_of world key ≡ Some row → RowGoesOn (forgets key) row new.row
 
 pub row_itself : (forgotten : Type 0) (row : VehicleRow) → RowGoesOn forgotten row row
 row_itself forgotten row = record { count = omega arith; pending = λ same kind is. is; header = λ number is. inl (number, is, omega arith) }
@@ -80,11 +80,11 @@ written_trip world key new goes other trip has = elim (which_vehicle world.vehic
   | inr was ↦ inl (trip, (has.0, was.1, has.2), trip_itself trip)
 ]
 
-touched_trips : (world : World) (touched : Touched) → TripsGoOn world touched → (key : VehicleKey) (trip : Trip) → HasTrip (with_touched world touched) key trip → TripGoesOn world key trip
+touched_trips : (world : World) (touched : VehicleChange) → TripsGoOn world touched → (key : VehicleKey) (trip : Trip) → HasTrip (with_touched world touched) key trip → TripGoesOn world key trip
 touched_trips world Nothing goes key trip has = inl (trip, has, trip_itself trip)
-touched_trips world (Noted key old row) goes other trip has =
+touched_trips world (RowOnly key old row) goes other trip has =
     written_trip world key (vehicle_with row (trip_of world key)) (λ one same. inl (one, has_trip world key one same, trip_itself one)) other trip has
-touched_trips world (Put key old new) goes other trip has = written_trip world key new goes other trip has
+touched_trips world (Whole key old new) goes other trip has = written_trip world key new goes other trip has
 
 pub follows_effect : (world : World) (effect : Effect) → TripsGoOn world effect.touched → FollowsBy world effect
 follows_effect world effect goes = record {
@@ -111,11 +111,11 @@ written_row world forgets key new goes other row is =
       | inr there ↦ (row, ap row_in (sym there.1) ∙ is, row_itself (forgets other) row)
     ]
 
-touched_rows : (world : World) (forgets : VehicleKey → Type 0) (touched : Touched) → RowsGoOn world forgets touched
+touched_rows : (world : World) (forgets : VehicleKey → Type 0) (touched : VehicleChange) → RowsGoOn world forgets touched
     → (key : VehicleKey) (row : VehicleRow) → row_of world key ≡ Some row → GoesOnIn (forgets key) row (finite.get (with_touched world touched).vehicles key)
 touched_rows world forgets Nothing goes key row is = (row, is, row_itself (forgets key) row)
-touched_rows world forgets (Noted key old new) goes other row is = written_row world forgets key (vehicle_with new (trip_of world key)) goes other row is
-touched_rows world forgets (Put key old new) goes other row is = written_row world forgets key new goes other row is
+touched_rows world forgets (RowOnly key old new) goes other row is = written_row world forgets key (vehicle_with new (trip_of world key)) goes other row is
+touched_rows world forgets (Whole key old new) goes other row is = written_row world forgets key new goes other row is
 
 -- each vehicle that was there has a row that has gone on
 pub row_after : (world : World) (forgets : VehicleKey → Type 0) (effect : Effect) → RowsGoOn world forgets effect.touched → (key : VehicleKey) (row : VehicleRow) → row_of world key ≡ Some row

@@ -24,7 +24,7 @@ use Rattle.agv_world.specs.declared.floor.Counted.TheVariants as counted
 use Rattle.agv_world.specs.declared.row.JobRow.{JobRow}
 use Rattle.agv_world.proofs.Orders.{names_total, names_apart}
 use Rattle.agv_desk.specs.Counts.{one_more}
-use Rattle.agv_desk.specs.JobSteps.{Renewed, act_job, act_jobs, act_move, act_moves, as_it_is, becomes_finished, job_in, jobs_stopped, phase_by, taken_to}
+use Rattle.agv_desk.specs.ActSteps.{Renewed, act_job, act_jobs, act_move, act_moves, as_it_is, becomes_finished, job_in, jobs_stopped, phase_by, taken_to}
 use Rattle.agv_desk.specs.OrderSteps.{jobs_for, riding}
 use Rattle.agv_desk.specs.Outcomes.{Acted, Move, moved}
 use Rattle.agv_desk.proofs.StockInvariantCounts.{len_by}

@@ -5,7 +5,7 @@ use Rattle.agv_header.specs.declared.key.VehicleKey.{VehicleKey}
 use Rattle.agv_header.specs.declared.refusal.Refusal.{Refusal}
 use Rattle.agv_stock.specs.Checks.{Checked}
 use Rattle.agv_desk.specs.StateSteps.{if_judged}
-use Rattle.agv_desk.specs.Outcomes.{Effect, Outcome, Refused, Made, require, found, checked, unheld, branch}
+use Rattle.agv_desk.specs.Outcomes.{Effect, Outcome, Refused, Made, refuse_unless, refuse_if_none, checked, unheld, branch}
 
 -- it holds of the effect, where the call is not refused
 abbrev pub IfMade : (Effect → Type 0) → Outcome → Type 0
@@ -13,13 +13,13 @@ IfMade P (Refused why) = Unit {0}
 IfMade P (Made effect) = P effect
 
 module _ (P : Effect → Type 0) where
-  pub made_require : (test : Bool) (why : Refusal) (rest : Outcome) → (test ≡ true → IfMade P rest) → IfMade P (require test why rest)
-  unfolding require
+  pub made_require : (test : Bool) (why : Refusal) (rest : Outcome) → (test ≡ true → IfMade P rest) → IfMade P (refuse_unless test why rest)
+  unfolding refuse_unless
   made_require true why rest h = h refl
   made_require false why rest h = tt
 
-  pub made_found : {X : Type 0} (there : Option X) (why : Refusal) (rest : X → Outcome) → ((x : X) → there ≡ Some x → IfMade P (rest x)) → IfMade P (found there why rest)
-  unfolding found
+  pub made_found : {X : Type 0} (there : Option X) (why : Refusal) (rest : X → Outcome) → ((x : X) → there ≡ Some x → IfMade P (rest x)) → IfMade P (refuse_if_none there why rest)
+  unfolding refuse_if_none
   made_found None why rest h = tt
   made_found (Some x) why rest h = h x refl
 

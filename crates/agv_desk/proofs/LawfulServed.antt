@@ -5,7 +5,7 @@ use Rattle.agv_order.specs.declared.trip.Trip.{Trip}
 use Rattle.agv_world.specs.Lawful.{HasLawfulVehicles}
 use Rattle.agv_world.specs.Questions.{trip_of}
 use Rattle.agv_world.specs.Worlds.{World}
-use Rattle.agv_desk.specs.Sizes.{IsOfSize, IsServed}
+use Rattle.agv_desk.specs.Sizes.{IsOfSize, IsWithinTripLimits}
 use Rattle.agv_desk.specs.declared.call.Call.{Call}
 use Rattle.agv_desk.specs.declared.call.Call.TheVariants as call
 use Rattle.agv_desk.proofs.Known.{has_trip}
@@ -21,7 +21,7 @@ module _ (seats : ℕ) (world : World) (lawful : HasLawfulVehicles seats world) 
   of_size : (key : VehicleKey) → IsOfSize (trip_of world key)
   of_size key = size_of key (trip_of world key) refl
 
-  pub is_served : (made : Call) → IsServed world made
+  pub is_served : (made : Call) → IsWithinTripLimits world made
   is_served (call.SetLayout rows) = tt
   is_served (call.RegisterVehicle key node capacity) = tt
   is_served (call.RegisterLoad load station) = tt

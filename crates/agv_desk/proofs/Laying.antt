@@ -9,7 +9,7 @@ use Rattle.agv_layout.specs.declared.fault.LayoutFault.TheVariants as fault
 use Rattle.agv_layout.specs.declared.row.LayoutRow.{LayoutRow}
 use Rattle.agv_world.specs.TableChanges.{layout_changes}
 use Rattle.agv_desk.specs.LayoutSteps.{IsWhy, if_given, lay, not_set, row_written}
-use Rattle.agv_desk.specs.Outcomes.{Outcome, Made, decided, told}
+use Rattle.agv_desk.specs.Outcomes.{Outcome, Made, decided, answer_only}
 use Rattle.agv_desk.specs.declared.answer.Answer.TheVariants as answer
 use Rattle.agv_desk.specs.declared.answer.Decision.{Decision}
 
@@ -19,7 +19,7 @@ rows_written layout = simp (map-append, map-map)
 
 -- what is done with a layout
 abbrev put : Layout → Outcome
-put layout = Made (record (told answer.Done) { layout = Some layout })
+put layout = Made (record (answer_only answer.Done) { layout = Some layout })
 
 -- the rows give this layout
 pub is_laid : (rows : List LayoutRow) (layout : Layout) (decision : Decision) → layout_of rows ≡ Ok layout

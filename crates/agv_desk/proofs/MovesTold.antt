@@ -22,7 +22,7 @@ use Rattle.agv_world.specs.declared.key.UseKey.{UseKey}
 use Rattle.agv_world.specs.declared.row.JobRow.{JobRow}
 use Rattle.agv_world.specs.declared.row.VehicleRow.{VehicleRow}
 use Rattle.agv_desk.specs.Moves.{move_in, moves_in, moves_made}
-use Rattle.agv_desk.specs.Outcomes.{Effect, Move, Touched, Nothing, Noted, Put, laid_changes, touched_changes, changes_of}
+use Rattle.agv_desk.specs.Outcomes.{Effect, Move, VehicleChange, Nothing, RowOnly, Whole, laid_changes, touched_changes, changes_of}
 
 -- no load's row is among the changes
 record HasNone (changes : List Change) : Type 0 where
@@ -83,10 +83,10 @@ hold_none key old new =
     (none_of (λ (thing : Thing). row.Hold thing None) (λ thing. refl) (gained new old))
 
 -- the vehicle
-touched_none : (touched : Touched) → HasNone (touched_changes touched)
+touched_none : (touched : VehicleChange) → HasNone (touched_changes touched)
 touched_none Nothing = record { none = refl }
-touched_none (Noted key old new) = own_none key (Some old) new
-touched_none (Put key old new) =
+touched_none (RowOnly key old new) = own_none key (Some old) new
+touched_none (Whole key old new) =
     both_none (own_none key (row_before old) new.row)
     (both_none (trip_none key (trip_before old) new.trip) (hold_none key (held_before old) (footprint_of (standing_of new))))
 

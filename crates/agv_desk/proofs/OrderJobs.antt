@@ -21,8 +21,8 @@ use Rattle.agv_stock.specs.declared.job.Phase.TheVariants as phase
 use Rattle.agv_world.specs.Lawful.{station_for}
 use Rattle.agv_world.specs.Worlds.{World}
 use Rattle.agv_world.specs.declared.row.JobRow.{JobRow}
-use Rattle.agv_desk.specs.JobSteps.{job_in}
-use Rattle.agv_desk.specs.LoadSteps.{is_waiting}
+use Rattle.agv_desk.specs.ActSteps.{job_in}
+use Rattle.agv_desk.specs.LoadAndJobSteps.{is_waiting}
 use Rattle.agv_desk.specs.OrderSteps.{job_for, named, riding, riding_by, waits}
 use Rattle.agv_desk.proofs.ActionViews.{stop_by}
 use Rattle.agv_desk.proofs.Known.{none_some, same_some}

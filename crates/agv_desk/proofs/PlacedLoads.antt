@@ -11,7 +11,7 @@ use Rattle.std.proofs.lemmas.Bool.{false≢true}
 use Rattle.agv_header.specs.Name.{name_cmp}
 use Rattle.agv_stock.specs.declared.place.Place.{Place}
 use Rattle.agv_world.proofs.Orders.{names_total, names_apart}
-use Rattle.agv_desk.specs.CountParts.{placed, settled}
+use Rattle.agv_desk.specs.CountParts.{with_new_place, settled}
 use Rattle.agv_desk.specs.StocktakeSteps.{new_place}
 use Rattle.agv_desk.proofs.SameNames.{same_name, tie_turned}
 
@@ -135,11 +135,11 @@ module _ (places : Places) (counted : List ℕ → Bool) (found : map.FinMap nam
   HasThose test new = (q : List ℕ) → map.get new q ≡ cond (test q) (goes_from q) None
 
   placed_one : (test : List ℕ → Bool) (new : Places) (load : List ℕ) (at : Place) → map.get places load ≡ Some at → HasThose test new
-      → HasThose (λ q. test q || pointwise nat_eq load q) (placed new load (goes load at))
+      → HasThose (λ q. test q || pointwise nat_eq load q) (with_new_place new load (goes load at))
   placed_one test new load at there has q =
       let here : pointwise nat_eq load q ≡ true → goes load at ≡ goes_from q =
       λ e. ap (option_and_then (goes load)) (sym there) ∙ ap goes_from (same_name load q e) in
-      elim (goes load at) as (λ o. (pointwise nat_eq load q ≡ true → o ≡ goes_from q) → map.get (placed new load o) q ≡ cond (test q || pointwise nat_eq load q) (goes_from q) None) [
+      elim (goes load at) as (λ o. (pointwise nat_eq load q ≡ true → o ≡ goes_from q) → map.get (with_new_place new load o) q ≡ cond (test q || pointwise nat_eq load q) (goes_from q) None) [
         | None ↦ λ is. has q ∙ unplaced (test q) (pointwise nat_eq load q) (goes_from q) (λ e. sym (is e))
         | Some to ↦ λ is.
             map.get-insert names_total new load to q
@@ -152,7 +152,7 @@ module _ (places : Places) (counted : List ℕ → Bool) (found : map.FinMap nam
   unfolding settled
   settled_has [] test new there has q = has q ∙ ap (λ b. cond b (goes_from q) None) (right_false (test q))
   settled_has (load ∷ loads) test new there has q =
-      settled_has loads (λ k. test k || pointwise nat_eq load.0 k) (placed new load.0 (goes load.0 load.1)) there.1 (placed_one test new load.0 load.1 there.0 has) q
+      settled_has loads (λ k. test k || pointwise nat_eq load.0 k) (with_new_place new load.0 (goes load.0 load.1)) there.1 (placed_one test new load.0 load.1 there.0 has) q
       ∙ ap (λ b. cond b (goes_from q) None) (or_assoc (test q) (pointwise nat_eq load.0 q) (is_in q loads))
 
   no_places : HasThose (λ _. false) map.empty

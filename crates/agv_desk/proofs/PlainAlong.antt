@@ -14,8 +14,8 @@ use Rattle.agv_world.specs.declared.row.Sent.{Sent}
 use Rattle.agv_world.specs.declared.row.VehicleRow.{VehicleRow}
 use Rattle.agv_desk.specs.Histories.{times}
 use Rattle.agv_desk.specs.LayoutSteps.{if_given, set_layout}
-use Rattle.agv_desk.specs.LoadSteps.{register_load, correct_load, leave_load, add_job, stop_job}
-use Rattle.agv_desk.specs.Outcomes.{Effect, Outcome, Nothing, Noted, Put}
+use Rattle.agv_desk.specs.LoadAndJobSteps.{register_load, correct_load, leave_load, add_job, stop_job}
+use Rattle.agv_desk.specs.Outcomes.{Effect, Outcome, Nothing, RowOnly, Whole}
 use Rattle.agv_desk.specs.ReadSteps.{get_order, get_instant, get_load, get_vehicle}
 use Rattle.agv_desk.specs.StocktakeSteps.{Row, count_move, new_places, take_stock}
 use Rattle.agv_desk.specs.VehicleSteps.{next_sent, register_vehicle, instruct, cancel, pause, resume, place_vehicle, resync}
@@ -68,14 +68,14 @@ module _ (world : World) (forgets : VehicleKey → Type 0) where
   of_row : (key : VehicleKey) (row : VehicleRow) (Q : VehicleRow → Type 0) → row_of world key ≡ Some row → Q row → (other : VehicleRow) → row_of world key ≡ Some other → Q other
   of_row key row Q there holds other is = subst Q (same_some (sym there ∙ is)) holds
 
-  pub notes_row : (effect : Effect) (key : VehicleKey) (row next : VehicleRow) → effect.touched ≡ Noted key row next → HasNoActs effect → row_of world key ≡ Some row → RowGoesOn (forgets key) row next → P effect
+  pub notes_row : (effect : Effect) (key : VehicleKey) (row next : VehicleRow) → effect.touched ≡ RowOnly key row next → HasNoActs effect → row_of world key ≡ Some row → RowGoesOn (forgets key) row next → P effect
   notes_row effect key row next noted acts there goes = record {
     trips = subst (TripsGoOn world) (sym noted) tt;
     rows = subst (RowsGoOn world forgets) (sym noted) (of_row key row (λ one. RowGoesOn (forgets key) one next) there goes);
     acts = record { once = λ kind order job. inl (acts kind order job) };
   }
 
-  pub puts_known : (effect : Effect) (key : VehicleKey) (old : Option Vehicle) (new : Vehicle) (row : VehicleRow) → effect.touched ≡ Put key old new → ActsOnce world effect
+  pub puts_known : (effect : Effect) (key : VehicleKey) (old : Option Vehicle) (new : Vehicle) (row : VehicleRow) → effect.touched ≡ Whole key old new → ActsOnce world effect
       → row_of world key ≡ Some row → RowGoesOn (forgets key) row new.row → ((trip : Trip) → new.trip ≡ Some trip → TripGoesOn world key trip) → P effect
   puts_known effect key old new row put acts there goes trips = record {
     trips = subst (TripsGoOn world) (sym put) trips;
@@ -83,7 +83,7 @@ module _ (world : World) (forgets : VehicleKey → Type 0) where
     acts = acts;
   }
 
-  pub puts_unknown : (effect : Effect) (key : VehicleKey) (old : Option Vehicle) (new : Vehicle) → effect.touched ≡ Put key old new → HasNoActs effect
+  pub puts_unknown : (effect : Effect) (key : VehicleKey) (old : Option Vehicle) (new : Vehicle) → effect.touched ≡ Whole key old new → HasNoActs effect
       → row_of world key ≡ None → new.trip ≡ None → P effect
   puts_unknown effect key old new put acts missing idle = record {
     trips = subst (TripsGoOn world) (sym put) (λ trip same. none_some (sym idle ∙ same));

@@ -10,7 +10,7 @@ use Rattle.agv_world.specs.VehicleChanges.{GoesOn}
 use Rattle.agv_world.specs.Worlds.{World}
 use Rattle.agv_world.specs.declared.row.VehicleRow.{VehicleRow}
 use Rattle.agv_desk.specs.InOrder.{IsInOrder}
-use Rattle.agv_desk.specs.LoadSteps.{register_load, correct_load, leave_load, add_job, stop_job}
+use Rattle.agv_desk.specs.LoadAndJobSteps.{register_load, correct_load, leave_load, add_job, stop_job}
 use Rattle.agv_desk.specs.Outcomes.{Effect}
 use Rattle.agv_desk.specs.ReadSteps.{get_order, get_instant, get_load, get_vehicle}
 use Rattle.agv_desk.specs.StateSteps.{idle_state}

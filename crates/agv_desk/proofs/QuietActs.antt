@@ -9,7 +9,7 @@ use Rattle.agv_order.specs.Statuses.{is_final, is_finished, may_follow}
 use Rattle.agv_order.specs.WellFormed.{is_over}
 use Rattle.agv_order.specs.declared.act.Act.{Act}
 use Rattle.agv_track.specs.Reports.{Reports, renewed, status_after, told}
-use Rattle.agv_desk.specs.JobSteps.{act_moves, taken_to}
+use Rattle.agv_desk.specs.ActSteps.{act_moves, taken_to}
 use Rattle.agv_desk.specs.Outcomes.{Acted, Move}
 use Rattle.agv_desk.proofs.LawfulLists.{finished_final}
 use Rattle.agv_desk.proofs.TripsFollow.{final_stays}

@@ -29,9 +29,9 @@ use Rattle.agv_track.specs.declared.pending.Pending.{Pending}
 use Rattle.agv_world.specs.Worlds.{World}
 use Rattle.agv_world.specs.declared.row.VehicleRow.{VehicleRow}
 use Rattle.agv_desk.specs.LayoutSteps.{if_given, lay}
-use Rattle.agv_desk.specs.LoadSteps.{goal_of, is_in_job}
+use Rattle.agv_desk.specs.LoadAndJobSteps.{goal_of, is_in_job}
 use Rattle.agv_desk.specs.OrderSteps.{advance, if_planned, send_trip, start_order}
-use Rattle.agv_desk.specs.Outcomes.{Effect, Made, Outcome, answer_of, branch, checked, found, require, told, unheld}
+use Rattle.agv_desk.specs.Outcomes.{Effect, Made, Outcome, answer_of, branch, checked, refuse_if_none, refuse_unless, answer_only, unheld}
 use Rattle.agv_desk.specs.ReadSteps.{instant_told, order_told}
 use Rattle.agv_desk.specs.Refusals.{IsOfCall}
 use Rattle.agv_desk.specs.StateSteps.{fresh_state, idle_state, if_judged, take_state, trip_state}
@@ -69,13 +69,13 @@ by_made : (effect : Effect) → IsFit effect.answer → Fits (Made effect)
 unfolding answer_of
 by_made effect h = h
 
-by_require : (test : Bool) (why : Refusal) (rest : Outcome) → is_of_call why ≡ true → Fits rest → Fits (require test why rest)
-unfolding require answer_of
+by_require : (test : Bool) (why : Refusal) (rest : Outcome) → is_of_call why ≡ true → Fits rest → Fits (refuse_unless test why rest)
+unfolding refuse_unless answer_of
 by_require true why rest of h = h
 by_require false why rest of h = of
 
-by_found : {X : Type 0} (there : Option X) (why : Refusal) (rest : X → Outcome) → is_of_call why ≡ true → ((x : X) → Fits (rest x)) → Fits (found there why rest)
-unfolding found answer_of
+by_found : {X : Type 0} (there : Option X) (why : Refusal) (rest : X → Outcome) → is_of_call why ≡ true → ((x : X) → Fits (rest x)) → Fits (refuse_if_none there why rest)
+unfolding refuse_if_none answer_of
 by_found None why rest of h = of
 by_found (Some x) why rest of h = h x
 
@@ -109,7 +109,7 @@ by_layout false false layout rest h = refl
 
 lays : (rows : List LayoutRow) → Fits (lay rows)
 unfolding layout_of answer_of
-lays rows = by_layout (is_over_limit rows) (is_sound rows) (layout_in rows) (λ layout. Made (record (told answer.Done) { layout = Some layout })) tt
+lays rows = by_layout (is_over_limit rows) (is_sound rows) (layout_in rows) (λ layout. Made (record (answer_only answer.Done) { layout = Some layout })) tt
 
 by_length : (long far : Bool) (trip : Trip) (rest : Trip → Outcome) → Fits (rest trip) → Fits (if_planned (cond long (Err unplanned.TooLong) (cond far (Err unplanned.Beyond) (Ok trip))) rest)
 unfolding if_planned answer_of

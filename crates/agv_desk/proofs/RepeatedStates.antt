@@ -27,8 +27,8 @@ use Rattle.agv_world.specs.Spread.{spread}
 use Rattle.agv_world.specs.Worlds.{Vehicle, World}
 use Rattle.agv_world.specs.declared.row.VehicleRow.{VehicleRow}
 use Rattle.agv_desk.specs.Histories.{CancelsSince}
-use Rattle.agv_desk.specs.JobSteps.{act_moves}
-use Rattle.agv_desk.specs.Outcomes.{Effect, Outcome, Refused, Made, Nothing, Noted, Put, after, moves_of, with_effect, with_touched}
+use Rattle.agv_desk.specs.ActSteps.{act_moves}
+use Rattle.agv_desk.specs.Outcomes.{Effect, Outcome, Refused, Made, Nothing, RowOnly, Whole, after, moves_of, with_effect, with_touched}
 use Rattle.agv_desk.specs.StateSteps.{is_fresh, idle_state, pending_of, heard, row_after, trip_left, trip_state, fresh_state, take_state}
 use Rattle.agv_desk.proofs.EffectParts.{effect_vehicles}
 use Rattle.agv_desk.proofs.Given.{AdvancesTrips}
@@ -154,7 +154,7 @@ module _ (advances : AdvancesTrips) (footprints : HoldsAreFootprints) (seats : �
       holds = λ apart. inl (same_holds footprints world (with_effect world effect) key old new was (effect_vehicles world effect ∙ written) stands lawful.apart apart);
     }
 
-    quiet_noted : (effect : Effect) (row next : VehicleRow) → row_of world key ≡ Some row → effect.touched ≡ Noted key row next → next.node ≡ row.node → next.rest ≡ row.rest → effect.moves ≡ [] → P effect
+    quiet_noted : (effect : Effect) (row next : VehicleRow) → row_of world key ≡ Some row → effect.touched ≡ RowOnly key row next → next.node ≡ row.node → next.rest ≡ row.rest → effect.moves ≡ [] → P effect
     quiet_noted effect row next there noted node rest moves =
         quiet_vehicle effect (vehicle_with row (trip_of world key)) (vehicle_with next (trip_of world key)) (known world key row there) (ap (λ touched. (with_touched world touched).vehicles) noted)
         (λ i. footprint_of (record { node = node i; rest = rest i; trip = trip_of world key })) moves
@@ -200,7 +200,7 @@ module _ (advances : AdvancesTrips) (footprints : HoldsAreFootprints) (seats : �
       old_is = known world key row there ∙ ap (λ one. Some (vehicle_with row one)) open_trip
 
       quiet_progress : (progress : Progress) → IsJudged trip (pending_of row) state progress → Advances trip progress → (effect : Effect)
-          → effect.touched ≡ Put key (Some (vehicle_with row (Some trip))) (vehicle_with (row_after row trip state progress) (trip_left trip progress))
+          → effect.touched ≡ Whole key (Some (vehicle_with row (Some trip))) (vehicle_with (row_after row trip state progress) (trip_left trip progress))
           → effect.moves ≡ act_moves key trip.order (zip trip.acts progress.statuses) → IsQuiet world Cancels effect
       quiet_progress progress is step effect put moves = record {
         moves = none;

@@ -7,7 +7,7 @@ use Rattle.agv_layout.specs.declared.station.StationSite.{StationSite}
 use Rattle.agv_stock.specs.declared.place.Place.{Place}
 use Rattle.agv_world.specs.Questions.{loads_at}
 use Rattle.agv_world.specs.Worlds.{World}
-use Rattle.agv_desk.specs.CountParts.{placed, settled, standing, standing_at}
+use Rattle.agv_desk.specs.CountParts.{with_new_place, settled, standing, standing_at}
 use Rattle.agv_desk.specs.StocktakeSteps.{new_place}
 
 abbrev pub Places : Type 0
@@ -17,7 +17,7 @@ module _ (counted : List ℕ → Bool) (found : map.FinMap name_cmp (List ℕ)) 
   pub settled-append : (places : Places) (xs ys : List (List ℕ × Place)) → settled counted found places (xs ++ ys) ≡ settled counted found (settled counted found places xs) ys
   unfolding settled
   settled-append places [] ys = refl
-  settled-append places (x ∷ xs) ys = settled-append (placed places x.0 (new_place counted (map.get found x.0) x.1)) xs ys
+  settled-append places (x ∷ xs) ys = settled-append (with_new_place places x.0 (new_place counted (map.get found x.0) x.1)) xs ys
 
   -- the loads of one station more
   pub settled_more : (world : World) (places after all : Places) (stations : List (List ℕ × StationSite)) (i : ℕ) (station : List ℕ × StationSite) → i < length stations → station ≡ get_or stations i station

@@ -17,8 +17,8 @@ use Rattle.agv_world.specs.Questions.{row_of, trip_of}
 use Rattle.agv_world.specs.Worlds.{Vehicle, World}
 use Rattle.agv_world.specs.declared.row.VehicleRow.{VehicleRow}
 use Rattle.agv_desk.specs.Histories.{times}
-use Rattle.agv_desk.specs.JobSteps.{Renewed, act_moves}
-use Rattle.agv_desk.specs.Outcomes.{Effect, Put, Outcome, branch, with_effect}
+use Rattle.agv_desk.specs.ActSteps.{Renewed, act_moves}
+use Rattle.agv_desk.specs.Outcomes.{Effect, Whole, Outcome, branch, with_effect}
 use Rattle.agv_desk.specs.StateSteps.{is_fresh, pending_of, heard, idle_state, row_after, trip_left, trip_state, fresh_state, take_state}
 use Rattle.agv_desk.proofs.ActsCounted.{HasOnce, IsCarriedOut, none_or_one}
 use Rattle.agv_desk.proofs.EffectParts.{effect_orders}
@@ -74,7 +74,7 @@ module _ (advances : AdvancesTrips) (fits : FitsAsSaid) (seats : ℕ) (world : W
 
   -- the acts of a trip after a state, where they are carried out
   module _ (effect : Effect) (key : VehicleKey) (old : Option Vehicle) (new : Vehicle) (trip : Trip) (progress : Progress) (has : HasTrip world key trip)
-      (put : effect.touched ≡ Put key old new) (left : new.trip ≡ trip_left trip progress) where
+      (put : effect.touched ≡ Whole key old new) (left : new.trip ≡ trip_left trip progress) where
     each_once : (kind : ActKind) (order job : List ℕ) → HasOnce kind order job (zip trip.acts progress.statuses)
     each_once kind order job i k one other at_i at_k kind_one kind_other job_one job_other =
         one_act_each fits trip.acts (trip_lawful seats world lawful key trip has).well_formed.planned.stops i k one.0 other.0

@@ -10,7 +10,7 @@ use Rattle.agv_world.specs.VehicleChanges.{GoesOn, trip_before, vehicle_changes,
 use Rattle.agv_world.specs.Worlds.{Vehicle, World}
 use Rattle.agv_world.specs.declared.row.VehicleRow.{VehicleRow}
 use Rattle.agv_desk.specs.InOrder.{IsInOrder}
-use Rattle.agv_desk.specs.Outcomes.{Effect, Outcome, Refused, Made, Noted, Put, after, decided, with_layout}
+use Rattle.agv_desk.specs.Outcomes.{Effect, Outcome, Refused, Made, RowOnly, Whole, after, decided, with_layout}
 use Rattle.agv_desk.proofs.Effects.{LaysRows, TouchesRows, LeadsTo, leads_to}
 use Rattle.agv_desk.proofs.Given.{Given}
 use Rattle.agv_desk.proofs.Known.{vehicle_with, known}
@@ -38,14 +38,14 @@ module _ (given : Given) (world : World) (in_order : IsInOrder world) where
   leads effect lays touches = leads_to (λ w key. given.uses w key) world effect lays touches
 
   -- the row of a vehicle changes that stands as before
-  pub notes : (key : VehicleKey) (row new : VehicleRow) → row_of world key ≡ Some row → new.node ≡ row.node → new.rest ≡ row.rest → TouchesRows world (Noted key row new)
+  pub notes : (key : VehicleKey) (row new : VehicleRow) → row_of world key ≡ Some row → new.node ≡ row.node → new.rest ≡ row.rest → TouchesRows world (RowOnly key row new)
   notes key row new is node rest =
       given.notes world key (vehicle_with row (trip_of world key)) (vehicle_with new (trip_of world key)) (known world key row is) (record { node = node; rest = rest; trip = refl }) in_order.one_trip in_order.apart
 
   -- a vehicle is written in place of the old one
   pub puts : (key : VehicleKey) (old : Option Vehicle) (new : Vehicle) → finite.get world.vehicles key ≡ old
       → HasOneTripAnOrder (with_vehicle world key new) → SharesNothing (with_vehicle world key new) → GoesOn (trip_before old) new.trip
-      → TouchesRows world (Put key old new)
+      → TouchesRows world (Whole key old new)
   puts key old new is one apart goes =
       subst (λ there. GoesOn (trip_before there) new.trip → changed (vehicle_changes key there new) (rows_of world) ≡ rows_of (with_vehicle world key new)) is
       (given.follows world key new in_order.one_trip in_order.apart one apart) goes

@@ -22,7 +22,7 @@ use Rattle.agv_world.specs.Worlds.{World}
 use Rattle.agv_world.specs.declared.row.JobRow.{JobRow}
 use Rattle.agv_world.proofs.Entries.{same_Some}
 use Rattle.agv_world.proofs.Orders.{names_total}
-use Rattle.agv_desk.specs.LoadSteps.{goal_at, goal_of, is_in_job, place_of, station_in}
+use Rattle.agv_desk.specs.LoadAndJobSteps.{goal_at, goal_of, is_in_job, place_of, station_in}
 use Rattle.agv_desk.proofs.StockInvariantChanges.{IsFree}
 use Rattle.agv_desk.proofs.Known.{none_some}
 use Rattle.agv_desk.proofs.SameNames.{same_name, name_itself}

@@ -20,7 +20,7 @@ use Rattle.agv_world.specs.Worlds.{World}
 use Rattle.agv_world.specs.declared.row.JobRow.{JobRow}
 use Rattle.agv_world.proofs.Entries.{entries_found, same_Some}
 use Rattle.agv_world.proofs.Orders.{names_total, names_apart}
-use Rattle.agv_desk.specs.LoadSteps.{is_in_job}
+use Rattle.agv_desk.specs.LoadAndJobSteps.{is_in_job}
 use Rattle.agv_desk.specs.Outcomes.{Effect, Move, moved}
 use Rattle.agv_desk.specs.StocktakeSteps.{Row, count_move, count_moves, finds_on_vehicle, fits, found_at, found_here, has_load, is_counted, new_entry, new_place, recounted, take_stock}
 use Rattle.agv_desk.proofs.StockInvariantChanges.{IsFree}

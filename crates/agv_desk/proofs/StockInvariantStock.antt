@@ -19,7 +19,7 @@ use Rattle.agv_world.specs.declared.floor.Counted.TheVariants as counted
 use Rattle.agv_world.specs.declared.row.JobRow.{JobRow}
 use Rattle.agv_world.proofs.Entries.{same_Some}
 use Rattle.agv_world.proofs.Orders.{names_total, names_apart}
-use Rattle.agv_desk.specs.LoadSteps.{add_job, correct_load, is_waiting, leave_load, most, place_of, register_load, stop_job}
+use Rattle.agv_desk.specs.LoadAndJobSteps.{add_job, correct_load, is_waiting, leave_load, most, place_of, register_load, stop_job}
 use Rattle.agv_desk.specs.Outcomes.{Effect}
 use Rattle.agv_desk.proofs.StockInvariantChanges.{job_kept, place_kept}
 use Rattle.agv_desk.proofs.Keeping.{KeepsStock}

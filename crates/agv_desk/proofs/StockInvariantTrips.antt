@@ -23,7 +23,7 @@ use Rattle.agv_world.specs.TableChanges.{written}
 use Rattle.agv_world.specs.VehicleChanges.{with_vehicle}
 use Rattle.agv_world.specs.Worlds.{Vehicle, World}
 use Rattle.agv_world.specs.declared.row.VehicleRow.{VehicleRow}
-use Rattle.agv_desk.specs.JobSteps.{act_jobs, act_moves, as_it_is, jobs_stopped}
+use Rattle.agv_desk.specs.ActSteps.{act_jobs, act_moves, as_it_is, jobs_stopped}
 use Rattle.agv_desk.specs.Outcomes.{Effect, moved}
 use Rattle.agv_desk.specs.StateSteps.{fresh_state, pending_of, row_after, take_state, trip_state}
 use Rattle.agv_desk.specs.VehicleSteps.{place_vehicle, placed}

@@ -25,7 +25,7 @@ use Rattle.agv_world.specs.declared.row.VehicleRow.{VehicleRow}
 use Rattle.agv_world.proofs.Orders.{names_total}
 use Rattle.agv_desk.specs.LayoutSteps.{set_layout}
 use Rattle.agv_desk.specs.OrderSteps.{advance, send_update, sent_on, trip_for}
-use Rattle.agv_desk.specs.Outcomes.{Effect, told}
+use Rattle.agv_desk.specs.Outcomes.{Effect, answer_only}
 use Rattle.agv_desk.specs.ReadSteps.{get_instant, get_load, get_order, get_vehicle}
 use Rattle.agv_desk.specs.StateSteps.{heard, idle_state}
 use Rattle.agv_desk.specs.VehicleSteps.{cancel, instruct, new_vehicle, pause, register_vehicle, resume, resync}
@@ -65,7 +65,7 @@ module _ (world : World) (stock : HasStockInvariant world) where
   P = KeepsStock world
 
   -- ---- what is only told
-  tells : (answer : Answer) → P (told answer)
+  tells : (answer : Answer) → P (answer_only answer)
   tells answer = record { stock = stock }
 
   pub order_keeps : (key : VehicleKey) → IfMade P (get_order world key)

@@ -13,7 +13,7 @@ use Rattle.agv_stock.specs.declared.place.Place.{Place}
 use Rattle.agv_stock.specs.declared.place.Place.TheVariants as place
 use Rattle.agv_world.specs.Worlds.{World}
 use Rattle.agv_world.proofs.Orders.{names_total}
-use Rattle.agv_desk.specs.Outcomes.{Effect, Outcome, Made, Refused, moved, require, with_effect}
+use Rattle.agv_desk.specs.Outcomes.{Effect, Outcome, Made, Refused, moved, refuse_unless, with_effect}
 use Rattle.agv_desk.specs.StockTaken.{IsStockTaken}
 use Rattle.agv_desk.specs.StocktakeSteps.{Row, count_move, count_moves, finds_on_vehicle, found_at, has_load, is_on_vehicle, is_counted, is_here, new_place, new_places, recounted, take_stock}
 use Rattle.agv_desk.proofs.PlacedLoads.{Loads, Places, find_below, find_moved, sorted_moved}
@@ -26,8 +26,8 @@ refused_made why effect e = cc
 pub same_made : (one other : Effect) → Made one ≡ Made other → one ≡ other
 same_made one other e = cc
 
-pub require_made : (test : Bool) (why : Refusal) (rest : Outcome) (effect : Effect) → require test why rest ≡ Made effect → (test ≡ true) × (rest ≡ Made effect)
-unfolding require
+pub require_made : (test : Bool) (why : Refusal) (rest : Outcome) (effect : Effect) → refuse_unless test why rest ≡ Made effect → (test ≡ true) × (rest ≡ Made effect)
+unfolding refuse_unless
 require_made true why rest effect e = (refl, e)
 require_made false why rest effect e = absurd (refused_made why effect e)
 

@@ -16,7 +16,7 @@ use Rattle.agv_order.specs.declared.act.Act.{Act}
 use Rattle.agv_track.specs.Progressed.{GoesOn}
 use Rattle.agv_track.specs.Reports.{renewed, with_status}
 use Rattle.agv_world.specs.StockInvariant.{ActionView, action_view, action_views}
-use Rattle.agv_desk.specs.JobSteps.{Renewed, act_moves, as_it_is}
+use Rattle.agv_desk.specs.ActSteps.{Renewed, act_moves, as_it_is}
 use Rattle.agv_desk.proofs.ActionViews.{AfterPicks, IsPicked, all_after, all_before, stops_by}
 use Rattle.agv_desk.proofs.Known.{none_some, same_some}
 use Rattle.agv_desk.proofs.SameNames.{same_name}

@@ -24,7 +24,7 @@ use Rattle.agv_track.specs.declared.progress.Progress.{Progress}
 use Rattle.agv_world.specs.GoodOrder.{HasTrip, HasOneTripAnOrder}
 use Rattle.agv_world.specs.Lawful.{HasLawfulVehicles, IsTripOf}
 use Rattle.agv_world.specs.Worlds.{Vehicle, World}
-use Rattle.agv_desk.specs.Outcomes.{Effect, Put, with_touched, with_effect}
+use Rattle.agv_desk.specs.Outcomes.{Effect, Whole, with_touched, with_effect}
 use Rattle.agv_desk.specs.StateSteps.{trip_left}
 use Rattle.agv_desk.proofs.EffectParts.{HasTripIn, which_vehicle, effect_vehicles}
 use Rattle.agv_desk.proofs.Keeping.{Continues}
@@ -103,7 +103,7 @@ left_is trip progress left is = by_end progress.«end» refl is
     by_end (Some why) over e = none_some e
 
 -- where a vehicle with a trip is written, no other vehicle has a trip of that order
-pub only_trip : (world : World) → HasOneTripAnOrder world → (effect : Effect) (key : VehicleKey) (old : Option Vehicle) (new : Vehicle) (trip : Trip) → effect.touched ≡ Put key old new → HasTrip world key trip
+pub only_trip : (world : World) → HasOneTripAnOrder world → (effect : Effect) (key : VehicleKey) (old : Option Vehicle) (new : Vehicle) (trip : Trip) → effect.touched ≡ Whole key old new → HasTrip world key trip
     → (other : VehicleKey) (more : Trip) → HasTrip (with_effect world effect) other more → more.order ≡ trip.order → (other ≡ key) × (new.trip ≡ Some more)
 only_trip world one_trip effect key old new trip put has other more there same =
     let now : HasTripIn (finite.insert world.vehicles key new) other more =

@@ -17,8 +17,8 @@ use Rattle.agv_world.specs.Worlds.{World}
 use Rattle.agv_world.specs.declared.change.Change.{Change}
 use Rattle.agv_world.specs.declared.change.Change.TheVariants as row
 use Rattle.agv_world.specs.declared.row.VehicleRow.{VehicleRow}
-use Rattle.agv_desk.specs.JobSteps.{Renewed, act_moves}
-use Rattle.agv_desk.specs.Outcomes.{Move, Outcome, branch, decided, require}
+use Rattle.agv_desk.specs.ActSteps.{Renewed, act_moves}
+use Rattle.agv_desk.specs.Outcomes.{Move, Outcome, branch, decided, refuse_unless}
 use Rattle.agv_desk.specs.StateSteps.{driven, fresh_state, idle_state, if_judged, pending_of, trip_state}
 use Rattle.agv_desk.specs.declared.answer.Answer.TheVariants as answer
 use Rattle.agv_desk.specs.declared.answer.Decision.{Decision}
@@ -66,4 +66,4 @@ pub is_of_trip : (world : World) (key : VehicleKey) (row : VehicleRow) (found : 
     → trip_state world key row trip state ≡ fresh_state world key row found state
 unfolding branch
 is_of_trip world key row found trip state is same =
-    sym (ap (λ test. branch test (trip_state world key row trip state) (require (is_none trip.confirmed) refusal.OtherOrder (idle_state key row state))) same) ∙ ap (λ trip. fresh_state world key row trip state) (sym is)
+    sym (ap (λ test. branch test (trip_state world key row trip state) (refuse_unless (is_none trip.confirmed) refusal.OtherOrder (idle_state key row state))) same) ∙ ap (λ trip. fresh_state world key row trip state) (sym is)

@@ -8,7 +8,7 @@ use Rattle.agv_header.specs.declared.refusal.Refusal.TheVariants as refusal
 use Rattle.agv_message.specs.declared.state.StateMessage.{StateMessage}
 use Rattle.agv_world.specs.Questions.{trip_of}
 use Rattle.agv_world.specs.Worlds.{World}
-use Rattle.agv_desk.specs.Outcomes.{Made, Outcome, after, answer_of, branch, decided, found, told}
+use Rattle.agv_desk.specs.Outcomes.{Made, Outcome, after, answer_of, branch, decided, refuse_if_none, answer_only}
 use Rattle.agv_desk.specs.StateSteps.{fresh_state, is_fresh, take_state}
 use Rattle.agv_desk.specs.Step.{step}
 use Rattle.agv_desk.specs.Unchanged.{ChangesNothing, IsOld, only_tells}
@@ -19,13 +19,13 @@ use Rattle.agv_desk.specs.declared.call.Call.TheVariants as call
 
 -- ---- what only tells
 
-says : (world : World) (said : Answer) → ChangesNothing world (Made (told said))
+says : (world : World) (said : Answer) → ChangesNothing world (Made (answer_only said))
 unfolding after decided
 says world said = (refl, refl)
 
 -- found or not
-finds : {X : Type 0} (world : World) (there : Option X) (why : Refusal) (said : X → Answer) → ChangesNothing world (found there why (λ x. Made (told (said x))))
-unfolding found after decided
+finds : {X : Type 0} (world : World) (there : Option X) (why : Refusal) (said : X → Answer) → ChangesNothing world (refuse_if_none there why (λ x. Made (answer_only (said x))))
+unfolding refuse_if_none after decided
 finds world None why said = (refl, refl)
 finds world (Some x) why said = (refl, refl)
 
@@ -60,18 +60,18 @@ not_fresh : (last number : ℕ) → number ≤ last → nat_lt last number ≡ f
 not_fresh last number h = grind (arith, nat_tests)
 
 -- it is answered so, whatever a new one would do
-old_state : (world : World) (key : VehicleKey) (state : StateMessage) → IsOld world key state → take_state world key state ≡ Made (told (answer.Accepted false))
-unfolding found branch
+old_state : (world : World) (key : VehicleKey) (state : StateMessage) → IsOld world key state → take_state world key state ≡ Made (answer_only (answer.Accepted false))
+unfolding refuse_if_none branch
 old_state world key state old =
-    let by_test : (test : Bool) → test ≡ false → branch test (fresh_state world key old.row (trip_of world key) state) (Made (told (answer.Accepted false))) ≡ Made (told (answer.Accepted false)) =
-    λ test. elim test as (λ t. t ≡ false → branch t (fresh_state world key old.row (trip_of world key) state) (Made (told (answer.Accepted false))) ≡ Made (told (answer.Accepted false))) [
+    let by_test : (test : Bool) → test ≡ false → branch test (fresh_state world key old.row (trip_of world key) state) (Made (answer_only (answer.Accepted false))) ≡ Made (answer_only (answer.Accepted false)) =
+    λ test. elim test as (λ t. t ≡ false → branch t (fresh_state world key old.row (trip_of world key) state) (Made (answer_only (answer.Accepted false))) ≡ Made (answer_only (answer.Accepted false))) [
       | true ↦ λ is. absurd (false≢true (sym is))
       | false ↦ λ is. refl
     ] in
-    ap (λ row. found row refusal.NoVehicle (λ row. branch (is_fresh row.last_header state.header_id) (fresh_state world key row (trip_of world key) state) (Made (told (answer.Accepted false))))) old.known
+    ap (λ row. refuse_if_none row refusal.NoVehicle (λ row. branch (is_fresh row.last_header state.header_id) (fresh_state world key row (trip_of world key) state) (Made (answer_only (answer.Accepted false))))) old.known
     ∙ by_test (is_fresh old.row.last_header state.header_id) (ap (λ last. is_fresh last state.header_id) old.accepted ∙ not_fresh old.last state.header_id old.no_later)
 
-accepts : (world : World) → (answer_of (Made (told (answer.Accepted false))) ≡ answer.Accepted false) × ChangesNothing world (Made (told (answer.Accepted false)))
+accepts : (world : World) → (answer_of (Made (answer_only (answer.Accepted false))) ≡ answer.Accepted false) × ChangesNothing world (Made (answer_only (answer.Accepted false)))
 unfolding answer_of after decided
 accepts world = (refl, (refl, refl))
 

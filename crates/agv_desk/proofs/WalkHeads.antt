@@ -16,7 +16,7 @@ use Rattle.agv_world.specs.TableChanges.{written}
 use Rattle.agv_world.specs.Worlds.{World}
 use Rattle.agv_world.specs.declared.row.JobRow.{JobRow}
 use Rattle.agv_world.proofs.Orders.{names_total, names_apart}
-use Rattle.agv_desk.specs.JobSteps.{Renewed, act_job, job_in, taken_to}
+use Rattle.agv_desk.specs.ActSteps.{Renewed, act_job, job_in, taken_to}
 use Rattle.agv_desk.specs.Outcomes.{Acted, Move, moved}
 use Rattle.agv_desk.proofs.ActionViews.{IsPicked, in_rest, stops_by, whole}
 use Rattle.agv_desk.proofs.FitStops.{Fit}

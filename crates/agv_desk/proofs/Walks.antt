@@ -10,7 +10,7 @@ use Rattle.agv_order.specs.StopPlaces.{IsAt}
 use Rattle.agv_world.specs.StockInvariant.{ActionView, Jobs, Places}
 use Rattle.agv_world.specs.TableChanges.{written}
 use Rattle.agv_world.specs.Worlds.{World}
-use Rattle.agv_desk.specs.JobSteps.{Renewed, act_job, act_jobs, act_move, act_moves}
+use Rattle.agv_desk.specs.ActSteps.{Renewed, act_job, act_jobs, act_move, act_moves}
 use Rattle.agv_desk.specs.Outcomes.{moved}
 use Rattle.agv_desk.proofs.ActionViews.{AfterPicks, IsPicked, after, all_after, all_before, in_rest, in_whole, stop_after, stop_before, stop_by, stops_by, whole}
 use Rattle.agv_desk.proofs.FitStops.{Fit, no_pick_after}

@@ -15,7 +15,7 @@ use Rattle.agv_world.specs.Lawful.{IsJob}
 use Rattle.agv_world.specs.Questions.{reserved}
 use Rattle.agv_world.specs.Worlds.{World}
 use Rattle.agv_world.specs.declared.row.JobRow.{JobRow}
-use Rattle.agv_desk.specs.JobSteps.{taken_to}
+use Rattle.agv_desk.specs.ActSteps.{taken_to}
 use Rattle.agv_desk.specs.Outcomes.{Acted, Effect, Made, Move, moved}
 use Rattle.agv_desk.specs.Step.{moves, step, steps}
 use Rattle.agv_desk.specs.declared.call.Call.{Call}

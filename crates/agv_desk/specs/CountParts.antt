@@ -12,11 +12,11 @@ use Rattle.agv_stock.specs.declared.place.Place.TheVariants as place
 use Rattle.agv_world.specs.Questions.{loads_at, reserved, count_of}
 use Rattle.agv_world.specs.Worlds.{World}
 use Rattle.agv_world.specs.declared.floor.Counted.TheVariants as counted
-use Rattle.agv_desk.specs.LoadSteps.{most, reference_key, is_in_job}
-use Rattle.agv_desk.specs.Outcomes.{Outcome, Effect, Made, require, told}
+use Rattle.agv_desk.specs.LoadAndJobSteps.{most, reference_key, is_in_job}
+use Rattle.agv_desk.specs.Outcomes.{Outcome, Effect, Made, refuse_unless, answer_only}
 use Rattle.agv_desk.specs.StocktakeSteps.{Row, are_known, count_move, has_twice, is_on_vehicle, is_counted, is_here, new_place}
 use Rattle.agv_desk.specs.declared.answer.Answer.TheVariants as answer
-use Rattle.agv_desk.specs.declared.stocktake.sighting.Sighting.{Sighting}
+use Rattle.agv_desk.specs.declared.stocktake.counted_load.CountedLoad.{CountedLoad}
 
 -- ---- the stations
 
@@ -61,54 +61,54 @@ noted_load found station None = (true, found)
 noted_load found station (Some load) = noted_anew found station load (finite.get found load)
 
 -- what a row says, with what is known of its load
-abbrev pub sighting : World → List ℕ → Option (List ℕ) → Option Sighting
-sighting world station None = None
-sighting world station (Some load) = Some (record { station = station; load = load; place = finite.get world.places load })
+abbrev pub counted_load : World → List ℕ → Option (List ℕ) → Option CountedLoad
+counted_load world station None = None
+counted_load world station (Some load) = Some (record { station = station; load = load; place = finite.get world.places load })
 
 -- all of them, in the order of the rows
-unfoldable pub sightings : World → List Row → List Sighting
-sightings world rows = filter_map (λ (row : Row). sighting world row.0 row.1) rows
+unfoldable pub counted_loads : World → List Row → List CountedLoad
+counted_loads world rows = filter_map (λ (row : Row). counted_load world row.0 row.1) rows
 
 -- one more
-abbrev pub with_sighting : World → List Sighting → List ℕ → Option (List ℕ) → List Sighting
-with_sighting world seen station None = seen
-with_sighting world seen station (Some load) = seen ++ record { station = station; load = load; place = finite.get world.places load } ∷ []
+abbrev pub with_counted_load : World → List CountedLoad → List ℕ → Option (List ℕ) → List CountedLoad
+with_counted_load world seen station None = seen
+with_counted_load world seen station (Some load) = seen ++ record { station = station; load = load; place = finite.get world.places load } ∷ []
 
 -- the load's name, if it is not known or has left
-abbrev pub unknown_one : Sighting → Option (List ℕ)
+abbrev pub unknown_one : CountedLoad → Option (List ℕ)
 unknown_one seen = if is_here seen.place then None else Some seen.load
 
 -- the known load was found at this station
-abbrev pub is_found_at : List ℕ → Sighting → Bool
+abbrev pub is_found_at : List ℕ → CountedLoad → Bool
 is_found_at station seen = pointwise nat_eq seen.station station && is_here seen.place
 
 -- how many known loads were found there
-abbrev pub seen_at : List Sighting → List ℕ → ℕ
+abbrev pub seen_at : List CountedLoad → List ℕ → ℕ
 seen_at seen station = count_by (is_found_at station) seen
 
 -- as many as before, and one more where it was found
-abbrev pub counted_up : Sighting → ℕ → List ℕ → ℕ
+abbrev pub counted_up : CountedLoad → ℕ → List ℕ → ℕ
 counted_up seen count station = if is_found_at station seen then count + 1 else count
 
 -- ---- where the loads go
 
 -- the load goes there, if it goes anywhere
-abbrev pub placed : finite.FinMap name_cmp Place → List ℕ → Option Place → finite.FinMap name_cmp Place
-placed places load None = places
-placed places load (Some to) = finite.insert places load to
+abbrev pub with_new_place : finite.FinMap name_cmp Place → List ℕ → Option Place → finite.FinMap name_cmp Place
+with_new_place places load None = places
+with_new_place places load (Some to) = finite.insert places load to
 
 -- where some loads, of which it is known where they are, go
 unfoldable pub settled : (List ℕ → Bool) → finite.FinMap name_cmp (List ℕ) → finite.FinMap name_cmp Place → List (List ℕ × Place) → finite.FinMap name_cmp Place
 settled counted found places [] = places
-settled counted found places (load ∷ loads) = settled counted found (placed places load.0 (new_place counted (finite.get found load.0) load.1)) loads
+settled counted found places (load ∷ loads) = settled counted found (with_new_place places load.0 (new_place counted (finite.get found load.0) load.1)) loads
 
 -- a load of which it is known where it is
 abbrev pub recorded_at : List ℕ → Option Place → Option (List ℕ × Place)
 recorded_at load recorded = option_map (λ (at : Place). (load, at)) recorded
 
 -- the found loads of which it is known where they are
-abbrev pub recorded : List Sighting → List (List ℕ × Place)
-recorded seen = filter_map (λ (one : Sighting). recorded_at one.load one.place) seen
+abbrev pub recorded : List CountedLoad → List (List ℕ × Place)
+recorded seen = filter_map (λ (one : CountedLoad). recorded_at one.load one.place) seen
 
 -- loads that stand at a station
 abbrev pub standing_at : List ℕ → List (List ℕ) → List (List ℕ × Place)
@@ -119,35 +119,35 @@ abbrev pub standing : World → List (List ℕ × StationSite) → List (List �
 standing world stations = flat_map (λ (station : List ℕ × StationSite). standing_at station.0 (loads_at world station.0)) stations
 
 -- where all loads go: those that were found, and those that stand at counted stations
-unfoldable pub moves_in : World → finite.FinMap name_cmp StationSite → finite.FinMap name_cmp (List ℕ) → List Sighting → finite.FinMap name_cmp Place
+unfoldable pub moves_in : World → finite.FinMap name_cmp StationSite → finite.FinMap name_cmp (List ℕ) → List CountedLoad → finite.FinMap name_cmp Place
 moves_in world stations found seen =
     settled (finite.contains_key stations) found (settled (finite.contains_key stations) found finite.empty (recorded seen)) (standing world (finite.entries stations))
 
 -- ---- whether they fit
 
 -- so many loads and so many jobs fit there
-abbrev pub has_room : ℕ → ℕ → StationSite → Bool
-has_room found jobs spot = nat_le (found + jobs) spot.capacity
+abbrev pub has_room_for : ℕ → ℕ → StationSite → Bool
+has_room_for found jobs spot = nat_le (found + jobs) spot.capacity
 
 -- at each of the stations there is room for the known loads that were found there and the live jobs to it
-abbrev pub all_have_room : World → List Sighting → List (List ℕ × StationSite) → Bool
-all_have_room world seen stations = list_all (λ (station : List ℕ × StationSite). has_room (seen_at seen station.0) (reserved world station.0) station.1) stations
+abbrev pub all_have_room : World → List CountedLoad → List (List ℕ × StationSite) → Bool
+all_have_room world seen stations = list_all (λ (station : List ℕ × StationSite). has_room_for (seen_at seen station.0) (reserved world station.0) station.1) stations
 
 -- ---- the whole
 
 -- the loads that move, and their new places
-abbrev pub moves_list : World → finite.FinMap name_cmp StationSite → finite.FinMap name_cmp (List ℕ) → List Sighting → List (List ℕ × Place)
+abbrev pub moves_list : World → finite.FinMap name_cmp StationSite → finite.FinMap name_cmp (List ℕ) → List CountedLoad → List (List ℕ × Place)
 moves_list world stations found seen = finite.entries (moves_in world stations found seen)
 
 -- what is done with such moves
-abbrev pub counted_effect : List ℕ → List (List ℕ × Place) → List Sighting → Effect
-counted_effect reference moves seen = record (told (answer.Counted (length moves) (filter_map unknown_one seen))) { moves = map count_move moves; uses = reference_key reference ∷ [] }
+abbrev pub counted_effect : List ℕ → List (List ℕ × Place) → List CountedLoad → Effect
+counted_effect reference moves seen = record (answer_only (answer.Counted (length moves) (filter_map unknown_one seen))) { moves = map count_move moves; uses = reference_key reference ∷ [] }
 
 -- what a stocktake is answered once its stations and found loads are known, by these parts
-abbrev pub count_by_parts : World → List ℕ → finite.FinMap name_cmp StationSite → finite.FinMap name_cmp (List ℕ) → List Sighting → Outcome
+abbrev pub count_by_parts : World → List ℕ → finite.FinMap name_cmp StationSite → finite.FinMap name_cmp (List ℕ) → List CountedLoad → Outcome
 count_by_parts world reference stations found seen =
-    require (not (list_any (λ (one : Sighting). is_on_vehicle one.place) seen)) refusal.OnVehicle
-    (require (not (list_any (λ (load : List ℕ × Place). is_in_job world load.0) (moves_list world stations found seen))) refusal.InJob
-    (require (all_have_room world seen (finite.entries stations)) refusal.Full
-    (require (nat_lt (count_of world counted.References) most) refusal.Limit
+    refuse_unless (not (list_any (λ (one : CountedLoad). is_on_vehicle one.place) seen)) refusal.OnVehicle
+    (refuse_unless (not (list_any (λ (load : List ℕ × Place). is_in_job world load.0) (moves_list world stations found seen))) refusal.InJob
+    (refuse_unless (all_have_room world seen (finite.entries stations)) refusal.Full
+    (refuse_unless (nat_lt (count_of world counted.References) most) refusal.Limit
     (Made (counted_effect reference (moves_list world stations found seen) seen)))))

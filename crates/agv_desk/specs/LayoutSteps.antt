@@ -12,7 +12,7 @@ use Rattle.agv_world.specs.Questions.{layout_set}
 use Rattle.agv_world.specs.Worlds.{World}
 use Rattle.agv_world.specs.declared.change.Change.{Change}
 use Rattle.agv_world.specs.declared.change.Change.TheVariants as row
-use Rattle.agv_desk.specs.Outcomes.{Outcome, Refused, Made, require, told}
+use Rattle.agv_desk.specs.Outcomes.{Outcome, Refused, Made, refuse_unless, answer_only}
 use Rattle.agv_desk.specs.declared.answer.Answer.TheVariants as answer
 use Rattle.agv_desk.specs.declared.layouts.NotSet.{NotSet}
 use Rattle.agv_desk.specs.declared.layouts.NotSet.TheVariants as unset
@@ -32,11 +32,11 @@ if_given (Err why) rest = Refused (layout_refusal why)
 abbrev pub lay : List LayoutRow → Outcome
 lay rows =
     if_given (layout_of rows) (λ layout.
-    Made (record (told answer.Done) { layout = Some layout }))
+    Made (record (answer_only answer.Done) { layout = Some layout }))
 
 -- PUT /layout: LayoutSet; then as above
 abbrev pub set_layout : World → List LayoutRow → Outcome
-set_layout world rows = require (is_none (layout_set world)) refusal.LayoutSet (lay rows)
+set_layout world rows = refuse_unless (is_none (layout_set world)) refusal.LayoutSet (lay rows)
 
 -- ---- parts of it
 

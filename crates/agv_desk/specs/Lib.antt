@@ -1,8 +1,8 @@
 pub mod Sizes
 pub mod Outcomes
 pub mod LayoutSteps
-pub mod LoadSteps
-pub mod JobSteps
+pub mod LoadAndJobSteps
+pub mod ActSteps
 pub mod VehicleSteps
 pub mod OrderSteps
 pub mod StateSteps

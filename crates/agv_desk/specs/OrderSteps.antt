@@ -27,8 +27,8 @@ use Rattle.agv_world.specs.declared.floor.Counted.TheVariants as counted
 use Rattle.agv_world.specs.declared.key.UseKind.TheVariants as used
 use Rattle.agv_world.specs.declared.row.JobRow.{JobRow}
 use Rattle.agv_world.specs.declared.row.VehicleRow.{VehicleRow}
-use Rattle.agv_desk.specs.LoadSteps.{most, is_waiting}
-use Rattle.agv_desk.specs.Outcomes.{Effect, Outcome, Refused, Made, Put, require, found, told}
+use Rattle.agv_desk.specs.LoadAndJobSteps.{most, is_waiting}
+use Rattle.agv_desk.specs.Outcomes.{Effect, Outcome, Refused, Made, Whole, refuse_unless, refuse_if_none, answer_only}
 use Rattle.agv_desk.specs.VehicleSteps.{if_free, next_sent}
 use Rattle.agv_desk.specs.declared.answer.Answer.TheVariants as answer
 
@@ -89,8 +89,8 @@ sent_on row at number trip = record { row = record row { orders = record { count
 
 -- the order is sent with this trip: its jobs ride, and its name is used
 abbrev pub order_sent : ℕ → List ℕ → VehicleKey → VehicleRow → List Stop → List Job → Option Trip → ℕ → Effect
-order_sent at order key row stops jobs trip number = record (told (answer.Update 0)) {
-  touched = Put key (Some (record { row = row; trip = None })) (sent_on row at number trip);
+order_sent at order key row stops jobs trip number = record (answer_only (answer.Update 0)) {
+  touched = Whole key (Some (record { row = row; trip = None })) (sent_on row at number trip);
   jobs = riding stops jobs;
   uses = record { kind = used.Order; name = order } ∷ [];
 }
@@ -99,36 +99,36 @@ order_sent at order key row stops jobs trip number = record (told (answer.Update
 abbrev pub send_trip : World → ℕ → List ℕ → VehicleKey → VehicleRow → List Stop → List Job → Trip → Outcome
 send_trip world at order key row stops jobs trip =
     if_free world key (footprint_of (record { node = row.node; rest = row.rest; trip = Some trip }))
-    (found (next_sent row.orders) refusal.Spent (λ number.
-    require (nat_lt (count_of world counted.Orders) most) refusal.Limit
+    (refuse_if_none (next_sent row.orders) refusal.Spent (λ number.
+    refuse_unless (nat_lt (count_of world counted.Orders) most) refusal.Limit
     (Made (order_sent at order key row stops jobs (Some trip) number))))
 
 -- its trip is planned: NoWalk, TooLong or Beyond; then as above
 abbrev pub send_order : World → ℕ → List ℕ → VehicleKey → VehicleRow → List Stop → List Job → ℕ → Outcome
 send_order world at order key row stops jobs edges =
-    found (layout_set world) refusal.NoWalk (λ layout.
+    refuse_if_none (layout_set world) refusal.NoWalk (λ layout.
     if_planned (planned layout key jobs stops order row.node edges)
     (send_trip world at order key row stops jobs))
 
 -- the vehicle can take it: OrderKnown where it reports this name, JobState where a job does not wait, Busy, Astray, Loaded, NotReady, InstantPending where a cancelOrder is pending; then as above
 abbrev pub take_order : World → ℕ → List ℕ → VehicleKey → VehicleRow → List Stop → List Job → ℕ → Outcome
 take_order world at order key row stops jobs edges =
-    require (not (is_reported row.reported order)) refusal.OrderKnown
-    (require (list_all waits jobs) refusal.JobState
-    (require (is_none (trip_of world key)) refusal.Busy
-    (require (is_none row.rest) refusal.Astray
-    (require (nat_le (loads_on world key + count_by is_pick stops) row.capacity) refusal.Loaded
-    (require row.ready refusal.NotReady
-    (require (not (is_cancelling row.pending)) refusal.InstantPending
+    refuse_unless (not (is_reported row.reported order)) refusal.OrderKnown
+    (refuse_unless (list_all waits jobs) refusal.JobState
+    (refuse_unless (is_none (trip_of world key)) refusal.Busy
+    (refuse_unless (is_none row.rest) refusal.Astray
+    (refuse_unless (nat_le (loads_on world key + count_by is_pick stops) row.capacity) refusal.Loaded
+    (refuse_unless row.ready refusal.NotReady
+    (refuse_unless (not (is_cancelling row.pending)) refusal.InstantPending
     (send_order world at order key row stops jobs edges)))))))
 
 -- POST /orders: Exists where the order's name was used, NoVehicle, BadStops, NoJob; then as above
 abbrev pub start_order : World → ℕ → List ℕ → VehicleKey → List Stop → ℕ → Outcome
 start_order world at order key stops edges =
-    require (not (is_used world used.Order order)) refusal.Exists
-    (found (row_of world key) refusal.NoVehicle (λ row.
-    require (stops_fit stops) refusal.BadStops
-    (found (jobs_for world stops) refusal.NoJob (λ jobs.
+    refuse_unless (not (is_used world used.Order order)) refusal.Exists
+    (refuse_if_none (row_of world key) refusal.NoVehicle (λ row.
+    refuse_unless (stops_fit stops) refusal.BadStops
+    (refuse_if_none (jobs_for world stops) refusal.NoJob (λ jobs.
     take_order world at order key row stops jobs edges))))
 
 -- ---- an update
@@ -150,28 +150,28 @@ can_release trip edges = nat_lt 0 edges && nat_le (trip.base + edges) (length tr
 -- this update is sent: the trip has this much released
 abbrev pub update_sent : ℕ → VehicleKey → VehicleRow → Option Trip → Option Trip → ℕ → ℕ → Effect
 update_sent at key row old new update number =
-    record (told (answer.Update update)) { touched = Put key (Some (record { row = row; trip = old })) (sent_on row at number new) }
+    record (answer_only (answer.Update update)) { touched = Whole key (Some (record { row = row; trip = old })) (sent_on row at number new) }
 
 -- it is sent, where what the vehicle is to hold is free: Beyond, Held, Spent
 abbrev pub send_update : World → ℕ → VehicleKey → VehicleRow → Trip → ℕ → ℕ → Outcome
 send_update world at key row trip update edges =
-    require (can_release trip edges) refusal.Beyond
+    refuse_unless (can_release trip edges) refusal.Beyond
     (if_free world key (footprint_of (record { node = row.node; rest = row.rest; trip = Some (released trip edges) }))
-    (found (next_sent row.orders) refusal.Spent (λ number.
+    (refuse_if_none (next_sent row.orders) refusal.Spent (λ number.
     Made (update_sent at key row (Some trip) (Some (released trip edges)) update number))))
 
 -- the vehicle can take it: WrongUpdate where the number is not the next, NotConfirmed, NotReady, InstantPending where a cancelOrder is pending; then as above
 abbrev pub take_update : World → ℕ → VehicleKey → VehicleRow → Trip → ℕ → ℕ → Outcome
 take_update world at key row trip update edges =
-    require (update == trip.sent + 1) (refusal.WrongUpdate trip.sent)
-    (require (is_confirmed trip.confirmed trip.sent) refusal.NotConfirmed
-    (require row.ready refusal.NotReady
-    (require (not (is_cancelling row.pending)) refusal.InstantPending
+    refuse_unless (update == trip.sent + 1) (refusal.WrongUpdate trip.sent)
+    (refuse_unless (is_confirmed trip.confirmed trip.sent) refusal.NotConfirmed
+    (refuse_unless row.ready refusal.NotReady
+    (refuse_unless (not (is_cancelling row.pending)) refusal.InstantPending
     (send_update world at key row trip update edges))))
 
 -- POST .../advance: NoVehicle, NoOrder where no trip of this order is open; then as above
 abbrev pub advance : World → ℕ → VehicleKey → List ℕ → ℕ → ℕ → Outcome
 advance world at key order update edges =
-    found (row_of world key) refusal.NoVehicle (λ row.
-    found (trip_for (trip_of world key) order) refusal.NoOrder (λ trip.
+    refuse_if_none (row_of world key) refusal.NoVehicle (λ row.
+    refuse_if_none (trip_for (trip_of world key) order) refusal.NoOrder (λ trip.
     take_update world at key row trip update edges))

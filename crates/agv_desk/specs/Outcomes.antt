@@ -38,23 +38,23 @@ pub record Move : Type 0 where
   pub cause : Cause
 
 -- what becomes of the vehicles: nothing; one has a new row in place of the old one, and stands as before with the trip that it has; or one is written in place of the old one, and stands otherwise or its trip changes
-pub data Touched : Type 0 where
-  Nothing : Touched
-  Noted : (key : VehicleKey) → (old : VehicleRow) → (new : VehicleRow) → Touched
-  Put : (key : VehicleKey) → (old : Option Vehicle) → (new : Vehicle) → Touched
+pub data VehicleChange : Type 0 where
+  Nothing : VehicleChange
+  RowOnly : (key : VehicleKey) → (old : VehicleRow) → (new : VehicleRow) → VehicleChange
+  Whole : (key : VehicleKey) → (old : Option Vehicle) → (new : Vehicle) → VehicleChange
 
 -- what a call does that is not refused: its answer; the layout, where it is set; the vehicle that it touches; the loads that it moves, in order; the jobs that it writes; and the names that it uses
 pub record Effect : Type 0 where
   pub answer : Answer
   pub layout : Option Layout
-  pub touched : Touched
+  pub touched : VehicleChange
   pub moves : List Move
   pub jobs : List (List ℕ × JobRow)
   pub uses : List UseKey
 
 -- an answer, and nothing changes
-abbrev pub told : Answer → Effect
-told said = record { answer = said; layout = None; touched = Nothing; moves = []; jobs = []; uses = [] }
+abbrev pub answer_only : Answer → Effect
+answer_only said = record { answer = said; layout = None; touched = Nothing; moves = []; jobs = []; uses = [] }
 
 -- a call is refused, or it has an effect
 pub data Outcome : Type 0 where
@@ -64,14 +64,14 @@ pub data Outcome : Type 0 where
 -- ---- checks
 
 -- go on where the test passes, else refuse
-unfoldable pub require : Bool → Refusal → Outcome → Outcome
-require true why rest = rest
-require false why rest = Refused why
+unfoldable pub refuse_unless : Bool → Refusal → Outcome → Outcome
+refuse_unless true why rest = rest
+refuse_unless false why rest = Refused why
 
 -- go on with what is there, else refuse
-unfoldable pub found : {X : Type 0} → Option X → Refusal → (X → Outcome) → Outcome
-found None why rest = Refused why
-found (Some x) why rest = rest x
+unfoldable pub refuse_if_none : {X : Type 0} → Option X → Refusal → (X → Outcome) → Outcome
+refuse_if_none None why rest = Refused why
+refuse_if_none (Some x) why rest = rest x
 
 -- go on where the checks of a load pass, else refuse as they do
 unfoldable pub checked : Checked → Outcome → Outcome
@@ -101,10 +101,10 @@ with_uses world [] = world
 with_uses world (key ∷ keys) = with_uses (with_use world key.kind key.name) keys
 
 -- the vehicle is touched
-abbrev pub with_touched : World → Touched → World
+abbrev pub with_touched : World → VehicleChange → World
 with_touched world Nothing = world
-with_touched world (Noted key old new) = with_vehicle world key (record { row = new; trip = trip_of world key })
-with_touched world (Put key old new) = with_vehicle world key new
+with_touched world (RowOnly key old new) = with_vehicle world key (record { row = new; trip = trip_of world key })
+with_touched world (Whole key old new) = with_vehicle world key new
 
 -- the layout is set
 abbrev pub with_layout : World → Option Layout → World
@@ -140,10 +140,10 @@ laid_changes None = []
 laid_changes (Some layout) = layout_changes layout
 
 -- the rows of the vehicle, those that change
-abbrev pub touched_changes : Touched → List Change
+abbrev pub touched_changes : VehicleChange → List Change
 touched_changes Nothing = []
-touched_changes (Noted key old new) = own_changes key (Some old) new
-touched_changes (Put key old new) = vehicle_changes key old new
+touched_changes (RowOnly key old new) = own_changes key (Some old) new
+touched_changes (Whole key old new) = vehicle_changes key old new
 
 -- all rows
 abbrev pub changes_of : Effect → List Change

@@ -12,7 +12,7 @@ use Rattle.agv_world.specs.Questions.{row_of, trip_of, job_of}
 use Rattle.agv_world.specs.Worlds.{World}
 use Rattle.agv_world.specs.declared.row.Sent.{Sent}
 use Rattle.agv_world.specs.declared.row.VehicleRow.{VehicleRow}
-use Rattle.agv_desk.specs.Outcomes.{Outcome, Made, found, told}
+use Rattle.agv_desk.specs.Outcomes.{Outcome, Made, refuse_if_none, answer_only}
 use Rattle.agv_desk.specs.declared.answer.Answer.{Answer}
 use Rattle.agv_desk.specs.declared.answer.Answer.TheVariants as answer
 use Rattle.agv_desk.specs.declared.answer.OpenOrder.{OpenOrder}
@@ -34,20 +34,20 @@ instant_told key row (Some kind) = answer.Instant (last_header key row.instants)
 -- GET .../order: NoVehicle
 abbrev pub get_order : World → VehicleKey → Outcome
 get_order world key =
-    found (row_of world key) refusal.NoVehicle (λ row.
-    Made (told (order_told key row (trip_of world key))))
+    refuse_if_none (row_of world key) refusal.NoVehicle (λ row.
+    Made (answer_only (order_told key row (trip_of world key))))
 
 -- GET .../instantActions: NoVehicle
 abbrev pub get_instant : World → VehicleKey → Outcome
 get_instant world key =
-    found (row_of world key) refusal.NoVehicle (λ row.
-    Made (told (instant_told key row row.pending)))
+    refuse_if_none (row_of world key) refusal.NoVehicle (λ row.
+    Made (answer_only (instant_told key row row.pending)))
 
 -- GET /loads/{load}: NoLoad
 abbrev pub get_load : World → List ℕ → Outcome
 get_load world load =
-    found (finite.get world.places load) refusal.NoLoad (λ place.
-    Made (told (answer.Load load place (job_of world load))))
+    refuse_if_none (finite.get world.places load) refusal.NoLoad (λ place.
+    Made (answer_only (answer.Load load place (job_of world load))))
 
 -- the open order of a trip
 abbrev pub open_order : Trip → OpenOrder
@@ -56,5 +56,5 @@ open_order trip = record { order = trip.order; sent = trip.sent; confirmed = tri
 -- GET /vehicles/{m}/{s}: NoVehicle
 abbrev pub get_vehicle : World → VehicleKey → Outcome
 get_vehicle world key =
-    found (row_of world key) refusal.NoVehicle (λ row.
-    Made (told (answer.Vehicle key row (option_map open_order (trip_of world key)))))
+    refuse_if_none (row_of world key) refusal.NoVehicle (λ row.
+    Made (answer_only (answer.Vehicle key row (option_map open_order (trip_of world key)))))

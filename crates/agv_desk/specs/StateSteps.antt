@@ -19,8 +19,8 @@ use Rattle.agv_track.specs.declared.progress.Progress.{Progress}
 use Rattle.agv_world.specs.Questions.{row_of, trip_of}
 use Rattle.agv_world.specs.Worlds.{Vehicle, World}
 use Rattle.agv_world.specs.declared.row.VehicleRow.{VehicleRow}
-use Rattle.agv_desk.specs.JobSteps.{act_moves, act_jobs}
-use Rattle.agv_desk.specs.Outcomes.{Outcome, Refused, Made, Noted, Put, require, found, branch, told}
+use Rattle.agv_desk.specs.ActSteps.{act_moves, act_jobs}
+use Rattle.agv_desk.specs.Outcomes.{Outcome, Refused, Made, RowOnly, Whole, refuse_unless, refuse_if_none, branch, answer_only}
 use Rattle.agv_desk.specs.declared.answer.Answer.TheVariants as answer
 
 -- ---- words
@@ -55,7 +55,7 @@ if_judged (Err why) rest = Refused why
 abbrev pub idle_state : VehicleKey → VehicleRow → StateMessage → Outcome
 idle_state key row state =
     if_judged (judged_idle row.node (pending_of row) state) (λ over.
-    Made (record (told (answer.Accepted true)) { touched = Noted key row (heard row state over) }))
+    Made (record (answer_only (answer.Accepted true)) { touched = RowOnly key row (heard row state over) }))
 
 -- ---- on a trip
 
@@ -78,8 +78,8 @@ driven row trip state progress = record { row = row_after row trip state progres
 abbrev pub trip_state : World → VehicleKey → VehicleRow → Trip → StateMessage → Outcome
 trip_state world key row trip state =
     if_judged (judged trip (pending_of row) state) (λ progress.
-    Made (record (told (answer.Accepted true)) {
-      touched = Put key (Some (record { row = row; trip = Some trip })) (driven row trip state progress);
+    Made (record (answer_only (answer.Accepted true)) {
+      touched = Whole key (Some (record { row = row; trip = Some trip })) (driven row trip state progress);
       moves = act_moves key trip.order (zip trip.acts progress.statuses);
       jobs = act_jobs world (is_some progress.«end») (zip trip.acts progress.statuses);
     }))
@@ -91,11 +91,11 @@ abbrev pub fresh_state : World → VehicleKey → VehicleRow → Option Trip →
 fresh_state world key row None state = idle_state key row state
 fresh_state world key row (Some trip) state =
     branch (pointwise nat_eq trip.order state.order_id) (trip_state world key row trip state)
-    (require (is_none trip.confirmed) refusal.OtherOrder (idle_state key row state))
+    (refuse_unless (is_none trip.confirmed) refusal.OtherOrder (idle_state key row state))
 
 -- POST /uagv/v2/{m}/{s}/state: NoVehicle; an old state changes nothing; else as above
 abbrev pub take_state : World → VehicleKey → StateMessage → Outcome
 take_state world key state =
-    found (row_of world key) refusal.NoVehicle (λ row.
+    refuse_if_none (row_of world key) refusal.NoVehicle (λ row.
     branch (is_fresh row.last_header state.header_id) (fresh_state world key row (trip_of world key) state)
-    (Made (told (answer.Accepted false))))
+    (Made (answer_only (answer.Accepted false))))

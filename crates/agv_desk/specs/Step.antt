@@ -2,9 +2,9 @@
 use Rattle.std.specs.Prelude.{ℕ, List, [], ◌∷◌, ◌++◌}
 use Rattle.agv_world.specs.Worlds.{World}
 use Rattle.agv_desk.specs.LayoutSteps.{set_layout}
-use Rattle.agv_desk.specs.LoadSteps.{register_load, correct_load, leave_load, add_job, stop_job}
+use Rattle.agv_desk.specs.LoadAndJobSteps.{register_load, correct_load, leave_load, add_job, stop_job}
 use Rattle.agv_desk.specs.OrderSteps.{start_order, advance}
-use Rattle.agv_desk.specs.Outcomes.{Outcome, Made, Move, told, after, answer_of, moves_of}
+use Rattle.agv_desk.specs.Outcomes.{Outcome, Made, Move, answer_only, after, answer_of, moves_of}
 use Rattle.agv_desk.specs.ReadSteps.{get_order, get_instant, get_load, get_vehicle}
 use Rattle.agv_desk.specs.StateSteps.{take_state}
 use Rattle.agv_desk.specs.StocktakeSteps.{take_stock}
@@ -36,9 +36,9 @@ step seats world at (call.GetInstant key) = get_instant world key
 step seats world at (call.Stocktake reference rows) = take_stock world reference rows
 step seats world at (call.GetLoad load) = get_load world load
 step seats world at (call.GetVehicle key) = get_vehicle world key
-step seats world at call.StockReport = Made (told answer.StockReport)
-step seats world at call.HoldReport = Made (told answer.HoldReport)
-step seats world at call.LoadsExport = Made (told answer.LoadsExport)
+step seats world at call.StockReport = Made (answer_only answer.StockReport)
+step seats world at call.HoldReport = Made (answer_only answer.HoldReport)
+step seats world at call.LoadsExport = Made (answer_only answer.LoadsExport)
 
 -- ---- calls one after the other, each at its moment
 

@@ -11,8 +11,8 @@ use Rattle.agv_stock.specs.declared.place.Place.TheVariants as place
 use Rattle.agv_world.specs.Questions.{reserved, count_of}
 use Rattle.agv_world.specs.Worlds.{World}
 use Rattle.agv_world.specs.declared.floor.Counted.TheVariants as counted
-use Rattle.agv_desk.specs.LoadSteps.{most, is_new, reference_key, is_in_job, move_to}
-use Rattle.agv_desk.specs.Outcomes.{Outcome, Made, Move, Recorded, require, told}
+use Rattle.agv_desk.specs.LoadAndJobSteps.{most, is_new, reference_key, is_in_job, move_to}
+use Rattle.agv_desk.specs.Outcomes.{Outcome, Made, Move, Recorded, refuse_unless, answer_only}
 use Rattle.agv_desk.specs.declared.answer.Answer.TheVariants as answer
 
 -- a row: a station that was counted, and a load that was found there, if one was
@@ -134,11 +134,11 @@ fits world rows station (Some spot) = nat_le (found_here world rows station + re
 -- once the rows are in order: OnVehicle where a found load is on a vehicle, InJob where a load that would move has a live job, Full where the found loads and the live jobs to a counted station exceed its capacity, Limit
 abbrev pub count_loads : World → List ℕ → List Row → Outcome
 count_loads world reference rows =
-    require (not (list_any (λ (row : Row). finds_on_vehicle world row.1) rows)) refusal.OnVehicle
-    (require (not (list_any (λ (move : Move). is_in_job world move.load) (count_moves world rows))) refusal.InJob
-    (require (list_all (λ (row : Row). fits world rows row.0 (finite.get world.layout.stations row.0)) rows) refusal.Full
-    (require (nat_lt (count_of world counted.References) most) refusal.Limit
-    (Made (record (told (answer.Counted (length (count_moves world rows)) (unknown_in world rows))) {
+    refuse_unless (not (list_any (λ (row : Row). finds_on_vehicle world row.1) rows)) refusal.OnVehicle
+    (refuse_unless (not (list_any (λ (move : Move). is_in_job world move.load) (count_moves world rows))) refusal.InJob
+    (refuse_unless (list_all (λ (row : Row). fits world rows row.0 (finite.get world.layout.stations row.0)) rows) refusal.Full
+    (refuse_unless (nat_lt (count_of world counted.References) most) refusal.Limit
+    (Made (record (answer_only (answer.Counted (length (count_moves world rows)) (unknown_in world rows))) {
       moves = count_moves world rows;
       uses = reference_key reference ∷ [];
     })))))
@@ -150,7 +150,7 @@ are_known world rows = list_all (λ (row : Row). is_some (finite.get world.layou
 -- POST /stocktakes/{ref}: RefUsed, NoStation, CountTwice, and then as the loads are counted
 abbrev pub take_stock : World → List ℕ → List Row → Outcome
 take_stock world reference rows =
-    require (is_new world reference) refusal.RefUsed
-    (require (are_known world rows) refusal.NoStation
-    (require (not (has_twice rows)) refusal.CountTwice
+    refuse_unless (is_new world reference) refusal.RefUsed
+    (refuse_unless (are_known world rows) refusal.NoStation
+    (refuse_unless (not (has_twice rows)) refusal.CountTwice
     (count_loads world reference rows)))

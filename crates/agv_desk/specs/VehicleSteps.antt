@@ -15,9 +15,9 @@ use Rattle.agv_world.specs.Worlds.{Vehicle, World}
 use Rattle.agv_world.specs.declared.floor.Counted.TheVariants as counted
 use Rattle.agv_world.specs.declared.row.Sent.{Sent}
 use Rattle.agv_world.specs.declared.row.VehicleRow.{VehicleRow}
-use Rattle.agv_desk.specs.JobSteps.{jobs_stopped}
-use Rattle.agv_desk.specs.LoadSteps.{most, is_new, reference_key}
-use Rattle.agv_desk.specs.Outcomes.{Outcome, Effect, Made, Noted, Put, require, found, unheld, told}
+use Rattle.agv_desk.specs.ActSteps.{jobs_stopped}
+use Rattle.agv_desk.specs.LoadAndJobSteps.{most, is_new, reference_key}
+use Rattle.agv_desk.specs.Outcomes.{Outcome, Effect, Made, RowOnly, Whole, refuse_unless, refuse_if_none, unheld, answer_only}
 use Rattle.agv_desk.specs.declared.answer.Answer.TheVariants as answer
 
 -- ---- words
@@ -56,41 +56,41 @@ new_vehicle capacity node = record {
 
 -- the vehicle is registered, and not heard of yet
 abbrev pub registered : VehicleKey → List ℕ → ℕ → Effect
-registered key node capacity = record (told answer.Done) { touched = Put key None (new_vehicle capacity node) }
+registered key node capacity = record (answer_only answer.Done) { touched = Whole key None (new_vehicle capacity node) }
 
 -- POST /vehicles: Exists, NoNode, Held, Limit where there are 100, or the capacity is 0 or above the seats
 abbrev pub register_vehicle : ℕ → World → VehicleKey → List ℕ → ℕ → Outcome
 register_vehicle seats world key node capacity =
-    require (is_none (row_of world key)) refusal.Exists
-    (require (set.contains world.layout.nodes node) refusal.NoNode
+    refuse_unless (is_none (row_of world key)) refusal.Exists
+    (refuse_unless (set.contains world.layout.nodes node) refusal.NoNode
     (if_free world key (thing.Node node ∷ [])
-    (require (nat_lt (count_of world counted.Vehicles) 100 && (nat_lt 0 capacity && nat_le capacity seats)) refusal.Limit
+    (refuse_unless (nat_lt (count_of world counted.Vehicles) 100 && (nat_lt 0 capacity && nat_le capacity seats)) refusal.Limit
     (Made (registered key node capacity)))))
 
 -- an instant action for the vehicle: InstantPending where any is pending, Spent
 abbrev pub instruct : ℕ → VehicleKey → VehicleRow → InstantKind → Outcome
 instruct at key row kind =
-    require (is_none row.pending) refusal.InstantPending
-    (found (next_sent row.instants) refusal.Spent (λ number.
-    Made (record (told (answer.Instructed number)) { touched = Noted key row (record row { instants = record { count = number; at = at }; pending = Some kind }) })))
+    refuse_unless (is_none row.pending) refusal.InstantPending
+    (refuse_if_none (next_sent row.instants) refusal.Spent (λ number.
+    Made (record (answer_only (answer.Instructed number)) { touched = RowOnly key row (record row { instants = record { count = number; at = at }; pending = Some kind }) })))
 
 -- POST .../cancel: NoVehicle, NoOrder where no trip is open, InstantPending, Spent
 abbrev pub cancel : World → ℕ → VehicleKey → Outcome
 cancel world at key =
-    found (row_of world key) refusal.NoVehicle (λ row.
-    found (trip_of world key) refusal.NoOrder (λ trip.
+    refuse_if_none (row_of world key) refusal.NoVehicle (λ row.
+    refuse_if_none (trip_of world key) refusal.NoOrder (λ trip.
     instruct at key row instant.CancelOrder))
 
 -- POST .../pause: NoVehicle, InstantPending, Spent
 abbrev pub pause : World → ℕ → VehicleKey → Outcome
 pause world at key =
-    found (row_of world key) refusal.NoVehicle (λ row.
+    refuse_if_none (row_of world key) refusal.NoVehicle (λ row.
     instruct at key row instant.StartPause)
 
 -- POST .../resume: NoVehicle, InstantPending, Spent
 abbrev pub resume : World → ℕ → VehicleKey → Outcome
 resume world at key =
-    found (row_of world key) refusal.NoVehicle (λ row.
+    refuse_if_none (row_of world key) refusal.NoVehicle (λ row.
     instruct at key row instant.StopPause)
 
 -- where a person has put the vehicle: no trip, no rest, and nothing pending
@@ -100,8 +100,8 @@ placed row node = record { row = record row { node = node; rest = None; pending 
 -- the vehicle stands where it was put; an open trip ends, and its jobs that are not done stop
 abbrev pub put_down : World → VehicleKey → VehicleRow → Option Trip → List ℕ → List ℕ → Outcome
 put_down world key row trip reference node =
-    Made (record (told answer.Done) {
-      touched = Put key (Some (record { row = row; trip = trip })) (placed row node);
+    Made (record (answer_only answer.Done) {
+      touched = Whole key (Some (record { row = row; trip = trip })) (placed row node);
       jobs = jobs_stopped world trip;
       uses = reference_key reference ∷ [];
     })
@@ -109,15 +109,15 @@ put_down world key row trip reference node =
 -- POST .../place: RefUsed, NoVehicle, NoNode, Held, Limit; then as above
 abbrev pub place_vehicle : World → VehicleKey → List ℕ → List ℕ → Outcome
 place_vehicle world key reference node =
-    require (is_new world reference) refusal.RefUsed
-    (found (row_of world key) refusal.NoVehicle (λ row.
-    require (set.contains world.layout.nodes node) refusal.NoNode
+    refuse_unless (is_new world reference) refusal.RefUsed
+    (refuse_if_none (row_of world key) refusal.NoVehicle (λ row.
+    refuse_unless (set.contains world.layout.nodes node) refusal.NoNode
     (if_free world key (thing.Node node ∷ [])
-    (require (nat_lt (count_of world counted.References) most) refusal.Limit
+    (refuse_unless (nat_lt (count_of world counted.References) most) refusal.Limit
     (put_down world key row (trip_of world key) reference node)))))
 
 -- POST .../resync: NoVehicle; the number of the last state is forgotten
 abbrev pub resync : World → VehicleKey → Outcome
 resync world key =
-    found (row_of world key) refusal.NoVehicle (λ row.
-    Made (record (told answer.Done) { touched = Noted key row (record row { last_header = None }) }))
+    refuse_if_none (row_of world key) refusal.NoVehicle (λ row.
+    Made (record (answer_only answer.Done) { touched = RowOnly key row (record row { last_header = None }) }))

@@ -5,7 +5,7 @@ ghost use Rattle.std.specs.Option.{option_map};
 ghost use Rattle.agv_world.specs.Asks.{Asks};
 ghost use Rattle.agv_world.specs.declared.change.Change.TheVariants as row;
 ghost use Rattle.agv_world.specs.declared.row.JobRow.{JobRow as JobRowOf};
-ghost use Rattle.agv_desk.specs.JobSteps.{act_jobs, act_moves, as_it_is, becomes_finished, job_in, jobs_stopped, phase_by, taken_to};
+ghost use Rattle.agv_desk.specs.ActSteps.{act_jobs, act_moves, as_it_is, becomes_finished, job_in, jobs_stopped, phase_by, taken_to};
 ghost use Rattle.agv_desk.specs.Outcomes.{Move};
 
 use agv_header::{Memory, VehicleKey};

@@ -134,7 +134,7 @@ fn is_key(key: &VehicleKey)
     is_name(&key.serial);
 }
 
-fn are_named(rows: &[LayoutRow])
+fn names_law(rows: &[LayoutRow])
     ensures { AreNamed rows.now }
 {
     for row in rows {
@@ -149,11 +149,11 @@ fn is_number(number: u32)
 impl Call {
     /// The names that a call makes known are names, and the number of a state is in its range, since the parts of a
     /// call are of their types. It does nothing: a proof calls it for its clause.
-    pub fn is_well_typed(&self)
+    pub fn typing_law(&self)
         ensures { IsWellTyped self.now }
     {
         match self {
-            Call::SetLayout { rows } => are_named(rows.as_slice()),
+            Call::SetLayout { rows } => names_law(rows.as_slice()),
             Call::RegisterVehicle { key, .. } => is_key(key),
             Call::RegisterLoad { load, .. } => is_name(load),
             Call::CorrectLoad { reference, .. } => is_name(reference),

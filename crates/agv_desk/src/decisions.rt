@@ -1,8 +1,8 @@
 //! What is decided.
 ghost use Rattle.std.specs.Prelude.{◌≡◌, IfOk, [], ◌∷◌};
-ghost use Rattle.agv_desk.specs.Outcomes.{Made, Noted, Refused, decided, told};
+ghost use Rattle.agv_desk.specs.Outcomes.{Made, RowOnly, Refused, decided, answer_only};
 
-use crate::put::write_row;
+use crate::vehicle_rows::write_row;
 use crate::{Answer, Decision};
 use agv_header::{Memory, Refusal, VehicleKey};
 use agv_message::Sequence;
@@ -20,7 +20,7 @@ pub(crate) fn refused(alloc: Global, why: Refusal) -> Decision
 }
 
 /// An answer, and the rows that change.
-pub(crate) fn made(answer: Answer, changes: Vec<Change>) -> Decision
+pub(crate) fn accepted_with(answer: Answer, changes: Vec<Change>) -> Decision
     ensures answer { result.answer ≡ answer }
     ensures changes { result.changes ≡ changes.items }
 {
@@ -31,16 +31,16 @@ pub(crate) fn made(answer: Answer, changes: Vec<Change>) -> Decision
 }
 
 /// An answer, and the row of a vehicle that stands as before, where it changes.
-pub(crate) fn noted(
+pub(crate) fn row_update(
     alloc: Global,
     answer: Answer,
     key: &VehicleKey,
     old: &VehicleRow,
     new: VehicleRow,
 ) -> Result<Decision, Memory>
-    ensures { IfOk result (λ decision. decision ≡ decided (Made (record (told answer) { touched = Noted key.now old.now new }))) }
+    ensures { IfOk result (λ decision. decision ≡ decided (Made (record (answer_only answer) { touched = RowOnly key.now old.now new }))) }
 {
     let mut changes = Vec::new(alloc);
     write_row(key, old, new, &mut changes)?;
-    Ok(made(answer, changes))
+    Ok(accepted_with(answer, changes))
 }

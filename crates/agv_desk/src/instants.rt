@@ -4,7 +4,7 @@ ghost use Rattle.agv_world.specs.Asks.{Asks};
 ghost use Rattle.agv_desk.specs.Outcomes.{decided};
 ghost use Rattle.agv_desk.specs.VehicleSteps.{cancel, instruct, next_sent, pause, resume};
 
-use crate::decisions::{noted, refused};
+use crate::decisions::{refused, row_update};
 use crate::{Answer, Decision};
 use agv_header::{Memory, Moment, Refusal, VehicleKey, next_number};
 use agv_message::InstantKind;
@@ -45,7 +45,7 @@ fn instruct(
     let Some(number) = next_sent(row.instants) else {
         return Ok(refused(alloc, Refusal::Spent));
     };
-    noted(
+    row_update(
         alloc,
         Answer::Instructed(number),
         key,

@@ -2,11 +2,11 @@
 ghost use Rattle.std.specs.Prelude.{◌≡◌, IfOk, Some, is_some};
 ghost use Rattle.agv_stock.specs.Checks.{is_stored};
 ghost use Rattle.agv_world.specs.Asks.{Asks};
-ghost use Rattle.agv_desk.specs.LoadSteps.{station_in, is_waiting, add_job, job_written, stop_job};
+ghost use Rattle.agv_desk.specs.LoadAndJobSteps.{station_in, is_waiting, add_job, job_written, stop_job};
 ghost use Rattle.agv_desk.specs.Outcomes.{Made, decided};
 
-use crate::decisions::{made, refused};
-use crate::loads::{MOST, goal_at, is_in_job, is_known};
+use crate::decisions::{accepted_with, refused};
+use crate::loads::{MAX_RECORDS, goal_at, is_in_job, is_known};
 use crate::{Answer, Decision};
 use agv_header::{Memory, Name, Refusal};
 use agv_stock::{Phase, Place, can_job};
@@ -40,7 +40,7 @@ fn job_written(alloc: Global, job: Name, row: JobRow) -> Result<Decision, Memory
 {
     let mut changes = Vec::new(alloc);
     changes.push(Change::Job(job, row))?;
-    Ok(made(Answer::Done, changes))
+    Ok(accepted_with(Answer::Done, changes))
 }
 
 /// A load is to be carried to a station.
@@ -70,7 +70,7 @@ pub(crate) fn add_job<F: Floor>(
     if let Err(why) = can_job(false, Some(place), live, goal) {
         return Ok(refused(alloc, why));
     }
-    if floor.count(Counted::Jobs)? >= MOST {
+    if floor.count(Counted::Jobs)? >= MAX_RECORDS {
         return Ok(refused(alloc, Refusal::Limit));
     }
     let row = JobRow {

@@ -3,45 +3,39 @@
 //! - A [`Call`] is what the desk is asked. The table of calls is a definition (`specs/Step.antt`, with a file
 //!   beside it for each family of calls): a world, a moment and a call give an outcome, a refusal or an effect.
 //! - [`decide`] asks a floor what it needs to know, and gives a [`Decision`]: the [`Answer`] of that table, and the
-//!   rows that change. Each call is one private function, in a file for its family; `table` has them all.
+//!   rows that change. Each call is one private function, in a file for its family; `decide_call` has them all.
 //! - [`moves_of`] tells which loads a decision moves, and where to, in their order.
-//! - [`counted_by`] tells to which count a call has added one; the counts follow it ([`count_laws`]).
-//! - [`laws`] says that the rows which change take the rows of the world to those of the world after the call.
-//! - From a lawful world each call leads to a lawful world ([`lawful_laws`], of the halves [`vehicle_laws`] and
-//!   [`cargo_laws`]), and so does each list of calls; what else holds of lists is in [`history_laws`].
-#![tactic(auto, unfolding(crate::specs::Outcomes::require, crate::specs::Outcomes::found, crate::specs::Outcomes::checked, crate::specs::Outcomes::unheld, crate::specs::Outcomes::branch, crate::specs::Outcomes::decided, crate::specs::StateSteps::if_judged))]
+//! - [`counted_by`] tells to which count a call has added one; the counts follow it ([`laws::counts`]).
+//! - [`laws::calls`] says that the rows which change take the rows of the world to those of the world after the call.
+//! - From a lawful world each call leads to a lawful world ([`laws::lawful`], of the halves [`laws::vehicles`] and
+//!   [`laws::stock`]), and so does each list of calls; what else holds of lists is in [`laws::histories`].
+#![tactic(auto, unfolding(crate::specs::Outcomes::refuse_unless, crate::specs::Outcomes::refuse_if_none, crate::specs::Outcomes::checked, crate::specs::Outcomes::unheld, crate::specs::Outcomes::branch, crate::specs::Outcomes::decided, crate::specs::StateSteps::if_judged))]
 
 mod acts;
 mod answer;
 mod call;
-pub mod cargo_laws;
-pub mod count_laws;
 mod counts;
+mod decide_call;
 mod decisions;
-pub mod history_laws;
 mod holds;
 mod instants;
 mod jobs;
-pub mod lawful_laws;
 pub mod laws;
 mod layouts;
 mod loads;
 mod moves;
 mod order_jobs;
 mod orders;
-mod put;
 mod reads;
 mod sizes;
 mod states;
 mod stocktake;
-pub mod stocktake_laws;
-mod table;
 mod updates;
-pub mod vehicle_laws;
+mod vehicle_rows;
 mod vehicles;
 
 pub use answer::{Answer, Decision, OpenOrder};
 pub use call::Call;
 pub use counts::counted_by;
+pub use decide_call::decide;
 pub use moves::moves_of;
-pub use table::decide;

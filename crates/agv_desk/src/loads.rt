@@ -5,10 +5,10 @@ ghost use Rattle.agv_stock.specs.Room.{has_left};
 ghost use Rattle.agv_stock.specs.declared.goal.Goal.TheVariants as goals;
 ghost use Rattle.agv_world.specs.Asks.{Asks};
 ghost use Rattle.agv_world.specs.declared.change.Change.TheVariants as row;
-ghost use Rattle.agv_desk.specs.LoadSteps.{goal_at, goal_of, is_in_job, is_new, place_of, reference_key, register_load, correct_load, leave_load, recorded, registered};
+ghost use Rattle.agv_desk.specs.LoadAndJobSteps.{goal_at, goal_of, is_in_job, is_new, place_of, reference_key, register_load, correct_load, leave_load, recorded, registered};
 ghost use Rattle.agv_desk.specs.Outcomes.{Made, decided};
 
-use crate::decisions::{made, refused};
+use crate::decisions::{accepted_with, refused};
 use crate::{Answer, Decision};
 use agv_header::{Memory, Name, Refusal};
 use agv_stock::{Goal, Place, can_correct, can_leave, can_register};
@@ -16,7 +16,7 @@ use agv_world::{Change, Counted, Fault, Floor, UseKey, UseKind};
 use std::alloc::Global;
 
 /// The most loads, jobs, orders and references, those that are over counted.
-pub(crate) const MOST: usize = 1_000_000;
+pub(crate) const MAX_RECORDS: usize = 1_000_000;
 
 // A station as a goal, with its room, or as one that is unknown.
 pub(crate) fn goal_at(station: Name, room: Option<u32>) -> Goal
@@ -99,7 +99,7 @@ fn registered(alloc: Global, load: Name, to: Place) -> Result<Decision, Memory>
 {
     let mut changes = Vec::new(alloc);
     changes.push(Change::Load(load, to))?;
-    Ok(made(Answer::Done, changes))
+    Ok(accepted_with(Answer::Done, changes))
 }
 
 // A load is recorded there, and the reference is used.
@@ -109,7 +109,7 @@ fn recorded(alloc: Global, load: Name, to: Place, reference: Name) -> Result<Dec
     let mut changes = Vec::new(alloc);
     changes.push(Change::Load(load, to))?;
     changes.push(reference_used(reference))?;
-    Ok(made(Answer::Done, changes))
+    Ok(accepted_with(Answer::Done, changes))
 }
 
 /// Registers a load.
@@ -129,7 +129,7 @@ pub(crate) fn register_load<F: Floor>(
     if let Err(why) = can_register(place, goal) {
         return Ok(refused(alloc, why));
     }
-    if floor.count(Counted::Loads)? >= MOST {
+    if floor.count(Counted::Loads)? >= MAX_RECORDS {
         return Ok(refused(alloc, Refusal::Limit));
     }
     Ok(registered(alloc, load, place_of(station))?)
@@ -162,7 +162,7 @@ pub(crate) fn correct_load<F: Floor>(
     if let Err(why) = can_correct(Some(place), live, goal) {
         return Ok(refused(alloc, why));
     }
-    if floor.count(Counted::References)? >= MOST {
+    if floor.count(Counted::References)? >= MAX_RECORDS {
         return Ok(refused(alloc, Refusal::Limit));
     }
     Ok(recorded(alloc, load, place_of(station), reference)?)
@@ -190,7 +190,7 @@ pub(crate) fn leave_load<F: Floor>(
     if let Err(why) = can_leave(Some(place), live) {
         return Ok(refused(alloc, why));
     }
-    if floor.count(Counted::References)? >= MOST {
+    if floor.count(Counted::References)? >= MAX_RECORDS {
         return Ok(refused(alloc, Refusal::Limit));
     }
     Ok(recorded(alloc, load, Place::Left, reference)?)

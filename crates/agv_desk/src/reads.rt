@@ -2,11 +2,11 @@
 ghost use Rattle.std.specs.Prelude.{◌≡◌, IfOk};
 ghost use Rattle.agv_world.specs.Asks.{Asks};
 ghost use Rattle.agv_world.specs.Questions.{trip_of};
-ghost use Rattle.agv_desk.specs.Outcomes.{decided, Made, told};
+ghost use Rattle.agv_desk.specs.Outcomes.{decided, Made, answer_only};
 ghost use Rattle.agv_desk.specs.ReadSteps.{last_header, instant_told, open_order, order_told, get_order, get_instant, get_load, get_vehicle};
 ghost use Rattle.agv_desk.specs.Sizes.{IsOfSize};
 
-use crate::decisions::{made, refused};
+use crate::decisions::{accepted_with, refused};
 use crate::sizes::is_of_size;
 use crate::{Answer, Decision, OpenOrder};
 use agv_header::{Memory, Name, Refusal, VehicleKey};
@@ -16,10 +16,10 @@ use agv_world::{Fault, Floor, Sent, VehicleRow};
 use std::alloc::Global;
 
 // An answer, and nothing changes.
-pub(crate) fn told(alloc: Global, answer: Answer) -> Decision
-    ensures { result ≡ decided (Made (told answer)) }
+pub(crate) fn answer_only(alloc: Global, answer: Answer) -> Decision
+    ensures { result ≡ decided (Made (answer_only answer)) }
 {
-    made(answer, Vec::new(alloc))
+    accepted_with(answer, Vec::new(alloc))
 }
 
 // What the last message of a topic begins with.
@@ -90,7 +90,7 @@ pub(crate) fn get_order<F: Floor>(
         return Ok(refused(alloc, Refusal::NoVehicle));
     };
     let trip = floor.trip(key)?;
-    Ok(told(alloc, order_told(alloc, &key, &row, &trip)?))
+    Ok(answer_only(alloc, order_told(alloc, &key, &row, &trip)?))
 }
 
 /// The last instantActions message of a vehicle, while its action is pending.
@@ -104,7 +104,7 @@ pub(crate) fn get_instant<F: Floor>(
     let Some(row) = floor.vehicle(key)? else {
         return Ok(refused(alloc, Refusal::NoVehicle));
     };
-    Ok(told(alloc, instant_told(&key, &row)))
+    Ok(answer_only(alloc, instant_told(&key, &row)))
 }
 
 /// Where a load is, and its live job.
@@ -119,7 +119,7 @@ pub(crate) fn get_load<F: Floor>(
         return Ok(refused(alloc, Refusal::NoLoad));
     };
     let job = floor.job_of(load)?;
-    Ok(told(alloc, Answer::Load { load, place, job }))
+    Ok(answer_only(alloc, Answer::Load { load, place, job }))
 }
 
 /// What is known of a vehicle, and its open order.
@@ -137,5 +137,5 @@ pub(crate) fn get_vehicle<F: Floor>(
         Some(trip) => Some(open_order(trip)),
         None => None,
     };
-    Ok(told(alloc, Answer::Vehicle { key, row, order }))
+    Ok(answer_only(alloc, Answer::Vehicle { key, row, order }))
 }

@@ -7,16 +7,16 @@ ghost use Rattle.agv_world.specs.Asks.{Asks};
 ghost use Rattle.agv_world.specs.Questions.{trip_of};
 ghost use Rattle.agv_world.specs.VehicleChanges.{vehicle_changes};
 ghost use Rattle.agv_world.specs.declared.change.Change.TheVariants as change;
-ghost use Rattle.agv_desk.specs.JobSteps.{act_moves};
+ghost use Rattle.agv_desk.specs.ActSteps.{act_moves};
 ghost use Rattle.agv_desk.specs.Outcomes.{Move, decided};
 ghost use Rattle.agv_desk.specs.Sizes.{IsOfSize, IsShort};
 ghost use Rattle.agv_desk.specs.StateSteps.{driven, fresh_state, heard, idle_state, is_fresh, pending_of, row_after, take_state, trip_left, trip_state};
 
 use crate::acts::{move_loads, write_jobs};
-use crate::decisions::{made, noted, refused};
+use crate::decisions::{accepted_with, refused, row_update};
 use crate::orders::standing;
-use crate::put::write_vehicle;
 use crate::sizes::is_of_size;
+use crate::vehicle_rows::write_vehicle;
 use crate::{Answer, Decision};
 use agv_header::{Memory, Name, Refusal, VehicleKey};
 use agv_message::{Sequence, StateMessage, Status};
@@ -71,7 +71,7 @@ fn idle_state(
     ensures { IfOk result (λ decision. decision ≡ decided (idle_state key.now row.now state.now)) }
 {
     match judge_idle(row.node, pending_of(row), state) {
-        Ok(over) => noted(
+        Ok(over) => row_update(
             alloc,
             Answer::Accepted(true),
             key,
@@ -179,7 +179,7 @@ fn trip_state<F: Floor>(
     let acts = copied.as_slice();
     let mut changes = driven(alloc, key, row, trip, acts, state, &progress)?;
     write_jobs(floor, ended, acts, &progress.statuses, &mut changes)?;
-    Ok(made(Answer::Accepted(true), changes))
+    Ok(accepted_with(Answer::Accepted(true), changes))
 }
 
 // A state that is newer than the last one.
@@ -219,7 +219,7 @@ pub(crate) fn take_state<F: Floor>(
         return Ok(refused(alloc, Refusal::NoVehicle));
     };
     if !is_fresh(row.last_header, state.header_id) {
-        return Ok(made(Answer::Accepted(false), Vec::new(alloc)));
+        return Ok(accepted_with(Answer::Accepted(false), Vec::new(alloc)));
     }
     let trip = floor.trip(*key)?;
     if !is_of_size(&trip) {

@@ -3,24 +3,24 @@ ghost use Rattle.std.specs.Prelude.{◌≡◌, ◌++◌, ◌∷◌, [], true, ma
 ghost use Rattle.agv_stock.specs.declared.place.Place.{Place as PlaceOf};
 ghost use Rattle.agv_world.specs.Asks.{Asks};
 ghost use Rattle.agv_world.specs.declared.change.Change.TheVariants as row;
-ghost use Rattle.agv_desk.specs.CountParts.{count_by_parts, counted_effect, found_in, sightings, stations_in};
-ghost use Rattle.agv_desk.specs.LoadSteps.{reference_key};
+ghost use Rattle.agv_desk.specs.CountParts.{count_by_parts, counted_effect, found_in, counted_loads, stations_in};
+ghost use Rattle.agv_desk.specs.LoadAndJobSteps.{reference_key};
 ghost use Rattle.agv_desk.specs.Outcomes.{Made, decided};
 ghost use Rattle.agv_desk.specs.StocktakeSteps.{are_known, count_loads, take_stock};
 
+mod counted_load;
+mod counted_load_list;
 mod found;
 mod moves;
 mod room;
-mod sighting;
-mod sightings;
 mod stations;
 
-use crate::decisions::{made, refused};
+use crate::decisions::{accepted_with, refused};
+use crate::stocktake::counted_load::CountedLoad;
+use crate::stocktake::counted_load_list::{finds_on_vehicle, look_up, unknown};
 use crate::stocktake::found::found_loads;
 use crate::stocktake::moves::{Count, moves_in_job};
 use crate::stocktake::room::all_fit;
-use crate::stocktake::sighting::Sighting;
-use crate::stocktake::sightings::{finds_on_vehicle, look_up, unknown};
 use crate::stocktake::stations::counted_stations;
 use crate::{Answer, Decision};
 use agv_header::{Memory, Name, Refusal};
@@ -30,7 +30,7 @@ use agv_world::{Change, Counted, Fault, Floor, UseKey, UseKind};
 use std::alloc::Global;
 
 /// The most references.
-const MOST_REFERENCES: usize = 1_000_000;
+const MAX_REFERENCES: usize = 1_000_000;
 
 // The loads are at their new places, and the reference is used.
 fn changes(alloc: Global, reference: Name, moves: &[(Name, Place)]) -> Result<Vec<Change>, Memory>
@@ -52,7 +52,7 @@ fn counted_decision(
     alloc: Global,
     reference: Name,
     moves: &[(Name, Place)],
-    seen: &[Sighting],
+    seen: &[CountedLoad],
 ) -> Result<Decision, Memory>
     ensures { IfOk result (λ decision. decision ≡ decided (Made (counted_effect reference moves.now seen.now))) }
 {
@@ -62,7 +62,7 @@ fn counted_decision(
         moved: moves.len(),
         unknown: Sequence::from(unknown),
     };
-    Ok(made(answer, changes))
+    Ok(accepted_with(answer, changes))
 }
 
 // What is answered once the stations and the found loads are known.
@@ -71,7 +71,7 @@ fn count_loads<F: Floor>(
     floor: &mut F,
     reference: Name,
     count: &Count,
-    seen: &[Sighting],
+    seen: &[CountedLoad],
 ) -> Result<Decision, Fault>
     ensures { Asks F.facts floor.old floor.new result (λ world decision. decision ≡ decided (count_by_parts world reference count.now.stations count.now.found seen.now)) }
 {
@@ -85,7 +85,7 @@ fn count_loads<F: Floor>(
     if !all_fit(alloc, floor, &count.stations, seen)? {
         return Ok(refused(alloc, Refusal::Full));
     }
-    if floor.count(Counted::References)? >= MOST_REFERENCES {
+    if floor.count(Counted::References)? >= MAX_REFERENCES {
         return Ok(refused(alloc, Refusal::Limit));
     }
     Ok(counted_decision(alloc, reference, &moves, seen)?)

@@ -7,11 +7,11 @@ ghost use Rattle.agv_desk.specs.OrderSteps.{advance, can_release, is_confirmed, 
 ghost use Rattle.agv_desk.specs.Outcomes.{Made, decided};
 ghost use Rattle.agv_desk.specs.Sizes.{IsOfSize, IsShort};
 
-use crate::decisions::{made, refused};
+use crate::decisions::{accepted_with, refused};
 use crate::holds::first_held;
 use crate::orders::{is_cancelling, is_unready, sent_row, standing};
-use crate::put::write_vehicle;
 use crate::sizes::is_of_size;
+use crate::vehicle_rows::write_vehicle;
 use crate::{Answer, Decision};
 use agv_header::{Memory, Moment, Name, Refusal, VehicleKey, next_number};
 use agv_order::Trip;
@@ -69,7 +69,7 @@ fn update_sent(
     let mut changes = Vec::new(alloc);
     let sent = sent_row(row, at, number);
     write_vehicle(alloc, key, row, &before, sent, &after, &mut changes)?;
-    Ok(made(Answer::Update(update), changes))
+    Ok(accepted_with(Answer::Update(update), changes))
 }
 
 // It is sent, where what the vehicle is to hold is free.

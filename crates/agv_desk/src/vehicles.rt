@@ -7,12 +7,12 @@ ghost use Rattle.agv_desk.specs.Sizes.{IsOfSize};
 ghost use Rattle.agv_desk.specs.VehicleSteps.{new_vehicle, none_sent, place_vehicle, placed, put_down, register_vehicle, registered, resync};
 
 use crate::acts::stop_jobs;
-use crate::decisions::{made, noted, refused};
+use crate::decisions::{accepted_with, refused, row_update};
 use crate::holds::first_held;
-use crate::loads::{MOST, is_new, reference_used};
+use crate::loads::{MAX_RECORDS, is_new, reference_used};
 use crate::orders::standing;
-use crate::put::write_vehicle;
 use crate::sizes::is_of_size;
+use crate::vehicle_rows::write_vehicle;
 use crate::{Answer, Decision};
 use agv_header::{Memory, Moment, Name, Refusal, Thing, VehicleKey};
 use agv_order::Trip;
@@ -20,7 +20,7 @@ use agv_world::{Change, Counted, Fault, Floor, Sent, VehicleRow};
 use std::alloc::Global;
 
 /// The most vehicles.
-const MOST_VEHICLES: usize = 100;
+const MAX_VEHICLES: usize = 100;
 
 // No message of a topic was sent.
 fn none_sent() -> Sent
@@ -63,7 +63,7 @@ fn registered(
     let mut changes = Vec::new(alloc);
     changes.push(Change::Vehicle(*key, new_vehicle(capacity, node)))?;
     changes.push(Change::Hold(Thing::Node(node), Some(*key)))?;
-    Ok(made(Answer::Done, changes))
+    Ok(accepted_with(Answer::Done, changes))
 }
 
 // Whether a vehicle may be built for so many loads.
@@ -94,7 +94,7 @@ pub(crate) fn register_vehicle<F: Floor>(
         return Ok(refused(alloc, Refusal::Held { what, by }));
     }
     let count = floor.count(Counted::Vehicles)?;
-    if count >= MOST_VEHICLES || !may_carry(capacity, seats) {
+    if count >= MAX_VEHICLES || !may_carry(capacity, seats) {
         return Ok(refused(alloc, Refusal::Limit));
     }
     Ok(registered(alloc, key, node, capacity)?)
@@ -132,7 +132,7 @@ fn put_down<F: Floor>(
     write_vehicle(alloc, key, row, &old, next, &new, &mut changes)?;
     stop_jobs(floor, &old.trip, &mut changes)?;
     changes.push(reference_used(reference))?;
-    Ok(made(Answer::Done, changes))
+    Ok(accepted_with(Answer::Done, changes))
 }
 
 /// A person has put the vehicle on this node.
@@ -157,7 +157,7 @@ pub(crate) fn place_vehicle<F: Floor>(
     if let Some((what, by)) = first_held(floor, key, &[Thing::Node(node)])? {
         return Ok(refused(alloc, Refusal::Held { what, by }));
     }
-    if floor.count(Counted::References)? >= MOST {
+    if floor.count(Counted::References)? >= MAX_RECORDS {
         return Ok(refused(alloc, Refusal::Limit));
     }
     let trip = floor.trip(*key)?;
@@ -188,5 +188,5 @@ pub(crate) fn resync<F: Floor>(
     let Some(row) = floor.vehicle(*key)? else {
         return Ok(refused(alloc, Refusal::NoVehicle));
     };
-    Ok(noted(alloc, Answer::Done, key, &row, unheard(&row))?)
+    Ok(row_update(alloc, Answer::Done, key, &row, unheard(&row))?)
 }

@@ -8,7 +8,7 @@ ghost use Rattle.agv_world.specs.declared.fault.Fault.TheVariants as fault;
 ghost use Rattle.agv_face.specs.Replies.{ComesOfCall, IsAnswered, IsLaterDesk, IsServed, call_of, failed_after};
 
 use crate::call::call_in;
-use agv_desk::laws::tells_without_change;
+use agv_desk::laws::calls::tells_without_change;
 use agv_desk::{Answer, Call};
 use agv_header::Moment;
 use agv_http::size_laws::{outcomes_fit, tells_outcomes};

@@ -11,7 +11,7 @@ use Rattle.agv_order.specs.declared.trip.Trip.{Trip}
 use Rattle.agv_stock.specs.Checks.{Checked}
 use Rattle.agv_desk.specs.LayoutSteps.{if_given, layout_refusal}
 use Rattle.agv_desk.specs.OrderSteps.{if_planned, plan_refusal}
-use Rattle.agv_desk.specs.Outcomes.{Effect, Outcome, Made, answer_of, require, found, checked, unheld, branch}
+use Rattle.agv_desk.specs.Outcomes.{Effect, Outcome, Made, answer_of, refuse_unless, refuse_if_none, checked, unheld, branch}
 use Rattle.agv_desk.specs.StateSteps.{if_judged}
 use Rattle.agv_desk.specs.declared.answer.Answer.{Answer}
 use Rattle.agv_desk.specs.declared.answer.Answer.TheVariants as answer
@@ -21,13 +21,13 @@ module _ (P : Answer → Type 0) (refused : (why : Refusal) → P (answer.Refuse
   unfolding answer_of
   of_made effect h = h
 
-  pub of_require : (test : Bool) (why : Refusal) (rest : Outcome) → P (answer_of rest) → P (answer_of (require test why rest))
-  unfolding require answer_of
+  pub of_require : (test : Bool) (why : Refusal) (rest : Outcome) → P (answer_of rest) → P (answer_of (refuse_unless test why rest))
+  unfolding refuse_unless answer_of
   of_require true why rest h = h
   of_require false why rest h = refused why
 
-  pub of_found : {X : Type 0} (there : Option X) (why : Refusal) (rest : X → Outcome) → ((x : X) → P (answer_of (rest x))) → P (answer_of (found there why rest))
-  unfolding found answer_of
+  pub of_found : {X : Type 0} (there : Option X) (why : Refusal) (rest : X → Outcome) → ((x : X) → P (answer_of (rest x))) → P (answer_of (refuse_if_none there why rest))
+  unfolding refuse_if_none answer_of
   of_found None why rest h = refused why
   of_found (Some x) why rest h = h x
 

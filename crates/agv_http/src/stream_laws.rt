@@ -17,7 +17,7 @@ ghost use Rattle.agv_http.specs.StreamEnds.{EndsInMachineFault, IsFrontOf, IsRea
 ghost use Rattle.agv_http.specs.declared.request.Heard.{Heard as HeardOf};
 
 use crate::output_laws::writes_one_output;
-use agv_desk::laws::tells_without_change;
+use agv_desk::laws::calls::tells_without_change;
 use agv_header::Moment;
 
 /// An input is cut into the requests of a front and those of what follows it.

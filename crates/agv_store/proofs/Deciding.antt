@@ -12,7 +12,7 @@ use Rattle.agv_world.specs.declared.fault.Fault.TheVariants as machine
 use Rattle.agv_world.proofs.Asking.{answers, kept_here, left}
 use Rattle.agv_desk.specs.InOrder.{IsInOrder}
 use Rattle.agv_desk.specs.Outcomes.{after, decided}
-use Rattle.agv_desk.specs.Sizes.{IsServed}
+use Rattle.agv_desk.specs.Sizes.{IsWithinTripLimits}
 use Rattle.agv_desk.specs.Step.{step}
 use Rattle.agv_desk.specs.WellTyped.{IsSeats, IsWellTyped}
 use Rattle.agv_desk.specs.declared.answer.Decision.{Decision}
@@ -24,10 +24,10 @@ use Rattle.agv_store.specs.Served.{Decides, outcome_in, world_after}
 
 -- a decision in a lawful world is that of the call
 pub decides_in : ((seats : ℕ) (world : World) → HasLawfulVehicles seats world → IsInOrder world)
-    → ((seats : ℕ) (world : World) (call : Call) → HasLawfulVehicles seats world → IsServed world call)
+    → ((seats : ℕ) (world : World) (call : Call) → HasLawfulVehicles seats world → IsWithinTripLimits world call)
     → ((seats : ℕ) → IsSeats seats → (world : World) (at : ℕ) (call : Call) → IsLawful seats world → IsMoment at → IsWellTyped call → IsLawful seats (after world (step seats world at call)))
     → (at : ℕ) → IsMoment at → (call : Call) → IsWellTyped call → (world : World) (decision : Decision)
-    → (IsServed world call → decision ≡ decided (outcome_in world at call))
+    → (IsWithinTripLimits world call → decision ≡ decided (outcome_in world at call))
     → (IsInOrder world → changed decision.changes (rows_of world) ≡ rows_of (world_after world at call))
     → IsLawful desk_seats world → Decides world at call decision
 decides_in order served keeps at moment call typed world decision decides changes lawful = record {
@@ -55,11 +55,11 @@ module _ {S : Type 0} (g : Ghosts S) where
 
   -- a decision between two questions
   pub decided_between : ((seats : ℕ) (world : World) → HasLawfulVehicles seats world → IsInOrder world)
-      → ((seats : ℕ) (world : World) (call : Call) → HasLawfulVehicles seats world → IsServed world call)
+      → ((seats : ℕ) (world : World) (call : Call) → HasLawfulVehicles seats world → IsWithinTripLimits world call)
       → ((seats : ℕ) → IsSeats seats → (world : World) (at : ℕ) (call : Call) → IsLawful seats world → IsMoment at → IsWellTyped call → IsLawful seats (after world (step seats world at call)))
       → (at : ℕ) → IsMoment at → (call : Call) → IsWellTyped call → (decision : Decision) (a b c d : Keyed S) {P R : Type 0}
       → Answers (facts_of g) a b P
-      → Answers (facts_of g) b c (IsServed (world_at g b.held) call → decision ≡ decided (outcome_in (world_at g b.held) at call))
+      → Answers (facts_of g) b c (IsWithinTripLimits (world_at g b.held) call → decision ≡ decided (outcome_in (world_at g b.held) at call))
       → Answers (facts_of g) b c (IsInOrder (world_at g b.held) → changed decision.changes (rows_of (world_at g b.held)) ≡ rows_of (world_after (world_at g b.held) at call))
       → Answers (facts_of g) c d R
       → Answers (facts_of g) a d (IsLawful desk_seats (world_at g a.held) → Decides (world_at g a.held) at call decision)

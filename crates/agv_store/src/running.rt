@@ -5,7 +5,7 @@ ghost use Rattle.agv_store.specs.Floors.{Knows, world_at};
 ghost use Rattle.agv_store.specs.Ran.{HasAnswered, IsRun, LeavesLast, RunEndsAs};
 
 use crate::desk::Desk;
-use agv_desk::laws::serves_in_turn;
+use agv_desk::laws::calls::serves_in_turn;
 use agv_desk::{Answer, Call};
 use agv_header::Moment;
 use agv_tables::changes::change_laws::other_tables_stay;

@@ -15,8 +15,8 @@ ghost use Rattle.agv_store.specs.Served.{Decides, IsServedBy, LeavesAll, LeavesC
 
 use crate::flags::{note, read_as};
 use crate::keyed_floor::KeyedFloor;
-use agv_desk::count_laws::{adds_below_the_limit, counts_follow};
-use agv_desk::lawful_laws::{keeps_lawful, serves_lawful_worlds};
+use agv_desk::laws::counts::{adds_below_the_limit, counts_follow};
+use agv_desk::laws::lawful::{keeps_lawful, serves_lawful_worlds};
 use agv_desk::{Answer, Call, Decision, counted_by, decide};
 use agv_header::Moment;
 use agv_tables::changes::change_laws::changes_make_the_next_world;
@@ -38,7 +38,7 @@ impl<S: Alter + Drop> KeyedFloor<S> {
         serves_lawful_worlds();
         keeps_lawful();
         let _ms = at.ms();
-        call.is_well_typed();
+        call.typing_law();
         let alloc = self.alloc;
         self.settle()?;
         let decision = decide(alloc, self, at, call)?;

@@ -3,11 +3,11 @@ ghost use Rattle.std.specs.Prelude.{◌≡◌, List, OnOk};
 ghost use Rattle.std.specs.FinMap as map;
 ghost use Rattle.std.specs.List.{list_any};
 ghost use Rattle.agv_world.specs.Asks.{Asks};
-ghost use Rattle.agv_desk.specs.CountParts.{moves_in, placed, recorded, settled, standing, standing_at};
-ghost use Rattle.agv_desk.specs.LoadSteps.{is_in_job};
+ghost use Rattle.agv_desk.specs.CountParts.{moves_in, with_new_place, recorded, settled, standing, standing_at};
+ghost use Rattle.agv_desk.specs.LoadAndJobSteps.{is_in_job};
 ghost use Rattle.agv_desk.specs.StocktakeSteps.{from_station, new_place};
 
-use crate::stocktake::sighting::Sighting;
+use crate::stocktake::counted_load::CountedLoad;
 use agv_header::{Memory, Name};
 use agv_layout::StationSite;
 use agv_stock::Place;
@@ -49,7 +49,7 @@ impl Count {
 
     // Notes where a load goes that is recorded at this place, if it moves.
     fn settle(&self, moves: &mut ByName<Place>, load: Name, place: Place) -> Result<(), Memory>
-        ensures { OnOk result (moves.new ≡ placed moves.old load (new_place (map.contains_key self.now.stations) (map.get self.now.found load) place)) }
+        ensures { OnOk result (moves.new ≡ with_new_place moves.old load (new_place (map.contains_key self.now.stations) (map.get self.now.found load) place)) }
     {
         if let Some(to) = self.new_place(load, place) {
             moves.insert(load, to)?;
@@ -59,7 +59,7 @@ impl Count {
 
     // Notes where the found loads go.
     #[tactic(auto, unfolding(crate::specs::CountParts::settled))]
-    fn settle_found(&self, moves: &mut ByName<Place>, seen: &[Sighting]) -> Result<(), Memory>
+    fn settle_found(&self, moves: &mut ByName<Place>, seen: &[CountedLoad]) -> Result<(), Memory>
         ensures { OnOk result (moves.new ≡ settled (map.contains_key self.now.stations) self.now.found moves.old (recorded seen.now)) }
     {
         for one in seen {
@@ -108,7 +108,7 @@ impl Count {
         &self,
         alloc: Global,
         floor: &mut F,
-        seen: &[Sighting],
+        seen: &[CountedLoad],
     ) -> Result<Vec<(Name, Place)>, Fault>
         ensures { Asks F.facts floor.old floor.new result (λ world moves. moves.items ≡ map.entries (moves_in world self.now.stations self.now.found seen.now)) }
     {

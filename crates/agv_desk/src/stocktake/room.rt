@@ -5,18 +5,18 @@ ghost use Rattle.std.specs.List.{list_all};
 ghost use Rattle.std.specs.Option.{unwrap_or};
 ghost use Rattle.agv_world.specs.Asks.{Asks};
 ghost use Rattle.agv_world.specs.Questions.{reserved};
-ghost use Rattle.agv_desk.specs.CountParts.{has_room, all_have_room, seen_at};
+ghost use Rattle.agv_desk.specs.CountParts.{has_room_for, all_have_room, seen_at};
 
-use crate::stocktake::sighting::Sighting;
-use crate::stocktake::sightings::counts;
+use crate::stocktake::counted_load::CountedLoad;
+use crate::stocktake::counted_load_list::counts;
 use agv_header::Name;
 use agv_layout::StationSite;
 use agv_world::{ByName, Fault, Floor};
 use std::alloc::Global;
 
 // Whether so many loads and so many jobs fit there.
-fn has_room(found: usize, reserved: usize, spot: StationSite) -> bool
-    ensures { result ≡ has_room found reserved spot }
+fn has_room_for(found: usize, reserved: usize, spot: StationSite) -> bool
+    ensures { result ≡ has_room_for found reserved spot }
 {
     found.saturating_add(reserved) <= spot.capacity as usize
 }
@@ -28,11 +28,11 @@ fn fits<F: Floor>(
     station: Name,
     spot: StationSite,
 ) -> Result<bool, Fault>
-    ensures { Asks F.facts floor.old floor.new result (λ world fits. fits ≡ has_room (unwrap_or (map.get counts.now station) 0) (reserved world station) spot) }
+    ensures { Asks F.facts floor.old floor.new result (λ world fits. fits ≡ has_room_for (unwrap_or (map.get counts.now station) 0) (reserved world station) spot) }
 {
     let found = counts.get(station).copied().unwrap_or(0);
     let reserved = floor.reserved(station)?;
-    Ok(has_room(found, reserved, spot))
+    Ok(has_room_for(found, reserved, spot))
 }
 
 // Whether they fit at each of the stations.
@@ -41,7 +41,7 @@ fn each_fits<F: Floor>(
     counts: &ByName<usize>,
     stations: &[(Name, StationSite)],
 ) -> Result<bool, Fault>
-    ensures { Asks F.facts floor.old floor.new result (λ world fit. fit ≡ list_all (λ station. has_room (unwrap_or (map.get counts.now station.0) 0) (reserved world station.0) station.1) stations.now) }
+    ensures { Asks F.facts floor.old floor.new result (λ world fit. fit ≡ list_all (λ station. has_room_for (unwrap_or (map.get counts.now station.0) 0) (reserved world station.0) station.1) stations.now) }
 {
     for (station, spot) in stations {
         if !fits(floor, counts, *station, *spot)? {
@@ -56,7 +56,7 @@ pub(crate) fn all_fit<F: Floor>(
     alloc: Global,
     floor: &mut F,
     stations: &ByName<StationSite>,
-    seen: &[Sighting],
+    seen: &[CountedLoad],
 ) -> Result<bool, Fault>
     ensures { Asks F.facts floor.old floor.new result (λ world fit. fit ≡ all_have_room world seen.now (map.entries stations.now)) }
 {

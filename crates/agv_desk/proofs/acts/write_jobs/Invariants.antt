@@ -3,7 +3,7 @@ use Rattle.std.specs.List.{zip}
 use Rattle.agv_world.specs.Asks.{Answers}
 use Rattle.agv_world.specs.declared.change.Change.TheVariants as row
 use Rattle.agv_world.specs.declared.row.JobRow.{JobRow}
-use Rattle.agv_desk.specs.JobSteps.{Renewed, act_jobs}
+use Rattle.agv_desk.specs.ActSteps.{Renewed, act_jobs}
 use Rattle.agv_desk.proofs.acts.write_jobs.Given as goal
 
 abbrev pub invariant-loop-act : goal.invariant-loop-act

@@ -1,7 +1,7 @@
 use Rattle.std.proofs.Common.{List, ◌++◌, ◌∷◌, [], length, ap, ◌∙◌}
 use Rattle.agv_world.specs.declared.change.Change.{Change}
 use Rattle.agv_world.specs.declared.change.Change.TheVariants as row
-use Rattle.agv_desk.specs.LoadSteps.{reference_key}
+use Rattle.agv_desk.specs.LoadAndJobSteps.{reference_key}
 use Rattle.agv_desk.specs.Outcomes.{decided}
 use Rattle.agv_desk.specs.declared.answer.Answer.TheVariants as answer
 use Rattle.agv_desk.proofs.CountedWhole.{move_rows}
@@ -11,6 +11,6 @@ pub returns : goal.returns
 unfolding decided
 returns c =
     let moves = c.args.moves.now in
-    let said = c.made.ensures.answer ∙ ap (answer.Counted (length moves)) (c.from.ensures ∙ c.in_ok-unknown.ensures) in
-    let rows = c.made.ensures.changes ∙ c.in_ok-changes.ensures ∙ ap (λ (rows : List Change). rows ++ (row.Used (reference_key c.args.reference) ∷ [])) (move_rows row.Load moves) in
+    let said = c.accepted_with.ensures.answer ∙ ap (answer.Counted (length moves)) (c.from.ensures ∙ c.in_ok-unknown.ensures) in
+    let rows = c.accepted_with.ensures.changes ∙ c.in_ok-changes.ensures ∙ ap (λ (rows : List Change). rows ++ (row.Used (reference_key c.args.reference) ∷ [])) (move_rows row.Load moves) in
     λ i. record { answer = said i; changes = rows i }

@@ -1,6 +1,6 @@
 use Rattle.std.proofs.Common.{◌≡◌, Option, sym, ap, subst, ◌∙◌}
 use Rattle.agv_world.specs.Worlds.{World}
-use Rattle.agv_desk.specs.CountParts.{AreCounted, AreFound, count_by_parts, sightings}
+use Rattle.agv_desk.specs.CountParts.{AreCounted, AreFound, count_by_parts, counted_loads}
 use Rattle.agv_desk.specs.Outcomes.{Outcome, decided}
 use Rattle.agv_desk.specs.StocktakeSteps.{are_known, count_loads, has_twice}
 use Rattle.agv_desk.proofs.AskedInTurn.{answers_last, asked_next}
@@ -22,7 +22,7 @@ returns g c =
     let used_clean = c.in_ok-stations.ensures.was_clean counted_clean in
     let stations = subst (λ (o : Option Spots). AreCounted start rows o) c.in-Some.is (subst (λ (w : World). AreCounted w rows c.in_ok-stations.field-0) (used.world used_clean) (counted.told counted_clean)) in
     let found = subst (λ (o : Option Found). AreFound rows o) c.in-Some-2.is c.in_ok-found.ensures in
-    let seen : c.deref.result.now ≡ sightings start rows = c.deref.ensures.value ∙ looked.told seen_clean ∙ ap (λ (w : World). sightings w rows) (counted.world counted_clean) in
+    let seen : c.deref.result.now ≡ counted_loads start rows = c.deref.ensures.value ∙ looked.told seen_clean ∙ ap (λ (w : World). counted_loads w rows) (counted.world counted_clean) in
     let outcome = (λ i. count_by_parts (looked.world seen_clean i) reference (stations.1 i) (found.1 i) (seen i)) ∙ by_parts start reference rows stations.0
     ∙ opened _ (are_known start rows) (has_twice rows) (count_loads start reference rows) (sym (used.told used_clean) ∙ c.if-branch.false) stations.0 found.0 in
     subst (λ (outcome : Outcome). decision ≡ decided outcome) outcome told)

@@ -8,6 +8,6 @@ returns-in_err-decision-clause-ends g c =
 
 pub returns-clause-decides : goal.returns-clause-decides
 returns-clause-decides g c =
-    decided_between g.S.Store c.serves_lawful_worlds.ensures.order c.serves_lawful_worlds.ensures.served c.keeps_lawful.ensures c.args.at c.ms-ms.ensures.range c.args.call.now c.is_well_typed.ensures
+    decided_between g.S.Store c.serves_lawful_worlds.ensures.order c.serves_lawful_worlds.ensures.served c.keeps_lawful.ensures c.args.at c.ms-ms.ensures.range c.args.call.now c.typing_law.ensures
     c.in_ok-decision.decision c.args.self.now c.settle.new.self c.decide.new.floor c.settle-2.new.self
     c.in_ok-settle.ensures.asks c.in_ok-decision.ensures.decides c.in_ok-decision.ensures.changes c.in_ok-settle-2.ensures.asks

@@ -1,6 +1,0 @@
-use Rattle.std.proofs.Common.{take}
-use Rattle.agv_layout.specs.Rows.{AreNamed}
-use Rattle.agv_desk.proofs.call.are_named.Given as goal
-
-abbrev pub invariant-loop-row : goal.invariant-loop-row
-invariant-loop-row l = AreNamed (take l.row-index l.rows)

@@ -1,5 +1,0 @@
-use Rattle.agv_desk.proofs.StockInvariantWhole.{acts_find}
-use Rattle.agv_desk.proofs.cargo_laws.acts_find_their_loads.Goals as goal
-
-pub returns : goal.returns
-returns c = acts_find c.fits_as_said.ensures c.advances.ensures

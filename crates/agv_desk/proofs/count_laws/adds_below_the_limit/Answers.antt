@@ -1,5 +1,0 @@
-use Rattle.agv_desk.proofs.CountSteps.{adds_below}
-use Rattle.agv_desk.proofs.count_laws.adds_below_the_limit.Goals as goal
-
-pub returns : goal.returns
-returns c = λ seats world at call what more. adds_below world seats at call what more

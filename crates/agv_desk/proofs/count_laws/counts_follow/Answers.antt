@@ -1,5 +1,0 @@
-use Rattle.agv_desk.proofs.CountSteps.{counts_follow}
-use Rattle.agv_desk.proofs.count_laws.counts_follow.Goals as goal
-
-pub returns : goal.returns
-returns c = λ seats world at call what lawful. counts_follow world seats at call what lawful

@@ -1,5 +1,0 @@
-use Rattle.agv_desk.proofs.LawfulLists.{stays_lawful}
-use Rattle.agv_desk.proofs.history_laws.stays_lawful.Goals as goal
-
-pub returns : goal.returns
-returns c = λ seats seated. stays_lawful c.advances.ensures c.fits_as_said.ensures seats (c.keeps_lawful.ensures seats seated)

@@ -1,5 +1,0 @@
-use Rattle.agv_desk.proofs.LawfulSteps.{lawful_finds}
-use Rattle.agv_desk.proofs.lawful_laws.finds_each_load.Goals as goal
-
-pub returns : goal.returns
-returns c = lawful_finds c.acts_find_their_loads.ensures c.loads_meet_invariant.ensures

@@ -1,0 +1,11 @@
+use Rattle.agv_desk.proofs.FoundInTurn.{each_drops, each_finds, found_in_turn}
+use Rattle.agv_desk.proofs.laws.histories.finds_each_load_in_turn.Goals as goal
+
+pub returns-clause-calls : goal.returns-clause-calls
+returns-clause-calls c = λ seats seated. each_finds seats (c.finds_each_load.ensures seats) (c.stays_lawful.ensures seats seated)
+
+pub returns-clause-drops : goal.returns-clause-drops
+returns-clause-drops c = λ seats seated. each_drops seats (c.finds_each_load.ensures seats) (c.stays_lawful.ensures seats seated)
+
+pub returns-clause-moves : goal.returns-clause-moves
+returns-clause-moves c = λ seats seated. found_in_turn seats (c.finds_each_load.ensures seats) (c.stays_lawful.ensures seats seated)

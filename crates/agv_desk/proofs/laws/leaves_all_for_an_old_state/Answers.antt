@@ -1,5 +1,0 @@
-use Rattle.agv_desk.proofs.Unchanged.{leaves_all}
-use Rattle.agv_desk.proofs.laws.leaves_all_for_an_old_state.Goals as goal
-
-pub returns : goal.returns
-returns c = leaves_all

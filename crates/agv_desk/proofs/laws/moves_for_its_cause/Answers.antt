@@ -1,6 +1,0 @@
-use Rattle.agv_desk.proofs.CausedMoves.{moves_caused}
-use Rattle.agv_desk.proofs.laws.moves_for_its_cause.Goals as goal
-
--- src/laws.rt:68:1
-pub returns : goal.returns
-returns c = λ seats world at call. moves_caused world seats at call

@@ -1,0 +1,5 @@
+use Rattle.agv_desk.proofs.StockInvariantWhole.{stock_joined}
+use Rattle.agv_desk.proofs.laws.stock.keeps_stock_invariant.Goals as goal
+
+pub returns : goal.returns
+returns c = stock_joined c.gives_itself.ensures c.fits_as_said.ensures c.plans_go_by_routes.ensures.goes c.advances.ensures

@@ -1,5 +1,0 @@
-use Rattle.agv_desk.proofs.Unchanged.{tells}
-use Rattle.agv_desk.proofs.laws.tells_without_change.Goals as goal
-
-pub returns : goal.returns
-returns c = tells

@@ -1,0 +1,21 @@
+use Rattle.std.proofs.Common.{◌++◌, ◌+◌, List, drop, ap, ◌∙◌}
+use Rattle.agv_world.proofs.Asking.{retold}
+use Rattle.agv_desk.specs.CountParts.{counted_loads, with_counted_load}
+use Rattle.agv_desk.specs.declared.stocktake.counted_load.CountedLoad.{CountedLoad}
+use Rattle.agv_desk.proofs.AskedInTurn.{asked_next, says_so}
+use Rattle.agv_desk.proofs.SeenLoads.{looked_at_all, looked_more}
+use Rattle.agv_desk.proofs.stocktake.counted_load_list.look_up.Goals as goal
+
+pub returns : goal.returns
+returns g c = retold (λ told. looked_at_all (g.F.Floor.facts.world c.args.floor.now) c.loop-station.seen.items _ c.args.rows.now c.loop-station.station-index c.loop-station-test.false told) c.loop-station.invariant
+
+pub loop-station-preserved : goal.loop-station-preserved
+loop-station-preserved g c =
+    let start = g.F.Floor.facts.world c.args.floor.now in
+    let so_far = c.loop-station.invariant in
+    let asked = c.in_ok-note_counted_load.ensures in
+    let row = c.loop-station-item.result in
+    says_so (asked_next so_far asked) (λ clean.
+    let was_clean = asked.was_clean clean in
+    ap (λ (items : List CountedLoad). items ++ counted_loads start (drop (c.loop-station.station-index + 1) c.args.rows.now)) (asked.told clean ∙ ap (λ w. with_counted_load w c.loop-station.seen.items row.0 row.1) (so_far.world was_clean))
+    ∙ looked_more start c.loop-station.seen.items c.args.rows.now c.loop-station.station-index row _ c.loop-station-test.true c.loop-station-item.is (so_far.told was_clean))

@@ -1,5 +1,0 @@
-use Rattle.agv_desk.proofs.StockMoved.{number_told}
-use Rattle.agv_desk.proofs.stocktake_laws.counts_the_loads_that_moved.Goals as goal
-
-pub returns : goal.returns
-returns c = number_told

@@ -1,5 +1,0 @@
-use Rattle.agv_desk.proofs.StockLaws.{stock_taken}
-use Rattle.agv_desk.proofs.stocktake_laws.what_was_counted_is_there.Goals as goal
-
-pub returns : goal.returns
-returns c = stock_taken

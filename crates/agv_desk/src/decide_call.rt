@@ -1,0 +1,112 @@
+//! What a call is answered, and the rows that it changes.
+ghost use Rattle.std.specs.Prelude.{◌≡◌};
+ghost use Rattle.agv_world.specs.Changes.{changed};
+ghost use Rattle.agv_world.specs.Asks.{Asks};
+ghost use Rattle.agv_world.specs.Rows.{rows_of};
+ghost use Rattle.agv_desk.specs.InOrder.{IsInOrder};
+ghost use Rattle.agv_desk.specs.Outcomes.{after, decided};
+ghost use Rattle.agv_desk.specs.Sizes.{IsWithinTripLimits};
+ghost use Rattle.agv_desk.specs.Step.{step};
+
+use crate::instants::{cancel, pause, resume};
+use crate::jobs::{add_job, stop_job};
+use crate::laws::calls::leads_to_the_rows;
+use crate::layouts::set_layout;
+use crate::loads::{correct_load, leave_load, register_load};
+use crate::orders::start_order;
+use crate::reads::{answer_only, get_instant, get_load, get_order, get_vehicle};
+use crate::states::take_state;
+use crate::stocktake::take_stock;
+use crate::updates::advance;
+use crate::vehicles::{place_vehicle, register_vehicle, resync};
+use crate::{Answer, Call, Decision};
+use agv_header::Moment;
+use agv_world::{Fault, Floor};
+use std::alloc::Global;
+
+// The function of each call.
+fn decide_each<F: Floor>(
+    alloc: Global,
+    floor: &mut F,
+    at: Moment,
+    call: &Call,
+) -> Result<Decision, Fault>
+    ensures { Asks F.facts floor.old floor.new result (λ world decision. IsWithinTripLimits world call.now → decision ≡ decided (step (F.facts.seats floor.old) world at call.now)) }
+{
+    match call {
+        Call::SetLayout { rows } => set_layout(alloc, floor, rows.as_slice()),
+        Call::RegisterVehicle {
+            key,
+            node,
+            capacity,
+        } => register_vehicle(alloc, floor, key, *node, *capacity),
+        Call::RegisterLoad { load, station } => register_load(alloc, floor, *load, *station),
+        Call::CorrectLoad {
+            load,
+            reference,
+            station,
+        } => correct_load(alloc, floor, *load, *reference, *station),
+        Call::LeaveLoad { load, reference } => leave_load(alloc, floor, *load, *reference),
+        Call::AddJob { job, load, to } => add_job(alloc, floor, *job, *load, *to),
+        Call::StopJob { job } => stop_job(alloc, floor, *job),
+        Call::StartOrder {
+            order,
+            key,
+            stops,
+            edges,
+        } => start_order(alloc, floor, at, order, key, stops.as_slice(), *edges),
+        Call::Advance {
+            key,
+            order,
+            update,
+            edges,
+        } => advance(alloc, floor, at, key, order, *update, *edges),
+        Call::Cancel { key } => cancel(alloc, floor, at, key),
+        Call::Pause { key } => pause(alloc, floor, at, key),
+        Call::Resume { key } => resume(alloc, floor, at, key),
+        Call::PlaceVehicle {
+            key,
+            reference,
+            node,
+        } => place_vehicle(alloc, floor, key, *reference, *node),
+        Call::Resync { key } => resync(alloc, floor, key),
+        Call::State { key, state } => take_state(alloc, floor, key, state),
+        Call::GetOrder { key } => get_order(alloc, floor, *key),
+        Call::GetInstant { key } => get_instant(alloc, floor, *key),
+        Call::Stocktake { reference, rows } => {
+            take_stock(alloc, floor, *reference, rows.as_slice())
+        }
+        Call::GetLoad { load } => get_load(alloc, floor, *load),
+        Call::GetVehicle { key } => get_vehicle(alloc, floor, *key),
+        Call::StockReport => Ok(answer_only(alloc, Answer::StockReport)),
+        Call::HoldReport => Ok(answer_only(alloc, Answer::HoldReport)),
+        Call::LoadsExport => Ok(answer_only(alloc, Answer::LoadsExport)),
+    }
+}
+
+/// What a call is answered at a moment in the world of a floor, and the rows that it changes.
+///
+/// The answer is that of the table of calls (`specs/Step.antt`), and from a world in order the changes take the rows of
+/// the world to the rows of the world after the call; a call that is refused or only tells changes nothing. An update, a
+/// place, a state and the question for the last order message are answered so where the vehicle's trip has at most 200
+/// edges and eight acts, and no more updates than released edges, as every trip of a lawful world.
+///
+/// The floor is only asked (`Asks`). So after an answer its world is the same, and after a fault too where the floor is
+/// still open; that holds, and the answer is so, where the floor's store has given back what was written to it.
+///
+/// `Memory` where an allocation was refused, `Storage` where the floor has failed.
+#[tactic(auto, using(crate::proofs::Deciding::of_size))]
+pub fn decide<F: Floor>(
+    alloc: Global,
+    floor: &mut F,
+    at: Moment,
+    call: &Call,
+) -> Result<Decision, Fault>
+    ensures decides { Asks F.facts floor.old floor.new result (λ world decision.
+        IsWithinTripLimits world call.now → decision ≡ decided (step (F.facts.seats floor.old) world at call.now)) }
+    ensures changes { Asks F.facts floor.old floor.new result (λ world decision.
+        IsInOrder world → changed decision.changes (rows_of world) ≡ rows_of (after world (step (F.facts.seats floor.old) world at call.now))) }
+{
+    leads_to_the_rows();
+    decide_each(alloc, floor, at, call)
+}

@@ -1,0 +1,91 @@
+//! The loads that a stocktake has found, with what is known of each.
+ghost use Rattle.std.specs.Prelude.{◌≡◌, ℕ, ◌<◌, List, IfOk, OnOk};
+ghost use Rattle.std.specs.FinMap as map;
+ghost use Rattle.std.specs.List.{list_any, filter_map};
+ghost use Rattle.std.specs.Option.{unwrap_or};
+ghost use Rattle.agv_world.specs.Asks.{Asks};
+ghost use Rattle.agv_desk.specs.CountParts.{counted_loads, unknown_one, counted_up, seen_at, with_counted_load};
+ghost use Rattle.agv_desk.specs.StocktakeSteps.{is_on_vehicle};
+
+use crate::stocktake::counted_load::CountedLoad;
+use agv_header::{Memory, Name};
+use agv_world::{ByName, Fault, Floor};
+use std::alloc::Global;
+
+// Looks up the load of a row, if one was found.
+fn note_counted_load<F: Floor>(
+    floor: &mut F,
+    seen: &mut Vec<CountedLoad>,
+    station: Name,
+    load: Option<Name>,
+) -> Result<(), Fault>
+    ensures { Asks F.facts floor.old floor.new result (λ world done. seen.new.items ≡ with_counted_load world seen.old.items station load) }
+{
+    if let Some(load) = load {
+        let place = floor.place(load)?;
+        seen.push(CountedLoad {
+            station,
+            load,
+            place,
+        })?;
+    }
+    Ok(())
+}
+
+/// Looks up the loads of the rows, in their order.
+pub(crate) fn look_up<F: Floor>(
+    alloc: Global,
+    floor: &mut F,
+    rows: &[(Name, Option<Name>)],
+) -> Result<Vec<CountedLoad>, Fault>
+    ensures { Asks F.facts floor.old floor.new result (λ world seen. seen.items ≡ counted_loads world rows.now) }
+{
+    let mut seen = Vec::new(alloc);
+    for (station, load) in rows {
+        note_counted_load(floor, &mut seen, *station, *load)?;
+    }
+    Ok(seen)
+}
+
+/// Whether one of the loads is recorded on a vehicle.
+pub(crate) fn finds_on_vehicle(seen: &[CountedLoad]) -> bool
+    ensures { result ≡ list_any (λ one. is_on_vehicle one.place) seen.now }
+{
+    seen.iter().any(|one| one.is_on_vehicle())
+}
+
+/// The loads that are not known, or have left, in the order of the rows.
+pub(crate) fn unknown(alloc: Global, seen: &[CountedLoad]) -> Result<Vec<Name>, Memory>
+    ensures { IfOk result (λ names. names.items ≡ filter_map unknown_one seen.now) }
+{
+    let mut unknown = Vec::new(alloc);
+    for one in seen {
+        if !one.is_here() {
+            unknown.push(one.load)?;
+        }
+    }
+    Ok(unknown)
+}
+
+// Counts a load at the station where it was found, if it is known.
+fn count_up(counts: &mut ByName<usize>, one: &CountedLoad) -> Result<(), Memory>
+    requires { unwrap_or (map.get counts.old one.now.station) 0 < usize.MAX }
+    ensures { OnOk result ((station : List ℕ) → unwrap_or (map.get counts.new station) 0 ≡ counted_up one.now (unwrap_or (map.get counts.old station) 0) station) }
+{
+    if one.is_here() {
+        let count = counts.get(one.station).copied().unwrap_or(0);
+        counts.insert(one.station, count + 1)?;
+    }
+    Ok(())
+}
+
+/// How many known loads were found at each station.
+pub(crate) fn counts(alloc: Global, seen: &[CountedLoad]) -> Result<ByName<usize>, Memory>
+    ensures { IfOk result (λ counts. (station : List ℕ) → unwrap_or (map.get counts station) 0 ≡ seen_at seen.now station) }
+{
+    let mut counts = ByName::new(alloc);
+    for one in seen {
+        count_up(&mut counts, one)?;
+    }
+    Ok(counts)
+}
