@@ -6,8 +6,9 @@ ghost use Rattle.agv_desk.specs.LoadAndJobSteps.{station_in, is_waiting, add_job
 ghost use Rattle.agv_desk.specs.Outcomes.{Made, decided};
 
 use crate::decisions::{accepted_with, refused};
-use crate::loads::{MAX_RECORDS, goal_at, is_in_job, is_known};
+use crate::loads::{goal_at, is_in_job, is_known};
 use crate::{Answer, Decision};
+use agv_header::limits::MAX_RECORDS;
 use agv_header::{Memory, Name, Refusal};
 use agv_stock::{Phase, Place, can_job};
 use agv_world::{Change, Counted, Fault, Floor, JobRow};

@@ -10,13 +10,11 @@ ghost use Rattle.agv_desk.specs.Outcomes.{Made, decided};
 
 use crate::decisions::{accepted_with, refused};
 use crate::{Answer, Decision};
+use agv_header::limits::MAX_RECORDS;
 use agv_header::{Memory, Name, Refusal};
 use agv_stock::{Goal, Place, can_correct, can_leave, can_register};
 use agv_world::{Change, Counted, Fault, Floor, UseKey, UseKind};
 use std::alloc::Global;
-
-/// The most loads, jobs, orders and references, those that are over counted.
-pub(crate) const MAX_RECORDS: usize = 1_000_000;
 
 // A station as a goal, with its room, or as one that is unknown.
 pub(crate) fn goal_at(station: Name, room: Option<u32>) -> Goal

@@ -23,14 +23,12 @@ use crate::stocktake::moves::{Count, moves_in_job};
 use crate::stocktake::room::all_fit;
 use crate::stocktake::stations::counted_stations;
 use crate::{Answer, Decision};
+use agv_header::limits::MAX_RECORDS;
 use agv_header::{Memory, Name, Refusal};
 use agv_message::Sequence;
 use agv_stock::Place;
 use agv_world::{Change, Counted, Fault, Floor, UseKey, UseKind};
 use std::alloc::Global;
-
-/// The most references.
-const MAX_REFERENCES: usize = 1_000_000;
 
 // The loads are at their new places, and the reference is used.
 fn changes(alloc: Global, reference: Name, moves: &[(Name, Place)]) -> Result<Vec<Change>, Memory>
@@ -85,7 +83,7 @@ fn count_loads<F: Floor>(
     if !all_fit(alloc, floor, &count.stations, seen)? {
         return Ok(refused(alloc, Refusal::Full));
     }
-    if floor.count(Counted::References)? >= MAX_REFERENCES {
+    if floor.count(Counted::References)? >= MAX_RECORDS {
         return Ok(refused(alloc, Refusal::Limit));
     }
     Ok(counted_decision(alloc, reference, &moves, seen)?)

@@ -9,14 +9,14 @@ ghost use Rattle.agv_desk.specs.Sizes.{IsOfSize, IsShort};
 
 use crate::decisions::{accepted_with, refused};
 use crate::holds::first_held;
-use crate::orders::{is_cancelling, is_unready, sent_row, standing};
+use crate::orders::{Addressee, is_cancelling, is_unready, sent_row, standing};
 use crate::sizes::is_of_size;
 use crate::vehicle_rows::write_vehicle;
 use crate::{Answer, Decision};
 use agv_header::{Memory, Moment, Name, Refusal, VehicleKey, next_number};
 use agv_order::Trip;
 use agv_track::{Standing, footprint};
-use agv_world::{Fault, Floor, VehicleRow};
+use agv_world::{Fault, Floor};
 use std::alloc::Global;
 
 // The open trip, where it is that of this order.
@@ -52,9 +52,7 @@ fn is_confirmed(confirmed: Option<u32>, sent: u32) -> bool
 // This update is sent: the trip has this much released.
 fn update_sent(
     alloc: Global,
-    at: Moment,
-    key: &VehicleKey,
-    row: &VehicleRow,
+    to: &Addressee<'_>,
     old: Option<Trip>,
     new: Option<Trip>,
     update: u32,
@@ -62,13 +60,13 @@ fn update_sent(
 ) -> Result<Decision, Memory>
     requires old_short { IsShort old }
     requires new_short { IsShort new }
-    ensures { IfOk result (λ decision. decision ≡ decided (Made (update_sent at key.now row.now old new update number))) }
+    ensures { IfOk result (λ decision. decision ≡ decided (Made (update_sent to.now.at to.now.key.now to.now.row.now old new update number))) }
 {
-    let before = standing(row, old);
-    let after = standing(row, new);
+    let before = standing(to.row, old);
+    let after = standing(to.row, new);
     let mut changes = Vec::new(alloc);
-    let sent = sent_row(row, at, number);
-    write_vehicle(alloc, key, row, &before, sent, &after, &mut changes)?;
+    let sent = sent_row(to.row, to.at, number);
+    write_vehicle(alloc, to.key, to.row, &before, sent, &after, &mut changes)?;
     Ok(accepted_with(Answer::Update(update), changes))
 }
 
@@ -76,29 +74,27 @@ fn update_sent(
 fn send_update<F: Floor>(
     alloc: Global,
     floor: &mut F,
-    at: Moment,
-    key: &VehicleKey,
-    row: &VehicleRow,
+    to: &Addressee<'_>,
     trip: Trip,
     update: u32,
     edges: u32,
 ) -> Result<Decision, Fault>
     requires { IsOfSize (Some trip) }
-    ensures { Asks F.facts floor.old floor.new result (λ world decision. decision ≡ decided (send_update world at key.now row.now trip update edges)) }
+    ensures { Asks F.facts floor.old floor.new result (λ world decision. decision ≡ decided (send_update world to.now.at to.now.key.now to.now.row.now trip update edges)) }
 {
     let Some(next) = release(&trip, edges)? else {
         return Ok(refused(alloc, Refusal::Beyond));
     };
-    let new = standing(row, Some(next));
+    let new = standing(to.row, Some(next));
     let things = footprint(alloc, &new)?;
-    if let Some((what, by)) = first_held(floor, key, &things)? {
+    if let Some((what, by)) = first_held(floor, to.key, &things)? {
         return Ok(refused(alloc, Refusal::Held { what, by }));
     }
-    let Some(number) = next_number(row.orders.count) else {
+    let Some(number) = next_number(to.row.orders.count) else {
         return Ok(refused(alloc, Refusal::Spent));
     };
     let Standing { trip: next, .. } = new;
-    Ok(update_sent(alloc, at, key, row, Some(trip), next, update, number)?)
+    Ok(update_sent(alloc, to, Some(trip), next, update, number)?)
 }
 
 // Whether the update is the one after the last that was sent.
@@ -112,15 +108,13 @@ fn is_next(update: u32, sent: u32) -> bool
 fn take_update<F: Floor>(
     alloc: Global,
     floor: &mut F,
-    at: Moment,
-    key: &VehicleKey,
-    row: &VehicleRow,
+    to: &Addressee<'_>,
     trip: Trip,
     update: u32,
     edges: u32,
 ) -> Result<Decision, Fault>
     requires { IsOfSize (Some trip) }
-    ensures { Asks F.facts floor.old floor.new result (λ world decision. decision ≡ decided (take_update world at key.now row.now trip update edges)) }
+    ensures { Asks F.facts floor.old floor.new result (λ world decision. decision ≡ decided (take_update world to.now.at to.now.key.now to.now.row.now trip update edges)) }
 {
     if !is_next(update, trip.sent) {
         return Ok(refused(alloc, Refusal::WrongUpdate { sent: trip.sent }));
@@ -128,13 +122,13 @@ fn take_update<F: Floor>(
     if !is_confirmed(trip.confirmed, trip.sent) {
         return Ok(refused(alloc, Refusal::NotConfirmed));
     }
-    if is_unready(row) {
+    if is_unready(to.row) {
         return Ok(refused(alloc, Refusal::NotReady));
     }
-    if is_cancelling(row.pending) {
+    if is_cancelling(to.row.pending) {
         return Ok(refused(alloc, Refusal::InstantPending));
     }
-    send_update(alloc, floor, at, key, row, trip, update, edges)
+    send_update(alloc, floor, to, trip, update, edges)
 }
 
 /// Releases so many edges more of an open order.
@@ -159,5 +153,6 @@ pub(crate) fn advance<F: Floor>(
     let Some(trip) = trip_for(found, order) else {
         return Ok(refused(alloc, Refusal::NoOrder));
     };
-    take_update(alloc, floor, at, key, &row, trip, update, edges)
+    let to = Addressee { at, key, row: &row };
+    take_update(alloc, floor, &to, trip, update, edges)
 }

@@ -9,18 +9,16 @@ ghost use Rattle.agv_desk.specs.VehicleSteps.{new_vehicle, none_sent, place_vehi
 use crate::acts::stop_jobs;
 use crate::decisions::{accepted_with, refused, row_update};
 use crate::holds::first_held;
-use crate::loads::{MAX_RECORDS, is_new, reference_used};
+use crate::loads::{is_new, reference_used};
 use crate::orders::standing;
 use crate::sizes::is_of_size;
 use crate::vehicle_rows::write_vehicle;
 use crate::{Answer, Decision};
+use agv_header::limits::{MAX_RECORDS, MAX_VEHICLES};
 use agv_header::{Memory, Moment, Name, Refusal, Thing, VehicleKey};
 use agv_order::Trip;
 use agv_world::{Change, Counted, Fault, Floor, Sent, VehicleRow};
 use std::alloc::Global;
-
-/// The most vehicles.
-const MAX_VEHICLES: usize = 100;
 
 // No message of a topic was sent.
 fn none_sent() -> Sent

@@ -33,7 +33,7 @@ returns g c =
     let none_on_vehicle = sym c.finds_on_vehicle.ensures ∙ c.if-finds_on_vehicle.false in
     let none_in_job = sym (jobs.told job_clean ∙ (λ i. list_any (λ (load : List ℕ × Place). is_in_job (moved.world moves_clean i) load.0) (listed i))) ∙ c.if-branch.false in
     let room = sym (fit.told fit_clean ∙ ap (λ (w : World). all_have_room w seen (map.entries stations)) (jobs.world job_clean)) ∙ c.if-not-branch.false in
-    let few = ap (λ n. nat_lt n most) (sym (used.told clean ∙ ap (λ (w : World). count_of w counted.References) (fit.world fit_clean))) ∙ lt-ltb _ _ c.if-branch-ge-MAX_REFERENCES.false in
+    let few = ap (λ n. nat_lt n most) (sym (used.told clean ∙ ap (λ (w : World). count_of w counted.References) (fit.world fit_clean))) ∙ lt-ltb _ _ c.if-branch-ge-MAX_RECORDS.false in
     c.in_ok-counted_decision.ensures
     ∙ ap (λ (moves : List (List ℕ × Place)). decided (Made (counted_effect c.args.reference moves seen))) listed_again
     ∙ ap decided (passed _ _ _ _ (Made (counted_effect c.args.reference moves seen)) none_on_vehicle none_in_job room few))
