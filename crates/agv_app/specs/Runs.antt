@@ -5,12 +5,12 @@ use Rattle.agv_header.specs.declared.refusal.Refusal.TheVariants as refusal
 use Rattle.agv_world.specs.Worlds.{empty_world}
 use Rattle.agv_face.specs.Bytes.{IsPutWhole}
 use Rattle.agv_face.specs.Ends.{IsStreamEnd}
-use Rattle.agv_face.specs.declared.served.Ended.{Ended}
-use Rattle.agv_face.specs.declared.served.Ended.TheVariants as ended
-use Rattle.agv_face.specs.declared.served.Served.{Served}
-use Rattle.agv_face.specs.declared.served.StreamFault.{StreamFault}
-use Rattle.agv_face.specs.declared.served.StreamFault.TheVariants as stream
-use Rattle.agv_face.specs.declared.watched.Watched.{Watched}
+use Rattle.agv_face.specs.declared.stream_end.Ended.{Ended}
+use Rattle.agv_face.specs.declared.stream_end.Ended.TheVariants as ended
+use Rattle.agv_face.specs.declared.stream_end.StreamSummary.{StreamSummary}
+use Rattle.agv_face.specs.declared.stream_end.StreamFault.{StreamFault}
+use Rattle.agv_face.specs.declared.stream_end.StreamFault.TheVariants as stream
+use Rattle.agv_face.specs.declared.counting_io.CountingIo.{CountingIo}
 use Rattle.agv_memory.specs.MemoryStores.{MemoryStore, over_memory_files}
 use Rattle.agv_store.specs.Floors.{Keyed, world_at}
 use Rattle.agv_store.specs.declared.open_fault.OpenFault.{OpenFault}
@@ -44,7 +44,7 @@ end_by (ended.Refused refusal.Storage) = Err fault.Storage
 end_by _ = Ok tt
 
 -- the end of a run whose stream ended so
-abbrev pub end_of : Result Served StreamFault → RunEnd
+abbrev pub end_of : Result StreamSummary StreamFault → RunEnd
 end_of (Ok served) = end_by served.ended
 end_of (Err (stream.Read answers)) = Err fault.Read
 end_of (Err (stream.Write answers)) = Err fault.Write
@@ -71,7 +71,7 @@ status_of (Ok done) = 0
 status_of (Err why) = 1
 
 -- a fault was said in its line, whole, or cut where a write failed; where all was done nothing was said
-module _ {E : Type 0} (contents : E → Option (List ℕ)) (errors errors_then : Watched E) where
+module _ {E : Type 0} (contents : E → Option (List ℕ)) (errors errors_then : CountingIo E) where
   abbrev pub IsTold : RunEnd → Type 0
   IsTold (Ok done) = errors_then ≡ errors
   IsTold (Err why) = (whole : Bool) × IsPutWhole contents errors errors_then (fault_line why) whole
@@ -83,21 +83,21 @@ abbrev pub stream_reads : ℕ
 stream_reads = 16777216
 
 -- the reader of the input and the writer of the output, each before and after
-module _ {R W : Type 0} (remaining : R → Option (List ℕ)) (contents : W → Option (List ℕ)) (reader reader_then : Watched R) (writer writer_then : Watched W) where
+module _ {R W : Type 0} (remaining : R → Option (List ℕ)) (contents : W → Option (List ℕ)) (reader reader_then : CountingIo R) (writer writer_then : CountingIo W) where
   -- nothing was read or written
   abbrev pub IsUntouched : Type 0
   IsUntouched = (reader_then ≡ reader) × (writer_then ≡ writer)
 
   -- the input was served from this desk on, at a moment
-  pub record IsServed {S : Type 0} (g : Ghosts S) (at : ℕ) (desk : Keyed S) (end : RunEnd) : Type 0 where
+  pub record IsServedRun {S : Type 0} (g : Ghosts S) (at : ℕ) (desk : Keyed S) (end : RunEnd) : Type 0 where
     pub desk_then : Keyed S
-    pub ended : Result Served StreamFault
+    pub ended : Result StreamSummary StreamFault
     pub stream : IsStreamEnd g remaining contents at stream_reads desk desk_then reader reader_then writer writer_then ended
     pub end_is : end ≡ end_of ended
 
   -- it was so at a number of milliseconds that is a moment; at another it is the clock's fault
   abbrev pub IsReplayed : {S : Type 0} → Ghosts S → ℕ → Keyed S → RunEnd → Type 0
-  IsReplayed g at desk end = (at ≤ last_moment → IsServed g at desk end) × (last_moment < at → IsUntouched × (end ≡ Err fault.Clock))
+  IsReplayed g at desk end = (at ≤ last_moment → IsServedRun g at desk end) × (last_moment < at → IsUntouched × (end ≡ Err fault.Clock))
 
   -- no desk could be had in memory, or the input was served from the world of a desk that knows nothing yet
   abbrev pub IsReplayedInMemory : ℕ → RunEnd → Type 0
@@ -113,7 +113,7 @@ module _ {R W : Type 0} (remaining : R → Option (List ℕ)) (contents : W → 
 
 -- a line was carried out to an end, which was told and gave the exit status
 pub record IsRun {R W E : Type 0} (remaining : R → Option (List ℕ)) (contents : W → Option (List ℕ)) (contents_of_errors : E → Option (List ℕ)) (asked : Line)
-    (reader reader_then : Watched R) (writer writer_then : Watched W) (errors errors_then : Watched E) (status : ℕ) : Type 0 where
+    (reader reader_then : CountingIo R) (writer writer_then : CountingIo W) (errors errors_then : CountingIo E) (status : ℕ) : Type 0 where
   pub end : RunEnd
   pub carried_out : IsCarriedOut remaining contents reader reader_then writer writer_then asked end
   pub told : IsTold contents_of_errors errors errors_then end

@@ -16,7 +16,7 @@ mod run;
 use crate::line::line_of;
 use crate::outcome::NoLine;
 use crate::run::run_line;
-use agv_face::Watched;
+use agv_face::CountingIo;
 use std::alloc::Global;
 use std::env::{self, Env};
 use std::io::{self, ErrorKind};
@@ -50,9 +50,9 @@ fn words_of(rt: &(impl Env + Alloc<A = Global>)) -> Result<Vec<String>, NoLine>
 /// Reads the line, carries it out over the standard streams, and gives the exit status.
 fn run_words(rt: &HostRuntime, words: &[String]) -> Result<u8, NoLine> {
     let line = line_of(rt.alloc(), words)?;
-    let mut reader = Watched::new(rt.reader());
-    let mut writer = Watched::new(io::writer(rt));
-    let mut errors = Watched::new(rt.stderr());
+    let mut reader = CountingIo::new(rt.reader());
+    let mut writer = CountingIo::new(io::writer(rt));
+    let mut errors = CountingIo::new(rt.stderr());
     Ok(run_line(rt, rt.alloc(), &line, &mut reader, &mut writer, &mut errors))
 }
 

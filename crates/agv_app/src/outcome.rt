@@ -3,7 +3,7 @@ ghost use Rattle.std.specs.Prelude.{◌≡◌};
 ghost use Rattle.agv_app.specs.Runs.{end_by, end_of, fault_line, opening_fault, said_of, status_of, status_without};
 
 use crate::line::LineFault;
-use agv_face::{Ended, Served, StreamFault};
+use agv_face::{Ended, StreamSummary, StreamFault};
 use agv_header::Refusal;
 use agv_store::OpenFault;
 use clap::Error;
@@ -64,7 +64,7 @@ impl From<OpenFault> for RunFault {
 
 /// How a run ends whose stream has ended so: its last answer was the refusal for a fault of the machine, or it was served
 /// or refused as its requests had it.
-pub fn end_of(ended: Result<Served, StreamFault>) -> Result<(), RunFault>
+pub fn end_of(ended: Result<StreamSummary, StreamFault>) -> Result<(), RunFault>
     ensures { result ≡ end_of ended }
 {
     match ended {

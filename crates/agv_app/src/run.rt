@@ -10,7 +10,7 @@ ghost use Rattle.agv_app.specs.declared.outcome.RunFault.TheVariants as fault;
 use crate::line::{Line, ReportKind};
 use crate::outcome::{RunFault, end_of};
 use agv_desk::Answer;
-use agv_face::{Served, StreamFault, Watched, serve_stream, write_whole};
+use agv_face::{StreamSummary, StreamFault, CountingIo, serve_stream, write_whole};
 use agv_header::Moment;
 use agv_memory::MemoryFile;
 use agv_memory::laws::stores_in_memory_are_clean;
@@ -91,8 +91,8 @@ fn replay_on<S: Alter + Drop, R: Read, W: Write>(
     alloc: Global,
     desk: Desk<S>,
     at: u64,
-    reader: &mut Watched<R>,
-    writer: &mut Watched<W>,
+    reader: &mut CountingIo<R>,
+    writer: &mut CountingIo<W>,
 ) -> Result<(), RunFault>
     ensures { IsReplayed R.remaining W.contents reader.old reader.new writer.old writer.new S.Store at desk result }
 {
@@ -105,8 +105,8 @@ fn replay_on<S: Alter + Drop, R: Read, W: Write>(
 fn replay_in_memory<R: Read, W: Write>(
     alloc: Global,
     at: u64,
-    reader: &mut Watched<R>,
-    writer: &mut Watched<W>,
+    reader: &mut CountingIo<R>,
+    writer: &mut CountingIo<W>,
 ) -> Result<(), RunFault>
     ensures { IsReplayedInMemory R.remaining W.contents reader.old reader.new writer.old writer.new at result }
 {
@@ -120,8 +120,8 @@ fn replay<R: Read, W: Write>(
     alloc: Global,
     db: &str,
     at: u64,
-    reader: &mut Watched<R>,
-    writer: &mut Watched<W>,
+    reader: &mut CountingIo<R>,
+    writer: &mut CountingIo<W>,
 ) -> Result<(), RunFault>
     ensures { db.now ≡ codes "memory" → IsReplayedInMemory R.remaining W.contents reader.old reader.new writer.old writer.new at result }
 {
@@ -152,15 +152,15 @@ pub fn serve_next<S: Alter + Drop>(
     alloc: Global,
     desk: &mut Desk<S>,
     listener: &mut TcpListener,
-) -> Result<Result<Served, StreamFault>, NextFault> {
+) -> Result<Result<StreamSummary, StreamFault>, NextFault> {
     let Ok((stream, _)) = listener.accept() else {
         return Err(NextFault::Net);
     };
     let Some(at) = moment_now(rt) else {
         return Err(NextFault::Clock);
     };
-    let mut reader = Watched::new(&stream);
-    let mut writer = Watched::new(&stream);
+    let mut reader = CountingIo::new(&stream);
+    let mut writer = CountingIo::new(&stream);
     Ok(serve_stream(alloc, desk, at, &mut reader, &mut writer))
 }
 
@@ -193,7 +193,7 @@ fn serve<S: Alter + Drop, W: Write>(
     desk: Desk<S>,
     port: u16,
     connections: u32,
-    writer: &mut Watched<W>,
+    writer: &mut CountingIo<W>,
 ) -> Result<(), RunFault> {
     let local = SocketAddr::V4(SocketAddrV4::new(Ipv4Addr::LOCALHOST, port));
     let Ok(mut listener) = TcpListener::bind(rt, local) else {
@@ -214,7 +214,7 @@ fn serve<S: Alter + Drop, W: Write>(
 fn report<S: Alter + Drop, W: Write>(
     desk: Desk<S>,
     kind: ReportKind,
-    writer: &mut Watched<W>,
+    writer: &mut CountingIo<W>,
 ) -> Result<(), RunFault> {
     let named = match kind {
         ReportKind::Stock => Answer::StockReport,
@@ -234,8 +234,8 @@ fn carry_out<R: Read, W: Write>(
     rt: &HostRuntime,
     alloc: Global,
     line: &Line<'_>,
-    reader: &mut Watched<R>,
-    writer: &mut Watched<W>,
+    reader: &mut CountingIo<R>,
+    writer: &mut CountingIo<W>,
 ) -> Result<(), RunFault>
     ensures { IsCarriedOut R.remaining W.contents reader.old reader.new writer.old writer.new line.now result }
 {
@@ -251,7 +251,7 @@ fn carry_out<R: Read, W: Write>(
 }
 
 /// Says a fault in its line, and gives the exit status. A write that fails here changes nothing about it.
-fn tell<E: Write>(end: Result<(), RunFault>, errors: &mut Watched<E>) -> u8
+fn tell<E: Write>(end: Result<(), RunFault>, errors: &mut CountingIo<E>) -> u8
     ensures told { IsTold E.contents errors.old errors.new end }
     ensures status { result ≡ status_of end }
 {
@@ -273,9 +273,9 @@ pub fn run_line<R: Read, W: Write, E: Write>(
     rt: &HostRuntime,
     alloc: Global,
     line: &Line<'_>,
-    reader: &mut Watched<R>,
-    writer: &mut Watched<W>,
-    errors: &mut Watched<E>,
+    reader: &mut CountingIo<R>,
+    writer: &mut CountingIo<W>,
+    errors: &mut CountingIo<E>,
 ) -> u8
     ensures { IsRun R.remaining W.contents E.contents line.now reader.old reader.new writer.old writer.new errors.old errors.new result }
 {

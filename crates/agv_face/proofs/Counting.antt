@@ -11,14 +11,14 @@ use Rattle.agv_http.specs.Requests.{Request}
 use Rattle.agv_http.specs.StreamEnds.{HasCallNext, HasMachineFault}
 use Rattle.agv_store.specs.Floors.{Keyed}
 use Rattle.agv_face.specs.Ends.{IsCounted}
-use Rattle.agv_face.specs.Watched.{inner_of}
-use Rattle.agv_face.specs.declared.served.Ended.TheVariants as ended_by
-use Rattle.agv_face.specs.declared.served.StreamFault.TheVariants as fault
-use Rattle.agv_face.specs.declared.watched.Watched.{Watched}
+use Rattle.agv_face.specs.CountingIo.{inner_of}
+use Rattle.agv_face.specs.declared.stream_end.Ended.TheVariants as ended_by
+use Rattle.agv_face.specs.declared.stream_end.StreamFault.TheVariants as fault
+use Rattle.agv_face.specs.declared.counting_io.CountingIo.{CountingIo}
 use Rattle.agv_face.proofs.Streams.{HasServed, begins, follows, input, is_input, more, parts}
 
-module _ {S R W : Type 0} (g : Ghosts S) (remaining : R → Option (List ℕ)) (contents : W → Option (List ℕ)) (at : ℕ) (desk : Keyed S) (reader : Watched R) (writer : Watched W)
-    (now : Keyed S) (reader_now : Watched R) (writer_now : Watched W) (ended : Bool) (buf : List ℕ) (answers : ℕ)
+module _ {S R W : Type 0} (g : Ghosts S) (remaining : R → Option (List ℕ)) (contents : W → Option (List ℕ)) (at : ℕ) (desk : Keyed S) (reader : CountingIo R) (writer : CountingIo W)
+    (now : Keyed S) (reader_now : CountingIo R) (writer_now : CountingIo W) (ended : Bool) (buf : List ℕ) (answers : ℕ)
     (s : HasServed g remaining contents at desk reader writer now reader_now writer_now ended buf answers) where
   abbrev all : List ℕ
   all = input g remaining contents at desk reader writer now reader_now writer_now ended buf answers s
@@ -30,7 +30,7 @@ module _ {S R W : Type 0} (g : Ghosts S) (remaining : R → Option (List ℕ)) (
   parted = parts g remaining contents at desk reader writer now reader_now writer_now ended buf answers s
 
   -- the input has ended
-  pub counts_at_end : (then : Keyed S) (reader_then : Watched R) → Cut (s.front ++ buf) s.requests at_end → ended ≡ true
+  pub counts_at_end : (then : Keyed S) (reader_then : CountingIo R) → Cut (s.front ++ buf) s.requests at_end → ended ≡ true
       → IsCounted remaining contents at desk then reader reader_then writer writer_now (Ok (record { answers = answers; ended = ended_by.End }))
   counts_at_end then reader_then cut is =
       let none : rest ≡ [] = follows g remaining contents at desk reader writer now reader_now writer_now ended buf answers s is in
@@ -48,7 +48,7 @@ module _ {S R W : Type 0} (g : Ghosts S) (remaining : R → Option (List ℕ)) (
       )
 
   -- the last request is answered
-  pub counts_closed : (then : Keyed S) (reader_then : Watched R) (writer_then : Watched W) (request : Request) (out : List ℕ) → ((rest : List ℕ) → Cut (s.front ++ (buf ++ rest)) (s.requests ++ request ∷ []) closed)
+  pub counts_closed : (then : Keyed S) (reader_then : CountingIo R) (writer_then : CountingIo W) (request : Request) (out : List ℕ) → ((rest : List ℕ) → Cut (s.front ++ (buf ++ rest)) (s.requests ++ request ∷ []) closed)
       → (desk.failed ≡ true → calls_of (s.requests ++ request ∷ []) at ≡ []) → Appends (contents (inner_of writer_now)) (contents (inner_of writer_then)) out
       → IsCounted remaining contents at desk then reader reader_then writer writer_then (Ok (record { answers = answers + 1; ended = ended_by.Close }))
   counts_closed then reader_then writer_then request out cut none_asked wrote =
@@ -65,7 +65,7 @@ module _ {S R W : Type 0} (g : Ghosts S) (remaining : R → Option (List ℕ)) (
       )
 
   -- a refusal is written
-  pub counts_refused : (then : Keyed S) (reader_then : Watched R) (writer_then : Watched W) (why : Refusal) → Cut all s.requests (faulty why) ⊎ HasMachineFault all s.requests why
+  pub counts_refused : (then : Keyed S) (reader_then : CountingIo R) (writer_then : CountingIo W) (why : Refusal) → Cut all s.requests (faulty why) ⊎ HasMachineFault all s.requests why
       → Appends (contents (inner_of writer_now)) (contents (inner_of writer_then)) (refusal_text why)
       → IsCounted remaining contents at desk then reader reader_then writer writer_then (Ok (record { answers = answers + 1; ended = ended_by.Refused why }))
   counts_refused then reader_then writer_then why cause wrote = (
@@ -80,7 +80,7 @@ module _ {S R W : Type 0} (g : Ghosts S) (remaining : R → Option (List ℕ)) (
   )
 
   -- that of a fault of HTTP
-  pub counts_faulty : (then : Keyed S) (reader_then : Watched R) (writer_then : Watched W) (why : Refusal) → ((rest : List ℕ) → (ended ≡ true → rest ≡ []) → Cut (s.front ++ (buf ++ rest)) s.requests (faulty why))
+  pub counts_faulty : (then : Keyed S) (reader_then : CountingIo R) (writer_then : CountingIo W) (why : Refusal) → ((rest : List ℕ) → (ended ≡ true → rest ≡ []) → Cut (s.front ++ (buf ++ rest)) s.requests (faulty why))
       → Appends (contents (inner_of writer_now)) (contents (inner_of writer_then)) (refusal_text why)
       → IsCounted remaining contents at desk then reader reader_then writer writer_then (Ok (record { answers = answers + 1; ended = ended_by.Refused why }))
   counts_faulty then reader_then writer_then why cut wrote =
@@ -88,12 +88,12 @@ module _ {S R W : Type 0} (g : Ghosts S) (remaining : R → Option (List ℕ)) (
       counts_refused then reader_then writer_then why (inl (subst IsCutSo (sym parted) (cut rest (follows g remaining contents at desk reader writer now reader_now writer_now ended buf answers s)))) wrote
 
   -- no more bytes come
-  pub counts_unread : (then : Keyed S) (reader_then : Watched R) (writer_then : Watched W) → IsSoFar (s.front ++ buf) s.requests → Keeps (remaining (inner_of reader_now)) (remaining (inner_of reader_then))
+  pub counts_unread : (then : Keyed S) (reader_then : CountingIo R) (writer_then : CountingIo W) → IsSoFar (s.front ++ buf) s.requests → Keeps (remaining (inner_of reader_now)) (remaining (inner_of reader_then))
       → IsCounted remaining contents at desk then reader reader_then writer writer_then (Err (fault.Read answers))
   counts_unread then reader_then writer_then so_far kept = (s.front ++ buf, Consumes-kept _ _ _ (s.front ++ buf) s.came kept, s.requests, so_far, s.counted, s.none_asked)
 
   -- an answer is cut
-  pub counts_cut : (then : Keyed S) (reader_then : Watched R) (writer_then : Watched W) → (then.failed ≡ desk.failed) ⊎ HasCallNext all s.requests
+  pub counts_cut : (then : Keyed S) (reader_then : CountingIo R) (writer_then : CountingIo W) → (then.failed ≡ desk.failed) ⊎ HasCallNext all s.requests
       → IsCounted remaining contents at desk then reader reader_then writer writer_then (Err (fault.Write answers))
   counts_cut then reader_then writer_then fails = (
     all,

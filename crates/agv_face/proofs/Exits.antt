@@ -18,14 +18,14 @@ use Rattle.agv_face.specs.Ends.{IsCounted, IsStreamEnd, failed_by, most_reads}
 use Rattle.agv_face.specs.Nexts.{IsNext, IsNextFault}
 use Rattle.agv_face.specs.Refusals.{IsRefused, refusal_for}
 use Rattle.agv_face.specs.Replies.{IsLaterDesk, failed_after}
-use Rattle.agv_face.specs.Watched.{inner_of, RanOut}
+use Rattle.agv_face.specs.CountingIo.{inner_of, RanOut}
 use Rattle.agv_face.specs.declared.next.Next.{Next}
 use Rattle.agv_face.specs.declared.next.Next.TheVariants as next
-use Rattle.agv_face.specs.declared.served.Ended.TheVariants as ended_by
-use Rattle.agv_face.specs.declared.served.Served.{Served}
-use Rattle.agv_face.specs.declared.served.StreamFault.{StreamFault}
-use Rattle.agv_face.specs.declared.served.StreamFault.TheVariants as fault
-use Rattle.agv_face.specs.declared.watched.Watched.{Watched}
+use Rattle.agv_face.specs.declared.stream_end.Ended.TheVariants as ended_by
+use Rattle.agv_face.specs.declared.stream_end.StreamSummary.{StreamSummary}
+use Rattle.agv_face.specs.declared.stream_end.StreamFault.{StreamFault}
+use Rattle.agv_face.specs.declared.stream_end.StreamFault.TheVariants as fault
+use Rattle.agv_face.specs.declared.counting_io.CountingIo.{CountingIo}
 use Rattle.agv_face.proofs.Counting.{counts_at_end, counts_closed, counts_cut, counts_faulty, counts_refused, counts_unread}
 use Rattle.agv_face.proofs.Serving.{later_still}
 use Rattle.agv_face.proofs.InTurn.{AnswersInTurn, CallsInTurn, GoesOnBehind, WorldsInTurn}
@@ -58,7 +58,7 @@ kept_by bytes why (inr (inr cut)) before = let Kept : Refusal → Type 0 = λ r.
 
 -- the desk, the reader and the writer at the start and now; the desk after the next request; what has come and isn't served, as it was looked at; and what the next request is
 module _ {S R W : Type 0} (g : Ghosts S) (remaining : R → Option (List ℕ)) (contents : W → Option (List ℕ)) (at reads : ℕ)
-    (desk now desk_then : Keyed S) (reader reader_now : Watched R) (writer writer_now : Watched W) (ended : Bool) (buf seen out : List ℕ) (answers : ℕ) (what : Next)
+    (desk now desk_then : Keyed S) (reader reader_now : CountingIo R) (writer writer_now : CountingIo W) (ended : Bool) (buf seen out : List ℕ) (answers : ℕ) (what : Next)
     (so_far : HasServed g remaining contents at desk reader writer now reader_now writer_now ended buf answers) (hears : GoesOnBehind)
     (seen_is : seen ≡ buf) (is_next : IsNext g at now desk_then seen ended out what)
     (knows : IsClean g desk_then.held → IsOpen g desk_then.held → Knows g desk_then.held (world_at g desk_then.held)) where
@@ -86,7 +86,7 @@ module _ {S R W : Type 0} (g : Ghosts S) (remaining : R → Option (List ℕ)) (
       counts_at_end g remaining contents at desk reader writer now reader_now writer_now ended buf answers so_far desk_then reader_now (hears so_far.front buf ended so_far.requests heard.End so_far.cut found.0) found.0.0
 
   -- more bytes are needed, and none come
-  pub none_come : what ≡ next.Need → (reader_then : Watched R) → Keeps (remaining (inner_of reader_now)) (remaining (inner_of reader_then)) → RanOut (most_reads reads) reader reader_then
+  pub none_come : what ≡ next.Need → (reader_then : CountingIo R) → Keeps (remaining (inner_of reader_now)) (remaining (inner_of reader_then)) → RanOut (most_reads reads) reader reader_then
       → IsStreamEnd g remaining contents at reads desk desk_then reader reader_then writer writer_now (Err (fault.Read answers))
   none_come is reader_then kept out_of =
       let found = of next.Need is in
@@ -94,14 +94,14 @@ module _ {S R W : Type 0} (g : Ghosts S) (remaining : R → Option (List ℕ)) (
       let goes = hears s.front buf ended s.requests heard.Need s.cut found.0 in
       ((λ clean. ends_unread g remaining contents at desk reader writer desk_then reader_now writer_now ended buf answers s knows reader_then goes kept clean), out_of, s.put)
 
-  pub none_counted : what ≡ next.Need → (reader_then : Watched R) → Keeps (remaining (inner_of reader_now)) (remaining (inner_of reader_then))
+  pub none_counted : what ≡ next.Need → (reader_then : CountingIo R) → Keeps (remaining (inner_of reader_now)) (remaining (inner_of reader_then))
       → IsCounted remaining contents at desk desk_then reader reader_then writer writer_now (Err (fault.Read answers))
   none_counted is reader_then kept =
       let found = of next.Need is in
       counts_unread g remaining contents at desk reader writer now reader_now writer_now ended buf answers so_far desk_then reader_then writer_now (hears so_far.front buf ended so_far.requests heard.Need so_far.cut found.0) kept
 
   -- some come, or the end
-  pub some_come : what ≡ next.Need → (reader_then : Watched R) (buf_then : List ℕ) (more : Bool) → IsRead remaining reader_now reader_then buf buf_then more
+  pub some_come : what ≡ next.Need → (reader_then : CountingIo R) (buf_then : List ℕ) (more : Bool) → IsRead remaining reader_now reader_then buf buf_then more
       → HasServed g remaining contents at desk reader writer desk_then reader_then writer_now (not more) buf_then answers
   some_come is reader_then buf_then more got =
       reads_on g remaining contents at desk reader writer desk_then reader_now reader_then writer_now ended buf buf_then answers more (same_desk (of next.Need is).1) got
@@ -112,7 +112,7 @@ module _ {S R W : Type 0} (g : Ghosts S) (remaining : R → Option (List ℕ)) (
       let found = of (next.Fault why) is in
       ap (λ (d : Keyed S). d.failed) found.2 ∙ so_far.failed ∙ sym (kept_by (buf ++ []) why (found.0 [] (λ _. refl)) desk.failed)
 
-  module _ (why : Refusal) (is : what ≡ next.Fault why) (writer_then : Watched W) (sent : List ℕ) (sent_is : sent ≡ out) where
+  module _ (why : Refusal) (is : what ≡ next.Fault why) (writer_then : CountingIo W) (sent : List ℕ) (sent_is : sent ≡ out) where
     pub fault_told : IsPutWhole contents writer_now writer_then sent true
         → IsStreamEnd g remaining contents at reads desk desk_then reader reader_now writer writer_then (Ok (record { answers = answers + 1; ended = ended_by.Refused why }))
     fault_told put =
@@ -146,7 +146,7 @@ module _ {S R W : Type 0} (g : Ghosts S) (remaining : R → Option (List ℕ)) (
 
   -- a request was served
   module _ (step : IsLaterDesk g now desk_then) (failed : desk_then.failed ≡ now.failed) (answers_turn : AnswersInTurn) (worlds_turn : WorldsInTurn) (calls_turn : CallsInTurn)
-      (len : ℕ) (close : Bool) (is : what ≡ next.Request len close) (writer_then : Watched W) (sent : List ℕ) (sent_is : sent ≡ out) where
+      (len : ℕ) (close : Bool) (is : what ≡ next.Request len close) (writer_then : CountingIo W) (sent : List ℕ) (sent_is : sent ≡ out) where
     pub answer_cut : IsPutWhole contents writer_now writer_then sent false
         → IsStreamEnd g remaining contents at reads desk desk_then reader reader_now writer writer_then (Err (fault.Write answers))
     answer_cut put =
@@ -209,7 +209,7 @@ is_of_machine machine.Memory = inl refl
 is_of_machine machine.Storage = inr refl
 
 module _ {S R W : Type 0} (g : Ghosts S) (remaining : R → Option (List ℕ)) (contents : W → Option (List ℕ)) (at reads : ℕ)
-    (desk now desk_then : Keyed S) (reader reader_now : Watched R) (writer writer_now writer_then : Watched W) (ended : Bool) (buf : List ℕ) (answers : ℕ) (why : Fault)
+    (desk now desk_then : Keyed S) (reader reader_now : CountingIo R) (writer writer_now writer_then : CountingIo W) (ended : Bool) (buf : List ℕ) (answers : ℕ) (why : Fault)
     (so_far : HasServed g remaining contents at desk reader writer now reader_now writer_now ended buf answers) (hears : GoesOnBehind)
     (step : IsLaterDesk g now desk_then) (left : IsClean g desk_then.held → IsOpen g desk_then.held → world_at g desk_then.held ≡ world_at g now.held)
     (knows : IsClean g desk_then.held → IsOpen g desk_then.held → Knows g desk_then.held (world_at g desk_then.held))
@@ -228,10 +228,10 @@ module _ {S R W : Type 0} (g : Ghosts S) (remaining : R → Option (List ℕ)) (
       let Comes : List ℕ → Type 0 = λ bytes. IsNextFault bytes ended why in
       machine_fault g remaining contents at desk reader writer now reader_now writer_now ended buf answers so_far (refusal_for why) (is_of_machine why) (of_call why (subst Comes seen_is comes))
 
-  pub machine_failed : (result : Result Served StreamFault) → IsRefused contents writer_now writer_then why answers result
+  pub machine_failed : (result : Result StreamSummary StreamFault) → IsRefused contents writer_now writer_then why answers result
       → IsStreamEnd g remaining contents at reads desk desk_then reader reader_now writer writer_then result
   machine_failed (Ok served) told =
-      let Ended : Served → Type 0 = λ s. IsStreamEnd g remaining contents at reads desk desk_then reader reader_now writer writer_then (Ok s) in
+      let Ended : StreamSummary → Type 0 = λ s. IsStreamEnd g remaining contents at reads desk desk_then reader reader_now writer writer_then (Ok s) in
       subst Ended (sym told.0) (
         (λ clean. ends_refused g remaining contents at desk reader writer now reader_now writer_now ended buf answers so_far desk_then writer_then step.clean left knows (refusal_for why) is_fault told.1 clean),
         so_far.read,
@@ -251,10 +251,10 @@ module _ {S R W : Type 0} (g : Ghosts S) (remaining : R → Option (List ℕ)) (
   fails machine.Memory found same = inl (same ∙ so_far.failed)
   fails machine.Storage found same = inr (of_call machine.Storage found refl)
 
-  pub machine_counted : desk_then.failed ≡ failed_after {A = Next} (Err why) now.failed → (result : Result Served StreamFault) → IsRefused contents writer_now writer_then why answers result
+  pub machine_counted : desk_then.failed ≡ failed_after {A = Next} (Err why) now.failed → (result : Result StreamSummary StreamFault) → IsRefused contents writer_now writer_then why answers result
       → IsCounted remaining contents at desk desk_then reader reader_now writer writer_then result
   machine_counted same (Ok served) told =
-      let Counted : Served → Type 0 = λ s. IsCounted remaining contents at desk desk_then reader reader_now writer writer_then (Ok s) in
+      let Counted : StreamSummary → Type 0 = λ s. IsCounted remaining contents at desk desk_then reader reader_now writer writer_then (Ok s) in
       subst Counted (sym told.0) (counts_refused g remaining contents at desk reader writer now reader_now writer_now ended buf answers so_far desk_then reader_now writer_then (refusal_for why) (inr is_fault) told.1)
   machine_counted same (Err (fault.Read n)) told = absurd told
   machine_counted same (Err (fault.Write n)) told =
@@ -263,9 +263,9 @@ module _ {S R W : Type 0} (g : Ghosts S) (remaining : R → Option (List ℕ)) (
       subst Counted (sym told.0) (counts_cut g remaining contents at desk reader writer now reader_now writer_now ended buf answers so_far desk_then reader_now writer_then (fails why (subst Comes seen_is comes) same))
 
 -- no room could be reserved
-module _ {S R W : Type 0} (g : Ghosts S) (remaining : R → Option (List ℕ)) (contents : W → Option (List ℕ)) (at reads : ℕ) (desk : Keyed S) (reader : Watched R) (writer writer_then : Watched W)
+module _ {S R W : Type 0} (g : Ghosts S) (remaining : R → Option (List ℕ)) (contents : W → Option (List ℕ)) (at reads : ℕ) (desk : Keyed S) (reader : CountingIo R) (writer writer_then : CountingIo W)
     (hears : GoesOnBehind) (knows : IsClean g desk.held → IsOpen g desk.held → Knows g desk.held (world_at g desk.held))
-    (result : Result Served StreamFault) (told : IsRefused contents writer writer_then machine.Memory 0 result) where
+    (result : Result StreamSummary StreamFault) (told : IsRefused contents writer writer_then machine.Memory 0 result) where
   pub no_room : IsStreamEnd g remaining contents at reads desk desk reader reader writer writer_then result
   no_room =
       machine_failed g remaining contents at reads desk desk desk reader reader writer writer writer_then false [] 0 machine.Memory (none_served g remaining contents at desk reader writer) hears

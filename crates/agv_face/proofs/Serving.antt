@@ -22,7 +22,7 @@ use Rattle.agv_http.specs.declared.route.Route.{Route}
 use Rattle.agv_reports.specs.Reports.{names_report, report_of}
 use Rattle.agv_store.specs.Floors.{Keyed, Knows, world_at}
 use Rattle.agv_store.specs.Served.{world_after}
-use Rattle.agv_tables.specs.questions.WorldAnswers.{HasWorld}
+use Rattle.agv_tables.specs.queries.WorldAnswers.{HasWorld}
 use Rattle.agv_tables.specs.readings.WorldIn.{world_in}
 use Rattle.agv_tables.specs.rows.DeskRows.{Placing}
 use Rattle.agv_tables.specs.schema.SchemaNumbers.{desk_seats}
@@ -32,7 +32,7 @@ use Rattle.agv_http.specs.declared.request.Heard.TheVariants as heard
 use Rattle.agv_world.specs.declared.fault.Fault.{Fault}
 use Rattle.agv_world.specs.declared.fault.Fault.TheVariants as machine
 use Rattle.agv_face.specs.Nexts.{IsNextFault}
-use Rattle.agv_face.specs.Replies.{ComesOfCall, IsLaterDesk, IsServed, call_of, outcome_in}
+use Rattle.agv_face.specs.Replies.{ComesOfCall, IsLaterDesk, IsCallAnswered, call_of, outcome_in}
 use Rattle.agv_face.specs.declared.reply.Reply.{Reply}
 
 -- ---- the laws that are cited
@@ -91,10 +91,10 @@ module _ (outcomes : TellsOutcomes) (changes_none : TellsWithoutChange) (gives :
 
 -- ---- a request that is refused before it is a call
 
-pub refused_so : (world : World) (at : ℕ) (call : Result Call Refusal) (why : Refusal) (reply : Reply) → call ≡ Err why → reply.answer ≡ answer.Refused why → reply.report.items ≡ [] → IsServed world world at call reply
+pub refused_so : (world : World) (at : ℕ) (call : Result Call Refusal) (why : Refusal) (reply : Reply) → call ≡ Err why → reply.answer ≡ answer.Refused why → reply.report.items ≡ [] → IsCallAnswered world world at call reply
 unfolding answer_of after
 refused_so world at call why reply is told none =
-    let So : Result Call Refusal → Type 0 = λ c. IsServed world world at c reply in
+    let So : Result Call Refusal → Type 0 = λ c. IsCallAnswered world world at c reply in
     subst So (sym is) (record { answer_is = told; report_is = none ∙ sym (ap (λ (a : Answer). report_of world a) told); world_is = refl })
 
 -- ---- after a commit there is room for the answer
@@ -126,7 +126,7 @@ module _ (changes_none : TellsWithoutChange) (told : Answer) (fits : OutcomesFit
   of_route (Ok route) so leads = of_read route (call_in route body) refl so leads
 
 pub stays_or_fits : TellsWithoutChange → (world world_then : World) (at : ℕ) (request : LentRequest) (reply : Reply) → OutcomesFit reply.answer → length request.body.now ≤ most_body
-    → IsServed world world_then at (call_of request) reply → (world_then ≡ world) ⊎ HasRoom reply.answer
+    → IsCallAnswered world world_then at (call_of request) reply → (world_then ≡ world) ⊎ HasRoom reply.answer
 stays_or_fits changes_none world world_then at request reply fits short served =
     of_route changes_none reply.answer fits world world_then at request.body.now short (route_at request.method request.target.now) served.answer_is served.world_is
 

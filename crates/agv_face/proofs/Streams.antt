@@ -21,19 +21,19 @@ use Rattle.agv_world.specs.Worlds.{World}
 use Rattle.agv_face.specs.Bytes.{IsCut, IsRead}
 use Rattle.agv_face.specs.Ends.{HaveCome, IsEnd, IsInput, Leaves}
 use Rattle.agv_face.specs.Replies.{IsAnswered, IsLaterDesk, call_of, outcome_in, text_for}
-use Rattle.agv_face.specs.Watched.{inner_of, FailedNever}
-use Rattle.agv_face.specs.declared.served.Ended.TheVariants as ended_by
-use Rattle.agv_face.specs.declared.watched.Watched.{Watched}
+use Rattle.agv_face.specs.CountingIo.{inner_of, FailedNever}
+use Rattle.agv_face.specs.declared.stream_end.Ended.TheVariants as ended_by
+use Rattle.agv_face.specs.declared.counting_io.CountingIo.{CountingIo}
 use Rattle.agv_face.proofs.Serving.{later_still, later_then}
 use Rattle.agv_face.proofs.InTurn.{AnswersInTurn, CallsInTurn, WorldsInTurn, is_call, next_answers, next_no_call, next_text, next_world, no_answer, no_calls, no_change, whole}
 
 -- the desk, the reader and the writer, each at the start and now; whether the input has ended, what has come and isn't served, and how many answers were written
-module _ {S R W : Type 0} (g : Ghosts S) (remaining : R → Option (List ℕ)) (contents : W → Option (List ℕ)) (at : ℕ) (desk : Keyed S) (reader : Watched R) (writer : Watched W) where
+module _ {S R W : Type 0} (g : Ghosts S) (remaining : R → Option (List ℕ)) (contents : W → Option (List ℕ)) (at : ℕ) (desk : Keyed S) (reader : CountingIo R) (writer : CountingIo W) where
   abbrev start : World
   start = world_at g desk.held
 
   -- these requests are served, and their answers written
-  pub record HasServed (now : Keyed S) (reader_now : Watched R) (writer_now : Watched W) (ended : Bool) (buf : List ℕ) (answers : ℕ) : Type 0 where
+  pub record HasServed (now : Keyed S) (reader_now : CountingIo R) (writer_now : CountingIo W) (ended : Bool) (buf : List ℕ) (answers : ℕ) : Type 0 where
     pub requests : List Request
     pub front : List ℕ
     pub cut : Cut front requests at_end
@@ -74,7 +74,7 @@ module _ {S R W : Type 0} (g : Ghosts S) (remaining : R → Option (List ℕ)) (
 
   -- ---- from one moment to the next
 
-  module _ (now : Keyed S) (reader_now : Watched R) (writer_now : Watched W) (ended : Bool) (buf : List ℕ) (answers : ℕ) (s : HasServed now reader_now writer_now ended buf answers) where
+  module _ (now : Keyed S) (reader_now : CountingIo R) (writer_now : CountingIo W) (ended : Bool) (buf : List ℕ) (answers : ℕ) (s : HasServed now reader_now writer_now ended buf answers) where
     abbrev written : List ℕ
     written = answers_to desk_seats start at s.requests
 
@@ -113,7 +113,7 @@ module _ {S R W : Type 0} (g : Ghosts S) (remaining : R → Option (List ℕ)) (
     follows = (whole _ _ (s.front ++ buf) ended s.came s.at_its_end).4
 
     -- what is written behind that, and which world the desk knows then
-    module _ (then : Keyed S) (writer_then : Watched W) (later : IsClean g then.held → IsClean g now.held) where
+    module _ (then : Keyed S) (writer_then : CountingIo W) (later : IsClean g then.held → IsClean g now.held) where
       leaves : (IsSo : World → List ℕ → World → Type 0) (text : List ℕ) (left : World) → IsClean g then.held
           → IsSo start (written ++ text) left → Appends (contents (inner_of writer_now)) (contents (inner_of writer_then)) text → (IsOpen g then.held → Knows g then.held left)
           → Leaves g contents desk then writer writer_then IsSo
@@ -163,7 +163,7 @@ module _ {S R W : Type 0} (g : Ghosts S) (remaining : R → Option (List ℕ)) (
           )
 
       -- there is a fault of HTTP, and its refusal is written
-      module _ (why : Refusal) (heard_is : IsHeard buf ended (heard.Fault why)) (goes : (rest : List ℕ) → (ended ≡ true → rest ≡ []) → Cut (s.front ++ (buf ++ rest)) s.requests (faulty why)) (writer_then : Watched W) where
+      module _ (why : Refusal) (heard_is : IsHeard buf ended (heard.Fault why)) (goes : (rest : List ℕ) → (ended ≡ true → rest ≡ []) → Cut (s.front ++ (buf ++ rest)) s.requests (faulty why)) (writer_then : CountingIo W) where
         pub ends_faulty : Appends (contents (inner_of writer_now)) (contents (inner_of writer_then)) (refusal_text why) → IsClean g now.held
             → (bytes : List ℕ) × IsInput remaining reader bytes × Leaves g contents desk now writer writer_then (IsEnd bytes at (answers + 1) (ended_by.Refused why))
         ends_faulty wrote clean =
@@ -212,7 +212,7 @@ module _ {S R W : Type 0} (g : Ghosts S) (remaining : R → Option (List ℕ)) (
         )
 
       -- more bytes are needed, and none come
-      pub ends_unread : (reader_then : Watched R) → IsSoFar (s.front ++ buf) s.requests → Keeps (remaining (inner_of reader_now)) (remaining (inner_of reader_then)) → IsClean g now.held
+      pub ends_unread : (reader_then : CountingIo R) → IsSoFar (s.front ++ buf) s.requests → Keeps (remaining (inner_of reader_now)) (remaining (inner_of reader_then)) → IsClean g now.held
           → (bytes : List ℕ) × HaveCome remaining reader reader_then bytes × Leaves g contents desk now writer writer_now (λ world out left. IsReadFault desk_seats world at bytes out left answers)
       ends_unread reader_then so_far kept clean = (
         s.front ++ buf,
@@ -226,7 +226,7 @@ module _ {S R W : Type 0} (g : Ghosts S) (remaining : R → Option (List ℕ)) (
       )
 
     -- a fault of the machine leaves the world
-    module _ (then : Keyed S) (writer_then : Watched W) (later : IsClean g then.held → IsClean g now.held) (left : IsClean g then.held → IsOpen g then.held → world_at g then.held ≡ world_at g now.held)
+    module _ (then : Keyed S) (writer_then : CountingIo W) (later : IsClean g then.held → IsClean g now.held) (left : IsClean g then.held → IsOpen g then.held → world_at g then.held ≡ world_at g now.held)
         (knows : IsClean g then.held → IsOpen g then.held → Knows g then.held (world_at g then.held)) (why : Refusal) (machine : HasMachineFault input s.requests why) where
       knows_still : IsClean g then.held → IsOpen g then.held → Knows g then.held reached
       knows_still clean still = let Known : World → Type 0 = λ world. Knows g then.held world in subst Known (left clean still ∙ s.world_is (later clean)) (knows clean still)
@@ -272,7 +272,7 @@ module _ {S R W : Type 0} (g : Ghosts S) (remaining : R → Option (List ℕ)) (
       )
 
     -- a request is served, and its answer is to be written
-    module _ (then : Keyed S) (writer_then : Watched W) (step : IsLaterDesk g now then) (failed : then.failed ≡ now.failed) (lent : LentRequest) (request : Request)
+    module _ (then : Keyed S) (writer_then : CountingIo W) (step : IsLaterDesk g now then) (failed : then.failed ≡ now.failed) (lent : LentRequest) (request : Request)
         (goes : GoesOnBy s.front buf s.requests lent request) (out : List ℕ) (answered : IsClean g then.held → IsAnswered (world_at g now.held) (world_at g then.held) at lent out)
         (answers_turn : AnswersInTurn) (worlds_turn : WorldsInTurn) where
       later : IsClean g then.held → IsClean g now.held
@@ -383,7 +383,7 @@ module _ {S R W : Type 0} (g : Ghosts S) (remaining : R → Option (List ℕ)) (
             )
 
   -- a read
-  pub reads_on : (now : Keyed S) (reader_now reader_then : Watched R) (writer_now : Watched W) (ended : Bool) (buf buf_then : List ℕ) (answers : ℕ) (got : Bool)
+  pub reads_on : (now : Keyed S) (reader_now reader_then : CountingIo R) (writer_now : CountingIo W) (ended : Bool) (buf buf_then : List ℕ) (answers : ℕ) (got : Bool)
       → HasServed now reader_now writer_now ended buf answers → IsRead remaining reader_now reader_then buf buf_then got → HasServed now reader_then writer_now (not got) buf_then answers
   reads_on now reader_now reader_then writer_now ended buf buf_then answers got s r =
       let Come : List ℕ → Type 0 = λ bytes. Consumes (remaining (inner_of reader)) (remaining (inner_of reader_then)) bytes in

@@ -4,8 +4,8 @@ use Rattle.std.specs.Io.KnownBytes.{Appends, Keeps}
 use Rattle.std.proofs.KnownBytes.{Appends-kept}
 use Rattle.std.proofs.Math.ListN.{length-drop}
 use Rattle.agv_face.specs.Bytes.{IsCut}
-use Rattle.agv_face.specs.Watched.{counted, FailedOnce, FailedNever}
-use Rattle.agv_face.specs.declared.watched.Watched.{Watched}
+use Rattle.agv_face.specs.CountingIo.{counted, FailedOnce, FailedNever}
+use Rattle.agv_face.specs.declared.counting_io.CountingIo.{CountingIo}
 
 -- so many were written, and then no more
 pub cut_at : (old now new : Option (List ℕ)) (bytes : List ℕ) (done : ℕ) → Appends old now (take done bytes) → Keeps now new → done < length bytes → IsCut old new bytes
@@ -26,5 +26,5 @@ keeps-nil (Some xs) None took = absurd took
 keeps-nil (Some xs) (Some ys) took = took ∙ append-nil xs
 
 -- a failure behind none
-pub failed_then : {T : Type 0} (old mid new : Watched T) → FailedNever old mid → FailedOnce mid new → FailedOnce old new
+pub failed_then : {T : Type 0} (old mid new : CountingIo T) → FailedNever old mid → FailedOnce mid new → FailedOnce old new
 failed_then old mid new never once = once ∙ ap (λ (n : ℕ). counted n 1) never

@@ -1,11 +1,11 @@
 -- What became of bytes that were read or written.
 use Rattle.std.specs.Prelude.{◌≡◌, ℕ, ◌<◌, ◌≤◌, ◌++◌, Bool, true, false, List, [], length, Option}
 use Rattle.std.specs.Io.KnownBytes.{Appends, Consumes, IsAtEnd}
-use Rattle.agv_face.specs.declared.watched.Watched.{Watched}
-use Rattle.agv_face.specs.Watched.{inner_of, FailedOnce, FailedNever}
+use Rattle.agv_face.specs.declared.counting_io.CountingIo.{CountingIo}
+use Rattle.agv_face.specs.CountingIo.{inner_of, FailedOnce, FailedNever}
 
 -- one read, whose bytes went to the end of the buffer; none at the end of the input
-pub record IsRead {R : Type 0} (remaining : R → Option (List ℕ)) (reader reader_then : Watched R) (buf buf_then : List ℕ) (more : Bool) : Type 0 where
+pub record IsRead {R : Type 0} (remaining : R → Option (List ℕ)) (reader reader_then : CountingIo R) (buf buf_then : List ℕ) (more : Bool) : Type 0 where
   pub bytes : List ℕ
   pub put : buf_then ≡ buf ++ bytes
   pub few : length bytes ≤ 4096
@@ -23,7 +23,7 @@ pub record IsCut (old new : Option (List ℕ)) (bytes : List ℕ) : Type 0 where
   pub wrote : Appends old new front
 
 -- the bytes were all written, or the writer failed
-module _ {W : Type 0} (contents : W → Option (List ℕ)) (writer writer_then : Watched W) (bytes : List ℕ) where
+module _ {W : Type 0} (contents : W → Option (List ℕ)) (writer writer_then : CountingIo W) (bytes : List ℕ) where
   abbrev pub IsPutWhole : Bool → Type 0
   IsPutWhole true = Appends (contents (inner_of writer)) (contents (inner_of writer_then)) bytes × FailedNever writer writer_then
   IsPutWhole false = IsCut (contents (inner_of writer)) (contents (inner_of writer_then)) bytes × FailedOnce writer writer_then

@@ -12,13 +12,13 @@ use Rattle.agv_store.specs.Floors.{Keyed, Knows, world_at}
 use Rattle.agv_tables.specs.schema.SchemaNumbers.{desk_seats}
 use Rattle.agv_tables.specs.sql.Connections.{IsClean, IsOpen}
 use Rattle.agv_world.specs.Worlds.{World}
-use Rattle.agv_face.specs.Watched.{inner_of, FailedOnce, FailedNever, RanOut}
-use Rattle.agv_face.specs.declared.served.Ended.{Ended}
-use Rattle.agv_face.specs.declared.served.Ended.TheVariants as ended
-use Rattle.agv_face.specs.declared.served.Served.{Served}
-use Rattle.agv_face.specs.declared.served.StreamFault.{StreamFault}
-use Rattle.agv_face.specs.declared.served.StreamFault.TheVariants as fault
-use Rattle.agv_face.specs.declared.watched.Watched.{Watched}
+use Rattle.agv_face.specs.CountingIo.{inner_of, FailedOnce, FailedNever, RanOut}
+use Rattle.agv_face.specs.declared.stream_end.Ended.{Ended}
+use Rattle.agv_face.specs.declared.stream_end.Ended.TheVariants as ended
+use Rattle.agv_face.specs.declared.stream_end.StreamSummary.{StreamSummary}
+use Rattle.agv_face.specs.declared.stream_end.StreamFault.{StreamFault}
+use Rattle.agv_face.specs.declared.stream_end.StreamFault.TheVariants as fault
+use Rattle.agv_face.specs.declared.counting_io.CountingIo.{CountingIo}
 
 -- the most reads that a stream can have: 2^52 - 1
 abbrev pub reads_at_all : ℕ
@@ -36,7 +36,7 @@ failed_by (ended.Refused refusal.Storage) before = true
 failed_by _ before = before
 
 -- as a stream ends; where an answer was cut, that may have been the refusal that says so
-abbrev pub EndsFailed : Bool → Bool → Result Served StreamFault → Type 0
+abbrev pub EndsFailed : Bool → Bool → Result StreamSummary StreamFault → Type 0
 EndsFailed before then (Ok served) = then ≡ failed_by served.ended before
 EndsFailed before then (Err (fault.Read answers)) = then ≡ before
 EndsFailed before then (Err (fault.Write answers)) = (then ≡ before) ⊎ (then ≡ true)
@@ -54,15 +54,15 @@ IsEnd input at answers (ended.Refused why) world out left =
 -- ---- the input, and what a stream leaves
 
 -- this is the whole input, where the reader tells what it has to give
-abbrev pub IsInput : {R : Type 0} → (R → Option (List ℕ)) → Watched R → List ℕ → Type 0
+abbrev pub IsInput : {R : Type 0} → (R → Option (List ℕ)) → CountingIo R → List ℕ → Type 0
 IsInput remaining reader input = IfSome (remaining (inner_of reader)) (λ all. all ≡ input)
 
 -- these bytes have come of it
-abbrev pub HaveCome : {R : Type 0} → (R → Option (List ℕ)) → Watched R → Watched R → List ℕ → Type 0
+abbrev pub HaveCome : {R : Type 0} → (R → Option (List ℕ)) → CountingIo R → CountingIo R → List ℕ → Type 0
 HaveCome remaining reader reader_then bytes = Consumes (remaining (inner_of reader)) (remaining (inner_of reader_then)) bytes
 
 -- from the world on that the desk's tables told, this was written, and the desk knows the world that is left while its store is open
-pub record Leaves {S W : Type 0} (g : Ghosts S) (contents : W → Option (List ℕ)) (desk desk_then : Keyed S) (writer writer_then : Watched W)
+pub record Leaves {S W : Type 0} (g : Ghosts S) (contents : W → Option (List ℕ)) (desk desk_then : Keyed S) (writer writer_then : CountingIo W)
     (IsSo : World → List ℕ → World → Type 0) : Type 0 where
   pub out : List ℕ
   pub left : World
@@ -74,8 +74,8 @@ pub record Leaves {S W : Type 0} (g : Ghosts S) (contents : W → Option (List �
 
 -- the desk, the reader and the writer, each before and after
 module _ {S R W : Type 0} (g : Ghosts S) (remaining : R → Option (List ℕ)) (contents : W → Option (List ℕ)) (at reads : ℕ)
-    (desk desk_then : Keyed S) (reader reader_then : Watched R) (writer writer_then : Watched W) where
-  abbrev pub IsStreamEnd : Result Served StreamFault → Type 0
+    (desk desk_then : Keyed S) (reader reader_then : CountingIo R) (writer writer_then : CountingIo W) where
+  abbrev pub IsStreamEnd : Result StreamSummary StreamFault → Type 0
   -- the input was served to its end, or up to a fault of the machine
   IsStreamEnd (Ok served) =
       (IsClean g desk_then.held → (input : List ℕ) × IsInput remaining reader input × Leaves g contents desk desk_then writer writer_then (IsEnd input at served.answers served.ended))
@@ -113,13 +113,13 @@ last_bytes (ended.Refused why) = refusal_text why
 
 -- the desk, the reader and the writer, each before and after
 module _ {S R W : Type 0} (remaining : R → Option (List ℕ)) (contents : W → Option (List ℕ)) (at : ℕ)
-    (desk desk_then : Keyed S) (reader reader_then : Watched R) (writer writer_then : Watched W) where
+    (desk desk_then : Keyed S) (reader reader_then : CountingIo R) (writer writer_then : CountingIo W) where
   -- none of the requests is a call, where the store had failed before
   abbrev pub AskNothing : List Request → Type 0
   AskNothing requests = desk.failed ≡ true → calls_of requests at ≡ []
 
   -- the requests that were answered are the first ones of the input, as many as is said; a last refusal is whole
-  abbrev pub IsCounted : Result Served StreamFault → Type 0
+  abbrev pub IsCounted : Result StreamSummary StreamFault → Type 0
   IsCounted (Ok served) =
       (input : List ℕ) × IsInput remaining reader input × (requests : List Request) × GoesOnTo input requests served.ended
       × (served.answers ≡ length requests + last_answers served.ended) × AskNothing requests

@@ -1,6 +1,6 @@
 pub mod Replies
 pub mod Nexts
-pub mod Watched
+pub mod CountingIo
 pub mod Bytes
 pub mod Refusals
 pub mod Ends

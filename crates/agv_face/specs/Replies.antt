@@ -26,7 +26,7 @@ abbrev pub outcome_in : World → ℕ → Result Call Refusal → Outcome
 outcome_in world at call = outcome_by desk_seats world at call
 
 -- the reply is the answer of the table of calls and the report that it names, both of the world before the call; and the other world is the one after it
-pub record IsServed (world world_then : World) (at : ℕ) (call : Result Call Refusal) (reply : Reply) : Type 0 where
+pub record IsCallAnswered (world world_then : World) (at : ℕ) (call : Result Call Refusal) (reply : Reply) : Type 0 where
   pub answer_is : reply.answer ≡ answer_of (outcome_in world at call)
   pub report_is : reply.report.items ≡ report_of world reply.answer
   pub world_is : world_then ≡ after world (outcome_in world at call)

@@ -2,9 +2,9 @@
 ghost use Rattle.std.specs.Prelude.{◌≡◌, ◌≤◌, ◌<◌, ◌+◌, ◌++◌, drop, length, vec_len, vec_capacity, IfOk, OnOk, OnErr};
 ghost use Rattle.std.specs.Io.KnownBytes.{Keeps};
 ghost use Rattle.agv_face.specs.Bytes.{IsPutWhole, IsRead};
-ghost use Rattle.agv_face.specs.Watched.{FailedOnce, HadCall, inner_of};
+ghost use Rattle.agv_face.specs.CountingIo.{FailedOnce, HadCall, inner_of};
 
-use crate::watched::Watched;
+use crate::counting_io::CountingIo;
 use std::io::{Read, Write};
 
 /// The longest request, its head and its body together, in bytes: more have never to be held at once.
@@ -41,7 +41,7 @@ pub(crate) struct NotRead;
 /// One read, whose bytes go to the end of a buffer that has room for some more of a request: `false` at the end of the
 /// input.
 pub(crate) fn read_some<R: Read>(
-    reader: &mut Watched<R>,
+    reader: &mut CountingIo<R>,
     buf: &mut Vec<u8>,
 ) -> Result<bool, NotRead>
     requires some { vec_len buf.old < 73728 }
@@ -64,7 +64,7 @@ pub(crate) fn read_some<R: Read>(
 }
 
 /// Writes all the bytes, and tells whether they were written. A write that takes none is a fault, and so is any error.
-pub fn write_whole<W: Write>(writer: &mut Watched<W>, bytes: &[u8]) -> bool
+pub fn write_whole<W: Write>(writer: &mut CountingIo<W>, bytes: &[u8]) -> bool
     ensures { IsPutWhole W.contents writer.old writer.new bytes.now result }
 {
     let mut done = 0;

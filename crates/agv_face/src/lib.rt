@@ -5,7 +5,7 @@
 //! that the answer names; and the answer's bytes are written before the next request is looked at. [`serve_stream`] does
 //! so to the end of the stream, in room that is reserved before the first call: 73,728 bytes for the longest request and
 //! 131,072 for the answer to any call that changes something. [`serve_stream_within`] takes the most reads beside.
-//! Both take their reader and their writer as [`Watched`], so that a clause can say why a stream ended.
+//! Both take their reader and their writer as [`CountingIo`], so that a clause can say why a stream ended.
 //!
 //! - `specs/Ends.antt` says how a stream ends: what has come of its input, what is written, and which world the desk
 //!   then knows, whatever the reads and writes are cut into. It is the theorem of this crate; what is written at each end
@@ -13,7 +13,7 @@
 //!   calls, so that what `agv_desk` says of these holds of streams.
 //! - `specs/Replies.antt` says what one request comes to, `specs/Nexts.antt` the next one of a buffer, `specs/Bytes.antt`
 //!   bytes that are read or written, `specs/Refusals.antt` the refusal for a fault of the machine, and
-//!   `specs/Watched.antt` has the words on failures.
+//!   `specs/CountingIo.antt` has the words on failures.
 //! - One request is followed from `stream` to `next` (what the buffer begins with), `reply` (its answer) and `call` (which
 //!   call it is).
 #![tactic(auto)]
@@ -22,11 +22,11 @@ mod bytes;
 mod call;
 mod next;
 mod reply;
-mod served;
+mod stream_end;
 mod stream;
-mod watched;
+mod counting_io;
 
 pub use bytes::write_whole;
-pub use served::{Ended, Served, StreamFault};
+pub use stream_end::{Ended, StreamSummary, StreamFault};
 pub use stream::{serve_stream, serve_stream_within};
-pub use watched::Watched;
+pub use counting_io::CountingIo;

@@ -53,7 +53,7 @@ pub(crate) fn serve_next<S: Alter + Drop>(
     requires { most_answer ≤ vec_capacity out.old }
     ensures later { IsLaterDesk S.Store desk.old desk.new }
     ensures next { IfOk result (IsNext S.Store at desk.old desk.new buf.now ended out.new.items) }
-    ensures left { IsClean S.Store desk.new.held → IsOpen S.Store desk.new.held → OnErr result (world_at S.Store desk.new.held ≡ world_at S.Store desk.old.held) }
+    ensures unchanged_on_err { IsClean S.Store desk.new.held → IsOpen S.Store desk.new.held → OnErr result (world_at S.Store desk.new.held ≡ world_at S.Store desk.old.held) }
     ensures failed { desk.new.failed ≡ failed_after result desk.old.failed }
     ensures fault { IfErr result (IsNextFault buf.now ended) }
     ensures grown { vec_capacity out.old ≤ vec_capacity out.new }

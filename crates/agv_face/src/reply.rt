@@ -5,7 +5,7 @@ ghost use Rattle.agv_http.specs.Sizes.{most_answer};
 ghost use Rattle.agv_store.specs.Floors.{world_at};
 ghost use Rattle.agv_tables.specs.sql.Connections.{IsClean, IsOpen};
 ghost use Rattle.agv_world.specs.declared.fault.Fault.TheVariants as fault;
-ghost use Rattle.agv_face.specs.Replies.{ComesOfCall, IsAnswered, IsLaterDesk, IsServed, call_of, failed_after};
+ghost use Rattle.agv_face.specs.Replies.{ComesOfCall, IsAnswered, IsLaterDesk, IsCallAnswered, call_of, failed_after};
 
 use crate::call::call_in;
 use agv_desk::laws::calls::tells_without_change;
@@ -31,8 +31,8 @@ pub(crate) struct Reply {
 /// Serves the call. What it changes is committed before its report is asked for.
 fn serve_call<S: Alter + Drop>(desk: &mut Desk<S>, at: Moment, call: &Call) -> Result<Reply, Fault>
     ensures later { IsLaterDesk S.Store desk.old desk.new }
-    ensures serves { IsClean S.Store desk.new.held → IfOk result (IsServed (world_at S.Store desk.old.held) (world_at S.Store desk.new.held) at (Ok call.now)) }
-    ensures left { IsClean S.Store desk.new.held → IsOpen S.Store desk.new.held → OnErr result (world_at S.Store desk.new.held ≡ world_at S.Store desk.old.held) }
+    ensures serves { IsClean S.Store desk.new.held → IfOk result (IsCallAnswered (world_at S.Store desk.old.held) (world_at S.Store desk.new.held) at (Ok call.now)) }
+    ensures unchanged_on_err { IsClean S.Store desk.new.held → IsOpen S.Store desk.new.held → OnErr result (world_at S.Store desk.new.held ≡ world_at S.Store desk.old.held) }
     ensures failed { desk.new.failed ≡ failed_after result desk.old.failed }
     ensures stopped { desk.old.failed ≡ true → result ≡ Err fault.Storage }
 {
@@ -54,8 +54,8 @@ fn reply_to<S: Alter + Drop>(
     request: &LentRequest<'_>,
 ) -> Result<Reply, Fault>
     ensures later { IsLaterDesk S.Store desk.old desk.new }
-    ensures serves { IsClean S.Store desk.new.held → IfOk result (IsServed (world_at S.Store desk.old.held) (world_at S.Store desk.new.held) at (call_of request.now)) }
-    ensures left { IsClean S.Store desk.new.held → IsOpen S.Store desk.new.held → OnErr result (world_at S.Store desk.new.held ≡ world_at S.Store desk.old.held) }
+    ensures serves { IsClean S.Store desk.new.held → IfOk result (IsCallAnswered (world_at S.Store desk.old.held) (world_at S.Store desk.new.held) at (call_of request.now)) }
+    ensures unchanged_on_err { IsClean S.Store desk.new.held → IsOpen S.Store desk.new.held → OnErr result (world_at S.Store desk.new.held ≡ world_at S.Store desk.old.held) }
     ensures failed { desk.new.failed ≡ failed_after result desk.old.failed }
     ensures stopped { desk.old.failed ≡ true → OnOk result (IsErr (call_of request.now)) }
     ensures fault { IfErr result (ComesOfCall (call_of request.now)) }
@@ -85,7 +85,7 @@ pub(crate) fn answer_request<S: Alter + Drop>(
     requires short { length request.now.body.now ≤ most_body }
     ensures later { IsLaterDesk S.Store desk.old desk.new }
     ensures answers { IsClean S.Store desk.new.held → OnOk result (IsAnswered (world_at S.Store desk.old.held) (world_at S.Store desk.new.held) at request.now out.new.items) }
-    ensures left { IsClean S.Store desk.new.held → IsOpen S.Store desk.new.held → OnErr result (world_at S.Store desk.new.held ≡ world_at S.Store desk.old.held) }
+    ensures unchanged_on_err { IsClean S.Store desk.new.held → IsOpen S.Store desk.new.held → OnErr result (world_at S.Store desk.new.held ≡ world_at S.Store desk.old.held) }
     ensures failed { desk.new.failed ≡ failed_after result desk.old.failed }
     ensures stopped { desk.old.failed ≡ true → OnOk result (IsErr (call_of request.now)) }
     ensures fault { IfErr result (ComesOfCall (call_of request.now)) }

@@ -3,13 +3,13 @@ ghost use Rattle.std.specs.Prelude.{◌≡◌, ◌<◌, ◌≤◌, [], IfOk, vec
 ghost use Rattle.agv_face.specs.Ends.{EndsFailed, IsCounted, IsStreamEnd, most_reads};
 ghost use Rattle.agv_face.specs.Refusals.{IsRefused};
 ghost use Rattle.agv_face.specs.Replies.{IsLaterDesk};
-ghost use Rattle.agv_face.specs.Watched.{HadCallsAtMost};
+ghost use Rattle.agv_face.specs.CountingIo.{HadCallsAtMost};
 ghost use Rattle.agv_http.specs.Sizes.{most_answer};
 
 use crate::bytes::{LONGEST_REQUEST, drop_front, read_some, write_whole};
 use crate::next::{Next, serve_next};
-use crate::served::{Ended, Served, StreamFault};
-use crate::watched::Watched;
+use crate::stream_end::{Ended, StreamSummary, StreamFault};
+use crate::counting_io::CountingIo;
 use agv_header::{Memory, Moment, Refusal};
 use agv_http::stream_laws::{answers_in_turn, hears_how_it_goes_on};
 use agv_http::{Routes, memory_answer, storage_answer};
@@ -20,7 +20,7 @@ use std::alloc::{AllocError, Global};
 use std::io::{Read, Write};
 
 /// The most reads of a stream, where its caller sets no other number.
-const MOST_READS: u64 = 16_777_216;
+const MAX_READS: u64 = 16_777_216;
 
 /// The most reads that a stream can have at all. So there are fewer answers than a `u64` can count.
 const READS_AT_ALL: u64 = 4_503_599_627_370_495;
@@ -52,10 +52,10 @@ fn reserve(alloc: Global) -> Result<Room, Memory>
 
 /// Ends a stream, behind so many answers, with the refusal for a fault of the machine. It takes no memory.
 fn refuse<W: Write>(
-    writer: &mut Watched<W>,
+    writer: &mut CountingIo<W>,
     fault: Fault,
     answers: u64,
-) -> Result<Served, StreamFault>
+) -> Result<StreamSummary, StreamFault>
     requires { answers < 18446744073709551615 }
     ensures { IsRefused W.contents writer.old writer.new fault answers result }
 {
@@ -64,7 +64,7 @@ fn refuse<W: Write>(
         Fault::Storage => (storage_answer(), Refusal::Storage),
     };
     if write_whole(writer, bytes) {
-        Ok(Served {
+        Ok(StreamSummary {
             answers: answers + 1,
             ended: Ended::Refused(why),
         })
@@ -79,10 +79,10 @@ fn serve_requests<S: Alter + Drop, R: Read, W: Write>(
     room: &mut Room,
     desk: &mut Desk<S>,
     at: Moment,
-    reader: &mut Watched<R>,
-    writer: &mut Watched<W>,
+    reader: &mut CountingIo<R>,
+    writer: &mut CountingIo<W>,
     max_reads: u64,
-) -> Result<Served, StreamFault>
+) -> Result<StreamSummary, StreamFault>
     requires none { room.old.input.items ≡ [] }
     requires input { 73728 ≤ vec_capacity room.old.input }
     requires output { most_answer ≤ vec_capacity room.old.output }
@@ -111,7 +111,7 @@ fn serve_requests<S: Alter + Drop, R: Read, W: Write>(
         desk.knows();
         match next {
             Ok(Next::End) => {
-                return Ok(Served {
+                return Ok(StreamSummary {
                     answers,
                     ended: Ended::End,
                 });
@@ -132,7 +132,7 @@ fn serve_requests<S: Alter + Drop, R: Read, W: Write>(
                 }
                 answers += 1;
                 if close {
-                    return Ok(Served {
+                    return Ok(StreamSummary {
                         answers,
                         ended: Ended::Close,
                     });
@@ -143,7 +143,7 @@ fn serve_requests<S: Alter + Drop, R: Read, W: Write>(
                 if !write_whole(writer, &room.output) {
                     return Err(StreamFault::Write { answers });
                 }
-                return Ok(Served {
+                return Ok(StreamSummary {
                     answers: answers + 1,
                     ended: Ended::Refused(why),
                 });
@@ -176,10 +176,10 @@ pub fn serve_stream_within<S: Alter + Drop, R: Read, W: Write>(
     alloc: Global,
     desk: &mut Desk<S>,
     at: Moment,
-    reader: &mut Watched<R>,
-    writer: &mut Watched<W>,
+    reader: &mut CountingIo<R>,
+    writer: &mut CountingIo<W>,
     max_reads: u64,
-) -> Result<Served, StreamFault>
+) -> Result<StreamSummary, StreamFault>
     ensures ends { IsStreamEnd S.Store R.remaining W.contents at max_reads desk.old desk.new reader.old reader.new writer.old writer.new result }
     ensures counts { IsCounted R.remaining W.contents at desk.old desk.new reader.old reader.new writer.old writer.new result }
     ensures later { IsLaterDesk S.Store desk.old desk.new }
@@ -203,14 +203,14 @@ pub fn serve_stream<S: Alter + Drop, R: Read, W: Write>(
     alloc: Global,
     desk: &mut Desk<S>,
     at: Moment,
-    reader: &mut Watched<R>,
-    writer: &mut Watched<W>,
-) -> Result<Served, StreamFault>
+    reader: &mut CountingIo<R>,
+    writer: &mut CountingIo<W>,
+) -> Result<StreamSummary, StreamFault>
     ensures ends { IsStreamEnd S.Store R.remaining W.contents at 16777216 desk.old desk.new reader.old reader.new writer.old writer.new result }
     ensures counts { IsCounted R.remaining W.contents at desk.old desk.new reader.old reader.new writer.old writer.new result }
     ensures later { IsLaterDesk S.Store desk.old desk.new }
     ensures failed { EndsFailed desk.old.failed desk.new.failed result }
     ensures reads { HadCallsAtMost 16777216 reader.old reader.new }
 {
-    serve_stream_within(alloc, desk, at, reader, writer, MOST_READS)
+    serve_stream_within(alloc, desk, at, reader, writer, MAX_READS)
 }

@@ -4,7 +4,7 @@ use crate::cases::moment;
 use crate::desks::{made, no_tables};
 use crate::memory::MOMENT;
 use crate::streams::{Stream, check_stream, check_streams};
-use agv_face::{Ended, Served};
+use agv_face::{Ended, StreamSummary};
 use agv_header::Refusal;
 use std::alloc::Global;
 use std::process::Abort;
@@ -266,7 +266,7 @@ const DONE_AND_BAD_HEAD: &str = concat!(
 );
 
 /// What is written where so many bytes come, how many answers that is, and how the stream ends.
-fn cut_at(n: usize) -> (&'static str, Served) {
+fn cut_at(n: usize) -> (&'static str, StreamSummary) {
     let refused = Ended::Refused(Refusal::BadHead);
     let (answers, count, ended) = if n == 0 {
         ("", 0, Ended::End)
@@ -279,7 +279,7 @@ fn cut_at(n: usize) -> (&'static str, Served) {
     } else {
         (DONE_TWICE, 2, Ended::End)
     };
-    let end = Served {
+    let end = StreamSummary {
         answers: count,
         ended,
     };

@@ -1,6 +1,6 @@
 //! A reader and a writer that take their time.
 
-use agv_face::Watched;
+use agv_face::CountingIo;
 use std::alloc::Global;
 use std::io::{self, Read, Write};
 
@@ -23,8 +23,8 @@ impl Read for Drip<'_> {
 
 impl<'b> Drip<'b> {
     /// A reader that gives at most `step` bytes at a read.
-    pub(crate) fn watched(bytes: &'b [u8], step: usize) -> Watched<Drip<'b>> {
-        Watched::new(Drip { bytes, step })
+    pub(crate) fn counting(bytes: &'b [u8], step: usize) -> CountingIo<Drip<'b>> {
+        CountingIo::new(Drip { bytes, step })
     }
 }
 
@@ -49,8 +49,8 @@ impl Write for Trickle {
 
 impl Trickle {
     /// A writer that takes at most `step` bytes at a write.
-    pub(crate) fn watched(alloc: Global, step: usize) -> Watched<Trickle> {
-        Watched::new(Trickle {
+    pub(crate) fn counting(alloc: Global, step: usize) -> CountingIo<Trickle> {
+        CountingIo::new(Trickle {
             taken: Vec::new(alloc),
             step,
         })

@@ -5,7 +5,7 @@ use crate::desks::{made, no_tables};
 use crate::fakes::{Drip, Trickle};
 use crate::memory::MOMENT;
 use crate::steps::Step;
-use agv_face::{Ended, Served, StreamFault, Watched, serve_stream};
+use agv_face::{Ended, StreamSummary, StreamFault, CountingIo, serve_stream};
 use agv_header::Moment;
 use agv_store::Desk;
 use sqlite::MemStore;
@@ -24,9 +24,9 @@ fn check_served(
     alloc: Global,
     desk: &mut Desk<MemStore>,
     at: Moment,
-    reader: &mut Watched<Drip<'_>>,
-    writer: &mut Watched<Trickle>,
-    end: Result<Served, StreamFault>,
+    reader: &mut CountingIo<Drip<'_>>,
+    writer: &mut CountingIo<Trickle>,
+    end: Result<StreamSummary, StreamFault>,
     answers: &[u8],
 ) {
     let served = serve_stream(alloc, desk, at, reader, writer);
@@ -44,10 +44,10 @@ pub(crate) fn check_stream(
     pace: Pace,
     input: &str,
     answers: &str,
-    end: Served,
+    end: StreamSummary,
 ) {
-    let mut reader = Drip::watched(input.as_bytes(), pace.0);
-    let mut writer = Trickle::watched(alloc, pace.1);
+    let mut reader = Drip::counting(input.as_bytes(), pace.0);
+    let mut writer = Trickle::counting(alloc, pace.1);
     check_served(
         rt,
         alloc,
@@ -82,7 +82,7 @@ fn no_part(alloc: Global, at: Moment) -> Part {
 impl Part {
     /// Serves what was put as one stream.
     fn serve(&self, rt: &impl Abort, alloc: Global, desk: &mut Desk<MemStore>, pace: Pace) {
-        let end = Served {
+        let end = StreamSummary {
             answers: self.count,
             ended: Ended::End,
         };
@@ -138,7 +138,7 @@ pub(crate) type Stream<'s> = (&'s str, &'s str, u64, Ended);
 fn streams_at(rt: &impl Abort, alloc: Global, pace: Pace, streams: &[Stream<'_>]) {
     let mut desk = made(rt, alloc, no_tables(rt, alloc));
     for (input, answers, count, ended) in streams {
-        let end = Served {
+        let end = StreamSummary {
             answers: *count,
             ended: *ended,
         };

@@ -11,12 +11,12 @@ use Rattle.agv_world.specs.Worlds.{World}
 use Rattle.agv_world.specs.declared.fault.Fault.{Fault}
 use Rattle.agv_world.specs.declared.fault.Fault.TheVariants as machine
 use Rattle.agv_world.proofs.Asking.{answers, fault_after, faults, retold, still_here}
-use Rattle.agv_tables.specs.questions.WorldAnswers.{HasWorld, Tells}
+use Rattle.agv_tables.specs.queries.WorldAnswers.{HasWorld, AnswersQuery}
 use Rattle.agv_tables.specs.readings.WorldIn.{world_in}
 use Rattle.agv_tables.specs.rows.DeskRows.{Placing}
 use Rattle.agv_tables.specs.sql.Connections.{IsClean, IsOpen}
-use Rattle.agv_tables.specs.declared.questions.reading_fault.ReadingFault.{ReadingFault}
-use Rattle.agv_tables.specs.declared.questions.reading_fault.ReadingFault.TheVariants as fault
+use Rattle.agv_tables.specs.declared.queries.reading_fault.ReadingFault.{ReadingFault}
+use Rattle.agv_tables.specs.declared.queries.reading_fault.ReadingFault.TheVariants as fault
 use Rattle.agv_tables.proofs.sql.Later.{later_by}
 use Rattle.agv_store.specs.Flags.{doubted_by, failed_by, noted}
 use Rattle.agv_store.specs.Floors.{IsAsked, IsKept, Keyed, Knows, facts_of, world_at}
@@ -76,7 +76,7 @@ module _ {S : Type 0} (g : Ghosts S) where
   committed_by old new (inl same) still = same.0.committed_is
   committed_by old new (inr back) still = (back.undone still).1
 
-  pub asked_by : {A : Type 0} (old new : Held S) (r : Result A ReadingFault) (says : World → A → Type 0) → Tells g old new r says → IsAsked g old new
+  pub asked_by : {A : Type 0} (old new : Held S) (r : Result A ReadingFault) (says : World → A → Type 0) → AnswersQuery g old new r says → IsAsked g old new
   asked_by old new r says tells =
       let either = unchanged_or_undone old new r tells.kept tells.failed in
       record {
@@ -125,7 +125,7 @@ module _ {S : Type 0} (g : Ghosts S) where
 
   -- the floor's connection, counts and flags before the question, and the connection after it
   module _ (old new : Held S) (counts : Counts) (failed in_doubt : Bool) (is : IsKept g old counts failed in_doubt)
-      {A : Type 0} (r : Result A ReadingFault) (says : World → A → Type 0) (tells : Tells g old new r says) where
+      {A : Type 0} (r : Result A ReadingFault) (says : World → A → Type 0) (tells : AnswersQuery g old new r says) where
     asked : IsAsked g old new
     asked = asked_by old new r says tells
 

@@ -17,7 +17,7 @@ use Rattle.agv_world.specs.Told.{world_of}
 use Rattle.agv_world.specs.Worlds.{World}
 use Rattle.agv_world.specs.declared.floor.Counted.{Counted}
 use Rattle.agv_world.specs.declared.world.World.{World as Tables}
-use Rattle.agv_tables.specs.questions.WorldAnswers.{HasNoWorld, HasWorld, Tells}
+use Rattle.agv_tables.specs.queries.WorldAnswers.{HasNoWorld, HasWorld, AnswersQuery}
 use Rattle.agv_tables.specs.readings.Rowids.{AreTablesKeyed, TellsKeyed}
 use Rattle.agv_tables.specs.readings.TablesRead.{HaveAll, TellsAll}
 use Rattle.agv_tables.specs.readings.WorldIn.{world_in}
@@ -26,8 +26,8 @@ use Rattle.agv_tables.specs.rows.RowLists.{HoldsWorld}
 use Rattle.agv_tables.specs.schema.SchemaNumbers.{desk_seats}
 use Rattle.agv_tables.specs.schema.TablesStand.{TablesStand}
 use Rattle.agv_tables.specs.sql.Connections.{IsClean, IsOpen}
-use Rattle.agv_tables.specs.declared.questions.reading_fault.ReadingFault.{ReadingFault}
-use Rattle.agv_tables.specs.declared.questions.reading_fault.ReadingFault.TheVariants as reading
+use Rattle.agv_tables.specs.declared.queries.reading_fault.ReadingFault.{ReadingFault}
+use Rattle.agv_tables.specs.declared.queries.reading_fault.ReadingFault.TheVariants as reading
 use Rattle.agv_tables.specs.declared.readings.held_things.HeldThings.{HeldThings}
 use Rattle.agv_tables.specs.declared.schema.table_name.TableName.{TableName}
 use Rattle.agv_store.specs.Counts.{count_in}
@@ -86,7 +86,7 @@ module _ {S : Type 0} (g : Ghosts S) where
   -- ---- each row has a key of its own
 
   -- the moments before and after the question for the keys, and after the tables were read
-  module _ (old mid new : Held S) (yes : Bool) (is : yes ≡ true) (keyed : TellsKeyed g old mid table_names (Ok yes)) (asked : Tells g old mid (Ok yes) (λ world keyed. keyed ≡ true)) where
+  module _ (old mid new : Held S) (yes : Bool) (is : yes ≡ true) (keyed : TellsKeyed g old mid table_names (Ok yes)) (asked : AnswersQuery g old mid (Ok yes) (λ world keyed. keyed ≡ true)) where
     same_mid : IsClean g mid → (state g mid).now ≡ (state g old).now
     same_mid clean = (asked.kept clean).0.now_is
 
@@ -97,7 +97,7 @@ module _ {S : Type 0} (g : Ghosts S) where
     asked_keys = asked_by g old mid (Ok yes) (λ world keyed. keyed ≡ true) asked
 
     -- the reading failed
-    pub finds_fault_then : {A : Type 0} (r : Result Counts OpenFault) (why : ReadingFault) (says : World → A → Type 0) → IsErrAnd r (λ made. made ≡ of_reading why) → Tells g mid new (Err why) says → Finds g old new r
+    pub finds_fault_then : {A : Type 0} (r : Result Counts OpenFault) (why : ReadingFault) (says : World → A → Type 0) → IsErrAnd r (λ made. made ≡ of_reading why) → AnswersQuery g mid new (Err why) says → Finds g old new r
     finds_fault_then r why says made tells =
         let later = asked_by g mid new (Err why) says tells in
         finds_none old new r (of_reading why) made

@@ -19,7 +19,7 @@ use Rattle.agv_desk.specs.Step.{step}
 use Rattle.agv_desk.specs.declared.answer.Decision.{Decision}
 use Rattle.agv_desk.specs.declared.call.Call.{Call}
 use Rattle.agv_tables.specs.changes.ChangesMade.{ChangesWorlds, LeavesChanges, MakesChanges}
-use Rattle.agv_tables.specs.questions.WorldAnswers.{HasWorld}
+use Rattle.agv_tables.specs.queries.WorldAnswers.{HasWorld}
 use Rattle.agv_tables.specs.readings.WorldIn.{world_in}
 use Rattle.agv_tables.specs.rows.DeskRows.{Holds, KeepsOthers, Placing}
 use Rattle.agv_tables.specs.rows.RowLists.{row_lists}

@@ -1,6 +1,6 @@
 -- Which fault of an opening a fault of a reading or of a making is.
-use Rattle.agv_tables.specs.declared.questions.reading_fault.ReadingFault.{ReadingFault}
-use Rattle.agv_tables.specs.declared.questions.reading_fault.ReadingFault.TheVariants as reading
+use Rattle.agv_tables.specs.declared.queries.reading_fault.ReadingFault.{ReadingFault}
+use Rattle.agv_tables.specs.declared.queries.reading_fault.ReadingFault.TheVariants as reading
 use Rattle.agv_tables.specs.declared.schema.making_fault.MakingFault.{MakingFault}
 use Rattle.agv_tables.specs.declared.schema.making_fault.MakingFault.TheVariants as making
 use Rattle.agv_store.specs.declared.open_fault.OpenFault.{OpenFault}

@@ -6,7 +6,7 @@ use Rattle.sqlite.specs.Held.{Held, state}
 use Rattle.agv_world.specs.Questions.{count_of}
 use Rattle.agv_world.specs.Worlds.{empty_world}
 use Rattle.agv_world.specs.declared.floor.Counted.{Counted}
-use Rattle.agv_tables.specs.questions.WorldAnswers.{HasNoWorld}
+use Rattle.agv_tables.specs.queries.WorldAnswers.{HasNoWorld}
 use Rattle.agv_tables.specs.schema.DeskSchema.{is_name_taken}
 use Rattle.agv_tables.specs.schema.DeskTables.{MakesDesk}
 use Rattle.agv_tables.specs.schema.NewDesk.{LeavesRoom}

@@ -13,7 +13,7 @@ use Rattle.agv_desk.specs.Step.{step}
 use Rattle.agv_desk.specs.declared.answer.Answer.{Answer}
 use Rattle.agv_desk.specs.declared.answer.Decision.{Decision}
 use Rattle.agv_desk.specs.declared.call.Call.{Call}
-use Rattle.agv_tables.specs.questions.WorldAnswers.{HasWorld}
+use Rattle.agv_tables.specs.queries.WorldAnswers.{HasWorld}
 use Rattle.agv_tables.specs.rows.DeskRows.{IsDesk, KeepsOthers, Placing}
 use Rattle.agv_tables.specs.schema.SchemaNumbers.{desk_seats}
 use Rattle.agv_store.specs.Floors.{Knows, world_at}

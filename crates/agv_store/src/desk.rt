@@ -63,11 +63,11 @@ impl<S: Alter + Drop> Desk<S> {
     /// `Memory` for want of memory; then, where the store is still open, all is as before the call. `Storage` where the store
     /// failed or had failed before: exactly where [`failed`](Desk::failed) is `true` as the call ends (`ends`). A desk that had
     /// failed before asks nothing, and stays as it is (`stopped`). A fault that leaves the store open leaves all that the
-    /// database has as it was (`left`).
+    /// database has as it was (`unchanged_on_err`).
     pub fn serve(&mut self, at: Moment, call: &Call) -> Result<Answer, Fault>
         ensures knew { IsClean S.Store self.new.held → OnOk result (Knows S.Store self.old.held (world_at S.Store self.old.held)) }
         ensures serves { IsClean S.Store self.new.held → IfOk result (IsServedBy S.Store self.old.held self.new.held at call.now) }
-        ensures left { IsClean S.Store self.new.held → IsOpen S.Store self.new.held → OnErr result (LeavesAll S.Store self.old.held self.new.held) }
+        ensures unchanged_on_err { IsClean S.Store self.new.held → IsOpen S.Store self.new.held → OnErr result (LeavesAll S.Store self.old.held self.new.held) }
         ensures was_open { IsClean S.Store self.new.held → IsOpen S.Store self.new.held → IsOpen S.Store self.old.held }
         ensures crash { Survives (state S.Store self.old.held) (state S.Store self.new.held) (LeavesCall S.Store self.old.held at call.now) }
         ensures ends { EndsAs result self.new.failed }

@@ -7,13 +7,13 @@ use agv_layout::{Layout, StationSite};
 use agv_message::Sequence;
 use agv_order::Trip;
 use agv_stock::Place;
-use agv_tables::questions::key_questions::{
-    ask_holder, ask_job, ask_node, ask_place, ask_station, ask_used, ask_vehicle,
+use agv_tables::queries::key_queries::{
+    query_holder, query_job, query_node, query_place, query_station, query_used, query_vehicle,
 };
-use agv_tables::questions::layout_reading::ask_layout;
-use agv_tables::questions::load_questions::{ask_job_of, ask_loads_on, ask_reserved, ask_room};
-use agv_tables::questions::station_loads::ask_loads_at;
-use agv_tables::questions::trip_questions::ask_trip;
+use agv_tables::queries::layout_reading::query_layout;
+use agv_tables::queries::load_queries::{query_job_of, query_loads_on, query_reserved, query_room};
+use agv_tables::queries::station_loads::query_loads_at;
+use agv_tables::queries::trip_queries::query_trip;
 use agv_world::{Counted, Fault, Floor, JobRow, UseKey, UseKind, VehicleRow};
 use sqlite::Alter;
 
@@ -41,72 +41,72 @@ impl<S: Alter + Drop> Floor for KeyedFloor<S> {
     }
 
     fn vehicle(&mut self, key: VehicleKey) -> Result<Option<VehicleRow>, Fault> {
-        let asked = ask_vehicle(&mut self.conn, &key);
+        let asked = query_vehicle(&mut self.conn, &key);
         note(&mut self.failed, &mut self.in_doubt, asked)
     }
 
     fn trip(&mut self, key: VehicleKey) -> Result<Option<Trip>, Fault> {
-        let asked = ask_trip(self.alloc, &mut self.conn, &key);
+        let asked = query_trip(self.alloc, &mut self.conn, &key);
         note(&mut self.failed, &mut self.in_doubt, asked)
     }
 
     fn place(&mut self, load: Name) -> Result<Option<Place>, Fault> {
-        let asked = ask_place(&mut self.conn, &load);
+        let asked = query_place(&mut self.conn, &load);
         note(&mut self.failed, &mut self.in_doubt, asked)
     }
 
     fn job(&mut self, job: Name) -> Result<Option<JobRow>, Fault> {
-        let asked = ask_job(&mut self.conn, &job);
+        let asked = query_job(&mut self.conn, &job);
         note(&mut self.failed, &mut self.in_doubt, asked)
     }
 
     fn room(&mut self, station: Name) -> Result<Option<u32>, Fault> {
-        let asked = ask_room(&mut self.conn, &station);
+        let asked = query_room(&mut self.conn, &station);
         note(&mut self.failed, &mut self.in_doubt, asked)
     }
 
     fn holder(&mut self, thing: Thing) -> Result<Option<VehicleKey>, Fault> {
-        let asked = ask_holder(&mut self.conn, &thing);
+        let asked = query_holder(&mut self.conn, &thing);
         note(&mut self.failed, &mut self.in_doubt, asked)
     }
 
     fn node(&mut self, id: Name) -> Result<bool, Fault> {
-        let asked = ask_node(&mut self.conn, &id);
+        let asked = query_node(&mut self.conn, &id);
         note(&mut self.failed, &mut self.in_doubt, asked)
     }
 
     fn station(&mut self, id: Name) -> Result<Option<StationSite>, Fault> {
-        let asked = ask_station(&mut self.conn, &id);
+        let asked = query_station(&mut self.conn, &id);
         note(&mut self.failed, &mut self.in_doubt, asked)
     }
 
     fn used(&mut self, kind: UseKind, name: Name) -> Result<bool, Fault> {
-        let asked = ask_used(&mut self.conn, &UseKey { kind, name });
+        let asked = query_used(&mut self.conn, &UseKey { kind, name });
         note(&mut self.failed, &mut self.in_doubt, asked)
     }
 
     fn layout(&mut self) -> Result<Option<Layout>, Fault> {
-        let asked = ask_layout(self.alloc, &mut self.conn);
+        let asked = query_layout(self.alloc, &mut self.conn);
         note(&mut self.failed, &mut self.in_doubt, asked)
     }
 
     fn loads_at(&mut self, station: Name) -> Result<Sequence<Name>, Fault> {
-        let asked = ask_loads_at(self.alloc, &mut self.conn, &station);
+        let asked = query_loads_at(self.alloc, &mut self.conn, &station);
         note(&mut self.failed, &mut self.in_doubt, asked)
     }
 
     fn loads_on(&mut self, key: VehicleKey) -> Result<usize, Fault> {
-        let asked = ask_loads_on(&mut self.conn, &key);
+        let asked = query_loads_on(&mut self.conn, &key);
         note(&mut self.failed, &mut self.in_doubt, asked)
     }
 
     fn job_of(&mut self, load: Name) -> Result<Option<Name>, Fault> {
-        let asked = ask_job_of(&mut self.conn, &load);
+        let asked = query_job_of(&mut self.conn, &load);
         note(&mut self.failed, &mut self.in_doubt, asked)
     }
 
     fn reserved(&mut self, station: Name) -> Result<usize, Fault> {
-        let asked = ask_reserved(&mut self.conn, &station);
+        let asked = query_reserved(&mut self.conn, &station);
         note(&mut self.failed, &mut self.in_doubt, asked)
     }
 

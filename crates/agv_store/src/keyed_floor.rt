@@ -8,7 +8,7 @@ ghost use Rattle.agv_store.specs.Floors.{Knows, facts_of, world_at};
 
 use crate::counts::Counts;
 use crate::flags::note;
-use agv_tables::readings::hold_reading::ask_meta;
+use agv_tables::readings::hold_reading::query_meta;
 use agv_world::Fault;
 use sqlite::{Alter, Connection};
 use std::alloc::Global;
@@ -60,7 +60,7 @@ impl<S: Alter + Drop> KeyedFloor<S> {
             return Err(Fault::Storage);
         }
         if self.in_doubt {
-            let asked = ask_meta(&mut self.conn);
+            let asked = query_meta(&mut self.conn);
             note(&mut self.failed, &mut self.in_doubt, asked)?;
             self.in_doubt = false;
         }

@@ -6,7 +6,7 @@ ghost use Rattle.agv_world.specs.Kept.{Keeps};
 ghost use Rattle.agv_world.specs.Lawful.{IsLawful};
 ghost use Rattle.agv_world.specs.Rows.{rows_of};
 ghost use Rattle.agv_world.specs.Worlds.{World as WorldOf};
-ghost use Rattle.agv_tables.specs.questions.WorldAnswers.{HasNoWorld};
+ghost use Rattle.agv_tables.specs.queries.WorldAnswers.{HasNoWorld};
 ghost use Rattle.agv_tables.specs.schema.DeskTables.{LeavesDesk};
 ghost use Rattle.agv_tables.specs.schema.SchemaNumbers.{desk_seats};
 ghost use Rattle.agv_tables.specs.sql.Connections.{IsClean, IsOpen};
@@ -19,7 +19,7 @@ use crate::open_fault::OpenFault;
 use agv_header::Memory;
 use agv_tables::HeldThings;
 use agv_tables::readings::reading_laws::tables_read_tell_the_world;
-use agv_tables::readings::rowid_reading::ask_rowids;
+use agv_tables::readings::rowid_reading::query_rowids;
 use agv_tables::readings::world_laws::a_database_tells_its_world;
 use agv_tables::readings::world_reading::read_world;
 use agv_tables::schema::desk_tables::make_desk_tables;
@@ -52,7 +52,7 @@ fn find_desk<S: Alter>(alloc: Global, conn: &mut Connection<S>) -> Result<Counts
     if !tables_stand(alloc, conn.schema())? {
         return Err(OpenFault::Damaged);
     }
-    if !ask_rowids(alloc, conn)? {
+    if !query_rowids(alloc, conn)? {
         return Err(OpenFault::Damaged);
     }
     let (tables, holds) = read_world(alloc, conn)?;

@@ -52,7 +52,7 @@ impl<S: Alter + Drop> KeyedFloor<S> {
         requires decides { IsClean S.Store self.old.held → Decides (world_at S.Store self.old.held) at call.now decision }
         requires works { self.old.failed ≡ false }
         ensures serves { IsClean S.Store self.new.held → IfOk result (IsServedBy S.Store self.old.held self.new.held at call.now) }
-        ensures left { IsClean S.Store self.new.held → IsOpen S.Store self.new.held → OnErr result (LeavesAll S.Store self.old.held self.new.held) }
+        ensures unchanged_on_err { IsClean S.Store self.new.held → IsOpen S.Store self.new.held → OnErr result (LeavesAll S.Store self.old.held self.new.held) }
         ensures was_open { IsClean S.Store self.new.held → IsOpen S.Store self.new.held → IsOpen S.Store self.old.held }
         ensures crash { Survives (state S.Store self.old.held) (state S.Store self.new.held) (LeavesCall S.Store self.old.held at call.now) }
         ensures ends { EndsAs result self.new.failed }
@@ -71,7 +71,7 @@ impl<S: Alter + Drop> KeyedFloor<S> {
     pub(crate) fn serve(&mut self, at: Moment, call: &Call) -> Result<Answer, Fault>
         ensures knew { IsClean S.Store self.new.held → OnOk result (Knows S.Store self.old.held (world_at S.Store self.old.held)) }
         ensures serves { IsClean S.Store self.new.held → IfOk result (IsServedBy S.Store self.old.held self.new.held at call.now) }
-        ensures left { IsClean S.Store self.new.held → IsOpen S.Store self.new.held → OnErr result (LeavesAll S.Store self.old.held self.new.held) }
+        ensures unchanged_on_err { IsClean S.Store self.new.held → IsOpen S.Store self.new.held → OnErr result (LeavesAll S.Store self.old.held self.new.held) }
         ensures was_open { IsClean S.Store self.new.held → IsOpen S.Store self.new.held → IsOpen S.Store self.old.held }
         ensures crash { Survives (state S.Store self.old.held) (state S.Store self.new.held) (LeavesCall S.Store self.old.held at call.now) }
         ensures ends { EndsAs result self.new.failed }

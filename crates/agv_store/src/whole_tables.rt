@@ -9,9 +9,9 @@ use crate::keyed_floor::KeyedFloor;
 use agv_layout::{EdgeEnds, StationSite};
 use agv_stock::Place;
 use agv_tables::HeldThings;
-use agv_tables::readings::hold_reading::ask_holds;
+use agv_tables::readings::hold_reading::query_holds;
 use agv_tables::readings::table_reading::{
-    ask_edges, ask_nodes, ask_places, ask_stations, ask_vehicles,
+    query_edges, query_nodes, query_places, query_stations, query_vehicles,
 };
 use agv_world::{ByName, ByVehicle, Fault, Names, VehicleRow};
 use sqlite::Alter;
@@ -21,7 +21,7 @@ impl<S: Alter + Drop> KeyedFloor<S> {
     pub(crate) fn all_nodes(&mut self) -> Result<Names, Fault>
         ensures { Asks (facts_of S.Store) self.old self.new result (λ world table. table ≡ world.layout.nodes) }
     {
-        let asked = ask_nodes(self.alloc, &mut self.conn);
+        let asked = query_nodes(self.alloc, &mut self.conn);
         note(&mut self.failed, &mut self.in_doubt, asked)
     }
 
@@ -29,7 +29,7 @@ impl<S: Alter + Drop> KeyedFloor<S> {
     pub(crate) fn all_edges(&mut self) -> Result<ByName<EdgeEnds>, Fault>
         ensures { Asks (facts_of S.Store) self.old self.new result (λ world table. table ≡ world.layout.edges) }
     {
-        let asked = ask_edges(self.alloc, &mut self.conn);
+        let asked = query_edges(self.alloc, &mut self.conn);
         note(&mut self.failed, &mut self.in_doubt, asked)
     }
 
@@ -37,7 +37,7 @@ impl<S: Alter + Drop> KeyedFloor<S> {
     pub(crate) fn all_stations(&mut self) -> Result<ByName<StationSite>, Fault>
         ensures { Asks (facts_of S.Store) self.old self.new result (λ world table. table ≡ world.layout.stations) }
     {
-        let asked = ask_stations(self.alloc, &mut self.conn);
+        let asked = query_stations(self.alloc, &mut self.conn);
         note(&mut self.failed, &mut self.in_doubt, asked)
     }
 
@@ -45,7 +45,7 @@ impl<S: Alter + Drop> KeyedFloor<S> {
     pub(crate) fn all_vehicles(&mut self) -> Result<ByVehicle<VehicleRow>, Fault>
         ensures { Asks (facts_of S.Store) self.old self.new result (λ world table. table ≡ (rows_of world).vehicles) }
     {
-        let asked = ask_vehicles(self.alloc, &mut self.conn);
+        let asked = query_vehicles(self.alloc, &mut self.conn);
         note(&mut self.failed, &mut self.in_doubt, asked)
     }
 
@@ -53,7 +53,7 @@ impl<S: Alter + Drop> KeyedFloor<S> {
     pub(crate) fn all_places(&mut self) -> Result<ByName<Place>, Fault>
         ensures { Asks (facts_of S.Store) self.old self.new result (λ world table. table ≡ world.places) }
     {
-        let asked = ask_places(self.alloc, &mut self.conn);
+        let asked = query_places(self.alloc, &mut self.conn);
         note(&mut self.failed, &mut self.in_doubt, asked)
     }
 
@@ -61,7 +61,7 @@ impl<S: Alter + Drop> KeyedFloor<S> {
     pub(crate) fn all_holds(&mut self) -> Result<HeldThings, Fault>
         ensures { Asks (facts_of S.Store) self.old self.new result (λ world held. held.table ≡ (rows_of world).holds) }
     {
-        let asked = ask_holds(self.alloc, &mut self.conn);
+        let asked = query_holds(self.alloc, &mut self.conn);
         note(&mut self.failed, &mut self.in_doubt, asked)
     }
 }

@@ -1,5 +1,5 @@
 pub mod DeskStatements
-pub mod QuestionMeanings
+pub mod QueryMeanings
 pub mod RowForms
 pub mod RowMeanings
 pub mod RowidMeanings

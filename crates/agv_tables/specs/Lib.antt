@@ -1,5 +1,5 @@
 pub mod changes
-pub mod questions
+pub mod queries
 pub mod readings
 pub mod rows
 pub mod schema

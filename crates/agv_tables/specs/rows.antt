@@ -1,8 +1,8 @@
-pub mod Cells
+pub mod ValueEncodings
 pub mod Columns
 pub mod DeskRows
 pub mod RowKeys
 pub mod RowLists
 pub mod TripLines
-pub mod TripsTold
+pub mod DecodedTrips
 pub mod TypedRows

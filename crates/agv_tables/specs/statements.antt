@@ -1,2 +1,2 @@
-pub mod RowQuestions
+pub mod RowQueries
 pub mod RowTexts

@@ -18,7 +18,7 @@ pub fn memory_is_clean_and_open()
 /// What is later than a later moment is later, and a fault of the store that has a cause since a later moment has
 /// one since the earlier: so what calls say one by one holds of all of them together.
 pub fn later_moments_follow<S: Alter>()
-    ensures same { (held : Held S) → IsLater S.Store held held }
+    ensures itself { (held : Held S) → IsLater S.Store held held }
     ensures next { (old mid new : Held S) → IsLater S.Store old mid → IsLater S.Store mid new → IsLater S.Store old new }
     ensures causes { (old mid new : Held S) → IsLater S.Store old mid → IsLater S.Store mid new
         → IsClean S.Store new → HasStorageCause S.Store mid new → HasStorageCause S.Store old new }

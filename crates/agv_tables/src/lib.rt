@@ -5,7 +5,7 @@
 //! - [`rows`]: how a row of the world lies in the columns of its table, and which rows tell a world.
 //! - [`statements`]: a row is added, taken out, put in the place of that of its key, or looked up.
 //! - [`changes`]: what a call changes is written in one transaction.
-//! - [`questions`]: what a floor is asked is asked of the tables, by keys and indexes.
+//! - [`queries`]: what a floor is asked is asked of the tables, by keys and indexes.
 //! - [`readings`]: whole tables are read, for the world that they tell and what is held.
 //!
 //! What holds of a connection and of the next moment is `specs/sql/Connections.antt`; [`laws`] has what follows. What a
@@ -15,14 +15,14 @@
 
 pub mod changes;
 pub mod laws;
-pub mod questions;
+pub mod queries;
 pub mod readings;
 pub mod rows;
 pub mod schema;
 pub mod statements;
 
 pub use changes::write_fault::WriteFault;
-pub use questions::reading_fault::ReadingFault;
+pub use queries::reading_fault::ReadingFault;
 pub use readings::held_things::HeldThings;
 pub use rows::rows_by::RowsBy;
 pub use rows::trip_line::TripLine;

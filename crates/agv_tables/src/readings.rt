@@ -6,7 +6,7 @@
 //! - [`held_things::HeldThings`] is what is held, and tells whether that is what the vehicles of a world hold.
 //! - The world that the tables tell is a function of the database (`specs/readings/WorldIn.antt`): `world_laws` says that it is
 //!   the lawful world whose rows they have, where they have those of one.
-//! - `table_reading` and `hold_reading` read one table each, as a question to the world (`TellsAll` of
+//! - `table_reading` and `hold_reading` read one table each, as a query about the world (`TellsAll` of
 //!   `specs/readings/TablesRead.antt`): what is read is what the lawful world has whose rows the tables have.
 //! - `rowid_reading` asks whether each row has a number of its own (`specs/readings/Rowids.antt`).
 

@@ -1,14 +1,14 @@
 //! The rows of a world as rows of SQL.
 //!
-//! - `cells`, `words`, `row_values`, `key_values`: how values, rows and keys lie in columns (`specs/rows/Columns.antt`);
-//!   `rows_told` reads them back, and `row_laws` and `row_fits` say that the two fit each other and the tables.
+//! - `decode_value`, `words`, `row_values`, `key_values`: how values, rows and keys lie in columns (`specs/rows/Columns.antt`);
+//!   `decode_row` reads them back, and `row_laws` and `row_fits` say that the two fit each other and the tables.
 //! - `row_list_laws`: the rows of a world are one list for each table (`specs/rows/RowLists.antt`). The lists follow each
 //!   change, and they, and a database that has them, tell one world alone where each vehicle has room for one load.
 //! - `trip_line` is the row of an open trip of one job; `trip_laws` says that it, the row of its job and those of its
 //!   edges tell the trip whole.
 //! - `world_table` names a table that is written, `row_of` a look-up by the key, `rows_by` one by other columns.
 
-pub(crate) mod cells;
+pub(crate) mod decode_value;
 pub(crate) mod key_values;
 pub mod row_fits;
 pub mod row_laws;
@@ -16,7 +16,7 @@ pub mod row_list_laws;
 pub(crate) mod row_of;
 pub(crate) mod row_values;
 pub(crate) mod rows_by;
-pub(crate) mod rows_told;
+pub(crate) mod decode_row;
 pub mod trip_laws;
 pub mod trip_line;
 pub(crate) mod words;

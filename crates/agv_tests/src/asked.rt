@@ -11,13 +11,13 @@ use agv_message::{ActKind, Sequence, Status};
 use agv_order::Act;
 use agv_stock::{Phase, Place};
 use agv_tables::changes::change_running::write_changes;
-use agv_tables::questions::key_questions::{
-    ask_edge, ask_holder, ask_job, ask_node, ask_place, ask_station, ask_used, ask_vehicle,
+use agv_tables::queries::key_queries::{
+    query_edge, query_holder, query_job, query_node, query_place, query_station, query_used, query_vehicle,
 };
-use agv_tables::questions::layout_reading::ask_layout;
-use agv_tables::questions::load_questions::{ask_job_of, ask_loads_on, ask_reserved, ask_room};
-use agv_tables::questions::station_loads::ask_loads_at;
-use agv_tables::questions::trip_questions::ask_trip;
+use agv_tables::queries::layout_reading::query_layout;
+use agv_tables::queries::load_queries::{query_job_of, query_loads_on, query_reserved, query_room};
+use agv_tables::queries::station_loads::query_loads_at;
+use agv_tables::queries::trip_queries::query_trip;
 use agv_tables::schema::desk_tables::make_desk_tables;
 use agv_world::{Change, JobRow, LegKey, Sent, TripRow, UseKey, UseKind, VehicleRow};
 use sqlite::{Alter, Connection};
@@ -200,34 +200,34 @@ fn write_many<S: Alter>(rt: &impl Abort, alloc: Global, conn: &mut Connection<S>
 
 /// Asks by each key for what is there.
 fn ask_known<S: Alter>(rt: &impl Abort, alloc: Global, conn: &mut Connection<S>, number: u32) {
-    let row = ask_vehicle(conn, &vehicle(rt));
+    let row = query_vehicle(conn, &vehicle(rt));
     check(rt, row == Ok(Some(vehicle_row(rt))), "the vehicle");
     let load = numbered(rt, alloc, 'L', number);
-    let place = ask_place(conn, &load);
+    let place = query_place(conn, &load);
     check(rt, place == Ok(Some(Place::Checking)), "the place");
-    let ended = ask_job(conn, &numbered(rt, alloc, 'E', number));
+    let ended = query_job(conn, &numbered(rt, alloc, 'E', number));
     let wanted = job(rt, load, Phase::Done);
     check(rt, ended == Ok(Some(wanted)), "the job");
-    let station = ask_station(conn, &name(rt, "A"));
+    let station = query_station(conn, &name(rt, "A"));
     check(rt, station == Ok(Some(spot(rt, "N1"))), "the station");
-    let holder = ask_holder(conn, &Thing::Node(name(rt, "N1")));
+    let holder = query_holder(conn, &Thing::Node(name(rt, "N1")));
     check(rt, holder == Ok(Some(vehicle(rt))), "the holder");
-    let node = ask_node(conn, &name(rt, "N2"));
+    let node = query_node(conn, &name(rt, "N2"));
     check(rt, node == Ok(true), "the node");
-    let used = ask_used(conn, &order_key(rt, "O1"));
+    let used = query_used(conn, &order_key(rt, "O1"));
     check(rt, used == Ok(true), "the order");
-    let edge = ask_edge(conn, &name(rt, "E21"));
+    let edge = query_edge(conn, &name(rt, "E21"));
     check(rt, edge == Ok(Some(ends(rt, "N2", "N1"))), "the edge");
 }
 
 /// Asks for the trip of the vehicle, and for the layout.
 fn ask_whole<S: Alter>(rt: &impl Abort, alloc: Global, conn: &mut Connection<S>) {
-    let trip = ask_trip(alloc, conn, &vehicle(rt)).expect(rt, "the trip");
+    let trip = query_trip(alloc, conn, &vehicle(rt)).expect(rt, "the trip");
     let trip = trip.expect(rt, "a trip");
     check(rt, trip.order == name(rt, "O1"), "its order");
     check(rt, trip.edges.as_slice().len() == 10, "its edges");
     check(rt, trip.acts.as_slice().len() == 2, "its acts");
-    let layout = ask_layout(alloc, conn).expect(rt, "the layout");
+    let layout = query_layout(alloc, conn).expect(rt, "the layout");
     check(rt, layout.is_some(), "a layout");
 }
 
@@ -237,33 +237,33 @@ fn ask_unknown<S: Alter>(rt: &impl Abort, alloc: Global, conn: &mut Connection<S
         manufacturer: name(rt, "0001"),
         serial: name(rt, "KIT"),
     };
-    check(rt, ask_vehicle(conn, &other) == Ok(None), "a vehicle");
+    check(rt, query_vehicle(conn, &other) == Ok(None), "a vehicle");
     let load = name(rt, "J1");
-    check(rt, ask_place(conn, &load) == Ok(None), "a place");
-    check(rt, ask_job(conn, &name(rt, "A1")) == Ok(None), "a job");
+    check(rt, query_place(conn, &load) == Ok(None), "a place");
+    check(rt, query_job(conn, &name(rt, "A1")) == Ok(None), "a job");
     let node = name(rt, "N1");
-    check(rt, ask_station(conn, &node) == Ok(None), "a station");
+    check(rt, query_station(conn, &node) == Ok(None), "a station");
     let edge = Thing::Edge(node);
-    check(rt, ask_holder(conn, &edge) == Ok(None), "a holder");
-    check(rt, ask_node(conn, &load) == Ok(false), "a node");
-    let used = ask_used(conn, &order_key(rt, "J1"));
+    check(rt, query_holder(conn, &edge) == Ok(None), "a holder");
+    check(rt, query_node(conn, &load) == Ok(false), "a node");
+    let used = query_used(conn, &order_key(rt, "J1"));
     check(rt, used == Ok(false), "an order");
-    check(rt, ask_edge(conn, &node) == Ok(None), "an edge");
-    let trip = ask_trip(alloc, conn, &other).expect(rt, "no trip");
+    check(rt, query_edge(conn, &node) == Ok(None), "an edge");
+    let trip = query_trip(alloc, conn, &other).expect(rt, "no trip");
     check(rt, trip.is_none(), "no trip");
 }
 
 /// Asks for the loads and the live jobs of what has some.
 fn ask_some<S: Alter>(rt: &impl Abort, alloc: Global, conn: &mut Connection<S>) {
-    let aboard = ask_loads_on(conn, &vehicle(rt));
+    let aboard = query_loads_on(conn, &vehicle(rt));
     check(rt, aboard == Ok(1), "the loads on the vehicle");
-    let coming = ask_reserved(conn, &name(rt, "B"));
+    let coming = query_reserved(conn, &name(rt, "B"));
     check(rt, coming == Ok(1), "the live jobs to B");
-    let live = ask_job_of(conn, &name(rt, "A1"));
+    let live = query_job_of(conn, &name(rt, "A1"));
     check(rt, live == Ok(Some(name(rt, "J1"))), "the live job of A1");
-    let room = ask_room(conn, &name(rt, "A"));
+    let room = query_room(conn, &name(rt, "A"));
     check(rt, room == Ok(Some(2)), "the room of A");
-    let loads = ask_loads_at(alloc, conn, &name(rt, "A")).expect(rt, "the loads at A");
+    let loads = query_loads_at(alloc, conn, &name(rt, "A")).expect(rt, "the loads at A");
     let wanted = [name(rt, "A1"), name(rt, "A2")];
     check(rt, loads.as_slice() == wanted.as_slice(), "the loads at A");
 }
@@ -274,14 +274,14 @@ fn ask_none<S: Alter>(rt: &impl Abort, alloc: Global, conn: &mut Connection<S>, 
         manufacturer: name(rt, "0001"),
         serial: name(rt, "KIT"),
     };
-    check(rt, ask_loads_on(conn, &other) == Ok(0), "no loads on it");
-    let coming = ask_reserved(conn, &name(rt, "A"));
+    check(rt, query_loads_on(conn, &other) == Ok(0), "no loads on it");
+    let coming = query_reserved(conn, &name(rt, "A"));
     check(rt, coming == Ok(0), "no live jobs to A");
-    let live = ask_job_of(conn, &numbered(rt, alloc, 'L', number));
+    let live = query_job_of(conn, &numbered(rt, alloc, 'L', number));
     check(rt, live == Ok(None), "no live job");
-    let room = ask_room(conn, &name(rt, "C"));
+    let room = query_room(conn, &name(rt, "C"));
     check(rt, room == Ok(None), "no station C");
-    let loads = ask_loads_at(alloc, conn, &name(rt, "B")).expect(rt, "the loads at B");
+    let loads = query_loads_at(alloc, conn, &name(rt, "B")).expect(rt, "the loads at B");
     check(rt, loads.as_slice().is_empty(), "no loads at B");
 }
 
@@ -310,7 +310,7 @@ fn check_asked<S: Alter>(
     ask_all(rt, alloc, conn, number);
     let load = numbered(rt, alloc, 'L', number);
     write(rt, conn, &[Change::Load(load, Place::Left)]);
-    let place = ask_place(conn, &load);
+    let place = query_place(conn, &load);
     check(rt, place == Ok(Some(Place::Left)), "the place then");
 }
 

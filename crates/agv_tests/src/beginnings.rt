@@ -3,7 +3,7 @@
 use crate::cases::{check_stream, new_desk};
 use crate::examples::{FIRST, FIRST_ANSWERS, NO_LOAD};
 use crate::fakes::{Drip, Trickle};
-use agv_face::{Ended, Served, StreamFault};
+use agv_face::{Ended, StreamSummary, StreamFault};
 use agv_header::Refusal;
 use std::alloc::Global;
 use std::process::Abort;
@@ -15,23 +15,23 @@ fn check_beginning(
     alloc: Global,
     bytes: &[u8],
     reads: u32,
-    end: Result<Served, StreamFault>,
+    end: Result<StreamSummary, StreamFault>,
     answers: &[u8],
 ) {
     let mut desk = new_desk(rt, alloc);
-    let mut reader = Drip::watched(bytes, 4096, reads);
-    let mut writer = Trickle::watched(alloc, 4096, 1000);
+    let mut reader = Drip::counting(bytes, 4096, reads);
+    let mut writer = Trickle::counting(alloc, 4096, 1000);
     check_stream(rt, alloc, &mut desk, &mut reader, &mut writer, end, answers);
 }
 
 /// More was waited for behind so many answers.
-fn waited(answers: u64) -> Result<Served, StreamFault> {
+fn waited(answers: u64) -> Result<StreamSummary, StreamFault> {
     Err(StreamFault::Read { answers })
 }
 
 /// The stream ended behind so many answers.
-fn ended(answers: u64, ended: Ended) -> Result<Served, StreamFault> {
-    Ok(Served { answers, ended })
+fn ended(answers: u64, ended: Ended) -> Result<StreamSummary, StreamFault> {
+    Ok(StreamSummary { answers, ended })
 }
 
 /// The refusal of a head that is none.

@@ -3,7 +3,7 @@
 
 use crate::fakes::{Drip, Trickle};
 use crate::table_cases::{made, moment};
-use agv_face::{Served, StreamFault, Watched, serve_stream};
+use agv_face::{StreamSummary, StreamFault, CountingIo, serve_stream};
 use agv_store::Desk;
 use sqlite::{Alter, Connection, MemStore};
 use std::alloc::Global;
@@ -25,9 +25,9 @@ pub(crate) fn check_stream<S: Alter + Drop>(
     rt: &impl Abort,
     alloc: Global,
     desk: &mut Desk<S>,
-    reader: &mut Watched<Drip<'_>>,
-    writer: &mut Watched<Trickle>,
-    end: Result<Served, StreamFault>,
+    reader: &mut CountingIo<Drip<'_>>,
+    writer: &mut CountingIo<Trickle>,
+    end: Result<StreamSummary, StreamFault>,
     answers: &[u8],
 ) {
     let served = serve_stream(alloc, desk, moment(rt), reader, writer);

@@ -6,7 +6,7 @@ use crate::disks::{FailingDisk, close, open, reopen};
 use crate::examples::{DONE, NO_LOAD};
 use crate::fakes::{Drip, Trickle};
 use crate::table_cases::{adopted, made, moment};
-use agv_face::{Ended, Served, StreamFault, serve_stream};
+use agv_face::{Ended, StreamSummary, StreamFault, serve_stream};
 use agv_header::Refusal;
 use agv_store::Desk;
 use sqlite::{Connection, FileStore, Files, Options};
@@ -72,9 +72,9 @@ fn places(rt: &impl Abort, alloc: Global, count: u64) -> Vec<u8> {
 /// Each stream is refused with its first call.
 fn check_stays_failed(rt: &impl Abort, alloc: Global, desk: &mut Desk<FailingStore>) {
     for input in &REFUSED {
-        let mut reader = Drip::watched(input, 4096, 1000);
-        let mut writer = Trickle::watched(alloc, 4096, 1000);
-        let end = Ok(Served {
+        let mut reader = Drip::counting(input, 4096, 1000);
+        let mut writer = Trickle::counting(alloc, 4096, 1000);
+        let end = Ok(StreamSummary {
             answers: 1,
             ended: Ended::Refused(Refusal::Storage),
         });
@@ -88,9 +88,9 @@ fn check_stays_failed(rt: &impl Abort, alloc: Global, desk: &mut Desk<FailingSto
 fn check_loads(rt: &impl Abort, alloc: Global, desk: Desk<FailingStore>, answered: u64) {
     let conn = reopen(rt, alloc, desk.release_conn());
     let mut desk = adopted(rt, alloc, conn);
-    let mut reader = Drip::watched(ASKED, 4096, 1000);
-    let mut writer = Trickle::watched(alloc, 4096, 1000);
-    let end: Result<Served, StreamFault> = Ok(Served {
+    let mut reader = Drip::counting(ASKED, 4096, 1000);
+    let mut writer = Trickle::counting(alloc, 4096, 1000);
+    let end: Result<StreamSummary, StreamFault> = Ok(StreamSummary {
         answers: LOADS,
         ended: Ended::End,
     });
@@ -137,8 +137,8 @@ fn check_failing(rt: &impl Abort, alloc: Global, log: u64) -> bool {
     let Some(mut desk) = desk_before_it_fails(rt, alloc, log) else {
         return false;
     };
-    let mut reader = Drip::watched(REGISTERED, 4096, 1000);
-    let mut writer = Trickle::watched(alloc, 4096, 1000);
+    let mut reader = Drip::counting(REGISTERED, 4096, 1000);
+    let mut writer = Trickle::counting(alloc, 4096, 1000);
     let served = serve_stream(alloc, &mut desk, moment(rt), &mut reader, &mut writer);
     let served = served.expect(rt, "the reader and the writer work");
     let taken = writer.inner().taken.as_slice();

@@ -1,7 +1,7 @@
 //! A reader and a writer that take their time, and fail once, when they are told to; and a reader that fails
 //! unless a writer that counts its bytes has taken enough of them.
 
-use agv_face::Watched;
+use agv_face::CountingIo;
 use std::alloc::Global;
 use std::cell::Cell;
 use std::io::{self, ErrorKind, Read, Write};
@@ -31,8 +31,8 @@ impl Read for Drip<'_> {
 
 impl<'b> Drip<'b> {
     /// A reader that gives at most `step` bytes at a read, and fails at the read after `reads`.
-    pub(crate) fn watched(bytes: &'b [u8], step: usize, reads: u32) -> Watched<Drip<'b>> {
-        Watched::new(Drip { bytes, step, reads })
+    pub(crate) fn counting(bytes: &'b [u8], step: usize, reads: u32) -> CountingIo<Drip<'b>> {
+        CountingIo::new(Drip { bytes, step, reads })
     }
 }
 
@@ -63,8 +63,8 @@ impl Write for Trickle {
 
 impl Trickle {
     /// A writer that takes at most `step` bytes at a write, and fails at the write after `writes`.
-    pub(crate) fn watched(alloc: Global, step: usize, writes: u32) -> Watched<Trickle> {
-        Watched::new(Trickle {
+    pub(crate) fn counting(alloc: Global, step: usize, writes: u32) -> CountingIo<Trickle> {
+        CountingIo::new(Trickle {
             taken: Vec::new(alloc),
             step,
             writes,

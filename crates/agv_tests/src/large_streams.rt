@@ -5,7 +5,7 @@ use crate::asked::{numbered, write};
 use crate::cases::check_stream;
 use crate::fakes::{Drip, Trickle};
 use crate::table_cases::adopted;
-use agv_face::{Ended, Served};
+use agv_face::{Ended, StreamSummary};
 use agv_layout::StationSite;
 use agv_stock::Place;
 use agv_tables::schema::desk_tables::make_desk_tables;
@@ -156,9 +156,9 @@ fn reports_of_100_000_loads(rt: HostRuntime) {
     }
     let mut desk = adopted(&rt, alloc, conn);
     let wanted = answers(&rt, alloc);
-    let mut reader = Drip::watched(ASKED, 4096, 1000);
-    let mut writer = Trickle::watched(alloc, 4096, 10_000);
-    let end = Ok(Served {
+    let mut reader = Drip::counting(ASKED, 4096, 1000);
+    let mut writer = Trickle::counting(alloc, 4096, 10_000);
+    let end = Ok(StreamSummary {
         answers: 3,
         ended: Ended::End,
     });

@@ -8,7 +8,7 @@
 use crate::cases::check;
 use crate::table_cases::make;
 use agv_tables::ReadingFault;
-use agv_tables::readings::rowid_reading::ask_rowids;
+use agv_tables::readings::rowid_reading::query_rowids;
 use agv_tables::schema::standing_tables::tables_stand;
 use agv_tables::schema::table_room::leaves_room;
 use agv_tables::schema::table_texts::creation_texts;
@@ -143,7 +143,7 @@ fn check_rowids(
     wanted: Result<bool, ReadingFault>,
     case: &str,
 ) {
-    check(rt, ask_rowids(alloc, conn) == wanted, case);
+    check(rt, query_rowids(alloc, conn) == wanted, case);
 }
 
 /// What a person typed is a desk's, without rows and with them, and each of these has a number of its own.

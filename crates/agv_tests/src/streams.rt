@@ -4,7 +4,7 @@ use crate::cases::{check, check_stream, new_desk};
 use crate::examples::{AGAIN, AGAIN_ANSWERS, DONE, FIRST, FIRST_ANSWERS, NO_LOAD};
 use crate::fakes::{Drip, Patient, Tally, Trickle};
 use crate::table_cases::moment;
-use agv_face::{Ended, Served, StreamFault, Watched, serve_stream, serve_stream_within};
+use agv_face::{Ended, StreamSummary, StreamFault, CountingIo, serve_stream, serve_stream_within};
 use agv_header::Refusal;
 use agv_http::laws::has_a_cut;
 use std::alloc::Global;
@@ -13,8 +13,8 @@ use std::io::Write;
 use std::process::Abort;
 
 /// The input is at its end behind so many answers.
-fn ended(answers: u64) -> Result<Served, StreamFault> {
-    Ok(Served {
+fn ended(answers: u64) -> Result<StreamSummary, StreamFault> {
+    Ok(StreamSummary {
         answers,
         ended: Ended::End,
     })
@@ -23,8 +23,8 @@ fn ended(answers: u64) -> Result<Served, StreamFault> {
 /// The worked examples, one behind the other, by one desk, in pieces of these sizes.
 fn check_in_pieces(rt: &impl Abort, alloc: Global, read: usize, write: usize) {
     let mut desk = new_desk(rt, alloc);
-    let mut reader = Drip::watched(FIRST, read, 1000);
-    let mut writer = Trickle::watched(alloc, write, 1000);
+    let mut reader = Drip::counting(FIRST, read, 1000);
+    let mut writer = Trickle::counting(alloc, write, 1000);
     check_stream(
         rt,
         alloc,
@@ -37,8 +37,8 @@ fn check_in_pieces(rt: &impl Abort, alloc: Global, read: usize, write: usize) {
     check(rt, writer.flush().is_ok(), "a flush");
     check(rt, reader.failures() == 0, "no read fails");
     check(rt, writer.failures() == 0, "no write fails");
-    let mut reader = Drip::watched(AGAIN, read, 1000);
-    let mut writer = Trickle::watched(alloc, write, 1000);
+    let mut reader = Drip::counting(AGAIN, read, 1000);
+    let mut writer = Trickle::counting(alloc, write, 1000);
     check_stream(
         rt,
         alloc,
@@ -59,9 +59,9 @@ fn in_pieces(rt: HostRuntime) {
 }
 
 /// Gives the second request of `FIRST` once the answer to the first is written, and fails before.
-fn patient(written: &Cell<usize>) -> Watched<Patient<'_>> {
+fn patient(written: &Cell<usize>) -> CountingIo<Patient<'_>> {
     let (post, get) = FIRST.split_at(57);
-    Watched::new(Patient {
+    CountingIo::new(Patient {
         parts: [(post, 0), (get, DONE.len())],
         given: 0,
         written,
@@ -74,7 +74,7 @@ fn answers_before_it_reads_on(rt: HostRuntime) {
     let written = Cell::new(0);
     let mut desk = new_desk(&rt, rt.alloc());
     let mut reader = patient(&written);
-    let mut writer = Watched::new(Tally { written: &written });
+    let mut writer = CountingIo::new(Tally { written: &written });
     let served = serve_stream(rt.alloc(), &mut desk, moment(&rt), &mut reader, &mut writer);
     check(&rt, served == ended(2), "the end");
     check(&rt, written.get() == FIRST_ANSWERS.len(), "the answers");
@@ -87,13 +87,13 @@ const ABSENT: &[u8] = b"GET /loads/L9 HTTP/1.1\r\n\r\n";
 /// goes on. The third read completes the first request, of 57 bytes.
 fn check_failing_reader(rt: &impl Abort, alloc: Global, reads: u32, count: u64, answers: &[u8]) {
     let mut desk = new_desk(rt, alloc);
-    let mut reader = Drip::watched(FIRST, 20, reads);
-    let mut writer = Trickle::watched(alloc, 4096, 1000);
+    let mut reader = Drip::counting(FIRST, 20, reads);
+    let mut writer = Trickle::counting(alloc, 4096, 1000);
     let end = Err(StreamFault::Read { answers: count });
     check_stream(rt, alloc, &mut desk, &mut reader, &mut writer, end, answers);
     check(rt, reader.failures() == 1, "one read failed");
-    let mut reader = Drip::watched(ABSENT, 4096, 1000);
-    let mut writer = Trickle::watched(alloc, 4096, 1000);
+    let mut reader = Drip::counting(ABSENT, 4096, 1000);
+    let mut writer = Trickle::counting(alloc, 4096, 1000);
     check_stream(
         rt,
         alloc,
@@ -124,16 +124,16 @@ fn check_failing_writer(
     count: u64,
 ) {
     let mut desk = new_desk(rt, alloc);
-    let mut reader = Drip::watched(FIRST, 4096, 1000);
-    let mut writer = Trickle::watched(alloc, step, writes);
+    let mut reader = Drip::counting(FIRST, 4096, 1000);
+    let mut writer = Trickle::counting(alloc, step, writes);
     let front = FIRST_ANSWERS
         .get(..taken)
         .expect(rt, "a front of the answers");
     let end = Err(StreamFault::Write { answers: count });
     check_stream(rt, alloc, &mut desk, &mut reader, &mut writer, end, front);
     check(rt, writer.failures() == 1, "one write failed");
-    let mut reader = Drip::watched(AGAIN, 4096, 1000);
-    let mut writer = Trickle::watched(alloc, 4096, 1000);
+    let mut reader = Drip::counting(AGAIN, 4096, 1000);
+    let mut writer = Trickle::counting(alloc, 4096, 1000);
     check_stream(
         rt,
         alloc,
@@ -233,8 +233,8 @@ const ENDS: [(&[u8], Ended, u64, &[u8]); 10] = [
 fn ends(rt: HostRuntime) {
     for (input, end, count, answers) in &ENDS {
         let mut desk = new_desk(&rt, rt.alloc());
-        let mut reader = Drip::watched(FIRST, 4096, 1000);
-        let mut writer = Trickle::watched(rt.alloc(), 4096, 1000);
+        let mut reader = Drip::counting(FIRST, 4096, 1000);
+        let mut writer = Trickle::counting(rt.alloc(), 4096, 1000);
         check_stream(
             &rt,
             rt.alloc(),
@@ -244,9 +244,9 @@ fn ends(rt: HostRuntime) {
             ended(2),
             FIRST_ANSWERS,
         );
-        let mut reader = Drip::watched(input, 4096, 1000);
-        let mut writer = Trickle::watched(rt.alloc(), 4096, 1000);
-        let end = Ok(Served {
+        let mut reader = Drip::counting(input, 4096, 1000);
+        let mut writer = Trickle::counting(rt.alloc(), 4096, 1000);
+        let end = Ok(StreamSummary {
             answers: *count,
             ended: *end,
         });
@@ -267,8 +267,8 @@ fn ends(rt: HostRuntime) {
 #[test]
 fn most_reads(rt: HostRuntime) {
     let mut desk = new_desk(&rt, rt.alloc());
-    let mut reader = Drip::watched(FIRST, 1, 1000);
-    let mut writer = Trickle::watched(rt.alloc(), 4096, 1000);
+    let mut reader = Drip::counting(FIRST, 1, 1000);
+    let mut writer = Trickle::counting(rt.alloc(), 4096, 1000);
     let served = serve_stream_within(
         rt.alloc(),
         &mut desk,
@@ -296,8 +296,8 @@ fn many_requests(rt: HostRuntime) {
         answers.extend_from_slice(NO_LOAD).expect(&rt, "memory");
     }
     let mut desk = new_desk(&rt, rt.alloc());
-    let mut reader = Drip::watched(input.as_slice(), 4096, 1000);
-    let mut writer = Trickle::watched(rt.alloc(), 4096, 10_000);
+    let mut reader = Drip::counting(input.as_slice(), 4096, 1000);
+    let mut writer = Trickle::counting(rt.alloc(), 4096, 10_000);
     check_stream(
         &rt,
         rt.alloc(),
@@ -329,8 +329,8 @@ fn longest_request(rt: HostRuntime) {
     let mut answers = Vec::from_slice(rt.alloc(), BAD_JSON).expect(&rt, "memory");
     answers.extend_from_slice(NO_LOAD).expect(&rt, "memory");
     let mut desk = new_desk(&rt, rt.alloc());
-    let mut reader = Drip::watched(input.as_slice(), 4096, 1000);
-    let mut writer = Trickle::watched(rt.alloc(), 4096, 1000);
+    let mut reader = Drip::counting(input.as_slice(), 4096, 1000);
+    let mut writer = Trickle::counting(rt.alloc(), 4096, 1000);
     check_stream(
         &rt,
         rt.alloc(),

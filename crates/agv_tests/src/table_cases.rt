@@ -7,8 +7,8 @@ use agv_desk::{Answer, Call, Decision, decide};
 use agv_header::{Moment, Name, Thing, VehicleKey};
 use agv_http::{Routes, call_of};
 use agv_store::Desk;
-use agv_tables::questions::layout_reading::ask_layout;
-use agv_tables::questions::trip_questions::ask_trip;
+use agv_tables::queries::layout_reading::query_layout;
+use agv_tables::queries::trip_queries::query_trip;
 use agv_tables::readings::world_reading::read_world;
 use agv_tables::schema::desk_tables::make_desk_tables;
 use agv_track::HoldTable;
@@ -320,7 +320,7 @@ fn check_trip<S: Alter>(
     conn: &mut Connection<S>,
     serial: &str,
 ) {
-    let trip = ask_trip(alloc, conn, &vehicle(rt, serial)).expect(rt, "the trip");
+    let trip = query_trip(alloc, conn, &vehicle(rt, serial)).expect(rt, "the trip");
     let wanted = floor.trip(vehicle(rt, serial)).expect(rt, "memory");
     check(rt, trip == wanted, serial);
 }
@@ -340,7 +340,7 @@ pub(crate) fn check_read<S: Alter>(
     check(rt, fit, "what is held is what the vehicles hold");
     let mut floor = PlainFloor::new(alloc, world, 1);
     check_holds(rt, &mut floor, &holds.table);
-    let layout = ask_layout(alloc, conn).expect(rt, "the layout");
+    let layout = query_layout(alloc, conn).expect(rt, "the layout");
     check_same(rt, alloc, &layout, &floor.layout().expect(rt, "memory"));
     check_trip(rt, alloc, &mut floor, conn, "0001");
     check_trip(rt, alloc, &mut floor, conn, "0002");

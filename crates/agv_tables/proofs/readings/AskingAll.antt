@@ -11,9 +11,9 @@ use Rattle.agv_world.specs.Worlds.{World}
 use Rattle.agv_tables.specs.rows.DeskRows.{Answers}
 use Rattle.agv_tables.specs.schema.SchemaNumbers.{desk_seats}
 use Rattle.agv_tables.specs.readings.TablesRead.{Shows, TellsAll}
-use Rattle.agv_tables.specs.questions.WorldAnswers.{Tells}
-use Rattle.agv_tables.specs.declared.questions.reading_fault.ReadingFault.{ReadingFault}
-use Rattle.agv_tables.proofs.questions.Asking.{Follows, follows, passes, tables_then, then}
+use Rattle.agv_tables.specs.queries.WorldAnswers.{AnswersQuery}
+use Rattle.agv_tables.specs.declared.queries.reading_fault.ReadingFault.{ReadingFault}
+use Rattle.agv_tables.proofs.queries.Asking.{Follows, follows, passes, tables_then, then}
 
 -- an error says nothing of an answer
 pub if_err : {A : Type 0} (f : ReadingFault) (r : Result A ReadingFault) → IsErrAnd r (λ why. why ≡ f) → (says : A → Type 0) → IfOk r says
@@ -27,13 +27,13 @@ shows_err g old new f (Err why) is has = λ _. tt
 module _ {S : Type 0} (g : Ghosts S) (old : Held S) where
   -- rows that are shown
   pub all_rows : (new : Held S) (asked : List (List Row) → List Row) (rows : Vec Row Global) (says : World → Vec Row Global → Type 0)
-      → (HasCleanDisk (state g new) → Answers asked (state g old) rows.items) → Tells g old new (Ok rows) says
+      → (HasCleanDisk (state g new) → Answers asked (state g old) rows.items) → AnswersQuery g old new (Ok rows) says
       → TellsAll g old new (Ok rows) says (λ lists rows. IsPermutation (asked lists) rows.items)
   all_rows new asked rows says shown told = record { tells = told; exact = shown }
 
   -- an error of the database
   pub all_error : {A : Type 0} (new : Held S) (e : Error) (meant : Error → ReadingFault) (says : World → A → Type 0) (has : List (List Row) → A → Type 0) (r : Result A ReadingFault) → IsErrAnd r (λ why. why ≡ meant e)
-      → Tells g old new r says → TellsAll g old new r says has
+      → AnswersQuery g old new r says → TellsAll g old new r says has
   all_error new e meant says has r is told = record { tells = told; exact = shows_err g old new (meant e) r is has }
 
   -- an error is passed on
@@ -60,7 +60,7 @@ module _ {S : Type 0} (g : Ghosts S) (old : Held S) where
   -- a reading after another
   module _ {A B : Type 0} (mid new : Held S) (a : A) (says : World → A → Type 0) (has : List (List Row) → A → Type 0) (first : TellsAll g old mid (Ok a) says has) where
     later : (r : Result B ReadingFault) (means : World → B → Type 0) (holds joined : List (List Row) → B → Type 0) → ((lists : List (List Row)) → has lists a → (b : B) → holds lists b → joined lists b)
-        → Tells g mid new r means → Shows g mid new r holds → Shows g old new r joined
+        → AnswersQuery g mid new r means → Shows g mid new r holds → Shows g old new r joined
     later (Ok b) means holds joined so told next = λ clean desk is lists held.
         let early : HasCleanDisk (state g mid) = omega (arith, told.survives.clean) in
         let moved = tables_then desk (state g old) (state g mid) lists (first.tells.kept early) held in

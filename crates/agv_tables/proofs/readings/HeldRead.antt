@@ -9,13 +9,13 @@ use Rattle.agv_header.specs.declared.key.Thing.{Thing}
 use Rattle.agv_header.specs.declared.key.VehicleKey.{VehicleKey}
 use Rattle.agv_track.specs.Holds.{Holds}
 use Rattle.sqlite_value.specs.Order.{Row}
-use Rattle.agv_tables.specs.rows.Cells.{if_some}
+use Rattle.agv_tables.specs.rows.ValueEncodings.{if_some}
 use Rattle.agv_tables.specs.rows.Columns.{hold_in}
 use Rattle.agv_tables.specs.readings.ReadTables.{if_free, read_rows, table_read}
 use Rattle.agv_tables.specs.declared.readings.held_things.HeldThings.{HeldThings}
-use Rattle.agv_tables.specs.declared.questions.reading_fault.ReadingFault.{ReadingFault}
-use Rattle.agv_tables.specs.declared.questions.reading_fault.ReadingFault.TheVariants as fault
-use Rattle.agv_tables.proofs.questions.Asking.{Follows}
+use Rattle.agv_tables.specs.declared.queries.reading_fault.ReadingFault.{ReadingFault}
+use Rattle.agv_tables.specs.declared.queries.reading_fault.ReadingFault.TheVariants as fault
+use Rattle.agv_tables.proofs.queries.Asking.{Follows}
 use Rattle.agv_tables.proofs.readings.TableReading.{added, no_entries}
 
 pub table_follows : (r : Result HeldThings ReadingFault) (says : Holds → Type 0) → Follows (table_read r) says → Follows r (λ held. says held.table)

@@ -12,12 +12,12 @@ use Rattle.agv_world.specs.Worlds.{World}
 use Rattle.agv_tables.specs.rows.Columns.{meta_columns, meta_in}
 use Rattle.agv_tables.specs.readings.ReadTables.{is_first_meta, meta_read}
 use Rattle.agv_tables.specs.rows.RowLists.{row_lists, rows_in}
-use Rattle.agv_tables.specs.statements.RowQuestions.{all_rows_of}
+use Rattle.agv_tables.specs.statements.RowQueries.{all_rows_of}
 use Rattle.agv_tables.specs.readings.TablesRead.{first_meta}
-use Rattle.agv_tables.specs.declared.questions.reading_fault.ReadingFault.{ReadingFault}
-use Rattle.agv_tables.specs.declared.questions.reading_fault.ReadingFault.TheVariants as fault
+use Rattle.agv_tables.specs.declared.queries.reading_fault.ReadingFault.{ReadingFault}
+use Rattle.agv_tables.specs.declared.queries.reading_fault.ReadingFault.TheVariants as fault
 use Rattle.agv_tables.specs.declared.schema.table_name.TableName.TheVariants as the
-use Rattle.agv_tables.proofs.questions.Asking.{Follows}
+use Rattle.agv_tables.proofs.queries.Asking.{Follows}
 use Rattle.agv_tables.proofs.rows.ColumnsKept.{meta_kept}
 use Rattle.agv_tables.proofs.rows.ColumnsWritten.{meta_written}
 use Rattle.agv_tables.proofs.readings.TableReading.{added, no_entries}

@@ -14,14 +14,14 @@ use Rattle.agv_world.specs.Rows.{rows_of}
 use Rattle.agv_tables.specs.rows.DeskRows.{AreKeyed, HaveRows, IsDesk, Placing, table_names, width_of}
 use Rattle.agv_tables.specs.sql.Errors.{IsOfStore, is_of_store}
 use Rattle.agv_tables.specs.sql.Connections.{HasStorageCause}
-use Rattle.agv_tables.specs.questions.ReadingFault.{reading_fault_of}
+use Rattle.agv_tables.specs.queries.ReadingFault.{reading_fault_of}
 use Rattle.agv_tables.specs.rows.RowLists.{row_lists}
 use Rattle.agv_tables.specs.readings.Rowids.{AreTablesKeyed, ShowRowids, TellsKeyed}
-use Rattle.agv_tables.specs.questions.WorldAnswers.{Tells}
-use Rattle.agv_tables.specs.declared.questions.reading_fault.ReadingFault.{ReadingFault}
-use Rattle.agv_tables.specs.declared.questions.reading_fault.ReadingFault.TheVariants as fault
+use Rattle.agv_tables.specs.queries.WorldAnswers.{AnswersQuery}
+use Rattle.agv_tables.specs.declared.queries.reading_fault.ReadingFault.{ReadingFault}
+use Rattle.agv_tables.specs.declared.queries.reading_fault.ReadingFault.TheVariants as fault
 use Rattle.agv_tables.specs.declared.schema.table_name.TableName.{TableName}
-use Rattle.agv_tables.proofs.questions.Asking.{sound_of, storage_of}
+use Rattle.agv_tables.proofs.queries.Asking.{sound_of, storage_of}
 use Rattle.agv_tables.proofs.sql.Later.{fault_later, later_by}
 use Rattle.agv_tables.proofs.readings.RowidsKeyed.{keyed_alike}
 use Rattle.agv_tables.proofs.sql.StatesThen.{failed_then, unchanged_then}
@@ -101,7 +101,7 @@ module _ {S : Type 0} (g : Ghosts S) (old : Held S) where
       survives = saved (Err f) next;
     }
 
--- ---- a question to the world whose rows the tables have: it is keyed
+-- ---- a query about the world whose rows the tables have: it is keyed
 
 tables_keyed : (tree : TableName → ℕ) (trees : Trees) (names : List TableName) (lists : List (List Row)) → AllZip (λ name rows. HaveRows (width_of name) (trees (tree name)) rows) names lists → AllByRecursion (λ name. AreKeyed (trees (tree name))) names
 tables_keyed tree trees [] [] h = tt
@@ -109,7 +109,7 @@ tables_keyed tree trees [] (rows ∷ lists) h = tt
 tables_keyed tree trees (name ∷ names) [] h = absurd h
 tables_keyed tree trees (name ∷ names) (rows ∷ lists) h = (h.0.0, tables_keyed tree trees names lists h.1)
 
-pub tells_keyed : {S : Type 0} (g : Ghosts S) (old new : Held S) (r : Result Bool ReadingFault) → TellsKeyed g old new table_names r → Tells g old new r (λ world keyed. IsTrue keyed)
+pub tells_keyed : {S : Type 0} (g : Ghosts S) (old new : Held S) (r : Result Bool ReadingFault) → TellsKeyed g old new table_names r → AnswersQuery g old new r (λ world keyed. IsTrue keyed)
 tells_keyed g old new (Ok b) keyed = record {
   told = λ clean desk world has. (keyed.told clean desk has.stands has.rows.schema_is).1 (tables_keyed desk.tree (state g old).now.trees table_names (row_lists (rows_of world)) has.rows.rows);
   kept = keyed.kept;

@@ -22,14 +22,14 @@ use Rattle.agv_world.specs.Worlds.{World}
 use Rattle.agv_tables.specs.rows.DeskRows.{Answers, IsDesk, Placing}
 use Rattle.agv_tables.specs.rows.RowLists.{row_lists}
 use Rattle.agv_tables.specs.schema.SchemaNumbers.{desk_seats}
-use Rattle.agv_tables.specs.statements.RowQuestions.{all_rows_of, all_rows_text}
-use Rattle.agv_tables.specs.questions.ReadingFault.{reading_fault_of}
-use Rattle.agv_tables.specs.questions.WorldAnswers.{HasNoWorld, Tells}
+use Rattle.agv_tables.specs.statements.RowQueries.{all_rows_of, all_rows_text}
+use Rattle.agv_tables.specs.queries.ReadingFault.{reading_fault_of}
+use Rattle.agv_tables.specs.queries.WorldAnswers.{HasNoWorld, AnswersQuery}
 use Rattle.agv_tables.specs.readings.ReadTables.{Reads, if_free, read_rows}
-use Rattle.agv_tables.specs.rows.Cells.{if_some}
+use Rattle.agv_tables.specs.rows.ValueEncodings.{if_some}
 use Rattle.agv_tables.specs.readings.TablesRead.{TellsAll}
-use Rattle.agv_tables.specs.declared.questions.reading_fault.ReadingFault.{ReadingFault}
-use Rattle.agv_tables.specs.declared.questions.reading_fault.ReadingFault.TheVariants as fault
+use Rattle.agv_tables.specs.declared.queries.reading_fault.ReadingFault.{ReadingFault}
+use Rattle.agv_tables.specs.declared.queries.reading_fault.ReadingFault.TheVariants as fault
 use Rattle.agv_tables.specs.declared.schema.table_name.TableName.{TableName}
 use Rattle.agv_tables.proofs.schema.DeskPlaces.{is_in}
 use Rattle.agv_tables.proofs.sql.Later.{fault_later, later_by}
@@ -38,8 +38,8 @@ use Rattle.agv_tables.proofs.sql.Running.{query_fails}
 use Rattle.agv_tables.proofs.sql.Selecting.{IsSilent, all_selects, select_survives, silent_understood}
 use Rattle.agv_tables.proofs.sql.StatesThen.{failed_then, unchanged_then}
 use Rattle.agv_tables.proofs.statements.DeskStatements.{all_given}
-use Rattle.agv_tables.proofs.statements.QuestionMeanings.{all_rows_asked}
-use Rattle.agv_tables.proofs.questions.Asking.{tables_then, tells_error}
+use Rattle.agv_tables.proofs.statements.QueryMeanings.{all_rows_asked}
+use Rattle.agv_tables.proofs.queries.Asking.{tables_then, tells_error}
 use Rattle.agv_tables.proofs.readings.AskingAll.{all_error, all_passes}
 
 -- a statement with no RETURNING shows no rows of a write
@@ -218,7 +218,7 @@ module _ {S K X : Type 0} {R : K → K → Ordering} (g : Ghosts S) (name : Tabl
             not_stored fault.Storage reads is = reads []
             not_stored fault.Damaged reads is = cc is
 
-            ended : (why : ReadingFault) → ((rest : List Row) → Reads (Err why) (read_rows told table (row ∷ rest))) → Tells g old new (Err why) (says name)
+            ended : (why : ReadingFault) → ((rest : List Row) → Reads (Err why) (read_rows told table (row ∷ rest))) → AnswersQuery g old new (Err why) (says name)
             ended why reads = record {
               told = λ _. tt;
               kept = λ _. tt;

@@ -23,11 +23,11 @@ use Rattle.agv_world.specs.declared.row.VehicleRow.{VehicleRow}
 use Rattle.agv_tables.specs.rows.Columns.{edge_columns, edge_in, hold_columns, hold_in, job_columns, job_in, leg_columns, leg_in, load_columns, load_in, node_columns, node_in, station_columns, station_in, used_columns, used_in, vehicle_columns, vehicle_in}
 use Rattle.agv_tables.specs.readings.ReadTables.{Reads, read_members, read_rows}
 use Rattle.agv_tables.specs.rows.RowLists.{row_lists}
-use Rattle.agv_tables.specs.statements.RowQuestions.{all_rows_of}
+use Rattle.agv_tables.specs.statements.RowQueries.{all_rows_of}
 use Rattle.agv_tables.specs.schema.SchemaNumbers.{desk_seats}
-use Rattle.agv_tables.specs.declared.questions.reading_fault.ReadingFault.{ReadingFault}
+use Rattle.agv_tables.specs.declared.queries.reading_fault.ReadingFault.{ReadingFault}
 use Rattle.agv_tables.specs.declared.schema.table_name.TableName.TheVariants as the
-use Rattle.agv_tables.proofs.questions.Asking.{Follows}
+use Rattle.agv_tables.proofs.queries.Asking.{Follows}
 use Rattle.agv_tables.proofs.rows.CellLemmas.{name_kept}
 use Rattle.agv_tables.proofs.rows.ColumnsKept.{edge_kept, hold_kept, job_kept, leg_kept, load_kept, station_kept, used_kept, vehicle_kept}
 use Rattle.agv_tables.proofs.rows.LawfulHolds.{held_value}

@@ -11,12 +11,12 @@ use Rattle.std.specs.Ordering.{eq_by_cmp}
 use Rattle.std.specs.Result.{IsErrAnd}
 use Rattle.sqlite_trees.proofs.ListLemmas.{all-permutation, IsPermutation-filter, pull_back}
 use Rattle.sqlite_value.specs.Order.{Row}
-use Rattle.agv_tables.specs.rows.Cells.{if_some}
+use Rattle.agv_tables.specs.rows.ValueEncodings.{if_some}
 use Rattle.agv_tables.specs.readings.ReadTables.{Reads, if_free, read_rows}
 use Rattle.agv_tables.specs.rows.RowLists.{rows_in}
-use Rattle.agv_tables.specs.declared.questions.reading_fault.ReadingFault.{ReadingFault}
-use Rattle.agv_tables.specs.declared.questions.reading_fault.ReadingFault.TheVariants as fault
-use Rattle.agv_tables.proofs.questions.Asking.{Follows}
+use Rattle.agv_tables.specs.declared.queries.reading_fault.ReadingFault.{ReadingFault}
+use Rattle.agv_tables.specs.declared.queries.reading_fault.ReadingFault.TheVariants as fault
+use Rattle.agv_tables.proofs.queries.Asking.{Follows}
 use Rattle.agv_tables.proofs.sql.MapEntries.{at_key, entries-at_key, entries-insert-permuted}
 use Rattle.agv_tables.proofs.rows.SpreadRows.{entries_found}
 

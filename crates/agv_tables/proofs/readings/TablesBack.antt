@@ -8,10 +8,10 @@ use Rattle.std.specs.FinMap.{FinMap, IsAntisymmetric, empty, entries, get, get-e
 use Rattle.std.specs.FinSet as set
 use Rattle.sqlite_trees.proofs.ListLemmas.{IsPermutation-flat_map, IsPermutation-same, flat_map-map, flat_map-one}
 use Rattle.sqlite_value.specs.Order.{Row}
-use Rattle.agv_tables.specs.rows.Cells.{if_some}
+use Rattle.agv_tables.specs.rows.ValueEncodings.{if_some}
 use Rattle.agv_tables.specs.readings.ReadTables.{Reads, if_free, read_members, read_rows}
 use Rattle.agv_tables.specs.rows.RowLists.{marked, rows_for, rows_in}
-use Rattle.agv_tables.specs.declared.questions.reading_fault.ReadingFault.{ReadingFault}
+use Rattle.agv_tables.specs.declared.queries.reading_fault.ReadingFault.{ReadingFault}
 use Rattle.agv_tables.proofs.rows.KeyedRows.{entry_rows}
 use Rattle.agv_tables.proofs.sql.Members.{get-marked, mark, marked-insert, same_marked}
 use Rattle.agv_tables.proofs.readings.TableReading.{added, no_entries, reads_all}

@@ -10,13 +10,13 @@ use Rattle.agv_world.specs.Rows.{rows_of}
 use Rattle.agv_world.specs.Worlds.{World}
 use Rattle.agv_world.specs.declared.row.JobRow.{JobRow}
 use Rattle.agv_world.specs.declared.row.TripRow.{TripRow}
-use Rattle.agv_tables.specs.rows.Cells.{if_some}
+use Rattle.agv_tables.specs.rows.ValueEncodings.{if_some}
 use Rattle.agv_tables.specs.rows.Columns.{trip_columns, trip_in}
 use Rattle.agv_tables.specs.readings.ReadTables.{read_rows}
 use Rattle.agv_tables.specs.rows.RowLists.{CarriesOneEach, row_if, row_lists}
-use Rattle.agv_tables.specs.statements.RowQuestions.{all_rows_of}
+use Rattle.agv_tables.specs.statements.RowQueries.{all_rows_of}
 use Rattle.agv_tables.specs.rows.TripLines.{line_of, trip_told}
-use Rattle.agv_tables.specs.rows.TripsTold.{trip_with}
+use Rattle.agv_tables.specs.rows.DecodedTrips.{trip_with}
 use Rattle.agv_tables.specs.declared.schema.table_name.TableName.TheVariants as the
 use Rattle.agv_tables.specs.declared.rows.trip_line.TripLine.{TripLine}
 use Rattle.agv_tables.proofs.rows.ColumnsKept.{trip_kept}
@@ -24,7 +24,7 @@ use Rattle.agv_tables.proofs.rows.ColumnsWritten.{trip_written}
 use Rattle.agv_tables.proofs.rows.ListsFollow.{names_apart}
 use Rattle.agv_tables.proofs.rows.SpreadRows.{entries_found}
 use Rattle.agv_tables.proofs.readings.TableReading.{reads_all}
-use Rattle.agv_tables.proofs.questions.TripAnswers.{LinesAreTyped, all_of}
+use Rattle.agv_tables.proofs.queries.TripAnswers.{LinesAreTyped, all_of}
 use Rattle.agv_tables.proofs.rows.TripLineLemmas.{line_kept, trip_told_back}
 
 -- ---- the row of a trip that has a line

@@ -19,17 +19,17 @@ use Rattle.agv_tables.specs.rows.DeskRows.{HaveRows, Holds, IsDesk, Placing, col
 use Rattle.agv_tables.specs.readings.ReadTables.{Reads, read_rows}
 use Rattle.agv_tables.specs.rows.RowLists.{AreAlike, CarriesOneEach, row_lists}
 use Rattle.agv_tables.specs.schema.SchemaNumbers.{desk_seats}
-use Rattle.agv_tables.specs.rows.TripsTold.{trip_with}
-use Rattle.agv_tables.specs.questions.WorldAnswers.{HasWorld}
+use Rattle.agv_tables.specs.rows.DecodedTrips.{trip_with}
+use Rattle.agv_tables.specs.queries.WorldAnswers.{HasWorld}
 use Rattle.agv_tables.specs.readings.WorldIn.{jobs_in, lists_in, placed_in, tables_in, tree_named, tree_of, world_in}
-use Rattle.agv_tables.specs.declared.questions.reading_fault.ReadingFault.{ReadingFault}
-use Rattle.agv_tables.specs.declared.questions.reading_fault.ReadingFault.TheVariants as fault
+use Rattle.agv_tables.specs.declared.queries.reading_fault.ReadingFault.{ReadingFault}
+use Rattle.agv_tables.specs.declared.queries.reading_fault.ReadingFault.TheVariants as fault
 use Rattle.agv_tables.specs.declared.schema.table_name.TableName.{TableName}
 use Rattle.agv_tables.specs.declared.schema.table_name.TableName.TheVariants as the
-use Rattle.agv_tables.proofs.questions.Asking.{Follows}
+use Rattle.agv_tables.proofs.queries.Asking.{Follows}
 use Rattle.agv_tables.proofs.rows.ListsTell.{alike_at}
 use Rattle.agv_tables.proofs.readings.TableAnswers.{tells_edges, tells_jobs, tells_legs, tells_nodes, tells_places, tells_stations, tells_used_names, tells_vehicles}
-use Rattle.agv_tables.proofs.questions.TripAnswers.{LinesAreTyped}
+use Rattle.agv_tables.proofs.queries.TripAnswers.{LinesAreTyped}
 use Rattle.agv_tables.proofs.readings.TripTableAnswers.{reads_trips}
 
 -- ---- where the tables stand

@@ -20,7 +20,7 @@ use Rattle.agv_stock.specs.declared.place.Place.TheVariants as place
 use Rattle.agv_world.specs.declared.key.LegKey.{LegKey}
 use Rattle.agv_world.specs.declared.row.JobRow.{JobRow}
 use Rattle.agv_world.specs.declared.row.VehicleRow.{VehicleRow}
-use Rattle.agv_tables.specs.rows.Cells.{number_cell, flag_cell, flag_in, phase_name, phase_in, status_in, instant_in}
+use Rattle.agv_tables.specs.rows.ValueEncodings.{number_cell, flag_cell, flag_in, phase_name, phase_in, status_in, instant_in}
 use Rattle.agv_tables.specs.rows.Columns.{meta_columns, edge_columns, station_columns, vehicle_columns, trip_columns, leg_columns, load_columns, job_columns, hold_columns}
 use Rattle.agv_tables.specs.declared.rows.trip_line.TripLine.{TripLine}
 use Rattle.agv_tables.proofs.rows.CellLemmas.{flag_kept, phase_kept, status_kept, instant_kept}

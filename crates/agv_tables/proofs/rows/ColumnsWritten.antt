@@ -17,7 +17,7 @@ use Rattle.agv_world.specs.declared.key.UseKey.{UseKey}
 use Rattle.agv_world.specs.declared.row.JobRow.{JobRow}
 use Rattle.agv_world.specs.declared.row.Sent.{Sent}
 use Rattle.agv_world.specs.declared.row.VehicleRow.{VehicleRow}
-use Rattle.agv_tables.specs.rows.Cells.{name_in, number_cell, number_in, instant_in, maybe_in, place_name, thing_name}
+use Rattle.agv_tables.specs.rows.ValueEncodings.{name_in, number_cell, number_in, instant_in, maybe_in, place_name, thing_name}
 use Rattle.agv_tables.specs.rows.Columns.{if_columns, meta_columns, meta_in, node_columns, node_in, edge_columns, edge_in, station_columns, station_in, key_in, rest_of, rest_in, sent_in, vehicle_columns, vehicle_in, trip_columns, trip_in, leg_columns, leg_in, place_of, load_columns, load_in, job_columns, job_in, thing_of, hold_columns, hold_in, used_columns, used_in}
 use Rattle.agv_tables.specs.declared.rows.trip_line.TripLine.{TripLine}
 use Rattle.agv_tables.specs.declared.rows.words.PlaceKind.{PlaceKind}

@@ -12,7 +12,7 @@ use Rattle.agv_message.specs.Instant.{instant_name}
 use Rattle.agv_stock.specs.declared.place.Place.{Place}
 use Rattle.agv_stock.specs.declared.place.Place.TheVariants as place
 use Rattle.agv_world.specs.declared.row.VehicleRow.{VehicleRow}
-use Rattle.agv_tables.specs.rows.Cells.{number_cell}
+use Rattle.agv_tables.specs.rows.ValueEncodings.{number_cell}
 use Rattle.agv_tables.specs.rows.Columns.{vehicle_columns, trip_columns, load_columns, hold_columns}
 use Rattle.agv_tables.specs.rows.DeskRows.{FitsTable, is_of_kind}
 use Rattle.agv_tables.specs.declared.schema.table_name.TableName.TheVariants as the

@@ -16,7 +16,7 @@ use Rattle.agv_world.specs.KeyOrders.{leg_cmp-total, leg_cmp-IsAntisymmetric, us
 use Rattle.agv_world.specs.Rows.{Rows}
 use Rattle.agv_world.specs.declared.row.JobRow.{JobRow}
 use Rattle.agv_world.specs.declared.row.TripRow.{TripRow}
-use Rattle.agv_tables.specs.rows.Cells.{number_cell}
+use Rattle.agv_tables.specs.rows.ValueEncodings.{number_cell}
 use Rattle.agv_tables.specs.rows.Columns.{meta_columns, node_columns, edge_columns, station_columns, vehicle_columns, trip_columns, leg_columns, load_columns, job_columns, hold_columns, used_columns}
 use Rattle.agv_tables.specs.rows.DeskRows.{table_at, has_key}
 use Rattle.agv_tables.specs.rows.RowKeys.{name_key, vehicle_key, leg_key, hold_key}

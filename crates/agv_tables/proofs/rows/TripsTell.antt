@@ -22,7 +22,7 @@ use Rattle.agv_world.specs.declared.row.VehicleRow.{VehicleRow}
 use Rattle.agv_world.specs.declared.world.World.{World as Tables}
 use Rattle.agv_tables.specs.rows.RowLists.{CarriesOneEach}
 use Rattle.agv_tables.specs.rows.TripLines.{line_of, trip_told}
-use Rattle.agv_tables.specs.rows.TripsTold.{line_for, tables_of, told_by_line, trip_row_for}
+use Rattle.agv_tables.specs.rows.DecodedTrips.{line_for, tables_of, told_by_line, trip_row_for}
 use Rattle.agv_tables.specs.declared.rows.trip_line.TripLine.{TripLine}
 use Rattle.agv_tables.proofs.sql.FewEntries.{found_entry}
 use Rattle.agv_tables.proofs.rows.LawfulTrips.{trip_own, vehicle_is}

@@ -24,7 +24,7 @@ use Rattle.agv_tables.specs.declared.schema.table_name.TableName.{TableName}
 use Rattle.agv_tables.specs.declared.schema.table_name.TableName.TheVariants as the
 use Rattle.agv_tables.specs.schema.Schema.{desk_tables, desk_indexes, PlainIndex}
 use Rattle.agv_tables.specs.schema.DeskSchema.{sequence_table, with_sequence, with_new_table, with_new_index, index_on, with_desk}
-use Rattle.agv_tables.specs.rows.DeskRows.{Placing, Stands, table_for, place_of, width_of, table_at, is_unreferred, first_columns, columns_in, HaveRows}
+use Rattle.agv_tables.specs.rows.DeskRows.{Placing, TableStands, table_for, place_of, width_of, table_at, is_unreferred, first_columns, columns_in, HaveRows}
 use Rattle.agv_tables.specs.schema.DeskTables.{HasTable, HasDesk, first_rows}
 use Rattle.agv_tables.specs.schema.DeskTables.{HasRows}
 use Rattle.agv_tables.specs.schema.NewDesk.{StandsNew, MadeDesksStand, TreesTellTables}
@@ -95,7 +95,7 @@ module _ (db : Database) (h : HasDesk db first_rows) where
       let r = zipped_left IsTableRow _ db.schema.tables t listed.lists.listed.tables has in
       let below = r.2.described.low in search (rules, below)
 
-  stands : IsDatabase db → (name : TableName) → is_unreferred (table_for name).name db.schema.tables ≡ true → Stands desk name
+  stands : IsDatabase db → (name : TableName) → is_unreferred (table_for name).name db.schema.tables ≡ true → TableStands desk name
   stands listed name unreferred =
       let it = has_table name in
       record { at = it.at; named = it.named; there = it.there; low = low listed _ (has_got db.schema.tables it.at _ it.there); unreferred = unreferred }

@@ -7,7 +7,7 @@ use Rattle.sqlite_schema.specs.Names.{table_named}
 use Rattle.agv_header.specs.declared.memory.Memory.{Memory}
 use Rattle.agv_tables.specs.declared.schema.table_name.TableName.{TableName}
 use Rattle.agv_tables.specs.declared.schema.table_name.TableName.TheVariants as the
-use Rattle.agv_tables.specs.rows.DeskRows.{Placing, IsDesk, Stands, table_for}
+use Rattle.agv_tables.specs.rows.DeskRows.{Placing, IsDesk, TableStands, table_for}
 use Rattle.agv_tables.specs.schema.Schema.{desk_tables}
 use Rattle.agv_tables.specs.schema.NewDesk.{LeavesRoom}
 use Rattle.agv_tables.specs.schema.TablesStand.{HasNoRules, HaveNoDefaults, IsPlain, StandsAlike, TablesStand}
@@ -71,7 +71,7 @@ pub they_stand : (s : Schema) → LeavesRoom s → AllByRecursion (StandsAlike s
 they_stand s room all =
     let each = named (StandsAlike s) all in
     let at : Placing = record { schema = s; tree = λ name. (each name).tree } in
-    let stands : (name : TableName) → Stands at name = λ name. let it = each name in record { at = it.at; named = it.named; there = it.there; low = it.low; unreferred = room.unreferred name } in
+    let stands : (name : TableName) → TableStands at name = λ name. let it = each name in record { at = it.at; named = it.named; there = it.there; low = it.low; unreferred = room.unreferred name } in
     (at, record { stands = stands; apart = room.apart }, refl)
 
 alike : (s : Schema) (at : Placing) → IsDesk at → s ≡ at.schema → (name : TableName) → StandsAlike s (table_for name)

@@ -24,7 +24,7 @@ use Rattle.agv_world.specs.declared.key.UseKind.{UseKind}
 use Rattle.agv_world.specs.declared.key.UseKind.TheVariants as used
 use Rattle.agv_world.specs.declared.row.JobRow.{JobRow}
 use Rattle.agv_world.specs.declared.row.VehicleRow.{VehicleRow}
-use Rattle.agv_tables.specs.rows.Cells.{number_cell, use_name}
+use Rattle.agv_tables.specs.rows.ValueEncodings.{number_cell, use_name}
 use Rattle.agv_tables.specs.rows.Columns.{meta_columns, node_columns, edge_columns, station_columns, vehicle_columns, trip_columns, leg_columns, load_columns, job_columns, hold_columns, used_columns}
 use Rattle.agv_tables.specs.rows.DeskRows.{has_key, is_equal}
 use Rattle.agv_tables.specs.rows.RowKeys.{name_key, vehicle_key, leg_key, hold_key}

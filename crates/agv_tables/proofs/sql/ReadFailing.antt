@@ -26,12 +26,12 @@ use Rattle.agv_tables.proofs.sql.OneTable.{Means, parsed, query_by, compiled_as}
 use Rattle.agv_tables.proofs.schema.DeskPlaces.{is_in}
 use Rattle.agv_tables.proofs.sql.Failing.{IsCaused, IsWhole, caused, is_statement}
 use Rattle.agv_tables.specs.statements.RowTexts.{look_up_text, table_looked_up}
-use Rattle.agv_tables.specs.statements.RowQuestions.{table_asked, columns_asked, columns_at, FitsColumns, question_text, all_rows_text}
+use Rattle.agv_tables.specs.statements.RowQueries.{table_asked, columns_asked, columns_at, FitsColumns, query_text, all_rows_text}
 use Rattle.agv_tables.specs.declared.rows.row_of.RowOf.{RowOf}
 use Rattle.agv_tables.specs.declared.rows.row_of.RowOf.TheVariants as keyed
 use Rattle.agv_tables.specs.declared.rows.rows_by.RowsBy.{RowsBy}
 use Rattle.agv_tables.specs.declared.rows.rows_by.RowsBy.TheVariants as by
-use Rattle.agv_tables.proofs.statements.QuestionMeanings.{AsksFor, question_terms, question_asks, all_rows_asked}
+use Rattle.agv_tables.proofs.statements.QueryMeanings.{AsksFor, query_terms, query_asks, all_rows_asked}
 use Rattle.agv_tables.proofs.statements.RowMeanings.{key_terms, looks_up, column_terms, column_names}
 
 -- ---- types
@@ -109,26 +109,26 @@ key_typed the.Used params h =
     let k1 : is_of_kind kind.Text (column params 1) ≡ true = fits_at (columns_at the.Used (table_for the.Used).primary) params h 1 _ refl in
     rw (text_compares (column params 0) k0, text_compares (column params 1) k1)
 
-question_typed : (question : RowsBy) (params : Row) → FitsColumns (table_asked question) (columns_asked question) params → IsTypedFor (table_asked question) (question_terms question) params
-question_typed by.VehicleTrip params h =
+query_typed : (query : RowsBy) (params : Row) → FitsColumns (table_asked query) (columns_asked query) params → IsTypedFor (table_asked query) (query_terms query) params
+query_typed by.VehicleTrip params h =
     let k0 : is_of_kind kind.Text (column params 0) ≡ true = fits_at (columns_at the.Trip (columns_asked by.VehicleTrip)) params h 0 _ refl in
     let k1 : is_of_kind kind.Text (column params 1) ≡ true = fits_at (columns_at the.Trip (columns_asked by.VehicleTrip)) params h 1 _ refl in
     rw (text_compares (column params 0) k0, text_compares (column params 1) k1)
-question_typed by.OrderLegs params h =
+query_typed by.OrderLegs params h =
     let k0 : is_of_kind kind.Text (column params 0) ≡ true = fits_at (columns_at the.Leg (columns_asked by.OrderLegs)) params h 0 _ refl in
     rw (text_compares (column params 0) k0)
-question_typed by.StationLoads params h =
+query_typed by.StationLoads params h =
     let k0 : is_of_kind kind.Text (column params 0) ≡ true = fits_at (columns_at the.Load (columns_asked by.StationLoads)) params h 0 _ refl in
     rw (text_compares (column params 0) k0)
-question_typed by.VehicleLoads params h =
+query_typed by.VehicleLoads params h =
     let k0 : is_of_kind kind.Text (column params 0) ≡ true = fits_at (columns_at the.Load (columns_asked by.VehicleLoads)) params h 0 _ refl in
     let k1 : is_of_kind kind.Text (column params 1) ≡ true = fits_at (columns_at the.Load (columns_asked by.VehicleLoads)) params h 1 _ refl in
     rw (text_compares (column params 0) k0, text_compares (column params 1) k1)
-question_typed by.LoadJobs params h =
+query_typed by.LoadJobs params h =
     let k0 : is_of_kind kind.Text (column params 0) ≡ true = fits_at (columns_at the.Job (columns_asked by.LoadJobs)) params h 0 _ refl in
     let k1 : is_of_kind kind.Text (column params 1) ≡ true = fits_at (columns_at the.Job (columns_asked by.LoadJobs)) params h 1 _ refl in
     rw (text_compares (column params 0) k0, text_compares (column params 1) k1)
-question_typed by.TargetJobs params h =
+query_typed by.TargetJobs params h =
     let k0 : is_of_kind kind.Text (column params 0) ≡ true = fits_at (columns_at the.Job (columns_asked by.TargetJobs)) params h 0 _ refl in
     let k1 : is_of_kind kind.Text (column params 1) ≡ true = fits_at (columns_at the.Job (columns_asked by.TargetJobs)) params h 1 _ refl in
     rw (text_compares (column params 0) k0, text_compares (column params 1) k1)
@@ -193,14 +193,14 @@ key_whole keyed.Job = (lit≤ tt, refl)
 key_whole keyed.Hold = (lit≤ tt, refl)
 key_whole keyed.Used = (lit≤ tt, refl)
 
-question_whole : (question : RowsBy) → IsWholeText (question_text question) (length (columns_at (table_asked question) (columns_asked question)))
+query_whole : (query : RowsBy) → IsWholeText (query_text query) (length (columns_at (table_asked query) (columns_asked query)))
 unfolding everything
-question_whole by.VehicleTrip = (lit≤ tt, refl)
-question_whole by.OrderLegs = (lit≤ tt, refl)
-question_whole by.StationLoads = (lit≤ tt, refl)
-question_whole by.VehicleLoads = (lit≤ tt, refl)
-question_whole by.LoadJobs = (lit≤ tt, refl)
-question_whole by.TargetJobs = (lit≤ tt, refl)
+query_whole by.VehicleTrip = (lit≤ tt, refl)
+query_whole by.OrderLegs = (lit≤ tt, refl)
+query_whole by.StationLoads = (lit≤ tt, refl)
+query_whole by.VehicleLoads = (lit≤ tt, refl)
+query_whole by.LoadJobs = (lit≤ tt, refl)
+query_whole by.TargetJobs = (lit≤ tt, refl)
 
 all_whole : (name : TableName) → IsWholeText (all_rows_text name) 0
 unfolding everything
@@ -232,9 +232,9 @@ module _ (params : Row) (old new : State) (r : Result (Vec Row Global) Error) (s
       (subst (λ t. FailsToQuery t params old new e) text h)) fails
 
   -- by other columns
-  pub question_caused : (question : RowsBy) → sql ≡ question_text question → IfErr r (λ e. IsOfStore e → (desk : Placing) → IsDesk desk → old.now.schema ≡ desk.schema → FitsColumns (table_asked question) (columns_asked question) params → IsCaused old new)
-  question_caused question text = on_err_all r (λ e h stored desk is has fit.
-      read_caused (table_asked question) (question_terms question) (column_terms (table_asked question)) (column_names (table_asked question)) (question_text question) (question_asks question) params (subst (IsWholeText (question_text question)) (sym (fits_length _ params fit)) (question_whole question)) (question_typed question params fit) old new e desk is has stored
+  pub query_caused : (query : RowsBy) → sql ≡ query_text query → IfErr r (λ e. IsOfStore e → (desk : Placing) → IsDesk desk → old.now.schema ≡ desk.schema → FitsColumns (table_asked query) (columns_asked query) params → IsCaused old new)
+  query_caused query text = on_err_all r (λ e h stored desk is has fit.
+      read_caused (table_asked query) (query_terms query) (column_terms (table_asked query)) (column_names (table_asked query)) (query_text query) (query_asks query) params (subst (IsWholeText (query_text query)) (sym (fits_length _ params fit)) (query_whole query)) (query_typed query params fit) old new e desk is has stored
       (subst (λ t. FailsToQuery t params old new e) text h)) fails
 
   -- all rows

@@ -17,7 +17,7 @@ use Rattle.sqlite.specs.declared.error.Error.{Error}
 use Rattle.sqlite.specs.Listing.{if_select, is_select, listing_schema, reads_listing, understood}
 use Rattle.sqlite.specs.State.{CommitsShowing, IsUnchanged, Shown, ShowsRows, State, Survives}
 use Rattle.sqlite.proofs.StateLemmas.{survives_weaker}
-use Rattle.agv_tables.specs.statements.RowQuestions.{all_rows_text, question_text}
+use Rattle.agv_tables.specs.statements.RowQueries.{all_rows_text, query_text}
 use Rattle.agv_tables.specs.statements.RowTexts.{look_up_text}
 use Rattle.agv_tables.specs.declared.rows.row_of.RowOf.{RowOf}
 use Rattle.agv_tables.specs.declared.rows.row_of.RowOf.TheVariants as keyed
@@ -117,14 +117,14 @@ look_ups keyed.Job = tt
 look_ups keyed.Hold = tt
 look_ups keyed.Used = tt
 
-questions : (question : RowsBy) → IsSelectText (question_text question)
+queries : (query : RowsBy) → IsSelectText (query_text query)
 unfolding everything
-questions by.VehicleTrip = tt
-questions by.OrderLegs = tt
-questions by.StationLoads = tt
-questions by.VehicleLoads = tt
-questions by.LoadJobs = tt
-questions by.TargetJobs = tt
+queries by.VehicleTrip = tt
+queries by.OrderLegs = tt
+queries by.StationLoads = tt
+queries by.VehicleLoads = tt
+queries by.LoadJobs = tt
+queries by.TargetJobs = tt
 
 whole_tables : (name : TableName) → IsSelectText (all_rows_text name)
 unfolding everything
@@ -143,8 +143,8 @@ whole_tables the.Used = tt
 pub look_up_selects : (one : RowOf) (sql : List ℕ) → sql ≡ look_up_text one → IsSelectText sql
 look_up_selects one sql text = subst IsSelectText (sym text) (look_ups one)
 
-pub question_selects : (question : RowsBy) (sql : List ℕ) → sql ≡ question_text question → IsSelectText sql
-question_selects question sql text = subst IsSelectText (sym text) (questions question)
+pub query_selects : (query : RowsBy) (sql : List ℕ) → sql ≡ query_text query → IsSelectText sql
+query_selects query sql text = subst IsSelectText (sym text) (queries query)
 
 pub all_selects : (name : TableName) (sql : List ℕ) → sql ≡ all_rows_text name → IsSelectText sql
 all_selects name sql text = subst IsSelectText (sym text) (whole_tables name)

@@ -12,7 +12,7 @@ use Rattle.sqlite.specs.declared.error.ErrorCode.TheVariants.{TransactionState}
 use Rattle.sqlite.specs.Effect.{Database}
 use Rattle.sqlite.specs.State.{State, Executes, ExecutesInside, Shown}
 use Rattle.agv_tables.specs.rows.DeskRows.{Placing, IsDesk, KeepsOthers, on_table, table_at, place_of, width_of, has_key, with_row, without_key, with_put, rows_of_key, FitsTable, Makes, Answers}
-use Rattle.agv_tables.specs.statements.RowQuestions.{table_asked, columns_asked, equal_from, rows_asked, all_rows_of, question_text, all_rows_text}
+use Rattle.agv_tables.specs.statements.RowQueries.{table_asked, columns_asked, equal_from, rows_asked, all_rows_of, query_text, all_rows_text}
 use Rattle.agv_tables.specs.statements.RowTexts.{insertion_text, deletion_text, look_up_text, table_written, table_looked_up}
 use Rattle.agv_tables.specs.declared.rows.row_of.RowOf.{RowOf}
 use Rattle.agv_tables.specs.declared.rows.rows_by.RowsBy.{RowsBy}
@@ -21,7 +21,7 @@ use Rattle.agv_tables.specs.declared.schema.table_name.TableName.TheVariants as 
 use Rattle.agv_tables.specs.declared.rows.world_table.WorldTable.{WorldTable}
 use Rattle.agv_tables.proofs.schema.DeskPlaces.{is_in}
 use Rattle.agv_tables.proofs.sql.EntryEdits.{filter_nothing}
-use Rattle.agv_tables.proofs.statements.QuestionMeanings.{Asks, question_terms, question_passes, question_within, question_asks, all_rows_asked}
+use Rattle.agv_tables.proofs.statements.QueryMeanings.{Asks, query_terms, query_passes, query_within, query_asks, all_rows_asked}
 use Rattle.agv_tables.proofs.sql.QueryRows.{passes, reads_within}
 use Rattle.agv_tables.proofs.statements.RowForms.{Lands, rows_deleted, row_inserted, rows_shown}
 use Rattle.agv_tables.proofs.statements.RowMeanings.{key_terms, column_names, inserts, deletes, looks_up}
@@ -151,8 +151,8 @@ module _ (params : Row) (old new : State) (r : Result (Vec Row Global) Error) (s
       rw text (asked name (key_terms name) (look_up_text one) (looks_up one) (within name) params (has_key name params) (key_passes name params) old new r)
 
   -- by other columns
-  pub question_shown : (question : RowsBy) → sql ≡ question_text question → IfOk r (λ rows. Shown sql params old new rows.items) → IfOk r (λ rows. Answers (rows_asked question params) old rows.items)
-  question_shown question text = rw text (asked (table_asked question) (question_terms question) (question_text question) (question_asks question) (question_within question) params (equal_from 0 (columns_asked question) params) (question_passes question params) old new r)
+  pub query_shown : (query : RowsBy) → sql ≡ query_text query → IfOk r (λ rows. Shown sql params old new rows.items) → IfOk r (λ rows. Answers (rows_asked query params) old rows.items)
+  query_shown query text = rw text (asked (table_asked query) (query_terms query) (query_text query) (query_asks query) (query_within query) params (equal_from 0 (columns_asked query) params) (query_passes query params) old new r)
 
   -- all rows
   pub all_shown : (name : TableName) → sql ≡ all_rows_text name → IfOk r (λ rows. Shown sql params old new rows.items) → IfOk r (λ rows. Answers (all_rows_of name) old rows.items)

@@ -13,7 +13,7 @@ use Rattle.agv_tables.specs.declared.schema.table_name.TableName.{TableName}
 use Rattle.agv_tables.specs.declared.schema.table_name.TableName.TheVariants as the
 use Rattle.agv_tables.proofs.sql.OneTable.{IsPlainFrom, parsed, selection, head_of, sole}
 use Rattle.agv_tables.proofs.sql.OneTableReads.{ShowsRowid, rowids_named, select_means}
-use Rattle.agv_tables.proofs.statements.QuestionMeanings.{AsksFor}
+use Rattle.agv_tables.proofs.statements.QueryMeanings.{AsksFor}
 use Rattle.agv_tables.proofs.sql.ReadFailing.{IsTypedTo, IsWholeText}
 use Rattle.agv_tables.proofs.statements.RowMeanings.{with_tree}
 use Rattle.agv_tables.proofs.sql.Selecting.{IsSelectText}

@@ -4,13 +4,13 @@ use Rattle.std.specs.FinMap.{FinMap, get, insert}
 use Rattle.std.specs.FinSet as set
 use Rattle.std.specs.declared.cmp.Ordering.{Ordering}
 use Rattle.sqlite_value.specs.Order.{Row}
-use Rattle.agv_tables.specs.rows.Cells.{if_some}
+use Rattle.agv_tables.specs.rows.ValueEncodings.{if_some}
 use Rattle.agv_tables.specs.rows.Columns.{meta_in}
 use Rattle.agv_track.specs.Holds.{Holds}
 use Rattle.agv_tables.specs.schema.SchemaNumbers.{schema_number}
 use Rattle.agv_tables.specs.declared.readings.held_things.HeldThings.{HeldThings}
-use Rattle.agv_tables.specs.declared.questions.reading_fault.ReadingFault.{ReadingFault}
-use Rattle.agv_tables.specs.declared.questions.reading_fault.ReadingFault.TheVariants as fault
+use Rattle.agv_tables.specs.declared.queries.reading_fault.ReadingFault.{ReadingFault}
+use Rattle.agv_tables.specs.declared.queries.reading_fault.ReadingFault.TheVariants as fault
 
 -- what is read on where a key is free; none where the table has it
 abbrev pub if_free : {X A : Type 0} → Option X → Option A → Option A

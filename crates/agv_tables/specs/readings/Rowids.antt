@@ -9,8 +9,8 @@ use Rattle.sqlite.specs.Held.{Held, state}
 use Rattle.sqlite.specs.State.{HasCleanDisk, IsUnchanged, IsRolledBack, Survives}
 use Rattle.agv_tables.specs.rows.DeskRows.{Placing, IsDesk, AreKeyed}
 use Rattle.agv_tables.specs.sql.Connections.{HasStorageCause}
-use Rattle.agv_tables.specs.declared.questions.reading_fault.ReadingFault.{ReadingFault}
-use Rattle.agv_tables.specs.declared.questions.reading_fault.ReadingFault.TheVariants as fault
+use Rattle.agv_tables.specs.declared.queries.reading_fault.ReadingFault.{ReadingFault}
+use Rattle.agv_tables.specs.declared.queries.reading_fault.ReadingFault.TheVariants as fault
 use Rattle.agv_tables.specs.declared.schema.table_name.TableName.{TableName}
 use Rattle.agv_tables.specs.declared.schema.table_name.TableName.TheVariants as the
 
@@ -37,7 +37,7 @@ abbrev pub AreTablesKeyed : Placing → Database → List TableName → Type 0
 AreTablesKeyed desk db = AllByRecursion (λ name. AreKeyed (db.trees (desk.tree name)))
 
 module _ {S : Type 0} (g : Ghosts S) (old new : Held S) (names : List TableName) (result : Result Bool ReadingFault) where
-  -- how the question ends whether these tables are keyed
+  -- how the query ends whether these tables are keyed
   pub record TellsKeyed : Type 0 where
     -- the answer, wherever the desk's tables stand
     pub told : HasCleanDisk (state g new) → IfOk result (λ keyed. (desk : Placing) → IsDesk desk → (state g old).now.schema ≡ desk.schema → IsTrue keyed ↔ AreTablesKeyed desk (state g old).now names)

@@ -13,8 +13,8 @@ use Rattle.agv_tables.specs.rows.Columns.{edge_columns, hold_columns, job_column
 use Rattle.agv_tables.specs.rows.DeskRows.{Placing, Holds, IsDesk, place_of, table_at}
 use Rattle.agv_tables.specs.rows.RowLists.{rows_for, rows_in, trip_rows}
 use Rattle.agv_tables.specs.schema.SchemaNumbers.{schema_number}
-use Rattle.agv_tables.specs.questions.WorldAnswers.{Tells}
-use Rattle.agv_tables.specs.declared.questions.reading_fault.ReadingFault.{ReadingFault}
+use Rattle.agv_tables.specs.queries.WorldAnswers.{AnswersQuery}
+use Rattle.agv_tables.specs.declared.queries.reading_fault.ReadingFault.{ReadingFault}
 use Rattle.agv_tables.specs.declared.schema.table_name.TableName.TheVariants as the
 
 -- what is answered is so of the rows that the desk's tables have, whatever rows these are
@@ -26,8 +26,8 @@ Shows g old new result says =
 module _ {S A : Type 0} (g : Ghosts S) (old new : Held S) (result : Result A ReadingFault) (says : World → A → Type 0) (shows : List (List Row) → A → Type 0) where
   -- how the reading of whole tables ends
   pub record TellsAll : Type 0 where
-    -- as a question to the world whose rows the tables have
-    pub tells : Tells g old new result says
+    -- as a query about the world whose rows the tables have
+    pub tells : AnswersQuery g old new result says
     -- and whatever rows they have
     pub exact : Shows g old new result shows
 

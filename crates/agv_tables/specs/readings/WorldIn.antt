@@ -16,7 +16,7 @@ use Rattle.agv_world.specs.declared.world.World.{World as Tables}
 use Rattle.agv_tables.specs.rows.Columns.{edge_in, job_in, leg_in, load_in, node_in, station_in, used_in, vehicle_in}
 use Rattle.agv_tables.specs.rows.DeskRows.{Placing, columns_in, place_of, table_at, table_for, table_names, width_of}
 use Rattle.agv_tables.specs.readings.ReadTables.{read_members, read_rows}
-use Rattle.agv_tables.specs.rows.TripsTold.{trip_with}
+use Rattle.agv_tables.specs.rows.DecodedTrips.{trip_with}
 use Rattle.agv_tables.specs.declared.schema.table_name.TableName.{TableName}
 use Rattle.agv_tables.specs.declared.schema.table_name.TableName.TheVariants as the
 

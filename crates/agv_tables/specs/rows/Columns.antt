@@ -18,7 +18,7 @@ use Rattle.agv_world.specs.declared.key.UseKey.{UseKey}
 use Rattle.agv_world.specs.declared.row.JobRow.{JobRow}
 use Rattle.agv_world.specs.declared.row.Sent.{Sent}
 use Rattle.agv_world.specs.declared.row.VehicleRow.{VehicleRow}
-use Rattle.agv_tables.specs.rows.Cells.{if_some, name_in, number_cell, number_in, flag_cell, flag_in, moment_in, maybe_in, phase_name, phase_in, status_in, instant_in, use_name, use_in, place_kind_in, thing_kind_in}
+use Rattle.agv_tables.specs.rows.ValueEncodings.{if_some, name_in, number_cell, number_in, flag_cell, flag_in, moment_in, maybe_in, phase_name, phase_in, status_in, instant_in, use_name, use_in, place_kind_in, thing_kind_in}
 use Rattle.agv_tables.specs.declared.rows.trip_line.TripLine.{TripLine}
 use Rattle.agv_tables.specs.declared.rows.words.PlaceKind.{PlaceKind}
 use Rattle.agv_tables.specs.declared.rows.words.PlaceKind.TheVariants as kind

@@ -77,7 +77,7 @@ abbrev pub is_unreferred : List ℕ → List Table → Bool
 is_unreferred name = list_all (λ (t : Table). list_all (λ (r : Reference). not (same_name name r.parent)) t.references)
 
 -- the table stands in the schema, with the desk's columns and keys
-pub record Stands (desk : Placing) (name : TableName) : Type 0 where
+pub record TableStands (desk : Placing) (name : TableName) : Type 0 where
   -- SQL finds it by its name
   pub at : ℕ
   pub named : table_named desk.schema (table_for name).name ≡ Some at
@@ -88,7 +88,7 @@ pub record Stands (desk : Placing) (name : TableName) : Type 0 where
 
 -- the eleven stand in the schema, wherever that is, whatever other tables stand there, and whatever indexes there are
 pub record IsDesk (desk : Placing) : Type 0 where
-  pub stands : (name : TableName) → Stands desk name
+  pub stands : (name : TableName) → TableStands desk name
   -- no two tables have one tree
   pub apart : IsAscending (λ (s t : Table). s.tree ≢ t.tree) desk.schema.tables
 

@@ -6,7 +6,7 @@ use Rattle.agv_header.specs.declared.key.Thing.{Thing}
 use Rattle.agv_header.specs.declared.key.Thing.TheVariants as thing
 use Rattle.agv_header.specs.declared.key.VehicleKey.{VehicleKey}
 use Rattle.agv_world.specs.declared.key.LegKey.{LegKey}
-use Rattle.agv_tables.specs.rows.Cells.{number_cell, thing_name}
+use Rattle.agv_tables.specs.rows.ValueEncodings.{number_cell, thing_name}
 use Rattle.agv_tables.specs.declared.rows.words.ThingKind.TheVariants as held
 
 -- the key of a table with one name for it

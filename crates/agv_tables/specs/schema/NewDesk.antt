@@ -9,7 +9,7 @@ use Rattle.agv_tables.specs.declared.schema.table_name.TableName.{TableName}
 use Rattle.agv_tables.specs.rows.DeskRows.{Placing, IsDesk, Holds, table_for, is_unreferred}
 use Rattle.agv_tables.specs.schema.DeskSchema.{is_name_taken}
 use Rattle.agv_tables.specs.schema.DeskTables.{LeavesDesk, MakesDesk, first_rows}
-use Rattle.agv_tables.specs.questions.WorldAnswers.{HasWorld}
+use Rattle.agv_tables.specs.queries.WorldAnswers.{HasWorld}
 
 -- tables that leave room for the desk's: none refers to one of its names, and no two have one tree
 pub record LeavesRoom (schema : Schema) : Type 0 where

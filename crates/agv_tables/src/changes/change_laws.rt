@@ -16,10 +16,10 @@ pub fn changes_make_the_next_world()
     ensures { (changes : List Change) (old new : Database) → MakesChanges changes old new → ChangesWorlds changes old new }
 {}
 
-/// The other tables are as they were where nothing is done (`same`), and after two steps that both leave them so
+/// The other tables are as they were where nothing is done (`itself`), and after two steps that both leave them so
 /// (`next`): so after any number of lists of changes.
 pub fn other_tables_stay()
-    ensures same { (desk : Placing) (db : Database) → KeepsOthers desk db db }
+    ensures itself { (desk : Placing) (db : Database) → KeepsOthers desk db db }
     ensures next { (desk : Placing) (old mid new : Database) → KeepsOthers desk old mid → KeepsOthers desk mid new → KeepsOthers desk old new }
 {}
 

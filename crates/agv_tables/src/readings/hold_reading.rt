@@ -9,13 +9,13 @@ ghost use Rattle.agv_tables.specs.rows.DeskRows.{place_of, table_at};
 ghost use Rattle.agv_tables.specs.readings.ReadTables.{Reads, is_first_meta, meta_read, read_rows, table_read};
 ghost use Rattle.agv_tables.specs.rows.RowLists.{rows_in};
 ghost use Rattle.agv_tables.specs.readings.TablesRead.{TellsAll, first_meta};
-ghost use Rattle.agv_tables.specs.declared.questions.reading_fault.ReadingFault.TheVariants as fault;
+ghost use Rattle.agv_tables.specs.declared.queries.reading_fault.ReadingFault.TheVariants as fault;
 ghost use Rattle.agv_tables.specs.declared.schema.table_name.TableName.TheVariants as the;
 
 use crate::ReadingFault;
-use crate::questions::asked_rows::ask_all_rows;
+use crate::queries::queried_rows::query_all_rows;
 use crate::readings::held_things::HeldThings;
-use crate::rows::rows_told::{hold_told, meta_told};
+use crate::rows::decode_row::{decode_hold, decode_meta};
 use crate::schema::table_name::TableName;
 use agv_header::{Thing, VehicleKey};
 use agv_track::{ClaimFault, HoldTable};
@@ -46,7 +46,7 @@ fn holds_in_rows(alloc: Global, rows: &[Row]) -> Result<HeldThings, ReadingFault
     let mut table = HoldTable::new(alloc);
     let mut pairs = Vec::new(alloc);
     for row in rows {
-        match hold_told(row) {
+        match decode_hold(row) {
             None => return Err(ReadingFault::Damaged),
             Some((thing, key)) => {
                 if table.holder(&thing).is_some() {
@@ -63,14 +63,14 @@ fn holds_in_rows(alloc: Global, rows: &[Row]) -> Result<HeldThings, ReadingFault
 /// The vehicle that holds a node or an edge, for each that is held.
 ///
 /// It fails as [`ReadingFault`] says.
-pub fn ask_holds<S: Alter>(
+pub fn query_holds<S: Alter>(
     alloc: Global,
     conn: &mut Connection<S>,
 ) -> Result<HeldThings, ReadingFault>
     ensures { TellsAll S.Store conn.old conn.new result (λ world held. held.table ≡ (rows_of world).holds) (λ lists held. IsPermutation (table_at (place_of the.Hold) lists) (rows_in hold_columns held.table)) }
 {
     is_in_good_order();
-    let rows = ask_all_rows(conn, TableName::Hold)?;
+    let rows = query_all_rows(conn, TableName::Hold)?;
     holds_in_rows(alloc, rows.as_slice())
 }
 
@@ -78,7 +78,7 @@ pub fn ask_holds<S: Alter>(
 fn is_meta(row: &Row) -> bool
     ensures { result ≡ is_first_meta (meta_in row.now) }
 {
-    match meta_told(row) {
+    match decode_meta(row) {
         None => false,
         Some((id, schema)) => id == 1 && schema == SCHEMA_NUMBER,
     }
@@ -97,9 +97,9 @@ fn meta_in_rows(rows: &[Row]) -> Result<(), ReadingFault>
 /// The table `meta` has just the row of this schema. An answer comes only from an open store, so this asks whether it is one.
 ///
 /// It fails as [`ReadingFault`] says.
-pub fn ask_meta<S: Alter>(conn: &mut Connection<S>) -> Result<(), ReadingFault>
+pub fn query_meta<S: Alter>(conn: &mut Connection<S>) -> Result<(), ReadingFault>
     ensures { TellsAll S.Store conn.old conn.new result (λ world nothing. Unit {0}) (λ lists nothing. IsPermutation (table_at (place_of the.Meta) lists) (rows_in meta_columns first_meta)) }
 {
-    let rows = ask_all_rows(conn, TableName::Meta)?;
+    let rows = query_all_rows(conn, TableName::Meta)?;
     meta_in_rows(rows.as_slice())
 }

@@ -9,8 +9,8 @@ ghost use Rattle.agv_tables.specs.rows.Columns.{edge_in, job_in, leg_in, load_in
 ghost use Rattle.agv_tables.specs.readings.ReadTables.{Reads, read_members, read_rows};
 
 use crate::ReadingFault;
-use crate::rows::rows_told::{
-    edge_told, job_told, leg_told, load_told, node_told, station_told, used_told, vehicle_told,
+use crate::rows::decode_row::{
+    decode_edge, decode_job, decode_leg, decode_load, decode_node, decode_station, decode_used, decode_vehicle,
 };
 use agv_header::VehicleKey;
 use agv_layout::{EdgeEnds, StationSite};
@@ -25,7 +25,7 @@ pub(crate) fn nodes_in_rows(alloc: Global, rows: &[Row]) -> Result<Names, Readin
 {
     let mut table = Names::new(alloc);
     for row in rows {
-        match node_told(row) {
+        match decode_node(row) {
             None => return Err(ReadingFault::Damaged),
             Some(key) => {
                 if table.contains(key) {
@@ -44,7 +44,7 @@ pub(crate) fn edges_in_rows(alloc: Global, rows: &[Row]) -> Result<ByName<EdgeEn
 {
     let mut table = ByName::new(alloc);
     for row in rows {
-        match edge_told(row) {
+        match decode_edge(row) {
             None => return Err(ReadingFault::Damaged),
             Some((id, value)) => {
                 if table.get(id).is_some() {
@@ -63,7 +63,7 @@ pub(crate) fn stations_in_rows(alloc: Global, rows: &[Row]) -> Result<ByName<Sta
 {
     let mut table = ByName::new(alloc);
     for row in rows {
-        match station_told(row) {
+        match decode_station(row) {
             None => return Err(ReadingFault::Damaged),
             Some((id, value)) => {
                 if table.get(id).is_some() {
@@ -92,7 +92,7 @@ pub(crate) fn vehicles_in_rows(
 {
     let mut table = ByVehicle::new(alloc);
     for row in rows {
-        match vehicle_told(row) {
+        match decode_vehicle(row) {
             None => return Err(ReadingFault::Damaged),
             Some((key, value)) => {
                 if has_vehicle(&table, &key) {
@@ -118,7 +118,7 @@ pub(crate) fn legs_in_rows(alloc: Global, rows: &[Row]) -> Result<ByLeg, Reading
 {
     let mut table = ByLeg::new(alloc);
     for row in rows {
-        match leg_told(row) {
+        match decode_leg(row) {
             None => return Err(ReadingFault::Damaged),
             Some((key, edge)) => {
                 if has_leg(&table, &key) {
@@ -136,7 +136,7 @@ pub(crate) fn take_place(table: &mut ByName<Place>, row: &Row) -> Result<(), Rea
     ensures taken { OnOk result ((rest : List SqlRow) → read_rows load_in table.old (row.now ∷ rest) ≡ read_rows load_in table.new rest) }
     ensures refused { IfErr result (λ why. (rest : List SqlRow) → Reads (Err why) (read_rows load_in table.old (row.now ∷ rest))) }
 {
-    match load_told(row) {
+    match decode_load(row) {
         None => Err(ReadingFault::Damaged),
         Some((id, place)) => {
             if table.get(id).is_some() {
@@ -165,7 +165,7 @@ pub(crate) fn jobs_in_rows(alloc: Global, rows: &[Row]) -> Result<ByName<JobRow>
 {
     let mut table = ByName::new(alloc);
     for row in rows {
-        match job_told(row) {
+        match decode_job(row) {
             None => return Err(ReadingFault::Damaged),
             Some((id, value)) => {
                 if table.get(id).is_some() {
@@ -191,7 +191,7 @@ pub(crate) fn used_in_rows(alloc: Global, rows: &[Row]) -> Result<UsedNames, Rea
 {
     let mut table = UsedNames::new(alloc);
     for row in rows {
-        match used_told(row) {
+        match decode_used(row) {
             None => return Err(ReadingFault::Damaged),
             Some(key) => {
                 if has_used(&table, &key) {

@@ -12,10 +12,10 @@ ghost use Rattle.agv_tables.specs.rows.DeskRows.{AreKeyed, Placing, IsDesk, tabl
 ghost use Rattle.agv_tables.specs.sql.Errors.{IsOfStore};
 ghost use Rattle.agv_tables.specs.sql.Connections.{HasStorageCause};
 ghost use Rattle.agv_tables.specs.readings.Rowids.{ShowRowids, TellsKeyed, rowids_text};
-ghost use Rattle.agv_tables.specs.questions.WorldAnswers.{Tells};
+ghost use Rattle.agv_tables.specs.queries.WorldAnswers.{AnswersQuery};
 
 use crate::ReadingFault;
-use crate::rows::cells::value_at;
+use crate::rows::decode_value::value_at;
 use crate::schema::table_name::TableName;
 use sqlite::types::ValueRef;
 use sqlite::{Alter, Connection, Error, Row};
@@ -98,7 +98,7 @@ fn find_rowids<S: Alter>(conn: &mut Connection<S>, table: TableName) -> Result<V
 }
 
 // Whether each row of a table has a whole number of its own.
-fn ask_keyed<S: Alter>(
+fn query_keyed<S: Alter>(
     alloc: Global,
     conn: &mut Connection<S>,
     table: TableName,
@@ -111,7 +111,7 @@ fn ask_keyed<S: Alter>(
 }
 
 // The same of a table and then of others.
-fn ask_each_keyed<S: Alter>(
+fn query_each_keyed<S: Alter>(
     alloc: Global,
     conn: &mut Connection<S>,
     table: TableName,
@@ -119,14 +119,14 @@ fn ask_each_keyed<S: Alter>(
 ) -> Result<bool, ReadingFault>
     ensures { TellsKeyed S.Store conn.old conn.new (table ∷ others.now) result }
 {
-    let keyed = ask_keyed(alloc, conn, table)?;
+    let keyed = query_keyed(alloc, conn, table)?;
     let [next, more @ ..] = others else {
         return Ok(keyed);
     };
     if !keyed {
         return Ok(false);
     }
-    ask_each_keyed(alloc, conn, *next, more)
+    query_each_keyed(alloc, conn, *next, more)
 }
 
 /// Whether each row of the desk's tables has a whole number of its own, as SQLite's files have it: what the statements on one
@@ -134,11 +134,11 @@ fn ask_each_keyed<S: Alter>(
 ///
 /// # Errors
 /// [`ReadingFault::Memory`] and [`ReadingFault::Storage`]; none is [`ReadingFault::Damaged`].
-pub fn ask_rowids<S: Alter>(alloc: Global, conn: &mut Connection<S>) -> Result<bool, ReadingFault>
+pub fn query_rowids<S: Alter>(alloc: Global, conn: &mut Connection<S>) -> Result<bool, ReadingFault>
     ensures exact { TellsKeyed S.Store conn.old conn.new table_names result }
-    ensures tells { Tells S.Store conn.old conn.new result (λ world keyed. IsTrue keyed) }
+    ensures tells { AnswersQuery S.Store conn.old conn.new result (λ world keyed. IsTrue keyed) }
 {
-    ask_each_keyed(
+    query_each_keyed(
         alloc,
         conn,
         TableName::Meta,

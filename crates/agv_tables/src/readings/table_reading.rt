@@ -1,6 +1,6 @@
 //! Whole tables are read, but those of the trips and of what is held.
 //!
-//! Each answers what the lawful world says whose rows the tables have (`specs/questions/WorldAnswers.antt`); and whatever rows
+//! Each answers what the lawful world says whose rows the tables have (`specs/queries/WorldAnswers.antt`); and whatever rows
 //! they have, what is read has just these (`specs/readings/TablesRead.antt`). The places of the loads are read one row at a time,
 //! and any other table as the list of its rows.
 ghost use Rattle.std.specs.Prelude.{◌≡◌, IsPermutation};
@@ -12,13 +12,13 @@ ghost use Rattle.agv_tables.specs.readings.TablesRead.{TellsAll};
 ghost use Rattle.agv_tables.specs.declared.schema.table_name.TableName.TheVariants as the;
 
 use crate::ReadingFault;
-use crate::questions::asked_rows::ask_all_rows;
+use crate::queries::queried_rows::query_all_rows;
 use crate::readings::row_tables::{
     edges_in_rows, jobs_in_rows, legs_in_rows, nodes_in_rows, stations_in_rows, take_place,
     used_in_rows, vehicles_in_rows,
 };
 use crate::schema::table_name::TableName;
-use crate::statements::question_texts::all_rows;
+use crate::statements::query_texts::all_rows;
 use agv_layout::{EdgeEnds, StationSite};
 use agv_stock::Place;
 use agv_world::lawful_laws::is_in_good_order;
@@ -29,61 +29,61 @@ use std::alloc::Global;
 /// The nodes of the layout.
 ///
 /// It fails as [`ReadingFault`] says.
-pub fn ask_nodes<S: Alter>(alloc: Global, conn: &mut Connection<S>) -> Result<Names, ReadingFault>
+pub fn query_nodes<S: Alter>(alloc: Global, conn: &mut Connection<S>) -> Result<Names, ReadingFault>
     ensures { TellsAll S.Store conn.old conn.new result (λ world table. table ≡ world.layout.nodes) (λ lists table. IsPermutation (table_at (place_of the.Node) lists) (rows_for node_columns table)) }
 {
-    let rows = ask_all_rows(conn, TableName::Node)?;
+    let rows = query_all_rows(conn, TableName::Node)?;
     nodes_in_rows(alloc, rows.as_slice())
 }
 
 /// The edges of the layout, each by its name, with the nodes that it joins.
 ///
 /// It fails as [`ReadingFault`] says.
-pub fn ask_edges<S: Alter>(
+pub fn query_edges<S: Alter>(
     alloc: Global,
     conn: &mut Connection<S>,
 ) -> Result<ByName<EdgeEnds>, ReadingFault>
     ensures { TellsAll S.Store conn.old conn.new result (λ world table. table ≡ world.layout.edges) (λ lists table. IsPermutation (table_at (place_of the.Edge) lists) (rows_in edge_columns table)) }
 {
-    let rows = ask_all_rows(conn, TableName::Edge)?;
+    let rows = query_all_rows(conn, TableName::Edge)?;
     edges_in_rows(alloc, rows.as_slice())
 }
 
 /// The stations of the layout, each by its name, with its node and how many loads it takes.
 ///
 /// It fails as [`ReadingFault`] says.
-pub fn ask_stations<S: Alter>(
+pub fn query_stations<S: Alter>(
     alloc: Global,
     conn: &mut Connection<S>,
 ) -> Result<ByName<StationSite>, ReadingFault>
     ensures { TellsAll S.Store conn.old conn.new result (λ world table. table ≡ world.layout.stations) (λ lists table. IsPermutation (table_at (place_of the.Station) lists) (rows_in station_columns table)) }
 {
-    let rows = ask_all_rows(conn, TableName::Station)?;
+    let rows = query_all_rows(conn, TableName::Station)?;
     stations_in_rows(alloc, rows.as_slice())
 }
 
 /// The vehicles, each by its maker and its serial number, but for their open trips.
 ///
 /// It fails as [`ReadingFault`] says.
-pub fn ask_vehicles<S: Alter>(
+pub fn query_vehicles<S: Alter>(
     alloc: Global,
     conn: &mut Connection<S>,
 ) -> Result<ByVehicle<VehicleRow>, ReadingFault>
     ensures { TellsAll S.Store conn.old conn.new result (λ world table. table ≡ (rows_of world).vehicles) (λ lists table. IsPermutation (table_at (place_of the.Vehicle) lists) (rows_in vehicle_columns table)) }
 {
-    let rows = ask_all_rows(conn, TableName::Vehicle)?;
+    let rows = query_all_rows(conn, TableName::Vehicle)?;
     vehicles_in_rows(alloc, rows.as_slice())
 }
 
 /// The edges of all open trips.
-pub(crate) fn ask_legs<S: Alter>(
+pub(crate) fn query_legs<S: Alter>(
     alloc: Global,
     conn: &mut Connection<S>,
 ) -> Result<ByLeg, ReadingFault>
     ensures { TellsAll S.Store conn.old conn.new result (λ world table. table ≡ (rows_of world).legs) (λ lists table. IsPermutation (table_at (place_of the.Leg) lists) (rows_in leg_columns table)) }
 {
     is_in_good_order();
-    let rows = ask_all_rows(conn, TableName::Leg)?;
+    let rows = query_all_rows(conn, TableName::Leg)?;
     legs_in_rows(alloc, rows.as_slice())
 }
 
@@ -91,7 +91,7 @@ pub(crate) fn ask_legs<S: Alter>(
 /// as the query gives it, and the rows aren't held beside it.
 ///
 /// It fails as [`ReadingFault`] says.
-pub fn ask_places<S: Alter>(
+pub fn query_places<S: Alter>(
     alloc: Global,
     conn: &mut Connection<S>,
 ) -> Result<ByName<Place>, ReadingFault>
@@ -112,23 +112,23 @@ pub fn ask_places<S: Alter>(
 }
 
 /// The jobs.
-pub(crate) fn ask_jobs<S: Alter>(
+pub(crate) fn query_jobs<S: Alter>(
     alloc: Global,
     conn: &mut Connection<S>,
 ) -> Result<ByName<JobRow>, ReadingFault>
     ensures { TellsAll S.Store conn.old conn.new result (λ world table. table ≡ world.jobs) (λ lists table. IsPermutation (table_at (place_of the.Job) lists) (rows_in job_columns table)) }
 {
-    let rows = ask_all_rows(conn, TableName::Job)?;
+    let rows = query_all_rows(conn, TableName::Job)?;
     jobs_in_rows(alloc, rows.as_slice())
 }
 
 /// The names that were used, each in its kind.
-pub(crate) fn ask_used<S: Alter>(
+pub(crate) fn query_used<S: Alter>(
     alloc: Global,
     conn: &mut Connection<S>,
 ) -> Result<UsedNames, ReadingFault>
     ensures { TellsAll S.Store conn.old conn.new result (λ world table. table ≡ (rows_of world).used) (λ lists table. IsPermutation (table_at (place_of the.Used) lists) (rows_for used_columns table)) }
 {
-    let rows = ask_all_rows(conn, TableName::Used)?;
+    let rows = query_all_rows(conn, TableName::Used)?;
     used_in_rows(alloc, rows.as_slice())
 }

@@ -9,14 +9,14 @@ ghost use Rattle.agv_tables.specs.rows.DeskRows.{place_of, table_at};
 ghost use Rattle.agv_tables.specs.readings.ReadTables.{Reads, read_rows};
 ghost use Rattle.agv_tables.specs.rows.RowLists.{rows_in, trip_rows};
 ghost use Rattle.agv_tables.specs.readings.TablesRead.{TellsAll};
-ghost use Rattle.agv_tables.specs.rows.TripsTold.{trip_with};
+ghost use Rattle.agv_tables.specs.rows.DecodedTrips.{trip_with};
 ghost use Rattle.agv_tables.specs.declared.schema.table_name.TableName.TheVariants as the;
 
 use crate::ReadingFault;
-use crate::questions::asked_rows::ask_all_rows;
-use crate::readings::table_reading::ask_jobs;
+use crate::queries::queried_rows::query_all_rows;
+use crate::readings::table_reading::query_jobs;
 use crate::rows::row_list_laws::lawful_worlds_carry_one_each;
-use crate::rows::rows_told::trip_told;
+use crate::rows::decode_row::decode_trip;
 use crate::rows::trip_laws::rows_tell_trips;
 use crate::schema::table_name::TableName;
 use agv_header::{Memory, Name};
@@ -32,7 +32,7 @@ fn trip_in_row(
 ) -> Result<Option<(Name, TripRow)>, Memory>
     ensures { IfOk result (λ entry. entry ≡ trip_with jobs.now row.now) }
 {
-    match trip_told(row) {
+    match decode_trip(row) {
         None => Ok(None),
         Some(line) => match jobs.get(line.job) {
             None => Ok(None),
@@ -69,7 +69,7 @@ fn trips_in_rows(
 }
 
 /// The jobs, and the open trips by their orders, but for their edges.
-pub(crate) fn ask_trips<S: Alter>(
+pub(crate) fn query_trips<S: Alter>(
     alloc: Global,
     conn: &mut Connection<S>,
 ) -> Result<(ByName<JobRow>, ByName<TripRow>), ReadingFault>
@@ -79,8 +79,8 @@ pub(crate) fn ask_trips<S: Alter>(
 {
     rows_tell_trips();
     lawful_worlds_carry_one_each();
-    let jobs = ask_jobs(alloc, conn)?;
-    let rows = ask_all_rows(conn, TableName::Trip)?;
+    let jobs = query_jobs(alloc, conn)?;
+    let rows = query_all_rows(conn, TableName::Trip)?;
     let trips = trips_in_rows(alloc, rows.as_slice(), &jobs)?;
     Ok((jobs, trips))
 }

@@ -3,7 +3,7 @@ ghost use Rattle.std.specs.Prelude.{◌≡◌};
 ghost use Rattle.sqlite.specs.Effect.{Database};
 ghost use Rattle.agv_world.specs.Worlds.{World};
 ghost use Rattle.agv_tables.specs.rows.DeskRows.{Placing};
-ghost use Rattle.agv_tables.specs.questions.WorldAnswers.{HasWorld};
+ghost use Rattle.agv_tables.specs.queries.WorldAnswers.{HasWorld};
 ghost use Rattle.agv_tables.specs.readings.WorldIn.{world_in};
 
 use crate::rows::row_list_laws::lawful_worlds_carry_one_each;

@@ -11,18 +11,18 @@ ghost use Rattle.agv_tables.specs.readings.TablesRead.{HaveAll, HaveTables, Tell
 ghost use Rattle.agv_tables.specs.declared.schema.table_name.TableName.TheVariants as the;
 
 use crate::ReadingFault;
-use crate::questions::layout_reading::ask_layout_tables;
+use crate::queries::layout_reading::query_layout_tables;
 use crate::readings::held_things::HeldThings;
-use crate::readings::hold_reading::{ask_holds, ask_meta};
-use crate::readings::table_reading::{ask_legs, ask_places, ask_used, ask_vehicles};
-use crate::readings::trip_reading::ask_trips;
+use crate::readings::hold_reading::{query_holds, query_meta};
+use crate::readings::table_reading::{query_legs, query_places, query_used, query_vehicles};
+use crate::readings::trip_reading::query_trips;
 use agv_stock::Place;
 use agv_world::{ByLeg, ByName, ByVehicle, UsedNames, VehicleRow, World};
 use sqlite::{Alter, Connection};
 use std::alloc::Global;
 
 // The vehicles, and the edges of all open trips.
-fn ask_traffic_tables<S: Alter>(
+fn query_traffic_tables<S: Alter>(
     alloc: Global,
     conn: &mut Connection<S>,
 ) -> Result<(ByVehicle<VehicleRow>, ByLeg), ReadingFault>
@@ -31,13 +31,13 @@ fn ask_traffic_tables<S: Alter>(
         (λ lists tables. IsPermutation (table_at (place_of the.Vehicle) lists) (rows_in vehicle_columns tables.0)
         × IsPermutation (table_at (place_of the.Leg) lists) (rows_in leg_columns tables.1)) }
 {
-    let vehicles = ask_vehicles(alloc, conn)?;
-    let legs = ask_legs(alloc, conn)?;
+    let vehicles = query_vehicles(alloc, conn)?;
+    let legs = query_legs(alloc, conn)?;
     Ok((vehicles, legs))
 }
 
 // The place of each load, and the names that were used.
-fn ask_stock_tables<S: Alter>(
+fn query_stock_tables<S: Alter>(
     alloc: Global,
     conn: &mut Connection<S>,
 ) -> Result<(ByName<Place>, UsedNames), ReadingFault>
@@ -46,8 +46,8 @@ fn ask_stock_tables<S: Alter>(
         (λ lists tables. IsPermutation (table_at (place_of the.Load) lists) (rows_in load_columns tables.0)
         × IsPermutation (table_at (place_of the.Used) lists) (rows_for used_columns tables.1)) }
 {
-    let places = ask_places(alloc, conn)?;
-    let used = ask_used(alloc, conn)?;
+    let places = query_places(alloc, conn)?;
+    let used = query_used(alloc, conn)?;
     Ok((places, used))
 }
 
@@ -55,10 +55,10 @@ fn ask_stock_tables<S: Alter>(
 pub fn read_tables<S: Alter>(alloc: Global, conn: &mut Connection<S>) -> Result<World, ReadingFault>
     ensures { TellsAll S.Store conn.old conn.new result (λ world tables. Keeps tables world) (λ lists tables. HaveTables lists tables) }
 {
-    let layout = ask_layout_tables(alloc, conn)?;
-    let traffic = ask_traffic_tables(alloc, conn)?;
-    let work = ask_trips(alloc, conn)?;
-    let stock = ask_stock_tables(alloc, conn)?;
+    let layout = query_layout_tables(alloc, conn)?;
+    let traffic = query_traffic_tables(alloc, conn)?;
+    let work = query_trips(alloc, conn)?;
+    let stock = query_stock_tables(alloc, conn)?;
     let (nodes, edges, stations) = layout;
     let (vehicles, legs) = traffic;
     let (jobs, trips) = work;
@@ -91,8 +91,8 @@ pub fn read_world<S: Alter>(
         (λ world read. Keeps read.0 world × (read.1.table ≡ (rows_of world).holds))
         (λ lists read. HaveAll lists read.0 read.1.table) }
 {
-    ask_meta(conn)?;
+    query_meta(conn)?;
     let tables = read_tables(alloc, conn)?;
-    let holds = ask_holds(alloc, conn)?;
+    let holds = query_holds(alloc, conn)?;
     Ok((tables, holds))
 }

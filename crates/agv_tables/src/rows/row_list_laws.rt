@@ -16,8 +16,8 @@ ghost use Rattle.agv_world.specs.declared.change.Change.{Change};
 ghost use Rattle.agv_world.specs.declared.key.LegKey.{LegKey};
 ghost use Rattle.agv_world.specs.declared.key.UseKey.{UseKey};
 ghost use Rattle.agv_tables.specs.schema.SchemaNumbers.{desk_seats};
-ghost use Rattle.agv_tables.specs.questions.AskedRows.{ShowAsked};
-ghost use Rattle.agv_tables.specs.rows.Cells.{number_cell};
+ghost use Rattle.agv_tables.specs.queries.QueriedRows.{ShowAsked};
+ghost use Rattle.agv_tables.specs.rows.ValueEncodings.{number_cell};
 ghost use Rattle.agv_tables.specs.rows.Columns.{meta_columns, node_columns, edge_columns, station_columns, vehicle_columns, trip_columns, leg_columns, load_columns, job_columns, hold_columns, used_columns};
 ghost use Rattle.agv_tables.specs.rows.DeskRows.{Placing, Holds, IsDesk, rows_of_key};
 ghost use Rattle.agv_tables.specs.rows.RowKeys.{name_key, vehicle_key, leg_key, hold_key};
@@ -85,7 +85,7 @@ pub fn a_test_shows_its_rows()
 /// In lists that tell the rows of a world, each look-up by other columns than the key shows the rows of those
 /// entries of the world's table that are asked for: the open trip of a vehicle, the edges of an order, the loads at a
 /// station or on a vehicle, and the jobs of a load or to a station that are in a phase.
-pub fn a_question_shows_its_rows()
+pub fn a_query_shows_its_rows()
     ensures { (lists : List (List Row)) (rows : Rows) → TellRows lists rows → ShowAsked lists rows }
 {}
 

@@ -4,7 +4,7 @@ ghost use Rattle.sqlite.specs.Values.{bound, bound_value, or_null};
 ghost use Rattle.sqlite_value.specs.Value.{owned};
 ghost use Rattle.sqlite_value.specs.declared.value.Value.TheVariants.{Null, Text};
 ghost use Rattle.agv_message.specs.Instant.{instant_name};
-ghost use Rattle.agv_tables.specs.rows.Cells.{number_cell};
+ghost use Rattle.agv_tables.specs.rows.ValueEncodings.{number_cell};
 ghost use Rattle.agv_tables.specs.rows.Columns.{node_columns, edge_columns, station_columns, vehicle_columns, trip_columns, leg_columns, load_columns, job_columns, hold_columns, used_columns};
 
 use crate::TripLine;

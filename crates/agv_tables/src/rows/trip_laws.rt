@@ -11,7 +11,7 @@ ghost use Rattle.agv_order.specs.declared.trip.Trip.{Trip};
 ghost use Rattle.agv_world.specs.declared.row.TripRow.{TripRow};
 ghost use Rattle.agv_tables.specs.schema.SchemaNumbers.{desk_seats};
 ghost use Rattle.agv_tables.specs.rows.TripLines.{line_of};
-ghost use Rattle.agv_tables.specs.rows.TripsTold.{line_for, told_by_line};
+ghost use Rattle.agv_tables.specs.rows.DecodedTrips.{line_for, told_by_line};
 ghost use Rattle.agv_tables.specs.rows.TypedRows.{IsTripLine};
 ghost use Rattle.agv_tables.specs.declared.rows.trip_line.TripLine.{TripLine};
 

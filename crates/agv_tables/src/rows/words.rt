@@ -1,6 +1,6 @@
 //! The words of columns: how kinds, phases and statuses are written.
 ghost use Rattle.std.specs.Prelude.{◌≡◌};
-ghost use Rattle.agv_tables.specs.rows.Cells.{phase_name, use_name};
+ghost use Rattle.agv_tables.specs.rows.ValueEncodings.{phase_name, use_name};
 
 use agv_stock::Phase;
 use agv_world::UseKind;

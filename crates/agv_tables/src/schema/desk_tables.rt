@@ -38,7 +38,7 @@ fn make_tables<S: Alter>(conn: &mut Connection<S>) -> Result<(), Error>
     requires idle { conn.old.in_transaction ≡ false }
     requires free { is_name_taken (state S.Store conn.old).now.schema ≡ false }
     ensures made { HasCleanDisk (state S.Store conn.new) → OnOk result (MakesDesk (state S.Store conn.old).now (state S.Store conn.new).committed) }
-    ensures same { HasCleanDisk (state S.Store conn.new) → OnOk result ((state S.Store conn.new).now ≡ (state S.Store conn.new).committed) }
+    ensures all_committed { HasCleanDisk (state S.Store conn.new) → OnOk result ((state S.Store conn.new).now ≡ (state S.Store conn.new).committed) }
     ensures open { HasCleanDisk (state S.Store conn.new) → OnOk result (IsTrue (state S.Store conn.old).is_open × IsTrue (state S.Store conn.new).is_open) }
     ensures was_open { HasCleanDisk (state S.Store conn.new) → IsTrue (state S.Store conn.new).is_open → IsTrue (state S.Store conn.old).is_open }
     ensures undone { HasCleanDisk (state S.Store conn.new) → IsTrue (state S.Store conn.new).is_open
@@ -64,7 +64,7 @@ pub fn make_desk_tables<S: Alter>(conn: &mut Connection<S>) -> Result<(), Making
     ensures taken { (result ≡ Err fault.Taken) ↔ (is_name_taken (state S.Store conn.old).now.schema ≡ true) }
     ensures refused { result ≡ Err fault.Taken → conn.new ≡ conn.old }
     ensures made { HasCleanDisk (state S.Store conn.new) → OnOk result (MakesDesk (state S.Store conn.old).now (state S.Store conn.new).committed) }
-    ensures same { HasCleanDisk (state S.Store conn.new) → OnOk result ((state S.Store conn.new).now ≡ (state S.Store conn.new).committed) }
+    ensures all_committed { HasCleanDisk (state S.Store conn.new) → OnOk result ((state S.Store conn.new).now ≡ (state S.Store conn.new).committed) }
     ensures open { HasCleanDisk (state S.Store conn.new) → OnOk result (IsTrue (state S.Store conn.old).is_open × IsTrue (state S.Store conn.new).is_open) }
     ensures was_open { HasCleanDisk (state S.Store conn.new) → IsTrue (state S.Store conn.new).is_open → IsTrue (state S.Store conn.old).is_open }
     ensures undone { HasCleanDisk (state S.Store conn.new) → IsTrue (state S.Store conn.new).is_open

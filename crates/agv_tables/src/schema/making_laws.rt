@@ -34,7 +34,7 @@ pub fn trees_tell_tables()
 {}
 
 /// A desk with its first rows knows nothing yet: these are the rows of the world of a new desk, which is lawful. So the
-/// questions to the tables, and the changes of them, may begin there.
+/// queries of the tables, and the changes of them, may begin there.
 pub fn new_desks_know_nothing()
     ensures rows { row_lists (rows_of empty_world) ≡ first_rows }
     ensures world { (db : Database) → StandsNew db → KnowsNothing db }

@@ -15,7 +15,7 @@ use sqlite_schema::schema::{Schema, Table};
 use std::alloc::Global;
 
 // A table has a tree below this number.
-const MOST_TREES: u32 = 1 << 31;
+const MAX_TREES: u32 = 1 << 31;
 
 // Whether under its name stands just this table.
 fn stands_alike(schema: &Schema, wanted: &Table) -> bool
@@ -27,7 +27,7 @@ fn stands_alike(schema: &Schema, wanted: &Table) -> bool
     let Some(found) = schema.tables.get(at) else {
         return false;
     };
-    found.tree < MOST_TREES && same_table(found, wanted)
+    found.tree < MAX_TREES && same_table(found, wanted)
 }
 
 // The same of the table that the text defines.

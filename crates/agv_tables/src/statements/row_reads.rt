@@ -10,13 +10,13 @@ ghost use Rattle.sqlite.specs.Values.{bound};
 ghost use Rattle.agv_tables.specs.rows.DeskRows.{Answers, Placing, IsDesk, rows_of_key, table_for};
 ghost use Rattle.agv_tables.specs.sql.Errors.{IsOfStore};
 ghost use Rattle.agv_tables.specs.sql.Connections.{HasStorageCause};
-ghost use Rattle.agv_tables.specs.statements.RowQuestions.{FitsColumns, all_rows_of, columns_asked, rows_asked, table_asked};
+ghost use Rattle.agv_tables.specs.statements.RowQueries.{FitsColumns, all_rows_of, columns_asked, rows_asked, table_asked};
 ghost use Rattle.agv_tables.specs.statements.RowTexts.{table_looked_up};
 
 use crate::rows::row_of::RowOf;
 use crate::rows::rows_by::RowsBy;
 use crate::schema::table_name::TableName;
-use crate::statements::question_texts::{all_rows, question};
+use crate::statements::query_texts::{all_rows, query};
 use crate::statements::row_texts::look_up;
 use sqlite::types::ValueRef;
 use sqlite::{Alter, Connection, Error, Row};
@@ -56,7 +56,7 @@ pub(crate) fn find_rows_by<S: Alter>(
     ensures idle { conn.old.in_transaction ≡ false → conn.new.in_transaction ≡ false }
     ensures survives { Survives (state S.Store conn.old) (state S.Store conn.new) (λ _. ⊥) }
 {
-    conn.query_all(question(by), values)
+    conn.query_all(query(by), values)
 }
 
 /// All rows of a table.

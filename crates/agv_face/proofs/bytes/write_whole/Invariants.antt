@@ -1,6 +1,6 @@
 use Rattle.std.proofs.Common.{length, ◌-◌, ◌≤◌, take}
 use Rattle.std.specs.Io.KnownBytes.{Appends}
-use Rattle.agv_face.specs.Watched.{FailedNever}
+use Rattle.agv_face.specs.CountingIo.{FailedNever}
 use Rattle.agv_face.proofs.bytes.write_whole.Given as goal
 
 abbrev pub invariant-loop-done : goal.invariant-loop-done

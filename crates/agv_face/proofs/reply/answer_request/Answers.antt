@@ -3,8 +3,8 @@ use Rattle.agv_face.proofs.Serving.{by_either, on_err, stays_or_fits}
 use Rattle.agv_face.proofs.reply.answer_request.Goals as goal
 
 -- there was no room for the answer: so the call only asked
-pub returns-in_err-put_answer-clause-left : goal.returns-in_err-put_answer-clause-left
-returns-in_err-put_answer-clause-left g c clean still =
+pub returns-in_err-put_answer-clause-unchanged_on_err : goal.returns-in_err-put_answer-clause-unchanged_on_err
+returns-in_err-put_answer-clause-unchanged_on_err g c clean still =
     let served = c.in_ok-reply.ensures.serves clean in
     let either = stays_or_fits c.tells_without_change.ensures _ _ c.args.at c.args.request.now c.in_ok-reply.reply c.outcomes_fit.ensures c.requires.short served in
     by_either either (λ same. on_err c.from_residual-in_err-put_answer.result same) (λ room.

@@ -9,8 +9,8 @@ use Rattle.agv_face.specs.Replies.{IsLaterDesk}
 use Rattle.agv_face.proofs.reply.serve_call.Goals as goal
 
 -- the report has failed, so one was asked for: the call has changed nothing
-pub returns-in_err-report-clause-left : goal.returns-in_err-report-clause-left
-returns-in_err-report-clause-left g c clean still =
+pub returns-in_err-report-clause-unchanged_on_err : goal.returns-in_err-report-clause-unchanged_on_err
+returns-in_err-report-clause-unchanged_on_err g c clean still =
     let mid : IsClean g.S.Store c.serve.new.self.held = omega (arith, c.report.ensures.crash.clean, clean) in
     let served = c.in_ok-answer.ensures.serves mid in
     let told = c.in_ok-answer.answer in

@@ -2,7 +2,7 @@ use Rattle.std.proofs.Common.{◌≡◌, ◌≤◌, ◌<◌, ◌+◌, ◌-◌, �
 use Rattle.std.proofs.Math.ListN.{length-drop}
 use Rattle.std.proofs.KnownBytes.{Keeps-refl}
 use Rattle.agv_face.specs.Ends.{most_reads}
-use Rattle.agv_face.specs.Watched.{calls_of, counted}
+use Rattle.agv_face.specs.CountingIo.{calls_of, counted}
 use Rattle.agv_face.specs.declared.next.Next.TheVariants as next
 use Rattle.agv_face.proofs.Serving.{later_then}
 use Rattle.agv_face.proofs.Streams.{HasServed, none_served}
@@ -86,7 +86,7 @@ returns-in-Ok-Fault-clause-failed g c = failed_still g.S.Store g.R.Read.remainin
 pub returns-in-Err-clause-ends : goal.returns-in-Err-clause-ends
 returns-in-Err-clause-ends g c =
     machine_failed g.S.Store g.R.Read.remaining g.W.Write.contents c.args.at c.args.max_reads c.args.desk.now c.loop-reads.desk c.serve_next-next.new.desk c.args.reader.now c.loop-reads.reader c.args.writer.now c.loop-reads.writer c.refuse.new.writer c.loop-reads.ended c.loop-reads.room.input.items c.loop-reads.answers
-    c.in-Err.fault c.loop-reads.invariant.0 c.hears_how_it_goes_on.ensures c.in-Err.ensures.later c.in-Err.ensures.left c.knows.ensures c.deref.result.now c.deref.ensures.value c.in-Err.ensures.fault c.refuse.result c.refuse.ensures
+    c.in-Err.fault c.loop-reads.invariant.0 c.hears_how_it_goes_on.ensures c.in-Err.ensures.later c.in-Err.ensures.unchanged_on_err c.knows.ensures c.deref.result.now c.deref.ensures.value c.in-Err.ensures.fault c.refuse.result c.refuse.ensures
 
 -- ---- how far the stream has come
 
@@ -114,7 +114,7 @@ returns-in-Ok-Fault-clause-counts g c = told_counted g.S.Store g.R.Read.remainin
 pub returns-in-Err-clause-counts : goal.returns-in-Err-clause-counts
 returns-in-Err-clause-counts g c =
     machine_counted g.S.Store g.R.Read.remaining g.W.Write.contents c.args.at c.args.max_reads c.args.desk.now c.loop-reads.desk c.serve_next-next.new.desk c.args.reader.now c.loop-reads.reader c.args.writer.now c.loop-reads.writer c.refuse.new.writer c.loop-reads.ended c.loop-reads.room.input.items c.loop-reads.answers
-    c.in-Err.fault c.loop-reads.invariant.0 c.hears_how_it_goes_on.ensures c.in-Err.ensures.later c.in-Err.ensures.left c.knows.ensures c.deref.result.now c.deref.ensures.value c.in-Err.ensures.fault c.in-Err.ensures.failed c.refuse.result c.refuse.ensures
+    c.in-Err.fault c.loop-reads.invariant.0 c.hears_how_it_goes_on.ensures c.in-Err.ensures.later c.in-Err.ensures.unchanged_on_err c.knows.ensures c.deref.result.now c.deref.ensures.value c.in-Err.ensures.fault c.in-Err.ensures.failed c.refuse.result c.refuse.ensures
 
 -- ---- the desk at a later moment
 

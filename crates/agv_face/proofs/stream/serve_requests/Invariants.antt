@@ -1,7 +1,7 @@
 use Rattle.std.proofs.Common.{◌≡◌, ◌≤◌, ◌+◌, ◌-◌, ◌*◌, vec_len, vec_capacity}
 use Rattle.agv_http.specs.Sizes.{most_answer}
 use Rattle.agv_face.specs.Ends.{most_reads}
-use Rattle.agv_face.specs.Watched.{calls_of, counted}
+use Rattle.agv_face.specs.CountingIo.{calls_of, counted}
 use Rattle.agv_face.proofs.Streams.{HasServed}
 use Rattle.agv_face.proofs.stream.serve_requests.Given as goal
 

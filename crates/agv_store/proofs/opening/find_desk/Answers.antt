@@ -6,33 +6,33 @@ use Rattle.agv_store.proofs.opening.find_desk.Goals as goal
 
 pub returns-in_err-tables : goal.returns-in_err-tables
 returns-in_err-tables g c =
-    let keyed = c.in_ok-ask_rowids.ensures in
-    finds_fault_then g.S.Store c.args.conn.now c.ask_rowids.new.conn c.read_world.new.conn c.in_ok-ask_rowids.field-0 c.if-not-branch-2.false keyed.exact keyed.tells
+    let keyed = c.in_ok-query_rowids.ensures in
+    finds_fault_then g.S.Store c.args.conn.now c.query_rowids.new.conn c.read_world.new.conn c.in_ok-query_rowids.field-0 c.if-not-branch-2.false keyed.exact keyed.tells
     c.from_residual-in_err-tables.result c.in_err-tables.field-0.0 _ c.from_residual-in_err-tables.ensures.1 c.in_err-tables.ensures.tells
 
 pub returns-in_err-are_of_a_lawful_world : goal.returns-in_err-are_of_a_lawful_world
 returns-in_err-are_of_a_lawful_world g c =
-    let keyed = c.in_ok-ask_rowids.ensures in
-    finds_no_memory g.S.Store c.args.conn.now c.ask_rowids.new.conn c.read_world.new.conn c.in_ok-ask_rowids.field-0 c.if-not-branch-2.false keyed.exact keyed.tells
+    let keyed = c.in_ok-query_rowids.ensures in
+    finds_no_memory g.S.Store c.args.conn.now c.query_rowids.new.conn c.read_world.new.conn c.in_ok-query_rowids.field-0 c.if-not-branch-2.false keyed.exact keyed.tells
     c.in_ok-tables.tables c.in_ok-tables.holds c.in_ok-tables.ensures c.from_residual-in_err-are_of_a_lawful_world.result c.from_residual-in_err-are_of_a_lawful_world.ensures.1
 
 pub returns-then-not-branch-3 : goal.returns-then-not-branch-3
 returns-then-not-branch-3 g c =
-    let keyed = c.in_ok-ask_rowids.ensures in
-    finds_unlawful g.S.Store c.args.conn.now c.ask_rowids.new.conn c.read_world.new.conn c.in_ok-ask_rowids.field-0 c.if-not-branch-2.false keyed.exact keyed.tells
+    let keyed = c.in_ok-query_rowids.ensures in
+    finds_unlawful g.S.Store c.args.conn.now c.query_rowids.new.conn c.read_world.new.conn c.in_ok-query_rowids.field-0 c.if-not-branch-2.false keyed.exact keyed.tells
     c.in_ok-tables.tables c.in_ok-tables.holds c.in_ok-tables.ensures c.in_ok-are_of_a_lawful_world.field-0 c.if-not-branch-3.true c.in_ok-are_of_a_lawful_world.ensures
 
 pub returns-in_err-counts : goal.returns-in_err-counts
 returns-in_err-counts g c =
-    let keyed = c.in_ok-ask_rowids.ensures in
-    finds_no_memory g.S.Store c.args.conn.now c.ask_rowids.new.conn c.read_world.new.conn c.in_ok-ask_rowids.field-0 c.if-not-branch-2.false keyed.exact keyed.tells
+    let keyed = c.in_ok-query_rowids.ensures in
+    finds_no_memory g.S.Store c.args.conn.now c.query_rowids.new.conn c.read_world.new.conn c.in_ok-query_rowids.field-0 c.if-not-branch-2.false keyed.exact keyed.tells
     c.in_ok-tables.tables c.in_ok-tables.holds c.in_ok-tables.ensures c.from_residual-in_err-counts.result c.from_residual-in_err-counts.ensures.1
 
 pub returns : goal.returns
 returns g c =
-    let keyed = c.in_ok-ask_rowids.ensures in
+    let keyed = c.in_ok-query_rowids.ensures in
     let its = c.in_ok-are_of_a_lawful_world.ensures.0 c.if-not-branch-3.false in
-    finds_desk g.S.Store c.args.conn.now c.ask_rowids.new.conn c.read_world.new.conn c.in_ok-ask_rowids.field-0 c.if-not-branch-2.false keyed.exact keyed.tells
+    finds_desk g.S.Store c.args.conn.now c.query_rowids.new.conn c.read_world.new.conn c.in_ok-query_rowids.field-0 c.if-not-branch-2.false keyed.exact keyed.tells
     c.in_ok-tables.tables c.in_ok-tables.holds c.in_ok-tables.ensures c.tables_read_tell_the_world.ensures.world c.a_database_tells_its_world.ensures (subst TablesStand c.schema.ensures.value (c.in_ok-tables_stand.ensures.0 c.if-not-branch.false))
     its.0 its.1 its.2 its.3 c.requires (c.is_autocommit-settled.ensures.settled (c.is_autocommit-settled.ensures.value ∙ ap not c.requires)) (λ still. (c.schema.ensures.live still).0)
     (c.tables_tell_the_world.ensures c.in_ok-tables.tables its.0 its.1 (c.is_in_good_order.ensures desk_seats its.0 its.2)) c.in_ok-counts.counts c.in_ok-counts.ensures

@@ -48,10 +48,10 @@ pub invariant_of-result : goal.invariant_of-result
 invariant_of-result g c =
     let its = c.in-Ok.ensures in
     let room = subst LeavesRoom c.schema.ensures.value (c.if-not-leaves_room.ensures.0 refl) in
-    new_kept g.S.Store c.made_desks_stand.ensures c.new_desks_know_nothing.ensures.world c.args.conn c.make_desk_tables.new.conn room its.idle its.open its.same its.made c.a_database_tells_its_world.ensures c.none.result c.none.ensures
+    new_kept g.S.Store c.made_desks_stand.ensures c.new_desks_know_nothing.ensures.world c.args.conn c.make_desk_tables.new.conn room its.idle its.open its.all_committed its.made c.a_database_tells_its_world.ensures c.none.result c.none.ensures
 
 pub returns-in-Ok-clause-made : goal.returns-in-Ok-clause-made
 returns-in-Ok-clause-made g c =
     let its = c.in-Ok.ensures in
     let room = subst LeavesRoom c.schema.ensures.value (c.if-not-leaves_room.ensures.0 refl) in
-    makes_desk g.S.Store c.made_desks_stand.ensures c.new_desks_know_nothing.ensures.world c.args.conn c.make_desk_tables.new.conn room its.idle its.open its.same its.made
+    makes_desk g.S.Store c.made_desks_stand.ensures c.new_desks_know_nothing.ensures.world c.args.conn c.make_desk_tables.new.conn room its.idle its.open its.all_committed its.made

@@ -3,7 +3,7 @@ use Rattle.sqlite_schema.specs.declared.schema.Schema.{Schema}
 use Rattle.sqlite_trees.specs.declared.store.Store.{Ghosts}
 use Rattle.sqlite.proofs.StateLemmas.{survives_weaker}
 use Rattle.sqlite.specs.Held.{Held, state}
-use Rattle.agv_tables.specs.questions.WorldAnswers.{HasNoWorld}
+use Rattle.agv_tables.specs.queries.WorldAnswers.{HasNoWorld}
 use Rattle.agv_tables.specs.sql.Connections.{IsClean}
 use Rattle.agv_store.specs.Opened.{Adopts, CanBeMade, IsDamaged, Makes, Opening}
 use Rattle.agv_store.specs.declared.open_fault.OpenFault.{OpenFault}

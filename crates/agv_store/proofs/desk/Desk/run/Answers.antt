@@ -7,7 +7,7 @@ use Rattle.agv_store.proofs.desk.Desk.run.Goals as goal
 pub returns-in-Err-clause-crash : goal.returns-in-Err-clause-crash
 returns-in-Err-clause-crash g c clean knew found finds left =
     let old = c.args.self.now in
-    let none = served_none g.S.Store c.other_tables_stay.ensures.same old c.args.calls.now c.new.result.items c.new.ensures.items c.knows.ensures in
+    let none = served_none g.S.Store c.other_tables_stay.ensures.itself old c.args.calls.now c.new.result.items c.new.ensures.items c.knows.ensures in
     inl (found_at_end g.S.Store old old c.args.calls.now c.new.result.items none c.trees_tell_schemas.ensures.schema g.met.S.Store.settled clean knew found finds left)
 
 -- ---- the calls in turn
@@ -17,7 +17,7 @@ loop-made-init g c = (
   ap length c.in-Ok.ensures.items,
   c.in-Ok.ensures.len,
   c.in-Ok.ensures.capacity,
-  served_none g.S.Store c.other_tables_stay.ensures.same c.args.self.now c.args.calls.now c.in-Ok.given.items c.in-Ok.ensures.items c.knows.ensures,
+  served_none g.S.Store c.other_tables_stay.ensures.itself c.args.self.now c.args.calls.now c.in-Ok.given.items c.in-Ok.ensures.items c.knows.ensures,
 )
 
 pub loop-made-preserved : goal.loop-made-preserved
@@ -42,7 +42,7 @@ returns-in-Err-served-clause-runs g c =
     let its = c.in-Err-served.ensures in
     run_to_fault g.S.Store c.args.self.now c.loop-made.self c.serve-served.new.self c.args.calls.now c.loop-made.given.items so_far.3
     c.loop-made.made-index so_far.0 c.made-item.result c.loop-made-test.true c.made-item.is its.crash
-    c.in-Err-served.why its.left its.was_open c.knows-in-Err-served.ensures
+    c.in-Err-served.why its.unchanged_on_err its.was_open c.knows-in-Err-served.ensures
 
 pub returns-in-Err-served-clause-crash : goal.returns-in-Err-served-clause-crash
 returns-in-Err-served-clause-crash g c =

@@ -4,8 +4,8 @@ use Rattle.agv_store.proofs.keyed_floor.KeyedFloor.serve.Goals as goal
 
 -- ---- no decision
 
-pub returns-in_err-decision-clause-left : goal.returns-in_err-decision-clause-left
-returns-in_err-decision-clause-left g c = faulted_leaves g.S.Store c.args.self.now.held c.decided.new.self.held (faulted_till g.S.Store c.args.self.now c.decided.new.self c.in_err-decision.field-0.0 c.in_err-decision.ensures.decides) c.knows.ensures c.from_residual.result
+pub returns-in_err-decision-clause-unchanged_on_err : goal.returns-in_err-decision-clause-unchanged_on_err
+returns-in_err-decision-clause-unchanged_on_err g c = faulted_leaves g.S.Store c.args.self.now.held c.decided.new.self.held (faulted_till g.S.Store c.args.self.now c.decided.new.self c.in_err-decision.field-0.0 c.in_err-decision.ensures.decides) c.knows.ensures c.from_residual.result
 
 pub returns-in_err-decision-clause-was_open : goal.returns-in_err-decision-clause-was_open
 returns-in_err-decision-clause-was_open g c = (faulted_till g.S.Store c.args.self.now c.decided.new.self c.in_err-decision.field-0.0 c.in_err-decision.ensures.decides).was_open
@@ -42,8 +42,8 @@ returns-clause-knew g c = knew_then g.S.Store c.args.self.now.held c.decided.new
 pub returns-clause-serves : goal.returns-clause-serves
 returns-clause-serves g c = serves_then g.S.Store c.args.self.now.held c.decided.new.self.held (asked_till g.S.Store c.args.self.now c.decided.new.self c.in_ok-decision.ensures.decides) c.knows.ensures c.args.at c.args.call.now c.in_ok-decision.decision c.in_ok-decision.ensures.decides.told c.in_ok-decision.ensures.knows c.write.new.self.held c.write.result c.write.ensures.crash c.write.ensures.serves
 
-pub returns-clause-left : goal.returns-clause-left
-returns-clause-left g c = left_then g.S.Store c.args.self.now.held c.decided.new.self.held (asked_till g.S.Store c.args.self.now c.decided.new.self c.in_ok-decision.ensures.decides) c.knows.ensures c.args.at c.args.call.now c.in_ok-decision.decision c.in_ok-decision.ensures.decides.told c.in_ok-decision.ensures.knows c.write.new.self.held c.write.result c.write.ensures.crash c.write.ensures.left
+pub returns-clause-unchanged_on_err : goal.returns-clause-unchanged_on_err
+returns-clause-unchanged_on_err g c = left_then g.S.Store c.args.self.now.held c.decided.new.self.held (asked_till g.S.Store c.args.self.now c.decided.new.self c.in_ok-decision.ensures.decides) c.knows.ensures c.args.at c.args.call.now c.in_ok-decision.decision c.in_ok-decision.ensures.decides.told c.in_ok-decision.ensures.knows c.write.new.self.held c.write.result c.write.ensures.crash c.write.ensures.unchanged_on_err
 
 pub returns-clause-was_open : goal.returns-clause-was_open
 returns-clause-was_open g c = opens_then g.S.Store c.args.self.now.held c.decided.new.self.held (asked_till g.S.Store c.args.self.now c.decided.new.self c.in_ok-decision.ensures.decides) c.knows.ensures c.args.at c.args.call.now c.in_ok-decision.decision c.in_ok-decision.ensures.decides.told c.in_ok-decision.ensures.knows c.write.new.self.held c.write.result c.write.ensures.crash c.write.ensures.was_open

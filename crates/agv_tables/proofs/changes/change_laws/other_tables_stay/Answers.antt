@@ -2,4 +2,4 @@ use Rattle.agv_tables.proofs.statements.DeskStatements.{keeps_others_as_is, keep
 use Rattle.agv_tables.proofs.changes.change_laws.other_tables_stay.Goals as goal
 
 pub returns : goal.returns
-returns c = record { same = keeps_others_as_is; next = keeps_others_then }
+returns c = record { itself = keeps_others_as_is; next = keeps_others_then }

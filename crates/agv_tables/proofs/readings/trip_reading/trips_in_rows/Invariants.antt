@@ -1,7 +1,7 @@
 use Rattle.std.proofs.Common.{◌≡◌, drop}
 use Rattle.std.specs.FinMap as map
 use Rattle.agv_tables.specs.readings.ReadTables.{read_rows}
-use Rattle.agv_tables.specs.rows.TripsTold.{trip_with}
+use Rattle.agv_tables.specs.rows.DecodedTrips.{trip_with}
 use Rattle.agv_tables.proofs.readings.trip_reading.trips_in_rows.Given as goal
 
 -- what is read, and what is left, make all

@@ -1,0 +1,39 @@
+//! How the serving of a stream ends.
+
+use agv_header::Refusal;
+
+/// Why a stream was served to its end.
+#[derive(Clone, Copy, Debug, PartialEq, Eq)]
+pub enum Ended {
+    /// The input ended, with no byte after the last request.
+    End,
+    /// A request was the last of its stream: HTTP/1.0, or an element `close` in a Connection line. What follows it isn't
+    /// looked at.
+    Close,
+    /// The last answer was this refusal: of a fault of HTTP (`BadHead`, `NoLength`, `TooLarge`, `Coding`), or of one of the
+    /// machine (`Memory`, `Storage`).
+    Refused(Refusal),
+}
+
+/// What a stream came to that was served to its end.
+#[derive(Clone, Copy, Debug, PartialEq, Eq)]
+pub struct StreamSummary {
+    /// How many answers were written, the last refusal among them.
+    pub answers: u64,
+    pub ended: Ended,
+}
+
+/// Why a stream was left before its end. The desk can go on.
+#[derive(Clone, Copy, Debug, PartialEq, Eq)]
+pub enum StreamFault {
+    /// A read failed, or the stream has had the most reads and needs one more.
+    Read {
+        /// How many answers were written: those to all requests that had come whole.
+        answers: u64,
+    },
+    /// A write failed, or took no byte. The call whose answer was cut stands.
+    Write {
+        /// How many answers were written whole.
+        answers: u64,
+    },
+}

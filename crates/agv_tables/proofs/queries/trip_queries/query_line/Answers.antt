@@ -1,0 +1,20 @@
+use Rattle.std.proofs.Common.{refl, sym, ap, subst, ◌∙◌}
+use Rattle.agv_tables.specs.rows.Columns.{trip_in}
+use Rattle.agv_tables.specs.queries.FirstRow.{first_whole_in}
+use Rattle.agv_tables.specs.statements.RowQueries.{FitsColumns, columns_asked, table_asked}
+use Rattle.agv_tables.specs.declared.rows.rows_by.RowsBy.TheVariants as by
+use Rattle.agv_tables.proofs.queries.Asking.{follows, passes}
+use Rattle.agv_tables.proofs.queries.TripAnswers.{tells_line}
+use Rattle.agv_tables.proofs.queries.trip_queries.query_line.Goals as goal
+
+pub query_rows_by-requires : goal.query_rows_by-requires
+query_rows_by-requires g c = subst (FitsColumns (table_asked by.VehicleTrip) (columns_asked by.VehicleTrip)) (sym c.vehicle_key_values.ensures) refl
+
+pub returns-in_err-rows : goal.returns-in_err-rows
+returns-in_err-rows g c = passes g.S.Store c.args.conn.now c.query_rows_by.new.conn c.in_err-rows.field-0.0 _ _ c.from_residual.result c.from_residual.ensures.1 c.in_err-rows.ensures
+
+pub returns : goal.returns
+returns g c =
+    follows g.S.Store c.args.conn.now c.query_rows_by.new.conn c.in_ok-rows.rows _ _ c.line_in_rows.result
+    (λ world lawful shown. tells_line world lawful (c.rows_tell_trips.ensures.line world lawful) c.args.key.now _ c.vehicle_key_values.ensures c.in_ok-rows.rows.items shown c.line_in_rows.result (c.line_in_rows.ensures ∙ ap (first_whole_in trip_in) c.as_slice.ensures.value))
+    c.in_ok-rows.ensures

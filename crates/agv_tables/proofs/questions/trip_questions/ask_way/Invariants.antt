@@ -1,8 +1,0 @@
-use Rattle.std.proofs.Common.{Ok}
-use Rattle.agv_tables.specs.questions.WorldAnswers.{Tells}
-use Rattle.agv_tables.proofs.questions.TripAnswers.{Goes}
-use Rattle.agv_tables.proofs.questions.trip_questions.ask_way.Given as goal
-
--- the edges so far, and those of what is left, are all
-abbrev pub invariant-loop-id : goal.invariant-loop-id
-invariant-loop-id g l = Tells g.S.Store l.fn.conn l.conn (Ok tt) (Goes l.edges.items l.id-iterator l.order)

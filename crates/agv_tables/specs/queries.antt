@@ -1,0 +1,4 @@
+pub mod QueriedRows
+pub mod FirstRow
+pub mod ReadingFault
+pub mod WorldAnswers

@@ -1,4 +1,0 @@
-pub mod AskedRows
-pub mod FirstRow
-pub mod ReadingFault
-pub mod WorldAnswers

@@ -1,0 +1,160 @@
+//! Queries of the tables about loads and live jobs: how many there are, the live job of a load, and the room of a station.
+//!
+//! Each answers what the lawful world says whose rows the tables have (`specs/queries/WorldAnswers.antt`).
+ghost use Rattle.std.specs.Prelude.{◌≡◌, ◌&&◌, true, length, nat_eq, count_by, find};
+ghost use Rattle.std.specs.Cmp.Lexicographic.{pointwise};
+ghost use Rattle.std.specs.FinMap as map;
+ghost use Rattle.std.specs.Option.{option_map};
+ghost use Rattle.sqlite.specs.Values.{bound};
+ghost use Rattle.agv_stock.specs.Phase.{is_live};
+ghost use Rattle.agv_stock.specs.Room.{room_left};
+ghost use Rattle.agv_world.specs.Questions.{job_of, loads_at, loads_on, reserved, room_at};
+ghost use Rattle.agv_tables.specs.queries.QueriedRows.{is_in_phase, name_and_phase};
+ghost use Rattle.agv_tables.specs.rows.Columns.{job_in};
+ghost use Rattle.agv_tables.specs.queries.FirstRow.{first_key_in};
+ghost use Rattle.agv_tables.specs.queries.WorldAnswers.{AnswersQuery};
+
+use crate::ReadingFault;
+use crate::queries::queried_rows::query_rows_by;
+use crate::queries::key_queries::query_station;
+use crate::rows::key_values::{name_key_values, vehicle_key_values};
+use crate::rows::row_values::name_value;
+use crate::rows::rows_by::RowsBy;
+use crate::rows::decode_row::decode_job;
+use crate::rows::words::phase_text;
+use agv_header::{Name, VehicleKey};
+use agv_stock::{Phase, room_left};
+use sqlite::types::{ToSql, ValueRef};
+use sqlite::{Alter, Connection, Row};
+
+// A name and a phase, by which jobs are asked for.
+fn name_and_phase_values(name: &Name, phase: Phase) -> [ValueRef<'_>; 2]
+    ensures { bound result ≡ name_and_phase name.now phase }
+{
+    [name_value(name), phase_text(phase).to_sql()]
+}
+
+/// How many loads a vehicle has.
+///
+/// It fails as [`ReadingFault`] says.
+pub fn query_loads_on<S: Alter>(
+    conn: &mut Connection<S>,
+    key: &VehicleKey,
+) -> Result<usize, ReadingFault>
+    ensures { AnswersQuery S.Store conn.old conn.new result (λ world count. count ≡ loads_on world key.now) }
+{
+    let rows = query_rows_by(conn, RowsBy::VehicleLoads, &vehicle_key_values(key))?;
+    Ok(rows.len())
+}
+
+// How many loads are at a station.
+fn query_load_count<S: Alter>(conn: &mut Connection<S>, station: &Name) -> Result<usize, ReadingFault>
+    ensures { AnswersQuery S.Store conn.old conn.new result (λ world count. count ≡ length (loads_at world station.now)) }
+{
+    let rows = query_rows_by(conn, RowsBy::StationLoads, &name_key_values(station))?;
+    Ok(rows.len())
+}
+
+// How many jobs to a station are in a phase.
+fn query_jobs_to<S: Alter>(
+    conn: &mut Connection<S>,
+    station: &Name,
+    phase: Phase,
+) -> Result<usize, ReadingFault>
+    ensures { AnswersQuery S.Store conn.old conn.new result (λ world count.
+        count ≡ count_by (λ job. pointwise nat_eq job.1.target station.now && is_in_phase phase job.1) (map.entries world.jobs)) }
+{
+    let rows = query_rows_by(
+        conn,
+        RowsBy::TargetJobs,
+        &name_and_phase_values(station, phase),
+    )?;
+    Ok(rows.len())
+}
+
+/// How many live jobs go to a station, each of which keeps a place there.
+///
+/// It fails as [`ReadingFault`] says.
+pub fn query_reserved<S: Alter>(
+    conn: &mut Connection<S>,
+    station: &Name,
+) -> Result<usize, ReadingFault>
+    ensures { AnswersQuery S.Store conn.old conn.new result (λ world count. count ≡ reserved world station.now) }
+{
+    let waiting = query_jobs_to(conn, station, Phase::Waiting)?;
+    let riding = query_jobs_to(conn, station, Phase::Riding)?;
+    Ok(waiting.saturating_add(riding))
+}
+
+// The name of the job that the first of the rows tells.
+fn job_in_rows(rows: &[Row]) -> Result<Option<Name>, ReadingFault>
+    ensures { result ≡ first_key_in job_in rows.now }
+{
+    match rows.first() {
+        None => Ok(None),
+        Some(row) => match decode_job(row) {
+            None => Err(ReadingFault::Damaged),
+            Some((id, _)) => Ok(Some(id)),
+        },
+    }
+}
+
+// The job of a load that is in this phase, which is a live one.
+fn query_job_in<S: Alter>(
+    conn: &mut Connection<S>,
+    load: &Name,
+    phase: Phase,
+) -> Result<Option<Name>, ReadingFault>
+    requires { is_live phase ≡ true }
+    ensures { AnswersQuery S.Store conn.old conn.new result (λ world job.
+        job ≡ option_map (λ job. job.0) (find (λ job. pointwise nat_eq job.1.load load.now && is_in_phase phase job.1) (map.entries world.jobs))) }
+{
+    let rows = query_rows_by(conn, RowsBy::LoadJobs, &name_and_phase_values(load, phase))?;
+    job_in_rows(rows.as_slice())
+}
+
+/// The live job of a load; none where it is in none.
+///
+/// It fails as [`ReadingFault`] says.
+pub fn query_job_of<S: Alter>(
+    conn: &mut Connection<S>,
+    load: &Name,
+) -> Result<Option<Name>, ReadingFault>
+    ensures { AnswersQuery S.Store conn.old conn.new result (λ world job. job ≡ job_of world load.now) }
+{
+    let waiting = query_job_in(conn, load, Phase::Waiting)?;
+    let riding = query_job_in(conn, load, Phase::Riding)?;
+    Ok(waiting.or(riding))
+}
+
+// The room of a station of this capacity.
+fn query_room_left<S: Alter>(
+    conn: &mut Connection<S>,
+    station: &Name,
+    capacity: u32,
+) -> Result<u32, ReadingFault>
+    ensures { AnswersQuery S.Store conn.old conn.new result (λ world room. room ≡ room_left capacity (length (loads_at world station.now)) (reserved world station.now)) }
+{
+    let loads = query_load_count(conn, station)?;
+    let jobs = query_reserved(conn, station)?;
+    Ok(room_left(capacity, loads, jobs))
+}
+
+/// How many loads more fit at a station; none where it is unknown.
+///
+/// It fails as [`ReadingFault`] says.
+pub fn query_room<S: Alter>(
+    conn: &mut Connection<S>,
+    station: &Name,
+) -> Result<Option<u32>, ReadingFault>
+    ensures { AnswersQuery S.Store conn.old conn.new result (λ world room. room ≡ room_at world station.now) }
+{
+    let spot = query_station(conn, station)?;
+    match spot {
+        None => Ok(None),
+        Some(spot) => {
+            let room = query_room_left(conn, station, spot.capacity)?;
+            Ok(Some(room))
+        }
+    }
+}

@@ -1,0 +1,46 @@
+//! The texts of SQL that ask for rows by columns other than the key, and for all rows of a table.
+ghost use Rattle.std.specs.Prelude.{◌≡◌};
+ghost use Rattle.agv_tables.specs.statements.RowQueries.{all_rows_text, query_text};
+
+use crate::rows::rows_by::RowsBy;
+use crate::schema::table_name::TableName;
+
+/// Shows the rows that are asked for; the values are the parameters.
+pub(crate) fn query(by: RowsBy) -> &'static str
+    ensures { result.now ≡ query_text by }
+{
+    match by {
+        RowsBy::VehicleTrip =>
+            "SELECT order_id, manufacturer, serial, job, start, first, base, sent, confirmed, seen, pick_at, drop_at, pick_status, drop_status FROM trip WHERE manufacturer = ?1 AND serial = ?2",
+        RowsBy::OrderLegs => "SELECT order_id, k, edge FROM leg WHERE order_id = ?1",
+        RowsBy::StationLoads =>
+            "SELECT id, kind, station, manufacturer, serial FROM load WHERE station = ?1",
+        RowsBy::VehicleLoads =>
+            "SELECT id, kind, station, manufacturer, serial FROM load WHERE manufacturer = ?1 AND serial = ?2",
+        RowsBy::LoadJobs =>
+            "SELECT id, load, origin, target, phase FROM job WHERE load = ?1 AND phase = ?2",
+        RowsBy::TargetJobs =>
+            "SELECT id, load, origin, target, phase FROM job WHERE target = ?1 AND phase = ?2",
+    }
+}
+
+/// Shows all rows of a table.
+pub(crate) fn all_rows(table: TableName) -> &'static str
+    ensures { result.now ≡ all_rows_text table }
+{
+    match table {
+        TableName::Meta => "SELECT id, schema FROM meta",
+        TableName::Node => "SELECT id FROM node",
+        TableName::Edge => "SELECT id, start, finish FROM edge",
+        TableName::Station => "SELECT id, node, capacity FROM station",
+        TableName::Vehicle =>
+            "SELECT manufacturer, serial, node, rest_edge, rest_node, last_header, reported, ready, paused, order_header, order_at, instant_header, instant_at, pending FROM vehicle",
+        TableName::Trip =>
+            "SELECT order_id, manufacturer, serial, job, start, first, base, sent, confirmed, seen, pick_at, drop_at, pick_status, drop_status FROM trip",
+        TableName::Leg => "SELECT order_id, k, edge FROM leg",
+        TableName::Load => "SELECT id, kind, station, manufacturer, serial FROM load",
+        TableName::Job => "SELECT id, load, origin, target, phase FROM job",
+        TableName::Hold => "SELECT kind, id, manufacturer, serial FROM hold",
+        TableName::Used => "SELECT kind, id FROM used",
+    }
+}
