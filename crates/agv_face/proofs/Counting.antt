@@ -4,10 +4,10 @@ use Rattle.std.specs.Io.KnownBytes.{Appends, Keeps}
 use Rattle.std.proofs.KnownBytes.{Appends-trans, Consumes-kept}
 use Rattle.sqlite_trees.specs.declared.store.Store.{Ghosts}
 use Rattle.agv_header.specs.declared.refusal.Refusal.{Refusal}
-use Rattle.agv_http.specs.Cut.{Cut, at_end, closed, faulty}
-use Rattle.agv_http.specs.Fronts.{IsSoFar}
+use Rattle.agv_http.specs.request.Cut.{Cut, at_end, closed, faulty}
+use Rattle.agv_http.specs.request.Fronts.{IsSoFar}
 use Rattle.agv_http.specs.Output.{calls_of, refusal_text}
-use Rattle.agv_http.specs.Requests.{Request}
+use Rattle.agv_http.specs.request.Requests.{Request}
 use Rattle.agv_http.specs.StreamEnds.{HasCallNext, HasMachineFault}
 use Rattle.agv_store.specs.Floors.{Keyed}
 use Rattle.agv_face.specs.Ends.{IsCounted}

@@ -4,11 +4,11 @@ use Rattle.std.specs.Io.KnownBytes.{Appends, Keeps}
 use Rattle.sqlite_trees.specs.declared.store.Store.{Ghosts}
 use Rattle.agv_header.specs.declared.refusal.Refusal.{Refusal}
 use Rattle.agv_header.specs.declared.refusal.Refusal.TheVariants as refusal
-use Rattle.agv_http.specs.Lines.{Length, absent, content_length, given, has_line, wrong}
+use Rattle.agv_http.specs.request.Lines.{Length, absent, content_length, given, has_line, wrong}
 use Rattle.agv_http.specs.Output.{calls_of}
-use Rattle.agv_http.specs.Requests.{IsFault, length_needed, lines_of, most_body, sends_body}
+use Rattle.agv_http.specs.request.Requests.{IsFault, length_needed, lines_of, most_body, sends_body}
 use Rattle.agv_http.specs.StreamEnds.{HasCallNext, HasMachineFault, IsOfMachine}
-use Rattle.agv_http.specs.declared.request.Heard.TheVariants as heard
+use Rattle.agv_http.specs.declared.request.heard.Heard.TheVariants as heard
 use Rattle.agv_store.specs.Floors.{Keyed, Knows, world_at}
 use Rattle.agv_tables.specs.sql.Connections.{IsClean, IsOpen}
 use Rattle.agv_world.specs.declared.fault.Fault.{Fault}

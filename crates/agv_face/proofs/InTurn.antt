@@ -5,15 +5,15 @@ use Rattle.std.specs.List.{cons_option}
 use Rattle.agv_desk.specs.Outcomes.{Outcome, after, answer_of}
 use Rattle.agv_desk.specs.declared.call.Call.{Call}
 use Rattle.agv_header.specs.declared.refusal.Refusal.{Refusal}
-use Rattle.agv_http.specs.Answers.{answer_text}
-use Rattle.agv_http.specs.Cut.{Cut, at_end}
-use Rattle.agv_http.specs.Fronts.{GoesOn}
-use Rattle.agv_http.specs.Heard.{Follows, IsHeard, IsLent}
-use Rattle.agv_http.specs.Output.{answer_to, answers_to, call_at, call_by, call_for, calls_of, outcome_by, outcome_for, world_after}
-use Rattle.agv_http.specs.Requests.{Request}
-use Rattle.agv_http.specs.Table.{route_at}
-use Rattle.agv_http.specs.declared.request.Heard.{Heard}
-use Rattle.agv_http.specs.declared.request.LentRequest.{LentRequest}
+use Rattle.agv_http.specs.answers.Answers.{answer_text}
+use Rattle.agv_http.specs.request.Cut.{Cut, at_end}
+use Rattle.agv_http.specs.request.Fronts.{GoesOn}
+use Rattle.agv_http.specs.request.Heard.{Follows, IsHeard, IsLent}
+use Rattle.agv_http.specs.Output.{answer_to, answers_to, timed_call, call_of_routed, call_of_request, calls_of, outcome_by, outcome_for, world_after}
+use Rattle.agv_http.specs.request.Requests.{Request}
+use Rattle.agv_http.specs.routing.Table.{route_at}
+use Rattle.agv_http.specs.declared.request.heard.Heard.{Heard}
+use Rattle.agv_http.specs.declared.request.heard.RequestRef.{RequestRef}
 use Rattle.agv_reports.specs.Reports.{report_of}
 use Rattle.agv_tables.specs.schema.SchemaNumbers.{desk_seats}
 use Rattle.agv_world.specs.Worlds.{World}
@@ -37,24 +37,24 @@ CallsInTurn = (requests more : List Request) (at : ℕ) → calls_of (requests +
 
 -- ---- a request, by its lent parts
 
-call_is : (request : Request) (lent : LentRequest) → IsLent request lent → call_of lent ≡ call_for request
-unfolding call_for
+call_is : (request : Request) (lent : RequestRef) → IsLent request lent → call_of lent ≡ call_of_request request
+unfolding call_of_request
 call_is request lent is =
-    ap (λ (body : List ℕ). call_by body (route_at lent.method lent.target.now)) is.body
-    ∙ ap (λ (target : List ℕ). call_by request.body (route_at lent.method target)) is.target
-    ∙ ap (λ (method : List ℕ). call_by request.body (route_at method request.target)) is.method
+    ap (λ (body : List ℕ). call_of_routed body (route_at lent.method lent.target.now)) is.body
+    ∙ ap (λ (target : List ℕ). call_of_routed request.body (route_at lent.method target)) is.target
+    ∙ ap (λ (method : List ℕ). call_of_routed request.body (route_at method request.target)) is.method
 
-pub is_call : (request : Request) (lent : LentRequest) → IsLent request lent → IsOk (call_of lent) → IsOk (call_for request)
+pub is_call : (request : Request) (lent : RequestRef) → IsLent request lent → IsOk (call_of lent) → IsOk (call_of_request request)
 is_call request lent is made = let Made : Result Call Refusal → Type 0 = λ read. IsOk read in subst Made (call_is request lent is) made
 
-outcome_is : (world : World) (at : ℕ) (request : Request) (lent : LentRequest) → IsLent request lent → outcome_in world at (call_of lent) ≡ outcome_for desk_seats world at request
-unfolding call_for outcome_for
+outcome_is : (world : World) (at : ℕ) (request : Request) (lent : RequestRef) → IsLent request lent → outcome_in world at (call_of lent) ≡ outcome_for desk_seats world at request
+unfolding call_of_request outcome_for
 outcome_is world at request lent is =
-    ap (λ (body : List ℕ). outcome_by desk_seats world at (call_by body (route_at lent.method lent.target.now))) is.body
-    ∙ ap (λ (target : List ℕ). outcome_by desk_seats world at (call_by request.body (route_at lent.method target))) is.target
-    ∙ ap (λ (method : List ℕ). outcome_by desk_seats world at (call_by request.body (route_at method request.target))) is.method
+    ap (λ (body : List ℕ). outcome_by desk_seats world at (call_of_routed body (route_at lent.method lent.target.now))) is.body
+    ∙ ap (λ (target : List ℕ). outcome_by desk_seats world at (call_of_routed request.body (route_at lent.method target))) is.target
+    ∙ ap (λ (method : List ℕ). outcome_by desk_seats world at (call_of_routed request.body (route_at method request.target))) is.method
 
-text_is : (world : World) (at : ℕ) (request : Request) (lent : LentRequest) → IsLent request lent → text_for world at lent ≡ answer_to desk_seats world at request
+text_is : (world : World) (at : ℕ) (request : Request) (lent : RequestRef) → IsLent request lent → text_for world at lent ≡ answer_to desk_seats world at request
 text_is world at request lent is =
     ap₂ (λ (o : Outcome) (close : Bool). answer_text (answer_of o) (report_of world (answer_of o)) close) (outcome_is world at request lent is) is.close
 
@@ -79,19 +79,19 @@ one_world world at request = refl
 pub no_calls : (at : ℕ) → calls_of [] at ≡ []
 no_calls at = refl
 
-none_made : (at : ℕ) (read : Result Call Refusal) → IsErr read → cons_option (call_at at read) [] ≡ []
+none_made : (at : ℕ) (read : Result Call Refusal) → IsErr read → cons_option (timed_call at read) [] ≡ []
 none_made at (Ok made) is = absurd (let e : false ≡ true = is in cc)
 none_made at (Err why) is = refl
 
 -- a request more that is none
-pub next_no_call : (at : ℕ) (requests : List Request) (request : Request) (lent : LentRequest) → IsLent request lent → CallsInTurn
+pub next_no_call : (at : ℕ) (requests : List Request) (request : Request) (lent : RequestRef) → IsLent request lent → CallsInTurn
     → calls_of requests at ≡ [] → IsErr (call_of lent) → calls_of (requests ++ request ∷ []) at ≡ []
 next_no_call at requests request lent is turn none refused =
     let Refused : Result Call Refusal → Type 0 = λ read. IsErr read in
-    let last : calls_of (request ∷ []) at ≡ [] = none_made at (call_for request) (subst Refused (call_is request lent is) refused) in
+    let last : calls_of (request ∷ []) at ≡ [] = none_made at (call_of_request request) (subst Refused (call_is request lent is) refused) in
     turn requests (request ∷ []) at ∙ ap₂ ◌++◌ none last
 
-module _ (world : World) (at : ℕ) (requests : List Request) (request : Request) (lent : LentRequest) (is : IsLent request lent) where
+module _ (world : World) (at : ℕ) (requests : List Request) (request : Request) (lent : RequestRef) (is : IsLent request lent) where
   abbrev reached : World
   reached = world_after desk_seats world at requests
 

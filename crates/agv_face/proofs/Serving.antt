@@ -11,14 +11,14 @@ use Rattle.agv_desk.specs.declared.answer.Answer.{Answer}
 use Rattle.agv_desk.specs.declared.answer.Answer.TheVariants as answer
 use Rattle.agv_desk.specs.declared.call.Call.{Call}
 use Rattle.agv_header.specs.declared.refusal.Refusal.{Refusal}
-use Rattle.agv_http.specs.Answers.{answer_text}
-use Rattle.agv_http.specs.CallIn.{call_in}
-use Rattle.agv_http.specs.Output.{call_by}
-use Rattle.agv_http.specs.Requests.{most_body}
-use Rattle.agv_http.specs.Sizes.{is_outcome, most_answer}
-use Rattle.agv_http.specs.Table.{route_at}
-use Rattle.agv_http.specs.declared.request.LentRequest.{LentRequest}
-use Rattle.agv_http.specs.declared.route.Route.{Route}
+use Rattle.agv_http.specs.answers.Answers.{answer_text}
+use Rattle.agv_http.specs.bodies.BodyCalls.{call_of_body}
+use Rattle.agv_http.specs.Output.{call_of_routed}
+use Rattle.agv_http.specs.request.Requests.{most_body}
+use Rattle.agv_http.specs.answers.Sizes.{is_outcome, most_answer}
+use Rattle.agv_http.specs.routing.Table.{route_at}
+use Rattle.agv_http.specs.declared.request.heard.RequestRef.{RequestRef}
+use Rattle.agv_http.specs.declared.routing.route.Route.{Route}
 use Rattle.agv_reports.specs.Reports.{names_report, report_of}
 use Rattle.agv_store.specs.Floors.{Keyed, Knows, world_at}
 use Rattle.agv_store.specs.Served.{world_after}
@@ -27,8 +27,8 @@ use Rattle.agv_tables.specs.readings.WorldIn.{world_in}
 use Rattle.agv_tables.specs.rows.DeskRows.{Placing}
 use Rattle.agv_tables.specs.schema.SchemaNumbers.{desk_seats}
 use Rattle.agv_world.specs.Worlds.{World}
-use Rattle.agv_http.specs.Heard.{IsHeard}
-use Rattle.agv_http.specs.declared.request.Heard.TheVariants as heard
+use Rattle.agv_http.specs.request.Heard.{IsHeard}
+use Rattle.agv_http.specs.declared.request.heard.Heard.TheVariants as heard
 use Rattle.agv_world.specs.declared.fault.Fault.{Fault}
 use Rattle.agv_world.specs.declared.fault.Fault.TheVariants as machine
 use Rattle.agv_face.specs.Nexts.{IsNextFault}
@@ -101,31 +101,31 @@ refused_so world at call why reply is told none =
 
 abbrev pub OutcomesFit : Answer → Type 0
 OutcomesFit told = (seats : ℕ) (world : World) (at : ℕ) (route : Route) (body : List ℕ) (made : Call) (report : List ℕ) (close : Bool)
-    → call_in route body ≡ Ok made → length body ≤ most_body → only_tells made ≡ false → told ≡ answer_of (step seats world at made)
+    → call_of_body route body ≡ Ok made → length body ≤ most_body → only_tells made ≡ false → told ≡ answer_of (step seats world at made)
     → length (answer_text told report close) ≤ most_answer
 
 abbrev pub HasRoom : Answer → Type 0
 HasRoom told = (report : List ℕ) (close : Bool) → length (answer_text told report close) ≤ most_answer
 
 module _ (changes_none : TellsWithoutChange) (told : Answer) (fits : OutcomesFit told) (world world_then : World) (at : ℕ) (body : List ℕ) (short : length body ≤ most_body) where
-  of_call : (route : Route) (made : Call) → call_in route body ≡ Ok made → told ≡ answer_of (step desk_seats world at made) → world_then ≡ after world (step desk_seats world at made)
+  of_call : (route : Route) (made : Call) → call_of_body route body ≡ Ok made → told ≡ answer_of (step desk_seats world at made) → world_then ≡ after world (step desk_seats world at made)
       → (b : Bool) → only_tells made ≡ b → (world_then ≡ world) ⊎ HasRoom told
   of_call route made is so leads true asks = inl (leads ∙ (changes_none desk_seats world at made asks).0)
   of_call route made is so leads false asks = inr (λ report close. fits desk_seats world at route body made report close is short asks so)
 
-  of_read : (route : Route) (read : Result Call Refusal) → call_in route body ≡ read → told ≡ answer_of (outcome_in world at read) → world_then ≡ after world (outcome_in world at read)
+  of_read : (route : Route) (read : Result Call Refusal) → call_of_body route body ≡ read → told ≡ answer_of (outcome_in world at read) → world_then ≡ after world (outcome_in world at read)
       → (world_then ≡ world) ⊎ HasRoom told
   unfolding after
   of_read route (Err why) is so leads = inl leads
   of_read route (Ok made) is so leads = of_call route made is so leads (only_tells made) refl
 
-  of_route : (route : Result Route Refusal) → told ≡ answer_of (outcome_in world at (call_by body route)) → world_then ≡ after world (outcome_in world at (call_by body route))
+  of_route : (route : Result Route Refusal) → told ≡ answer_of (outcome_in world at (call_of_routed body route)) → world_then ≡ after world (outcome_in world at (call_of_routed body route))
       → (world_then ≡ world) ⊎ HasRoom told
   unfolding after
   of_route (Err why) so leads = inl leads
-  of_route (Ok route) so leads = of_read route (call_in route body) refl so leads
+  of_route (Ok route) so leads = of_read route (call_of_body route body) refl so leads
 
-pub stays_or_fits : TellsWithoutChange → (world world_then : World) (at : ℕ) (request : LentRequest) (reply : Reply) → OutcomesFit reply.answer → length request.body.now ≤ most_body
+pub stays_or_fits : TellsWithoutChange → (world world_then : World) (at : ℕ) (request : RequestRef) (reply : Reply) → OutcomesFit reply.answer → length request.body.now ≤ most_body
     → IsCallAnswered world world_then at (call_of request) reply → (world_then ≡ world) ⊎ HasRoom reply.answer
 stays_or_fits changes_none world world_then at request reply fits short served =
     of_route changes_none reply.answer fits world world_then at request.body.now short (route_at request.method request.target.now) served.answer_is served.world_is
@@ -144,7 +144,7 @@ later_then {S = S} g desk now then first second = record {
 
 -- ---- a fault before there is an answer
 
-pub comes_of_next : (buf : List ℕ) (ended : Bool) (lent : LentRequest) → IsHeard buf ended (heard.Request lent) → (why : Fault) → ComesOfCall (call_of lent) why → IsNextFault buf ended why
+pub comes_of_next : (buf : List ℕ) (ended : Bool) (lent : RequestRef) → IsHeard buf ended (heard.Request lent) → (why : Fault) → ComesOfCall (call_of lent) why → IsNextFault buf ended why
 comes_of_next buf ended lent told machine.Memory comes = tt
 comes_of_next buf ended lent told machine.Storage comes = (lent, told, comes)
 

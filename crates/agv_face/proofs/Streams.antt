@@ -6,14 +6,14 @@ use Rattle.sqlite_trees.specs.declared.store.Store.{Ghosts}
 use Rattle.agv_header.specs.declared.refusal.Refusal.{Refusal}
 use Rattle.agv_header.specs.declared.refusal.Refusal.TheVariants as refusal
 use Rattle.agv_desk.specs.Outcomes.{after}
-use Rattle.agv_http.specs.Cut.{Cut, at_end, closed, faulty, no_more}
-use Rattle.agv_http.specs.Fronts.{Begins, GoesOnBy, HasNext, IsSoFar}
-use Rattle.agv_http.specs.Heard.{IsHeard}
+use Rattle.agv_http.specs.request.Cut.{Cut, at_end, closed, faulty, no_more}
+use Rattle.agv_http.specs.request.Fronts.{Begins, GoesOnBy, HasNext, IsSoFar}
+use Rattle.agv_http.specs.request.Heard.{IsHeard}
 use Rattle.agv_http.specs.Output.{answers_to, calls_of, refusal_text, world_after}
-use Rattle.agv_http.specs.Requests.{Request}
+use Rattle.agv_http.specs.request.Requests.{Request}
 use Rattle.agv_http.specs.StreamEnds.{HasCallNext, HasMachineFault, IsOfMachine, IsReadFault, IsWriteFault}
-use Rattle.agv_http.specs.declared.request.Heard.TheVariants as heard
-use Rattle.agv_http.specs.declared.request.LentRequest.{LentRequest}
+use Rattle.agv_http.specs.declared.request.heard.Heard.TheVariants as heard
+use Rattle.agv_http.specs.declared.request.heard.RequestRef.{RequestRef}
 use Rattle.agv_store.specs.Floors.{Keyed, Knows, world_at}
 use Rattle.agv_tables.specs.schema.SchemaNumbers.{desk_seats}
 use Rattle.agv_tables.specs.sql.Connections.{IsClean, IsOpen}
@@ -98,7 +98,7 @@ module _ {S R W : Type 0} (g : Ghosts S) (remaining : R → Option (List ℕ)) (
     begins = record { front = s.front; rest = buf ++ more; parts = parts; cut = s.cut; rest_is = tt }
 
     -- the next request is a call
-    pub has_call : (lent : LentRequest) (request : Request) → GoesOnBy s.front buf s.requests lent request → IsOk (call_of lent) → HasCallNext input s.requests
+    pub has_call : (lent : RequestRef) (request : Request) → GoesOnBy s.front buf s.requests lent request → IsOk (call_of lent) → HasCallNext input s.requests
     has_call lent request goes made = let HasNextSo : List ℕ → Type 0 = λ bytes. HasNext bytes s.requests request in (request, subst HasNextSo (sym parts) (goes.next more), is_call request lent goes.is_lent made)
 
     -- there is a fault of the machine
@@ -272,7 +272,7 @@ module _ {S R W : Type 0} (g : Ghosts S) (remaining : R → Option (List ℕ)) (
       )
 
     -- a request is served, and its answer is to be written
-    module _ (then : Keyed S) (writer_then : CountingIo W) (step : IsLaterDesk g now then) (failed : then.failed ≡ now.failed) (lent : LentRequest) (request : Request)
+    module _ (then : Keyed S) (writer_then : CountingIo W) (step : IsLaterDesk g now then) (failed : then.failed ≡ now.failed) (lent : RequestRef) (request : Request)
         (goes : GoesOnBy s.front buf s.requests lent request) (out : List ℕ) (answered : IsClean g then.held → IsAnswered (world_at g now.held) (world_at g then.held) at lent out)
         (answers_turn : AnswersInTurn) (worlds_turn : WorldsInTurn) where
       later : IsClean g then.held → IsClean g now.held

@@ -3,10 +3,10 @@ use Rattle.std.specs.Prelude.{◌≡◌, ◌⊎◌, ◌+◌, ℕ, Bool, true, Li
 use Rattle.std.specs.Io.KnownBytes.{Appends, Consumes}
 use Rattle.sqlite_trees.specs.declared.store.Store.{Ghosts}
 use Rattle.agv_header.specs.declared.refusal.Refusal.TheVariants as refusal
-use Rattle.agv_http.specs.Cut.{Cut, at_end, closed, faulty}
-use Rattle.agv_http.specs.Fronts.{Begins, IsSoFar}
+use Rattle.agv_http.specs.request.Cut.{Cut, at_end, closed, faulty}
+use Rattle.agv_http.specs.request.Fronts.{Begins, IsSoFar}
 use Rattle.agv_http.specs.Output.{calls_of, refusal_text}
-use Rattle.agv_http.specs.Requests.{Request}
+use Rattle.agv_http.specs.request.Requests.{Request}
 use Rattle.agv_http.specs.StreamEnds.{HasCallNext, HasMachineFault, IsReadFault, IsRefusedByMachine, IsServedToEnd, IsWriteFault}
 use Rattle.agv_store.specs.Floors.{Keyed, Knows, world_at}
 use Rattle.agv_tables.specs.schema.SchemaNumbers.{desk_seats}

@@ -1,10 +1,10 @@
 -- What became of the next request of a buffer.
 use Rattle.std.specs.Prelude.{◌≡◌, ℕ, Bool, true, List, IsErr}
 use Rattle.sqlite_trees.specs.declared.store.Store.{Ghosts}
-use Rattle.agv_http.specs.Heard.{IsHeard}
+use Rattle.agv_http.specs.request.Heard.{IsHeard}
 use Rattle.agv_http.specs.Output.{refusal_text}
-use Rattle.agv_http.specs.declared.request.Heard.TheVariants as heard
-use Rattle.agv_http.specs.declared.request.LentRequest.{LentRequest}
+use Rattle.agv_http.specs.declared.request.heard.Heard.TheVariants as heard
+use Rattle.agv_http.specs.declared.request.heard.RequestRef.{RequestRef}
 use Rattle.agv_store.specs.Floors.{Keyed, world_at}
 use Rattle.agv_tables.specs.sql.Connections.{IsClean}
 use Rattle.agv_world.specs.declared.fault.Fault.{Fault}
@@ -16,7 +16,7 @@ use Rattle.agv_face.specs.declared.next.Next.TheVariants as next
 module _ {S : Type 0} (g : Ghosts S) (at : ℕ) (desk desk_then : Keyed S) (buf : List ℕ) (ended : Bool) (out : List ℕ) where
   -- a request of the buffer was served, and its answer is to be written
   pub record IsRequestServed (len : ℕ) (close : Bool) : Type 0 where
-    pub request : LentRequest
+    pub request : RequestRef
     pub heard_is : IsHeard buf ended (heard.Request request)
     pub len_is : len ≡ request.len
     pub close_is : close ≡ request.close
@@ -33,4 +33,4 @@ module _ {S : Type 0} (g : Ghosts S) (at : ℕ) (desk desk_then : Keyed S) (buf 
 -- a fault of the machine, before there is an answer to the next request; one of the store comes of a request of the buffer that is a call
 abbrev pub IsNextFault : List ℕ → Bool → Fault → Type 0
 IsNextFault buf ended machine.Memory = Unit {0}
-IsNextFault buf ended machine.Storage = (request : LentRequest) × IsHeard buf ended (heard.Request request) × ComesOfCall (call_of request) machine.Storage
+IsNextFault buf ended machine.Storage = (request : RequestRef) × IsHeard buf ended (heard.Request request) × ComesOfCall (call_of request) machine.Storage

@@ -11,15 +11,15 @@ use Rattle.agv_world.specs.declared.fault.Fault.{Fault}
 use Rattle.agv_world.specs.declared.fault.Fault.TheVariants as machine
 use Rattle.agv_desk.specs.Outcomes.{Outcome, after, answer_of}
 use Rattle.agv_desk.specs.declared.call.Call.{Call}
-use Rattle.agv_http.specs.Answers.{answer_text}
-use Rattle.agv_http.specs.Output.{call_by, outcome_by}
-use Rattle.agv_http.specs.Table.{route_at}
-use Rattle.agv_http.specs.declared.request.LentRequest.{LentRequest}
+use Rattle.agv_http.specs.answers.Answers.{answer_text}
+use Rattle.agv_http.specs.Output.{call_of_routed, outcome_by}
+use Rattle.agv_http.specs.routing.Table.{route_at}
+use Rattle.agv_http.specs.declared.request.heard.RequestRef.{RequestRef}
 use Rattle.agv_face.specs.declared.reply.Reply.{Reply}
 
 -- the call that a request is, or why it is refused before it is one
-abbrev pub call_of : LentRequest → Result Call Refusal
-call_of request = call_by request.body.now (route_at request.method request.target.now)
+abbrev pub call_of : RequestRef → Result Call Refusal
+call_of request = call_of_routed request.body.now (route_at request.method request.target.now)
 
 -- what a call does that comes at a moment, or that a request is refused
 abbrev pub outcome_in : World → ℕ → Result Call Refusal → Outcome
@@ -32,11 +32,11 @@ pub record IsCallAnswered (world world_then : World) (at : ℕ) (call : Result C
   pub world_is : world_then ≡ after world (outcome_in world at call)
 
 -- the bytes of the answer to a request in this world
-abbrev pub text_for : World → ℕ → LentRequest → List ℕ
+abbrev pub text_for : World → ℕ → RequestRef → List ℕ
 text_for world at request = let told = answer_of (outcome_in world at (call_of request)) in answer_text told (report_of world told) request.close
 
 -- this is to be written for the request, and the other world is the one after it
-pub record IsAnswered (world world_then : World) (at : ℕ) (request : LentRequest) (text : List ℕ) : Type 0 where
+pub record IsAnswered (world world_then : World) (at : ℕ) (request : RequestRef) (text : List ℕ) : Type 0 where
   pub text_is : text ≡ text_for world at request
   pub world_is : world_then ≡ after world (outcome_in world at (call_of request))
 

@@ -4,7 +4,7 @@ ghost use Rattle.agv_message.specs.Body.{IsFaultOf};
 ghost use Rattle.agv_face.specs.Replies.{call_of};
 
 use agv_desk::Call;
-use agv_http::{LentRequest, Routes};
+use agv_http::{RequestRef, Routes};
 use agv_message::BodyFault;
 use std::alloc::Global;
 
@@ -12,7 +12,7 @@ use std::alloc::Global;
 pub(crate) fn call_in(
     alloc: Global,
     routes: &Routes,
-    request: &LentRequest<'_>,
+    request: &RequestRef<'_>,
 ) -> Result<Call, BodyFault>
     ensures ok { IfOk result (λ call. call_of request.now ≡ Ok call) }
     ensures err { IfErr result (λ fault. IsFaultOf fault (call_of request.now)) }

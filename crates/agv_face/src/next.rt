@@ -1,7 +1,7 @@
 //! The next request of a buffer is answered.
 ghost use Rattle.std.specs.Prelude.{◌≡◌, ◌≤◌, [], IfErr, IfOk, OnErr, OnOk, vec_capacity};
 ghost use Rattle.agv_http.specs.Output.{refusal_text};
-ghost use Rattle.agv_http.specs.Sizes.{most_answer};
+ghost use Rattle.agv_http.specs.answers.Sizes.{most_answer};
 ghost use Rattle.agv_store.specs.Floors.{world_at};
 ghost use Rattle.agv_tables.specs.sql.Connections.{IsClean, IsOpen};
 ghost use Rattle.agv_face.specs.Nexts.{IsNext, IsNextFault};

@@ -1,7 +1,7 @@
 //! The answer to one request.
 ghost use Rattle.std.specs.Prelude.{◌≡◌, ◌≤◌, [], true, Err, IfErr, IfOk, IsErr, OnErr, OnOk, length, vec_capacity};
-ghost use Rattle.agv_http.specs.Requests.{most_body};
-ghost use Rattle.agv_http.specs.Sizes.{most_answer};
+ghost use Rattle.agv_http.specs.request.Requests.{most_body};
+ghost use Rattle.agv_http.specs.answers.Sizes.{most_answer};
 ghost use Rattle.agv_store.specs.Floors.{world_at};
 ghost use Rattle.agv_tables.specs.sql.Connections.{IsClean, IsOpen};
 ghost use Rattle.agv_world.specs.declared.fault.Fault.TheVariants as fault;
@@ -12,7 +12,7 @@ use agv_desk::laws::calls::tells_without_change;
 use agv_desk::{Answer, Call};
 use agv_header::Moment;
 use agv_http::size_laws::{outcomes_fit, tells_outcomes};
-use agv_http::{LentRequest, Routes, put_answer};
+use agv_http::{RequestRef, Routes, put_answer};
 use agv_message::BodyFault;
 use agv_reports::laws::gives_only_what_is_named;
 use agv_store::Desk;
@@ -51,7 +51,7 @@ fn reply_to<S: Alter + Drop>(
     routes: &Routes,
     desk: &mut Desk<S>,
     at: Moment,
-    request: &LentRequest<'_>,
+    request: &RequestRef<'_>,
 ) -> Result<Reply, Fault>
     ensures later { IsLaterDesk S.Store desk.old desk.new }
     ensures serves { IsClean S.Store desk.new.held → IfOk result (IsCallAnswered (world_at S.Store desk.old.held) (world_at S.Store desk.new.held) at (call_of request.now)) }
@@ -77,7 +77,7 @@ pub(crate) fn answer_request<S: Alter + Drop>(
     routes: &Routes,
     desk: &mut Desk<S>,
     at: Moment,
-    request: &LentRequest<'_>,
+    request: &RequestRef<'_>,
     out: &mut Vec<u8>,
 ) -> Result<(), Fault>
     requires empty { out.old.items ≡ [] }

@@ -4,7 +4,7 @@ ghost use Rattle.agv_face.specs.Ends.{EndsFailed, IsCounted, IsStreamEnd, most_r
 ghost use Rattle.agv_face.specs.Refusals.{IsRefused};
 ghost use Rattle.agv_face.specs.Replies.{IsLaterDesk};
 ghost use Rattle.agv_face.specs.CountingIo.{HadCallsAtMost};
-ghost use Rattle.agv_http.specs.Sizes.{most_answer};
+ghost use Rattle.agv_http.specs.answers.Sizes.{most_answer};
 
 use crate::bytes::{LONGEST_REQUEST, drop_front, read_some, write_whole};
 use crate::next::{Next, serve_next};

@@ -3,12 +3,12 @@ use Rattle.std.proofs.Common.{◌≡◌, ◌⊎◌, inl, inr, ℕ, List, [], ◌
 use Rattle.agv_header.specs.declared.refusal.Refusal.{Refusal}
 use Rattle.agv_world.specs.Worlds.{World}
 use Rattle.agv_desk.specs.Outcomes.{after}
-use Rattle.agv_http.specs.Cut.{Cut, Ending, faulty, a_fault}
-use Rattle.agv_http.specs.Fronts.{Begins, HasFaultNext, HasFront, HasNext}
+use Rattle.agv_http.specs.request.Cut.{Cut, Ending, faulty, a_fault}
+use Rattle.agv_http.specs.request.Fronts.{Begins, HasFaultNext, HasFront, HasNext}
 use Rattle.agv_http.specs.Output.{IsOutput, answer_to, answers_to, last_text, outcome_for, refusal_text, world_after}
-use Rattle.agv_http.specs.Requests.{Request}
+use Rattle.agv_http.specs.request.Requests.{Request}
 use Rattle.agv_http.specs.StreamEnds.{EndsInMachineFault, HasMachineFault, IsFrontOf, IsLastRefusal, IsNextAnswer, IsReadFault, IsRefusedByMachine, IsWriteFault}
-use Rattle.agv_http.proofs.Cuts.{one_cut}
+use Rattle.agv_http.proofs.request.Cuts.{one_cut}
 use Rattle.agv_http.proofs.Joining.{answers_join, cut_begins, cuts_part}
 
 -- a front of a front

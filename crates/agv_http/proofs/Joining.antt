@@ -6,15 +6,15 @@ use Rattle.agv_desk.specs.Outcomes.{after}
 use Rattle.agv_desk.specs.Step.{step, steps}
 use Rattle.agv_desk.specs.Unchanged.{only_tells}
 use Rattle.agv_desk.specs.declared.call.Call.{Call}
-use Rattle.agv_http.specs.Cut.{Cut, Ending, at_end, closed, faulty, no_more, a_fault, the_last, one_more}
-use Rattle.agv_http.specs.Fronts.{GoesOn, StartsWithRequest}
-use Rattle.agv_http.specs.Heard.{IsHeard}
-use Rattle.agv_http.specs.Output.{answer_to, answers_to, call_for, calls_of, outcome_by, outcome_for, world_after}
-use Rattle.agv_http.specs.Requests.{Request, IsRequest, is_last}
-use Rattle.agv_http.specs.Sizes.{only_asks}
-use Rattle.agv_http.specs.declared.request.Heard.{Heard}
-use Rattle.agv_http.specs.declared.request.Heard.TheVariants as heard
-use Rattle.agv_http.proofs.Cuts.{last_and_not, no_fault, not_empty, one_request}
+use Rattle.agv_http.specs.request.Cut.{Cut, Ending, at_end, closed, faulty, no_more, a_fault, the_last, one_more}
+use Rattle.agv_http.specs.request.Fronts.{GoesOn, StartsWithRequest}
+use Rattle.agv_http.specs.request.Heard.{IsHeard}
+use Rattle.agv_http.specs.Output.{answer_to, answers_to, call_of_request, calls_of, outcome_by, outcome_for, world_after}
+use Rattle.agv_http.specs.request.Requests.{Request, IsRequest, is_last}
+use Rattle.agv_http.specs.answers.Sizes.{only_asks}
+use Rattle.agv_http.specs.declared.request.heard.Heard.{Heard}
+use Rattle.agv_http.specs.declared.request.heard.Heard.TheVariants as heard
+use Rattle.agv_http.proofs.request.Cuts.{last_and_not, no_fault, not_empty, one_request}
 
 -- ---- cuts
 
@@ -108,7 +108,7 @@ module _ (seats : ℕ) (at : ℕ) where
   answers_of_one world r = append-nil (answer_to seats world at r)
 
   -- a request that is no call leaves the world
-  pub refused_leaves : (world : World) (r : Request) (why : Refusal) → call_for r ≡ Err why → after world (outcome_for seats world at r) ≡ world
+  pub refused_leaves : (world : World) (r : Request) (why : Refusal) → call_of_request r ≡ Err why → after world (outcome_for seats world at r) ≡ world
   unfolding after outcome_for
   refused_leaves world r why is = ap (λ (read : Result Call Refusal). after world (outcome_by seats world at read)) is
 
@@ -119,12 +119,12 @@ module _ (seats : ℕ) (at : ℕ) where
   asked_leaves world tells (Ok made) asks = tells made asks
 
   pub only_asking_leaves : (world : World) → ((made : Call) → only_tells made ≡ true → after world (step seats world at made) ≡ world)
-      → (r : Request) → only_asks (call_for r) ≡ true → after world (outcome_for seats world at r) ≡ world
+      → (r : Request) → only_asks (call_of_request r) ≡ true → after world (outcome_for seats world at r) ≡ world
   unfolding outcome_for
-  only_asking_leaves world tells r asks = asked_leaves world tells (call_for r) asks
+  only_asking_leaves world tells r asks = asked_leaves world tells (call_of_request r) asks
 
   -- the worlds are those of the calls
-  steps_by : (world : World) (rs : List Request) (read : Result Call Refusal) (r : Request) → call_for r ≡ read → ((then : World) → world_after seats then at rs ≡ steps seats then (calls_of rs at))
+  steps_by : (world : World) (rs : List Request) (read : Result Call Refusal) (r : Request) → call_of_request r ≡ read → ((then : World) → world_after seats then at rs ≡ steps seats then (calls_of rs at))
       → world_after seats (after world (outcome_by seats world at read)) at rs ≡ steps seats world (calls_of (r ∷ rs) at)
   unfolding after
   steps_by world rs (Err why) r is later = rw is (later world)
@@ -133,4 +133,4 @@ module _ (seats : ℕ) (at : ℕ) where
   pub steps_of_calls : (world : World) (rs : List Request) → world_after seats world at rs ≡ steps seats world (calls_of rs at)
   unfolding world_after outcome_for
   steps_of_calls world [] = refl
-  steps_of_calls world (r ∷ rs) = steps_by world rs (call_for r) r refl (λ then. steps_of_calls then rs)
+  steps_of_calls world (r ∷ rs) = steps_by world rs (call_of_request r) r refl (λ then. steps_of_calls then rs)

@@ -8,15 +8,15 @@ use Rattle.agv_header.specs.declared.refusal.Refusal.{Refusal}
 use Rattle.agv_header.specs.declared.refusal.Refusal.TheVariants as refusal
 use Rattle.agv_desk.specs.WellTyped.{AreWellTyped, IsMoment}
 use Rattle.agv_desk.specs.declared.call.Call.{Call}
-use Rattle.agv_http.specs.CallIn.{call_in}
-use Rattle.agv_http.specs.Heads.{verb_text}
-use Rattle.agv_http.specs.Output.{call_at, call_by, call_for, calls_of}
-use Rattle.agv_http.specs.Paths.{Part, Word, AName, names_in, path_of, segments_of}
-use Rattle.agv_http.specs.Requests.{Request}
-use Rattle.agv_http.specs.Table.{Row, Served, at_path, fixed, if_method, of_name, of_vehicle, or_next, route_at, served_at, served_by, table, with_route}
-use Rattle.agv_http.specs.declared.route.Route.{Route}
-use Rattle.agv_http.specs.declared.route.Route.TheVariants as route
-use Rattle.agv_http.proofs.TypedBodies.{IsTypedIfSaid, reads_advance, reads_correction, reads_count, reads_job, reads_layout, reads_leave, reads_load, reads_order, reads_place, reads_state, reads_vehicle}
+use Rattle.agv_http.specs.bodies.BodyCalls.{call_of_body}
+use Rattle.agv_http.specs.answers.Heads.{verb_text}
+use Rattle.agv_http.specs.Output.{timed_call, call_of_routed, call_of_request, calls_of}
+use Rattle.agv_http.specs.routing.Paths.{Part, Word, AName, names_in, path_of, segments_of}
+use Rattle.agv_http.specs.request.Requests.{Request}
+use Rattle.agv_http.specs.routing.Table.{Row, MethodRoute, at_path, fixed, if_method, of_name, of_vehicle, or_next, route_at, method_route_at, method_route_by, table, with_route}
+use Rattle.agv_http.specs.declared.routing.route.Route.{Route}
+use Rattle.agv_http.specs.declared.routing.route.Route.TheVariants as route
+use Rattle.agv_http.proofs.bodies.TypedBodies.{IsTypedIfSaid, reads_advance, reads_correction, reads_count, reads_job, reads_layout, reads_leave, reads_load, reads_order, reads_place, reads_state, reads_vehicle}
 
 -- ---- the names in paths
 
@@ -145,31 +145,31 @@ lines_named = (
 )
 
 -- what is served has such a route
-abbrev IsNamedServed : Option Served → Type 0
-IsNamedServed served = IfSome served (λ found. IsNamedRoute found.1)
+abbrev IsNamedMethodRoute : Option MethodRoute → Type 0
+IsNamedMethodRoute served = IfSome served (λ found. IsNamedRoute found.1)
 
-line_served : (r : Row) → IsNamedLine r.route → (names : Option (List (List ℕ))) → IfSome names (All IsName) → IsNamedServed (with_route r.method (option_and_then r.route names))
+line_served : (r : Row) → IsNamedLine r.route → (names : Option (List (List ℕ))) → IfSome names (All IsName) → IsNamedMethodRoute (with_route r.method (option_and_then r.route names))
 line_served r is None are = tt
 line_served r is (Some names) are = made (r.route names) (is names are)
   where
-    made : (found : Option Route) → IfSome found IsNamedRoute → IsNamedServed (with_route r.method found)
+    made : (found : Option Route) → IfSome found IsNamedRoute → IsNamedMethodRoute (with_route r.method found)
     made None h = tt
     made (Some found) h = h
 
-either : (one other : Option Served) → IsNamedServed one → IsNamedServed other → IsNamedServed (or_next one other)
+either : (one other : Option MethodRoute) → IsNamedMethodRoute one → IsNamedMethodRoute other → IsNamedMethodRoute (or_next one other)
 either None other is also = also
 either (Some found) other is also = is
 
-served_named : (rows : List Row) → AreNamedLines rows → (segments : List (List ℕ)) → IsNamedServed (served_at rows segments)
+served_named : (rows : List Row) → AreNamedLines rows → (segments : List (List ℕ)) → IsNamedMethodRoute (method_route_at rows segments)
 served_named [] are segments = tt
 served_named (r ∷ rows) are segments =
-    either (served_by r segments) (served_at rows segments) (line_served r are.0 (names_in r.pattern segments) (names_named r.pattern segments)) (served_named rows are.1 segments)
+    either (method_route_by r segments) (method_route_at rows segments) (line_served r are.0 (names_in r.pattern segments) (names_named r.pattern segments)) (served_named rows are.1 segments)
 
-path_named : (segments : Option (List (List ℕ))) → IsNamedServed (option_and_then (served_at table) segments)
+path_named : (segments : Option (List (List ℕ))) → IsNamedMethodRoute (option_and_then (method_route_at table) segments)
 path_named None = tt
 path_named (Some segments) = served_named table lines_named segments
 
-by_method : (method : List ℕ) (served : Option Served) → IsNamedServed served → IfOk (if_method method served) IsNamedRoute
+by_method : (method : List ℕ) (served : Option MethodRoute) → IsNamedMethodRoute served → IfOk (if_method method served) IsNamedRoute
 by_method method None is = tt
 by_method method (Some found) is = by (bytes_eq method (verb_text found.0))
   where
@@ -182,8 +182,8 @@ route_named method target = by_method method (at_path (path_of target)) (path_na
 
 -- ---- calls
 
-reads_call : (line : Route) → IsNamedRoute line → (body : List ℕ) → IsTypedIfSaid (call_in line body)
-unfolding call_in
+reads_call : (line : Route) → IsNamedRoute line → (body : List ℕ) → IsTypedIfSaid (call_of_body line body)
+unfolding call_of_body
 reads_call route.SetLayout is body = reads_layout body
 reads_call route.RegisterVehicle is body = reads_vehicle body
 reads_call route.RegisterLoad is body = reads_load body
@@ -208,18 +208,18 @@ reads_call route.StockReport is body = tt
 reads_call route.HoldReport is body = tt
 reads_call route.LoadsExport is body = tt
 
-call_typed : (body : List ℕ) (line : Result Route Refusal) → IfOk line IsNamedRoute → IsTypedIfSaid (call_by body line)
+call_typed : (body : List ℕ) (line : Result Route Refusal) → IfOk line IsNamedRoute → IsTypedIfSaid (call_of_routed body line)
 call_typed body (Err why) is = tt
 call_typed body (Ok line) is = reads_call line is body
 
-request_typed : (request : Request) → IsTypedIfSaid (call_for request)
-unfolding call_for
+request_typed : (request : Request) → IsTypedIfSaid (call_of_request request)
+unfolding call_of_request
 request_typed request = call_typed request.body (route_at request.method request.target) (route_named request.method request.target)
 
-one_typed : (at : ℕ) → IsMoment at → (read : Result Call Refusal) → IsTypedIfSaid read → (calls : List (ℕ × Call)) → AreWellTyped calls → AreWellTyped (cons_option (call_at at read) calls)
+one_typed : (at : ℕ) → IsMoment at → (read : Result Call Refusal) → IsTypedIfSaid read → (calls : List (ℕ × Call)) → AreWellTyped calls → AreWellTyped (cons_option (timed_call at read) calls)
 one_typed at moment (Err why) is calls are = are
 one_typed at moment (Ok made) is calls are = (moment, is, are)
 
 pub calls_typed : (at : ℕ) → IsMoment at → (requests : List Request) → AreWellTyped (calls_of requests at)
 calls_typed at moment [] = tt
-calls_typed at moment (request ∷ requests) = one_typed at moment (call_for request) (request_typed request) (calls_of requests at) (calls_typed at moment requests)
+calls_typed at moment (request ∷ requests) = one_typed at moment (call_of_request request) (request_typed request) (calls_of requests at) (calls_typed at moment requests)

@@ -8,23 +8,23 @@ use Rattle.agv_desk.specs.declared.answer.Answer.{Answer}
 use Rattle.agv_desk.specs.declared.answer.Answer.TheVariants as answer
 use Rattle.agv_desk.specs.declared.call.Call.{Call}
 use Rattle.agv_reports.specs.Reports.{report_of}
-use Rattle.agv_http.specs.Answers.{answer_text}
-use Rattle.agv_http.specs.CallIn.{call_in}
-use Rattle.agv_http.specs.Cut.{Cut, Ending, at_end, closed, faulty}
-use Rattle.agv_http.specs.Requests.{Request, is_last}
-use Rattle.agv_http.specs.Table.{route_at}
-use Rattle.agv_http.specs.declared.route.Route.{Route}
+use Rattle.agv_http.specs.answers.Answers.{answer_text}
+use Rattle.agv_http.specs.bodies.BodyCalls.{call_of_body}
+use Rattle.agv_http.specs.request.Cut.{Cut, Ending, at_end, closed, faulty}
+use Rattle.agv_http.specs.request.Requests.{Request, is_last}
+use Rattle.agv_http.specs.routing.Table.{route_at}
+use Rattle.agv_http.specs.declared.routing.route.Route.{Route}
 
 -- ---- one request
 
 -- the call of a route, with the request's body, or why there is none
-abbrev pub call_by : List ℕ → Result Route Refusal → Result Call Refusal
-call_by body (Err why) = Err why
-call_by body (Ok route) = call_in route body
+abbrev pub call_of_routed : List ℕ → Result Route Refusal → Result Call Refusal
+call_of_routed body (Err why) = Err why
+call_of_routed body (Ok route) = call_of_body route body
 
 -- the call that a request is, or why it is refused before it is one
-unfoldable pub call_for : Request → Result Call Refusal
-call_for request = call_by request.body (route_at request.method request.target)
+unfoldable pub call_of_request : Request → Result Call Refusal
+call_of_request request = call_of_routed request.body (route_at request.method request.target)
 
 -- what a call does, or that the request is refused
 abbrev pub outcome_by : ℕ → World → ℕ → Result Call Refusal → Outcome
@@ -33,12 +33,12 @@ outcome_by seats world at (Ok call) = step seats world at call
 
 -- what a request does in a world at a moment
 unfoldable pub outcome_for : ℕ → World → ℕ → Request → Outcome
-outcome_for seats world at request = outcome_by seats world at (call_for request)
+outcome_for seats world at request = outcome_by seats world at (call_of_request request)
 
 -- the call at its moment, where a request is one
-abbrev pub call_at : ℕ → Result Call Refusal → Option (ℕ × Call)
-call_at at (Err why) = None
-call_at at (Ok call) = Some (at, call)
+abbrev pub timed_call : ℕ → Result Call Refusal → Option (ℕ × Call)
+timed_call at (Err why) = None
+timed_call at (Ok call) = Some (at, call)
 
 -- ---- all requests
 
@@ -63,7 +63,7 @@ world_after seats world at (request ∷ requests) = world_after seats (after wor
 
 -- the calls that some requests are, each at this moment, without the requests that are refused before they are one
 abbrev pub calls_of : List Request → ℕ → List (ℕ × Call)
-calls_of requests at = filter_map (λ (request : Request). call_at at (call_for request)) requests
+calls_of requests at = filter_map (λ (request : Request). timed_call at (call_of_request request)) requests
 
 -- the bytes of a refusal after which the stream ends
 abbrev pub refusal_text : Refusal → List ℕ

@@ -3,10 +3,10 @@ use Rattle.std.specs.Prelude.{◌≡◌, ◌<◌, ◌+◌, ◌⊎◌, ℕ, List,
 use Rattle.agv_header.specs.declared.refusal.Refusal.{Refusal}
 use Rattle.agv_header.specs.declared.refusal.Refusal.TheVariants as refusal
 use Rattle.agv_world.specs.Worlds.{World}
-use Rattle.agv_http.specs.Cut.{Ending, at_end, closed, faulty}
-use Rattle.agv_http.specs.Fronts.{Begins, HasFaultNext, HasNext, IsSoFar}
-use Rattle.agv_http.specs.Output.{IsOutput, answer_to, answers_to, call_for, refusal_text, world_after}
-use Rattle.agv_http.specs.Requests.{Request}
+use Rattle.agv_http.specs.request.Cut.{Ending, at_end, closed, faulty}
+use Rattle.agv_http.specs.request.Fronts.{Begins, HasFaultNext, HasNext, IsSoFar}
+use Rattle.agv_http.specs.Output.{IsOutput, answer_to, answers_to, call_of_request, refusal_text, world_after}
+use Rattle.agv_http.specs.request.Requests.{Request}
 
 -- a fault of the machine: memory is wanting, or the store has failed
 abbrev pub IsOfMachine : Refusal → Type 0
@@ -14,7 +14,7 @@ IsOfMachine why = (why ≡ refusal.Memory) ⊎ (why ≡ refusal.Storage)
 
 -- behind these requests the next one is a call
 abbrev pub HasCallNext : List ℕ → List Request → Type 0
-HasCallNext input requests = (request : Request) × HasNext input requests request × IsOk (call_for request)
+HasCallNext input requests = (request : Request) × HasNext input requests request × IsOk (call_of_request request)
 
 -- behind these requests there is a fault of the machine; one of the store comes of a call
 pub record HasMachineFault (input : List ℕ) (requests : List Request) (why : Refusal) : Type 0 where

@@ -3,14 +3,14 @@
 ghost use Rattle.std.specs.Prelude.{◌≡◌, ◌++◌, ℕ, Bool, List, Err};
 ghost use Rattle.httparse.specs.Grammar.{RequestHead};
 ghost use Rattle.agv_header.specs.declared.refusal.Refusal.{Refusal};
-ghost use Rattle.agv_http.specs.declared.request.Heard.{Heard};
-ghost use Rattle.agv_http.specs.declared.request.Heard.TheVariants as heard;
-ghost use Rattle.agv_http.specs.Requests.{Request, IsRequest, BeginsWith, NeedsMore, body_length, lines_of};
-ghost use Rattle.agv_http.specs.Cut.{Cut, Ending};
-ghost use Rattle.agv_http.specs.Heard.{IsHeard, Follows};
-ghost use Rattle.agv_http.specs.Starts.{Start, StartsWith, Tells};
+ghost use Rattle.agv_http.specs.declared.request.heard.Heard.{Heard};
+ghost use Rattle.agv_http.specs.declared.request.heard.Heard.TheVariants as heard;
+ghost use Rattle.agv_http.specs.request.Requests.{Request, IsRequest, BeginsWith, NeedsMore, body_length, lines_of};
+ghost use Rattle.agv_http.specs.request.Cut.{Cut, Ending};
+ghost use Rattle.agv_http.specs.request.Heard.{IsHeard, Follows};
+ghost use Rattle.agv_http.specs.request.Starts.{Start, StartsWith, Tells};
 
-use crate::next::{Next, next_request};
+use crate::request::next::{Next, next_request};
 
 /// An input begins with one thing: one request, which is the same bytes, or one fault, or it has no byte.
 pub fn starts_one_way()

@@ -1,51 +1,37 @@
 //! The desk's HTTP: which call a request is, and the bytes of every answer. It needs no store.
 //!
-//! - [`read_request`] finds the next request of a stream in the bytes that have come: a whole one, its fault, the end, or
-//!   that more bytes have to come. `specs/Requests.antt` says what a request is, and `specs/Heard.antt` what is heard of it.
-//! - [`Routes`] says which line of the table of calls a method and a target are: a [`Route`], or that no path fits, or that
-//!   its path has another method (`specs/Table.antt`).
-//! - [`call_of`] is the call that a [`Route`] and a body say, or the refusal that they earn (`specs/CallIn.antt`).
-//! - [`put_answer`] and [`answer_bytes`] write an answer, head and body (`specs/Answers.antt`); [`memory_answer`] and
-//!   [`storage_answer`] are the two that speak of the machine.
+//! - [`read_request`] finds the next request of a stream in the bytes that have come: a whole one, its fault, the end,
+//!   or that more bytes have to come. `specs/request/Requests.antt` says what a request is, and
+//!   `specs/request/Heard.antt` what is heard of it.
+//! - [`Routes`] says which line of the table of calls a method and a target are: a [`Route`], or that no path fits, or
+//!   that its path has another method (`specs/routing/Table.antt`).
+//! - [`call_of`] is the call that a [`Route`] and a body say, or the refusal that they earn
+//!   (`specs/bodies/BodyCalls.antt`).
+//! - [`put_answer`] and [`answer_bytes`] write an answer, head and body (`specs/answers/Answers.antt`);
+//!   [`memory_answer`] and [`storage_answer`] are the two that speak of the machine.
 //! - [`laws`] has what holds of the definitions by themselves, and [`output_laws`] that each input has one output
 //!   (`specs/Output.antt`): the answers to its requests, each served in the world that those before it have left;
 //!   [`size_laws`] says how long answers are, and that 131,072 bytes are room for each that tells an outcome.
-//! - [`stream_laws`] is for who serves a stream in parts: what a front of whole requests and the rest of an input come to,
-//!   and what is written at each end of a stream (`specs/Fronts.antt`, `specs/StreamEnds.antt`).
+//! - [`stream_laws`] is for who serves a stream in parts: what a front of whole requests and the rest of an input come
+//!   to, and what is written at each end of a stream (`specs/request/Fronts.antt`, `specs/StreamEnds.antt`).
+//!
+//! `request`, `routing`, `bodies` and `answers` have these four steps, each in `src`, `specs` and `proofs`. What speaks of
+//! whole streams stands beside them.
 #![tactic(auto)]
 
-mod answer;
-mod asked;
-mod body;
-mod commands;
-mod connection;
-mod content;
-mod files;
-mod head;
-mod last_words;
+mod answers;
+mod bodies;
 pub mod laws;
-mod line;
-mod lines;
-mod members;
-mod next;
-mod order_body;
-mod outcome;
 pub mod output_laws;
-mod piece;
 mod request;
-mod route;
 pub mod route_laws;
-mod routes;
+mod routing;
 pub mod size_laws;
-mod state_body;
 pub mod stream_laws;
-mod table;
-mod vehicle_body;
-mod words;
 
-pub use answer::{answer_bytes, put_answer};
-pub use asked::call_of;
-pub use last_words::{memory_answer, storage_answer};
-pub use request::{Heard, LentRequest, read_request};
-pub use route::Route;
-pub use routes::Routes;
+pub use answers::answer::{answer_bytes, put_answer};
+pub use answers::last_words::{memory_answer, storage_answer};
+pub use bodies::body_calls::call_of;
+pub use request::heard::{Heard, RequestRef, read_request};
+pub use routing::route::Route;
+pub use routing::routes::Routes;

@@ -13,14 +13,14 @@ ghost use Rattle.agv_desk.specs.Step.{step};
 ghost use Rattle.agv_desk.specs.Unchanged.{only_tells};
 ghost use Rattle.agv_header.specs.Name.{IsName};
 ghost use Rattle.agv_world.specs.Worlds.{World};
-ghost use Rattle.agv_http.specs.Answers.{answer_text};
-ghost use Rattle.agv_http.specs.CallIn.{call_in};
-ghost use Rattle.agv_http.specs.declared.route.Route.{Route};
-ghost use Rattle.agv_http.specs.Output.{call_for, outcome_for};
-ghost use Rattle.agv_http.specs.Requests.{IsRequest, Request, most_body};
-ghost use Rattle.agv_http.specs.Sizes.{IsBrief, IsNameIfAny, IsOrderShort, IsVehicleShort, is_outcome, most_answer, names_size, only_asks, outcome_room};
+ghost use Rattle.agv_http.specs.answers.Answers.{answer_text};
+ghost use Rattle.agv_http.specs.bodies.BodyCalls.{call_of_body};
+ghost use Rattle.agv_http.specs.declared.routing.route.Route.{Route};
+ghost use Rattle.agv_http.specs.Output.{call_of_request, outcome_for};
+ghost use Rattle.agv_http.specs.request.Requests.{IsRequest, Request, most_body};
+ghost use Rattle.agv_http.specs.answers.Sizes.{IsBrief, IsNameIfAny, IsOrderShort, IsVehicleShort, is_outcome, most_answer, names_size, only_asks, outcome_room};
 
-use crate::outcome::is_of_its_types;
+use crate::answers::outcome::is_of_its_types;
 use agv_desk::Answer;
 
 /// An answer that tells only what was done, or why not, has at most 1,024 bytes.
@@ -59,7 +59,7 @@ pub fn tells_outcomes()
 /// stocktake names no more unknown loads than stand in its file.
 pub fn outcomes_have_room()
     ensures { (seats : ℕ) (world : World) (at : ℕ) (route : Route) (body : List ℕ) (made : Call)
-        → call_in route body ≡ Ok made → length body ≤ most_body → only_tells made ≡ false
+        → call_of_body route body ≡ Ok made → length body ≤ most_body → only_tells made ≡ false
         → outcome_room (answer_of (step seats world at made)) ≤ most_answer }
 {}
 
@@ -67,7 +67,7 @@ pub fn outcomes_have_room()
 /// after it. It reads a name or a number of the answer and goes over nothing: a proof calls it for its clause.
 pub fn outcomes_fit(answer: &Answer)
     ensures { (seats : ℕ) (world : World) (at : ℕ) (route : Route) (body : List ℕ) (made : Call) (report : List ℕ) (close : Bool)
-        → call_in route body ≡ Ok made → length body ≤ most_body → only_tells made ≡ false
+        → call_of_body route body ≡ Ok made → length body ≤ most_body → only_tells made ≡ false
         → answer.now ≡ answer_of (step seats world at made)
         → length (answer_text answer.now report close) ≤ most_answer }
 {
@@ -84,7 +84,7 @@ pub fn bodies_fit()
 /// calls it for its clause.
 pub fn answers_fit(answer: &Answer)
     ensures { (seats : ℕ) (world : World) (at : ℕ) (bytes : List ℕ) (request : Request) (report : List ℕ) (close : Bool)
-        → IsRequest bytes request → only_asks (call_for request) ≡ false
+        → IsRequest bytes request → only_asks (call_of_request request) ≡ false
         → answer.now ≡ answer_of (outcome_for seats world at request)
         → length (answer_text answer.now report close) ≤ most_answer }
 {

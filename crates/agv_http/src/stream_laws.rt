@@ -7,14 +7,14 @@ ghost use Rattle.agv_desk.specs.Step.{steps};
 ghost use Rattle.agv_desk.specs.WellTyped.{AreWellTyped};
 ghost use Rattle.agv_header.specs.declared.refusal.Refusal.{Refusal};
 ghost use Rattle.agv_world.specs.Worlds.{World};
-ghost use Rattle.agv_http.specs.Cut.{Cut, Ending, at_end};
-ghost use Rattle.agv_http.specs.Fronts.{GoesOn};
-ghost use Rattle.agv_http.specs.Heard.{IsHeard};
-ghost use Rattle.agv_http.specs.Output.{IsOutput, answers_to, call_for, calls_of, outcome_for, world_after};
-ghost use Rattle.agv_http.specs.Requests.{Request};
-ghost use Rattle.agv_http.specs.Sizes.{only_asks};
+ghost use Rattle.agv_http.specs.request.Cut.{Cut, Ending, at_end};
+ghost use Rattle.agv_http.specs.request.Fronts.{GoesOn};
+ghost use Rattle.agv_http.specs.request.Heard.{IsHeard};
+ghost use Rattle.agv_http.specs.Output.{IsOutput, answers_to, call_of_request, calls_of, outcome_for, world_after};
+ghost use Rattle.agv_http.specs.request.Requests.{Request};
+ghost use Rattle.agv_http.specs.answers.Sizes.{only_asks};
 ghost use Rattle.agv_http.specs.StreamEnds.{EndsInMachineFault, IsFrontOf, IsReadFault, IsRefusedByMachine, IsServedToEnd, IsWriteFault};
-ghost use Rattle.agv_http.specs.declared.request.Heard.{Heard as HeardOf};
+ghost use Rattle.agv_http.specs.declared.request.heard.Heard.{Heard as HeardOf};
 
 use crate::output_laws::writes_one_output;
 use agv_desk::laws::calls::tells_without_change;
@@ -52,13 +52,13 @@ pub fn answers_in_turn()
 /// A request that is refused before it is a call leaves the world.
 pub fn refuses_without_change()
     ensures { (seats : ℕ) (world : World) (at : ℕ) (request : Request) (why : Refusal)
-        → call_for request ≡ Err why → after world (outcome_for seats world at request) ≡ world }
+        → call_of_request request ≡ Err why → after world (outcome_for seats world at request) ≡ world }
 {}
 
 /// So does a request which only asks to be told something.
 pub fn asks_without_change()
     ensures { (seats : ℕ) (world : World) (at : ℕ) (request : Request)
-        → only_asks (call_for request) ≡ true → after world (outcome_for seats world at request) ≡ world }
+        → only_asks (call_of_request request) ≡ true → after world (outcome_for seats world at request) ≡ world }
 {
     tells_without_change();
 }

@@ -6,7 +6,7 @@
 //! - `routes` has paths and methods, and the line of the table of calls that each is.
 //! - `bodies` has the bodies of requests, and the calls that they say.
 //! - `answers` has the bytes of answers.
-//! - `repeated` reads one request often, and puts one answer often, for `examples/measure-requests`.
+//! - `repeated` reads one request often, and puts one answer often, for `bench/requests`.
 #![tactic(auto)]
 
 #[cfg(test)]

@@ -1,4 +1,4 @@
-//! One request that is read often, and one answer that is put often: `examples/measure-requests` counts the
+//! One request that is read often, and one answer that is put often: `bench/requests` counts the
 //! instructions of each. The request is read to its call, and the answer is put where there is room for it.
 
 use crate::cases::check;

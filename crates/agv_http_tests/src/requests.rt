@@ -1,14 +1,14 @@
 //! Requests as their bytes come, with what is heard of each worked out by hand.
 
 use crate::cases::check_text;
-use agv_http::{Heard, LentRequest, read_request};
+use agv_http::{Heard, RequestRef, read_request};
 use std::alloc::Global;
 use std::process::Abort;
 use std::str;
 
 /// The method and the target, the body between two marks, whether the stream ends by the request, and how many
 /// bytes it takes.
-fn request_text(rt: &impl Abort, alloc: Global, request: &LentRequest<'_>) -> String {
+fn request_text(rt: &impl Abort, alloc: Global, request: &RequestRef<'_>) -> String {
     let method = request.method.as_str();
     let target = str::from_utf8(request.target).expect(rt, "target");
     let body = str::from_utf8(request.body).expect(rt, "body");

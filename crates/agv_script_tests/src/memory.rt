@@ -6,7 +6,7 @@ use crate::reports::report_of;
 use crate::steps::Step;
 use agv_desk::{Answer, Call, Decision, decide, moves_of};
 use agv_header::{Moment, Name, Refusal};
-use agv_http::{Heard, LentRequest, Routes, answer_bytes, call_of, read_request};
+use agv_http::{Heard, RequestRef, Routes, answer_bytes, call_of, read_request};
 use agv_message::BodyFault;
 use agv_stock::{Phase, Place};
 use agv_world::{PlainFloor, World};
@@ -20,7 +20,7 @@ pub(crate) const MOMENT: i64 = 1_700_000_000_000;
 pub(crate) type Asked = Result<Call, Refusal>;
 
 /// The call that a request is.
-fn call_in(rt: &impl Abort, alloc: Global, routes: &Routes, request: &LentRequest<'_>) -> Asked {
+fn call_in(rt: &impl Abort, alloc: Global, routes: &Routes, request: &RequestRef<'_>) -> Asked {
     let route = routes.route_of(&request.method, request.target)?;
     match call_of(alloc, &route, request.body) {
         Ok(call) => Ok(call),

@@ -1,14 +1,14 @@
 use Rattle.std.proofs.Common.{◌≡◌, ◌-◌, ◌<◌, [], List, ℕ, true, false, length, ap, ◌∙◌, subst, arith, refl}
 use Rattle.std.proofs.Math.ListN.{length-drop}
-use Rattle.agv_http.specs.declared.next.Next.{Next}
-use Rattle.agv_http.specs.declared.next.Next.TheVariants as next
-use Rattle.agv_http.specs.declared.next.TokenRequest.{TokenRequest}
-use Rattle.agv_http.specs.Next.{IsNext}
-use Rattle.agv_http.proofs.Cuts.{HasCut, cut_on, cut_at_end, cut_at_fault}
+use Rattle.agv_http.specs.declared.request.next.Next.{Next}
+use Rattle.agv_http.specs.declared.request.next.Next.TheVariants as next
+use Rattle.agv_http.specs.declared.request.next.RawRequest.{RawRequest}
+use Rattle.agv_http.specs.request.Next.{IsNext}
+use Rattle.agv_http.proofs.request.Cuts.{HasCut, cut_on, cut_at_end, cut_at_fault}
 use Rattle.agv_http.proofs.laws.has_a_cut.Goals as goal
 
 -- what comes next, where no request does
-cut_where : (bytes : List ℕ) (what : Next) → IsNext bytes true what → ((lent : TokenRequest) → what ≡ next.Request lent → ⊥) → HasCut bytes
+cut_where : (bytes : List ℕ) (what : Next) → IsNext bytes true what → ((lent : RawRequest) → what ≡ next.Request lent → ⊥) → HasCut bytes
 cut_where bytes next.Need told none = absurd (let ends : true ≡ false = told.0 in cc)
 cut_where bytes next.End told none = cut_at_end bytes told.1
 cut_where bytes (next.Fault fault) told none = cut_at_fault bytes fault (told [] (λ _. refl))

@@ -1,5 +1,5 @@
 use Rattle.std.proofs.Common.{length}
-use Rattle.agv_http.proofs.Cuts.{HasCut}
+use Rattle.agv_http.proofs.request.Cuts.{HasCut}
 use Rattle.agv_http.proofs.laws.has_a_cut.Given as goal
 
 -- where what is left has a cut, the input has one

@@ -1,4 +1,4 @@
-use Rattle.agv_http.proofs.Starting.{told_start}
+use Rattle.agv_http.proofs.request.Starting.{told_start}
 use Rattle.agv_http.proofs.laws.hears_the_start.Goals as goal
 
 pub returns : goal.returns

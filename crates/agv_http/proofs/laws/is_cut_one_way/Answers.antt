@@ -1,4 +1,4 @@
-use Rattle.agv_http.proofs.Cuts.{one_cut}
+use Rattle.agv_http.proofs.request.Cuts.{one_cut}
 use Rattle.agv_http.proofs.laws.is_cut_one_way.Goals as goal
 
 pub returns : goal.returns

@@ -1,4 +1,4 @@
-use Rattle.agv_http.proofs.Starting.{one_start}
+use Rattle.agv_http.proofs.request.Starting.{one_start}
 use Rattle.agv_http.proofs.laws.starts_one_way.Goals as goal
 
 pub returns : goal.returns

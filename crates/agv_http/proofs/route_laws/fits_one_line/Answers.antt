@@ -1,6 +1,6 @@
-use Rattle.agv_http.specs.Table.{table}
-use Rattle.agv_http.proofs.Apart.{names-clash, apart-pairs}
-use Rattle.agv_http.proofs.ServedLines.{table-apart}
+use Rattle.agv_http.specs.routing.Table.{table}
+use Rattle.agv_http.proofs.routing.Apart.{names-clash, apart-pairs}
+use Rattle.agv_http.proofs.routing.RouterLines.{table-apart}
 use Rattle.agv_http.proofs.route_laws.fits_one_line.Goals as goal
 
 pub returns : goal.returns

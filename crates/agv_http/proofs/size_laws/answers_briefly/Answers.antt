@@ -1,4 +1,4 @@
-use Rattle.agv_http.proofs.Lengths.{brief}
+use Rattle.agv_http.proofs.answers.Lengths.{brief}
 use Rattle.agv_http.proofs.size_laws.answers_briefly.Goals as goal
 
 pub returns : goal.returns

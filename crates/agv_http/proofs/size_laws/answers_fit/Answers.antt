@@ -1,4 +1,4 @@
-use Rattle.agv_http.proofs.Requested.{request_within}
+use Rattle.agv_http.proofs.answers.Requested.{request_within}
 use Rattle.agv_http.proofs.size_laws.answers_fit.Goals as goal
 
 pub returns : goal.returns

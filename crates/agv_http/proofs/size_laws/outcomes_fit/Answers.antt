@@ -1,4 +1,4 @@
-use Rattle.agv_http.proofs.Fitting.{text_within}
+use Rattle.agv_http.proofs.answers.Fitting.{text_within}
 use Rattle.agv_http.proofs.size_laws.outcomes_fit.Goals as goal
 
 pub returns : goal.returns

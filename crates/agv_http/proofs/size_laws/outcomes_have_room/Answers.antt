@@ -1,4 +1,4 @@
-use Rattle.agv_http.proofs.Fitting.{room_of}
+use Rattle.agv_http.proofs.answers.Fitting.{room_of}
 use Rattle.agv_http.proofs.size_laws.outcomes_have_room.Goals as goal
 
 pub returns : goal.returns

@@ -1,4 +1,4 @@
-use Rattle.agv_http.proofs.Fitting.{told_outcome}
+use Rattle.agv_http.proofs.answers.Fitting.{told_outcome}
 use Rattle.agv_http.proofs.size_laws.tells_outcomes.Goals as goal
 
 pub returns : goal.returns

@@ -1,0 +1,10 @@
+pub mod Escapes
+pub mod Fitting
+pub mod Ladders
+pub mod LastWords
+pub mod Lengths
+pub mod Outcomes
+pub mod RefusalNames
+pub mod Requested
+pub mod ShortRefusals
+pub mod Turning

@@ -1,0 +1,7 @@
+pub mod Answers
+pub mod Bodies
+pub mod Given
+pub mod Heads
+pub mod Pieces
+pub mod Sizes
+pub mod VehicleBody

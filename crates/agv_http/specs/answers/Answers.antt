@@ -1,0 +1,69 @@
+-- The desk's answers, to the byte (this project's table of calls; RFC 9112, section 6).
+use Rattle.std.specs.Prelude.{ℕ, Bool, List, [], ◌++◌, length, codes, Option, Some, None}
+use Rattle.serde_json.specs.Data.{Data}
+use Rattle.serde_json.specs.Written.{compact_text}
+use Rattle.agv_header.specs.Refusal.{status_of}
+use Rattle.agv_header.specs.declared.refusal.Refusal.TheVariants as refusal
+use Rattle.agv_header.specs.declared.refusal.Verb.{Verb}
+use Rattle.agv_message.specs.Instant.{instant_data}
+use Rattle.agv_message.specs.Order.{order_data}
+use Rattle.agv_desk.specs.declared.answer.Answer.{Answer}
+use Rattle.agv_desk.specs.declared.answer.Answer.TheVariants as answer
+use Rattle.agv_http.specs.answers.Bodies.{done_data, update_data, instructed_data, accepted_data, counted_data, load_data, refusal_data}
+use Rattle.agv_http.specs.answers.Heads.{head_text}
+use Rattle.agv_http.specs.answers.VehicleBody.{vehicle_data}
+
+-- the status code: that of the refusal, 204 where there is nothing to give, else 200
+abbrev pub answer_status : Answer → ℕ
+answer_status (answer.Refused r) = status_of r
+answer_status answer.NoMessage = 204
+answer_status _ = 200
+
+-- what a body is: none, a JSON value, or a report, whose bytes are handed in, as text or as CSV
+pub data Content : Type 0 where
+  nothing : Content
+  json : Data → Content
+  plain : Content
+  csv : Content
+
+-- the body of each answer
+abbrev pub answer_content : Answer → Content
+answer_content (answer.Refused r) = json (refusal_data r)
+answer_content answer.Done = json done_data
+answer_content (answer.Update n) = json (update_data n)
+answer_content (answer.Instructed n) = json (instructed_data n)
+answer_content (answer.Accepted accepted) = json (accepted_data accepted)
+answer_content answer.NoMessage = nothing
+answer_content (answer.Order header order) = json (order_data header order)
+answer_content (answer.Instant header instant) = json (instant_data header instant)
+answer_content (answer.Counted moved unknown) = json (counted_data moved unknown)
+answer_content (answer.Load load place job) = json (load_data load place job)
+answer_content (answer.Vehicle key row order) = json (vehicle_data key row order)
+answer_content answer.StockReport = plain
+answer_content answer.HoldReport = plain
+answer_content answer.LoadsExport = csv
+
+-- its media type
+abbrev pub media_type : Content → Option (List ℕ)
+media_type nothing = None
+media_type (json d) = Some (codes "application/json")
+media_type plain = Some (codes "text/plain")
+media_type csv = Some (codes "text/csv")
+
+-- its bytes: JSON without blanks, or the report
+abbrev pub content_text : Content → List ℕ → List ℕ
+content_text nothing report = []
+content_text (json d) report = compact_text d
+content_text plain report = report
+content_text csv report = report
+
+-- the method that alone serves the path, where the request's method doesn't
+abbrev pub allowed : Answer → Option Verb
+allowed (answer.Refused (refusal.BadMethod allow)) = Some allow
+allowed _ = None
+
+-- the bytes of the answer: its head, and its body. Only the answers that give a report look at the report
+unfoldable pub answer_text : Answer → List ℕ → Bool → List ℕ
+answer_text a report close =
+    let body = content_text (answer_content a) report in
+    head_text (answer_status a) (media_type (answer_content a)) (length body) (allowed a) close ++ body

@@ -1,0 +1,74 @@
+-- Which call a request is: a line of the table of calls with the names in its path, and the body.
+use Rattle.std.specs.Prelude.{ℕ, List, Bool, true, false, Result, Ok}
+use Rattle.agv_header.specs.declared.refusal.Refusal.{Refusal}
+use Rattle.agv_desk.specs.declared.call.Call.{Call}
+use Rattle.agv_desk.specs.declared.call.Call.TheVariants as call
+use Rattle.agv_http.specs.bodies.CommandBodies.{vehicle_from_json, load_from_json, correction_from_json, leave_from_json, job_from_json, advance_from_json, place_from_json}
+use Rattle.agv_http.specs.bodies.OrderBody.{order_in}
+use Rattle.agv_http.specs.bodies.Members.{json_in}
+use Rattle.agv_http.specs.bodies.StateBody.{state_in}
+use Rattle.agv_http.specs.bodies.CsvBodies.{layout_call, stocktake_call}
+use Rattle.agv_http.specs.declared.routing.route.Route.{Route}
+use Rattle.agv_http.specs.declared.routing.route.Route.TheVariants as route
+
+-- how the body of a line is read: as JSON or as CSV, which says a call or is refused; or not at all, since the path says the call
+pub data Reading : Type 0 where
+  Json : (said : List ℕ → Result Call Refusal) → Reading
+  Csv : (said : List ℕ → Result Call Refusal) → Reading
+  Unread : (call : Call) → Reading
+
+-- each line of the table of calls
+abbrev pub reading_of : Route → Reading
+reading_of route.SetLayout = Csv layout_call
+reading_of route.RegisterVehicle = Json (json_in vehicle_from_json)
+reading_of route.RegisterLoad = Json (json_in load_from_json)
+reading_of (route.CorrectLoad load) = Json (json_in (correction_from_json load))
+reading_of (route.LeaveLoad load) = Json (json_in (leave_from_json load))
+reading_of route.AddJob = Json (json_in job_from_json)
+reading_of (route.StopJob job) = Unread (call.StopJob job)
+reading_of route.StartOrder = Json order_in
+reading_of (route.Advance key) = Json (json_in (advance_from_json key))
+reading_of (route.Cancel key) = Unread (call.Cancel key)
+reading_of (route.Pause key) = Unread (call.Pause key)
+reading_of (route.Resume key) = Unread (call.Resume key)
+reading_of (route.PlaceVehicle key) = Json (json_in (place_from_json key))
+reading_of (route.Resync key) = Unread (call.Resync key)
+reading_of (route.State key) = Json (state_in key)
+reading_of (route.GetOrder key) = Unread (call.GetOrder key)
+reading_of (route.GetInstant key) = Unread (call.GetInstant key)
+reading_of (route.Stocktake reference) = Csv (stocktake_call reference)
+reading_of (route.GetLoad load) = Unread (call.GetLoad load)
+reading_of (route.GetVehicle key) = Unread (call.GetVehicle key)
+reading_of route.StockReport = Unread call.StockReport
+reading_of route.HoldReport = Unread call.HoldReport
+reading_of route.LoadsExport = Unread call.LoadsExport
+
+-- the call that a body says, read so
+abbrev pub said_by : Reading → List ℕ → Result Call Refusal
+said_by (Json said) body = said body
+said_by (Csv said) body = said body
+said_by (Unread call) body = Ok call
+
+-- the call that a request is, or why its body is refused
+unfoldable pub call_of_body : Route → List ℕ → Result Call Refusal
+call_of_body route body = said_by (reading_of route) body
+
+-- it is read as JSON
+abbrev pub reads_json : Reading → Bool
+reads_json (Json said) = true
+reads_json (Csv said) = false
+reads_json (Unread call) = false
+
+-- it is not looked at
+abbrev pub reads_nothing : Reading → Bool
+reads_nothing (Json said) = false
+reads_nothing (Csv said) = false
+reads_nothing (Unread call) = true
+
+-- the body of the line is JSON
+unfoldable pub is_json : Route → Bool
+is_json route = reads_json (reading_of route)
+
+-- the body of the line isn't looked at
+unfoldable pub is_unread : Route → Bool
+is_unread route = reads_nothing (reading_of route)

@@ -1,0 +1,5 @@
+pub mod Kept
+pub mod Paths
+pub mod Table
+pub mod TableLines
+pub mod Taken

@@ -1,0 +1,107 @@
+//! The head of an answer.
+ghost use Rattle.std.specs.Prelude.{◌≡◌, ◌<◌, ◌≤◌, [], ◌++◌, unwrap_or, option_map};
+ghost use Rattle.http.specs.StatusCode.{reason_phrase};
+ghost use Rattle.agv_http.specs.answers.Heads.{allow_line, connection_line, content_lines, head_text, line_end, status_line};
+ghost use Rattle.agv_message.specs.Appending.{Appended};
+
+use crate::answers::piece::{Piece, put_pieces};
+use agv_header::{Memory, Verb};
+use http::StatusCode;
+
+/// The canonical phrase of the status, or no text where it has none.
+fn reason_of(status: u16) -> &'static str
+    requires low { 100 ≤ status }
+    requires high { status < 1000 }
+    ensures { result.now ≡ unwrap_or (reason_phrase status) [] }
+{
+    match StatusCode::from_u16(status) {
+        Ok(code) => code.canonical_reason().unwrap_or(""),
+        Err(_) => unreachable!(),
+    }
+}
+
+/// Appends the status line.
+fn put_status_line(out: &mut Vec<u8>, status: u16) -> Result<(), Memory>
+    requires low { 100 ≤ status }
+    requires high { status < 1000 }
+    ensures { Appended result out.old out.new (status_line status) }
+{
+    let pieces = [
+        Piece::Text("HTTP/1.1 "),
+        Piece::Number(status as u64),
+        Piece::Text(" "),
+        Piece::Text(reason_of(status)),
+        Piece::Text("\r\n"),
+    ];
+    put_pieces(out, &pieces)
+}
+
+/// Appends the lines that tell the type and the length of the body, where there is one.
+fn put_content_lines(out: &mut Vec<u8>, kind: Option<&str>, len: usize) -> Result<(), Memory>
+    ensures { Appended result out.old out.new (content_lines (option_map (λ k. k.now) kind.entry) len) }
+{
+    match kind {
+        None => put_pieces(out, &[]),
+        Some(kind) => {
+            let pieces = [
+                Piece::Text("Content-Length: "),
+                Piece::Number(len as u64),
+                Piece::Text("\r\nContent-Type: "),
+                Piece::Text(kind),
+                Piece::Text("\r\n"),
+            ];
+            put_pieces(out, &pieces)
+        }
+    }
+}
+
+/// The line that names the method which alone serves the path.
+fn allow_text(allow: Option<Verb>) -> &'static str
+    ensures { result.now ≡ allow_line allow }
+{
+    match allow {
+        None => "",
+        Some(Verb::Get) => "Allow: GET\r\n",
+        Some(Verb::Post) => "Allow: POST\r\n",
+        Some(Verb::Put) => "Allow: PUT\r\n",
+        Some(Verb::Delete) => "Allow: DELETE\r\n",
+    }
+}
+
+/// The line that says that the stream ends.
+fn connection_text(close: bool) -> &'static str
+    ensures { result.now ≡ connection_line close }
+{
+    if close { "Connection: close\r\n" } else { "" }
+}
+
+/// Appends the last lines of the head.
+fn put_last_lines(out: &mut Vec<u8>, allow: Option<Verb>, close: bool) -> Result<(), Memory>
+    ensures { Appended result out.old out.new (allow_line allow ++ (connection_line close ++ line_end)) }
+{
+    let pieces = [
+        Piece::Text(allow_text(allow)),
+        Piece::Text(connection_text(close)),
+        Piece::Text("\r\n"),
+    ];
+    put_pieces(out, &pieces)
+}
+
+/// Appends the head of an answer with this status, and with a body of that type and length where it has one.
+pub fn put_head(
+    out: &mut Vec<u8>,
+    status: u16,
+    kind: Option<&str>,
+    len: usize,
+    allow: Option<Verb>,
+    close: bool,
+) -> Result<(), Memory>
+    requires low { 100 ≤ status }
+    requires high { status < 1000 }
+    ensures { Appended result out.old out.new
+        (head_text status (option_map (λ k. k.now) kind.entry) len allow close) }
+{
+    put_status_line(out, status)?;
+    put_content_lines(out, kind, len)?;
+    put_last_lines(out, allow, close)
+}

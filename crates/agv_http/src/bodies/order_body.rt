@@ -1,0 +1,167 @@
+//! Bodies that ask for an order.
+ghost use Rattle.std.specs.Prelude.{◌≡◌, false, Ok, Err, IfErr, IfOk, codes, map, option_and_then, option_map};
+ghost use Rattle.std.specs.Str.{is_utf8};
+ghost use Rattle.serde_json.specs.View.{view};
+ghost use Rattle.agv_header.specs.Each.{each};
+ghost use Rattle.agv_header.specs.declared.refusal.Refusal.TheVariants as refusal;
+ghost use Rattle.agv_http.specs.bodies.OrderBody.{both_stops, kind_of, listed_stops, order_in, order_from_json, stop_in, stops_from_json};
+ghost use Rattle.agv_http.specs.bodies.Members.{name_at};
+ghost use Rattle.agv_message.specs.Body.{IsFaultOf};
+ghost use Rattle.agv_message.specs.Member.{has, items_at, text_at};
+ghost use Rattle.agv_message.specs.declared.body.BodyFault.TheVariants as fault;
+
+use crate::bodies::members::{key, member, name, whole};
+use agv_desk::Call;
+use agv_header::{Memory, Name, Refusal};
+use agv_message::{ActKind, BodyFault, Sequence, read_body};
+use agv_order::Stop;
+use serde_json::Value;
+use std::alloc::Global;
+
+fn kind_of(text: &[u8]) -> Option<ActKind>
+    ensures { result ≡ kind_of text.now }
+{
+    if text == b"pick".as_slice() {
+        Some(ActKind::Pick)
+    } else if text == b"drop".as_slice() {
+        Some(ActKind::Drop)
+    } else {
+        None
+    }
+}
+
+#[tactic(auto, unfolding(agv_message::specs::Member::text_at))]
+fn kind(stop: &Value) -> Option<ActKind>
+    ensures { result ≡ option_and_then kind_of (text_at (codes "action") (view stop.now)) }
+{
+    kind_of(member(stop, "action")?.as_str()?.as_bytes())
+}
+
+/// The stop that a value is.
+#[tactic(auto, unfolding(crate::specs::bodies::OrderBody::stop_in))]
+fn stop_in(value: &Value) -> Option<Stop>
+    ensures { result ≡ stop_in (view value.now) }
+{
+    let kind = kind(value)?;
+    let job = name(value, "job")?;
+    Some(Stop { kind, job })
+}
+
+/// The stops that the values are, in their order.
+fn stops_in(alloc: Global, values: &[Value]) -> Result<Option<Sequence<Stop>>, Memory>
+    ensures { IfOk result (λ said. said ≡ each stop_in (map view values.now)) }
+{
+    let mut stops = Vec::new(alloc);
+    for value in values {
+        let Some(stop) = stop_in(value) else {
+            return Ok(None);
+        };
+        stops.push(stop)?;
+    }
+    Ok(Some(stops.into()))
+}
+
+/// The values of the array `stops`.
+#[tactic(auto, unfolding(agv_message::specs::Member::items_at))]
+fn listed(order: &Value) -> Option<&[Value]>
+    ensures { option_map (λ values. map view values.now) result ≡ items_at (codes "stops") (view order.now) }
+{
+    Some(member(order, "stops")?.as_array()?.as_slice())
+}
+
+#[tactic(auto, unfolding(crate::specs::bodies::OrderBody::listed_stops))]
+fn listed_stops(alloc: Global, order: &Value) -> Result<Option<Sequence<Stop>>, Memory>
+    ensures { IfOk result (λ said. said ≡ listed_stops (view order.now)) }
+{
+    match listed(order) {
+        Some(values) => stops_in(alloc, values),
+        None => Ok(None),
+    }
+}
+
+/// The two stops of a job.
+fn both_stops(alloc: Global, job: &Name) -> Result<Sequence<Stop>, Memory>
+    ensures { IfOk result (λ stops. stops ≡ both_stops job.now) }
+{
+    let pick = Stop {
+        kind: ActKind::Pick,
+        job: *job,
+    };
+    let drop = Stop {
+        kind: ActKind::Drop,
+        job: *job,
+    };
+    let stops = Vec::from_slice(alloc, &[pick, drop])?;
+    Ok(stops.into())
+}
+
+fn job_stops(alloc: Global, order: &Value) -> Result<Option<Sequence<Stop>>, Memory>
+    ensures { IfOk result (λ said. said ≡ option_map both_stops (name_at (codes "job") (view order.now))) }
+{
+    match name(order, "job") {
+        Some(job) => Ok(Some(both_stops(alloc, &job)?)),
+        None => Ok(None),
+    }
+}
+
+fn has(object: &Value, name: &str) -> bool
+    ensures { result ≡ has name.now (view object.now) }
+{
+    member(object, name).is_some()
+}
+
+/// The stops of the order: those of its one job, or those that it lists.
+#[tactic(auto, unfolding(crate::specs::bodies::OrderBody::stops_from_json))]
+fn stops_from_json(alloc: Global, order: &Value) -> Result<Option<Sequence<Stop>>, Memory>
+    ensures { IfOk result (λ said. said ≡ stops_from_json (view order.now)) }
+{
+    if !has(order, "stops") {
+        return job_stops(alloc, order);
+    }
+    if has(order, "job") {
+        return Ok(None);
+    }
+    listed_stops(alloc, order)
+}
+
+#[tactic(auto, unfolding(crate::specs::bodies::OrderBody::order_from_json))]
+fn order_from_json(alloc: Global, body: &Value) -> Result<Option<Call>, Memory>
+    ensures { IfOk result (λ said. said ≡ order_from_json (view body.now)) }
+{
+    let Some(order) = name(body, "order") else {
+        return Ok(None);
+    };
+    let Some(key) = key(body) else {
+        return Ok(None);
+    };
+    let Some(edges) = whole(body, "edges") else {
+        return Ok(None);
+    };
+    let Some(stops) = stops_from_json(alloc, body)? else {
+        return Ok(None);
+    };
+    Ok(Some(Call::StartOrder {
+        order,
+        key,
+        stops,
+        edges,
+    }))
+}
+
+/// The call that the body of `POST /orders` makes.
+///
+/// `Refused`, with the first of these that holds: what [`read_body`] refuses, and `BadBody` where a member is absent
+/// or of the wrong kind, or where there are both a `job` and `stops` or neither. `Memory` where an allocation was
+/// refused, which a body that is not UTF-8 doesn't ask for.
+#[tactic(auto, unfolding(crate::specs::bodies::OrderBody::order_in, crate::specs::bodies::Members::json_in))]
+pub fn order_in(alloc: Global, body: &[u8]) -> Result<Call, BodyFault>
+    ensures ok { IfOk result (λ call. order_in body.now ≡ Ok call) }
+    ensures err { IfErr result (λ fault. IsFaultOf fault (order_in body.now)) }
+    ensures no_text { is_utf8 body.now ≡ false → result ≡ Err (fault.Refused refusal.BadJson) }
+{
+    let value = read_body(alloc, body)?;
+    match order_from_json(alloc, &value)? {
+        Some(call) => Ok(call),
+        None => Err(BodyFault::Refused(Refusal::BadBody)),
+    }
+}

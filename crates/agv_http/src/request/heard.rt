@@ -1,0 +1,82 @@
+//! The next request of a stream, with its method.
+ghost use Rattle.std.specs.Prelude.{◌≡◌, ◌≤◌, ◌<◌, length, IfOk, IfErr, IsOk};
+ghost use Rattle.http_header.specs.Token.{IsToken};
+ghost use Rattle.agv_http.specs.request.Heard.{IsHeard, HasLongMethod};
+
+use crate::request::next::{Next, RawRequest, next_request};
+use agv_header::{Memory, Refusal};
+use http::Method;
+use http::method::MethodError;
+use std::alloc::Global;
+
+/// A request, lent from the bytes that it came in.
+#[derive(Drop)]
+pub struct RequestRef<'b> {
+    /// The token that the head begins with. Its case counts.
+    pub method: Method,
+    /// The target as it stands: nothing in it is decoded.
+    pub target: &'b [u8],
+    pub body: &'b [u8],
+    /// It is the last of its stream: HTTP/1.0, or an element `close` of a Connection line.
+    pub close: bool,
+    /// How many bytes it takes.
+    pub len: usize,
+}
+
+/// What is heard of the next request on a stream.
+#[derive(Drop)]
+pub enum Heard<'b> {
+    /// More bytes have to come first.
+    Need,
+    /// The stream has ended, and no byte is left.
+    End,
+    Request(RequestRef<'b>),
+    /// What is left begins with no request: `BadHead`, `NoLength`, `TooLarge` or `Coding`. Nothing after
+    /// it is looked at.
+    Fault(Refusal),
+}
+
+/// The method that a token is.
+fn method_of(alloc: Global, token: &[u8]) -> Result<Method, Memory>
+    requires { IsToken token.now }
+    ensures method { IfOk result (λ method. method ≡ token.now) }
+    ensures short { length token.now ≤ 15 → IsOk result }
+{
+    match Method::from_bytes(alloc, token) {
+        Ok(method) => Ok(method),
+        Err(MethodError::OutOfMemory) => Err(Memory),
+        Err(MethodError::Invalid) => unreachable!(),
+    }
+}
+
+/// The request, with its method.
+fn with_method<'b>(alloc: Global, next: &RawRequest<'b>) -> Result<RequestRef<'b>, Memory>
+    requires { IsToken next.now.method.now }
+    ensures parts { IfOk result (λ lent. (lent.method ≡ next.now.method.now) × (lent.target.now ≡ next.now.target.now) × (lent.body.now ≡ next.now.body.now) × (lent.close ≡ next.now.close) × (lent.len ≡ next.now.len)) }
+    ensures short { length next.now.method.now ≤ 15 → IsOk result }
+{
+    Ok(RequestRef {
+        method: method_of(alloc, next.method)?,
+        target: next.target,
+        body: next.body,
+        close: next.close,
+        len: next.len,
+    })
+}
+
+/// The next request that the bytes begin with, or why there is none yet, or none at all.
+/// `ended` says that no byte follows.
+///
+/// The bytes that `NeedsMore` are fewer than 73,728. `http` keeps a method of up to 15 bytes with no
+/// memory, so `Memory` comes only where a request has a longer one.
+pub fn read_request(alloc: Global, buf: &[u8], ended: bool) -> Result<Heard<'_>, Memory>
+    ensures heard { IfOk result (λ heard. IsHeard buf.now ended heard) }
+    ensures long { IfErr result (λ _. HasLongMethod buf.now) }
+{
+    match next_request(buf, ended) {
+        Next::Need => Ok(Heard::Need),
+        Next::End => Ok(Heard::End),
+        Next::Fault(refusal) => Ok(Heard::Fault(refusal)),
+        Next::Request(next) => Ok(Heard::Request(with_method(alloc, &next)?)),
+    }
+}
