@@ -3,7 +3,7 @@ ghost use Rattle.std.specs.Prelude.{◌≡◌};
 ghost use Rattle.agv_app.specs.Runs.{end_by, end_of, fault_line, opening_fault, said_of, status_of, status_without};
 
 use crate::line::LineFault;
-use agv_face::{Ended, StreamSummary, StreamFault};
+use agv_face::{Ended, StreamFault, StreamSummary};
 use agv_header::Refusal;
 use agv_store::OpenFault;
 use clap::Error;

@@ -10,7 +10,7 @@ ghost use Rattle.agv_app.specs.declared.outcome.RunFault.TheVariants as fault;
 use crate::line::{Line, ReportKind};
 use crate::outcome::{RunFault, end_of};
 use agv_desk::Answer;
-use agv_face::{StreamSummary, StreamFault, CountingIo, serve_stream, write_whole};
+use agv_face::{CountingIo, StreamFault, StreamSummary, serve_stream, write_whole};
 use agv_header::Moment;
 use agv_memory::MemoryFile;
 use agv_memory::laws::stores_in_memory_are_clean;

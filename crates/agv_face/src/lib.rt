@@ -20,13 +20,13 @@
 
 mod bytes;
 mod call;
+mod counting_io;
 mod next;
 mod reply;
-mod stream_end;
 mod stream;
-mod counting_io;
+mod stream_end;
 
 pub use bytes::write_whole;
-pub use stream_end::{Ended, StreamSummary, StreamFault};
-pub use stream::{serve_stream, serve_stream_within};
 pub use counting_io::CountingIo;
+pub use stream::{serve_stream, serve_stream_within};
+pub use stream_end::{Ended, StreamFault, StreamSummary};

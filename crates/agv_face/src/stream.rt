@@ -7,9 +7,9 @@ ghost use Rattle.agv_face.specs.CountingIo.{HadCallsAtMost};
 ghost use Rattle.agv_http.specs.answers.Sizes.{most_answer};
 
 use crate::bytes::{LONGEST_REQUEST, drop_front, read_some, write_whole};
-use crate::next::{Next, serve_next};
-use crate::stream_end::{Ended, StreamSummary, StreamFault};
 use crate::counting_io::CountingIo;
+use crate::next::{Next, serve_next};
+use crate::stream_end::{Ended, StreamFault, StreamSummary};
 use agv_header::{Memory, Moment, Refusal};
 use agv_http::stream_laws::{answers_in_turn, hears_how_it_goes_on};
 use agv_http::{Routes, memory_answer, storage_answer};

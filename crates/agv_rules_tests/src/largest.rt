@@ -92,7 +92,11 @@ fn check_stations(rt: &impl Abort, alloc: Global, layout: &Layout) {
             *id == numbered(rt, alloc, 'S', i),
             "the name of a station",
         );
-        check(rt, *spot == StationSite { node, capacity }, "where a station is");
+        check(
+            rt,
+            *spot == StationSite { node, capacity },
+            "where a station is",
+        );
         i = i.saturating_add(1);
     }
     check(rt, i == 500, "500 stations");

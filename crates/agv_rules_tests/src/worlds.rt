@@ -97,10 +97,22 @@ const LAYOUT: [(&str, &str); 8] = [
     ("N2", "(true, None, None)"),
     ("N3", "(true, None, None)"),
     ("N4", "(false, None, None)"),
-    ("E12", "(false, Some(EdgeEnds { start: N1, finish: N2 }), None)"),
-    ("E23", "(false, Some(EdgeEnds { start: N2, finish: N3 }), None)"),
-    ("A", "(false, None, Some(StationSite { node: N1, capacity: 1 }))"),
-    ("B", "(false, None, Some(StationSite { node: N3, capacity: 2 }))"),
+    (
+        "E12",
+        "(false, Some(EdgeEnds { start: N1, finish: N2 }), None)",
+    ),
+    (
+        "E23",
+        "(false, Some(EdgeEnds { start: N2, finish: N3 }), None)",
+    ),
+    (
+        "A",
+        "(false, None, Some(StationSite { node: N1, capacity: 1 }))",
+    ),
+    (
+        "B",
+        "(false, None, Some(StationSite { node: N3, capacity: 2 }))",
+    ),
 ];
 
 #[test]

@@ -5,7 +5,7 @@ use crate::desks::{made, no_tables};
 use crate::fakes::{Drip, Trickle};
 use crate::memory::MOMENT;
 use crate::steps::Step;
-use agv_face::{Ended, StreamSummary, StreamFault, CountingIo, serve_stream};
+use agv_face::{CountingIo, Ended, StreamFault, StreamSummary, serve_stream};
 use agv_header::Moment;
 use agv_store::Desk;
 use sqlite::MemStore;

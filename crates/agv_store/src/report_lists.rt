@@ -15,7 +15,7 @@ ghost use Rattle.agv_store.specs.ReportLists.{entered};
 
 use crate::keyed_floor::KeyedFloor;
 use agv_header::{Memory, Name, Thing, VehicleKey};
-use agv_layout::{StationSite, Station};
+use agv_layout::{Station, StationSite};
 use agv_stock::Place;
 use agv_tables::HeldThings;
 use agv_world::{ByVehicle, Fault, Floor, VehicleRow};

@@ -12,7 +12,8 @@ use agv_order::Act;
 use agv_stock::{Phase, Place};
 use agv_tables::changes::change_running::write_changes;
 use agv_tables::queries::key_queries::{
-    query_edge, query_holder, query_job, query_node, query_place, query_station, query_used, query_vehicle,
+    query_edge, query_holder, query_job, query_node, query_place, query_station, query_used,
+    query_vehicle,
 };
 use agv_tables::queries::layout_reading::query_layout;
 use agv_tables::queries::load_queries::{query_job_of, query_loads_on, query_reserved, query_room};

@@ -3,7 +3,7 @@
 use crate::cases::{check_stream, new_desk};
 use crate::examples::{FIRST, FIRST_ANSWERS, NO_LOAD};
 use crate::fakes::{Drip, Trickle};
-use agv_face::{Ended, StreamSummary, StreamFault};
+use agv_face::{Ended, StreamFault, StreamSummary};
 use agv_header::Refusal;
 use std::alloc::Global;
 use std::process::Abort;

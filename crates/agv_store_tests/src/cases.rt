@@ -3,7 +3,7 @@
 
 use crate::fakes::{Drip, Trickle};
 use crate::table_cases::{made, moment};
-use agv_face::{StreamSummary, StreamFault, CountingIo, serve_stream};
+use agv_face::{CountingIo, StreamFault, StreamSummary, serve_stream};
 use agv_store::Desk;
 use sqlite::{Alter, Connection, MemStore};
 use std::alloc::Global;

@@ -6,7 +6,7 @@ use crate::disks::{FailingDisk, close, open, reopen};
 use crate::examples::{DONE, NO_LOAD};
 use crate::fakes::{Drip, Trickle};
 use crate::table_cases::{adopted, made, moment};
-use agv_face::{Ended, StreamSummary, StreamFault, serve_stream};
+use agv_face::{Ended, StreamFault, StreamSummary, serve_stream};
 use agv_header::Refusal;
 use agv_store::Desk;
 use sqlite::{Connection, FileStore, Files, Options};

@@ -4,7 +4,7 @@ use crate::cases::{check, check_stream, new_desk};
 use crate::examples::{AGAIN, AGAIN_ANSWERS, DONE, FIRST, FIRST_ANSWERS, NO_LOAD};
 use crate::fakes::{Drip, Patient, Tally, Trickle};
 use crate::table_cases::moment;
-use agv_face::{Ended, StreamSummary, StreamFault, CountingIo, serve_stream, serve_stream_within};
+use agv_face::{CountingIo, Ended, StreamFault, StreamSummary, serve_stream, serve_stream_within};
 use agv_header::Refusal;
 use agv_http::laws::has_a_cut;
 use std::alloc::Global;

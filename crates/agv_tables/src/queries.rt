@@ -5,10 +5,10 @@
 //! [`reading_fault::ReadingFault`] says why there is no answer. Whatever the database has, an answer changes nothing, and a failure
 //! that leaves the store open nothing but that it may end the transaction and so undo it.
 
-pub(crate) mod queried_rows;
 pub mod key_queries;
 pub mod layout_reading;
 pub mod load_queries;
+pub(crate) mod queried_rows;
 pub(crate) mod reading_fault;
 pub mod station_loads;
 pub mod trip_queries;

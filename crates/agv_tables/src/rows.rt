@@ -8,6 +8,7 @@
 //!   edges tell the trip whole.
 //! - `world_table` names a table that is written, `row_of` a look-up by the key, `rows_by` one by other columns.
 
+pub(crate) mod decode_row;
 pub(crate) mod decode_value;
 pub(crate) mod key_values;
 pub mod row_fits;
@@ -16,7 +17,6 @@ pub mod row_list_laws;
 pub(crate) mod row_of;
 pub(crate) mod row_values;
 pub(crate) mod rows_by;
-pub(crate) mod decode_row;
 pub mod trip_laws;
 pub mod trip_line;
 pub(crate) mod words;

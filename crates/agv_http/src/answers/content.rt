@@ -4,7 +4,9 @@ ghost use Rattle.agv_http.specs.answers.Answers.{allowed, answer_content, answer
 ghost use Rattle.agv_http.specs.answers.Given.{head_of, turned};
 ghost use Rattle.agv_message.specs.Appending.{Appended};
 
-use crate::answers::body::{put_accepted, put_counted, put_instructed, put_load, put_refusal, put_update};
+use crate::answers::body::{
+    put_accepted, put_counted, put_instructed, put_load, put_refusal, put_update,
+};
 use crate::answers::head::put_head;
 use crate::answers::vehicle_body::put_vehicle;
 use agv_desk::Answer;

@@ -8,8 +8,8 @@ ghost use Rattle.agv_http.specs.bodies.BodyCalls.{call_of_body, is_json, is_unre
 
 use crate::Route;
 use crate::bodies::commands::{
-    advance_from_json, correction_from_json, job_from_json, leave_from_json, load_from_json, or_bad_body, place_from_json,
-    vehicle_from_json,
+    advance_from_json, correction_from_json, job_from_json, leave_from_json, load_from_json,
+    or_bad_body, place_from_json, vehicle_from_json,
 };
 use crate::bodies::csv_bodies::{layout_call, stocktake_call};
 use crate::bodies::order_body::order_in;
@@ -37,7 +37,10 @@ pub fn call_of(alloc: Global, route: &Route, body: &[u8]) -> Result<Call, BodyFa
         Route::SetLayout => layout_call(alloc, body),
         Route::RegisterVehicle => or_bad_body(vehicle_from_json(&read_body(alloc, body)?)),
         Route::RegisterLoad => or_bad_body(load_from_json(&read_body(alloc, body)?)),
-        Route::CorrectLoad { load } => or_bad_body(correction_from_json(load, &read_body(alloc, body)?)),
+        Route::CorrectLoad { load } => or_bad_body(correction_from_json(
+            load,
+            &read_body(alloc, body)?,
+        )),
         Route::LeaveLoad { load } => or_bad_body(leave_from_json(load, &read_body(alloc, body)?)),
         Route::AddJob => or_bad_body(job_from_json(&read_body(alloc, body)?)),
         Route::StopJob { job } => Ok(Call::StopJob { job: *job }),

@@ -41,7 +41,11 @@ fn write_node<S: Alter>(tx: &mut Transaction<'_, S>, id: &Name) -> Result<usize,
 }
 
 // The edge has these ends.
-fn write_edge<S: Alter>(tx: &mut Transaction<'_, S>, id: &Name, ends: &EdgeEnds) -> Result<usize, Error>
+fn write_edge<S: Alter>(
+    tx: &mut Transaction<'_, S>,
+    id: &Name,
+    ends: &EdgeEnds,
+) -> Result<usize, Error>
     ensures same_reference { tx.new.conn.ghost_name ≡ tx.old.conn.ghost_name }
     ensures survives { Survives (state S.Store tx.old.conn.now) (state S.Store tx.new.conn.now) (λ _. ⊥) }
     ensures kept { HasCleanDisk (state S.Store tx.new.conn.now) → KeepsCommit (state S.Store tx.old.conn.now) (state S.Store tx.new.conn.now) }

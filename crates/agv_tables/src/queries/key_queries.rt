@@ -12,12 +12,12 @@ ghost use Rattle.agv_tables.specs.queries.WorldAnswers.{AnswersQuery};
 
 use crate::ReadingFault;
 use crate::queries::queried_rows::query_rows;
-use crate::rows::key_values::{hold_key_values, name_key_values, vehicle_key_values};
-use crate::rows::row_of::RowOf;
-use crate::rows::row_values::used_values;
 use crate::rows::decode_row::{
     decode_edge, decode_hold, decode_job, decode_load, decode_station, decode_vehicle,
 };
+use crate::rows::key_values::{hold_key_values, name_key_values, vehicle_key_values};
+use crate::rows::row_of::RowOf;
+use crate::rows::row_values::used_values;
 use agv_header::{Name, Thing, VehicleKey};
 use agv_layout::{EdgeEnds, StationSite};
 use agv_stock::Place;
@@ -144,7 +144,10 @@ fn ends_in_rows(rows: &[Row]) -> Result<Option<EdgeEnds>, ReadingFault>
 /// Where an edge leads; none where it is unknown.
 ///
 /// It fails as [`ReadingFault`] says.
-pub fn query_edge<S: Alter>(conn: &mut Connection<S>, id: &Name) -> Result<Option<EdgeEnds>, ReadingFault>
+pub fn query_edge<S: Alter>(
+    conn: &mut Connection<S>,
+    id: &Name,
+) -> Result<Option<EdgeEnds>, ReadingFault>
     ensures { AnswersQuery S.Store conn.old conn.new result (λ world ends. ends ≡ map.get world.layout.edges id.now) }
 {
     let rows = query_rows(conn, RowOf::Edge, &name_key_values(id))?;

@@ -15,12 +15,12 @@ ghost use Rattle.agv_tables.specs.queries.FirstRow.{first_key_in};
 ghost use Rattle.agv_tables.specs.queries.WorldAnswers.{AnswersQuery};
 
 use crate::ReadingFault;
-use crate::queries::queried_rows::query_rows_by;
 use crate::queries::key_queries::query_station;
+use crate::queries::queried_rows::query_rows_by;
+use crate::rows::decode_row::decode_job;
 use crate::rows::key_values::{name_key_values, vehicle_key_values};
 use crate::rows::row_values::name_value;
 use crate::rows::rows_by::RowsBy;
-use crate::rows::decode_row::decode_job;
 use crate::rows::words::phase_text;
 use agv_header::{Name, VehicleKey};
 use agv_stock::{Phase, room_left};
@@ -48,7 +48,10 @@ pub fn query_loads_on<S: Alter>(
 }
 
 // How many loads are at a station.
-fn query_load_count<S: Alter>(conn: &mut Connection<S>, station: &Name) -> Result<usize, ReadingFault>
+fn query_load_count<S: Alter>(
+    conn: &mut Connection<S>,
+    station: &Name,
+) -> Result<usize, ReadingFault>
     ensures { AnswersQuery S.Store conn.old conn.new result (λ world count. count ≡ length (loads_at world station.now)) }
 {
     let rows = query_rows_by(conn, RowsBy::StationLoads, &name_key_values(station))?;

@@ -10,12 +10,12 @@ ghost use Rattle.agv_tables.specs.queries.FirstRow.{first_whole_in};
 ghost use Rattle.agv_tables.specs.rows.DecodedTrips.{line_for, tables_of, told_by_line};
 ghost use Rattle.agv_tables.specs.queries.WorldAnswers.{AnswersQuery};
 
-use crate::queries::queried_rows::query_rows_by;
 use crate::queries::key_queries::{query_edge, query_job};
+use crate::queries::queried_rows::query_rows_by;
 use crate::readings::row_tables::legs_in_rows;
+use crate::rows::decode_row::decode_trip;
 use crate::rows::key_values::{name_key_values, vehicle_key_values};
 use crate::rows::rows_by::RowsBy;
-use crate::rows::decode_row::decode_trip;
 use crate::rows::trip_laws::rows_tell_trips;
 use crate::{ReadingFault, TripLine};
 use agv_header::{Name, VehicleKey};

@@ -10,7 +10,8 @@ ghost use Rattle.agv_tables.specs.readings.ReadTables.{Reads, read_members, read
 
 use crate::ReadingFault;
 use crate::rows::decode_row::{
-    decode_edge, decode_job, decode_leg, decode_load, decode_node, decode_station, decode_used, decode_vehicle,
+    decode_edge, decode_job, decode_leg, decode_load, decode_node, decode_station, decode_used,
+    decode_vehicle,
 };
 use agv_header::VehicleKey;
 use agv_layout::{EdgeEnds, StationSite};
@@ -58,7 +59,10 @@ pub(crate) fn edges_in_rows(alloc: Global, rows: &[Row]) -> Result<ByName<EdgeEn
 }
 
 /// The table that these rows tell.
-pub(crate) fn stations_in_rows(alloc: Global, rows: &[Row]) -> Result<ByName<StationSite>, ReadingFault>
+pub(crate) fn stations_in_rows(
+    alloc: Global,
+    rows: &[Row],
+) -> Result<ByName<StationSite>, ReadingFault>
     ensures { Reads result (read_rows station_in map.empty rows.now) }
 {
     let mut table = ByName::new(alloc);

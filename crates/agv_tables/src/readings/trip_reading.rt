@@ -15,8 +15,8 @@ ghost use Rattle.agv_tables.specs.declared.schema.table_name.TableName.TheVarian
 use crate::ReadingFault;
 use crate::queries::queried_rows::query_all_rows;
 use crate::readings::table_reading::query_jobs;
-use crate::rows::row_list_laws::lawful_worlds_carry_one_each;
 use crate::rows::decode_row::decode_trip;
+use crate::rows::row_list_laws::lawful_worlds_carry_one_each;
 use crate::rows::trip_laws::rows_tell_trips;
 use crate::schema::table_name::TableName;
 use agv_header::{Memory, Name};
