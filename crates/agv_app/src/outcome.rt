@@ -10,21 +10,28 @@ use clap::Error;
 use std::fmt;
 
 /// Why a run came to no end, as the program says it.
-#[derive(Clone, Copy, Debug, PartialEq, Eq)]
+#[derive(Clone, Copy, Debug, PartialEq, Eq, thiserror::Error)]
 pub enum RunFault {
     /// The file has no tables of a desk, or what they have breaks a rule of the desk.
+    #[error("the file has no desk's tables, or what they have breaks a rule of the desk")]
     Damaged,
     /// Want of memory.
+    #[error("want of memory")]
     Memory,
     /// A fault of the store: the file can't be opened, read or written.
+    #[error("the file can't be opened, read or written")]
     Storage,
     /// Standard input can't be read.
+    #[error("standard input can't be read")]
     Read,
     /// Standard output can't be written.
+    #[error("standard output can't be written")]
     Write,
     /// The port can't be listened on, or a connection can't be had.
+    #[error("the port can't be listened on, or a connection can't be had")]
     Net,
     /// The clock shows no moment from 1970 to 2099.
+    #[error("the clock shows no moment from 1970 to 2099")]
     Clock,
 }
 

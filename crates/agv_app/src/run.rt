@@ -25,11 +25,13 @@ use std::net::{Ipv4Addr, SocketAddr, SocketAddrV4, TcpListener};
 use std::time::{SystemTime, UNIX_EPOCH};
 
 /// Why no connection was served.
-#[derive(Clone, Copy, Debug, PartialEq, Eq)]
+#[derive(Clone, Copy, Debug, PartialEq, Eq, thiserror::Error)]
 pub enum NextFault {
     /// None could be had.
+    #[error("no connection could be had")]
     Net,
     /// The clock shows no moment from 1970 to 2099.
+    #[error("the clock shows no moment from 1970 to 2099")]
     Clock,
 }
 

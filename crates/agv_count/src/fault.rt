@@ -5,10 +5,9 @@ ghost use Rattle.agv_count.specs.declared.fault.CsvFault.TheVariants as fault;
 
 use csv::{Error, ErrorKind};
 use std::alloc::AllocFailed;
-use thiserror::Error;
 
 /// Why a file isn't read.
-#[derive(Clone, Copy, Debug, PartialEq, Eq, Error)]
+#[derive(Clone, Copy, Debug, PartialEq, Eq, thiserror::Error)]
 pub enum CsvFault {
     /// The file isn't the table that it should be.
     #[error("the file isn't the table that it should be")]

@@ -95,7 +95,7 @@ fn decide_each<F: Floor>(
 /// still open; that holds, and the answer is so, where the floor's store has given back what was written to it.
 ///
 /// `Memory` where an allocation was refused, `Storage` where the floor has failed.
-#[tactic(auto, using(crate::proofs::Deciding::of_size))]
+#[tactic(auto, using(crate::proofs::outcomes::Deciding::of_size))]
 pub fn decide<F: Floor>(
     alloc: Global,
     floor: &mut F,

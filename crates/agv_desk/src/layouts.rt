@@ -73,7 +73,7 @@ fn layout_changes(alloc: Global, layout: &Layout) -> Result<Vec<Change>, Memory>
 }
 
 // The layout that the rows give is set.
-#[tactic(auto, using(crate::proofs::Laying::is_why))]
+#[tactic(auto, using(crate::proofs::row_changes::Laying::is_why))]
 fn lay(alloc: Global, rows: &[LayoutRow]) -> Result<Decision, NotSet>
     ensures laid { IfOk result (λ decision. decision ≡ decided (lay rows.now)) }
     ensures why { IfErr result (λ why. IsWhy (lay rows.now) why) }

@@ -1,6 +1,7 @@
 //! How the serving of a stream ends.
 
 use agv_header::Refusal;
+use thiserror::Error;
 
 /// Why a stream was served to its end.
 #[derive(Clone, Copy, Debug, PartialEq, Eq)]
@@ -24,14 +25,16 @@ pub struct StreamSummary {
 }
 
 /// Why a stream was left before its end. The desk can go on.
-#[derive(Clone, Copy, Debug, PartialEq, Eq)]
+#[derive(Clone, Copy, Debug, PartialEq, Eq, Error)]
 pub enum StreamFault {
     /// A read failed, or the stream has had the most reads and needs one more.
+    #[error("a read failed, behind {answers} answers")]
     Read {
         /// How many answers were written: those to all requests that had come whole.
         answers: u64,
     },
     /// A write failed, or took no byte. The call whose answer was cut stands.
+    #[error("a write failed, behind {answers} answers")]
     Write {
         /// How many answers were written whole.
         answers: u64,

@@ -4,7 +4,7 @@ use Rattle.agv_world.specs.Asks.{Facts, IsFaulted, Kept, Asks, failed_after}
 use Rattle.agv_world.specs.Worlds.{World}
 use Rattle.agv_world.specs.declared.fault.Fault.{Fault}
 use Rattle.agv_world.specs.declared.fault.Fault.TheVariants.{Memory, Storage}
-use Rattle.agv_world.proofs.Asking.{answers, faults, left, stays}
+use Rattle.agv_world.proofs.lists.Asking.{answers, faults, left, stays}
 use Rattle.agv_script_tests.specs.Within.{facts_beside}
 
 module _ {S T A : Type 0} (inner : T → S) (failed : T → Bool) (f : Facts S) (old new : T) (says : World → A → Type 0) where

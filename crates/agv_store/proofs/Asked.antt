@@ -10,7 +10,7 @@ use Rattle.agv_world.specs.Questions.{count_of}
 use Rattle.agv_world.specs.Worlds.{World}
 use Rattle.agv_world.specs.declared.fault.Fault.{Fault}
 use Rattle.agv_world.specs.declared.fault.Fault.TheVariants as machine
-use Rattle.agv_world.proofs.Asking.{answers, fault_after, faults, retold, still_here}
+use Rattle.agv_world.proofs.lists.Asking.{answers, fault_after, faults, retold, still_here}
 use Rattle.agv_tables.specs.queries.WorldAnswers.{HasWorld, AnswersQuery}
 use Rattle.agv_tables.specs.readings.WorldIn.{world_in}
 use Rattle.agv_tables.specs.rows.DeskRows.{Placing}

@@ -18,7 +18,7 @@ use Rattle.agv_world.specs.Worlds.{World}
 use Rattle.agv_world.specs.declared.change.Change.{Change}
 use Rattle.agv_world.specs.declared.fault.Fault.{Fault}
 use Rattle.agv_world.specs.declared.fault.Fault.TheVariants as machine
-use Rattle.agv_world.proofs.Asking.{left, stays}
+use Rattle.agv_world.proofs.lists.Asking.{left, stays}
 use Rattle.agv_desk.specs.Outcomes.{answer_of}
 use Rattle.agv_desk.specs.declared.answer.Answer.{Answer}
 use Rattle.agv_desk.specs.declared.answer.Decision.{Decision}

@@ -9,7 +9,7 @@ use Rattle.agv_world.specs.Rows.{rows_of}
 use Rattle.agv_world.specs.Worlds.{World}
 use Rattle.agv_world.specs.declared.fault.Fault.{Fault}
 use Rattle.agv_world.specs.declared.fault.Fault.TheVariants as machine
-use Rattle.agv_world.proofs.Asking.{answers, kept_here, left}
+use Rattle.agv_world.proofs.lists.Asking.{answers, kept_here, left}
 use Rattle.agv_desk.specs.InOrder.{IsInOrder}
 use Rattle.agv_desk.specs.Outcomes.{after, decided}
 use Rattle.agv_desk.specs.Sizes.{IsWithinTripLimits}

@@ -4,19 +4,23 @@ ghost use Rattle.agv_store.specs.OpenFaults.{of_making, of_reading};
 
 use agv_header::Memory;
 use agv_tables::{MakingFault, ReadingFault};
+use thiserror::Error;
 
 /// Why a database gives no desk.
-#[derive(Clone, Copy, Debug, PartialEq, Eq)]
+#[derive(Clone, Copy, Debug, PartialEq, Eq, Error)]
 pub enum OpenFault {
     /// For [`Desk::create`](crate::Desk::create): a name of the desk's tables is taken, a foreign key refers to one of them,
     /// or two tables lie in one tree.
     /// For [`Desk::adopt`](crate::Desk::adopt) and [`Desk::open`](crate::Desk::open): the database has the rows of no lawful
     /// world, or a table is missing or is another.
+    #[error("the database's tables are no desk's, or have the rows of no lawful world")]
     Damaged,
     /// Want of memory.
+    #[error("want of memory")]
     Memory,
     /// Any other error of the database: the store failed or was shut by an earlier failure, or the steps of its queries are
     /// limited.
+    #[error("the database failed")]
     Storage,
 }
 

@@ -18,13 +18,13 @@ pub fn holds_are_footprints()
 {}
 
 /// Two worlds in good order that have the same rows are one.
-#[tactic(auto, using(crate::proofs::Unique::one_world))]
+#[tactic(auto, using(crate::proofs::world_rows::Unique::one_world))]
 pub fn rows_tell_the_world()
     ensures { (world other : World) → InGoodOrder world → InGoodOrder other → rows_of world ≡ rows_of other → world ≡ other }
 {}
 
 /// The tables of a world in good order tell that world.
-#[tactic(auto, using(crate::proofs::WorldTold::told_world))]
+#[tactic(auto, using(crate::proofs::told_worlds::WorldTold::told_world))]
 pub fn tables_tell_the_world()
     ensures { (tables : Tables) (world : World) → Keeps tables world → InGoodOrder world → world_of tables ≡ world }
 {}

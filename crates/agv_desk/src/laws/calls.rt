@@ -46,7 +46,7 @@ pub fn leads_to_the_rows()
 }
 
 /// The rows of loads that a call changes are its moves, in their order.
-#[tactic(auto, using(crate::proofs::MovesTold::moves_told))]
+#[tactic(auto, using(crate::proofs::row_changes::MovesTold::moves_told))]
 pub fn moves_are_told()
     ensures { (effect : Effect) → moves_in (changes_of effect) ≡ moves_made effect }
 {}

@@ -10,15 +10,18 @@ use std::alloc::{AllocError, AllocFailed};
 ///
 /// Wherever these tables stand, whatever rows they have, a query that fails so and leaves the store open changes
 /// nothing, but that it may end the transaction and so undo it.
-#[derive(Clone, Copy, Debug, PartialEq, Eq)]
+#[derive(Clone, Copy, Debug, PartialEq, Eq, thiserror::Error)]
 pub enum ReadingFault {
     /// Want of memory.
+    #[error("want of memory")]
     Memory,
     /// The store failed, or was shut by an earlier failure.
+    #[error("the database failed")]
     Storage,
     /// A row of a table tells no row of the world, or what it tells is told already or stands on a row that isn't there:
     /// a key that another row has, a trip without its job or its edges. Tables that have the rows of a lawful world
     /// are never damaged.
+    #[error("the rows of the desk's tables tell no world")]
     Damaged,
 }
 

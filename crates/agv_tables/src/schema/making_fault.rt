@@ -5,13 +5,16 @@ ghost use Rattle.agv_tables.specs.schema.MakingFault.{making_fault_of};
 use sqlite::{Error, ErrorCode};
 
 /// Why the desk's tables aren't made.
-#[derive(Clone, Copy, Debug, PartialEq, Eq)]
+#[derive(Clone, Copy, Debug, PartialEq, Eq, thiserror::Error)]
 pub enum MakingFault {
     /// A table, a view or an index has the name of one of the desk's tables.
+    #[error("a table, a view or an index has the name of one of the desk's tables")]
     Taken,
     /// Want of memory.
+    #[error("want of memory")]
     Memory,
     /// Any other error of the database, as that the store failed or was shut by an earlier failure.
+    #[error("the database failed")]
     Storage,
 }
 

@@ -1,9 +1,9 @@
 use Rattle.std.proofs.Common.{◌++◌, refl}
 use Rattle.std.specs.List.{zip}
-use Rattle.agv_world.proofs.Asking.{retold}
-use Rattle.agv_desk.proofs.ActJobs.{job_rows, rows-more}
-use Rattle.agv_desk.proofs.AskedInTurn.{asked_next, says_so}
-use Rattle.agv_desk.proofs.Pairs.{all_made, no_more, one_more}
+use Rattle.agv_world.proofs.lists.Asking.{retold}
+use Rattle.agv_desk.proofs.row_changes.ActJobs.{job_rows, rows-more}
+use Rattle.agv_desk.proofs.lists.AskedInTurn.{asked_next, says_so}
+use Rattle.agv_desk.proofs.lists.Pairs.{all_made, no_more, one_more}
 use Rattle.agv_desk.proofs.acts.write_jobs.Goals as goal
 
 pub loop-act-preserved : goal.loop-act-preserved

@@ -1,5 +1,5 @@
 use Rattle.std.proofs.Common.{◌∙◌}
-use Rattle.agv_desk.proofs.Laying.{is_laid}
+use Rattle.agv_desk.proofs.row_changes.Laying.{is_laid}
 use Rattle.agv_desk.proofs.layouts.lay.Goals as goal
 
 pub returns-clause-laid : goal.returns-clause-laid

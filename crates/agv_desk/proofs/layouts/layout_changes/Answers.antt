@@ -1,7 +1,7 @@
 use Rattle.std.proofs.Common.{rules, ◌≤◌, ◌++◌, ◌∙◌, ap, sym, length, map}
 use Rattle.std.proofs.lemmas.List.{append-nil, at_drop_all}
 use Rattle.agv_desk.specs.LayoutSteps.{row_written}
-use Rattle.agv_desk.proofs.Laying.{rows_written}
+use Rattle.agv_desk.proofs.row_changes.Laying.{rows_written}
 use Rattle.agv_desk.proofs.layouts.layout_changes.Goals as goal
 
 pub returns : goal.returns

@@ -1,8 +1,8 @@
 use Rattle.std.proofs.Common.{◌≡◌, Some}
 use Rattle.agv_desk.specs.OrderSteps.{job_for}
-use Rattle.agv_desk.proofs.AskedInTurn.{asked_next, says_so}
-use Rattle.agv_desk.proofs.Each.{after-read}
-use Rattle.agv_desk.proofs.FoundJobs.{found_more, read_job}
+use Rattle.agv_desk.proofs.lists.AskedInTurn.{asked_next, says_so}
+use Rattle.agv_desk.proofs.lists.Each.{after-read}
+use Rattle.agv_desk.proofs.trip_acts.FoundJobs.{found_more, read_job}
 use Rattle.agv_desk.proofs.order_jobs.jobs_for.Goals as goal
 
 pub loop-stop-preserved : goal.loop-stop-preserved

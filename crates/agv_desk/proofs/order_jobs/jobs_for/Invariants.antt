@@ -2,7 +2,7 @@ use Rattle.std.proofs.Common.{◌≡◌, drop}
 use Rattle.agv_world.specs.Asks.{Answers}
 use Rattle.agv_desk.specs.FoundJobs.{AreFound}
 use Rattle.agv_desk.specs.OrderSteps.{jobs_for}
-use Rattle.agv_desk.proofs.Each.{after}
+use Rattle.agv_desk.proofs.lists.Each.{after}
 use Rattle.agv_desk.proofs.order_jobs.jobs_for.Given as goal
 
 abbrev pub invariant-loop-stop : goal.invariant-loop-stop

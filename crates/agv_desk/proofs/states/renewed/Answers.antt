@@ -1,6 +1,6 @@
 use Rattle.std.proofs.Common.{map, refl}
 use Rattle.agv_track.specs.Reports.{with_status}
-use Rattle.agv_desk.proofs.Pairs.{all_made, no_more}
+use Rattle.agv_desk.proofs.lists.Pairs.{all_made, no_more}
 use Rattle.agv_desk.proofs.states.renewed.Goals as goal
 
 pub returns : goal.returns

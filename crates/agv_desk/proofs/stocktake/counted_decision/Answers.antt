@@ -4,7 +4,7 @@ use Rattle.agv_world.specs.declared.change.Change.TheVariants as row
 use Rattle.agv_desk.specs.LoadAndJobSteps.{reference_key}
 use Rattle.agv_desk.specs.Outcomes.{decided}
 use Rattle.agv_desk.specs.declared.answer.Answer.TheVariants as answer
-use Rattle.agv_desk.proofs.CountedWhole.{move_rows}
+use Rattle.agv_desk.proofs.stocktakes.CountedWhole.{move_rows}
 use Rattle.agv_desk.proofs.stocktake.counted_decision.Goals as goal
 
 pub returns : goal.returns

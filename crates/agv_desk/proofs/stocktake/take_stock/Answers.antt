@@ -3,10 +3,10 @@ use Rattle.agv_world.specs.Worlds.{World}
 use Rattle.agv_desk.specs.CountParts.{AreCounted, AreFound, count_by_parts, counted_loads}
 use Rattle.agv_desk.specs.Outcomes.{Outcome, decided}
 use Rattle.agv_desk.specs.StocktakeSteps.{are_known, count_loads, has_twice}
-use Rattle.agv_desk.proofs.AskedInTurn.{answers_last, asked_next}
-use Rattle.agv_desk.proofs.CountedStations.{Spots}
-use Rattle.agv_desk.proofs.FoundLoads.{Found}
-use Rattle.agv_desk.proofs.CountedWhole.{by_parts, opened}
+use Rattle.agv_desk.proofs.lists.AskedInTurn.{answers_last, asked_next}
+use Rattle.agv_desk.proofs.stocktakes.CountedStations.{Spots}
+use Rattle.agv_desk.proofs.stocktakes.FoundLoads.{Found}
+use Rattle.agv_desk.proofs.stocktakes.CountedWhole.{by_parts, opened}
 use Rattle.agv_desk.proofs.stocktake.take_stock.Goals as goal
 
 pub returns : goal.returns

@@ -1,5 +1,5 @@
-use Rattle.agv_world.proofs.Asking.{retold}
-use Rattle.agv_desk.proofs.VehicleRows.{put_down_told}
+use Rattle.agv_world.proofs.lists.Asking.{retold}
+use Rattle.agv_desk.proofs.row_changes.VehicleRows.{put_down_told}
 use Rattle.agv_desk.proofs.vehicles.put_down.Goals as goal
 
 pub returns : goal.returns

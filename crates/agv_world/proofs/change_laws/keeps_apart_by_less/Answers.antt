@@ -1,4 +1,4 @@
-use Rattle.agv_world.proofs.Stays.{apart_by_less}
+use Rattle.agv_world.proofs.row_changes.Stays.{apart_by_less}
 use Rattle.agv_world.proofs.change_laws.keeps_apart_by_less.Goals as goal
 
 pub returns : goal.returns

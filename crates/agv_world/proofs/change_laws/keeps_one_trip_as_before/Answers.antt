@@ -1,4 +1,4 @@
-use Rattle.agv_world.proofs.Followed.{once_after}
+use Rattle.agv_world.proofs.row_changes.Followed.{once_after}
 use Rattle.agv_world.proofs.change_laws.keeps_one_trip_as_before.Goals as goal
 
 pub returns : goal.returns

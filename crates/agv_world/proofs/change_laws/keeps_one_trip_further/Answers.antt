@@ -1,4 +1,4 @@
-use Rattle.agv_world.proofs.Stays.{one_trip_further}
+use Rattle.agv_world.proofs.row_changes.Stays.{one_trip_further}
 use Rattle.agv_world.proofs.change_laws.keeps_one_trip_further.Goals as goal
 
 pub returns : goal.returns

@@ -1,4 +1,4 @@
-use Rattle.agv_world.proofs.Written.{loads_written}
+use Rattle.agv_world.proofs.row_changes.Written.{loads_written}
 use Rattle.agv_world.proofs.change_laws.moves_loads.Goals as goal
 
 pub returns : goal.returns

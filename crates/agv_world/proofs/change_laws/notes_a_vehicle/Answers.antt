@@ -1,4 +1,4 @@
-use Rattle.agv_world.proofs.Followed.{noted}
+use Rattle.agv_world.proofs.row_changes.Followed.{noted}
 use Rattle.agv_world.proofs.change_laws.notes_a_vehicle.Goals as goal
 
 pub returns : goal.returns

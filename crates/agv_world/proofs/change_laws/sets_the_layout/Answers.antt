@@ -1,4 +1,4 @@
-use Rattle.agv_world.proofs.Written.{layout_written}
+use Rattle.agv_world.proofs.row_changes.Written.{layout_written}
 use Rattle.agv_world.proofs.change_laws.sets_the_layout.Goals as goal
 
 pub returns : goal.returns

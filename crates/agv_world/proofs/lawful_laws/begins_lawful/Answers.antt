@@ -1,4 +1,4 @@
-use Rattle.agv_world.proofs.LawfulOrder.{empty_lawful}
+use Rattle.agv_world.proofs.lawful_worlds.LawfulOrder.{empty_lawful}
 use Rattle.agv_world.proofs.lawful_laws.begins_lawful.Goals as goal
 
 pub returns : goal.returns

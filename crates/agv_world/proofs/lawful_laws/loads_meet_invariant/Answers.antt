@@ -1,6 +1,6 @@
-use Rattle.agv_world.proofs.StockInvariantMade.{stock_made}
-use Rattle.agv_world.proofs.StockInvariantTold.{loads_told}
-use Rattle.agv_world.proofs.CapacityCounts.{StopLaws}
+use Rattle.agv_world.proofs.lawful_worlds.StockInvariantMade.{stock_made}
+use Rattle.agv_world.proofs.lawful_worlds.StockInvariantTold.{loads_told}
+use Rattle.agv_world.proofs.lawful_worlds.CapacityCounts.{StopLaws}
 use Rattle.agv_world.proofs.lawful_laws.loads_meet_invariant.Goals as goal
 
 pub returns : goal.returns

@@ -1,4 +1,4 @@
-use Rattle.agv_world.proofs.Holders.{holder_is}
+use Rattle.agv_world.proofs.world_rows.Holders.{holder_is}
 use Rattle.agv_world.proofs.laws.holds_are_footprints.Goals as goal
 
 pub returns : goal.returns

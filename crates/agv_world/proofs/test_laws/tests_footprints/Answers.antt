@@ -1,4 +1,4 @@
-use Rattle.agv_world.proofs.ApartTests.{apart, apart_again}
+use Rattle.agv_world.proofs.vehicle_tests.ApartTests.{apart, apart_again}
 use Rattle.agv_world.proofs.test_laws.tests_footprints.Goals as goal
 
 pub returns : goal.returns

@@ -1,9 +1,9 @@
 use Rattle.std.proofs.Common.{subst, sym}
 use Rattle.agv_world.specs.Kept.{Keeps}
 use Rattle.agv_world.specs.Lawful.{HasLawfulVehicles}
-use Rattle.agv_world.proofs.FitTests.{Below}
-use Rattle.agv_world.proofs.VehicleTests.{each_passed, kept, lawful_vehicles}
-use Rattle.agv_world.proofs.LawfulVehiclesPass.{told_again, vehicles_again}
+use Rattle.agv_world.proofs.vehicle_tests.FitTests.{Below}
+use Rattle.agv_world.proofs.vehicle_tests.VehicleTests.{each_passed, kept, lawful_vehicles}
+use Rattle.agv_world.proofs.vehicle_tests.LawfulVehiclesPass.{told_again, vehicles_again}
 use Rattle.agv_world.proofs.test_laws.tests_vehicles.Goals as goal
 
 pub returns-clause-told : goal.returns-clause-told

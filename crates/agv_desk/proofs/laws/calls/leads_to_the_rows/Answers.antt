@@ -1,5 +1,5 @@
-use Rattle.agv_desk.proofs.AllSteps.{leads_all}
-use Rattle.agv_desk.proofs.Given.{Given}
+use Rattle.agv_desk.proofs.row_changes.AllSteps.{leads_all}
+use Rattle.agv_desk.proofs.row_changes.Given.{Given}
 use Rattle.agv_desk.proofs.laws.calls.leads_to_the_rows.Goals as goal
 
 -- src/laws/calls.rt:20:1

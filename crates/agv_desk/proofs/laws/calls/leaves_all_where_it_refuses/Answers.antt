@@ -1,4 +1,4 @@
-use Rattle.agv_desk.proofs.CausedMoves.{refused_leaves}
+use Rattle.agv_desk.proofs.outcomes.CausedMoves.{refused_leaves}
 use Rattle.agv_desk.proofs.laws.calls.leaves_all_where_it_refuses.Goals as goal
 
 -- src/laws/calls.rt:60:1

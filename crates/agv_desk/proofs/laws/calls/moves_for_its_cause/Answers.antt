@@ -1,4 +1,4 @@
-use Rattle.agv_desk.proofs.CausedMoves.{moves_caused}
+use Rattle.agv_desk.proofs.outcomes.CausedMoves.{moves_caused}
 use Rattle.agv_desk.proofs.laws.calls.moves_for_its_cause.Goals as goal
 
 -- src/laws/calls.rt:68:1

@@ -1,4 +1,4 @@
-use Rattle.agv_desk.proofs.InTurn.{world_in_turn, answers_in_turn, moves_in_turn}
+use Rattle.agv_desk.proofs.lists.InTurn.{world_in_turn, answers_in_turn, moves_in_turn}
 use Rattle.agv_desk.proofs.laws.calls.serves_in_turn.Goals as goal
 
 pub returns-clause-world : goal.returns-clause-world

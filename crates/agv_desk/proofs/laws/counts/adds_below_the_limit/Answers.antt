@@ -1,4 +1,4 @@
-use Rattle.agv_desk.proofs.CountSteps.{adds_below}
+use Rattle.agv_desk.proofs.outcomes.CountSteps.{adds_below}
 use Rattle.agv_desk.proofs.laws.counts.adds_below_the_limit.Goals as goal
 
 pub returns : goal.returns

@@ -1,4 +1,4 @@
-use Rattle.agv_desk.proofs.CountSteps.{counts_follow}
+use Rattle.agv_desk.proofs.outcomes.CountSteps.{counts_follow}
 use Rattle.agv_desk.proofs.laws.counts.counts_follow.Goals as goal
 
 pub returns : goal.returns

@@ -1,4 +1,4 @@
-use Rattle.agv_desk.proofs.LawfulLists.{once_at_most}
+use Rattle.agv_desk.proofs.histories.LawfulLists.{once_at_most}
 use Rattle.agv_desk.proofs.laws.histories.carries_out_once.Goals as goal
 
 pub returns : goal.returns

@@ -1,4 +1,4 @@
-use Rattle.agv_desk.proofs.FoundInTurn.{each_drops, each_finds, found_in_turn}
+use Rattle.agv_desk.proofs.histories.FoundInTurn.{each_drops, each_finds, found_in_turn}
 use Rattle.agv_desk.proofs.laws.histories.finds_each_load_in_turn.Goals as goal
 
 pub returns-clause-calls : goal.returns-clause-calls

@@ -1,4 +1,4 @@
-use Rattle.agv_desk.proofs.RepeatedLists.{repeated_moves, repeated_holds, repeated_old}
+use Rattle.agv_desk.proofs.histories.RepeatedLists.{repeated_moves, repeated_holds, repeated_old}
 use Rattle.agv_desk.proofs.laws.histories.repeats_quietly.Goals as goal
 
 pub returns-clause-moves : goal.returns-clause-moves

@@ -1,4 +1,4 @@
-use Rattle.agv_desk.proofs.LawfulLists.{stays_lawful}
+use Rattle.agv_desk.proofs.histories.LawfulLists.{stays_lawful}
 use Rattle.agv_desk.proofs.laws.histories.stays_lawful.Goals as goal
 
 pub returns : goal.returns

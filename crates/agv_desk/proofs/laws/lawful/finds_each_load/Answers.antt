@@ -1,4 +1,4 @@
-use Rattle.agv_desk.proofs.LawfulSteps.{lawful_finds}
+use Rattle.agv_desk.proofs.lawful_worlds.LawfulSteps.{lawful_finds}
 use Rattle.agv_desk.proofs.laws.lawful.finds_each_load.Goals as goal
 
 pub returns : goal.returns

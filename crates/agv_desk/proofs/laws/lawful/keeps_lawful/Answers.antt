@@ -1,4 +1,4 @@
-use Rattle.agv_desk.proofs.LawfulSteps.{step_lawful}
+use Rattle.agv_desk.proofs.lawful_worlds.LawfulSteps.{step_lawful}
 use Rattle.agv_desk.proofs.laws.lawful.keeps_lawful.Goals as goal
 
 pub returns : goal.returns

@@ -1,5 +1,5 @@
-use Rattle.agv_desk.proofs.LawfulServed.{is_served}
-use Rattle.agv_desk.proofs.LawfulVehiclesWritten.{is_in_order}
+use Rattle.agv_desk.proofs.lawful_worlds.LawfulServed.{is_served}
+use Rattle.agv_desk.proofs.lawful_worlds.LawfulVehiclesWritten.{is_in_order}
 use Rattle.agv_desk.proofs.laws.lawful.serves_lawful_worlds.Goals as goal
 
 pub returns-clause-order : goal.returns-clause-order

@@ -1,4 +1,4 @@
-use Rattle.agv_desk.proofs.StockInvariantWhole.{acts_find}
+use Rattle.agv_desk.proofs.stock.StockInvariantWhole.{acts_find}
 use Rattle.agv_desk.proofs.laws.stock.acts_find_their_loads.Goals as goal
 
 pub returns : goal.returns

@@ -1,4 +1,4 @@
-use Rattle.agv_desk.proofs.StockInvariantWhole.{stock_joined}
+use Rattle.agv_desk.proofs.stock.StockInvariantWhole.{stock_joined}
 use Rattle.agv_desk.proofs.laws.stock.keeps_stock_invariant.Goals as goal
 
 pub returns : goal.returns

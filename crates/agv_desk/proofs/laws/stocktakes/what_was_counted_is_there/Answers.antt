@@ -1,4 +1,4 @@
-use Rattle.agv_desk.proofs.StockLaws.{stock_taken}
+use Rattle.agv_desk.proofs.stocktakes.StockLaws.{stock_taken}
 use Rattle.agv_desk.proofs.laws.stocktakes.what_was_counted_is_there.Goals as goal
 
 pub returns : goal.returns

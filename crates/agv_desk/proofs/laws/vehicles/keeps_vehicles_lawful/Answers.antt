@@ -1,6 +1,6 @@
-use Rattle.agv_desk.proofs.Given.{Given}
-use Rattle.agv_desk.proofs.LawfulVehicles.{lawful_after}
-use Rattle.agv_desk.proofs.LawfulVehiclesGiven.{GivenMore}
+use Rattle.agv_desk.proofs.row_changes.Given.{Given}
+use Rattle.agv_desk.proofs.lawful_worlds.LawfulVehicles.{lawful_after}
+use Rattle.agv_desk.proofs.lawful_worlds.LawfulVehiclesGiven.{GivenMore}
 use Rattle.agv_desk.proofs.laws.vehicles.keeps_vehicles_lawful.Goals as goal
 
 -- src/laws/vehicles.rt:22:1

@@ -1,9 +1,9 @@
 use Rattle.std.proofs.Common.{◌++◌, ◌+◌, List, drop, ap, ◌∙◌}
-use Rattle.agv_world.proofs.Asking.{retold}
+use Rattle.agv_world.proofs.lists.Asking.{retold}
 use Rattle.agv_desk.specs.CountParts.{counted_loads, with_counted_load}
 use Rattle.agv_desk.specs.declared.stocktake.counted_load.CountedLoad.{CountedLoad}
-use Rattle.agv_desk.proofs.AskedInTurn.{asked_next, says_so}
-use Rattle.agv_desk.proofs.SeenLoads.{looked_at_all, looked_more}
+use Rattle.agv_desk.proofs.lists.AskedInTurn.{asked_next, says_so}
+use Rattle.agv_desk.proofs.stocktakes.SeenLoads.{looked_at_all, looked_more}
 use Rattle.agv_desk.proofs.stocktake.counted_load_list.look_up.Goals as goal
 
 pub returns : goal.returns

@@ -1,4 +1,4 @@
-use Rattle.agv_desk.proofs.FoundLoads.{all_found, found_twice}
+use Rattle.agv_desk.proofs.stocktakes.FoundLoads.{all_found, found_twice}
 use Rattle.agv_desk.proofs.stocktake.found.found_loads.Goals as goal
 
 pub returns : goal.returns

@@ -1,10 +1,10 @@
 use Rattle.std.proofs.Common.{ap, ◌∙◌}
 use Rattle.std.specs.FinMap as map
-use Rattle.agv_world.proofs.Asking.{retold}
+use Rattle.agv_world.proofs.lists.Asking.{retold}
 use Rattle.agv_world.specs.Worlds.{World}
 use Rattle.agv_desk.specs.CountParts.{noted_station}
-use Rattle.agv_desk.proofs.AskedInTurn.{asked_next, says_so}
-use Rattle.agv_desk.proofs.CountedStations.{all_noted, unknown_row}
+use Rattle.agv_desk.proofs.lists.AskedInTurn.{asked_next, says_so}
+use Rattle.agv_desk.proofs.stocktakes.CountedStations.{all_noted, unknown_row}
 use Rattle.agv_desk.proofs.stocktake.stations.counted_stations.Goals as goal
 
 pub returns-then-not-branch : goal.returns-then-not-branch

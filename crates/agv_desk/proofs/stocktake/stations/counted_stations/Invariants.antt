@@ -1,7 +1,7 @@
 use Rattle.std.proofs.Common.{◌≡◌, drop}
 use Rattle.std.specs.FinMap as map
 use Rattle.agv_world.specs.Asks.{Answers}
-use Rattle.agv_desk.proofs.CountedStations.{gathered}
+use Rattle.agv_desk.proofs.stocktakes.CountedStations.{gathered}
 use Rattle.agv_desk.proofs.stocktake.stations.counted_stations.Given as goal
 
 abbrev pub invariant-loop-station : goal.invariant-loop-station

@@ -1,5 +1,5 @@
 use Rattle.std.proofs.Common.{◌<◌, ◌^◌, ℕ, sym, subst, ◌∙◌}
-use Rattle.agv_world.proofs.Asking.{retold}
+use Rattle.agv_world.proofs.lists.Asking.{retold}
 use Rattle.agv_store.proofs.ReportLists.{few_jobs}
 use Rattle.agv_store.proofs.keyed_floor.KeyedFloor.jobs_to.Goals as goal
 

@@ -2,7 +2,7 @@ use Rattle.std.proofs.Common.{ap, ◌∙◌}
 use Rattle.std.specs.FinMap as finite
 use Rattle.std.specs.Map.{keys_of}
 use Rattle.agv_header.specs.Key.{key_cmp}
-use Rattle.agv_world.proofs.Asking.{retold}
+use Rattle.agv_world.proofs.lists.Asking.{retold}
 use Rattle.agv_world.specs.declared.row.VehicleRow.{VehicleRow}
 use Rattle.agv_store.specs.Floors.{world_at}
 use Rattle.agv_store.proofs.ReportLists.{vehicles_same}

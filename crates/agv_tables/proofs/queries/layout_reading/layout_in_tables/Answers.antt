@@ -1,6 +1,6 @@
 use Rattle.std.proofs.Common.{◌≡◌, false, true, ap, ◌∙◌}
 use Rattle.agv_world.specs.Asks.{failed_after}
-use Rattle.agv_world.proofs.Asking.{left}
+use Rattle.agv_world.proofs.lists.Asking.{left}
 use Rattle.agv_tables.proofs.queries.layout_reading.layout_in_tables.Goals as goal
 
 -- the floor has no store that could have failed

@@ -1,6 +1,6 @@
 use Rattle.std.proofs.Common.{◌∙◌, ap}
 use Rattle.agv_world.specs.LoadTests.{are_within_capacity_among}
-use Rattle.agv_world.proofs.LoadsOfOthers.{within_capacity_on_vehicle}
+use Rattle.agv_world.proofs.load_tests.LoadsOfOthers.{within_capacity_on_vehicle}
 use Rattle.agv_world.proofs.world.World.are_within_capacity.Goals as goal
 
 pub returns : goal.returns

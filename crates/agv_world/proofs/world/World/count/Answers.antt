@@ -1,7 +1,7 @@
 use Rattle.std.proofs.Common.{◌∙◌, sym, ap}
 use Rattle.agv_world.specs.Questions.{count_of}
 use Rattle.agv_world.specs.Told.{world_of}
-use Rattle.agv_world.proofs.Counts.{len-vehicles_of}
+use Rattle.agv_world.proofs.told_worlds.Counts.{len-vehicles_of}
 use Rattle.agv_world.proofs.world.World.count.Goals as goal
 
 pub returns-in-Vehicles : goal.returns-in-Vehicles

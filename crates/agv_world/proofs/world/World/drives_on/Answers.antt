@@ -8,7 +8,7 @@ use Rattle.agv_layout.specs.declared.edge.Edge.{Edge}
 use Rattle.agv_track.specs.Footprints.{along, released_edges}
 use Rattle.agv_world.specs.Told.{edges_of, edge_named, is_among, is_of_order, trip_in}
 use Rattle.agv_world.specs.declared.key.LegKey.{LegKey}
-use Rattle.agv_world.proofs.HeldBy.{among-along}
+use Rattle.agv_world.proofs.told_worlds.HeldBy.{among-along}
 use Rattle.agv_world.proofs.world.World.drives_on.Goals as goal
 
 pub returns : goal.returns

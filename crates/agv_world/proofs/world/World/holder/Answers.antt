@@ -1,7 +1,7 @@
 use Rattle.std.proofs.Common.{◌∙◌, sym, ap, cond, option_map, Some}
 use Rattle.std.specs.List.{find}
 use Rattle.agv_world.specs.Told.{is_held_by}
-use Rattle.agv_world.proofs.Holding.{its_key, holder_of-told}
+use Rattle.agv_world.proofs.told_worlds.Holding.{its_key, holder_of-told}
 use Rattle.agv_world.proofs.world.World.holder.Goals as goal
 
 pub returns-then-is_holder : goal.returns-then-is_holder

@@ -1,7 +1,7 @@
 use Rattle.std.proofs.Common.{◌≡◌, ◌∙◌, sym, ap, cond, option_map, Some, None}
 use Rattle.std.specs.List.{find}
 use Rattle.agv_world.specs.Told.{names_vehicle, open_trip, trip_in}
-use Rattle.agv_world.proofs.HeldBy.{held_by}
+use Rattle.agv_world.proofs.told_worlds.HeldBy.{held_by}
 use Rattle.agv_world.proofs.world.World.is_holder.Goals as goal
 
 pub returns-then-eq : goal.returns-then-eq

@@ -1,7 +1,7 @@
 use Rattle.std.proofs.Common.{◌≡◌, ◌↔◌, ◌&&◌, Bool, true, ◌∙◌, sym}
 use Rattle.agv_world.specs.LawfulTests.{are_lawful_vehicles}
 use Rattle.agv_world.specs.LoadTests.{are_lawful_loads}
-use Rattle.agv_world.proofs.LawfulTold.{AreLawful, TestsVehicles, follows_ok, lawful_told}
+use Rattle.agv_world.proofs.load_tests.LawfulTold.{AreLawful, TestsVehicles, follows_ok, lawful_told}
 use Rattle.agv_world.proofs.world.World.is_lawful.Goals as goal
 
 pub returns : goal.returns

@@ -1,5 +1,5 @@
 use Rattle.std.proofs.Common.{sym, ◌∙◌}
-use Rattle.agv_world.proofs.Telling.{is_used-told}
+use Rattle.agv_world.proofs.told_worlds.Telling.{is_used-told}
 use Rattle.agv_world.proofs.world.World.is_used.Goals as goal
 
 pub returns : goal.returns

@@ -4,7 +4,7 @@ use Rattle.std.specs.List.{slice_get}
 use Rattle.std.proofs.lemmas.Iterator.Consumers.{YieldsList-from_filter, YieldsList-from_filter_map, YieldsList-from_rest, YieldsList-at, nth_from_yields_List}
 use Rattle.agv_world.specs.Told.{edges_of, edge_named, is_of_order}
 use Rattle.agv_world.specs.declared.key.LegKey.{LegKey}
-use Rattle.agv_world.proofs.HeldBy.{node_past}
+use Rattle.agv_world.proofs.told_worlds.HeldBy.{node_past}
 use Rattle.agv_world.proofs.world.World.node_reached.Goals as goal
 
 pub returns-in_err-edge : goal.returns-in_err-edge

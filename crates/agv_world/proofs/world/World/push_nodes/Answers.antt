@@ -1,7 +1,7 @@
 use Rattle.std.proofs.Common.{◌++◌, map, ap, ◌∙◌}
 use Rattle.agv_layout.specs.declared.row.LayoutRow.TheVariants as row
 use Rattle.agv_world.specs.Told.{layout_of_tables}
-use Rattle.agv_world.proofs.NodesOf.{nodes-shown}
+use Rattle.agv_world.proofs.told_worlds.NodesOf.{nodes-shown}
 use Rattle.agv_world.proofs.world.World.push_nodes.Goals as goal
 
 pub loop-id-init : goal.loop-id-init

@@ -1,6 +1,6 @@
 use Rattle.std.proofs.Common.{rules, ◌≡◌, ◌∙◌, sym, ap, subst, cond, is_some, true, None, IfOk}
 use Rattle.agv_world.specs.Told.{open_trip}
-use Rattle.agv_world.proofs.Telling.{trip_of-told}
+use Rattle.agv_world.proofs.told_worlds.Telling.{trip_of-told}
 use Rattle.agv_world.proofs.world.World.trip.Goals as goal
 
 pub returns : goal.returns

@@ -1,7 +1,7 @@
 use Rattle.std.proofs.Common.{rules, tests, ◌∙◌, sym}
 use Rattle.std.proofs.lemmas.Iterator.Consumers.{count_from_yields_List, YieldsList-from_filter, YieldsList-from_rest}
 use Rattle.agv_world.specs.Told.{is_in}
-use Rattle.agv_world.proofs.Counts.{len-names_of}
+use Rattle.agv_world.proofs.told_worlds.Counts.{len-names_of}
 use Rattle.agv_world.proofs.world.World.used_count.Goals as goal
 
 pub returns : goal.returns

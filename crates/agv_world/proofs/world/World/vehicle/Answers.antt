@@ -1,5 +1,5 @@
 use Rattle.std.proofs.Common.{sym, ◌∙◌}
-use Rattle.agv_world.proofs.Telling.{row_of-told}
+use Rattle.agv_world.proofs.told_worlds.Telling.{row_of-told}
 use Rattle.agv_world.proofs.world.World.vehicle.Goals as goal
 
 pub returns : goal.returns

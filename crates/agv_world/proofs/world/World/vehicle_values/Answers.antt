@@ -4,7 +4,7 @@ use Rattle.agv_header.specs.declared.key.VehicleKey.{VehicleKey}
 use Rattle.agv_world.specs.Values.{IsVehicleValue}
 use Rattle.agv_world.specs.declared.row.VehicleRow.{VehicleRow}
 use Rattle.agv_header.specs.KeyOrder.{key_cmp-IsAntisymmetric}
-use Rattle.agv_world.proofs.EachEntry.{entry-has}
+use Rattle.agv_world.proofs.lists.EachEntry.{entry-has}
 use Rattle.agv_world.proofs.world.World.vehicle_values.Goals as goal
 
 pub loop-row-init : goal.loop-row-init

@@ -1,11 +1,11 @@
 use Rattle.std.proofs.Common.{ap, ◌∙◌}
 use Rattle.std.specs.FinMap as map
-use Rattle.agv_world.proofs.Asking.{retold}
+use Rattle.agv_world.proofs.lists.Asking.{retold}
 use Rattle.agv_world.specs.Questions.{loads_at}
 use Rattle.agv_world.specs.Worlds.{World}
 use Rattle.agv_desk.specs.CountParts.{settled, standing_at}
-use Rattle.agv_desk.proofs.AskedInTurn.{asked_next, says_so}
-use Rattle.agv_desk.proofs.SettledLoads.{settled_more, settled_all}
+use Rattle.agv_desk.proofs.lists.AskedInTurn.{asked_next, says_so}
+use Rattle.agv_desk.proofs.stocktakes.SettledLoads.{settled_more, settled_all}
 use Rattle.agv_desk.proofs.stocktake.moves.Count.settle_standing.Goals as goal
 
 pub loop-station-preserved : goal.loop-station-preserved

@@ -1,7 +1,7 @@
 use Rattle.std.proofs.Common.{sym, ap, ◌∙◌}
 use Rattle.std.specs.FinMap as map
 use Rattle.agv_world.specs.KeyOrders.{leg_cmp-total}
-use Rattle.agv_world.proofs.Shown.{get-shown}
+use Rattle.agv_world.proofs.lists.Shown.{get-shown}
 use Rattle.agv_world.proofs.tables.by_leg.ByLeg.get.Goals as goal
 
 pub returns : goal.returns

@@ -1,7 +1,7 @@
 use Rattle.std.proofs.Common.{ap, ◌∙◌}
 use Rattle.std.specs.FinMap as map
 use Rattle.agv_world.specs.KeyOrders.{leg_cmp-total, leg_cmp-IsAntisymmetric}
-use Rattle.agv_world.proofs.Shown.{insert-shown}
+use Rattle.agv_world.proofs.lists.Shown.{insert-shown}
 use Rattle.agv_world.proofs.tables.by_leg.ByLeg.insert.Goals as goal
 
 pub returns-clause-ok : goal.returns-clause-ok

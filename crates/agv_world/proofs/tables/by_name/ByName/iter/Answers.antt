@@ -1,7 +1,7 @@
 use Rattle.std.proofs.Common.{sym, ap, ◌∙◌}
 use Rattle.std.specs.FinMap as map
-use Rattle.agv_world.proofs.Orders.{names_total, names_apart}
-use Rattle.agv_world.proofs.InOrder.{entries-shown}
+use Rattle.agv_world.proofs.lists.Orders.{names_total, names_apart}
+use Rattle.agv_world.proofs.lists.InOrder.{entries-shown}
 use Rattle.agv_world.proofs.tables.by_name.ByName.iter.Goals as goal
 
 pub returns : goal.returns

@@ -2,8 +2,8 @@ use Rattle.std.proofs.Common.{◌≡◌, ◌++◌, ◌∷◌, [], ℕ, List, sym
 use Rattle.std.specs.FinMap as map
 use Rattle.std.specs.Map.Iter.{deref_pair}
 use Rattle.std.proofs.lemmas.Map.Iter.{rest_more, rest_all}
-use Rattle.agv_world.proofs.Orders.{names_total}
-use Rattle.agv_world.proofs.Shown.{entries-shown}
+use Rattle.agv_world.proofs.lists.Orders.{names_total}
+use Rattle.agv_world.proofs.lists.Shown.{entries-shown}
 use Rattle.agv_world.proofs.tables.by_name.ByName.list.Goals as goal
 
 pub loop-key-init : goal.loop-key-init

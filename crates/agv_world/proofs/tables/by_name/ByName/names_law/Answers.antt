@@ -1,8 +1,8 @@
 use Rattle.std.proofs.Common.{sym, subst, List, ℕ, ◌∙◌}
 use Rattle.std.specs.List.{AllByRecursion}
 use Rattle.agv_header.specs.Name.{IsName}
-use Rattle.agv_world.proofs.Orders.{names_apart}
-use Rattle.agv_world.proofs.EachEntry.{entry-has}
+use Rattle.agv_world.proofs.lists.Orders.{names_apart}
+use Rattle.agv_world.proofs.lists.EachEntry.{entry-has}
 use Rattle.agv_world.proofs.tables.by_name.ByName.names_law.Goals as goal
 
 pub loop-id-init : goal.loop-id-init

@@ -3,7 +3,7 @@ use Rattle.std.specs.List.{AllByRecursion}
 use Rattle.agv_header.specs.declared.key.VehicleKey.{VehicleKey}
 use Rattle.agv_world.specs.Lawful.{IsKey}
 use Rattle.agv_header.specs.KeyOrder.{key_cmp-IsAntisymmetric}
-use Rattle.agv_world.proofs.EachEntry.{entry-has}
+use Rattle.agv_world.proofs.lists.EachEntry.{entry-has}
 use Rattle.agv_world.proofs.tables.by_vehicle.ByVehicle.are_keys.Goals as goal
 
 pub loop-key-init : goal.loop-key-init

@@ -1,7 +1,7 @@
 use Rattle.std.proofs.Common.{ap, ◌∙◌}
 use Rattle.std.specs.FinMap as map
 use Rattle.agv_header.specs.KeyOrder.{key_cmp-total, key_cmp-IsAntisymmetric}
-use Rattle.agv_world.proofs.Shown.{insert-shown}
+use Rattle.agv_world.proofs.lists.Shown.{insert-shown}
 use Rattle.agv_world.proofs.tables.by_vehicle.ByVehicle.insert.Goals as goal
 
 pub returns-clause-ok : goal.returns-clause-ok

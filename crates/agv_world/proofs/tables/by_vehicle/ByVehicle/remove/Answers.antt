@@ -1,7 +1,7 @@
 use Rattle.std.proofs.Common.{ap, ◌∙◌}
 use Rattle.std.specs.FinMap as map
 use Rattle.agv_header.specs.KeyOrder.{key_cmp-total, key_cmp-IsAntisymmetric}
-use Rattle.agv_world.proofs.Shown.{remove-shown}
+use Rattle.agv_world.proofs.lists.Shown.{remove-shown}
 use Rattle.agv_world.proofs.tables.by_vehicle.ByVehicle.remove.Goals as goal
 
 pub returns : goal.returns

@@ -1,7 +1,7 @@
 use Rattle.std.proofs.Common.{ap, ◌∙◌, sym}
 use Rattle.std.specs.FinSet as set
-use Rattle.agv_world.proofs.InOrder.{set_len-shown}
-use Rattle.agv_world.proofs.Orders.{names_total}
+use Rattle.agv_world.proofs.lists.InOrder.{set_len-shown}
+use Rattle.agv_world.proofs.lists.Orders.{names_total}
 use Rattle.agv_world.proofs.tables.names.Names.len.Goals as goal
 
 pub returns : goal.returns

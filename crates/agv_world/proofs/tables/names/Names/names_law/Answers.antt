@@ -1,8 +1,8 @@
 use Rattle.std.proofs.Common.{sym, subst, List, ℕ}
 use Rattle.std.specs.List.{AllByRecursion}
 use Rattle.agv_header.specs.Name.{IsName}
-use Rattle.agv_world.proofs.Orders.{names_total, names_apart}
-use Rattle.agv_world.proofs.EachEntry.{member-has}
+use Rattle.agv_world.proofs.lists.Orders.{names_total, names_apart}
+use Rattle.agv_world.proofs.lists.EachEntry.{member-has}
 use Rattle.agv_world.proofs.tables.names.Names.names_law.Goals as goal
 
 pub loop-id-init : goal.loop-id-init

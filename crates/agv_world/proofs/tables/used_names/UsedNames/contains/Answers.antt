@@ -1,7 +1,7 @@
 use Rattle.std.proofs.Common.{sym, ap, ◌∙◌}
 use Rattle.std.specs.FinSet as set
 use Rattle.agv_world.specs.KeyOrders.{use_cmp-total}
-use Rattle.agv_world.proofs.Shown.{contains-shown}
+use Rattle.agv_world.proofs.lists.Shown.{contains-shown}
 use Rattle.agv_world.proofs.tables.used_names.UsedNames.contains.Goals as goal
 
 pub returns : goal.returns

@@ -1,7 +1,7 @@
 use Rattle.std.proofs.Common.{ap, ◌∙◌}
 use Rattle.std.specs.FinSet as set
 use Rattle.agv_world.specs.KeyOrders.{use_cmp-total, use_cmp-IsAntisymmetric}
-use Rattle.agv_world.proofs.Shown.{set_insert-shown}
+use Rattle.agv_world.proofs.lists.Shown.{set_insert-shown}
 use Rattle.agv_world.proofs.tables.used_names.UsedNames.insert.Goals as goal
 
 pub returns-clause-ok : goal.returns-clause-ok

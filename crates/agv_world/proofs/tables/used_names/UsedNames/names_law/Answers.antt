@@ -3,7 +3,7 @@ use Rattle.std.specs.List.{AllByRecursion}
 use Rattle.agv_header.specs.Name.{IsName}
 use Rattle.agv_world.specs.declared.key.UseKey.{UseKey}
 use Rattle.agv_world.specs.KeyOrders.{use_cmp-total, use_cmp-IsAntisymmetric}
-use Rattle.agv_world.proofs.EachEntry.{member-has}
+use Rattle.agv_world.proofs.lists.EachEntry.{member-has}
 use Rattle.agv_world.proofs.tables.used_names.UsedNames.names_law.Goals as goal
 
 pub loop-key-init : goal.loop-key-init

@@ -1,0 +1,19 @@
+-- Lists of calls from a lawful world: trips go on, each act is carried out once and finds its load, and each load is where it was put last. A state message that comes again moves no load.
+pub mod AcceptedStates
+pub mod ActsCounted
+pub mod AllAlong
+pub mod FoundInTurn
+pub mod GoingAlong
+pub mod HeardStates
+pub mod JudgedStates
+pub mod LawfulLists
+pub mod OrdersAlong
+pub mod PlacesPut
+pub mod PlainAlong
+pub mod QuietActs
+pub mod RepeatedLists
+pub mod RepeatedStates
+pub mod SameHolds
+pub mod StatesAlong
+pub mod TripLeft
+pub mod TripsFollow

@@ -1,0 +1,51 @@
+-- Every call keeps the layout, the vehicles and their trips lawful.
+use Rattle.std.proofs.Common.{ℕ}
+use Rattle.agv_world.specs.Lawful.{HasLawfulVehicles}
+use Rattle.agv_world.specs.Worlds.{World}
+use Rattle.agv_desk.specs.Outcomes.{Outcome, Refused, Made, after}
+use Rattle.agv_desk.specs.Step.{step}
+use Rattle.agv_desk.specs.WellTyped.{IsMoment, IsSeats, IsWellTyped}
+use Rattle.agv_desk.specs.declared.call.Call.{Call}
+use Rattle.agv_desk.specs.declared.call.Call.TheVariants as call
+use Rattle.agv_desk.proofs.row_changes.Given.{Given}
+use Rattle.agv_desk.proofs.outcomes.Keeping.{KeepsVehicles}
+use Rattle.agv_desk.proofs.outcomes.Ladders.{IfMade}
+use Rattle.agv_desk.proofs.lawful_worlds.LawfulVehiclesGiven.{GivenMore}
+use Rattle.agv_desk.proofs.lawful_worlds.LawfulVehiclesOrders.{starts_order, advances_trip}
+use Rattle.agv_desk.proofs.lawful_worlds.LawfulVehiclesPlain.{sets_layout, registers_load, corrects_load, lets_load_leave, adds_job, stops_job, takes_stock, tells_order, tells_instant, tells_load, tells_vehicle, cancels, pauses, resumes, begins_anew, registers_vehicle, places_vehicle}
+use Rattle.agv_desk.proofs.lawful_worlds.LawfulVehiclesStates.{takes_state}
+
+module _ (given : Given) (more : GivenMore) (seats : ℕ) (world : World) (lawful : HasLawfulVehicles seats world) where
+  pub keeps_vehicles : (at : ℕ) (made : Call) → IsSeats seats → IsMoment at → IsWellTyped made → IfMade (KeepsVehicles seats world) (step seats world at made)
+  keeps_vehicles at (call.SetLayout rows) seated moment typed = sets_layout given more seats world lawful rows typed
+  keeps_vehicles at (call.RegisterVehicle key node capacity) seated moment typed = registers_vehicle given more seats world lawful key node capacity typed
+  keeps_vehicles at (call.RegisterLoad load station) seated moment typed = registers_load given more seats world lawful load station
+  keeps_vehicles at (call.CorrectLoad load reference station) seated moment typed = corrects_load given more seats world lawful load reference station typed
+  keeps_vehicles at (call.LeaveLoad load reference) seated moment typed = lets_load_leave given more seats world lawful load reference typed
+  keeps_vehicles at (call.AddJob job load to) seated moment typed = adds_job given more seats world lawful job load to
+  keeps_vehicles at (call.StopJob job) seated moment typed = stops_job given more seats world lawful job
+  keeps_vehicles at (call.StartOrder order key stops edges) seated moment typed = starts_order given more seats world lawful at order key stops edges seated moment typed
+  keeps_vehicles at (call.Advance key order update edges) seated moment typed = advances_trip given more seats world lawful at key order update edges moment
+  keeps_vehicles at (call.Cancel key) seated moment typed = cancels given more seats world lawful at key moment
+  keeps_vehicles at (call.Pause key) seated moment typed = pauses given more seats world lawful at key moment
+  keeps_vehicles at (call.Resume key) seated moment typed = resumes given more seats world lawful at key moment
+  keeps_vehicles at (call.PlaceVehicle key reference node) seated moment typed = places_vehicle given more seats world lawful key reference node typed
+  keeps_vehicles at (call.Resync key) seated moment typed = begins_anew given more seats world lawful key
+  keeps_vehicles at (call.State key state) seated moment typed = takes_state given more seats world lawful key state typed
+  keeps_vehicles at (call.GetOrder key) seated moment typed = tells_order given more seats world lawful key
+  keeps_vehicles at (call.GetInstant key) seated moment typed = tells_instant given more seats world lawful key
+  keeps_vehicles at (call.Stocktake reference rows) seated moment typed = takes_stock given more seats world lawful reference rows typed
+  keeps_vehicles at (call.GetLoad load) seated moment typed = tells_load given more seats world lawful load
+  keeps_vehicles at (call.GetVehicle key) seated moment typed = tells_vehicle given more seats world lawful key
+  keeps_vehicles at call.StockReport seated moment typed = record { vehicles = lawful }
+  keeps_vehicles at call.HoldReport seated moment typed = record { vehicles = lawful }
+  keeps_vehicles at call.LoadsExport seated moment typed = record { vehicles = lawful }
+
+  -- a call that is refused changes nothing
+  lawful_if_made : (outcome : Outcome) → IfMade (KeepsVehicles seats world) outcome → HasLawfulVehicles seats (after world outcome)
+  unfolding after
+  lawful_if_made (Refused why) keeps = lawful
+  lawful_if_made (Made effect) keeps = keeps.vehicles
+
+  pub lawful_after : (at : ℕ) (made : Call) → IsSeats seats → IsMoment at → IsWellTyped made → HasLawfulVehicles seats (after world (step seats world at made))
+  lawful_after at made seated moment typed = lawful_if_made (step seats world at made) (keeps_vehicles at made seated moment typed)

@@ -1,0 +1,82 @@
+-- The stock invariant holds after an order is begun.
+use Rattle.std.proofs.Common.{◌≡◌, ◌+◌, ◌≤◌, ℕ, true, nat_le, List, count_by, filter_map, None, Some, Result, Ok, Err, refl, sym, ap, subst, ◌∙◌, arith}
+use Rattle.std.proofs.lemmas.Bool.Decides.{nat_tests}
+use Rattle.std.specs.FinMap as finite
+use Rattle.std.specs.List.{list_all}
+use Rattle.agv_header.specs.declared.key.VehicleKey.{VehicleKey}
+use Rattle.agv_layout.specs.Layout.{Layout}
+use Rattle.agv_order.specs.Plans.{planned}
+use Rattle.agv_order.specs.StopPlaces.{CanBeDone, is_pick}
+use Rattle.agv_order.specs.Tours.{IsPlanOf}
+use Rattle.agv_order.specs.declared.fault.PlanFault.{PlanFault}
+use Rattle.agv_order.specs.declared.stop.Stop.{Stop}
+use Rattle.agv_order.specs.declared.trip.Trip.{Trip}
+use Rattle.agv_stock.specs.declared.job.Job.{Job}
+use Rattle.agv_world.specs.StockInvariant.{StockInvariant, HasStockInvariant, loads_on_vehicle, capacity_for, capacity_of, action_views_for, action_views_of}
+use Rattle.agv_world.specs.Questions.{loads_on, row_of, trip_of}
+use Rattle.agv_world.specs.TableChanges.{written}
+use Rattle.agv_world.specs.VehicleChanges.{with_vehicle}
+use Rattle.agv_world.specs.Worlds.{World}
+use Rattle.agv_world.specs.declared.row.VehicleRow.{VehicleRow}
+use Rattle.agv_desk.specs.OrderSteps.{if_planned, jobs_for, send_order, send_trip, sent_on, start_order, waits}
+use Rattle.agv_desk.specs.Outcomes.{Effect, Outcome}
+use Rattle.agv_desk.proofs.stock.StockInvariantTrips.{FitsAsSaid, depart}
+use Rattle.agv_desk.proofs.outcomes.Keeping.{KeepsStock}
+use Rattle.agv_desk.proofs.outcomes.Known.{known, vehicle_with}
+use Rattle.agv_desk.proofs.outcomes.Ladders.{IfMade, made_found, made_require, made_unheld}
+use Rattle.agv_desk.proofs.trip_acts.OrderJobs.{acts_begin, begins, riding_is, stops_made, stops_wait}
+use Rattle.agv_desk.proofs.trip_acts.Starts.{starts}
+use Rattle.agv_desk.proofs.row_changes.Steps.{missing}
+
+-- what the laws of the crates below say of plans
+abbrev pub PlansGoByRoutes : Type 0
+PlansGoByRoutes = (layout : Layout) (jobs : List Job) (vehicle : VehicleKey) (stops : List Stop) (order at : List ℕ) (base : ℕ) (trip : Trip)
+    → planned layout vehicle jobs stops order at base ≡ Ok trip → IsPlanOf layout jobs stops at base trip
+
+-- go on with the plan where there is one
+pub made_planned : (P : Effect → Type 0) (plan : Result Trip PlanFault) (rest : Trip → Outcome) → ((trip : Trip) → plan ≡ Ok trip → IfMade P (rest trip)) → IfMade P (if_planned plan rest)
+unfolding if_planned
+made_planned P (Ok trip) rest h = h trip refl
+made_planned P (Err why) rest h = tt
+
+le_of : (n m : ℕ) → nat_le n m ≡ true → n ≤ m
+le_of n m e = grind (arith, nat_tests)
+
+-- the test of what a vehicle may carry
+room_on_vehicle : (world : World) (key : VehicleKey) (more capacity : ℕ) → nat_le (loads_on world key + more) capacity ≡ true → loads_on_vehicle world.places key + more ≤ capacity
+unfolding loads_on
+room_on_vehicle world key more capacity e = le_of _ _ e
+
+module _ (fits : FitsAsSaid) (plans : PlansGoByRoutes) (world : World) (stock : HasStockInvariant world) where
+  abbrev P : Effect → Type 0
+  P = KeepsStock world
+
+  module _ (key : VehicleKey) (row : VehicleRow) (there : row_of world key ≡ Some row) (idle : trip_of world key ≡ None)
+      (stops : List Stop) (jobs : List Job) (can : CanBeDone stops) (read : jobs_for world stops ≡ Some jobs) (wait : list_all waits jobs ≡ true)
+      (room : loads_on_vehicle world.places key + count_by is_pick stops ≤ row.capacity) where
+    here : finite.get world.vehicles key ≡ Some (vehicle_with row None)
+    here = known world key row there ∙ ap (λ trip. Some (vehicle_with row trip)) idle
+
+    trip_keeps : (at : ℕ) (order : List ℕ) (layout : Layout) (edges : ℕ) (trip : Trip) → planned layout key jobs stops order row.node edges ≡ Ok trip → IfMade P (send_trip world at order key row stops jobs trip)
+    trip_keeps at order layout edges trip is =
+        let plan : IsPlanOf layout jobs stops row.node edges trip = plans layout jobs key stops order row.node edges trip is in
+        let kept : StockInvariant world.layout _ (capacity_of world) world.places (written world.jobs (filter_map (begins world) stops)) =
+        starts world stock key trip.acts stops (ap action_views_for here) (stops_made world stops jobs read layout row.node 0 stops trip.edges trip.acts plan.goes) can
+        (acts_begin world stops jobs read layout row.node 0 stops trip.edges trip.acts plan.goes)
+        (stops_wait world stops jobs read wait) (subst (λ n. loads_on_vehicle world.places key + count_by is_pick stops ≤ n) (sym (ap capacity_for here)) room) in
+        made_unheld P _ _ (λ opened. made_found P _ _ _ (λ number next. made_require P _ _ _ (λ few.
+        record {
+          stock =
+              subst (λ entries. StockInvariant world.layout (action_views_of (with_vehicle world key (sent_on row at number (Some trip)))) (capacity_of (with_vehicle world key (sent_on row at number (Some trip)))) world.places (written world.jobs entries))
+              (sym (riding_is world stops jobs read))
+              (depart world key (vehicle_with row None) here (sent_on row at number (Some trip)) refl world.places (written world.jobs (filter_map (begins world) stops)) kept);
+        })))
+
+    order_keeps : (at : ℕ) (order : List ℕ) (edges : ℕ) → IfMade P (send_order world at order key row stops jobs edges)
+    order_keeps at order edges = made_found P _ _ _ (λ layout is_set. made_planned P _ _ (λ trip is. trip_keeps at order layout edges trip is))
+
+  pub start_keeps : (at : ℕ) (order : List ℕ) (key : VehicleKey) (stops : List Stop) (edges : ℕ) → IfMade P (start_order world at order key stops edges)
+  start_keeps at order key stops edges =
+      made_require P _ _ _ (λ unused. made_found P _ _ _ (λ row there. made_require P _ _ _ (λ fit. made_found P _ _ _ (λ jobs read.
+      made_require P _ _ _ (λ new. made_require P _ _ _ (λ wait. made_require P _ _ _ (λ idle. made_require P _ _ _ (λ no_rest. made_require P _ _ _ (λ room. made_require P _ _ _ (λ ready. made_require P _ _ _ (λ going.
+      order_keeps key row there (missing _ idle) stops jobs ((fits stops).0 fit) read wait (room_on_vehicle world key (count_by is_pick stops) row.capacity room) at order edges)))))))))))

@@ -1,0 +1,8 @@
+-- Which rows a world has, under which keys, and that no two vehicles give a row of one key. The rows of a world in good order tell which world it is.
+pub mod Apart
+pub mod Empty
+pub mod Holders
+pub mod RowKeys
+pub mod Spreads
+pub mod Unique
+pub mod UsedKeys
