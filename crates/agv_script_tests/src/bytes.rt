@@ -3,7 +3,7 @@
 use crate::cases::moment;
 use crate::desks::{made, no_tables};
 use crate::memory::MOMENT;
-use crate::streams::{Stream, check_stream, check_streams};
+use crate::streams::{Exchange, Stream, check_stream, check_streams};
 use agv_face::{Ended, StreamSummary};
 use agv_header::Refusal;
 use std::alloc::Global;
@@ -290,9 +290,15 @@ fn cut_at(n: usize) -> (&'static str, StreamSummary) {
 fn check_front(rt: &impl Abort, alloc: Global, n: usize) {
     let mut desk = made(rt, alloc, no_tables(rt, alloc));
     let front = WHOLE.get(..n).expect(rt, "a front");
-    let at = moment(rt, MOMENT);
     let (answers, end) = cut_at(n);
-    check_stream(rt, alloc, &mut desk, at, (4096, 4096), front, answers, end);
+    let exchange = Exchange {
+        at: moment(rt, MOMENT),
+        pace: (4096, 4096),
+        input: front,
+        answers,
+        end,
+    };
+    check_stream(rt, alloc, &mut desk, &exchange);
 }
 
 /// Every front of them is served as far as it is whole.

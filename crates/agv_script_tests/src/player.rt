@@ -32,22 +32,27 @@ fn answer<S: Alter + Drop>(
     answer_bytes(alloc, &answer, &report, false).expect(rt, "memory")
 }
 
+/// A request that comes at a moment: its text, what it asks, and the answer that is wanted.
+struct Turn<'s> {
+    at: Moment,
+    request: &'s str,
+    asked: Asked,
+    wanted: &'s str,
+}
+
 /// Serves a request in memory and by the desk that the database has, which is adopted before it and released behind it.
 fn play_call<S: Alter + Drop>(
     rt: &impl Abort,
     alloc: Global,
     memory: &mut InMemory,
     conn: Connection<S>,
-    at: Moment,
-    asked: &Asked,
-    step: (&str, &str),
+    turn: &Turn<'_>,
 ) -> Connection<S> {
-    let (request, wanted) = step;
-    let found = memory.answer(rt, alloc, at, asked);
-    check_bytes(rt, &found, wanted, request);
+    let found = memory.answer(rt, alloc, turn.at, &turn.asked);
+    check_bytes(rt, &found, turn.wanted, turn.request);
     let mut desk = adopted(rt, alloc, conn);
-    let found = answer(rt, alloc, &mut desk, at, asked);
-    check_bytes(rt, &found, wanted, request);
+    let found = answer(rt, alloc, &mut desk, turn.at, &turn.asked);
+    check_bytes(rt, &found, turn.wanted, turn.request);
     let mut conn = desk.release_conn();
     check_read(rt, alloc, &memory.world, &mut conn);
     conn
@@ -66,9 +71,13 @@ fn play_step<S: Alter + Drop>(
     let mut conn = conn;
     match step {
         Step::Call { request, answer } => {
-            let asked = asked(rt, alloc, routes, request.as_str());
-            let step = (request.as_str(), answer.as_str());
-            return play_call(rt, alloc, memory, conn, at, &asked, step);
+            let turn = Turn {
+                at,
+                request: request.as_str(),
+                asked: asked(rt, alloc, routes, request.as_str()),
+                wanted: answer.as_str(),
+            };
+            return play_call(rt, alloc, memory, conn, &turn);
         }
         Step::Moves(moves) => memory.check_moves(rt, alloc, moves.as_str()),
         Step::Row(row) => check_row(rt, alloc, &mut conn, row.as_str()),

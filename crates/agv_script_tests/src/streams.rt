@@ -5,7 +5,7 @@ use crate::desks::{made, no_tables};
 use crate::fakes::{Drip, Trickle};
 use crate::memory::MOMENT;
 use crate::steps::Step;
-use agv_face::{CountingIo, Ended, StreamFault, StreamSummary, serve_stream};
+use agv_face::{Ended, StreamSummary, serve_stream};
 use agv_header::Moment;
 use agv_store::Desk;
 use sqlite::MemStore;
@@ -13,51 +13,33 @@ use std::alloc::Global;
 use std::process::Abort;
 
 /// The most bytes of a read, and those of a write.
-type Pace = (usize, usize);
+pub(crate) type Pace = (usize, usize);
 
 /// The paces at which streams go.
 const PACES: [Pace; 3] = [(1, 5), (7, 1), (4096, 5)];
 
-/// Serves what the reader gives, and compares how it ends and what is written.
-fn check_served(
-    rt: &impl Abort,
-    alloc: Global,
-    desk: &mut Desk<MemStore>,
-    at: Moment,
-    reader: &mut CountingIo<Drip<'_>>,
-    writer: &mut CountingIo<Trickle>,
-    end: Result<StreamSummary, StreamFault>,
-    answers: &[u8],
-) {
-    let served = serve_stream(alloc, desk, at, reader, writer);
-    check(rt, served == end, "the end of the stream");
-    let taken = writer.inner().taken.as_slice();
-    check(rt, taken == answers, "the answers");
+/// A stream that comes at a moment and at a pace: its input, and the answers and the end that are wanted.
+pub(crate) struct Exchange<'s> {
+    pub(crate) at: Moment,
+    pub(crate) pace: Pace,
+    pub(crate) input: &'s str,
+    pub(crate) answers: &'s str,
+    pub(crate) end: StreamSummary,
 }
 
-/// Serves a stream at this pace, and compares how it ends and what is written.
+/// Serves a stream, and compares how it ends and what is written.
 pub(crate) fn check_stream(
     rt: &impl Abort,
     alloc: Global,
     desk: &mut Desk<MemStore>,
-    at: Moment,
-    pace: Pace,
-    input: &str,
-    answers: &str,
-    end: StreamSummary,
+    exchange: &Exchange<'_>,
 ) {
-    let mut reader = Drip::counting(input.as_bytes(), pace.0);
-    let mut writer = Trickle::counting(alloc, pace.1);
-    check_served(
-        rt,
-        alloc,
-        desk,
-        at,
-        &mut reader,
-        &mut writer,
-        Ok(end),
-        answers.as_bytes(),
-    );
+    let mut reader = Drip::counting(exchange.input.as_bytes(), exchange.pace.0);
+    let mut writer = Trickle::counting(alloc, exchange.pace.1);
+    let served = serve_stream(alloc, desk, exchange.at, &mut reader, &mut writer);
+    check(rt, served == Ok(exchange.end), "the end of the stream");
+    let taken = writer.inner().taken.as_slice();
+    check(rt, taken == exchange.answers.as_bytes(), "the answers");
 }
 
 /// The requests of a script that come at one moment, and their answers.
@@ -82,12 +64,17 @@ fn no_part(alloc: Global, at: Moment) -> Part {
 impl Part {
     /// Serves what was put as one stream.
     fn serve(&self, rt: &impl Abort, alloc: Global, desk: &mut Desk<MemStore>, pace: Pace) {
-        let end = StreamSummary {
-            answers: self.count,
-            ended: Ended::End,
+        let exchange = Exchange {
+            at: self.at,
+            pace,
+            input: self.input.as_str(),
+            answers: self.answers.as_str(),
+            end: StreamSummary {
+                answers: self.count,
+                ended: Ended::End,
+            },
         };
-        let (input, answers) = (self.input.as_str(), self.answers.as_str());
-        check_stream(rt, alloc, desk, self.at, pace, input, answers, end);
+        check_stream(rt, alloc, desk, &exchange);
     }
 
     /// Puts a request. A stream has one moment: where another one comes, what was put is served.
@@ -138,12 +125,17 @@ pub(crate) type Stream<'s> = (&'s str, &'s str, u64, Ended);
 fn streams_at(rt: &impl Abort, alloc: Global, pace: Pace, streams: &[Stream<'_>]) {
     let mut desk = made(rt, alloc, no_tables(rt, alloc));
     for (input, answers, count, ended) in streams {
-        let end = StreamSummary {
-            answers: *count,
-            ended: *ended,
+        let exchange = Exchange {
+            at: moment(rt, MOMENT),
+            pace,
+            input,
+            answers,
+            end: StreamSummary {
+                answers: *count,
+                ended: *ended,
+            },
         };
-        let at = moment(rt, MOMENT);
-        check_stream(rt, alloc, &mut desk, at, pace, input, answers, end);
+        check_stream(rt, alloc, &mut desk, &exchange);
     }
 }
 

@@ -1,9 +1,14 @@
 -- The names of refusals stand in JSON as they are.
 use Rattle.std.proofs.Common.{◌≡◌, List, ℕ, ◌∷◌, [], ◌++◌, refl, ap, ◌∙◌, sym, decimal, codes, append_assoc}
 use Rattle.json.specs.Print.{escape, escape_byte}
+use Rattle.serde_json.specs.Written.{compact_text}
+use Rattle.agv_count.specs.Reports.{key_text, thing_text}
 use Rattle.agv_header.specs.Refusal.{name_of}
+use Rattle.agv_header.specs.declared.key.Thing.{Thing}
+use Rattle.agv_header.specs.declared.key.VehicleKey.{VehicleKey}
 use Rattle.agv_header.specs.declared.refusal.Refusal.{Refusal}
 use Rattle.agv_header.specs.declared.refusal.Refusal.TheVariants as refusal
+use Rattle.agv_message.specs.Json.{field, object_of, text, whole}
 
 pub escape-refusal : (r : Refusal) → escape (name_of r) ≡ name_of r
 unfolding escape_byte
@@ -76,3 +81,19 @@ refusal_text shown name n m is plain same =
     ap (λ (s : List ℕ). codes "{\"name\":\"" ++ (s ++ (codes "\",\"refusal\":" ++ (decimal n ++ codes "}")))) (is ∙ sym plain)
     ∙ ap (λ (k : ℕ). codes "{\"name\":\"" ++ (escape name ++ (codes "\",\"refusal\":" ++ (decimal k ++ codes "}")))) same
     ∙ ap (λ (l : List ℕ). codes "{\"name\":\"" ++ l) (sym (append_assoc (escape name) (34 ∷ []) (codes ",\"refusal\":" ++ (decimal m ++ codes "}"))))
+
+-- the bodies of the two refusals that tell more, with their numbers
+abbrev pub held_text : Thing → VehicleKey → ℕ → List ℕ
+held_text what by n = compact_text (object_of (
+    field "by" (text (key_text by))
+    ∷ field "name" (text (name_of (refusal.Held what by)))
+    ∷ field "refusal" (whole n)
+    ∷ field "what" (text (thing_text what))
+    ∷ []))
+
+abbrev pub wrong_update_text : ℕ → ℕ → List ℕ
+wrong_update_text n sent = compact_text (object_of (
+    field "name" (text (codes "WrongUpdate"))
+    ∷ field "refusal" (whole n)
+    ∷ field "sent" (whole sent)
+    ∷ []))

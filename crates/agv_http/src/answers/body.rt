@@ -82,11 +82,15 @@ pub fn put_load<'a>(
 fn put_held<'a>(out: &mut Vec<u8>, what: &'a Thing, by: &'a VehicleKey) -> Result<(), Memory>
     ensures { Appended result out.old out.new (compact_text (held_data what.now by.now)) }
 {
+    let refusal = Refusal::Held {
+        what: *what,
+        by: *by,
+    };
     let pieces = [
         Piece::Text("{\"by\":"),
         Piece::Key(by),
         Piece::Text(",\"name\":\"Held\",\"refusal\":"),
-        Piece::Number(33),
+        Piece::Number(u64::from(refusal.number())),
         Piece::Text(",\"what\":"),
         Piece::Thing(what),
         Piece::Text("}"),
@@ -98,9 +102,10 @@ fn put_held<'a>(out: &mut Vec<u8>, what: &'a Thing, by: &'a VehicleKey) -> Resul
 fn put_wrong_update(out: &mut Vec<u8>, sent: u32) -> Result<(), Memory>
     ensures { Appended result out.old out.new (compact_text (wrong_update_data sent)) }
 {
+    let refusal = Refusal::WrongUpdate { sent };
     let pieces = [
         Piece::Text("{\"name\":\"WrongUpdate\",\"refusal\":"),
-        Piece::Number(44),
+        Piece::Number(u64::from(refusal.number())),
         Piece::Text(",\"sent\":"),
         Piece::Number(u64::from(sent)),
         Piece::Text("}"),

@@ -1,10 +1,11 @@
-use Rattle.std.proofs.Common.{ℕ, ap}
+use Rattle.std.proofs.Common.{◌∙◌}
+use Rattle.std.proofs.Math.Path.{ap₂}
 use Rattle.json.specs.Print.{escape_byte}
-use Rattle.serde_json.specs.Written.{compact_text}
-use Rattle.agv_http.specs.answers.Bodies.{wrong_update_data}
 use Rattle.agv_message.proofs.Appending.{same_text}
+use Rattle.agv_http.proofs.answers.RefusalNames.{wrong_update_text}
 use Rattle.agv_http.proofs.answers.body.put_wrong_update.Goals as goal
 
 pub returns : goal.returns
 unfolding escape_byte
-returns c = same_text _ _ _ _ _ (ap (λ (n : ℕ). compact_text (wrong_update_data n)) c.from.ensures) c.put_pieces.ensures
+returns c =
+    same_text _ _ _ _ _ (ap₂ wrong_update_text (c.from.ensures ∙ c.number.ensures) c.from-2.ensures) c.put_pieces.ensures
