@@ -1,5 +1,5 @@
 -- A stream, one request after another.
-use Rattle.std.proofs.Common.{◌≡◌, ◌+◌, ℕ, Bool, true, false, not, List, [], ◌∷◌, ◌++◌, length, take, drop, Option, IsErr, IsOk, refl, sym, ap, ◌∙◌, subst, inl, inr, arith, append_assoc, append-nil, length-append, take-append-drop}
+use Rattle.std.proofs.Common.{◌≡◌, ◌⊎◌, ◌+◌, ℕ, Bool, true, false, not, List, [], ◌∷◌, ◌++◌, length, take, drop, Option, IsErr, IsOk, refl, sym, ap, ◌∙◌, subst, inl, inr, arith, append_assoc, append-nil, length-append, take-append-drop}
 use Rattle.std.specs.Io.KnownBytes.{Appends, Consumes, IsAtEnd, Keeps}
 use Rattle.std.proofs.KnownBytes.{Appends-trans, Appends-nil, Consumes-nil, Consumes-trans, Consumes-kept}
 use Rattle.sqlite_trees.specs.declared.store.Store.{Ghosts}
@@ -11,7 +11,7 @@ use Rattle.agv_http.specs.request.Fronts.{Begins, GoesOnBy, HasNext, IsSoFar}
 use Rattle.agv_http.specs.request.Heard.{IsHeard}
 use Rattle.agv_http.specs.Output.{answers_to, calls_of, refusal_text, world_after}
 use Rattle.agv_http.specs.request.Requests.{Request}
-use Rattle.agv_http.specs.StreamEnds.{HasCallNext, HasMachineFault, IsOfMachine, IsReadFault, IsWriteFault}
+use Rattle.agv_http.specs.StreamEnds.{HasCallNext, HasMachineFault, IsLastRefusal, IsNextAnswer, IsOfMachine, IsReadFault, IsWriteFault}
 use Rattle.agv_http.specs.declared.request.heard.Heard.TheVariants as heard
 use Rattle.agv_http.specs.declared.request.heard.RequestRef.{RequestRef}
 use Rattle.agv_store.specs.Floors.{Keyed, Knows, world_at}
@@ -125,6 +125,28 @@ module _ {S R W : Type 0} (g : Ghosts S) (remaining : R → Option (List ℕ)) (
         knows = knows;
       }
 
+      -- of the next text a front is written, and not all
+      cut_short : (text : List ℕ) (left : World) → IsNextAnswer desk_seats start at input s.requests text left ⊎ IsLastRefusal desk_seats start at input s.requests text left
+          → IsCut (contents (inner_of writer_now)) (contents (inner_of writer_then)) text → IsClean g then.held → (IsOpen g then.held → Knows g then.held left)
+          → (bytes : List ℕ) × IsInput remaining reader bytes × Leaves g contents desk then writer writer_then (λ world out left. IsWriteFault desk_seats world at bytes out left answers)
+      cut_short text left is_next part clean knows = (
+        input,
+        is_input,
+        leaves (λ world out left. IsWriteFault desk_seats world at input out left answers) part.front left clean
+            (record {
+              requests = s.requests;
+              text = text;
+              is_next = is_next;
+              front = part.front;
+              lacking = part.lacking;
+              parts = part.parts;
+              some_lacks = part.some_lacks;
+              written = refl;
+              counted = s.counted;
+            })
+            part.wrote knows,
+      )
+
     -- the desk is as it was
     module _ (knows : IsClean g now.held → IsOpen g now.held → Knows g now.held (world_at g now.held)) where
       knows_reached : IsClean g now.held → IsOpen g now.held → Knows g now.held reached
@@ -188,28 +210,15 @@ module _ {S R W : Type 0} (g : Ghosts S) (remaining : R → Option (List ℕ)) (
         -- or it is cut
         pub cut_faulty : IsCut (contents (inner_of writer_now)) (contents (inner_of writer_then)) (refusal_text why) → IsClean g now.held
             → (bytes : List ℕ) × IsInput remaining reader bytes × Leaves g contents desk now writer writer_then (λ world out left. IsWriteFault desk_seats world at bytes out left answers)
-        cut_faulty part clean = (
-          input,
-          is_input,
-          leaves now writer_then (λ is. is) (λ world out left. IsWriteFault desk_seats world at input out left answers) part.front reached clean
-              (record {
-                requests = s.requests;
-                text = refusal_text why;
-                is_next = inr (record {
-                  why = why;
-                  cause = inl (record { front = s.front; rest = buf ++ more; parts = parts; cut = s.cut; rest_is = heard_is more follows });
-                  text_is = refl;
-                  world_is = refl;
-                });
-                front = part.front;
-                lacking = part.lacking;
-                parts = part.parts;
-                some_lacks = part.some_lacks;
-                written = refl;
-                counted = s.counted;
-              })
-              part.wrote (knows_reached clean),
-        )
+        cut_faulty part clean =
+            cut_short now writer_then (λ is. is) (refusal_text why) reached
+            (inr (record {
+              why = why;
+              cause = inl (record { front = s.front; rest = buf ++ more; parts = parts; cut = s.cut; rest_is = heard_is more follows });
+              text_is = refl;
+              world_is = refl;
+            }))
+            part clean (knows_reached clean)
 
       -- more bytes are needed, and none come
       pub ends_unread : (reader_then : CountingIo R) → IsSoFar (s.front ++ buf) s.requests → Keeps (remaining (inner_of reader_now)) (remaining (inner_of reader_then)) → IsClean g now.held
@@ -248,28 +257,8 @@ module _ {S R W : Type 0} (g : Ghosts S) (remaining : R → Option (List ℕ)) (
 
       pub cut_refused : IsCut (contents (inner_of writer_now)) (contents (inner_of writer_then)) (refusal_text why) → IsClean g then.held
           → (bytes : List ℕ) × IsInput remaining reader bytes × Leaves g contents desk then writer writer_then (λ world out left. IsWriteFault desk_seats world at bytes out left answers)
-      cut_refused part clean = (
-        input,
-        is_input,
-        leaves then writer_then later (λ world out left. IsWriteFault desk_seats world at input out left answers) part.front reached clean
-            (record {
-              requests = s.requests;
-              text = refusal_text why;
-              is_next = inr (record {
-                why = why;
-                cause = inr machine;
-                text_is = refl;
-                world_is = refl;
-              });
-              front = part.front;
-              lacking = part.lacking;
-              parts = part.parts;
-              some_lacks = part.some_lacks;
-              written = refl;
-              counted = s.counted;
-            })
-            part.wrote (knows_still clean),
-      )
+      cut_refused part clean =
+          cut_short then writer_then later (refusal_text why) reached (inr (record { why = why; cause = inr machine; text_is = refl; world_is = refl })) part clean (knows_still clean)
 
     -- a request is served, and its answer is to be written
     module _ (then : Keyed S) (writer_then : CountingIo W) (step : IsLaterDesk g now then) (failed : then.failed ≡ now.failed) (lent : RequestRef) (request : Request)
@@ -359,28 +348,15 @@ module _ {S R W : Type 0} (g : Ghosts S) (remaining : R → Option (List ℕ)) (
         pub cut_answer : IsCut (contents (inner_of writer_now)) (contents (inner_of writer_then)) out → IsClean g then.held
             → (bytes : List ℕ) × IsInput remaining reader bytes × Leaves g contents desk then writer writer_then (λ world text left. IsWriteFault desk_seats world at bytes text left answers)
         cut_answer part clean =
-            let HasNextSo : List ℕ → Type 0 = λ bytes. HasNext bytes s.requests request in (
-              input,
-              is_input,
-              leaves then writer_then step.clean (λ world text left. IsWriteFault desk_seats world at input text left answers) part.front (world_after desk_seats start at (s.requests ++ request ∷ [])) clean
-                  (record {
-                    requests = s.requests;
-                    text = out;
-                    is_next = inl (record {
-                      request = request;
-                      next = subst HasNextSo (sym parts) (goes.next more);
-                      text_is = out_is clean ∙ next_text start at s.requests request lent goes.is_lent;
-                      world_is = refl;
-                    });
-                    front = part.front;
-                    lacking = part.lacking;
-                    parts = part.parts;
-                    some_lacks = part.some_lacks;
-                    written = refl;
-                    counted = s.counted;
-                  })
-                  part.wrote (knows_then clean),
-            )
+            let HasNextSo : List ℕ → Type 0 = λ bytes. HasNext bytes s.requests request in
+            cut_short then writer_then step.clean out (world_after desk_seats start at (s.requests ++ request ∷ []))
+            (inl (record {
+              request = request;
+              next = subst HasNextSo (sym parts) (goes.next more);
+              text_is = out_is clean ∙ next_text start at s.requests request lent goes.is_lent;
+              world_is = refl;
+            }))
+            part clean (knows_then clean)
 
   -- a read
   pub reads_on : (now : Keyed S) (reader_now reader_then : CountingIo R) (writer_now : CountingIo W) (ended : Bool) (buf buf_then : List ℕ) (answers : ℕ) (got : Bool)

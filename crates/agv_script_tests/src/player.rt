@@ -33,6 +33,7 @@ fn answer<S: Alter + Drop>(
 }
 
 /// A request that comes at a moment: its text, what it asks, and the answer that is wanted.
+#[derive(Drop)]
 struct Turn<'s> {
     at: Moment,
     request: &'s str,

@@ -19,6 +19,7 @@ pub(crate) type Pace = (usize, usize);
 const PACES: [Pace; 3] = [(1, 5), (7, 1), (4096, 5)];
 
 /// A stream that comes at a moment and at a pace: its input, and the answers and the end that are wanted.
+#[derive(Drop)]
 pub(crate) struct Exchange<'s> {
     pub(crate) at: Moment,
     pub(crate) pace: Pace,
