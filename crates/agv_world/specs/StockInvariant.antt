@@ -23,7 +23,7 @@ use Rattle.agv_world.specs.Questions.{is_live_to}
 use Rattle.agv_world.specs.Worlds.{Vehicle, World}
 use Rattle.agv_world.specs.declared.row.JobRow.{JobRow}
 
--- ---- what the loads see of a trip
+-- ---- what of the acts of a trip matters to loads
 
 -- an act, of whose status only counts whether it is finished
 pub record ActionView : Type 0 where
@@ -102,7 +102,10 @@ pub record IsJobOn (layout : Layout) (places : Places) (row : JobRow) : Type 0 w
   pub origin : (spot : StationSite) × IsStation layout row.origin spot
   pub target : (spot : StationSite) × IsStation layout row.target spot
 
--- what the phase of an action's job is, and where the load stands: a pick that is not finished has its job riding and the load at its station; a pick that is finished has its job begun, and the load on the vehicle while the job rides; a drop that is not finished has its job riding; a drop that is finished has its job done
+-- what the phase of an action's job is, and where its load stands:
+-- a pick that is not finished has its job riding and the load at its station;
+-- a pick that is finished has its job begun, and the load on the vehicle while the job rides;
+-- a drop that is not finished has its job riding; a drop that is finished has its job done
 abbrev pub ActStands : Places → VehicleKey → List ℕ → List ℕ → ActKind → Bool → Phase → Type 0
 ActStands places key load station Pick false stage = (stage ≡ phase.Riding) × (finite.get places load ≡ Some (place.Station station))
 ActStands places key load station Pick true stage = (stage ≢ phase.Waiting) × (stage ≡ phase.Riding → finite.get places load ≡ Some (place.Vehicle key))

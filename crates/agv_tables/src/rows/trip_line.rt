@@ -1,6 +1,5 @@
 //! An open trip of one job, as the table `trip` has it.
 ghost use Rattle.std.specs.Prelude.{◌≡◌, List, ℕ, Some, IfOk};
-ghost use Rattle.agv_order.specs.Stops.{is_drop};
 ghost use Rattle.agv_world.specs.declared.row.JobRow.{JobRow as RowOfJob};
 ghost use Rattle.agv_world.specs.declared.row.TripRow.{TripRow as RowOfTrip};
 ghost use Rattle.agv_tables.specs.rows.TripLines.{TellsTrip, are_of_one_job, line_of, trip_told};
@@ -8,7 +7,7 @@ ghost use Rattle.agv_tables.specs.declared.rows.trip_line.TripLine.{TripLine as 
 
 use agv_header::{Memory, Name, VehicleKey};
 use agv_message::{ActKind, Sequence, Status};
-use agv_order::Act;
+use agv_order::{Act, is_drop};
 use agv_world::{JobRow, TripRow};
 use std::alloc::Global;
 
@@ -30,15 +29,6 @@ pub struct TripLine {
     pub drop_at: u32,
     pub pick_status: Status,
     pub drop_status: Status,
-}
-
-fn is_drop(kind: ActKind) -> bool
-    ensures { result ≡ is_drop kind }
-{
-    match kind {
-        ActKind::Pick => false,
-        ActKind::Drop => true,
-    }
 }
 
 fn are_of_one_job(pick: &Act, drop: &Act) -> bool

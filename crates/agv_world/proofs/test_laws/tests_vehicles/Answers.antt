@@ -6,8 +6,8 @@ use Rattle.agv_world.proofs.vehicle_tests.VehicleTests.{each_passed, kept, lawfu
 use Rattle.agv_world.proofs.vehicle_tests.LawfulVehiclesPass.{told_again, vehicles_again}
 use Rattle.agv_world.proofs.test_laws.tests_vehicles.Goals as goal
 
-pub returns-clause-told : goal.returns-clause-told
-returns-clause-told c seats tables values all =
+pub returns-clause-passed : goal.returns-clause-passed
+returns-clause-passed c seats tables values all =
     let below : Below = record { again = c.gives_itself.ensures; node = c.needs_a_node.ensures; fits = c.tests_well_formed.ensures } in
     let passes = each_passed seats tables all in
     (kept below seats tables values passes, lawful_vehicles below seats tables values passes)
