@@ -9,7 +9,7 @@ use Rattle.agv_tables.specs.queries.WorldAnswers.{HasWorld}
 use Rattle.agv_tables.specs.readings.WorldIn.{world_in}
 use Rattle.agv_tables.specs.rows.DeskRows.{Placing}
 use Rattle.agv_store.specs.Floors.{Keyed, world_at}
-use Rattle.agv_store.specs.Opened.{Adopts, CanBeMade, IsDamaged, Makes}
+use Rattle.agv_store.specs.Opening.{Adopts, CanBeMade, IsDamaged, Makes}
 use Rattle.agv_store.specs.declared.open_fault.OpenFault.{OpenFault}
 use Rattle.agv_store.specs.declared.open_fault.OpenFault.TheVariants as opening
 use Rattle.agv_app.specs.Runs.{opening_fault}

@@ -4,7 +4,7 @@ use Rattle.sqlite_trees.specs.declared.store.Store.{Ghosts}
 use Rattle.agv_header.specs.declared.refusal.Refusal.TheVariants as refusal
 use Rattle.agv_world.specs.Worlds.{empty_world}
 use Rattle.agv_face.specs.Bytes.{IsPutWhole}
-use Rattle.agv_face.specs.Ends.{IsStreamEnd}
+use Rattle.agv_face.specs.StreamEnd.{IsStreamEnd}
 use Rattle.agv_face.specs.declared.stream_end.Ended.{Ended}
 use Rattle.agv_face.specs.declared.stream_end.Ended.TheVariants as ended
 use Rattle.agv_face.specs.declared.stream_end.StreamSummary.{StreamSummary}

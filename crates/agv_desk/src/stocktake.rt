@@ -17,7 +17,7 @@ mod stations;
 
 use crate::decisions::{accepted_with, refused};
 use crate::stocktake::counted_load::CountedLoad;
-use crate::stocktake::counted_load_list::{finds_on_vehicle, look_up, unknown};
+use crate::stocktake::counted_load_list::{look_up, some_on_vehicle, unknown};
 use crate::stocktake::found::found_loads;
 use crate::stocktake::moves::{Count, moves_in_job};
 use crate::stocktake::room::all_fit;
@@ -73,7 +73,7 @@ fn count_loads<F: Floor>(
 ) -> Result<Decision, Fault>
     ensures { Asks F.facts floor.old floor.new result (λ world decision. decision ≡ decided (count_by_parts world reference count.now.stations count.now.found seen.now)) }
 {
-    if finds_on_vehicle(seen) {
+    if some_on_vehicle(seen) {
         return Ok(refused(alloc, Refusal::OnVehicle));
     }
     let moves = count.moves(alloc, floor, seen)?;

@@ -10,7 +10,7 @@ use Rattle.agv_http.specs.Output.{calls_of, refusal_text}
 use Rattle.agv_http.specs.request.Requests.{Request}
 use Rattle.agv_http.specs.StreamEnds.{HasCallNext, HasMachineFault}
 use Rattle.agv_store.specs.Floors.{Keyed}
-use Rattle.agv_face.specs.Ends.{IsCounted}
+use Rattle.agv_face.specs.StreamEnd.{IsCounted}
 use Rattle.agv_face.specs.CountingIo.{inner_of}
 use Rattle.agv_face.specs.declared.stream_end.Ended.TheVariants as ended_by
 use Rattle.agv_face.specs.declared.stream_end.StreamFault.TheVariants as fault

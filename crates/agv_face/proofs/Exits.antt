@@ -14,7 +14,7 @@ use Rattle.agv_tables.specs.sql.Connections.{IsClean, IsOpen}
 use Rattle.agv_world.specs.declared.fault.Fault.{Fault}
 use Rattle.agv_world.specs.declared.fault.Fault.TheVariants as machine
 use Rattle.agv_face.specs.Bytes.{IsCut, IsPutWhole, IsRead}
-use Rattle.agv_face.specs.Ends.{IsCounted, IsStreamEnd, failed_by, most_reads}
+use Rattle.agv_face.specs.StreamEnd.{IsCounted, IsStreamEnd, failed_by, most_reads}
 use Rattle.agv_face.specs.Nexts.{IsNext, IsNextFault}
 use Rattle.agv_face.specs.Refusals.{IsRefused, refusal_for}
 use Rattle.agv_face.specs.Replies.{IsLaterDesk, failed_after}

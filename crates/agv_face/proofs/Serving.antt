@@ -21,7 +21,7 @@ use Rattle.agv_http.specs.declared.request.heard.RequestRef.{RequestRef}
 use Rattle.agv_http.specs.declared.routing.route.Route.{Route}
 use Rattle.agv_reports.specs.Reports.{names_report, report_of}
 use Rattle.agv_store.specs.Floors.{Keyed, Knows, world_at}
-use Rattle.agv_store.specs.Served.{world_after}
+use Rattle.agv_store.specs.Serving.{world_after}
 use Rattle.agv_tables.specs.queries.WorldAnswers.{HasWorld}
 use Rattle.agv_tables.specs.readings.WorldIn.{world_in}
 use Rattle.agv_tables.specs.rows.DeskRows.{Placing}

@@ -19,7 +19,7 @@ use Rattle.agv_tables.specs.schema.SchemaNumbers.{desk_seats}
 use Rattle.agv_tables.specs.sql.Connections.{IsClean, IsOpen}
 use Rattle.agv_world.specs.Worlds.{World}
 use Rattle.agv_face.specs.Bytes.{IsCut, IsRead}
-use Rattle.agv_face.specs.Ends.{HaveCome, IsEnd, IsInput, Leaves}
+use Rattle.agv_face.specs.StreamEnd.{HaveCome, IsEnd, IsInput, Leaves}
 use Rattle.agv_face.specs.Replies.{IsAnswered, IsLaterDesk, call_of, outcome_in, text_for}
 use Rattle.agv_face.specs.CountingIo.{inner_of, FailedNever}
 use Rattle.agv_face.specs.declared.stream_end.Ended.TheVariants as ended_by

@@ -3,4 +3,4 @@ pub mod Nexts
 pub mod CountingIo
 pub mod Bytes
 pub mod Refusals
-pub mod Ends
+pub mod StreamEnd

@@ -7,9 +7,9 @@
 //! 131,072 for the answer to any call that changes something. [`serve_stream_within`] takes the most reads beside.
 //! Both take their reader and their writer as [`CountingIo`], so that a clause can say why a stream ended.
 //!
-//! - `specs/Ends.antt` says how a stream ends: what has come of its input, what is written, and which world the desk
+//! - `specs/StreamEnd.antt` says how a stream ends: what has come of its input, what is written, and which world the desk
 //!   then knows, whatever the reads and writes are cut into. It is the theorem of this crate; what is written at each end
-//!   is defined by `agv_http` (its `StreamEnds`), whose module `stream_laws` joins the requests of a stream to lists of
+//!   is defined by `agv_http` (its `StreamEnds`), whose module `laws::streams` joins the requests of a stream to lists of
 //!   calls, so that what `agv_desk` says of these holds of streams.
 //! - `specs/Replies.antt` says what one request comes to, `specs/Nexts.antt` the next one of a buffer, `specs/Bytes.antt`
 //!   bytes that are read or written, `specs/Refusals.antt` the refusal for a fault of the machine, and

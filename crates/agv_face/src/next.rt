@@ -10,7 +10,7 @@ ghost use Rattle.agv_face.specs.Replies.{IsLaterDesk, failed_after};
 use crate::reply::answer_request;
 use agv_desk::Answer;
 use agv_header::{Memory, Moment, Refusal};
-use agv_http::size_laws::bodies_fit;
+use agv_http::laws::sizes::bodies_fit;
 use agv_http::{Heard, Routes, put_answer, read_request};
 use agv_store::Desk;
 use agv_world::Fault;

@@ -11,7 +11,7 @@ use crate::call::call_in;
 use agv_desk::laws::calls::tells_without_change;
 use agv_desk::{Answer, Call};
 use agv_header::Moment;
-use agv_http::size_laws::{outcomes_fit, tells_outcomes};
+use agv_http::laws::sizes::{outcomes_fit, tells_outcomes};
 use agv_http::{RequestRef, Routes, put_answer};
 use agv_message::BodyFault;
 use agv_reports::laws::gives_only_what_is_named;

@@ -1,6 +1,6 @@
 //! A stream of requests is served, one after another.
 ghost use Rattle.std.specs.Prelude.{◌≡◌, ◌<◌, ◌≤◌, [], IfOk, vec_capacity};
-ghost use Rattle.agv_face.specs.Ends.{EndsFailed, IsCounted, IsStreamEnd, most_reads};
+ghost use Rattle.agv_face.specs.StreamEnd.{EndsFailed, IsCounted, IsStreamEnd, most_reads};
 ghost use Rattle.agv_face.specs.Refusals.{IsRefused};
 ghost use Rattle.agv_face.specs.Replies.{IsLaterDesk};
 ghost use Rattle.agv_face.specs.CountingIo.{HadCallsAtMost};
@@ -11,7 +11,7 @@ use crate::counting_io::CountingIo;
 use crate::next::{Next, serve_next};
 use crate::stream_end::{Ended, StreamFault, StreamSummary};
 use agv_header::{Memory, Moment, Refusal};
-use agv_http::stream_laws::{answers_in_turn, hears_how_it_goes_on};
+use agv_http::laws::streams::{answers_in_turn, hears_how_it_goes_on};
 use agv_http::{Routes, memory_answer, storage_answer};
 use agv_store::Desk;
 use agv_world::Fault;
@@ -160,7 +160,7 @@ fn serve_requests<S: Alter + Drop, R: Read, W: Write>(
 /// Each request is served once it has come whole, and its answer is written before the next one is looked at. A call is
 /// committed before it is answered.
 ///
-/// `IsStreamEnd` (`specs/Ends.antt`) says of each end what has come of the input, what was written, and which world the
+/// `IsStreamEnd` (`specs/StreamEnd.antt`) says of each end what has come of the input, what was written, and which world the
 /// desk then knows: the output of `agv_http`, whole, or a front of it, or a front of it and the refusal for a fault of the
 /// machine. Where the store has failed as the stream ends, `failed` says by which end. No clause says that an answer is
 /// written before more is read; a test does.

@@ -9,10 +9,10 @@
 //!   (`specs/bodies/BodyCalls.antt`).
 //! - [`put_answer`] and [`answer_bytes`] write an answer, head and body (`specs/answers/Answers.antt`);
 //!   [`memory_answer`] and [`storage_answer`] are the two that speak of the machine.
-//! - [`laws`] has what holds of the definitions by themselves, and [`output_laws`] that each input has one output
+//! - [`laws`] has what holds of the definitions by themselves, and [`laws::output`] that each input has one output
 //!   (`specs/Output.antt`): the answers to its requests, each served in the world that those before it have left;
-//!   [`size_laws`] says how long answers are, and that 131,072 bytes are room for each that tells an outcome.
-//! - [`stream_laws`] is for who serves a stream in parts: what a front of whole requests and the rest of an input come
+//!   [`laws::sizes`] says how long answers are, and that 131,072 bytes are room for each that tells an outcome.
+//! - [`laws::streams`] is for who serves a stream in parts: what a front of whole requests and the rest of an input come
 //!   to, and what is written at each end of a stream (`specs/request/Fronts.antt`, `specs/StreamEnds.antt`).
 //!
 //! `request`, `routing`, `bodies` and `answers` have these four steps, each in `src`, `specs` and `proofs`. What speaks of
@@ -22,12 +22,8 @@
 mod answers;
 mod bodies;
 pub mod laws;
-pub mod output_laws;
 mod request;
-pub mod route_laws;
 mod routing;
-pub mod size_laws;
-pub mod stream_laws;
 
 pub use answers::answer::{answer_bytes, put_answer};
 pub use answers::last_words::{memory_answer, storage_answer};

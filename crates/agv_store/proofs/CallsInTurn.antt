@@ -20,8 +20,8 @@ use Rattle.agv_tables.specs.schema.SchemaNumbers.{desk_seats}
 use Rattle.agv_tables.specs.sql.Connections.{IsClean, IsOpen}
 use Rattle.agv_tables.proofs.sql.Later.{later_by}
 use Rattle.agv_store.specs.Floors.{Keyed, Knows, world_at}
-use Rattle.agv_store.specs.Ran.{IsRun, LeavesLast, world_till}
-use Rattle.agv_store.specs.Served.{FoundIn, IsServedBy, LeavesAll, LeavesCall, world_after}
+use Rattle.agv_store.specs.Running.{IsRun, LeavesLast, world_till}
+use Rattle.agv_store.specs.Serving.{FoundIn, IsServedBy, LeavesAll, LeavesCall, world_after}
 use Rattle.agv_store.proofs.Crashes.{either, known}
 use Rattle.agv_store.proofs.Writing.{DatabaseTells, world_known}
 

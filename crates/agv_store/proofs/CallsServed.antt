@@ -30,7 +30,7 @@ use Rattle.agv_tables.specs.declared.schema.table_name.TableName.{TableName}
 use Rattle.agv_tables.specs.sql.Connections.{IsClean, IsOpen}
 use Rattle.agv_tables.proofs.sql.Later.{later_by}
 use Rattle.agv_store.specs.Floors.{IsAsked, Keyed, Knows, facts_of, world_at}
-use Rattle.agv_store.specs.Served.{Decides, FoundIn, IsServedBy, LeavesAll, LeavesCall, outcome_in, world_after}
+use Rattle.agv_store.specs.Serving.{Decides, FoundIn, IsServedBy, LeavesAll, LeavesCall, outcome_in, world_after}
 use Rattle.agv_store.proofs.Asked.{clean_before}
 use Rattle.agv_store.proofs.Writing.{answer_decided}
 

@@ -11,8 +11,8 @@ use Rattle.agv_tables.specs.schema.DeskTables.{LeavesDesk}
 use Rattle.agv_tables.specs.schema.NewDesk.{KnowsNothing, MadeDesksStand, StandsNew, TreesTellSchemas}
 use Rattle.agv_tables.specs.sql.Connections.{IsClean, IsOpen}
 use Rattle.agv_store.specs.Floors.{Knows, world_at}
-use Rattle.agv_store.specs.Opened.{CanBeMade}
-use Rattle.agv_store.specs.Served.{FoundIn, LeavesCall, world_after}
+use Rattle.agv_store.specs.Opening.{CanBeMade}
+use Rattle.agv_store.specs.Serving.{FoundIn, LeavesCall, world_after}
 
 module _ {S : Type 0} (g : Ghosts S) (schemas : TreesTellSchemas) (only_committed : (s : S) (db : Trees) → IsTrue (g.view s).is_open → g.recovers s db → db ≡ (g.view s).committed) where
   -- trees of an open desk at rest are those of its world

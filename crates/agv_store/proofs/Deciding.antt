@@ -20,7 +20,7 @@ use Rattle.agv_desk.specs.declared.call.Call.{Call}
 use Rattle.agv_tables.specs.schema.SchemaNumbers.{desk_seats}
 use Rattle.agv_store.specs.Flags.{EndsAs}
 use Rattle.agv_store.specs.Floors.{Keyed, facts_of, world_at}
-use Rattle.agv_store.specs.Served.{Decides, outcome_in, world_after}
+use Rattle.agv_store.specs.Serving.{Decides, outcome_in, world_after}
 
 -- a decision in a lawful world is that of the call
 pub decides_in : ((seats : ℕ) (world : World) → HasLawfulVehicles seats world → IsInOrder world)

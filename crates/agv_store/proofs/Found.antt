@@ -24,7 +24,7 @@ use Rattle.agv_tables.specs.readings.WorldIn.{world_in}
 use Rattle.agv_tables.specs.rows.DeskRows.{AreKeyed, HaveRows, Holds, Placing, columns_in, table_names, width_of}
 use Rattle.agv_tables.specs.rows.RowLists.{HoldsWorld}
 use Rattle.agv_tables.specs.schema.SchemaNumbers.{desk_seats}
-use Rattle.agv_tables.specs.schema.TablesStand.{TablesStand}
+use Rattle.agv_tables.specs.schema.StandingTables.{TablesStand}
 use Rattle.agv_tables.specs.sql.Connections.{IsClean, IsOpen}
 use Rattle.agv_tables.specs.declared.queries.reading_fault.ReadingFault.{ReadingFault}
 use Rattle.agv_tables.specs.declared.queries.reading_fault.ReadingFault.TheVariants as reading
@@ -33,7 +33,7 @@ use Rattle.agv_tables.specs.declared.schema.table_name.TableName.{TableName}
 use Rattle.agv_store.specs.Counts.{count_in}
 use Rattle.agv_store.specs.Floors.{IsAsked, Knows, world_at}
 use Rattle.agv_store.specs.OpenFaults.{of_reading}
-use Rattle.agv_store.specs.Opened.{Finds}
+use Rattle.agv_store.specs.Opening.{Finds}
 use Rattle.agv_store.specs.declared.counts.Counts.{Counts}
 use Rattle.agv_store.specs.declared.open_fault.OpenFault.{OpenFault}
 use Rattle.agv_store.specs.declared.open_fault.OpenFault.TheVariants as fault

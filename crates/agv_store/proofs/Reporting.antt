@@ -10,7 +10,7 @@ use Rattle.agv_world.specs.declared.fault.Fault.{Fault}
 use Rattle.agv_tables.specs.schema.SchemaNumbers.{desk_seats}
 use Rattle.agv_tables.specs.sql.Connections.{IsClean, IsOpen}
 use Rattle.agv_store.specs.Floors.{IsAsked, Keyed, Knows, facts_of, world_at}
-use Rattle.agv_store.specs.Served.{LeavesAll}
+use Rattle.agv_store.specs.Serving.{LeavesAll}
 use Rattle.agv_store.proofs.CallsServed.{asked_till, fails_again, faulted_till, knows_before, same_now, stays_failed}
 
 module _ {S : Type 0} (g : Ghosts S) {A : Type 0} (says : World → A → Type 0) (old new : Keyed S) where

@@ -31,7 +31,7 @@ use Rattle.agv_tables.proofs.sql.Later.{later_by}
 use Rattle.agv_store.specs.Counts.{count_in}
 use Rattle.agv_store.specs.Flags.{doubted_by, failed_by, noted, read_as}
 use Rattle.agv_store.specs.Floors.{IsKept, Keyed, Knows, world_at}
-use Rattle.agv_store.specs.Served.{Decides, IsServedBy, LeavesCall, outcome_in, world_after}
+use Rattle.agv_store.specs.Serving.{Decides, IsServedBy, LeavesCall, outcome_in, world_after}
 use Rattle.agv_store.specs.declared.counts.Counts.{Counts}
 
 pub answer_decided : (outcome : Outcome) → (decided outcome).answer ≡ answer_of outcome

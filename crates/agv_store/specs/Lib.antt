@@ -2,7 +2,7 @@ pub mod Counts
 pub mod Flags
 pub mod Floors
 pub mod OpenFaults
-pub mod Opened
-pub mod Ran
+pub mod Opening
+pub mod Running
 pub mod ReportLists
-pub mod Served
+pub mod Serving

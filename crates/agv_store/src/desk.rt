@@ -6,7 +6,7 @@ ghost use Rattle.agv_world.specs.declared.fault.Fault.TheVariants as fault;
 ghost use Rattle.agv_tables.specs.sql.Connections.{IsClean, IsOpen};
 ghost use Rattle.agv_store.specs.Flags.{EndsAs};
 ghost use Rattle.agv_store.specs.Floors.{Knows, world_at};
-ghost use Rattle.agv_store.specs.Served.{IsServedBy, LeavesAll, LeavesCall};
+ghost use Rattle.agv_store.specs.Serving.{IsServedBy, LeavesAll, LeavesCall};
 
 use crate::keyed_floor::KeyedFloor;
 use agv_desk::{Answer, Call};

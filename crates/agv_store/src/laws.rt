@@ -8,8 +8,8 @@ ghost use Rattle.agv_desk.specs.declared.call.Call.{Call};
 ghost use Rattle.agv_tables.specs.schema.DeskTables.{LeavesDesk};
 ghost use Rattle.agv_tables.specs.sql.Connections.{IsClean, IsOpen};
 ghost use Rattle.agv_store.specs.Floors.{Knows, world_at};
-ghost use Rattle.agv_store.specs.Opened.{CanBeMade};
-ghost use Rattle.agv_store.specs.Served.{FoundIn, LeavesCall, world_after};
+ghost use Rattle.agv_store.specs.Opening.{CanBeMade};
+ghost use Rattle.agv_store.specs.Serving.{FoundIn, LeavesCall, world_after};
 
 use agv_tables::readings::world_laws::a_database_tells_its_world;
 use agv_tables::schema::making_laws::{

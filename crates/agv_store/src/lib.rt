@@ -8,8 +8,8 @@
 //! - An answer that names a report doesn't hold it: [`Desk::report`] gives its bytes (`reports`). What a report lists is
 //!   gathered from whole tables (`report_lists`, `whole_tables`), and `agv_count` writes the text.
 //!
-//! What a desk keeps true of its connection is `specs/Floors.antt`, what it makes of a call `specs/Served.antt`, of a list of
-//! calls `specs/Ran.antt`, and how it is opened `specs/Opened.antt`.
+//! What a desk keeps true of its connection is `specs/Floors.antt`, what it makes of a call `specs/Serving.antt`, of a list of
+//! calls `specs/Running.antt`, and how it is opened `specs/Opening.antt`.
 #![tactic(auto)]
 
 mod counts;

@@ -10,7 +10,7 @@ ghost use Rattle.agv_tables.specs.queries.WorldAnswers.{HasNoWorld};
 ghost use Rattle.agv_tables.specs.schema.DeskTables.{LeavesDesk};
 ghost use Rattle.agv_tables.specs.schema.SchemaNumbers.{desk_seats};
 ghost use Rattle.agv_tables.specs.sql.Connections.{IsClean, IsOpen};
-ghost use Rattle.agv_store.specs.Opened.{Adopts, CanBeMade, Finds, IsDamaged, Makes, left_by};
+ghost use Rattle.agv_store.specs.Opening.{Adopts, CanBeMade, Finds, IsDamaged, Makes, left_by};
 
 use crate::counts::Counts;
 use crate::desk::Desk;

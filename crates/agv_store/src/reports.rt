@@ -11,7 +11,7 @@ ghost use Rattle.agv_tables.specs.schema.SchemaNumbers.{desk_seats};
 ghost use Rattle.agv_tables.specs.sql.Connections.{IsClean, IsOpen};
 ghost use Rattle.agv_store.specs.Flags.{EndsAs};
 ghost use Rattle.agv_store.specs.Floors.{Knows, facts_of, world_at};
-ghost use Rattle.agv_store.specs.Served.{LeavesAll};
+ghost use Rattle.agv_store.specs.Serving.{LeavesAll};
 
 use crate::desk::Desk;
 use crate::keyed_floor::KeyedFloor;

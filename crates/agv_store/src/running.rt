@@ -2,7 +2,7 @@
 ghost use Rattle.std.specs.Prelude.{◌≡◌, true, false, [], length};
 ghost use Rattle.agv_tables.specs.sql.Connections.{IsClean};
 ghost use Rattle.agv_store.specs.Floors.{Knows, world_at};
-ghost use Rattle.agv_store.specs.Ran.{HasAnswered, IsRun, LeavesLast, RunEndsAs};
+ghost use Rattle.agv_store.specs.Running.{HasAnswered, IsRun, LeavesLast, RunEndsAs};
 
 use crate::desk::Desk;
 use agv_desk::laws::calls::serves_in_turn;

@@ -11,7 +11,7 @@ ghost use Rattle.agv_tables.specs.schema.SchemaNumbers.{desk_seats};
 ghost use Rattle.agv_tables.specs.sql.Connections.{IsClean, IsOpen};
 ghost use Rattle.agv_store.specs.Flags.{EndsAs};
 ghost use Rattle.agv_store.specs.Floors.{Knows, facts_of, world_at};
-ghost use Rattle.agv_store.specs.Served.{Decides, IsServedBy, LeavesAll, LeavesCall};
+ghost use Rattle.agv_store.specs.Serving.{Decides, IsServedBy, LeavesAll, LeavesCall};
 
 use crate::flags::{note, read_as};
 use crate::keyed_floor::KeyedFloor;

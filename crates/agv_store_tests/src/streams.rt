@@ -6,7 +6,7 @@ use crate::fakes::{Drip, Patient, Tally, Trickle};
 use crate::table_cases::moment;
 use agv_face::{CountingIo, Ended, StreamFault, StreamSummary, serve_stream, serve_stream_within};
 use agv_header::Refusal;
-use agv_http::laws::has_a_cut;
+use agv_http::laws::requests::has_a_cut;
 use std::alloc::Global;
 use std::cell::Cell;
 use std::io::Write;

@@ -1,4 +1,4 @@
-pub mod HeldFootprints
+pub mod HeldThings
 pub mod ReadTables
 pub mod Rowids
 pub mod TablesRead

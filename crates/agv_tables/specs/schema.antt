@@ -5,5 +5,5 @@ pub mod NewDesk
 pub mod Schema
 pub mod SchemaNumbers
 pub mod SchemaTexts
-pub mod TablesStand
+pub mod StandingTables
 pub mod TextsRun

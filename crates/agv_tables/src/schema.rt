@@ -5,7 +5,7 @@
 //!   has, or refuses where one of the names is taken. `making_laws` says that what it makes is a desk for the
 //!   statements, and that an opening finds it again, after a crash too.
 //! - `standing_tables` tells of a schema that anyone made whether the desk's tables stand in it
-//!   (`specs/schema/TablesStand.antt`), and `table_room` whether they can be made beside the tables that are there.
+//!   (`specs/schema/StandingTables.antt`), and `table_room` whether they can be made beside the tables that are there.
 
 pub mod desk_tables;
 pub(crate) mod making_fault;

@@ -48,7 +48,7 @@ pub(crate) fn look_up<F: Floor>(
 }
 
 /// Whether one of the loads is recorded on a vehicle.
-pub(crate) fn finds_on_vehicle(seen: &[CountedLoad]) -> bool
+pub(crate) fn some_on_vehicle(seen: &[CountedLoad]) -> bool
     ensures { result ≡ list_any (λ one. is_on_vehicle one.place) seen.now }
 {
     seen.iter().any(|one| one.is_on_vehicle())

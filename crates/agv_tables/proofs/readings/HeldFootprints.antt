@@ -21,7 +21,7 @@ use Rattle.agv_world.specs.GoodOrder.{IsHolder, IsVehicle}
 use Rattle.agv_world.specs.Rows.{rows_of, standing_of}
 use Rattle.agv_world.specs.Worlds.{Vehicle, World}
 use Rattle.agv_world.specs.declared.row.VehicleRow.{VehicleRow}
-use Rattle.agv_tables.specs.readings.HeldFootprints.{HasEach, are_entries, are_holders, hold_their_own, holds_each, holds_its_own, holds_only, is_kept, things_of}
+use Rattle.agv_tables.specs.readings.HeldThings.{HasEach, are_entries, are_holders, hold_their_own, holds_each, holds_its_own, holds_only, is_kept, things_of}
 use Rattle.agv_tables.proofs.rows.LawfulValues.{row_at}
 use Rattle.agv_tables.proofs.rows.SpreadRows.{entries_found}
 

@@ -10,7 +10,7 @@ use Rattle.agv_tables.specs.declared.schema.table_name.TableName.TheVariants as 
 use Rattle.agv_tables.specs.rows.DeskRows.{Placing, IsDesk, TableStands, table_for}
 use Rattle.agv_tables.specs.schema.Schema.{desk_tables}
 use Rattle.agv_tables.specs.schema.NewDesk.{LeavesRoom}
-use Rattle.agv_tables.specs.schema.TablesStand.{HasNoRules, HaveNoDefaults, IsPlain, StandsAlike, TablesStand}
+use Rattle.agv_tables.specs.schema.StandingTables.{HasNoRules, HaveNoDefaults, IsPlain, StandsAlike, TablesStand}
 
 -- ---- each of the desk's tables is plain
 

@@ -7,7 +7,7 @@ ghost use Rattle.agv_world.specs.Rows.{rows_of};
 ghost use Rattle.agv_world.specs.Told.{world_of};
 ghost use Rattle.agv_world.specs.Worlds.{World as WorldOf};
 ghost use Rattle.agv_tables.specs.schema.SchemaNumbers.{desk_seats};
-ghost use Rattle.agv_tables.specs.readings.HeldFootprints.{HasEach, are_entries, are_holders, hold_their_own, holds_each, holds_only, is_kept, things_of};
+ghost use Rattle.agv_tables.specs.readings.HeldThings.{HasEach, are_entries, are_holders, hold_their_own, holds_each, holds_only, is_kept, things_of};
 
 use agv_header::{Memory, Thing, VehicleKey};
 use agv_track::hold_laws::tests_membership;

@@ -3,7 +3,7 @@ ghost use Rattle.std.specs.Prelude.{◌≡◌, ◌↔◌, IfOk, IsTrue, List, Ok
 ghost use Rattle.std.specs.List.{AllByRecursion, AllZip};
 ghost use Rattle.sqlite_schema.specs.declared.schema.Table.{Table};
 ghost use Rattle.sqlite_resolve.specs.Compile.{table_defined_by};
-ghost use Rattle.agv_tables.specs.schema.TablesStand.{IsPlain, StandsAlike, TablesStand};
+ghost use Rattle.agv_tables.specs.schema.StandingTables.{IsPlain, StandsAlike, TablesStand};
 
 use crate::schema::table_match::same_table;
 use crate::schema::table_room::leaves_room;

@@ -1,7 +1,7 @@
 //! Whether a table that stands is just another one, but for its tree.
 ghost use Rattle.std.specs.Prelude.{◌≡◌, ◌↔◌, IsTrue};
 ghost use Rattle.sqlite_value.specs.declared.value.Value.TheVariants.{Null};
-ghost use Rattle.agv_tables.specs.schema.TablesStand.{SameKind, HasNoRules, HaveNoDefaults, IsPlain, SameKeys};
+ghost use Rattle.agv_tables.specs.schema.StandingTables.{SameKind, HasNoRules, HaveNoDefaults, IsPlain, SameKeys};
 
 use sqlite_items::Items;
 use sqlite_schema::schema::{Column, Table};

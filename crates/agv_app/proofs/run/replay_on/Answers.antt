@@ -1,5 +1,5 @@
 use Rattle.std.proofs.Common.{arith, subst}
-use Rattle.agv_face.specs.Ends.{IsStreamEnd}
+use Rattle.agv_face.specs.StreamEnd.{IsStreamEnd}
 use Rattle.agv_app.specs.Runs.{stream_reads}
 use Rattle.agv_app.proofs.run.replay_on.Goals as goal
 

@@ -1,7 +1,7 @@
 use Rattle.std.proofs.Common.{◌≡◌, ◌≤◌, ◌<◌, ◌+◌, ◌-◌, ◌*◌, ℕ, List, false, length, sym, ap, ap₂, ◌∙◌, subst, inl, inr, arith, vec_len}
 use Rattle.std.proofs.Math.ListN.{length-drop}
 use Rattle.std.proofs.KnownBytes.{Keeps-refl}
-use Rattle.agv_face.specs.Ends.{most_reads}
+use Rattle.agv_face.specs.StreamEnd.{most_reads}
 use Rattle.agv_face.specs.CountingIo.{calls_of, counted}
 use Rattle.agv_face.specs.declared.next.Next.TheVariants as next
 use Rattle.agv_face.proofs.Serving.{later_then}

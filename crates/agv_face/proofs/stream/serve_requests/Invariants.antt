@@ -1,6 +1,6 @@
 use Rattle.std.proofs.Common.{◌≡◌, ◌≤◌, ◌+◌, ◌-◌, ◌*◌, vec_len, vec_capacity}
 use Rattle.agv_http.specs.answers.Sizes.{most_answer}
-use Rattle.agv_face.specs.Ends.{most_reads}
+use Rattle.agv_face.specs.StreamEnd.{most_reads}
 use Rattle.agv_face.specs.CountingIo.{calls_of, counted}
 use Rattle.agv_face.proofs.Streams.{HasServed}
 use Rattle.agv_face.proofs.stream.serve_requests.Given as goal

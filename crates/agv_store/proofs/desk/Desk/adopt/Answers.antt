@@ -1,6 +1,6 @@
 use Rattle.std.proofs.Common.{◌≡◌, Err, refl}
 use Rattle.sqlite.specs.Held.{Held}
-use Rattle.agv_store.specs.Opened.{IsDamaged, Opening}
+use Rattle.agv_store.specs.Opening.{IsDamaged, Opening}
 use Rattle.agv_store.specs.declared.open_fault.OpenFault.{OpenFault}
 use Rattle.agv_store.specs.declared.open_fault.OpenFault.TheVariants as fault
 use Rattle.agv_store.proofs.desk.Desk.adopt.Goals as goal

@@ -10,7 +10,7 @@ use Rattle.agv_tables.specs.schema.NewDesk.{KnowsNothing, LeavesRoom, MadeDesksS
 use Rattle.agv_tables.specs.sql.Connections.{IsClean, IsOpen}
 use Rattle.agv_store.specs.Counts.{count_in}
 use Rattle.agv_store.specs.Floors.{IsKept, Knows, world_at}
-use Rattle.agv_store.specs.Opened.{Makes}
+use Rattle.agv_store.specs.Opening.{Makes}
 use Rattle.agv_store.specs.declared.counts.Counts.{Counts}
 use Rattle.agv_store.proofs.Found.{TellsItsWorld}
 use Rattle.agv_store.proofs.desk.Desk.create.Goals as goal

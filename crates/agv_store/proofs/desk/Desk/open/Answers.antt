@@ -5,7 +5,7 @@ use Rattle.sqlite.proofs.StateLemmas.{survives_weaker}
 use Rattle.sqlite.specs.Held.{Held, state}
 use Rattle.agv_tables.specs.queries.WorldAnswers.{HasNoWorld}
 use Rattle.agv_tables.specs.sql.Connections.{IsClean}
-use Rattle.agv_store.specs.Opened.{Adopts, CanBeMade, IsDamaged, Makes, Opening}
+use Rattle.agv_store.specs.Opening.{Adopts, CanBeMade, IsDamaged, Makes, Opening}
 use Rattle.agv_store.specs.declared.open_fault.OpenFault.{OpenFault}
 use Rattle.agv_store.specs.declared.open_fault.OpenFault.TheVariants as fault
 use Rattle.agv_store.proofs.desk.Desk.open.Goals as goal

@@ -1,5 +1,5 @@
 use Rattle.std.proofs.Common.{◌∙◌, ap, sym}
-use Rattle.agv_tables.specs.readings.HeldFootprints.{are_holders}
+use Rattle.agv_tables.specs.readings.HeldThings.{are_holders}
 use Rattle.agv_tables.proofs.readings.HeldFootprints.{each_ok, fits_just_so, never_fits}
 use Rattle.agv_tables.proofs.readings.held_things.HeldThings.are_footprints.Goals as goal
 

@@ -1,7 +1,7 @@
 use Rattle.std.proofs.Common.{◌≡◌}
 use Rattle.std.specs.FinMap as map
 use Rattle.agv_world.specs.Told.{world_of}
-use Rattle.agv_tables.specs.readings.HeldFootprints.{hold_their_own}
+use Rattle.agv_tables.specs.readings.HeldThings.{hold_their_own}
 use Rattle.agv_tables.proofs.readings.held_things.HeldThings.hold_their_own.Given as goal
 
 -- it is for the vehicles that are left to tell

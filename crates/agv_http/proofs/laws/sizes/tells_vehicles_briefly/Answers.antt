@@ -1,0 +1,5 @@
+use Rattle.agv_http.proofs.answers.Lengths.{vehicle_brief}
+use Rattle.agv_http.proofs.laws.sizes.tells_vehicles_briefly.Goals as goal
+
+pub returns : goal.returns
+returns c = vehicle_brief

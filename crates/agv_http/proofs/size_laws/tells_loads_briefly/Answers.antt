@@ -1,5 +1,0 @@
-use Rattle.agv_http.proofs.answers.Lengths.{load_brief}
-use Rattle.agv_http.proofs.size_laws.tells_loads_briefly.Goals as goal
-
-pub returns : goal.returns
-returns c = load_brief

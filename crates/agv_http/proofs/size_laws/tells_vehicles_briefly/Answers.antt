@@ -1,5 +1,0 @@
-use Rattle.agv_http.proofs.answers.Lengths.{vehicle_brief}
-use Rattle.agv_http.proofs.size_laws.tells_vehicles_briefly.Goals as goal
-
-pub returns : goal.returns
-returns c = vehicle_brief
