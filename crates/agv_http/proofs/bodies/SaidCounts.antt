@@ -114,7 +114,7 @@ module _ (n : ℕ) where
 
   reads_layout : (body : List ℕ) → IsRead n (layout_call body)
   unfolding layout_call
-  reads_layout body = by_rows (layout.layout_in body)
+  reads_layout body = by_rows (layout.layout_rows_in body)
 
   by_count : (reference : List ℕ) (rows : Option (List Row)) → ((some : List Row) → rows ≡ Some some → (rows_size some ≤ n) × NameLoads some) → IsRead n (call_of_rows (call.Stocktake reference) rows)
   by_count reference None h = tt

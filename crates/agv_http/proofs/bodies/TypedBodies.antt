@@ -262,7 +262,7 @@ by_rows (Some rows) are = are
 
 pub reads_layout : (body : List ℕ) → IsTypedIfSaid (layout_call body)
 unfolding layout_call
-reads_layout body = by_rows (layout.layout_in body) (under_named (records_of body))
+reads_layout body = by_rows (layout.layout_rows_in body) (under_named (records_of body))
 
 -- ---- stocktakes
 

@@ -14,7 +14,7 @@ call_of_rows make (Some rows) = Ok (make rows)
 
 -- `PUT /layout` with the rows of a layout file
 unfoldable pub layout_call : List ℕ → Result Call Refusal
-layout_call body = call_of_rows call.SetLayout (layout.layout_in body)
+layout_call body = call_of_rows call.SetLayout (layout.layout_rows_in body)
 
 -- `POST /stocktakes/{reference}` with the rows of a stocktake file
 unfoldable pub stocktake_call : List ℕ → List ℕ → Result Call Refusal
