@@ -1,0 +1,2 @@
+pub mod TripRows
+pub mod TripsTold

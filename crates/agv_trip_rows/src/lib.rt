@@ -1,0 +1,14 @@
+//! How open trips lie in rows, and back: each has the row of its journey, and a row for each of its acts.
+//!
+//! - A [`JourneyRow`] stands at the name of its order. An [`ActRow`] stands at its order and its number among
+//!   the acts of the order, which counts from 0; its load and its station are those of its job.
+//!   `specs/TripRows.antt` says which rows trips have, as lists in the order of the keys and as tables.
+#![tactic(auto)]
+
+mod act_row;
+mod by_act;
+mod journey_row;
+
+pub use act_row::{ActRow, act_rows};
+pub use by_act::ByAct;
+pub use journey_row::JourneyRow;
