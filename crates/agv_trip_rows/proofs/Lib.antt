@@ -1,0 +1,4 @@
+pub mod Elements
+pub mod KeyedRows
+pub mod RowKeys
+pub mod TripTables

@@ -3,11 +3,14 @@
 //! - A [`JourneyRow`] stands at the name of its order. An [`ActRow`] stands at its order and its number among
 //!   the acts of the order, which counts from 0; its load and its station are those of its job.
 //!   `specs/TripRows.antt` says which rows trips have, as lists in the order of the keys and as tables.
+//! - Each row stands at a key of its own, the rows of an order are those of its trip, and both lists follow where a
+//!   trip is written or removed ([`row_laws`]).
 #![tactic(auto)]
 
 mod act_row;
 mod by_act;
 mod journey_row;
+pub mod row_laws;
 
 pub use act_row::{ActRow, act_rows};
 pub use by_act::ByAct;
