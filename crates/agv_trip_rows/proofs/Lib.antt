@@ -2,3 +2,6 @@ pub mod Elements
 pub mod KeyedRows
 pub mod RowKeys
 pub mod TripTables
+pub mod ActsAgain
+pub mod TripsFrom
+pub mod LawfulTrips
