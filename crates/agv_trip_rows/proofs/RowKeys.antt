@@ -1,8 +1,8 @@
 -- Each row of open trips stands at a key of its own, in the order of the keys, and a test tells the rows of an order.
-use Rattle.std.proofs.Common.{◌≡◌, ℕ, ◌+◌, ◌<◌, nat_eq, arith, T, List, [], ◌∷◌, ◌++◌, map, flat_map, Ordering, Less, sym, ap, ◌∙◌}
+use Rattle.std.proofs.Common.{◌≡◌, ℕ, ◌+◌, ◌<◌, nat_eq, arith, cond, T, List, [], ◌∷◌, ◌++◌, map, flat_map, None, Some, Ordering, Less, is_eq, refl, sym, ap, ◌∙◌}
 use Rattle.std.specs.Cmp.{eq_by_cmp_equiv, nat_cmp_is, tied_itself}
 use Rattle.std.specs.Cmp.Lexicographic.{pointwise, texts_ties}
-use Rattle.std.specs.FinMap.{is_sorted}
+use Rattle.std.specs.FinMap.{find, is_sorted}
 use Rattle.std.specs.List.{AllByRecursion}
 use Rattle.std.specs.List.Sorted.{IsStrictlySortedBy}
 use Rattle.std.specs.Map.{keys_of}
@@ -39,6 +39,11 @@ module _ {K X : Type 0} (R : K → K → Ordering) where
   rise_from_sorted [] s = tt
   rise_from_sorted (e ∷ es) s = (first_above R e es s, rise_from_sorted es (rest_sorted R e es s))
 
+  -- a key before all others is none of them
+  pub not_after : (q : K) (es : List (K × X)) → AreAfter q es → find R q es ≡ None
+  not_after q [] h = refl
+  not_after q (e ∷ es) h = ap (λ o. cond (is_eq o) (Some e.1) (find R q es)) h.0 ∙ not_after q es h.1
+
   keys_after : (x : K) (es : List (K × X)) → AreAfter x es → AllByRecursion (λ k. R x k ≡ Less) (keys_of es)
   keys_after x [] h = tt
   keys_after x (e ∷ es) h = (h.0, keys_after x es h.1)
@@ -61,7 +66,7 @@ pub acts_tested : (k q : List ℕ) (n : ℕ) (acts : List Act) → AllByRecursio
 acts_tested k q n [] = tt
 acts_tested k q n (act ∷ acts) = (named k q, acts_tested k q (n + 1) acts)
 
-numbers_after : (order : List ℕ) (i k : ℕ) → i < k → leg_cmp (act_key order i) (act_key order k) ≡ Less
+pub numbers_after : (order : List ℕ) (i k : ℕ) → i < k → leg_cmp (act_key order i) (act_key order k) ≡ Less
 numbers_after order i k lt = ap (λ o. ordering_then o (nat_cmp i k)) (tied_itself names_total order) ∙ sym (nat_cmp_is i k Less lt)
 
 acts_after : (order : List ℕ) (i k : ℕ) → i < k → (acts : List Act) → AreAfter leg_cmp (act_key order i) (act_rows_from order k acts)

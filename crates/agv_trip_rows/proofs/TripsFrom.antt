@@ -25,7 +25,7 @@ use Rattle.agv_trip_rows.specs.declared.act_row.ActRow.{ActRow}
 use Rattle.agv_trip_rows.specs.declared.journey_row.JourneyRow.{JourneyRow}
 use Rattle.agv_trip_rows.proofs.ActsAgain.{Row, acts_again, rows_again}
 use Rattle.agv_trip_rows.proofs.Elements.{all_weaker, all-flat_map}
-use Rattle.agv_trip_rows.proofs.RowKeys.{AreAfter, DoRise, acts_in, acts_tested, journeys_in, rise_as_journeys, rise_from_sorted, sorted_from_rise}
+use Rattle.agv_trip_rows.proofs.RowKeys.{AreAfter, DoRise, acts_in, acts_tested, journeys_in, not_after, rise_as_journeys, rise_from_sorted, sorted_from_rise}
 use Rattle.agv_trip_rows.proofs.TripTables.{entries-acts, entries-journeys}
 
 abbrev pub Journey : Type 0
@@ -73,17 +73,13 @@ abbrev pub put_all : Trips → List Entry → Trips
 put_all trips [] = trips
 put_all trips (e ∷ es) = put_all (finite.insert trips e.0 e.1) es
 
-not_after : (q : List ℕ) (es : List Entry) → AreAfter name_cmp q es → find name_cmp q es ≡ None
-not_after q [] h = refl
-not_after q (e ∷ es) h = ap (λ o. cond (is_eq o) (Some e.1) (find name_cmp q es)) h.0 ∙ not_after q es h.1
-
 get-put_all : (trips : Trips) (es : List Entry) → DoRise name_cmp es → (q : List ℕ) → finite.get (put_all trips es) q ≡ option_or (find name_cmp q es) (finite.get trips q)
 get-put_all trips [] h q = refl
 get-put_all trips (e ∷ es) h q =
     get-put_all (finite.insert trips e.0 e.1) es h.1 q
     ∙ ap (option_or (find name_cmp q es)) (finite.get-insert names_total trips e.0 e.1 q)
     ∙ elim (eq_by_cmp name_cmp q e.0) as (λ b. eq_by_cmp name_cmp q e.0 ≡ b → option_or (find name_cmp q es) (cond b (Some e.1) (finite.get trips q)) ≡ option_or (cond b (Some e.1) (find name_cmp q es)) (finite.get trips q)) [
-      | true ↦ λ tied. ap (λ (o : Option TripRow). option_or o (Some e.1)) (not_after q es (subst (λ k. AreAfter name_cmp k es) (sym (is_same names_apart q e.0 tied)) h.0))
+      | true ↦ λ tied. ap (λ (o : Option TripRow). option_or o (Some e.1)) (not_after name_cmp q es (subst (λ k. AreAfter name_cmp k es) (sym (is_same names_apart q e.0 tied)) h.0))
       | false ↦ λ _. refl
     ] refl
 
