@@ -16,7 +16,8 @@ use Rattle.agv_world.specs.Rows.{rows_of, rows_of_trip, trip_row, trip_rows}
 use Rattle.agv_world.specs.Spread.{spread}
 use Rattle.agv_world.specs.Worlds.{Vehicle, World}
 use Rattle.agv_world.specs.declared.row.TripRow.{TripRow}
-use Rattle.agv_world.proofs.lists.Entries.{entries_found, same_Some}
+use Rattle.agv_world.proofs.lists.Entries.{entries_found, is_same, same_Some}
+use Rattle.agv_world.proofs.lists.Orders.{names_apart}
 use Rattle.agv_trip_rows.specs.TripRows.{act_rows, acts_of, journey_of, journeys_of}
 use Rattle.agv_trip_rows.specs.TripsTold.{AreTripsOf, IsOfJob, acts_told, trip_told}
 use Rattle.agv_trip_rows.proofs.ActsAgain.{acts_again}
@@ -28,32 +29,41 @@ each_of P (x ∷ xs) h = (h x (0, omega arith, refl), each_of P xs (λ y has. h 
 
 -- ---- whose trip a row is
 
--- a vehicle of the world has a trip open with the acts of this row
-record HasActs (world : World) (row : TripRow) : Type 0 where
-  key : VehicleKey
-  vehicle : Vehicle
-  trip : Trip
-  there : finite.get world.vehicles key ≡ Some vehicle
-  open_trip : vehicle.trip ≡ Some trip
-  acts : trip.acts ≡ row.acts
+-- the row is that of the open trip of a vehicle of the world
+pub record IsOwn (world : World) (order : List ℕ) (row : TripRow) : Type 0 where
+  pub key : VehicleKey
+  pub vehicle : Vehicle
+  pub trip : Trip
+  pub there : finite.get world.vehicles key ≡ Some vehicle
+  pub open_trip : vehicle.trip ≡ Some trip
+  pub order_is : order ≡ trip.order
+  pub row_is : trip_row key trip ≡ row
 
 module _ (world : World) (order : List ℕ) (row : TripRow) where
   abbrev rows_in : List (VehicleKey × Vehicle) → List (List ℕ × TripRow)
   rows_in es = flat_map (λ (e : VehicleKey × Vehicle). trip_rows e.0 e.1) es
 
-  trip_in : (es : List (VehicleKey × Vehicle)) → AllByRecursion (λ (e : VehicleKey × Vehicle). finite.get world.vehicles e.0 ≡ Some e.1) es → find name_cmp order (rows_in es) ≡ Some row → HasActs world row
+  trip_in : (es : List (VehicleKey × Vehicle)) → AllByRecursion (λ (e : VehicleKey × Vehicle). finite.get world.vehicles e.0 ≡ Some e.1) es → find name_cmp order (rows_in es) ≡ Some row → IsOwn world order row
   trip_in [] are found = absurd (cc found)
   trip_in (e ∷ es) are found = of_vehicle (λ more. trip_in es are.1 more) e.1.trip refl found
     where
-      of_vehicle : (find name_cmp order (rows_in es) ≡ Some row → HasActs world row) → (o : Option Trip) → e.1.trip ≡ o → find name_cmp order (rows_of_trip e.0 o ++ rows_in es) ≡ Some row → HasActs world row
+      of_vehicle : (find name_cmp order (rows_in es) ≡ Some row → IsOwn world order row) → (o : Option Trip) → e.1.trip ≡ o → find name_cmp order (rows_of_trip e.0 o ++ rows_in es) ≡ Some row → IsOwn world order row
       of_vehicle later None is found = later found
       of_vehicle later (Some trip) is found =
-          elim (eq_by_cmp name_cmp order trip.order) as (λ b. cond b (Some (trip_row e.0 trip)) (find name_cmp order (rows_in es)) ≡ Some row → HasActs world row) [
-            | true ↦ λ same. record { key = e.0; vehicle = e.1; trip = trip; there = are.0; open_trip = is; acts = ap (λ (r : TripRow). r.acts) (same_Some (trip_row e.0 trip) row same) }
-            | false ↦ later
-          ] found
+          elim (eq_by_cmp name_cmp order trip.order) as (λ b. eq_by_cmp name_cmp order trip.order ≡ b → cond b (Some (trip_row e.0 trip)) (find name_cmp order (rows_in es)) ≡ Some row → IsOwn world order row) [
+            | true ↦ λ tied same. record {
+              key = e.0;
+              vehicle = e.1;
+              trip = trip;
+              there = are.0;
+              open_trip = is;
+              order_is = is_same names_apart order trip.order tied;
+              row_is = same_Some (trip_row e.0 trip) row same;
+            }
+            | false ↦ λ _ more. later more
+          ] refl found
 
-  trip_of_row : finite.get (rows_of world).trips order ≡ Some row → HasActs world row
+  pub trip_of_row : finite.get (rows_of world).trips order ≡ Some row → IsOwn world order row
   unfolding spread
   trip_of_row at = trip_in (finite.entries world.vehicles) (entries_found key_cmp-total world.vehicles) (sym (finite.get-from_entries nat_list_cmp_total (rows_in (finite.entries world.vehicles)) order) ∙ at)
 
@@ -63,10 +73,10 @@ module _ (seats : ℕ) (world : World) (lawful : IsLawful seats world) where
   act_of_job : (act : Act) → NamesItsJob world act → IsOfJob (rows_of world).jobs act
   act_of_job act names = record { job = names.row; known = names.job; load = names.load; station = names.station }
 
-  lawful_acts : (order : List ℕ) (row : TripRow) → finite.get (rows_of world).trips order ≡ Some row → AllByRecursion (IsOfJob (rows_of world).jobs) row.acts
+  pub lawful_acts : (order : List ℕ) (row : TripRow) → finite.get (rows_of world).trips order ≡ Some row → AllByRecursion (IsOfJob (rows_of world).jobs) row.acts
   lawful_acts order row at =
       let has = trip_of_row world order row at in
-      subst (AllByRecursion (IsOfJob (rows_of world).jobs)) has.acts
+      subst (λ (r : TripRow). AllByRecursion (IsOfJob (rows_of world).jobs) r.acts) has.row_is
       (each_of (IsOfJob (rows_of world).jobs) has.trip.acts (λ act among.
       act_of_job act (lawful.loads.acts has.key has.trip act (record { open_trip = (has.vehicle, has.there, has.open_trip); among = among }))))
 

@@ -6,3 +6,4 @@ pub mod RowsAtKeys
 pub mod ActsAgain
 pub mod TripsFrom
 pub mod LawfulTrips
+pub mod LawfulValues

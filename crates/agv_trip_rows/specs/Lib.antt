@@ -1,2 +1,3 @@
 pub mod TripRows
 pub mod TripsTold
+pub mod RowValues

@@ -6,7 +6,7 @@
 //! - A trip is told by its journey, its acts and the jobs (`specs/TripsTold.antt`). [`acts_told`] tells the acts
 //!   of one order, and [`trips_told`] the trips of whole tables, whatever rows these have.
 //! - The open trips of a lawful world are told by their rows and the world's jobs, and rows tell no other
-//!   trips ([`trip_laws`]).
+//!   trips. Names and numbers in the rows of a lawful world are as `specs/RowValues.antt` says ([`trip_laws`]).
 //! - Each row stands at a key of its own, the rows of an order are those of its trip, and both lists follow where a
 //!   trip is written or removed ([`row_laws`]).
 #![tactic(auto)]
