@@ -1,0 +1,3 @@
+pub mod TripRows
+pub mod TripsTold
+pub mod RowValues
