@@ -5,10 +5,12 @@ there to the same rows.
 By default a sample of all faults is tried; all of them where the variable FAULTS is `all`."""
 import functools
 import os
+import re
+import socket
 import sqlite3
 
-from records import rows_of
-from test_program import AT, HERE, run
+from records import COLUMNS, rows_of
+from test_program import AT, HERE, read_all, run
 from test_scripts import AT_A, SCRIPTS, accepted, bytes_of, load, ok, order, stands, state
 
 ALL = os.environ.get('FAULTS') == 'all'
@@ -109,6 +111,34 @@ def check_kept(test, script, db, answered, more=True):
     test.assertEqual(out, b''.join(script.answers[at:]))
     test.assertEqual(rows_of(db), script.rows[-1])
     return -1 if rows is None else at
+
+
+def port_of(process):
+    """The port on which the program that is traced listens, once it says so; none where it ends before."""
+    while not process.out.endswith(b'\n'):
+        if process.ended.wait(0.001):
+            return None
+    return int(re.fullmatch(rb'listening on 127\.0\.0\.1:(\d+)\n', process.out).group(1))
+
+
+def asks(port, request):
+    """What one connection is answered, as far as it comes."""
+    plain = socket.create_connection(('127.0.0.1', port), timeout=30)
+    try:
+        plain.sendall(request)
+        plain.shutdown(socket.SHUT_WR)
+        return read_all(plain)
+    except ConnectionError:
+        return b''
+    finally:
+        plain.close()
+
+
+def without_clock(rows):
+    """The rows with no moments of messages, which are the clock's."""
+    places = {COLUMNS['vehicle'].split().index(name) for name in ('order_at', 'instant_at')}
+    return {**rows, 'vehicle': [
+        tuple(value > 0 if at in places else value for at, value in enumerate(row)) for row in rows['vehicle']]}
 
 
 def remove(db):
