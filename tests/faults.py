@@ -123,15 +123,13 @@ def port_of(process):
 
 def asks(port, request):
     """What one connection is answered, as far as it comes."""
-    plain = socket.create_connection(('127.0.0.1', port), timeout=30)
     try:
-        plain.sendall(request)
-        plain.shutdown(socket.SHUT_WR)
-        return read_all(plain)
+        with socket.create_connection(('127.0.0.1', port), timeout=30) as plain:
+            plain.sendall(request)
+            plain.shutdown(socket.SHUT_WR)
+            return read_all(plain)
     except ConnectionError:
         return b''
-    finally:
-        plain.close()
 
 
 def without_clock(rows):
