@@ -140,8 +140,8 @@ class Ended:
     """How a program ended: its exit status, or the number of the signal below 0; what it wrote; and how often it asked the heap, and
     how often it got nothing there."""
 
-    def __init__(self, status, out, said, heap, late):
-        self.status, self.out, self.said, self.late = status, out, said, late
+    def __init__(self, status, out, said, heap):
+        self.status, self.out, self.said = status, out, said
         self.asked, self.refused = heap or (0, 0)
 
 
@@ -357,7 +357,7 @@ def _become(words, names, streams, env):
 
 def run(words, names=(), on_call=None, stdin=b'', heap=None, beside=None, limit=60):
     """Runs these words, and tells `on_call` of each call of these names that the program is about to make. `beside` runs next to it
-    in a thread of its own. After `limit` seconds the program is ended, and is `late`."""
+    in a thread of its own. A program that takes longer than `limit` seconds is ended, and that is an error."""
     files = [os.memfd_create(name) for name in ('in', 'out', 'said')]
     os.write(files[0], stdin)
     os.lseek(files[0], 0, os.SEEK_SET)
@@ -397,8 +397,10 @@ def run(words, names=(), on_call=None, stdin=b'', heap=None, beside=None, limit=
         pid = None
         if aside:
             aside.join(limit)
+        if late.is_set():
+            raise TimeoutError('the program took longer than %d s' % limit)
         out, said = (os.pread(file, 1 << 26, 0) for file in files[1:])
-        return Ended(status, out, said, tracer.counted, late.is_set())
+        return Ended(status, out, said, tracer.counted)
     finally:
         if pid:
             os.kill(pid, signal.SIGKILL)
