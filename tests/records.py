@@ -35,7 +35,7 @@ def copied(db, folder):
 
 def rows_of(db, check=True):
     """All rows by table, each table sorted; none where the file has no table. The file is left as it is."""
-    with tempfile.TemporaryDirectory() as folder:
+    with tempfile.TemporaryDirectory(dir=os.path.dirname(db)) as folder:
         base = sqlite3.connect(copied(db, folder))
         try:
             if check and base.execute('PRAGMA integrity_check').fetchall() != [('ok',)]:

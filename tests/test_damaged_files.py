@@ -7,7 +7,7 @@ import sqlite3
 import tempfile
 import unittest
 
-from faults import STORAGE, lines, remove
+from faults import FOLDER, STORAGE, lines, remove
 from records import COLUMNS, broken, rows_of
 from test_hostile_bytes import answers_of
 from test_program import AT, run
@@ -111,7 +111,7 @@ BREAKS = [
 
 class Damaged(unittest.TestCase):
     def setUp(self):
-        self.folder = tempfile.TemporaryDirectory()
+        self.folder = tempfile.TemporaryDirectory(dir=FOLDER)
         self.db = os.path.join(self.folder.name, 'damaged.db')
 
     def tearDown(self):

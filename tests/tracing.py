@@ -224,12 +224,32 @@ def slots_of(program):
 class Process:
     """The program while it runs: who stands beside it may ask what it has written, and whether it has ended."""
 
-    def __init__(self, pid, out, ended):
-        self.pid, self._out, self.ended = pid, out, ended
+    def __init__(self, pid, out):
+        self.pid, self._out, self.ended = pid, out, threading.Event()
 
     @property
     def out(self):
         return os.pread(self._out, 1 << 26, 0)
+
+    def end(self):
+        if not self.ended.is_set():
+            os.kill(self.pid, signal.SIGKILL)
+
+
+class Beside(threading.Thread):
+    """What runs next to the program. Where it fails the program is ended."""
+
+    def __init__(self, work, process):
+        super().__init__()
+        self.work, self.process, self.error = work, process, None
+        self.start()
+
+    def run(self):
+        try:
+            self.work(self.process)
+        except Exception as error:
+            self.error = error
+            self.process.end()
 
 
 class Tracer:
@@ -368,41 +388,32 @@ def run(words, names=(), on_call=None, stdin=b'', heap=None, beside=None, limit=
             _become(words, names, files, env)
         finally:
             os._exit(127)
-    late = threading.Event()
-    aside = None
+    process = Process(pid, files[1])
+
+    def watch(process):
+        if not process.ended.wait(limit):
+            raise TimeoutError('the program took longer than %d s' % limit)
+
     try:
         _, status = os.waitpid(pid, WALL)
         if not os.WIFSTOPPED(status):
             raise OSError(errno.EPERM, 'a program can not be traced here')
         ptrace(SETOPTIONS, pid, 0, OPTIONS)
         tracer = Tracer(pid, on_call, heap)
-        ended = threading.Event()
-
-        def watch():
-            if not ended.wait(limit):
-                late.set()
-                os.kill(pid, signal.SIGKILL)
-
-        watcher = threading.Thread(target=watch)
-        watcher.start()
-        if beside:
-            aside = threading.Thread(target=beside, args=(Process(pid, files[1], ended),))
-            aside.start()
+        aside = [Beside(work, process) for work in (watch, beside) if work]
         try:
             ptrace(CONT, pid)
             status = tracer.follow()
         finally:
-            ended.set()
-            watcher.join()
-        pid = None
-        if aside:
-            aside.join(limit)
-        if late.is_set():
-            raise TimeoutError('the program took longer than %d s' % limit)
+            process.ended.set()
+        for one in aside:
+            one.join()
+            if one.error:
+                raise one.error
         out, said = (os.pread(file, 1 << 26, 0) for file in files[1:])
         return Ended(status, out, said, tracer.counted)
     finally:
-        if pid:
+        if not process.ended.is_set():
             os.kill(pid, signal.SIGKILL)
             os.waitpid(pid, WALL)
         for file in files:
