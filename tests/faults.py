@@ -1,0 +1,156 @@
+"""Scripts of requests with the answers and the rows after each, and what must hold of a file once the program that served a script on it
+has met a fault: what was answered is kept, the call that met it has been carried out or not at all, and the rest of the script goes on from
+there to the same rows.
+
+By default a sample of all faults is tried; all of them where the variable FAULTS is `all`."""
+import functools
+import os
+import re
+import socket
+import sqlite3
+
+from records import COLUMNS, rows_of
+from test_program import AT, HERE, read_all, run
+from test_scripts import AT_A, SCRIPTS, accepted, bytes_of, load, ok, order, stands, state
+
+ALL = os.environ.get('FAULTS') == 'all'
+# Where files lie in memory, if there is such a folder: a sync costs nothing there.
+FOLDER = '/dev/shm' if os.access('/dev/shm', os.W_OK | os.X_OK) else None
+CLOSES = b'HTTP/1.1 503 Service Unavailable\r\nContent-Length: %d\r\nContent-Type: application/json\r\nConnection: close\r\n\r\n%s'
+MEMORY, STORAGE = (CLOSES % (len(body), body) for body in (b'{"name":"Memory","refusal":90}', b'{"name":"Storage","refusal":91}'))
+
+
+def example(name):
+    """The requests of a file of the examples, as bytes."""
+    with open(os.path.join(HERE, '..', 'examples', name), 'rb') as file:
+        data = file.read()
+    found = []
+    while data:
+        end = data.index(b'\r\n\r\n') + 4
+        for line in data[:end].split(b'\r\n'):
+            if line.lower().startswith(b'content-length:'):
+                end += int(line.split(b':')[1])
+        found.append(data[:end])
+        data = data[end:]
+    return found
+
+
+def lines(script):
+    return [bytes_of(line) for line in script]
+
+
+# The vehicle of the cancelled order is placed anew, and picks the load up by the next one.
+AGAIN = SCRIPTS['an order is cancelled on its way'] + [
+    order('O2', 'J2', 1), accepted(state(3, 'O2', node='N1', sequence=2, statuses=[('O2.0', 'FINISHED')])),
+    stands('L1', 'vehicle KIT/0001', 'J2')]
+COUNTED = AT_A + [
+    load('L3', 'C'), load('L4'), ok('POST /stocktakes/R2', 'station,load\nA,\nB,L4\nC,L1\nC,L9\n', ''), ok('POST /loads/L3/leave', {'ref': 'R3'}),
+    accepted(state(2)), ok('POST /stocktakes/R4', 'station,load\nB,\nC,L1\nC,L4\n', ''), ('GET /report/stock', None, 200, '')]
+
+
+class Script:
+    """The requests, and once it is played the answer of each and the rows before and after: `rows[n]` after n calls."""
+
+    def __init__(self, requests):
+        self.requests = requests
+
+    def play(self, folder):
+        if not hasattr(self, 'rows'):
+            db = os.path.join(folder, 'played.db')
+            self.answers, self.rows = [], []
+            for number in range(len(self.requests) + 1):
+                status, out, said = run('replay', '--db', db, '--at', AT, stdin=b''.join(self.requests[number - 1:number]))
+                if (status, said) != (0, b''):
+                    raise AssertionError((status, out, said))
+                if number:
+                    self.answers.append(out)
+                self.rows.append(rows_of(db))
+            self.out = b''.join(self.answers)
+            self.input = b''.join(self.requests)
+        return self
+
+    def whole(self, out):
+        """How many answers an output has whole, of which it must be a front."""
+        if not self.out.startswith(out):
+            raise AssertionError(out[-300:])
+        number = 0
+        while number < len(self.answers) and len(out) >= len(self.answers[number]):
+            out = out[len(self.answers[number]):]
+            number += 1
+        return number
+
+
+@functools.lru_cache(None)
+def scripts():
+    return {
+        'a first load': Script(example('first-load.http')),
+        'a transport': Script(example('transport.http')),
+        'a cancelled order': Script(lines(AGAIN)),
+        'a stocktake': Script(lines(COUNTED)),
+    }
+
+
+def check_kept(test, script, db, answered, more=True):
+    """The file has the rows after so many calls, or one more where that is allowed, and the rest of the script goes on from there. It
+    gives how many calls are in the file; -1 where it is no desk's yet: it is missing, has no table, or its first page, which the desk
+    writes but for a byte and then whole, is not there yet."""
+    try:
+        rows = rows_of(db) if os.path.exists(db) else None
+    except sqlite3.DatabaseError:
+        with open(db, 'rb') as file:
+            test.assertEqual((answered, file.read(1)), (0, b'\0'))
+        rows = None
+    at = answered
+    if rows is None:
+        test.assertEqual(answered, 0, 'the file is empty')
+    elif rows != script.rows[answered]:
+        test.assertTrue(more, 'the rows are others')
+        at += 1
+        test.assertEqual(rows, script.rows[at])
+    rest = script.requests[at:]
+    status, out, said = run('replay', '--db', db, '--at', AT, stdin=b''.join(rest))
+    test.assertEqual((status, said), (0, b''))
+    test.assertEqual(out, b''.join(script.answers[at:]))
+    test.assertEqual(rows_of(db), script.rows[-1])
+    return -1 if rows is None else at
+
+
+def port_of(process):
+    """The port on which the program that is traced listens, once it says so; none where it ends before."""
+    while not process.out.endswith(b'\n'):
+        if process.ended.wait(0.001):
+            return None
+    return int(re.fullmatch(rb'listening on 127\.0\.0\.1:(\d+)\n', process.out).group(1))
+
+
+def asks(port, request):
+    """What one connection is answered, as far as it comes."""
+    with socket.create_connection(('127.0.0.1', port), timeout=30) as plain:
+        try:
+            plain.sendall(request)
+            plain.shutdown(socket.SHUT_WR)
+            return read_all(plain)
+        except OSError:
+            # the other end has closed it, with bytes that it hasn't read
+            return b''
+
+
+def without_clock(rows):
+    """The rows with no moments of messages, which are the clock's."""
+    places = {COLUMNS['vehicle'].split().index(name) for name in ('order_at', 'instant_at')}
+    return {**rows, 'vehicle': [
+        tuple(value > 0 if at in places else value for at, value in enumerate(row)) for row in rows['vehicle']]}
+
+
+def remove(db):
+    for end in ('', '-wal', '-shm', '-journal'):
+        if os.path.exists(db + end):
+            os.remove(db + end)
+
+
+def sample(numbers, most):
+    """All of these, or so many spread over them."""
+    numbers = list(numbers)
+    if ALL or len(numbers) <= most:
+        return numbers
+    return [numbers[at * (len(numbers) - 1) // (most - 1)] for at in range(most)]

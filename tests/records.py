@@ -1,0 +1,213 @@
+"""The rows of a desk's file, as another SQLite reads them, and which rules of docs/MODEL.md they break (the joint invariant, with the
+holds)."""
+import collections
+import os
+import re
+import shutil
+import sqlite3
+import tempfile
+
+COLUMNS = {
+    'meta': 'id schema', 'node': 'id', 'edge': 'id start finish', 'station': 'id node capacity',
+    'vehicle': 'manufacturer serial node rest_edge rest_node last_header reported ready paused order_header order_at instant_header '
+               'instant_at pending',
+    'trip': 'order_id manufacturer serial job start first base sent confirmed seen pick_at drop_at pick_status drop_status',
+    'leg': 'order_id k edge', 'load': 'id kind station manufacturer serial', 'job': 'id load origin target phase',
+    'hold': 'kind id manufacturer serial', 'used': 'kind id'}
+STATUSES = {'WAITING', 'INITIALIZING', 'RUNNING', 'PAUSED', 'FINISHED', 'FAILED'}
+PENDING = {None, 'startPause', 'stopPause', 'cancelOrder'}
+OVER = {'FINISHED', 'FAILED'}
+MOST = 4294967295
+LAST_MOMENT = 4102444799999
+
+
+def copied(db, folder):
+    """A copy of the file, with its log where it has one: what reads it changes nothing of the file."""
+    copy = os.path.join(folder, 'copy.db')
+    for end in ('', '-wal', '-shm'):
+        if os.path.exists(copy + end):
+            os.remove(copy + end)
+    for end in ('', '-wal'):
+        if os.path.exists(db + end):
+            shutil.copyfile(db + end, copy + end)
+    return copy
+
+
+def rows_of(db, check=True):
+    """All rows by table, each table sorted; none where the file has no table. The file is left as it is."""
+    with tempfile.TemporaryDirectory(dir=os.path.dirname(db)) as folder:
+        base = sqlite3.connect(copied(db, folder))
+        try:
+            if check and base.execute('PRAGMA integrity_check').fetchall() != [('ok',)]:
+                raise AssertionError(base.execute('PRAGMA integrity_check').fetchall())
+            tables = {name for name, in base.execute("SELECT name FROM sqlite_master WHERE type = 'table'")}
+            if not tables:
+                return None
+            if tables != set(COLUMNS):
+                raise AssertionError(tables)
+            found = {}
+            for table, columns in COLUMNS.items():
+                rows = base.execute('SELECT %s FROM %s NOT INDEXED' % (columns.replace(' ', ', '), table)).fetchall()
+                found[table] = sorted(rows, key=lambda row: [(value is not None, str(value)) for value in row])
+            return found
+        finally:
+            base.close()
+
+
+def is_name(text):
+    return isinstance(text, str) and re.fullmatch(r'[A-Za-z0-9_.:-]{1,32}', text) is not None
+
+
+def is_number(value, least=0, most=MOST):
+    return isinstance(value, int) and least <= value <= most
+
+
+class Row:
+    def __init__(self, names, values):
+        self.__dict__.update(zip(names, values))
+
+
+def broken(rows):
+    """The rules that these rows break, as texts; an empty list where they are a lawful world's."""
+    found = []
+
+    def must(holds, rule, *of):
+        if not holds:
+            found.append(' '.join([rule, *map(str, of)]))
+
+    tables = {table: [Row(columns.split(), row) for row in rows[table]] for table, columns in COLUMNS.items()}
+    must(rows['meta'] == [(1, 1)], 'meta')
+    keys = {'node': ['id'], 'edge': ['id'], 'station': ['id'], 'vehicle': ['manufacturer', 'serial'], 'trip': ['order_id'],
+            'leg': ['order_id', 'k'], 'load': ['id'], 'job': ['id'], 'hold': ['kind', 'id'], 'used': ['kind', 'id']}
+    for table, names in keys.items():
+        told = collections.Counter(tuple(getattr(row, name) for name in names) for row in tables[table])
+        must(all(count == 1 for count in told.values()), 'a key twice', table)
+        must(all(is_name(part) for key in told for part in key if not isinstance(part, int)), 'names', table)
+    # the layout
+    nodes = {row.id for row in tables['node']}
+    edges = {row.id: (row.start, row.finish) for row in tables['edge']}
+    stations = {row.id: row for row in tables['station']}
+    must(nodes or not (edges or stations), 'laid')
+    must(len(nodes) <= 500 and len(edges) <= 1500 and len(stations) <= 500, 'laid')
+    for edge, (start, finish) in edges.items():
+        must(start in nodes and finish in nodes and start != finish, 'laid: edge', edge)
+    for row in stations.values():
+        must(row.node in nodes and is_number(row.capacity, 1, 999), 'laid: station', row.id)
+    # vehicles and their trips
+    must(len(tables['vehicle']) <= 100, 'few_vehicles')
+    used = {'order': set(), 'ref': set()}
+    for row in tables['used']:
+        must(row.kind in used, 'used: kind', row.kind)
+        used.setdefault(row.kind, set()).add(row.id)
+    must(all(len(names) <= 1_000_000 for names in used.values()), 'few_orders, few_references')
+    vehicles = {(row.manufacturer, row.serial): row for row in tables['vehicle']}
+    trips = {}
+    for row in tables['trip']:
+        key = row.manufacturer, row.serial
+        must(key in vehicles and key not in trips, 'trips: vehicle', key)
+        trips[key] = row
+    must(len({row.job for row in tables['trip']}) == len(tables['trip']), 'one_vehicle')
+    legs = collections.defaultdict(list)
+    for row in sorted(tables['leg'], key=lambda row: (row.order_id, row.k)):
+        must(row.k == len(legs[row.order_id]), 'legs', row.order_id, row.k)
+        legs[row.order_id].append(row.edge)
+    must(set(legs) <= {row.order_id for row in tables['trip']}, 'legs of no trip')
+    jobs = {row.id: row for row in tables['job']}
+    held = collections.defaultdict(set)
+    for key, row in vehicles.items():
+        must(row.node in nodes, 'vehicles: node', key)
+        must((row.rest_edge is None) == (row.rest_node is None), 'vehicles: rest', key)
+        must(row.rest_edge is None or edges.get(row.rest_edge) == (row.node, row.rest_node), 'vehicles: rest', key)
+        must(row.last_header is None or is_number(row.last_header), 'vehicles: header', key)
+        must(row.reported is None or is_name(row.reported), 'vehicles: reported', key)
+        must(row.ready in (0, 1) and row.paused in (0, 1), 'vehicles: ready, paused', key)
+        for count, at in ((row.order_header, row.order_at), (row.instant_header, row.instant_at)):
+            must(is_number(count) and is_number(at, 0, LAST_MOMENT) and (count or not at), 'vehicles: sent', key)
+        must(row.pending in PENDING and (row.pending is None or row.instant_header), 'vehicles: pending', key)
+        if key not in trips:
+            held['node', row.node].add(key)
+            if row.rest_edge is not None:
+                held['edge', row.rest_edge].add(key)
+                held['node', row.rest_node].add(key)
+    for key, row in trips.items():
+        check_trip(row, vehicles.get(key), jobs.get(row.job), legs[row.order_id], edges, stations, must)
+        must(row.order_id in used['order'], 'used', row.order_id)
+        way = [row.start] + [edges[edge][1] for edge in legs[row.order_id] if edge in edges]
+        for k in range(row.seen, row.base + 1):
+            if k < len(way):
+                held['node', way[k]].add(key)
+            if k < row.base and k < len(legs[row.order_id]):
+                held['edge', legs[row.order_id][k]].add(key)
+    must(all(len(keys) == 1 for keys in held.values()), 'apart')
+    must({(row.kind, row.id): {(row.manufacturer, row.serial)} for row in tables['hold']} == dict(held), 'holds')
+    # loads and jobs
+    loads = {row.id: row for row in tables['load']}
+    must(len(loads) <= 1_000_000 and len(jobs) <= 1_000_000, 'few_loads, few_jobs')
+    at_station, on_vehicle = collections.Counter(), collections.defaultdict(set)
+    for row in loads.values():
+        must(row.kind in ('station', 'vehicle', 'checking', 'left'), 'places: kind', row.id)
+        must((row.station is not None) == (row.kind == 'station'), 'places', row.id)
+        must((row.manufacturer is not None) == (row.serial is not None) == (row.kind == 'vehicle'), 'places', row.id)
+        if row.kind == 'station':
+            must(row.station in stations, 'places: station', row.id)
+            at_station[row.station] += 1
+        if row.kind == 'vehicle':
+            must((row.manufacturer, row.serial) in vehicles, 'places: vehicle', row.id)
+            on_vehicle[row.manufacturer, row.serial].add(row.id)
+    live = collections.Counter()
+    to_drop = {row.job: row for row in trips.values() if row.drop_status != 'FINISHED'}
+    for row in jobs.values():
+        must(row.load in loads and row.origin in stations and row.target in stations, 'jobs', row.id)
+        must(row.phase in ('waiting', 'riding', 'done', 'stopped'), 'jobs: phase', row.id)
+        must((row.phase == 'riding') == (row.id in to_drop), 'riding', row.id)
+        if row.phase in ('waiting', 'riding'):
+            live[row.load] += 1
+            at_station[row.target] += 1
+        if row.phase == 'waiting' and row.load in loads:
+            must(loads[row.load].station == row.origin, 'waiting', row.id)
+    must(all(count == 1 for count in live.values()), 'one_job')
+    must(all(count <= stations[name].capacity for name, count in at_station.items() if name in stations), 'room')
+    for key in vehicles:
+        trip = trips.get(key)
+        job = jobs.get(trip.job) if trip else None
+        others = on_vehicle[key] - ({job.load} if job and job.phase in ('waiting', 'riding') else set())
+        must(len(others) + (job is not None and job.phase != 'done') <= 1, 'idle, within_capacity', key)
+        if job and trip.drop_status == 'FINISHED':
+            must(job.phase == 'done', 'done', job.id)
+        if job and job.phase in ('waiting', 'riding') and job.load in loads:
+            row = loads[job.load]
+            if trip.pick_status == 'FINISHED':
+                must((row.manufacturer, row.serial) == key, 'carried', job.id)
+            else:
+                must(row.station == job.origin, 'carried', job.id)
+    return found
+
+
+def check_trip(row, vehicle, job, legs, edges, stations, must):
+    """A trip is planned on the layout, was sent, and is under way."""
+    order = row.order_id
+    must(job is not None and vehicle is not None, 'trips: job', order)
+    must(len(legs) <= 200 and all(edge in edges for edge in legs), 'trips: edges', order)
+    if job is None or vehicle is None or any(edge not in edges for edge in legs):
+        return
+    way, end = [row.start], len(legs)
+    for edge in legs:
+        must(edges[edge][0] == way[-1], 'trips: walk', order)
+        way.append(edges[edge][1])
+    for number in (row.first, row.base, row.sent, row.seen, row.pick_at, row.drop_at):
+        must(is_number(number), 'trips: numbers', order)
+    must(row.first <= row.base <= end and row.seen <= row.base and row.sent <= row.base, 'trips: base', order)
+    must(row.first < row.base if row.sent else row.first == 0, 'trips: first', order)
+    must(row.pick_at <= row.drop_at == end, 'trips: rising', order)
+    for at, station in ((row.pick_at, job.origin), (row.drop_at, job.target)):
+        must(station in stations and at <= end and way[at] == stations[station].node, 'trips: stations', order)
+    must({row.pick_status, row.drop_status} <= STATUSES, 'trips: statuses', order)
+    if row.confirmed is None:
+        must(row.sent == row.first == row.seen == 0 and row.pick_status == row.drop_status == 'WAITING', 'trips: confirmed', order)
+    else:
+        must(row.confirmed == row.sent or row.confirmed + 1 == row.sent and row.seen <= row.first, 'trips: confirmed', order)
+    must(row.pick_status != 'FINISHED' or row.pick_at <= row.seen, 'trips: reached', order)
+    must(row.drop_status != 'FINISHED' or row.drop_at <= row.seen and row.pick_status == 'FINISHED', 'trips: in turn', order)
+    must(not (row.seen == end and {row.pick_status, row.drop_status} <= OVER), 'trips: open', order)
+    must(vehicle.order_header and vehicle.rest_edge is None, 'trips: sent', order)
+    must(row.seen <= end and way[row.seen] == vehicle.node, 'trips: stands', order)

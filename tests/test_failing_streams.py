@@ -1,0 +1,193 @@
+"""Standard input that fails at its n-th read, or ends there, and standard output that fails at its n-th write, or takes nothing or one
+byte. The program ends as docs/HTTP.md says; the bytes that it has written are a front of the whole answers, and what stands in the file is
+what was answered, with the call whose answer was cut."""
+import errno
+import unittest
+
+import tracing
+from faults import ALL, asks, check_kept, port_of, remove, sample, scripts, without_clock
+from records import rows_of
+from test_program import DESK, over_sockets, without_moments
+from test_stops import LACKS, FaultTest
+
+PART = 97  # bytes that one read of standard input gives at most
+BAD_HEAD = (b'HTTP/1.1 400 Bad Request\r\nContent-Length: 30\r\nContent-Type: application/json\r\nConnection: close\r\n\r\n'
+            b'{"name":"BadHead","refusal":1}')
+
+
+@unittest.skipIf(LACKS, LACKS)
+class FailingStreams(FaultTest):
+    def serve(self, script, told_read=None, told_write=None):
+        """The program serves the script on a new file. Its reads of standard input are of small parts."""
+        remove(self.db)
+        reads, writes = [], []
+
+        def on_call(call):
+            if call.name in ('read', 'readv') and call.file == 0:
+                reads.append(call)
+                told = told_read(len(reads)) if told_read else None
+                return told or tracing.Short(PART)
+            if call.name in ('write', 'writev') and call.file == 1:
+                writes.append(call)
+                return told_write(len(writes)) if told_write else None
+            return None
+
+        return tracing.run(self.words, ['read', 'readv', 'write', 'writev'], on_call, script.input), reads, writes
+
+    def begun(self, script, given):
+        """How many requests are whole in so many bytes of the input, and whether there is more."""
+        number = 0
+        while number < len(script.requests) and given >= len(script.requests[number]):
+            given -= len(script.requests[number])
+            number += 1
+        return number, given > 0
+
+    def test_reads_that_fail(self):
+        failed = 0
+        for name in scripts():
+            script = self.played(name)
+            ended, reads, _ = self.serve(script)
+            self.assertEqual((ended.status, ended.out, ended.said), (0, script.out, b''))
+            self.assertGreater(len(reads), len(script.input) // PART)
+            for n in sample(range(1, len(reads) + 1), 12):
+                for error in (errno.EIO, errno.EINTR):
+                    with self.subTest(name, n=n, error=error):
+                        ended, _, _ = self.serve(script, lambda number: tracing.Fails(error) if number == n else None)
+                        if error == errno.EINTR and ended.status == 0:
+                            self.assertEqual((ended.out, ended.said), (script.out, b''))
+                            continue
+                        whole, _ = self.begun(script, (n - 1) * PART)
+                        self.assertEqual((ended.status, ended.said), (1, b'fault: Read\n'))
+                        self.assertEqual(ended.out, b''.join(script.answers[:whole]))
+                        self.assertEqual(check_kept(self, script, self.db, whole, more=False), whole)
+                        failed += 1
+        self.assertGreater(failed, 40)
+
+    def test_inputs_that_end(self):
+        """At the end of a request all is well; within one it is refused, and what came before it is answered."""
+        cut, at_end = 0, 0
+        for name in scripts():
+            script = self.played(name)
+            reads = len(script.input) // PART + 2
+            for n in sample(range(1, reads + 1), 15):
+                with self.subTest(name, n=n):
+                    ended, _, _ = self.serve(script, lambda number: tracing.Gives(0) if number >= n else None)
+                    whole, more = self.begun(script, min((n - 1) * PART, len(script.input)))
+                    self.assertEqual((ended.status, ended.said), (0, b''))
+                    self.assertEqual(ended.out, b''.join(script.answers[:whole]) + (BAD_HEAD if more else b''))
+                    self.assertEqual(check_kept(self, script, self.db, whole, more=False), whole)
+                    cut, at_end = cut + more, at_end + (not more)
+        self.assertGreater(cut, 20)
+        self.assertGreater(at_end, 3)
+
+    def test_writes_that_fail(self):
+        """The call whose answer can't be written is carried out; none behind it is."""
+        failed = 0
+        for name in scripts():
+            script = self.played(name)
+            ended, _, writes = self.serve(script)
+            self.assertEqual(ended.out, script.out)
+            self.assertGreaterEqual(len(writes), len(script.requests))
+            for n in sample(range(1, len(writes) + 1), 7):
+                for told in (tracing.Fails(errno.EIO), tracing.Fails(errno.EPIPE), tracing.Fails(errno.ENOSPC), tracing.Gives(0)):
+                    with self.subTest(name, n=n, told=vars(told)):
+                        ended, _, _ = self.serve(script, None, lambda number: told if number == n else None)
+                        self.assertEqual((ended.status, ended.said), (1, b'fault: Write\n'))
+                        answered = script.whole(ended.out)
+                        self.assertEqual(answered, n - 1 if len(writes) == len(script.requests) else answered)
+                        self.assertEqual(rows_of(self.db), script.rows[answered + 1])
+                        check_kept(self, script, self.db, answered)
+                        failed += 1
+        self.assertGreater(failed, 60)
+
+    def test_writes_of_a_byte(self):
+        """One write, or each from one on, takes a byte: all is written in the end. One byte, and then nothing: an answer is cut."""
+        cut = 0
+        for name in scripts():
+            script = self.played(name)
+            _, _, writes = self.serve(script)
+            for n in sample(range(1, len(writes) + 1), 4):
+                with self.subTest(name, n=n):
+                    ended, _, _ = self.serve(script, None, lambda number: tracing.Short(1) if number == n else None)
+                    self.assertEqual((ended.status, ended.out, ended.said), (0, script.out, b''))
+                    ended, _, _ = self.serve(
+                        script, None, lambda number: tracing.Short(1) if n <= number < n + 40 else
+                        tracing.Fails(errno.EIO) if number == n + 40 else None)
+                    self.assertEqual((ended.status, ended.said), (1, b'fault: Write\n'))
+                    answered = script.whole(ended.out)
+                    self.assertEqual(len(ended.out), len(b''.join(script.answers[:answered])) + 40)
+                    self.assertEqual(rows_of(self.db), script.rows[answered + 1])
+                    check_kept(self, script, self.db, answered)
+                    cut += 1
+            ended, _, _ = self.serve(script, None, lambda number: tracing.Short(1))
+            self.assertEqual((ended.status, ended.out, ended.said), (0, script.out, b''))
+        self.assertGreater(cut, 10)
+
+
+@unittest.skipIf(LACKS, LACKS)
+@over_sockets
+class FailingConnections(FaultTest):
+    def serve(self, script, name, told):
+        """The program serves each request by a connection of its own. Which requests weren't answered whole; where the fault is of reads
+        they are asked again."""
+        answers, lost, seen = [], [], []
+        wanted = [without_moments(answer) for answer in script.answers]
+        words = [DESK, 'serve', '--db', self.db, '--port', '0', '--connections', str(len(script.requests) + 1)]
+
+        def on_call(call):
+            if not call.path.startswith('socket:'):
+                return None
+            seen.append(call)
+            return told(len(seen)) if told else None
+
+        def beside(process):
+            port = port_of(process)
+            for number, request in enumerate(script.requests):
+                answer = without_moments(asks(port, request))
+                if answer != wanted[number]:
+                    lost.append(number)
+                    if name == 'recvfrom':
+                        answer = without_moments(asks(port, request))
+                answers.append(answer)
+            if not lost or name != 'recvfrom':
+                asks(port, b'')
+
+        remove(self.db)
+        ended = tracing.run(words, [name], on_call, beside=beside)
+        self.assertEqual((ended.status, ended.said), (0, b''))
+        self.assertEqual(without_clock(rows_of(self.db)), without_clock(script.rows[-1]))
+        for number, answer in enumerate(answers):
+            if number in lost and name == 'sendto':
+                self.assertTrue(wanted[number].startswith(answer))
+            else:
+                self.assertEqual(answer, wanted[number])
+        return lost, seen
+
+    def check(self, name, most, faults):
+        met = {'lost': 0, 'whole': 0}
+        for title in scripts():
+            script = self.played(title)
+            lost, seen = self.serve(script, name, None)
+            self.assertEqual(lost, [])
+            self.assertGreaterEqual(len(seen), len(script.requests))
+            for n in sample(range(1, len(seen) + 1), most):
+                for fault in faults:
+                    with self.subTest(title, n=n, fault=vars(fault)):
+                        lost, _ = self.serve(script, name, lambda number: fault if number == n else None)
+                        self.assertLessEqual(len(lost), 1)
+                        met['lost' if lost else 'whole'] += 1
+        if ALL:
+            print('%s of a connection: %s' % (name, met))
+        self.assertGreater(met['lost'], 10)
+
+    def test_reads_that_fail(self):
+        """The connection ends, and the next one is served."""
+        self.check('recvfrom', 5, (tracing.Fails(errno.EIO), tracing.Gives(0)))
+
+    def test_writes_that_fail(self):
+        """The call stands, and the next connection is served."""
+        self.check('sendto', 4, (tracing.Fails(errno.EPIPE), tracing.Gives(0), tracing.Short(1)))
+
+
+if __name__ == '__main__':
+    unittest.main()

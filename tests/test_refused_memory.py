@@ -1,0 +1,145 @@
+"""Each allocation of the program is refused in turn: its calls of the C library's heap are counted, and the k-th gets no memory, or none
+from the k-th on. The calls before are answered, the one that lacks memory by the refusal for want of memory, and it changes nothing; a
+further run, or the next connection, goes on from there. What a program takes by other ways than `malloc` and its like isn't reached."""
+import unittest
+
+import tracing
+from faults import ALL, MEMORY, STORAGE, asks, check_kept, port_of, remove, sample, scripts, without_clock
+from records import rows_of
+from test_program import AT, DESK, over_sockets, without_moments
+from test_stops import LACKS, FaultTest
+
+
+def lacks_heap():
+    if LACKS:
+        return LACKS
+    try:
+        slots = set(tracing.slots_of(DESK)[1].values())
+    except (OSError, ValueError) as error:
+        return 'the calls of the heap can not be found: %s' % error
+    return None if 'malloc' in slots else 'the program asks no C library that is loaded beside it for memory'
+
+
+NO_HEAP = lacks_heap()
+
+
+@unittest.skipIf(NO_HEAP, NO_HEAP)
+class RefusedMemory(FaultTest):
+    def serve(self, given, db, first=None, times=1):
+        words = [DESK, 'replay', '--db', db, '--at', AT]
+        return tracing.run(words, stdin=given, heap=tracing.Heap(DESK, first, times))
+
+    def calls(self, name, script, db):
+        """Which calls of the heap are tried: those of the opening, which are the same for all scripts, with the first one alone."""
+        remove(self.db)
+        opening = self.serve(b'', db).asked
+        remove(self.db)
+        ended = self.serve(script.input, db)
+        self.assertEqual((ended.status, ended.out, ended.said, ended.refused), (0, script.out, b'', 0))
+        self.assertGreater(opening, 100)
+        self.assertGreater(ended.asked, opening + 10 * len(script.requests))
+        return range(1 if name == 'a first load' else opening + 1, ended.asked + 1)
+
+    def check(self, db, times, most):
+        """A refusal at each call of the heap. Of a run in memory nothing is kept, and what its files there lack is told of the store."""
+        met = {'not opened': 0, 'refused': 0, 'served': 0}
+        faults = {MEMORY: b'fault: Memory\n'}
+        if db == 'memory':
+            faults[STORAGE] = b'fault: Storage\n'
+        for name in scripts():
+            script = self.played(name)
+            calls = self.calls(name, script, db)
+            for k in sample(calls if times else calls[::7], most):
+                with self.subTest(name, k=k, of=calls[-1], times=times):
+                    remove(self.db)
+                    ended = self.serve(script.input, db, k, times)
+                    self.assertGreaterEqual(ended.refused, 1)
+                    answered = len(script.requests)
+                    if ended.status == 0:
+                        self.assertEqual((ended.out, ended.said), (script.out, b''))
+                        met['served'] += 1
+                    elif not ended.out:
+                        self.assertEqual(ended.status, 1)
+                        self.assertIn(ended.said, faults.values())
+                        answered = 0
+                        met['not opened'] += 1
+                    else:
+                        answer = next((answer for answer in faults if ended.out.endswith(answer)), None)
+                        self.assertIsNotNone(answer, ended.out[-200:])
+                        self.assertEqual((ended.status, ended.said), (1, faults[answer]))
+                        front = ended.out[:-len(answer)]
+                        answered = script.whole(front)
+                        self.assertEqual(front, b''.join(script.answers[:answered]))
+                        met['refused'] += 1
+                    if db != 'memory':
+                        check_kept(self, script, self.db, answered, more=False)
+            if ALL:
+                print('%s, %s, %s of the calls %d to %d of the heap: %s so far' % (
+                    name, 'in memory' if db == 'memory' else 'on a file', 'one' if times else 'all from one on', calls[0], calls[-1], met))
+        self.assertGreater(min(met['not opened'], met['refused']), most // 2, met)
+
+    def test_one_on_a_file(self):
+        self.check(self.db, 1, 40)
+
+    def test_one_in_memory(self):
+        self.check('memory', 1, 30)
+
+    def test_all_from_one_on(self):
+        self.check(self.db, None, 15)
+        self.check('memory', None, 10)
+
+
+@unittest.skipIf(NO_HEAP, NO_HEAP)
+@over_sockets
+class RefusedConnections(FaultTest):
+    def serve(self, requests, first=None):
+        """The program serves each request by a connection of its own. One that isn't answered, or for want of memory, is asked again."""
+        answers, again = [], []
+        words = [DESK, 'serve', '--db', self.db, '--port', '0', '--connections', '%04d' % (len(requests) + 1)]
+
+        def beside(process):
+            port = port_of(process)
+            if not port:
+                return
+            for request in requests:
+                answer = asks(port, request)
+                if answer in (b'', MEMORY):
+                    again.append(answer)
+                    answer = asks(port, request)
+                answers.append(answer)
+            if not again:
+                asks(port, b'')
+
+        remove(self.db)
+        return tracing.run(words, heap=tracing.Heap(DESK, first), beside=beside), answers, again
+
+    def test_one_while_connections_are_served(self):
+        met = {'not opened': 0, 'asked again': 0, 'served': 0}
+        for name in scripts():
+            script = self.played(name)
+            opening = self.serve([])[0].asked
+            ended, answers, again = self.serve(script.requests)
+            self.assertEqual((ended.status, ended.said, len(again)), (0, b'', 0))
+            wanted = [without_moments(answer) for answer in script.answers]
+            self.assertEqual([without_moments(answer) for answer in answers], wanted)
+            calls = range(1 if name == 'a first load' else opening + 1, ended.asked + 1)
+            for k in sample(calls, 12):
+                with self.subTest(name, k=k, of=calls[-1]):
+                    one, answers, again = self.serve(script.requests, k)
+                    self.assertEqual(one.refused, 1)
+                    if not one.out:
+                        self.assertEqual((one.status, one.said), (1, b'fault: Memory\n'))
+                        self.assertLessEqual(check_kept(self, script, self.db, 0, more=False), 0)
+                        met['not opened'] += 1
+                        continue
+                    self.assertEqual((one.status, one.said), (0, b''))
+                    self.assertEqual([without_moments(answer) for answer in answers], wanted)
+                    self.assertEqual(without_clock(rows_of(self.db)), without_clock(script.rows[-1]))
+                    met['asked again' if again else 'served'] += 1
+            if ALL:
+                print('%s, over connections, one of the calls %d to %d of the heap: %s so far' % (name, calls[0], calls[-1], met))
+        self.assertGreater(min(met['not opened'], met['asked again']), 6, met)
+
+
+if __name__ == '__main__':
+    unittest.main()
