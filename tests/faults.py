@@ -48,15 +48,34 @@ COUNTED = AT_A + [
     accepted(state(2)), ok('POST /stocktakes/R4', 'station,load\nB,\nC,L1\nC,L4\n', ''), ('GET /report/stock', None, 200, '')]
 
 
-class Script:
-    """The requests, and once it is played the answer of each and the rows before and after: `rows[n]` after n calls."""
+# So many registrations that a few calls later the log is full, and what it has goes to the database.
+FILL = [bytes_of(load('C%04d' % number)) for number in range(183)]
 
-    def __init__(self, requests):
-        self.requests = requests
+
+class Script:
+    """The requests, and once it is played the answer of each and the rows before and after: `rows[n]` after n calls. It begins on a new
+    file, or on one that has served other requests before."""
+
+    def __init__(self, requests, before=()):
+        self.requests, self.before, self.files = requests, before, {}
+
+    def start(self, db):
+        """The files are there with which the script begins."""
+        remove(db)
+        for end, data in self.files.items():
+            with open(db + end, 'wb') as file:
+                file.write(data)
 
     def play(self, folder):
         if not hasattr(self, 'rows'):
             db = os.path.join(folder, 'played.db')
+            if self.before:
+                status, _, said = run('replay', '--db', db, '--at', AT, stdin=b''.join(self.before))
+                if (status, said) != (0, b''):
+                    raise AssertionError((status, said))
+                for end in ('', '-wal'):
+                    with open(db + end, 'rb') as file:
+                        self.files[end] = file.read()
             self.answers, self.rows = [], []
             for number in range(len(self.requests) + 1):
                 status, out, said = run('replay', '--db', db, '--at', AT, stdin=b''.join(self.requests[number - 1:number]))
@@ -90,6 +109,13 @@ def scripts():
     }
 
 
+@functools.lru_cache(None)
+def full_log():
+    """A transport amid which the log is full."""
+    requests = example('transport.http')
+    return Script(requests[4:], requests[:4] + FILL)
+
+
 def check_kept(test, script, db, answered, more=True):
     """The file has the rows after so many calls, or one more where that is allowed, and the rest of the script goes on from there. It
     gives how many calls are in the file; -1 where it is no desk's yet: it is missing, has no table, or its first page, which the desk
@@ -98,11 +124,11 @@ def check_kept(test, script, db, answered, more=True):
         rows = rows_of(db) if os.path.exists(db) else None
     except sqlite3.DatabaseError:
         with open(db, 'rb') as file:
-            test.assertEqual((answered, file.read(1)), (0, b'\0'))
+            test.assertEqual((answered, script.files, file.read(1)), (0, {}, b'\0'))
         rows = None
     at = answered
     if rows is None:
-        test.assertEqual(answered, 0, 'the file is empty')
+        test.assertEqual((answered, script.files), (0, {}), 'the file is empty')
     elif rows != script.rows[answered]:
         test.assertTrue(more, 'the rows are others')
         at += 1

@@ -6,8 +6,8 @@ import os
 import unittest
 
 import tracing
-from faults import ALL, STORAGE, check_kept, remove, sample, scripts
-from test_stops import LACKS, FaultTest
+from faults import ALL, STORAGE, check_kept, sample, scripts
+from test_stops import FULL, LACKS, FaultTest
 
 CALLS = [
     'openat', 'fstat', 'newfstatat', 'statx', 'read', 'pread64', 'preadv', 'write', 'pwrite64', 'pwritev', 'ftruncate', 'fallocate',
@@ -18,8 +18,8 @@ ROOM = {'openat', 'write', 'pwrite64', 'pwritev', 'ftruncate', 'fallocate', 'fsy
 @unittest.skipIf(LACKS, LACKS)
 class FailingDisk(FaultTest):
     def serve(self, script, kinds, told):
-        """The program serves the script on a new file; what each of its calls on the file of these kinds is told, by its number."""
-        remove(self.db)
+        """The program serves the script; what each of its calls on the file of these kinds is told, by its number."""
+        script.start(self.db)
         seen = []
 
         def on_call(call):
@@ -36,7 +36,7 @@ class FailingDisk(FaultTest):
     def check(self, kinds, error, once, most):
         """A failure at each call. The program may end with nothing done, amid the script, or pass the failure over."""
         met = {'not opened': 0, 'refused': 0, 'served': 0}
-        for name in scripts():
+        for name in [*scripts(), FULL]:
             script = self.played(name)
             ended, seen = self.serve(script, kinds, lambda number, call: None)
             self.assertEqual((ended.status, ended.out), (0, script.out))
@@ -66,13 +66,13 @@ class FailingDisk(FaultTest):
         self.assertGreater(min(met['not opened'], met['refused']), 10)
 
     def test_each_call_fails_from_one_on(self):
-        self.check(set(CALLS), errno.EIO, False, 25)
+        self.check(set(CALLS), errno.EIO, False, 16)
 
     def test_one_call_fails(self):
-        self.check(set(CALLS), errno.EIO, True, 16)
+        self.check(set(CALLS), errno.EIO, True, 10)
 
     def test_no_room_from_one_write_on(self):
-        self.check(ROOM, errno.ENOSPC, False, 16)
+        self.check(ROOM, errno.ENOSPC, False, 10)
 
     def test_small_writes(self):
         """What a write has left is written by the next."""
@@ -92,7 +92,7 @@ class FailingDisk(FaultTest):
             script = self.played(name)
             parts = {'pread64', 'pwrite64'}
             _, seen = self.serve(script, parts, lambda number, call: None)
-            for n in sample(range(1, len(seen) + 1), 10):
+            for n in sample(range(1, len(seen) + 1), 7):
                 for told in (tracing.Gives(0), tracing.Short(7)):
                     if isinstance(told, tracing.Short) and seen[n - 1] == 'pwrite64':
                         continue

@@ -7,7 +7,7 @@ import tracing
 from faults import ALL, MEMORY, STORAGE, asks, check_kept, port_of, remove, sample, scripts, without_clock
 from records import rows_of
 from test_program import AT, DESK, over_sockets, without_moments
-from test_stops import LACKS, FaultTest
+from test_stops import FULL, LACKS, FaultTest
 
 
 def lacks_heap():
@@ -30,15 +30,15 @@ class RefusedMemory(FaultTest):
         return tracing.run(words, stdin=given, heap=tracing.Heap(DESK, first, times))
 
     def calls(self, name, script, db):
-        """Which calls of the heap are tried: those of the opening, which are the same for all scripts, with the first one alone."""
-        remove(self.db)
+        """Which calls of the heap are tried: those of the opening of a new file, which are the same for these scripts, with one of them alone."""
+        script.start(self.db)
         opening = self.serve(b'', db).asked
-        remove(self.db)
+        script.start(self.db)
         ended = self.serve(script.input, db)
         self.assertEqual((ended.status, ended.out, ended.said, ended.refused), (0, script.out, b'', 0))
         self.assertGreater(opening, 100)
         self.assertGreater(ended.asked, opening + 10 * len(script.requests))
-        return range(1 if name == 'a first load' else opening + 1, ended.asked + 1)
+        return range(1 if name in ('a first load', FULL) else opening + 1, ended.asked + 1)
 
     def check(self, db, times, most):
         """A refusal at each call of the heap. Of a run in memory nothing is kept, and what its files there lack is told of the store."""
@@ -46,12 +46,12 @@ class RefusedMemory(FaultTest):
         faults = {MEMORY: b'fault: Memory\n'}
         if db == 'memory':
             faults[STORAGE] = b'fault: Storage\n'
-        for name in scripts():
+        for name in scripts() if db == 'memory' else [*scripts(), FULL]:
             script = self.played(name)
             calls = self.calls(name, script, db)
             for k in sample(calls if times else calls[::7], most):
                 with self.subTest(name, k=k, of=calls[-1], times=times):
-                    remove(self.db)
+                    script.start(self.db)
                     ended = self.serve(script.input, db, k, times)
                     self.assertGreaterEqual(ended.refused, 1)
                     answered = len(script.requests)
@@ -79,14 +79,14 @@ class RefusedMemory(FaultTest):
         self.assertGreater(min(met['not opened'], met['refused']), most // 2, met)
 
     def test_one_on_a_file(self):
-        self.check(self.db, 1, 40)
+        self.check(self.db, 1, 30)
 
     def test_one_in_memory(self):
-        self.check('memory', 1, 30)
+        self.check('memory', 1, 20)
 
     def test_all_from_one_on(self):
-        self.check(self.db, None, 15)
-        self.check('memory', None, 10)
+        self.check(self.db, None, 10)
+        self.check('memory', None, 8)
 
 
 @unittest.skipIf(NO_HEAP, NO_HEAP)
@@ -123,7 +123,7 @@ class RefusedConnections(FaultTest):
             wanted = [without_moments(answer) for answer in script.answers]
             self.assertEqual([without_moments(answer) for answer in answers], wanted)
             calls = range(1 if name == 'a first load' else opening + 1, ended.asked + 1)
-            for k in sample(calls, 12):
+            for k in sample(calls, 9):
                 with self.subTest(name, k=k, of=calls[-1]):
                     one, answers, again = self.serve(script.requests, k)
                     self.assertEqual(one.refused, 1)
@@ -138,7 +138,7 @@ class RefusedConnections(FaultTest):
                     met['asked again' if again else 'served'] += 1
             if ALL:
                 print('%s, over connections, one of the calls %d to %d of the heap: %s so far' % (name, calls[0], calls[-1], met))
-        self.assertGreater(min(met['not opened'], met['asked again']), 6, met)
+        self.assertGreater(min(met['not opened'], met['asked again']), 5, met)
 
 
 if __name__ == '__main__':

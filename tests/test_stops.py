@@ -7,7 +7,7 @@ import tempfile
 import unittest
 
 import tracing
-from faults import ALL, FOLDER, check_kept, remove, sample, scripts
+from faults import ALL, FOLDER, check_kept, full_log, remove, sample, scripts
 from test_program import AT, DESK
 
 LACKS = tracing.lacks()
@@ -16,8 +16,9 @@ WRITES = [
     'unlinkat', 'rename', 'renameat', 'renameat2', 'copy_file_range', 'sync_file_range']
 # Open flags of Linux on x86-64.
 O_CREAT, O_TRUNC = 0o100, 0o1000
-CUTS = 100 if not ALL else None
+CUTS = 20 if not ALL else 1000  # in each script
 VARIANTS = 1 if not ALL else 12
+FULL = 'a full log'
 
 
 def changes_file(call, db):
@@ -39,34 +40,37 @@ class FaultTest(unittest.TestCase):
 
     def played(self, name):
         with tempfile.TemporaryDirectory(dir=FOLDER) as folder:
-            return scripts()[name].play(folder)
+            return (full_log() if name == FULL else scripts()[name]).play(folder)
 
 
 @unittest.skipIf(LACKS, LACKS)
 class Stops(FaultTest):
     def stop(self, script, k):
-        """The program serves the script on a new file, and is ended before its k-th write. It gives how it ended, and the call."""
-        remove(self.db)
+        """The program serves the script, and is ended before its k-th write. It gives how it ended, and the writes."""
+        script.start(self.db)
         at = []
 
         def on_call(call):
             if not changes_file(call, self.db):
                 return None
-            at.append(call.name)
+            at.append((call.name, call.path))
             return tracing.STOP if len(at) == k else None
 
         return tracing.run(self.words, WRITES, on_call, script.input), at
 
     def test_a_stop_at_each_write(self):
-        for name in scripts():
+        for name in [*scripts(), FULL]:
             script = self.played(name)
             ended, writes = self.stop(script, 0)
             self.assertEqual((ended.status, ended.out, ended.said), (0, script.out, b''))
             self.assertGreater(len(writes), len(script.requests), name)
+            if name == FULL:
+                # the log goes to the database, page by page
+                self.assertGreater(writes.count(('pwrite64', self.db)), 20)
             met = {'before': 0, 'after': 0, 'new': 0}
-            tried = sample(range(1, len(writes) + 1), 40)
+            tried = sample(range(1, len(writes) + 1), 30)
             for k in tried:
-                with self.subTest(name, k=k, call=writes[k - 1]):
+                with self.subTest(name, k=k, call=writes[k - 1][0]):
                     ended, told = self.stop(script, k)
                     self.assertEqual((ended.status, len(told)), (-9, k))
                     answered = script.whole(ended.out)
@@ -74,7 +78,7 @@ class Stops(FaultTest):
                     kept = check_kept(self, script, self.db, answered)
                     met['new' if kept < 0 else 'after' if kept > answered else 'before'] += 1
             self.assertEqual(sum(met.values()), len(tried))
-            self.assertGreater(min(met.values()), 0, (name, met))
+            self.assertEqual({end for end in met if not met[end]}, {'new'} if name == FULL else set(), (name, met))
             if ALL:
                 print('%s: ended before each of %d writes: %s' % (name, len(writes), met))
 
@@ -121,8 +125,10 @@ def changed(data, kind, what):
 class Disk:
     """What of the files is on the disk for sure, and which changes may be lost."""
 
-    def __init__(self, folder):
-        self.folder, self.made, self.files, self.pending = folder, set(), {}, []
+    def __init__(self, db, files):
+        self.folder, self.pending = os.path.dirname(db), []
+        self.files = {db + end: data for end, data in files.items()}
+        self.made = set(self.files)
 
     def do(self, event):
         kind, path, what = event
@@ -162,12 +168,12 @@ class Disk:
 @unittest.skipIf(LACKS, LACKS)
 class PowerCuts(FaultTest):
     def test_writes_that_are_lost(self):
-        for name in scripts():
+        for name in [*scripts(), FULL]:
             script = self.played(name)
-            remove(self.db)
+            script.start(self.db)
             recorded = Recorded(script, self.words, self.db)
             self.assertEqual((recorded.ended.status, recorded.ended.out), (0, script.out))
-            disk, cuts, answered = Disk(os.path.dirname(self.db)), [], 0
+            disk, cuts, answered = Disk(self.db, script.files), [], 0
             for number, event in enumerate(recorded.events):
                 if disk.doubtful():
                     cuts.append(number)
@@ -179,8 +185,8 @@ class PowerCuts(FaultTest):
                 with open(path, 'rb') as file:
                     self.assertEqual(file.read(), data, path)
             self.assertGreater(len(cuts), len(script.requests))
-            chosen, lost = set(sample(cuts, CUTS // len(scripts()) if CUTS else 0)), 0
-            disk = Disk(os.path.dirname(self.db))
+            chosen, lost = set(sample(cuts, CUTS)), 0
+            disk = Disk(self.db, script.files)
             for number, event in enumerate(recorded.events + [('end', None, None)]):
                 if number in chosen:
                     whole = script.whole(script.out[:answered])
