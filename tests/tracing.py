@@ -60,7 +60,7 @@ EVENT_FORK, EVENT_VFORK, EVENT_CLONE, EVENT_EXEC, EVENT_EXIT, EVENT_SECCOMP = 1,
 OPTIONS = sum(1 << event for event in (EVENT_FORK, EVENT_VFORK, EVENT_CLONE, EVENT_EXEC, EVENT_EXIT, EVENT_SECCOMP)) | 1 << 20
 WALL = 0x40000000
 # Places of registers in the kernel's list of 27.
-R10, R9, R8, RAX, RDX, RSI, RDI, ORIG_RAX, RIP = 7, 8, 9, 10, 12, 13, 14, 15, 16
+REG_R10, REG_R9, REG_R8, RAX, RDX, RSI, RDI, ORIG_RAX, RIP = 7, 8, 9, 10, 12, 13, 14, 15, 16
 
 Registers = ctypes.c_ulonglong * 27
 
@@ -97,7 +97,7 @@ class Call:
     def __init__(self, pid, registers):
         self.pid = pid
         self.name = NAMES[registers[ORIG_RAX]]
-        self.words = [registers[at] for at in (RDI, RSI, RDX, R10, R8, R9)]
+        self.words = [registers[at] for at in (RDI, RSI, RDX, REG_R10, REG_R8, REG_R9)]
         self.file = self.words[0] if self.name in OF_A_FILE else None
 
     @property
@@ -288,7 +288,7 @@ class Tracer:
             self.first = Registers(*registers)
             self.first[RIP] = self.at
             os.pwrite(memory, b'\x0f\x05\xcc', self.at)  # syscall; int3
-            for place, word in ((RAX, 9), (RDI, 0), (RSI, 4096), (RDX, 7), (R10, 0x22), (R8, (1 << 64) - 1), (R9, 0), (RIP, self.at)):
+            for place, word in ((RAX, 9), (RDI, 0), (RSI, 4096), (RDX, 7), (REG_R10, 0x22), (REG_R8, (1 << 64) - 1), (REG_R9, 0), (RIP, self.at)):
                 registers[place] = word
             self.set_registers(self.pid, registers)
         else:
