@@ -8,7 +8,7 @@ use crate::scripts::orders::PICKED;
 use crate::scripts::starts::{LAYOUT, READY};
 use crate::steps::steps_of;
 use agv_store::{Desk, OpenFault};
-use sqlite::{Connection, FileStore, Files};
+use sqlite::{Alter, Connection, Files};
 use sqlite_disk::Memory;
 use std::alloc::Global;
 use std::process::Abort;
@@ -134,14 +134,26 @@ DROP TABLE used; CREATE TABLE used (kind TEXT, id TEXT, at INTEGER, PRIMARY KEY 
 CREATE TABLE other (a TEXT REFERENCES load (id))
 ";
 
-/// The database of the example, in which an order is under way, once these statements were carried out.
-fn damaged(rt: &impl Abort, alloc: Global, list: &List, sql: &str) -> Files<Memory> {
-    let mut desk = made(rt, alloc, open(rt, alloc, no_fuse(alloc)));
+/// A new desk serves the example, in which an order is under way; then these statements are carried out.
+fn with_damage<S: Alter + Drop>(
+    rt: &impl Abort,
+    alloc: Global,
+    list: &List,
+    conn: Connection<S>,
+    sql: &str,
+) -> Connection<S> {
+    let mut desk = made(rt, alloc, conn);
     let (_, fault) = desk.run(list.calls.as_slice());
     check(rt, fault.is_none(), "no fault");
     let mut conn = desk.release_conn();
     conn.execute_batch(sql).expect(rt, sql);
-    close(rt, conn)
+    conn
+}
+
+/// The files of the example, once these statements were carried out.
+fn damaged(rt: &impl Abort, alloc: Global, list: &List, sql: &str) -> Files<Memory> {
+    let conn = open(rt, alloc, no_fuse(alloc));
+    close(rt, with_damage(rt, alloc, list, conn, sql))
 }
 
 /// How a desk is looked for.
@@ -153,13 +165,13 @@ enum Way {
 }
 
 /// There is no desk, since the database is damaged: the connection comes back.
-fn refused(
+fn refused<S: Alter + Drop>(
     rt: &impl Abort,
     alloc: Global,
     way: Way,
-    conn: Connection<FileStore<Memory>>,
+    conn: Connection<S>,
     sql: &str,
-) -> Connection<FileStore<Memory>> {
+) -> Connection<S> {
     assert!(rt; conn.is_autocommit(), "idle");
     let ended = match way {
         Way::Adopt => Desk::adopt(alloc, conn),

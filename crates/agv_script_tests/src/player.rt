@@ -94,7 +94,7 @@ pub(crate) fn play_over<S: Alter + Drop>(
     alloc: Global,
     conn: Connection<S>,
     steps: &[Step],
-) -> Connection<S> {
+) {
     let mut conn = made(rt, alloc, conn).release_conn();
     let routes = Routes::new(alloc).expect(rt, "memory");
     let mut memory = in_memory(alloc, 1);
@@ -103,7 +103,6 @@ pub(crate) fn play_over<S: Alter + Drop>(
         at = moment_after(at, step);
         conn = play_step(rt, alloc, &routes, &mut memory, conn, at, step);
     }
-    conn
 }
 
 /// Plays a script by a desk in memory and by one on a disk, as a stream, and as one list of calls.

@@ -1,7 +1,7 @@
 //! Lists of calls that a desk serves without a break, and stores that fail on the way.
 
 use crate::cases::{check, check_bytes, moment};
-use crate::desks::{FailingDisk, adopted, blank, made, no_tables, open, reopen};
+use crate::desks::{adopted, blank, made, no_tables, open, reopen};
 use crate::memory::{InMemory, MOMENT, asked, in_memory, moment_after};
 use crate::scripts::starts::{A_TO_B, LAYOUT, ONE_EDGE, READY};
 use crate::steps::{Step, steps_of};
@@ -12,8 +12,8 @@ use agv_http::{Routes, answer_bytes};
 use agv_reports::names_report;
 use agv_store::{Desk, OpenFault};
 use agv_world::Fault;
-use sqlite::{Alter, Connection, FileStore, Options};
-use sqlite_disk::Disk;
+use sqlite::{Alter, Connection, FileStore, Files, Options};
+use sqlite_disk::{Crash, Disk};
 use std::alloc::Global;
 use std::process::Abort;
 
@@ -151,25 +151,36 @@ fn check_opens<S: Alter + Drop>(rt: &impl Abort, alloc: Global, conn: Connection
     check(rt, opened.is_ok(), "a desk");
 }
 
-/// A new desk whose log or database file fails from this call on, unless it fails before: then the files have no desk, or one
-/// that knows nothing.
-fn failing_desk(
+/// A new desk; where its store failed, the database.
+fn created<S: Alter + Drop>(
     rt: &impl Abort,
     alloc: Global,
-    log: u64,
-    db: u64,
-) -> Option<Desk<FileStore<FailingDisk>>> {
-    let files = blank(alloc, log, db);
+    conn: Connection<S>,
+) -> Result<Desk<S>, Connection<S>> {
+    assert!(rt; conn.is_autocommit(), "idle");
+    match Desk::create(alloc, conn) {
+        Ok(desk) => Ok(desk),
+        Err((conn, why)) => {
+            check(rt, why == OpenFault::Storage, "the store fails");
+            Err(conn)
+        }
+    }
+}
+
+/// A new desk on files that may fail, unless they fail before: then the files have no desk, or one that knows nothing.
+fn failing_desk<D: Crash + Drop>(
+    rt: &impl Abort,
+    alloc: Global,
+    files: Files<D>,
+) -> Option<Desk<FileStore<D>>> {
     assert!(rt; files.log.may_be_used(), "the log");
     assert!(rt; files.db.may_be_used(), "the database file");
     let Ok(conn) = Connection::open_files(alloc, files, Options::new(7)) else {
         return None;
     };
-    assert!(rt; conn.is_autocommit(), "idle");
-    match Desk::create(alloc, conn) {
+    match created(rt, alloc, conn) {
         Ok(desk) => Some(desk),
-        Err((conn, why)) => {
-            check(rt, why == OpenFault::Storage, "the store fails");
+        Err(conn) => {
             check_opens(rt, alloc, reopen(rt, alloc, conn));
             None
         }
@@ -177,12 +188,12 @@ fn failing_desk(
 }
 
 /// The files have the world before call `n` or after it: the desk that is adopted there goes on to the last call.
-fn check_goes_on(
+fn check_goes_on<D: Crash + Drop>(
     rt: &impl Abort,
     alloc: Global,
     list: &List,
     n: usize,
-    conn: Connection<FileStore<FailingDisk>>,
+    conn: Connection<FileStore<D>>,
 ) {
     let mut conn = adopted(rt, alloc, reopen(rt, alloc, conn)).release_conn();
     let world = told_text(rt, alloc, &mut conn);
@@ -197,8 +208,13 @@ fn check_goes_on(
 
 /// Serves the calls by a desk whose store fails: the call that it serves then is answered `Storage`, and so is each later one. It
 /// gives whether all calls were answered.
-fn check_failing(rt: &impl Abort, alloc: Global, list: &List, log: u64, db: u64) -> bool {
-    let Some(mut desk) = failing_desk(rt, alloc, log, db) else {
+fn check_failing<D: Crash + Drop>(
+    rt: &impl Abort,
+    alloc: Global,
+    list: &List,
+    files: Files<D>,
+) -> bool {
+    let Some(mut desk) = failing_desk(rt, alloc, files) else {
         return false;
     };
     let (answers, fault) = desk.run(list.calls_from(rt, 0));
@@ -223,7 +239,7 @@ const MOST: u64 = 1000;
 fn check_each(rt: &impl Abort, alloc: Global, list: &List, of_log: bool) {
     for n in 0..MOST {
         let (log, db) = if of_log { (n, u64::MAX) } else { (u64::MAX, n) };
-        if check_failing(rt, alloc, list, log, db) {
+        if check_failing(rt, alloc, list, blank(alloc, log, db)) {
             return;
         }
     }
