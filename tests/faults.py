@@ -4,6 +4,7 @@ there to the same rows.
 
 By default a sample of all faults is tried; all of them where the variable FAULTS is `all`."""
 import functools
+import hashlib
 import os
 import re
 import socket
@@ -116,10 +117,25 @@ def full_log():
     return Script(requests[4:], requests[:4] + FILL)
 
 
+CHECKED = {}
+
+
 def check_kept(test, script, db, answered, more=True):
     """The file has the rows after so many calls, or one more where that is allowed, and the rest of the script goes on from there. It
     gives how many calls are in the file; -1 where it is no desk's yet: it is missing, has no table, or its first page, which the desk
-    writes but for a byte and then whole, is not there yet."""
+    writes but for a byte and then whole, is not there yet. What has been checked is not checked again over the same bytes."""
+    key = [id(script), answered, more]
+    for end in ('', '-wal'):
+        if os.path.exists(db + end):
+            with open(db + end, 'rb') as file:
+                key.append((end, hashlib.sha1(file.read()).digest()))
+    key = tuple(key)
+    if key not in CHECKED:
+        CHECKED[key] = check_anew(test, script, db, answered, more)
+    return CHECKED[key]
+
+
+def check_anew(test, script, db, answered, more):
     try:
         rows = rows_of(db) if os.path.exists(db) else None
     except sqlite3.DatabaseError:
