@@ -7,7 +7,7 @@ import sqlite3
 import tempfile
 import unittest
 
-from faults import FOLDER, STORAGE, lines, remove
+from faults import ALL, FOLDER, STORAGE, lines, remove
 from records import COLUMNS, broken, rows_of
 from test_hostile_bytes import answers_of
 from test_program import AT, run
@@ -215,8 +215,13 @@ class Damaged(unittest.TestCase):
                     self.replay(asked(WRITES))
                     self.checked()
                 told[kind, what] = told.get((kind, what), 0) + 1
-        print(told)
+        if ALL:
+            print(', '.join('%s, %s: %d' % (*met, count) for met, count in sorted(told.items())))
         self.assertEqual(sum(told.values()), DAMAGES)
+        # Some changes are told, or end the log, and some touch nothing that is looked at.
+        for kind, (_, end) in kinds.items():
+            for what in ('the same', 'fewer calls' if end else 'fault: Storage'):
+                self.assertGreater(told.get((kind, what), 0), DAMAGES // 40, (kind, what))
 
 
 if __name__ == '__main__':
