@@ -296,33 +296,33 @@ fn ask_all<S: Alter>(rt: &impl Abort, alloc: Global, conn: &mut Connection<S>, n
 }
 
 /// Fills the database with so many thousands of loads and of jobs that have ended, asks each question, and makes a change.
-fn check_asked<S: Alter + Drop>(
+fn check_asked<S: Alter>(
     rt: &impl Abort,
     alloc: Global,
-    mut conn: Connection<S>,
+    conn: &mut Connection<S>,
     thousands: u32,
     number: u32,
 ) {
     assert!(rt; conn.is_autocommit(), "idle");
-    make_desk_tables(&mut conn).expect(rt, "tables");
-    write_few(rt, &mut conn);
-    write_trip(rt, alloc, &mut conn);
-    write_many(rt, alloc, &mut conn, thousands);
-    ask_all(rt, alloc, &mut conn, number);
+    make_desk_tables(conn).expect(rt, "tables");
+    write_few(rt, conn);
+    write_trip(rt, alloc, conn);
+    write_many(rt, alloc, conn, thousands);
+    ask_all(rt, alloc, conn, number);
     let load = numbered(rt, alloc, 'L', number);
-    write(rt, &mut conn, &[Change::Load(load, Place::Left)]);
-    let place = query_place(&mut conn, &load);
+    write(rt, conn, &[Change::Load(load, Place::Left)]);
+    let place = query_place(conn, &load);
     check(rt, place == Ok(Some(Place::Left)), "the place then");
 }
 
 #[test]
 fn with_1_000_loads(rt: HostRuntime) {
-    let conn = Connection::open(&rt, "with_1_000_loads.db").expect(&rt, "a file");
-    check_asked(&rt, rt.alloc(), conn, 1, 500);
+    let mut conn = Connection::open(&rt, "with_1_000_loads.db").expect(&rt, "a file");
+    check_asked(&rt, rt.alloc(), &mut conn, 1, 500);
 }
 
 #[test]
 fn with_100_000_loads(rt: HostRuntime) {
-    let conn = Connection::open(&rt, "with_100_000_loads.db").expect(&rt, "a file");
-    check_asked(&rt, rt.alloc(), conn, 100, 50_000);
+    let mut conn = Connection::open(&rt, "with_100_000_loads.db").expect(&rt, "a file");
+    check_asked(&rt, rt.alloc(), &mut conn, 100, 50_000);
 }

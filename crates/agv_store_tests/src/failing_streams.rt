@@ -9,10 +9,12 @@ use crate::table_cases::{adopted, made, moment};
 use agv_face::{Ended, StreamFault, StreamSummary, serve_stream};
 use agv_header::Refusal;
 use agv_store::Desk;
-use sqlite::{Alter, Connection, FileStore, Files, Options};
-use sqlite_disk::{Crash, Disk, Fuse, Memory};
+use sqlite::{Connection, FileStore, Files, Options};
+use sqlite_disk::{Disk, Fuse, Memory};
 use std::alloc::Global;
 use std::process::Abort;
+
+type FailingStore = FileStore<FailingDisk>;
 
 /// Registers the loads L1 to L3.
 const REGISTERED: &[u8] =
@@ -68,7 +70,7 @@ fn places(rt: &impl Abort, alloc: Global, count: u64) -> Vec<u8> {
 }
 
 /// Each stream is refused with its first call.
-fn check_stays_failed<S: Alter + Drop>(rt: &impl Abort, alloc: Global, desk: &mut Desk<S>) {
+fn check_stays_failed(rt: &impl Abort, alloc: Global, desk: &mut Desk<FailingStore>) {
     for input in &REFUSED {
         let mut reader = Drip::counting(input, 4096, 1000);
         let mut writer = Trickle::counting(alloc, 4096, 1000);
@@ -81,13 +83,10 @@ fn check_stays_failed<S: Alter + Drop>(rt: &impl Abort, alloc: Global, desk: &mu
     }
 }
 
-/// The loads of answered calls are there, that of the refused call may be, and the later ones are not.
-fn check_loads<S: Alter + Drop>(
-    rt: &impl Abort,
-    alloc: Global,
-    conn: Connection<S>,
-    answered: u64,
-) {
+/// The files are opened again and the desk is taken over: the loads of answered calls are there, that of the refused call may be,
+/// and the later ones are not.
+fn check_loads(rt: &impl Abort, alloc: Global, desk: Desk<FailingStore>, answered: u64) {
+    let conn = reopen(rt, alloc, desk.release_conn());
     let mut desk = adopted(rt, alloc, conn);
     let mut reader = Drip::counting(ASKED, 4096, 1000);
     let mut writer = Trickle::counting(alloc, 4096, 1000);
@@ -104,19 +103,14 @@ fn check_loads<S: Alter + Drop>(
     check(rt, is_right, "the loads");
 }
 
-/// The files, with a new desk in them.
-fn with_desk<D: Disk + Drop>(rt: &impl Abort, alloc: Global, files: Files<D>) -> Files<D> {
-    let conn = open(rt, alloc, files);
-    close(rt, made(rt, alloc, conn).release_conn())
-}
-
 /// The files of a new desk, whose log fails from this call on.
 fn files_of_a_desk(rt: &impl Abort, alloc: Global, log: u64) -> Files<FailingDisk> {
     let files = Files {
         log: Memory::new(alloc),
         db: Memory::new(alloc),
     };
-    let files = with_desk(rt, alloc, files);
+    let conn = open(rt, alloc, files);
+    let files = close(rt, made(rt, alloc, conn).release_conn());
     Files {
         log: Fuse::new(files.log, log),
         db: Fuse::new(files.db, u64::MAX),
@@ -124,11 +118,8 @@ fn files_of_a_desk(rt: &impl Abort, alloc: Global, log: u64) -> Files<FailingDis
 }
 
 /// The desk in such files, where it is opened before the log fails.
-fn desk_before_it_fails<D: Disk + Drop>(
-    rt: &impl Abort,
-    alloc: Global,
-    files: Files<D>,
-) -> Option<Desk<FileStore<D>>> {
+fn desk_before_it_fails(rt: &impl Abort, alloc: Global, log: u64) -> Option<Desk<FailingStore>> {
+    let files = files_of_a_desk(rt, alloc, log);
     assert!(rt; files.log.may_be_used(), "the log");
     assert!(rt; files.db.may_be_used(), "the database file");
     let Ok(conn) = Connection::open_files(alloc, files, Options::new(7)) else {
@@ -141,9 +132,9 @@ fn desk_before_it_fails<D: Disk + Drop>(
     }
 }
 
-/// Registers the loads by the desk in these files, whose log may fail. It gives whether all were registered.
-fn check_failing<D: Crash + Drop>(rt: &impl Abort, alloc: Global, files: Files<D>) -> bool {
-    let Some(mut desk) = desk_before_it_fails(rt, alloc, files) else {
+/// Registers the loads by a desk whose log fails from this call on. It gives whether all were registered.
+fn check_failing(rt: &impl Abort, alloc: Global, log: u64) -> bool {
+    let Some(mut desk) = desk_before_it_fails(rt, alloc, log) else {
         return false;
     };
     let mut reader = Drip::counting(REGISTERED, 4096, 1000);
@@ -169,9 +160,7 @@ fn check_failing<D: Crash + Drop>(rt: &impl Abort, alloc: Global, files: Files<D
         "the answers, and the refusal",
     );
     check_stays_failed(rt, alloc, &mut desk);
-    // The files are opened again and the desk is taken over.
-    let conn = reopen(rt, alloc, desk.release_conn());
-    check_loads(rt, alloc, conn, answered);
+    check_loads(rt, alloc, desk, answered);
     false
 }
 
@@ -182,8 +171,7 @@ const MOST: u64 = 1000;
 #[test]
 fn the_log_fails(rt: HostRuntime) {
     for calls in 0..MOST {
-        let files = files_of_a_desk(&rt, rt.alloc(), calls);
-        if check_failing(&rt, rt.alloc(), files) {
+        if check_failing(&rt, rt.alloc(), calls) {
             return;
         }
     }

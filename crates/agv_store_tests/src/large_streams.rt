@@ -144,33 +144,31 @@ fn answers(rt: &impl Abort, alloc: Global) -> String {
     text
 }
 
-/// A new desk's tables with the layout and all loads.
-fn write_all<S: Alter>(rt: &impl Abort, alloc: Global, conn: &mut Connection<S>) {
+#[test]
+fn reports_of_100_000_loads(rt: HostRuntime) {
+    let alloc = rt.alloc();
+    let mut conn = Connection::open(&rt, "reports_of_100_000_loads.db").expect(&rt, "a file");
     assert!(rt; conn.is_autocommit(), "idle");
-    make_desk_tables(conn).expect(rt, "tables");
-    write_layout(rt, alloc, conn);
+    make_desk_tables(&mut conn).expect(&rt, "tables");
+    write_layout(&rt, alloc, &mut conn);
     for thousand in 0..100 {
-        write_loads(rt, alloc, conn, thousand * TOGETHER);
+        write_loads(&rt, alloc, &mut conn, thousand * TOGETHER);
     }
-}
-
-/// Fills the database, and compares the answers of its desk.
-fn check_reports<S: Alter + Drop>(rt: &impl Abort, alloc: Global, mut conn: Connection<S>) {
-    write_all(rt, alloc, &mut conn);
-    let mut desk = adopted(rt, alloc, conn);
-    let wanted = answers(rt, alloc);
+    let mut desk = adopted(&rt, alloc, conn);
+    let wanted = answers(&rt, alloc);
     let mut reader = Drip::counting(ASKED, 4096, 1000);
     let mut writer = Trickle::counting(alloc, 4096, 10_000);
     let end = Ok(StreamSummary {
         answers: 3,
         ended: Ended::End,
     });
-    let wanted = wanted.as_bytes();
-    check_stream(rt, alloc, &mut desk, &mut reader, &mut writer, end, wanted);
-}
-
-#[test]
-fn reports_of_100_000_loads(rt: HostRuntime) {
-    let conn = Connection::open(&rt, "reports_of_100_000_loads.db").expect(&rt, "a file");
-    check_reports(&rt, rt.alloc(), conn);
+    check_stream(
+        &rt,
+        alloc,
+        &mut desk,
+        &mut reader,
+        &mut writer,
+        end,
+        wanted.as_bytes(),
+    );
 }
