@@ -104,6 +104,8 @@ class FailingDisk(FaultTest):
                         self.assertEqual(front, b''.join(script.answers[:answered]))
                         check_kept(self, script, self.db, answered)
                         met += 1
+        if ALL:
+            print('%d reads and writes that took nothing, or too little' % met)
         self.assertGreater(met, 20)
 
 

@@ -34,6 +34,10 @@ class FailingStreams(FaultTest):
 
         return tracing.run(self.words, ['read', 'readv', 'write', 'writev'], on_call, script.input), reads, writes
 
+    def tell(self, text, *numbers):
+        if ALL:
+            print(text % numbers)
+
     def begun(self, script, given):
         """How many requests are whole in so many bytes of the input, and whether there is more."""
         number = 0
@@ -61,6 +65,7 @@ class FailingStreams(FaultTest):
                         self.assertEqual(ended.out, b''.join(script.answers[:whole]))
                         self.assertEqual(check_kept(self, script, self.db, whole, more=False), whole)
                         failed += 1
+        self.tell('%d reads that failed', failed)
         self.assertGreater(failed, 40)
 
     def test_inputs_that_end(self):
@@ -77,6 +82,7 @@ class FailingStreams(FaultTest):
                     self.assertEqual(ended.out, b''.join(script.answers[:whole]) + (BAD_HEAD if more else b''))
                     self.assertEqual(check_kept(self, script, self.db, whole, more=False), whole)
                     cut, at_end = cut + more, at_end + (not more)
+        self.tell('%d inputs that ended within a request, %d at the end of one', cut, at_end)
         self.assertGreater(cut, 20)
         self.assertGreater(at_end, 3)
 
@@ -98,6 +104,7 @@ class FailingStreams(FaultTest):
                         self.assertEqual(rows_of(self.db), script.rows[answered + 1])
                         check_kept(self, script, self.db, answered)
                         failed += 1
+        self.tell('%d writes that failed', failed)
         self.assertGreater(failed, 60)
 
     def test_writes_of_a_byte(self):
@@ -121,6 +128,7 @@ class FailingStreams(FaultTest):
                     cut += 1
             ended, _, _ = self.serve(script, None, lambda number: tracing.Short(1))
             self.assertEqual((ended.status, ended.out, ended.said), (0, script.out, b''))
+        self.tell('%d answers cut within', cut)
         self.assertGreater(cut, 10)
 
 
