@@ -3,6 +3,5 @@ pub mod Columns
 pub mod DeskRows
 pub mod RowKeys
 pub mod RowLists
-pub mod TripLines
 pub mod DecodedTrips
 pub mod TypedRows

@@ -1,6 +1,6 @@
 //! The desk's tables in a SQL database: what SQL is told, what rows tell, and what the tables answer.
 //!
-//! - [`schema`]: eleven STRICT tables and four plain indexes. They are made beside whatever a database has, and
+//! - [`schema`]: fourteen STRICT tables and four plain indexes. They are made beside whatever a database has, and
 //!   recognized in a database that anyone made.
 //! - [`rows`]: how a row of the world lies in the columns of its table, and which rows tell a world.
 //! - [`statements`]: a row is added, taken out, put in the place of that of its key, or looked up.
@@ -24,8 +24,8 @@ pub mod statements;
 pub use changes::write_fault::WriteFault;
 pub use queries::reading_fault::ReadingFault;
 pub use readings::held_things::HeldThings;
+pub use rows::capacity_row::CapacityRow;
 pub use rows::rows_by::RowsBy;
-pub use rows::trip_line::TripLine;
 pub use rows::words::{PlaceKind, ThingKind};
 pub use schema::making_fault::MakingFault;
 pub use schema::table_name::TableName;

@@ -96,7 +96,7 @@ used_names world =
 
 -- the number of the schema, as the row of `meta` has it
 abbrev pub schema_number : ℕ
-schema_number = 1
+schema_number = 2
 
 -- the rows of a world
 abbrev pub rows_of : World → Rows

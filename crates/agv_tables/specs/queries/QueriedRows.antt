@@ -2,7 +2,6 @@
 use Rattle.std.specs.Prelude.{ℕ, ◌&&◌, nat_eq, Bool, List, [], ◌∷◌, filter, map, IsPermutation}
 use Rattle.std.specs.Cmp.Lexicographic.{pointwise}
 use Rattle.std.specs.FinMap as finite
-use Rattle.std.specs.List.{flat_map}
 use Rattle.sqlite_value.specs.declared.value.Value.TheVariants.{Text}
 use Rattle.sqlite_value.specs.Order.{Row}
 use Rattle.agv_header.specs.declared.key.VehicleKey.{VehicleKey}
@@ -10,16 +9,17 @@ use Rattle.agv_stock.specs.Room.{is_at, is_on}
 use Rattle.agv_stock.specs.declared.job.Phase.{Phase}
 use Rattle.agv_stock.specs.declared.place.Place.{Place}
 use Rattle.agv_world.specs.Rows.{Rows}
-use Rattle.agv_world.specs.Told.{is_of_order, names_vehicle}
+use Rattle.agv_world.specs.Told.{is_of_order}
 use Rattle.agv_world.specs.declared.key.LegKey.{LegKey}
 use Rattle.agv_world.specs.declared.row.JobRow.{JobRow}
-use Rattle.agv_world.specs.declared.row.TripRow.{TripRow}
+use Rattle.agv_trip_rows.specs.TripRows.{acts_of, is_of, journeys_of}
+use Rattle.agv_trip_rows.specs.declared.journey_row.JourneyRow.{JourneyRow}
 use Rattle.agv_tables.specs.rows.ValueEncodings.{phase_name}
-use Rattle.agv_tables.specs.rows.Columns.{job_columns, leg_columns, load_columns, trip_columns}
+use Rattle.agv_tables.specs.rows.Columns.{job_columns, leg_columns, load_columns, journey_columns}
 use Rattle.agv_tables.specs.rows.RowKeys.{name_key, vehicle_key}
-use Rattle.agv_tables.specs.rows.RowLists.{row_if}
+use Rattle.agv_tables.specs.rows.RowLists.{rows_of_acts}
 use Rattle.agv_tables.specs.statements.RowQueries.{rows_asked}
-use Rattle.agv_tables.specs.rows.TripLines.{line_of}
+use Rattle.agv_tables.specs.rows.DecodedTrips.{is_driven_by}
 use Rattle.agv_tables.specs.declared.rows.rows_by.RowsBy.TheVariants as by
 
 -- ---- the entries that are asked for
@@ -34,9 +34,8 @@ jobs_shown jobs = map (λ (job : List ℕ × JobRow). job_columns job.0 job.1) j
 abbrev pub legs_shown : List (LegKey × List ℕ) → List Row
 legs_shown legs = map (λ (leg : LegKey × List ℕ). leg_columns leg.0 leg.1) legs
 
--- a trip that isn't of one job has none
-abbrev pub trips_shown : List (List ℕ × TripRow) → List Row
-trips_shown trips = flat_map (λ (trip : List ℕ × TripRow). row_if trip_columns (line_of trip.0 trip.1)) trips
+abbrev pub journeys_shown : List (List ℕ × JourneyRow) → List Row
+journeys_shown journeys = map (λ (journey : List ℕ × JourneyRow). journey_columns journey.0 journey.1) journeys
 
 -- the job is in this phase: each phase has a word of its own
 abbrev pub is_in_phase : Phase → JobRow → Bool
@@ -50,7 +49,8 @@ name_and_phase name phase = Text name ∷ Text (phase_name phase) ∷ []
 
 -- each look-up shows the rows of just those entries, in some order
 pub record ShowAsked (lists : List (List Row)) (rows : Rows) : Type 0 where
-  pub trip : (key : VehicleKey) → IsPermutation (rows_asked by.VehicleTrip (vehicle_key key) lists) (trips_shown (filter (names_vehicle key) (finite.entries rows.trips)))
+  pub journey : (key : VehicleKey) → IsPermutation (rows_asked by.VehicleJourney (vehicle_key key) lists) (journeys_shown (filter (is_driven_by key) (finite.entries (journeys_of rows.trips))))
+  pub acts : (order : List ℕ) → IsPermutation (rows_asked by.OrderActs (name_key order) lists) (rows_of_acts (filter (is_of order) (finite.entries (acts_of rows.trips))))
   pub legs : (order : List ℕ) → IsPermutation (rows_asked by.OrderLegs (name_key order) lists) (legs_shown (filter (is_of_order order) (finite.entries rows.legs)))
   pub loads_at : (station : List ℕ) → IsPermutation (rows_asked by.StationLoads (name_key station) lists) (loads_shown (filter (λ (load : List ℕ × Place). is_at station load.1) (finite.entries rows.loads)))
   pub loads_on : (key : VehicleKey) → IsPermutation (rows_asked by.VehicleLoads (vehicle_key key) lists) (loads_shown (filter (λ (load : List ℕ × Place). is_on key load.1) (finite.entries rows.loads)))

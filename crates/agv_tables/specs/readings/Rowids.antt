@@ -27,6 +27,9 @@ rowids_text the.Load = codes "SELECT rowid FROM load"
 rowids_text the.Job = codes "SELECT rowid FROM job"
 rowids_text the.Hold = codes "SELECT rowid FROM hold"
 rowids_text the.Used = codes "SELECT rowid FROM used"
+rowids_text the.Capacity = codes "SELECT rowid FROM capacity"
+rowids_text the.Journey = codes "SELECT rowid FROM journey"
+rowids_text the.Act = codes "SELECT rowid FROM act"
 
 -- the rows show the rowid of each entry of the table, in some order
 abbrev pub ShowRowids : TableName → Database → List Row → Type 0

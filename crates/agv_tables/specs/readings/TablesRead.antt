@@ -1,17 +1,18 @@
 -- What is read of whole tables, whatever rows they have.
 use Rattle.std.specs.FinMap as finite
 use Rattle.std.specs.Ordering.{nat_cmp}
-use Rattle.std.specs.Prelude.{ℕ, List, Result, IfOk, IsPermutation}
+use Rattle.std.specs.Prelude.{◌≡◌, ℕ, List, [], Result, IfOk, IsPermutation}
 use Rattle.sqlite_trees.specs.declared.store.Store.{Ghosts}
 use Rattle.sqlite_value.specs.Order.{Row}
 use Rattle.sqlite.specs.Held.{Held, state}
 use Rattle.sqlite.specs.State.{HasCleanDisk}
 use Rattle.agv_track.specs.Holds.{Holds as Holders}
+use Rattle.agv_trip_rows.specs.TripRows.{acts_of, journeys_of}
 use Rattle.agv_world.specs.Worlds.{World}
 use Rattle.agv_world.specs.declared.world.World.{World as Tables}
-use Rattle.agv_tables.specs.rows.Columns.{edge_columns, hold_columns, job_columns, leg_columns, load_columns, meta_columns, node_columns, station_columns, used_columns, vehicle_columns}
+use Rattle.agv_tables.specs.rows.Columns.{act_columns, edge_columns, journey_columns, hold_columns, job_columns, leg_columns, load_columns, meta_columns, node_columns, room_columns, station_columns, used_columns, vehicle_columns}
 use Rattle.agv_tables.specs.rows.DeskRows.{Placing, Holds, IsDesk, place_of, table_at}
-use Rattle.agv_tables.specs.rows.RowLists.{rows_for, rows_in, trip_rows}
+use Rattle.agv_tables.specs.rows.RowLists.{rows_for, rows_in}
 use Rattle.agv_tables.specs.schema.SchemaNumbers.{schema_number}
 use Rattle.agv_tables.specs.queries.WorldAnswers.{AnswersQuery}
 use Rattle.agv_tables.specs.declared.queries.reading_fault.ReadingFault.{ReadingFault}
@@ -41,11 +42,15 @@ pub record HaveTables (lists : List (List Row)) (tables : Tables) : Type 0 where
   pub edges : IsPermutation (table_at (place_of the.Edge) lists) (rows_in edge_columns tables.edges)
   pub stations : IsPermutation (table_at (place_of the.Station) lists) (rows_in station_columns tables.stations)
   pub vehicles : IsPermutation (table_at (place_of the.Vehicle) lists) (rows_in vehicle_columns tables.vehicles)
-  pub trips : IsPermutation (table_at (place_of the.Trip) lists) (trip_rows tables.trips)
   pub legs : IsPermutation (table_at (place_of the.Leg) lists) (rows_in leg_columns tables.legs)
   pub loads : IsPermutation (table_at (place_of the.Load) lists) (rows_in load_columns tables.loads)
   pub jobs : IsPermutation (table_at (place_of the.Job) lists) (rows_in job_columns tables.jobs)
   pub used : IsPermutation (table_at (place_of the.Used) lists) (rows_for used_columns tables.used)
+  pub capacities : IsPermutation (table_at (place_of the.Capacity) lists) (rows_in room_columns tables.vehicles)
+  pub journeys : IsPermutation (table_at (place_of the.Journey) lists) (rows_in journey_columns (journeys_of tables.trips))
+  pub acts : IsPermutation (table_at (place_of the.Act) lists) (rows_in act_columns (acts_of tables.trips))
+  -- the trips of the first schema are gone
+  pub trips : table_at (place_of the.Trip) lists ≡ []
 
 -- the lists have the row of this schema, the rows of these tables, and those of what is held
 pub record HaveAll (lists : List (List Row)) (read : Tables) (held : Holders) : Type 0 where

@@ -8,15 +8,20 @@ use Rattle.sqlite_schema.specs.Names.{table_named}
 use Rattle.sqlite_schema.specs.declared.schema.Schema.{Schema}
 use Rattle.sqlite_schema.specs.declared.schema.Table.{Table}
 use Rattle.sqlite.specs.Effect.{Database}
+use Rattle.agv_header.specs.Key.{key_cmp}
 use Rattle.agv_header.specs.Name.{name_cmp}
+use Rattle.agv_trip_rows.specs.declared.act_row.ActRow.{ActRow}
+use Rattle.agv_trip_rows.specs.declared.journey_row.JourneyRow.{JourneyRow}
+use Rattle.agv_world.specs.Keys.{leg_cmp}
 use Rattle.agv_world.specs.Told.{world_of}
 use Rattle.agv_world.specs.Worlds.{World}
 use Rattle.agv_world.specs.declared.row.JobRow.{JobRow}
 use Rattle.agv_world.specs.declared.world.World.{World as Tables}
-use Rattle.agv_tables.specs.rows.Columns.{edge_in, job_in, leg_in, load_in, node_in, station_in, used_in, vehicle_in}
+use Rattle.agv_tables.specs.declared.rows.capacity_row.CapacityRow.{CapacityRow}
+use Rattle.agv_tables.specs.rows.Columns.{act_in, capacity_in, edge_in, job_in, journey_in, leg_in, load_in, node_in, station_in, used_in}
 use Rattle.agv_tables.specs.rows.DeskRows.{Placing, columns_in, place_of, table_at, table_for, table_names, width_of}
 use Rattle.agv_tables.specs.readings.ReadTables.{read_members, read_rows}
-use Rattle.agv_tables.specs.rows.DecodedTrips.{trip_with}
+use Rattle.agv_tables.specs.rows.DecodedTrips.{trips_with, vehicle_with}
 use Rattle.agv_tables.specs.declared.schema.table_name.TableName.{TableName}
 use Rattle.agv_tables.specs.declared.schema.table_name.TableName.TheVariants as the
 
@@ -31,13 +36,13 @@ tree_of (Some table) = table.tree
 abbrev pub tree_named : Schema → TableName → ℕ
 tree_named schema name = tree_of (option_and_then (slice_get schema.tables) (table_named schema (table_for name).name))
 
--- where the eleven stand in the schema, if they do
+-- where the fourteen stand in the schema, if they do
 abbrev pub placed_in : Schema → Placing
 placed_in schema = record { schema = schema; tree = tree_named schema }
 
 -- ---- what they have
 
--- the columns of all entries of each of the eleven, in the order of `table_names`
+-- the columns of all entries of each of the fourteen, in the order of `table_names`
 unfoldable pub lists_in : Database → List (List Row)
 lists_in db = map (λ (name : TableName). map (columns_in (width_of name)) (db.trees ((placed_in db.schema).tree name))) table_names
 
@@ -55,14 +60,24 @@ members_told told rows = unwrap_or (read_members told set.empty rows) set.empty
 abbrev pub jobs_in : List (List Row) → finite.FinMap name_cmp JobRow
 jobs_in lists = table_told job_in (table_at (place_of the.Job) lists)
 
--- the tables that the lists tell, a trip with the row of its job; a world has none of `meta`, and tells itself what is held
+-- the room of each vehicle, the journeys and the acts that they tell
+abbrev pub capacities_in : List (List Row) → finite.FinMap key_cmp CapacityRow
+capacities_in lists = table_told capacity_in (table_at (place_of the.Capacity) lists)
+
+abbrev pub journeys_in : List (List Row) → finite.FinMap name_cmp JourneyRow
+journeys_in lists = table_told journey_in (table_at (place_of the.Journey) lists)
+
+abbrev pub acts_in : List (List Row) → finite.FinMap leg_cmp ActRow
+acts_in lists = table_told act_in (table_at (place_of the.Act) lists)
+
+-- the tables that the lists tell, a vehicle with its room, and a trip with its journey, its acts and the rows of their jobs; a world has none of `meta`, and tells itself what is held
 abbrev pub tables_in : List (List Row) → Tables
 tables_in lists = record {
   nodes = members_told node_in (table_at (place_of the.Node) lists);
   edges = table_told edge_in (table_at (place_of the.Edge) lists);
   stations = table_told station_in (table_at (place_of the.Station) lists);
-  vehicles = table_told vehicle_in (table_at (place_of the.Vehicle) lists);
-  trips = table_told (trip_with (jobs_in lists)) (table_at (place_of the.Trip) lists);
+  vehicles = table_told (vehicle_with (capacities_in lists)) (table_at (place_of the.Vehicle) lists);
+  trips = trips_with (journeys_in lists) (acts_in lists) (jobs_in lists);
   legs = table_told leg_in (table_at (place_of the.Leg) lists);
   loads = table_told load_in (table_at (place_of the.Load) lists);
   jobs = jobs_in lists;

@@ -10,6 +10,7 @@ use Rattle.agv_header.specs.declared.key.VehicleKey.{VehicleKey}
 use Rattle.agv_layout.specs.declared.edge.EdgeEnds.{EdgeEnds}
 use Rattle.agv_layout.specs.declared.station.StationSite.{StationSite}
 use Rattle.agv_message.specs.Instant.{instant_name}
+use Rattle.agv_message.specs.Order.{act_name}
 use Rattle.agv_message.specs.Status.{status_name}
 use Rattle.agv_stock.specs.declared.place.Place.{Place}
 use Rattle.agv_stock.specs.declared.place.Place.TheVariants as place
@@ -18,8 +19,10 @@ use Rattle.agv_world.specs.declared.key.UseKey.{UseKey}
 use Rattle.agv_world.specs.declared.row.JobRow.{JobRow}
 use Rattle.agv_world.specs.declared.row.Sent.{Sent}
 use Rattle.agv_world.specs.declared.row.VehicleRow.{VehicleRow}
-use Rattle.agv_tables.specs.rows.ValueEncodings.{if_some, name_in, number_cell, number_in, flag_cell, flag_in, moment_in, maybe_in, phase_name, phase_in, status_in, instant_in, use_name, use_in, place_kind_in, thing_kind_in}
-use Rattle.agv_tables.specs.declared.rows.trip_line.TripLine.{TripLine}
+use Rattle.agv_tables.specs.rows.ValueEncodings.{if_some, name_in, number_cell, number_in, flag_cell, flag_in, moment_in, maybe_in, phase_name, phase_in, status_in, instant_in, use_name, use_in, place_kind_in, act_kind_in, thing_kind_in}
+use Rattle.agv_trip_rows.specs.declared.act_row.ActRow.{ActRow}
+use Rattle.agv_trip_rows.specs.declared.journey_row.JourneyRow.{JourneyRow}
+use Rattle.agv_tables.specs.declared.rows.capacity_row.CapacityRow.{CapacityRow}
 use Rattle.agv_tables.specs.declared.rows.words.PlaceKind.{PlaceKind}
 use Rattle.agv_tables.specs.declared.rows.words.PlaceKind.TheVariants as kind
 use Rattle.agv_tables.specs.declared.rows.words.ThingKind.{ThingKind}
@@ -86,7 +89,7 @@ rest_in edge node = if_some (maybe_in name_in edge) (λ edge. if_some (maybe_in 
 unfoldable pub sent_in : Value → Value → Option Sent
 sent_in count at = if_some (number_in count) (λ count. if_some (moment_in at) (λ at. Some (record { count = count; at = at })))
 
--- every vehicle has room for one load
+-- its room for loads stands in `capacity`
 abbrev pub vehicle_columns : VehicleKey → VehicleRow → Row
 vehicle_columns key row =
     Text key.manufacturer ∷ Text key.serial ∷ Text row.node
@@ -96,6 +99,7 @@ vehicle_columns key row =
     ∷ number_cell row.orders.count ∷ number_cell row.orders.at ∷ number_cell row.instants.count ∷ number_cell row.instants.at
     ∷ or_null (λ kind. Text (instant_name kind)) row.pending ∷ []
 
+-- as if it had room for one load
 unfoldable pub vehicle_in : Row → Option (VehicleKey × VehicleRow)
 vehicle_in row = if_columns 14 row (
     if_some (key_in (column row 0) (column row 1)) (λ key.
@@ -110,44 +114,52 @@ vehicle_in row = if_columns 14 row (
     if_some (maybe_in instant_in (column row 13)) (λ pending.
     Some (key, record { capacity = 1; node = node; rest = rest; last_header = last_header; reported = reported; ready = ready; paused = paused; orders = orders; instants = instants; pending = pending }))))))))))))
 
--- ---- trip: order_id, manufacturer, serial, job, start, first, base, sent, confirmed, seen, pick_at, drop_at, pick_status, drop_status
+-- ---- capacity: manufacturer, serial, capacity
 
-abbrev pub trip_columns : TripLine → Row
-trip_columns line =
-    Text line.order ∷ Text line.vehicle.manufacturer ∷ Text line.vehicle.serial ∷ Text line.job ∷ Text line.start
-    ∷ number_cell line.first ∷ number_cell line.base ∷ number_cell line.sent ∷ or_null number_cell line.confirmed ∷ number_cell line.seen
-    ∷ number_cell line.pick_at ∷ number_cell line.drop_at ∷ Text (status_name line.pick_status) ∷ Text (status_name line.drop_status) ∷ []
+abbrev pub capacity_columns : VehicleKey → CapacityRow → Row
+capacity_columns key room = Text key.manufacturer ∷ Text key.serial ∷ number_cell room.capacity ∷ []
 
-unfoldable pub trip_in : Row → Option TripLine
-trip_in row = if_columns 14 row (
+-- that of a vehicle
+abbrev pub room_columns : VehicleKey → VehicleRow → Row
+room_columns key vehicle = capacity_columns key (record { capacity = vehicle.capacity })
+
+unfoldable pub capacity_in : Row → Option (VehicleKey × CapacityRow)
+capacity_in row = if_columns 3 row (
+    if_some (key_in (column row 0) (column row 1)) (λ key. if_some (number_in (column row 2)) (λ capacity. Some (key, record { capacity = capacity }))))
+
+-- ---- journey: order_id, manufacturer, serial, start, first, base, sent, confirmed, seen
+
+abbrev pub journey_columns : List ℕ → JourneyRow → Row
+journey_columns order journey =
+    Text order ∷ Text journey.vehicle.manufacturer ∷ Text journey.vehicle.serial ∷ Text journey.start
+    ∷ number_cell journey.first ∷ number_cell journey.base ∷ number_cell journey.sent ∷ or_null number_cell journey.confirmed ∷ number_cell journey.seen ∷ []
+
+unfoldable pub journey_in : Row → Option (List ℕ × JourneyRow)
+journey_in row = if_columns 9 row (
     if_some (name_in (column row 0)) (λ order.
     if_some (key_in (column row 1) (column row 2)) (λ vehicle.
-    if_some (name_in (column row 3)) (λ job.
-    if_some (name_in (column row 4)) (λ start.
-    if_some (number_in (column row 5)) (λ first.
-    if_some (number_in (column row 6)) (λ base.
-    if_some (number_in (column row 7)) (λ sent.
-    if_some (maybe_in number_in (column row 8)) (λ confirmed.
-    if_some (number_in (column row 9)) (λ seen.
-    if_some (number_in (column row 10)) (λ pick_at.
-    if_some (number_in (column row 11)) (λ drop_at.
-    if_some (status_in (column row 12)) (λ pick_status.
-    if_some (status_in (column row 13)) (λ drop_status.
-    Some (record {
-      order = order;
-      vehicle = vehicle;
-      job = job;
-      start = start;
-      first = first;
-      base = base;
-      sent = sent;
-      confirmed = confirmed;
-      seen = seen;
-      pick_at = pick_at;
-      drop_at = drop_at;
-      pick_status = pick_status;
-      drop_status = drop_status;
-    })))))))))))))))
+    if_some (name_in (column row 3)) (λ start.
+    if_some (number_in (column row 4)) (λ first.
+    if_some (number_in (column row 5)) (λ base.
+    if_some (number_in (column row 6)) (λ sent.
+    if_some (maybe_in number_in (column row 7)) (λ confirmed.
+    if_some (number_in (column row 8)) (λ seen.
+    Some (order, record { vehicle = vehicle; start = start; first = first; base = base; sent = sent; confirmed = confirmed; seen = seen }))))))))))
+
+-- ---- act: order_id, n, job, kind, place_at, status
+
+abbrev pub act_columns : LegKey → ActRow → Row
+act_columns key act = Text key.order ∷ number_cell key.k ∷ Text act.job ∷ Text (act_name act.kind) ∷ number_cell act.place_at ∷ Text (status_name act.status) ∷ []
+
+unfoldable pub act_in : Row → Option (LegKey × ActRow)
+act_in row = if_columns 6 row (
+    if_some (name_in (column row 0)) (λ order.
+    if_some (number_in (column row 1)) (λ n.
+    if_some (name_in (column row 2)) (λ job.
+    if_some (act_kind_in (column row 3)) (λ kind.
+    if_some (number_in (column row 4)) (λ place_at.
+    if_some (status_in (column row 5)) (λ status.
+    Some (record { order = order; k = n }, record { job = job; kind = kind; place_at = place_at; status = status }))))))))
 
 -- ---- leg: order_id, k, edge
 

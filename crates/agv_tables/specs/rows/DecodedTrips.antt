@@ -1,21 +1,53 @@
--- The open trip of a vehicle, as the tables of rows tell it: its line, the row of its job, and the edges of its order.
-use Rattle.std.specs.Prelude.{List, ℕ, Option, Some}
+-- The vehicles and the open trips, as the tables of rows tell them: a vehicle with its room, and a trip with its journey, its acts, the rows of their jobs and its edges.
+use Rattle.std.specs.Prelude.{Bool, List, ℕ, Option, Some, filter, map}
 use Rattle.std.specs.FinMap as finite
-use Rattle.std.specs.List.{find}
-use Rattle.std.specs.Option.{option_and_then, option_map}
+use Rattle.std.specs.List.{filter_map, find}
+use Rattle.std.specs.Option.{option_map}
 use Rattle.sqlite_value.specs.Order.{Row}
+use Rattle.agv_header.specs.Key.{key_cmp}
+use Rattle.agv_header.specs.KeyOrder.{key_eq}
 use Rattle.agv_header.specs.Name.{name_cmp}
 use Rattle.agv_header.specs.declared.key.VehicleKey.{VehicleKey}
+use Rattle.agv_order.specs.declared.act.Act.{Act}
 use Rattle.agv_order.specs.declared.trip.Trip.{Trip}
+use Rattle.agv_trip_rows.specs.TripRows.{acts_of, is_of, journeys_of}
+use Rattle.agv_trip_rows.specs.TripsTold.{acts_told, trip_told}
+use Rattle.agv_trip_rows.specs.declared.act_row.ActRow.{ActRow}
+use Rattle.agv_trip_rows.specs.declared.journey_row.JourneyRow.{JourneyRow}
+use Rattle.agv_world.specs.Keys.{leg_cmp}
 use Rattle.agv_world.specs.Rows.{Rows}
-use Rattle.agv_world.specs.Told.{names_vehicle, trip_in}
+use Rattle.agv_world.specs.Told.{trip_in}
 use Rattle.agv_world.specs.declared.row.JobRow.{JobRow}
 use Rattle.agv_world.specs.declared.row.TripRow.{TripRow}
+use Rattle.agv_world.specs.declared.row.VehicleRow.{VehicleRow}
 use Rattle.agv_world.specs.declared.world.World.{World as Tables}
+use Rattle.agv_tables.specs.declared.rows.capacity_row.CapacityRow.{CapacityRow}
+use Rattle.agv_tables.specs.rows.Columns.{vehicle_in}
 use Rattle.agv_tables.specs.rows.ValueEncodings.{if_some}
-use Rattle.agv_tables.specs.rows.Columns as columns
-use Rattle.agv_tables.specs.rows.TripLines.{line_of, trip_told}
-use Rattle.agv_tables.specs.declared.rows.trip_line.TripLine.{TripLine}
+
+-- ---- vehicles
+
+-- the rooms of these vehicles
+unfoldable pub capacities_of : finite.FinMap key_cmp VehicleRow → finite.FinMap key_cmp CapacityRow
+capacities_of vehicles = finite.from_entries (map (λ (entry : VehicleKey × VehicleRow). (entry.0, record { capacity = entry.1.capacity })) (finite.entries vehicles))
+
+-- the vehicle that a row of SQL tells, where its room is one of these
+abbrev pub vehicle_with : finite.FinMap key_cmp CapacityRow → Row → Option (VehicleKey × VehicleRow)
+vehicle_with capacities row =
+    if_some (vehicle_in row) (λ vehicle. if_some (finite.get capacities vehicle.0) (λ (room : CapacityRow). Some (vehicle.0, record vehicle.1 { capacity = room.capacity })))
+
+-- ---- all trips
+
+-- the order and the trip of a journey, with those of these acts that are of its order; none where a number is missing, or a job is unknown
+abbrev pub trip_with : finite.FinMap leg_cmp ActRow → finite.FinMap name_cmp JobRow → List ℕ × JourneyRow → Option (List ℕ × TripRow)
+trip_with acts jobs journey =
+    option_map (λ (told : List Act). (journey.0, trip_told journey.1 told)) (acts_told jobs 0 (filter (is_of journey.0) (finite.entries acts)))
+
+-- the trips of the journeys
+abbrev pub trips_with : finite.FinMap name_cmp JourneyRow → finite.FinMap leg_cmp ActRow → finite.FinMap name_cmp JobRow → finite.FinMap name_cmp TripRow
+trips_with journeys acts jobs = finite.from_entries (filter_map (trip_with acts jobs) (finite.entries journeys))
+
+-- ---- the trip of a vehicle
 
 -- the tables in memory that are those of the rows
 abbrev pub tables_of : Rows → Tables
@@ -31,18 +63,14 @@ tables_of rows = record {
   used = rows.used;
 }
 
--- the row of the trip of a vehicle: the first, in the order of orders, that names it
-abbrev pub trip_row_for : Rows → VehicleKey → Option (List ℕ × TripRow)
-trip_row_for rows key = find (names_vehicle key) (finite.entries rows.trips)
+-- the row names the vehicle
+abbrev pub is_driven_by : VehicleKey → List ℕ × JourneyRow → Bool
+is_driven_by key journey = key_eq journey.1.vehicle key
 
--- the line of that row
-abbrev pub line_for : Rows → VehicleKey → Option TripLine
-line_for rows key = option_and_then (λ (entry : List ℕ × TripRow). line_of entry.0 entry.1) (trip_row_for rows key)
+-- the journey of a vehicle: the first, in the order of orders, that names it
+abbrev pub journey_for : Rows → VehicleKey → Option (List ℕ × JourneyRow)
+journey_for rows key = find (is_driven_by key) (finite.entries (journeys_of rows.trips))
 
--- the trip of a line, where its job is known: with the row of the job, and the edges of the order
-abbrev pub told_by_line : Rows → TripLine → Option Trip
-told_by_line rows line = option_map (λ (job : JobRow). trip_in (tables_of rows) (line.order, trip_told line job)) (finite.get rows.jobs line.job)
-
--- the order and the trip that a row of SQL tells, where its job is one of these
-abbrev pub trip_with : finite.FinMap name_cmp JobRow → Row → Option (List ℕ × TripRow)
-trip_with jobs row = if_some (columns.trip_in row) (λ line. if_some (finite.get jobs line.job) (λ job. Some (line.order, trip_told line job)))
+-- the trip of a journey with the acts of its order, where their jobs are known, and the edges of the order
+abbrev pub told_by_journey : Rows → List ℕ × JourneyRow → Option Trip
+told_by_journey rows journey = option_map (λ trip. trip_in (tables_of rows) trip) (trip_with (acts_of rows.trips) rows.jobs journey)

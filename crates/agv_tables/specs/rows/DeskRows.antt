@@ -20,11 +20,11 @@ use Rattle.sqlite_schema.specs.declared.schema.Table.{Table}
 use Rattle.sqlite_rules.specs.Edit.{id_in}
 use Rattle.sqlite.specs.Effect.{Database, IsDatabase}
 use Rattle.sqlite.specs.State.{State}
-use Rattle.agv_tables.specs.schema.Schema.{meta_table, node_table, edge_table, station_table, vehicle_table, trip_table, leg_table, place_table, job_table, hold_table, used_table}
+use Rattle.agv_tables.specs.schema.Schema.{meta_table, node_table, edge_table, station_table, vehicle_table, trip_table, leg_table, place_table, job_table, hold_table, used_table, capacity_table, journey_table, act_table}
 use Rattle.agv_tables.specs.declared.schema.table_name.TableName.{TableName}
 use Rattle.agv_tables.specs.declared.schema.table_name.TableName.TheVariants as the
 
--- ---- the eleven tables
+-- ---- the fourteen tables
 
 -- the table of that name as the desk makes it, but for its tree
 abbrev pub table_for : TableName → Table
@@ -39,10 +39,13 @@ table_for the.Load = place_table
 table_for the.Job = job_table
 table_for the.Hold = hold_table
 table_for the.Used = used_table
+table_for the.Capacity = capacity_table
+table_for the.Journey = journey_table
+table_for the.Act = act_table
 
 -- the order of the lists of their rows
 abbrev pub table_names : List TableName
-table_names = the.Meta ∷ the.Node ∷ the.Edge ∷ the.Station ∷ the.Vehicle ∷ the.Trip ∷ the.Leg ∷ the.Load ∷ the.Job ∷ the.Hold ∷ the.Used ∷ []
+table_names = the.Meta ∷ the.Node ∷ the.Edge ∷ the.Station ∷ the.Vehicle ∷ the.Trip ∷ the.Leg ∷ the.Load ∷ the.Job ∷ the.Hold ∷ the.Used ∷ the.Capacity ∷ the.Journey ∷ the.Act ∷ []
 
 abbrev pub place_of : TableName → ℕ
 place_of the.Meta = 0
@@ -56,6 +59,9 @@ place_of the.Load = 7
 place_of the.Job = 8
 place_of the.Hold = 9
 place_of the.Used = 10
+place_of the.Capacity = 11
+place_of the.Journey = 12
+place_of the.Act = 13
 
 -- how many columns it has
 abbrev pub width_of : TableName → ℕ
@@ -63,7 +69,7 @@ width_of name = length (table_for name).columns
 
 -- ---- where they stand
 
--- a schema, and the tree that each of the eleven has in it
+-- a schema, and the tree that each of the fourteen has in it
 pub record Placing : Type 0 where
   pub schema : Schema
   pub tree : TableName → ℕ
@@ -86,7 +92,7 @@ pub record TableStands (desk : Placing) (name : TableName) : Type 0 where
   pub low : nat_le (2 ^ 31) (desk.tree name) ≡ false
   pub unreferred : is_unreferred (table_for name).name desk.schema.tables ≡ true
 
--- the eleven stand in the schema, wherever that is, whatever other tables stand there, and whatever indexes there are
+-- the fourteen stand in the schema, wherever that is, whatever other tables stand there, and whatever indexes there are
 pub record IsDesk (desk : Placing) : Type 0 where
   pub stands : (name : TableName) → TableStands desk name
   -- no two tables have one tree
@@ -140,17 +146,30 @@ on_table (suc at) f (rows ∷ more) = rows ∷ on_table at f more
 abbrev pub is_equal : Value → Value → Bool
 is_equal a b = is_true (binary (Compare Eq Binary) a b)
 
--- the row has that key: the columns of the table's primary key are equal (columns are counted from 1 there)
+-- these columns of the row are equal to those of another (columns are counted from 1)
+abbrev pub has_columns : List ℕ → Row → Row → Bool
+has_columns columns other row = list_all (λ c. is_equal (column row (c - 1)) (column other (c - 1))) columns
+
+-- the row has that key: the columns of the table's primary key are equal
 abbrev pub has_key : TableName → Row → Row → Bool
-has_key name key row = list_all (λ c. is_equal (column row (c - 1)) (column key (c - 1))) (table_for name).primary
+has_key name = has_columns (table_for name).primary
 
 -- with one more row
 abbrev pub with_row : TableName → Row → List (List Row) → List (List Row)
 with_row name row = on_table (place_of name) (λ rows. row ∷ rows)
 
+-- with more rows, one after the other
+abbrev pub with_rows : TableName → List Row → List (List Row) → List (List Row)
+with_rows name [] lists = lists
+with_rows name (row ∷ rows) lists = with_rows name rows (with_row name row lists)
+
+-- without the rows that are equal to one in these columns
+abbrev pub without_rows : TableName → List ℕ → Row → List (List Row) → List (List Row)
+without_rows name columns other = on_table (place_of name) (filter (λ row. not (has_columns columns other row)))
+
 -- without the row of that key
 abbrev pub without_key : TableName → Row → List (List Row) → List (List Row)
-without_key name key = on_table (place_of name) (filter (λ row. not (has_key name key row)))
+without_key name = without_rows name (table_for name).primary
 
 -- with the row in the place of that of its key, if there is one
 abbrev pub with_put : TableName → Row → Row → List (List Row) → List (List Row)

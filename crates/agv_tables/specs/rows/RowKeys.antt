@@ -16,6 +16,7 @@ name_key id = Text id ∷ []
 abbrev pub vehicle_key : VehicleKey → Row
 vehicle_key key = Text key.manufacturer ∷ Text key.serial ∷ []
 
+-- of an edge of an open trip, and of an act
 abbrev pub leg_key : LegKey → Row
 leg_key key = Text key.order ∷ number_cell key.k ∷ []
 

@@ -2,7 +2,7 @@
 use Rattle.std.specs.Prelude.{◌≡◌, ℕ, Bool, List, [], ◌∷◌, map, filter, Option, None, Some, IsPermutation}
 use Rattle.std.specs.FinMap as finite
 use Rattle.std.specs.FinSet as set
-use Rattle.std.specs.List.{AllZip, flat_map}
+use Rattle.std.specs.List.{AllByRecursion, AllZip}
 use Rattle.std.specs.declared.cmp.Ordering.{Ordering}
 use Rattle.sqlite_value.specs.Order.{Row}
 use Rattle.sqlite.specs.Effect.{Database}
@@ -12,15 +12,18 @@ use Rattle.agv_world.specs.Rows.{Rows, rows_of}
 use Rattle.agv_world.specs.Worlds.{World}
 use Rattle.agv_world.specs.declared.change.Change.{Change}
 use Rattle.agv_world.specs.declared.change.Change.TheVariants as row
-use Rattle.agv_world.specs.declared.row.JobRow.{JobRow}
 use Rattle.agv_world.specs.declared.row.TripRow.{TripRow}
 use Rattle.agv_world.specs.declared.row.VehicleRow.{VehicleRow}
-use Rattle.agv_tables.specs.rows.Columns.{meta_columns, node_columns, edge_columns, station_columns, vehicle_columns, trip_columns, leg_columns, load_columns, job_columns, hold_columns, used_columns}
-use Rattle.agv_tables.specs.rows.DeskRows.{Placing, Holds, place_of, table_at, with_put, without_key}
+use Rattle.agv_tables.specs.rows.Columns.{meta_columns, node_columns, edge_columns, station_columns, vehicle_columns, room_columns, journey_columns, act_columns, leg_columns, load_columns, job_columns, hold_columns, used_columns}
+use Rattle.agv_tables.specs.rows.DeskRows.{Placing, Holds, place_of, table_at, with_put, with_rows, without_key, without_rows}
 use Rattle.agv_tables.specs.rows.RowKeys.{name_key, vehicle_key, leg_key, hold_key}
-use Rattle.agv_tables.specs.rows.TripLines.{line_of, trip_told}
+use Rattle.agv_tables.specs.statements.RowTexts.{columns_deleted}
 use Rattle.agv_tables.specs.declared.schema.table_name.TableName.TheVariants as the
-use Rattle.agv_tables.specs.declared.rows.trip_line.TripLine.{TripLine}
+use Rattle.agv_tables.specs.declared.rows.world_table.WorldTable.TheVariants as table
+use Rattle.agv_trip_rows.specs.TripRows.{act_rows, acts_of, journey_of, journeys_of}
+use Rattle.agv_trip_rows.specs.TripsTold.{IsOfJob}
+use Rattle.agv_trip_rows.specs.declared.act_row.ActRow.{ActRow}
+use Rattle.agv_world.specs.declared.key.LegKey.{LegKey}
 
 -- ---- the rows of a world
 
@@ -41,10 +44,6 @@ abbrev pub row_if : {X : Type 0} → (X → Row) → Option X → List Row
 row_if columns None = []
 row_if columns (Some x) = columns x ∷ []
 
--- the columns of each open trip of one job; no other trip has a row
-abbrev pub trip_rows : finite.FinMap name_cmp TripRow → List Row
-trip_rows trips = flat_map (λ (entry : List ℕ × TripRow). row_if trip_columns (line_of entry.0 entry.1)) (finite.entries trips)
-
 -- the rows of all tables
 unfoldable pub row_lists : Rows → List (List Row)
 row_lists rows =
@@ -53,12 +52,15 @@ row_lists rows =
     ∷ rows_in edge_columns rows.edges
     ∷ rows_in station_columns rows.stations
     ∷ rows_in vehicle_columns rows.vehicles
-    ∷ trip_rows rows.trips
+    ∷ []
     ∷ rows_in leg_columns rows.legs
     ∷ rows_in load_columns rows.loads
     ∷ rows_in job_columns rows.jobs
     ∷ rows_in hold_columns rows.holds
-    ∷ rows_for used_columns rows.used ∷ []
+    ∷ rows_for used_columns rows.used
+    ∷ rows_in room_columns rows.vehicles
+    ∷ rows_in journey_columns (journeys_of rows.trips)
+    ∷ rows_in act_columns (acts_of rows.trips) ∷ []
 
 -- the lists have the same rows, table by table, in some order
 abbrev pub AreAlike : List (List Row) → List (List Row) → Type 0
@@ -76,40 +78,52 @@ ShowEntries {K} {X} rows columns table =
     (passes : Row → Bool) (is : K × X → Bool) → ((key : K) (x : X) → passes (columns key x) ≡ is (key, x))
     → IsPermutation (filter passes rows) (map (λ (entry : K × X). columns entry.0 entry.1) (filter is (finite.entries table)))
 
--- the same of trips, of which only those of one job are there
-abbrev pub ShowTrips : List Row → finite.FinMap name_cmp TripRow → Type 0
-ShowTrips rows trips =
-    (passes : Row → Bool) (is : List ℕ × TripRow → Bool) → ((order : List ℕ) (trip : TripRow) (line : TripLine) → line_of order trip ≡ Some line → passes (trip_columns line) ≡ is (order, trip))
-    → IsPermutation (filter passes rows) (flat_map (λ (entry : List ℕ × TripRow). row_if trip_columns (line_of entry.0 entry.1)) (filter is (finite.entries trips)))
-
 -- so it is of each table
 pub record ShowAll (lists : List (List Row)) (rows : Rows) : Type 0 where
   pub nodes : ShowEntries (table_at (place_of the.Node) lists) (λ id nothing. node_columns id) (marked rows.nodes)
   pub edges : ShowEntries (table_at (place_of the.Edge) lists) edge_columns rows.edges
   pub stations : ShowEntries (table_at (place_of the.Station) lists) station_columns rows.stations
   pub vehicles : ShowEntries (table_at (place_of the.Vehicle) lists) vehicle_columns rows.vehicles
-  pub trips : ShowTrips (table_at (place_of the.Trip) lists) rows.trips
+  pub trips : table_at (place_of the.Trip) lists ≡ []
   pub legs : ShowEntries (table_at (place_of the.Leg) lists) leg_columns rows.legs
   pub loads : ShowEntries (table_at (place_of the.Load) lists) load_columns rows.loads
   pub jobs : ShowEntries (table_at (place_of the.Job) lists) job_columns rows.jobs
   pub holds : ShowEntries (table_at (place_of the.Hold) lists) hold_columns rows.holds
   pub used : ShowEntries (table_at (place_of the.Used) lists) (λ key nothing. used_columns key) (marked rows.used)
+  pub capacities : ShowEntries (table_at (place_of the.Capacity) lists) room_columns rows.vehicles
+  pub journeys : ShowEntries (table_at (place_of the.Journey) lists) journey_columns (journeys_of rows.trips)
+  pub acts : ShowEntries (table_at (place_of the.Act) lists) act_columns (acts_of rows.trips)
 
 -- ---- what a change does to the lists
 
--- the row of the trip in place of that of its order; none where it isn't a trip of one job
-abbrev pub with_line : List ℕ → Option TripLine → List (List Row) → List (List Row)
-with_line order None = without_key the.Trip (name_key order)
-with_line order (Some line) = with_put the.Trip (name_key order) (trip_columns line)
+-- the row of a vehicle, and that of its room
+abbrev pub with_vehicle : VehicleKey → VehicleRow → List (List Row) → List (List Row)
+with_vehicle key vehicle lists = with_put the.Capacity (vehicle_key key) (room_columns key vehicle) (with_put the.Vehicle (vehicle_key key) (vehicle_columns key vehicle) lists)
+
+-- without the acts of an order
+abbrev pub without_acts : List ℕ → List (List Row) → List (List Row)
+without_acts order = without_rows the.Act (columns_deleted table.Act) (name_key order)
+
+-- the rows of these acts
+abbrev pub rows_of_acts : List (LegKey × ActRow) → List Row
+rows_of_acts acts = map (λ (act : LegKey × ActRow). act_columns act.0 act.1) acts
+
+-- without the open trip of an order, and with this one in the place of that
+abbrev pub without_trip : List ℕ → List (List Row) → List (List Row)
+without_trip order lists = without_acts order (without_key the.Journey (name_key order) lists)
+
+abbrev pub with_trip : List ℕ → TripRow → List (List Row) → List (List Row)
+with_trip order trip lists =
+    with_rows the.Act (rows_of_acts (act_rows order trip)) (without_acts order (with_put the.Journey (name_key order) (journey_columns order (journey_of trip)) lists))
 
 -- the row is written in place of that of its key, or that row is removed
 abbrev pub listed : Change → List (List Row) → List (List Row)
 listed (row.Node id) = with_put the.Node (name_key id) (node_columns id)
 listed (row.Edge id ends) = with_put the.Edge (name_key id) (edge_columns id ends)
 listed (row.Station id spot) = with_put the.Station (name_key id) (station_columns id spot)
-listed (row.Vehicle key vehicle) = with_put the.Vehicle (vehicle_key key) (vehicle_columns key vehicle)
-listed (row.Trip order None) = without_key the.Trip (name_key order)
-listed (row.Trip order (Some trip)) = with_line order (line_of order trip)
+listed (row.Vehicle key vehicle) = with_vehicle key vehicle
+listed (row.Trip order None) = without_trip order
+listed (row.Trip order (Some trip)) = with_trip order trip
 listed (row.Leg key None) = without_key the.Leg (leg_key key)
 listed (row.Leg key (Some edge)) = with_put the.Leg (leg_key key) (leg_columns key edge)
 listed (row.Load id place) = with_put the.Load (name_key id) (load_columns id place)
@@ -125,18 +139,9 @@ listed_all (one ∷ changes) lists = listed_all changes (listed one lists)
 
 -- ---- what the tables can tell
 
--- a trip is what its line and the row of its job tell
-pub record IsTripOfJob (rows : Rows) (order : List ℕ) (trip : TripRow) : Type 0 where
-  pub line : TripLine
-  pub is : line_of order trip ≡ Some line
-  pub job : JobRow
-  pub known : finite.get rows.jobs line.job ≡ Some job
-  pub told : trip_told line job ≡ trip
-
--- each vehicle has room for one load, and each open trip is of one job, which is known: the tables tell no more
-pub record CarriesOneEach (rows : Rows) : Type 0 where
-  pub vehicles : (key : VehicleKey) (vehicle : VehicleRow) → finite.get rows.vehicles key ≡ Some vehicle → vehicle.capacity ≡ 1
-  pub trips : (order : List ℕ) (trip : TripRow) → finite.get rows.trips order ≡ Some trip → IsTripOfJob rows order trip
+-- each act of each open trip has the load and the station of its job, which is known: the tables tell no more
+abbrev pub ActsAreOfJobs : Rows → Type 0
+ActsAreOfJobs rows = (order : List ℕ) (trip : TripRow) → finite.get rows.trips order ≡ Some trip → AllByRecursion (IsOfJob rows.jobs) trip.acts
 
 -- ---- a database
 

@@ -12,7 +12,8 @@ use Rattle.agv_world.specs.declared.key.LegKey.{LegKey}
 use Rattle.agv_world.specs.declared.row.JobRow.{JobRow}
 use Rattle.agv_world.specs.declared.row.Sent.{Sent}
 use Rattle.agv_world.specs.declared.row.VehicleRow.{VehicleRow}
-use Rattle.agv_tables.specs.declared.rows.trip_line.TripLine.{TripLine}
+use Rattle.agv_trip_rows.specs.declared.act_row.ActRow.{ActRow}
+use Rattle.agv_trip_rows.specs.declared.journey_row.JourneyRow.{JourneyRow}
 
 abbrev pub IsNumber : ℕ → Type 0
 IsNumber n = n ≤ 4294967295
@@ -26,9 +27,8 @@ IsSpot spot = IsName spot.node × IsNumber spot.capacity
 abbrev pub IsSending : Sent → Type 0
 IsSending sent = IsNumber sent.count × (sent.at ≤ 4102444799999)
 
--- a vehicle, which has room for one load: more the tables can't say
 pub record IsVehicleRow (row : VehicleRow) : Type 0 where
-  pub capacity : row.capacity ≡ 1
+  pub capacity : IsNumber row.capacity
   pub node : IsName row.node
   pub rest : IfSome row.rest (λ rest. IsName rest.0 × IsName rest.1)
   pub last_header : IfSome row.last_header IsNumber
@@ -36,19 +36,20 @@ pub record IsVehicleRow (row : VehicleRow) : Type 0 where
   pub orders : IsSending row.orders
   pub instants : IsSending row.instants
 
-pub record IsTripLine (line : TripLine) : Type 0 where
-  pub order : IsName line.order
-  pub vehicle : IsKey line.vehicle
-  pub job : IsName line.job
-  pub start : IsName line.start
-  pub first : IsNumber line.first
-  pub base : IsNumber line.base
-  pub sent : IsNumber line.sent
-  pub confirmed : IfSome line.confirmed IsNumber
-  pub seen : IsNumber line.seen
-  pub pick_at : IsNumber line.pick_at
-  pub drop_at : IsNumber line.drop_at
+pub record IsJourneyRow (row : JourneyRow) : Type 0 where
+  pub vehicle : IsKey row.vehicle
+  pub start : IsName row.start
+  pub first : IsNumber row.first
+  pub base : IsNumber row.base
+  pub sent : IsNumber row.sent
+  pub confirmed : IfSome row.confirmed IsNumber
+  pub seen : IsNumber row.seen
 
+pub record IsActRow (row : ActRow) : Type 0 where
+  pub job : IsName row.job
+  pub place_at : IsNumber row.place_at
+
+-- the key of an edge, or of an act, of an open trip
 abbrev pub IsLegKey : LegKey → Type 0
 IsLegKey key = IsName key.order × IsNumber key.k
 

@@ -8,9 +8,12 @@ use Rattle.sqlite_value.specs.declared.value.Value.TheVariants.{Null, Int, Text}
 use Rattle.agv_header.specs.Moment.{moment_at}
 use Rattle.agv_header.specs.Name.{as_name}
 use Rattle.agv_message.specs.Instant.{instant_name}
+use Rattle.agv_message.specs.Order.{act_name}
 use Rattle.agv_message.specs.Status.{status_name, statuses}
 use Rattle.agv_message.specs.declared.instant.InstantKind.{InstantKind}
 use Rattle.agv_message.specs.declared.instant.InstantKind.TheVariants as instant
+use Rattle.agv_message.specs.declared.order.ActKind.{ActKind}
+use Rattle.agv_message.specs.declared.order.ActKind.TheVariants as act
 use Rattle.agv_message.specs.declared.status.Status.{Status}
 use Rattle.agv_stock.specs.declared.job.Phase.{Phase}
 use Rattle.agv_stock.specs.declared.job.Phase.TheVariants as phase
@@ -84,6 +87,13 @@ instants = instant.StartPause ∷ instant.StopPause ∷ instant.CancelOrder ∷ 
 
 unfoldable pub instant_in : Value → Option InstantKind
 instant_in = word_in instant_name instants
+
+-- what is done with a load
+abbrev pub act_kinds : List ActKind
+act_kinds = act.Pick ∷ act.Drop ∷ []
+
+unfoldable pub act_kind_in : Value → Option ActKind
+act_kind_in = word_in act_name act_kinds
 
 -- where a load is, and what is held
 abbrev pub place_name : PlaceKind → List ℕ

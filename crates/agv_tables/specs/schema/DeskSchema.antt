@@ -14,7 +14,7 @@ use Rattle.sqlite_catalog.specs.Change.{is_used, created, indexed}
 use Rattle.sqlite.specs.Does.{lacks_sequence}
 use Rattle.agv_tables.specs.schema.Schema.{desk_tables, PlainIndex, desk_indexes}
 
--- the names of the eleven tables
+-- the names of the fourteen tables
 abbrev pub desk_names : List (List ℕ)
 desk_names = map (λ (t : Table). t.name) desk_tables
 
@@ -65,6 +65,6 @@ with_new_index schema index =
     if is_used schema index.name then schema else
     unwrap_or (option_map (λ table. indexed schema table (index_on table index)) (option_and_then (slice_get schema.tables) (table_named schema index.table))) schema
 
--- the schema with the eleven tables and those of the four indexes whose names are free
+-- the schema with the fourteen tables and those of the four indexes whose names are free
 abbrev pub with_desk : Schema → Schema
 with_desk schema = fold with_new_index (fold with_new_table schema desk_tables) desk_indexes

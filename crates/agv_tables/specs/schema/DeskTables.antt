@@ -29,13 +29,13 @@ pub record HasTable (db : Database) (table : Table) (rows : List Row) : Type 0 w
   pub alone : (other : Table) → Has db.schema.tables other → other.tree ≡ tree → other ≡ record table { tree = tree }
   pub rows_are : HasRows (db.trees tree) rows
 
--- the eleven tables stand, each with its list of rows
+-- the fourteen tables stand, each with its list of rows
 abbrev pub HasDesk : Database → List (List Row) → Type 0
 HasDesk db = AllZip (HasTable db) desk_tables
 
 -- the rows of a new desk: the number of the schema, in the one row of `meta`
 abbrev pub first_rows : List (List Row)
-first_rows = ((Int (pos 1) ∷ Int (pos schema_number) ∷ []) ∷ []) ∷ [] ∷ [] ∷ [] ∷ [] ∷ [] ∷ [] ∷ [] ∷ [] ∷ [] ∷ [] ∷ []
+first_rows = ((Int (pos 1) ∷ Int (pos schema_number) ∷ []) ∷ []) ∷ [] ∷ [] ∷ [] ∷ [] ∷ [] ∷ [] ∷ [] ∷ [] ∷ [] ∷ [] ∷ [] ∷ [] ∷ [] ∷ []
 
 -- what the making gives
 pub record MakesDesk (old new : Database) : Type 0 where

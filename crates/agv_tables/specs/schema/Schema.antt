@@ -1,4 +1,4 @@
--- The schema of the desk's database: eleven STRICT tables, and four plain indexes that only make look-ups quick.
+-- The schema of the desk's database: fourteen STRICT tables, and four plain indexes that only make look-ups quick.
 use Rattle.std.specs.Prelude.{ℕ, Bool, true, false, List, [], ◌∷◌, map, None, codes}
 use Rattle.sqlite_value.specs.declared.keys.Collation.TheVariants.{Binary}
 use Rattle.sqlite_value.specs.declared.value.Value.TheVariants.{Null}
@@ -71,7 +71,7 @@ vehicle_table = table_of (codes "vehicle")
     ∷ maybe_text (codes "pending") ∷ [])
     (1 ∷ 2 ∷ []) []
 
--- the open trips, at most one for a vehicle and one for a job, but for their edges
+-- the open trips as the first schema had them, one job each; here it has no row
 abbrev pub trip_table : Table
 trip_table = table_of (codes "trip")
     (text (codes "order_id") ∷ text (codes "manufacturer") ∷ text (codes "serial") ∷ text (codes "job") ∷ text (codes "start")
@@ -102,10 +102,28 @@ hold_table = table_of (codes "hold")
 abbrev pub used_table : Table
 used_table = table_of (codes "used") (text (codes "kind") ∷ text (codes "id") ∷ []) (1 ∷ 2 ∷ []) []
 
+-- how many loads each vehicle has room for
+abbrev pub capacity_table : Table
+capacity_table = table_of (codes "capacity") (text (codes "manufacturer") ∷ text (codes "serial") ∷ number (codes "capacity") ∷ []) (1 ∷ 2 ∷ []) []
+
+-- the open trips, at most one for a vehicle, but for their edges and their acts
+abbrev pub journey_table : Table
+journey_table = table_of (codes "journey")
+    (text (codes "order_id") ∷ text (codes "manufacturer") ∷ text (codes "serial") ∷ text (codes "start")
+    ∷ number (codes "first") ∷ number (codes "base") ∷ number (codes "sent") ∷ maybe_number (codes "confirmed") ∷ number (codes "seen") ∷ [])
+    (1 ∷ []) ((2 ∷ 3 ∷ []) ∷ [])
+
+-- the acts of the open trips, at most one pick and one drop for a job
+abbrev pub act_table : Table
+act_table = table_of (codes "act")
+    (text (codes "order_id") ∷ number (codes "n") ∷ text (codes "job") ∷ text (codes "kind") ∷ number (codes "place_at") ∷ text (codes "status") ∷ [])
+    (1 ∷ 2 ∷ []) ((3 ∷ 4 ∷ []) ∷ [])
+
 -- all of them, in the order in which they are made
 abbrev pub desk_tables : List Table
 desk_tables =
-    meta_table ∷ node_table ∷ edge_table ∷ station_table ∷ vehicle_table ∷ trip_table ∷ leg_table ∷ place_table ∷ job_table ∷ hold_table ∷ used_table ∷ []
+    meta_table ∷ node_table ∷ edge_table ∷ station_table ∷ vehicle_table ∷ trip_table ∷ leg_table ∷ place_table ∷ job_table ∷ hold_table ∷ used_table
+    ∷ capacity_table ∷ journey_table ∷ act_table ∷ []
 
 -- ---- indexes
 

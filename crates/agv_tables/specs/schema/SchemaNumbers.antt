@@ -5,4 +5,4 @@ pub use Rattle.agv_world.specs.Rows.{schema_number}
 
 -- how many loads a vehicle may be built for, as worlds of the desk are lawful
 abbrev pub desk_seats : ℕ
-desk_seats = 1
+desk_seats = 4

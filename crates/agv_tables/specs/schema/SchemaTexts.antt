@@ -20,11 +20,14 @@ table_texts =
     ∷ codes "CREATE TABLE load (id TEXT PRIMARY KEY, kind TEXT NOT NULL, station TEXT, manufacturer TEXT, serial TEXT) STRICT"
     ∷ codes "CREATE TABLE job (id TEXT PRIMARY KEY, load TEXT NOT NULL, origin TEXT NOT NULL, target TEXT NOT NULL, phase TEXT NOT NULL) STRICT"
     ∷ codes "CREATE TABLE hold (kind TEXT, id TEXT, manufacturer TEXT NOT NULL, serial TEXT NOT NULL, PRIMARY KEY (kind, id)) STRICT"
-    ∷ codes "CREATE TABLE used (kind TEXT, id TEXT, PRIMARY KEY (kind, id)) STRICT" ∷ []
+    ∷ codes "CREATE TABLE used (kind TEXT, id TEXT, PRIMARY KEY (kind, id)) STRICT"
+    ∷ codes "CREATE TABLE capacity (manufacturer TEXT, serial TEXT, capacity INTEGER NOT NULL, PRIMARY KEY (manufacturer, serial)) STRICT"
+    ∷ codes "CREATE TABLE journey (order_id TEXT PRIMARY KEY, manufacturer TEXT NOT NULL, serial TEXT NOT NULL, start TEXT NOT NULL, first INTEGER NOT NULL, base INTEGER NOT NULL, sent INTEGER NOT NULL, confirmed INTEGER, seen INTEGER NOT NULL, UNIQUE (manufacturer, serial)) STRICT"
+    ∷ codes "CREATE TABLE act (order_id TEXT, n INTEGER, job TEXT NOT NULL, kind TEXT NOT NULL, place_at INTEGER NOT NULL, status TEXT NOT NULL, PRIMARY KEY (order_id, n), UNIQUE (job, kind)) STRICT" ∷ []
 
 -- the text that gives `meta` its row
 abbrev pub meta_text : List ℕ
-meta_text = codes "INSERT INTO meta (id, schema) VALUES (1, 1)"
+meta_text = codes "INSERT INTO meta (id, schema) VALUES (1, 2)"
 
 -- each index by its name, and its text
 abbrev pub index_texts : List (List ℕ × List ℕ)

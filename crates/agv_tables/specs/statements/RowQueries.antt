@@ -11,7 +11,8 @@ use Rattle.agv_tables.specs.declared.schema.table_name.TableName.TheVariants as 
 
 -- the table that is asked, and by which of its columns, which are counted from 1
 abbrev pub table_asked : RowsBy → TableName
-table_asked by.VehicleTrip = the.Trip
+table_asked by.VehicleJourney = the.Journey
+table_asked by.OrderActs = the.Act
 table_asked by.OrderLegs = the.Leg
 table_asked by.StationLoads = the.Load
 table_asked by.VehicleLoads = the.Load
@@ -19,7 +20,8 @@ table_asked by.LoadJobs = the.Job
 table_asked by.TargetJobs = the.Job
 
 abbrev pub columns_asked : RowsBy → List ℕ
-columns_asked by.VehicleTrip = 2 ∷ 3 ∷ []
+columns_asked by.VehicleJourney = 2 ∷ 3 ∷ []
+columns_asked by.OrderActs = 1 ∷ []
 columns_asked by.OrderLegs = 1 ∷ []
 columns_asked by.StationLoads = 3 ∷ []
 columns_asked by.VehicleLoads = 4 ∷ 5 ∷ []
@@ -50,7 +52,8 @@ all_rows_of name = table_at (place_of name)
 
 -- the parameters are the values
 abbrev pub query_text : RowsBy → List ℕ
-query_text by.VehicleTrip = codes "SELECT order_id, manufacturer, serial, job, start, first, base, sent, confirmed, seen, pick_at, drop_at, pick_status, drop_status FROM trip WHERE manufacturer = ?1 AND serial = ?2"
+query_text by.VehicleJourney = codes "SELECT order_id, manufacturer, serial, start, first, base, sent, confirmed, seen FROM journey WHERE manufacturer = ?1 AND serial = ?2"
+query_text by.OrderActs = codes "SELECT order_id, n, job, kind, place_at, status FROM act WHERE order_id = ?1"
 query_text by.OrderLegs = codes "SELECT order_id, k, edge FROM leg WHERE order_id = ?1"
 query_text by.StationLoads = codes "SELECT id, kind, station, manufacturer, serial FROM load WHERE station = ?1"
 query_text by.VehicleLoads = codes "SELECT id, kind, station, manufacturer, serial FROM load WHERE manufacturer = ?1 AND serial = ?2"
@@ -69,3 +72,6 @@ all_rows_text the.Load = codes "SELECT id, kind, station, manufacturer, serial F
 all_rows_text the.Job = codes "SELECT id, load, origin, target, phase FROM job"
 all_rows_text the.Hold = codes "SELECT kind, id, manufacturer, serial FROM hold"
 all_rows_text the.Used = codes "SELECT kind, id FROM used"
+all_rows_text the.Capacity = codes "SELECT manufacturer, serial, capacity FROM capacity"
+all_rows_text the.Journey = codes "SELECT order_id, manufacturer, serial, start, first, base, sent, confirmed, seen FROM journey"
+all_rows_text the.Act = codes "SELECT order_id, n, job, kind, place_at, status FROM act"

@@ -36,7 +36,7 @@ fn run_changes<S: Alter>(conn: &mut Connection<S>, changes: &[Change]) -> Result
 ///
 /// # Errors
 /// [`WriteFault::Memory`] for want of memory, and [`WriteFault::Storage`] for any other error of the database. No clause says that
-/// the disk has failed then: SQL refuses a row too, where the changes would give two open trips one vehicle or one job, or
+/// the disk has failed then: SQL refuses a row too, where the changes would give two open trips one vehicle, or two acts one job and one kind, or
 /// where a unique index that isn't the desk's forbids it.
 pub fn write_changes<S: Alter>(
     conn: &mut Connection<S>,

@@ -2,30 +2,32 @@
 //!
 //! Each clause `made` says of one kind of change what the definition of all of them says, in any database in which
 //! the desk's tables stand. An error changes what the transaction's end undoes.
-ghost use Rattle.std.specs.Prelude.{◌≡◌, None, Some, OnOk};
+ghost use Rattle.std.specs.Prelude.{◌≡◌, ◌+◌, ◌≤◌, IsTrue, None, Some, OnOk, length};
 ghost use Rattle.sqlite.specs.State.{HasCleanDisk, KeepsCommit, Survives};
 ghost use Rattle.sqlite.specs.Held.{state};
 ghost use Rattle.agv_world.specs.declared.change.Change.TheVariants as row;
-ghost use Rattle.agv_tables.specs.rows.Columns.{trip_columns};
-ghost use Rattle.agv_tables.specs.rows.DeskRows.{Makes, with_put, without_key};
-ghost use Rattle.agv_tables.specs.rows.RowKeys.{name_key};
-ghost use Rattle.agv_tables.specs.rows.RowLists.{listed};
+ghost use Rattle.agv_trip_rows.specs.TripRows.{act_rows_from};
+ghost use Rattle.agv_tables.specs.rows.Columns.{act_columns, room_columns, journey_columns, vehicle_columns};
+ghost use Rattle.agv_tables.specs.rows.DeskRows.{Makes, with_put, with_row, with_rows, without_key};
+ghost use Rattle.agv_tables.specs.rows.RowKeys.{name_key, vehicle_key};
+ghost use Rattle.agv_tables.specs.rows.RowLists.{listed, rows_of_acts, without_acts};
 ghost use Rattle.agv_tables.specs.declared.schema.table_name.TableName.TheVariants as the;
 
-use crate::TripLine;
 use crate::changes::hold_rows::drop_hold;
 use crate::rows::key_values::{
     hold_key_values, leg_key_values, name_key_values, vehicle_key_values,
 };
 use crate::rows::row_values::{
-    edge_values, hold_values, job_values, leg_values, load_values, node_values, station_values,
-    trip_values, used_values, vehicle_values,
+    act_values, capacity_values, edge_values, hold_values, job_values, journey_values, leg_values,
+    load_values, node_values, station_values, used_values, vehicle_values,
 };
 use crate::rows::world_table::WorldTable;
-use crate::statements::row_writes::{delete_row, put_row};
+use crate::statements::row_writes::{delete_row, insert_row, put_row};
 use agv_header::{Name, Thing, VehicleKey};
 use agv_layout::{EdgeEnds, StationSite};
+use agv_order::Act;
 use agv_stock::Place;
+use agv_trip_rows::{ActRow, JourneyRow};
 use agv_world::{Change, JobRow, LegKey, TripRow, UseKey, VehicleRow};
 use sqlite::{Alter, Error, Transaction};
 
@@ -80,6 +82,46 @@ fn write_station<S: Alter>(
     )
 }
 
+// The row of the vehicle, but for its room for loads.
+fn put_vehicle<S: Alter>(
+    tx: &mut Transaction<'_, S>,
+    key: &VehicleKey,
+    vehicle: &VehicleRow,
+) -> Result<usize, Error>
+    ensures same_reference { tx.new.conn.ghost_name ≡ tx.old.conn.ghost_name }
+    ensures survives { Survives (state S.Store tx.old.conn.now) (state S.Store tx.new.conn.now) (λ _. ⊥) }
+    ensures kept { HasCleanDisk (state S.Store tx.new.conn.now) → KeepsCommit (state S.Store tx.old.conn.now) (state S.Store tx.new.conn.now) }
+    ensures made { HasCleanDisk (state S.Store tx.new.conn.now)
+        → OnOk result (Makes (with_put the.Vehicle (vehicle_key key.now) (vehicle_columns key.now vehicle.now)) (state S.Store tx.old.conn.now) (state S.Store tx.new.conn.now)) }
+{
+    put_row(
+        tx,
+        WorldTable::Vehicle,
+        &vehicle_key_values(key),
+        &vehicle_values(key, vehicle),
+    )
+}
+
+// Its room for loads.
+fn put_capacity<S: Alter>(
+    tx: &mut Transaction<'_, S>,
+    key: &VehicleKey,
+    vehicle: &VehicleRow,
+) -> Result<usize, Error>
+    ensures same_reference { tx.new.conn.ghost_name ≡ tx.old.conn.ghost_name }
+    ensures survives { Survives (state S.Store tx.old.conn.now) (state S.Store tx.new.conn.now) (λ _. ⊥) }
+    ensures kept { HasCleanDisk (state S.Store tx.new.conn.now) → KeepsCommit (state S.Store tx.old.conn.now) (state S.Store tx.new.conn.now) }
+    ensures made { HasCleanDisk (state S.Store tx.new.conn.now)
+        → OnOk result (Makes (with_put the.Capacity (vehicle_key key.now) (room_columns key.now vehicle.now)) (state S.Store tx.old.conn.now) (state S.Store tx.new.conn.now)) }
+{
+    put_row(
+        tx,
+        WorldTable::Capacity,
+        &vehicle_key_values(key),
+        &capacity_values(key, vehicle),
+    )
+}
+
 // The vehicle is this.
 fn write_vehicle<S: Alter>(
     tx: &mut Transaction<'_, S>,
@@ -92,12 +134,30 @@ fn write_vehicle<S: Alter>(
     ensures made { HasCleanDisk (state S.Store tx.new.conn.now)
         → OnOk result (Makes (listed (row.Vehicle key.now vehicle.now)) (state S.Store tx.old.conn.now) (state S.Store tx.new.conn.now)) }
 {
-    put_row(
-        tx,
-        WorldTable::Vehicle,
-        &vehicle_key_values(key),
-        &vehicle_values(key, vehicle),
-    )
+    put_vehicle(tx, key, vehicle)?;
+    put_capacity(tx, key, vehicle)
+}
+
+// The order has no journey.
+fn drop_journey<S: Alter>(tx: &mut Transaction<'_, S>, order: &Name) -> Result<usize, Error>
+    ensures same_reference { tx.new.conn.ghost_name ≡ tx.old.conn.ghost_name }
+    ensures survives { Survives (state S.Store tx.old.conn.now) (state S.Store tx.new.conn.now) (λ _. ⊥) }
+    ensures kept { HasCleanDisk (state S.Store tx.new.conn.now) → KeepsCommit (state S.Store tx.old.conn.now) (state S.Store tx.new.conn.now) }
+    ensures made { HasCleanDisk (state S.Store tx.new.conn.now)
+        → OnOk result (Makes (without_key the.Journey (name_key order.now)) (state S.Store tx.old.conn.now) (state S.Store tx.new.conn.now)) }
+{
+    delete_row(tx, WorldTable::Journey, &name_key_values(order))
+}
+
+// The order has no acts.
+fn drop_acts<S: Alter>(tx: &mut Transaction<'_, S>, order: &Name) -> Result<usize, Error>
+    ensures same_reference { tx.new.conn.ghost_name ≡ tx.old.conn.ghost_name }
+    ensures survives { Survives (state S.Store tx.old.conn.now) (state S.Store tx.new.conn.now) (λ _. ⊥) }
+    ensures kept { HasCleanDisk (state S.Store tx.new.conn.now) → KeepsCommit (state S.Store tx.old.conn.now) (state S.Store tx.new.conn.now) }
+    ensures made { HasCleanDisk (state S.Store tx.new.conn.now)
+        → OnOk result (Makes (without_acts order.now) (state S.Store tx.old.conn.now) (state S.Store tx.new.conn.now)) }
+{
+    delete_row(tx, WorldTable::Act, &name_key_values(order))
 }
 
 // The order has no open trip.
@@ -106,32 +166,72 @@ fn drop_trip<S: Alter>(tx: &mut Transaction<'_, S>, order: &Name) -> Result<usiz
     ensures survives { Survives (state S.Store tx.old.conn.now) (state S.Store tx.new.conn.now) (λ _. ⊥) }
     ensures kept { HasCleanDisk (state S.Store tx.new.conn.now) → KeepsCommit (state S.Store tx.old.conn.now) (state S.Store tx.new.conn.now) }
     ensures made { HasCleanDisk (state S.Store tx.new.conn.now)
-        → OnOk result (Makes (without_key the.Trip (name_key order.now)) (state S.Store tx.old.conn.now) (state S.Store tx.new.conn.now)) }
+        → OnOk result (Makes (listed (row.Trip order.now None)) (state S.Store tx.old.conn.now) (state S.Store tx.new.conn.now)) }
 {
-    delete_row(tx, WorldTable::Trip, &name_key_values(order))
+    drop_journey(tx, order)?;
+    drop_acts(tx, order)
 }
 
-// The order has the open trip of this line.
-fn put_line<S: Alter>(
+// The order has this journey.
+fn put_journey<S: Alter>(
     tx: &mut Transaction<'_, S>,
     order: &Name,
-    line: &TripLine,
+    journey: &JourneyRow,
 ) -> Result<usize, Error>
     ensures same_reference { tx.new.conn.ghost_name ≡ tx.old.conn.ghost_name }
     ensures survives { Survives (state S.Store tx.old.conn.now) (state S.Store tx.new.conn.now) (λ _. ⊥) }
     ensures kept { HasCleanDisk (state S.Store tx.new.conn.now) → KeepsCommit (state S.Store tx.old.conn.now) (state S.Store tx.new.conn.now) }
     ensures made { HasCleanDisk (state S.Store tx.new.conn.now)
-        → OnOk result (Makes (with_put the.Trip (name_key order.now) (trip_columns line.now)) (state S.Store tx.old.conn.now) (state S.Store tx.new.conn.now)) }
+        → OnOk result (Makes (with_put the.Journey (name_key order.now) (journey_columns order.now journey.now)) (state S.Store tx.old.conn.now) (state S.Store tx.new.conn.now)) }
 {
     put_row(
         tx,
-        WorldTable::Trip,
+        WorldTable::Journey,
         &name_key_values(order),
-        &trip_values(line),
+        &journey_values(order, journey),
     )
 }
 
-// The order has this open trip. One that is not of one job has no row.
+// One more act.
+fn add_act<S: Alter>(
+    tx: &mut Transaction<'_, S>,
+    key: &LegKey,
+    act: &ActRow,
+) -> Result<usize, Error>
+    ensures same_reference { tx.new.conn.ghost_name ≡ tx.old.conn.ghost_name }
+    ensures survives { Survives (state S.Store tx.old.conn.now) (state S.Store tx.new.conn.now) (λ _. ⊥) }
+    ensures kept { HasCleanDisk (state S.Store tx.new.conn.now) → KeepsCommit (state S.Store tx.old.conn.now) (state S.Store tx.new.conn.now) }
+    ensures made { HasCleanDisk (state S.Store tx.new.conn.now)
+        → OnOk result (Makes (with_row the.Act (act_columns key.now act.now)) (state S.Store tx.old.conn.now) (state S.Store tx.new.conn.now)) }
+{
+    insert_row(tx, WorldTable::Act, &act_values(key, act))
+}
+
+// The order has acts of these tasks besides, which are numbered from a number on.
+fn add_acts<S: Alter>(
+    tx: &mut Transaction<'_, S>,
+    order: Name,
+    from: u32,
+    acts: &[Act],
+) -> Result<(), Error>
+    requires few { from + length acts.now ≤ 4294967296 }
+    ensures same_reference { tx.new.conn.ghost_name ≡ tx.old.conn.ghost_name }
+    ensures survives { Survives (state S.Store tx.old.conn.now) (state S.Store tx.new.conn.now) (λ _. ⊥) }
+    ensures kept { HasCleanDisk (state S.Store tx.new.conn.now) → KeepsCommit (state S.Store tx.old.conn.now) (state S.Store tx.new.conn.now) }
+    ensures made { HasCleanDisk (state S.Store tx.new.conn.now) → IsTrue (state S.Store tx.old.conn.now).in_transaction
+        → OnOk result (Makes (with_rows the.Act (rows_of_acts (act_rows_from order from acts.now))) (state S.Store tx.old.conn.now) (state S.Store tx.new.conn.now)) }
+{
+    let [act, others @ ..] = acts else {
+        return Ok(());
+    };
+    add_act(tx, &LegKey { order, k: from }, &ActRow::of(act))?;
+    if others.is_empty() {
+        return Ok(());
+    }
+    add_acts(tx, order, from + 1, others)
+}
+
+// The order has this open trip.
 fn write_open_trip<S: Alter>(
     tx: &mut Transaction<'_, S>,
     order: &Name,
@@ -143,10 +243,11 @@ fn write_open_trip<S: Alter>(
     ensures made { HasCleanDisk (state S.Store tx.new.conn.now)
         → OnOk result (Makes (listed (row.Trip order.now (Some trip.now))) (state S.Store tx.old.conn.now) (state S.Store tx.new.conn.now)) }
 {
-    match TripLine::of(*order, trip) {
-        None => drop_trip(tx, order),
-        Some(line) => put_line(tx, order, &line),
-    }
+    put_journey(tx, order, &JourneyRow::of(trip))?;
+    drop_acts(tx, order)?;
+    let acts = trip.acts.as_slice();
+    add_acts(tx, *order, 0, acts)?;
+    Ok(acts.len())
 }
 
 // The open trip of the order, if it has one.

@@ -4,16 +4,19 @@
 ghost use Rattle.std.specs.Prelude.{◌≡◌};
 ghost use Rattle.std.specs.FinMap as map;
 ghost use Rattle.std.specs.FinSet as set;
+ghost use Rattle.std.specs.Option.{option_map};
 ghost use Rattle.agv_world.specs.Questions.{row_of, holder_of, is_used};
-ghost use Rattle.agv_tables.specs.rows.Columns.{edge_in, hold_in, job_in, load_in, station_in, used_columns, vehicle_in};
+ghost use Rattle.agv_world.specs.declared.row.VehicleRow.{VehicleRow as RowOfVehicle};
+ghost use Rattle.agv_tables.specs.rows.Columns.{capacity_in, edge_in, hold_in, job_in, load_in, station_in, used_columns, vehicle_in};
 ghost use Rattle.agv_tables.specs.queries.FirstRow.{first_in};
 ghost use Rattle.agv_tables.specs.rows.TypedRows.{IsThing};
 ghost use Rattle.agv_tables.specs.queries.WorldAnswers.{AnswersQuery};
 
-use crate::ReadingFault;
+use crate::{CapacityRow, ReadingFault};
 use crate::queries::queried_rows::query_rows;
 use crate::rows::decode_row::{
-    decode_edge, decode_hold, decode_job, decode_load, decode_station, decode_vehicle,
+    decode_capacity, decode_edge, decode_hold, decode_job, decode_load, decode_station,
+    decode_vehicle,
 };
 use crate::rows::key_values::{hold_key_values, name_key_values, vehicle_key_values};
 use crate::rows::row_of::RowOf;
@@ -24,7 +27,7 @@ use agv_stock::Place;
 use agv_world::{JobRow, UseKey, VehicleRow};
 use sqlite::{Alter, Connection, Row};
 
-// The row of a vehicle that the rows of its key tell.
+// The row of a vehicle that the rows of its key tell, as if it had room for one load.
 fn vehicle_in_rows(rows: &[Row]) -> Result<Option<VehicleRow>, ReadingFault>
     ensures { result ≡ first_in vehicle_in rows.now }
 {
@@ -37,7 +40,42 @@ fn vehicle_in_rows(rows: &[Row]) -> Result<Option<VehicleRow>, ReadingFault>
     }
 }
 
-/// The row of a vehicle; none where there is no such vehicle.
+// The room of a vehicle that the rows of its key tell.
+fn capacity_in_rows(rows: &[Row]) -> Result<Option<CapacityRow>, ReadingFault>
+    ensures { result ≡ first_in capacity_in rows.now }
+{
+    match rows.first() {
+        None => Ok(None),
+        Some(row) => match decode_capacity(row) {
+            None => Err(ReadingFault::Damaged),
+            Some((_, capacity)) => Ok(Some(capacity)),
+        },
+    }
+}
+
+// The row of a vehicle, as if it had room for one load; none where there is no such vehicle.
+fn query_vehicle_row<S: Alter>(
+    conn: &mut Connection<S>,
+    key: &VehicleKey,
+) -> Result<Option<VehicleRow>, ReadingFault>
+    ensures { AnswersQuery S.Store conn.old conn.new result (λ world row. row ≡ option_map (λ (vehicle : RowOfVehicle). record vehicle { capacity = 1 }) (row_of world key.now)) }
+{
+    let rows = query_rows(conn, RowOf::Vehicle, &vehicle_key_values(key))?;
+    vehicle_in_rows(rows.as_slice())
+}
+
+// The room of a vehicle; none where there is no such vehicle.
+fn query_capacity<S: Alter>(
+    conn: &mut Connection<S>,
+    key: &VehicleKey,
+) -> Result<Option<CapacityRow>, ReadingFault>
+    ensures { AnswersQuery S.Store conn.old conn.new result (λ world room. room ≡ option_map (λ (vehicle : RowOfVehicle). record { capacity = vehicle.capacity }) (row_of world key.now)) }
+{
+    let rows = query_rows(conn, RowOf::Capacity, &vehicle_key_values(key))?;
+    capacity_in_rows(rows.as_slice())
+}
+
+/// The row of a vehicle, with its room for loads; none where there is no such vehicle.
 ///
 /// It fails as [`ReadingFault`] says.
 pub fn query_vehicle<S: Alter>(
@@ -46,8 +84,16 @@ pub fn query_vehicle<S: Alter>(
 ) -> Result<Option<VehicleRow>, ReadingFault>
     ensures { AnswersQuery S.Store conn.old conn.new result (λ world row. row ≡ row_of world key.now) }
 {
-    let rows = query_rows(conn, RowOf::Vehicle, &vehicle_key_values(key))?;
-    vehicle_in_rows(rows.as_slice())
+    let vehicle = query_vehicle_row(conn, key)?;
+    let room = query_capacity(conn, key)?;
+    match (vehicle, room) {
+        (None, None) => Ok(None),
+        (Some(vehicle), Some(room)) => Ok(Some(VehicleRow {
+            capacity: room.capacity,
+            ..vehicle
+        })),
+        _ => Err(ReadingFault::Damaged),
+    }
 }
 
 // The place that the rows of a load tell.

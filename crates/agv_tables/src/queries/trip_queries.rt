@@ -1,54 +1,84 @@
-//! The open trip of a vehicle, asked of the tables: its line, the row of its job, and its edges.
+//! The open trip of a vehicle, asked of the tables: its journey, its acts with the rows of their jobs, and its edges.
 //!
 //! Each query answers what the lawful world says whose rows the tables have (`specs/queries/WorldAnswers.antt`).
-ghost use Rattle.std.specs.Prelude.{◌≡◌};
+ghost use Rattle.std.specs.Prelude.{◌≡◌, Some, filter};
+ghost use Rattle.std.specs.FinMap as map;
+ghost use Rattle.agv_trip_rows.specs.TripRows.{acts_of, is_of};
+ghost use Rattle.agv_trip_rows.specs.TripsTold.{acts_told};
 ghost use Rattle.agv_world.specs.Questions.{trip_of};
 ghost use Rattle.agv_world.specs.Rows.{rows_of};
 ghost use Rattle.agv_world.specs.Told.{edges_of};
-ghost use Rattle.agv_tables.specs.rows.Columns.{trip_in};
+ghost use Rattle.agv_tables.specs.rows.Columns.{journey_in};
 ghost use Rattle.agv_tables.specs.queries.FirstRow.{first_whole_in};
-ghost use Rattle.agv_tables.specs.rows.DecodedTrips.{line_for, tables_of, told_by_line};
+ghost use Rattle.agv_tables.specs.rows.DecodedTrips.{journey_for, tables_of, told_by_journey};
 ghost use Rattle.agv_tables.specs.queries.WorldAnswers.{AnswersQuery};
 
 use crate::queries::key_queries::{query_edge, query_job};
 use crate::queries::queried_rows::query_rows_by;
-use crate::readings::row_tables::legs_in_rows;
-use crate::rows::decode_row::decode_trip;
+use crate::readings::row_tables::{acts_in_rows, legs_in_rows};
+use crate::rows::decode_row::decode_journey;
 use crate::rows::key_values::{name_key_values, vehicle_key_values};
 use crate::rows::rows_by::RowsBy;
 use crate::rows::trip_laws::rows_tell_trips;
-use crate::{ReadingFault, TripLine};
+use crate::ReadingFault;
 use agv_header::{Name, VehicleKey};
 use agv_layout::Edge;
 use agv_message::Sequence;
-use agv_order::Trip;
+use agv_order::{Act, Trip};
+use agv_trip_rows::JourneyRow;
 use agv_world::lawful_laws::is_in_good_order;
 use sqlite::{Alter, Connection, Row};
 use std::alloc::Global;
 
-// The line that the first of the rows tells.
-fn line_in_rows(rows: &[Row]) -> Result<Option<TripLine>, ReadingFault>
-    ensures { result ≡ first_whole_in trip_in rows.now }
+// The journey that the first of the rows tells.
+fn journey_in_rows(rows: &[Row]) -> Result<Option<(Name, JourneyRow)>, ReadingFault>
+    ensures { result ≡ first_whole_in journey_in rows.now }
 {
     match rows.first() {
         None => Ok(None),
-        Some(row) => match decode_trip(row) {
+        Some(row) => match decode_journey(row) {
             None => Err(ReadingFault::Damaged),
-            Some(line) => Ok(Some(line)),
+            Some(journey) => Ok(Some(journey)),
         },
     }
 }
 
-// The line of the open trip of a vehicle; none where it has none.
-fn query_line<S: Alter>(
+// The journey of the open trip of a vehicle, with its order; none where it has none.
+fn query_journey<S: Alter>(
     conn: &mut Connection<S>,
     key: &VehicleKey,
-) -> Result<Option<TripLine>, ReadingFault>
-    ensures { AnswersQuery S.Store conn.old conn.new result (λ world line. line ≡ line_for (rows_of world) key.now) }
+) -> Result<Option<(Name, JourneyRow)>, ReadingFault>
+    ensures { AnswersQuery S.Store conn.old conn.new result (λ world journey. journey ≡ journey_for (rows_of world) key.now) }
 {
     rows_tell_trips();
-    let rows = query_rows_by(conn, RowsBy::VehicleTrip, &vehicle_key_values(key))?;
-    line_in_rows(rows.as_slice())
+    let rows = query_rows_by(conn, RowsBy::VehicleJourney, &vehicle_key_values(key))?;
+    journey_in_rows(rows.as_slice())
+}
+
+// The acts of an order, in the order of their numbers, each with the load and the station of its job, which is looked up.
+fn query_acts<S: Alter>(
+    alloc: Global,
+    conn: &mut Connection<S>,
+    order: &Name,
+) -> Result<Sequence<Act>, ReadingFault>
+    ensures { AnswersQuery S.Store conn.old conn.new result
+        (λ world acts. acts_told (rows_of world).jobs 0 (filter (is_of order.now) (map.entries (acts_of (rows_of world).trips))) ≡ Some acts) }
+{
+    rows_tell_trips();
+    let rows = query_rows_by(conn, RowsBy::OrderActs, &name_key_values(order))?;
+    let table = acts_in_rows(alloc, rows.as_slice())?;
+    let mut acts = Vec::new(alloc);
+    for (key, act) in table.iter() {
+        if key.k as usize != acts.len() {
+            return Err(ReadingFault::Damaged);
+        }
+        let job = query_job(conn, &act.job)?;
+        match job {
+            None => return Err(ReadingFault::Damaged),
+            Some(job) => acts.push(act.act(&job))?,
+        }
+    }
+    Ok(Sequence::from(acts))
 }
 
 // The edges of an order, by their places on the way; each is looked up in the layout.
@@ -77,37 +107,32 @@ fn query_way<S: Alter>(
     Ok(Sequence::from(edges))
 }
 
-// The trip that a line tells; none where its job is unknown.
+// The trip of a journey, with its acts and its edges.
 fn query_told_trip<S: Alter>(
     alloc: Global,
     conn: &mut Connection<S>,
-    line: &TripLine,
-) -> Result<Option<Trip>, ReadingFault>
-    ensures { AnswersQuery S.Store conn.old conn.new result (λ world trip. trip ≡ told_by_line (rows_of world) line.now) }
+    order: &Name,
+    journey: &JourneyRow,
+) -> Result<Trip, ReadingFault>
+    ensures { AnswersQuery S.Store conn.old conn.new result (λ world trip. told_by_journey (rows_of world) (order.now, journey.now) ≡ Some trip) }
 {
-    let job = query_job(conn, &line.job)?;
-    match job {
-        None => Ok(None),
-        Some(job) => {
-            let edges = query_way(alloc, conn, &line.order)?;
-            let row = line.trip(alloc, &job)?;
-            Ok(Some(Trip {
-                order: line.order,
-                vehicle: row.vehicle,
-                start: row.start,
-                edges,
-                first: row.first,
-                base: row.base,
-                sent: row.sent,
-                confirmed: row.confirmed,
-                seen: row.seen,
-                acts: row.acts,
-            }))
-        }
-    }
+    let acts = query_acts(alloc, conn, order)?;
+    let edges = query_way(alloc, conn, order)?;
+    Ok(Trip {
+        order: *order,
+        vehicle: journey.vehicle,
+        start: journey.start,
+        edges,
+        first: journey.first,
+        base: journey.base,
+        sent: journey.sent,
+        confirmed: journey.confirmed,
+        seen: journey.seen,
+        acts,
+    })
 }
 
-/// The open trip of a vehicle, with its edges; none where it has none, or there is no such vehicle.
+/// The open trip of a vehicle, with its edges and its acts; none where it has none, or there is no such vehicle.
 ///
 /// It fails as [`ReadingFault`] says.
 pub fn query_trip<S: Alter>(
@@ -118,15 +143,12 @@ pub fn query_trip<S: Alter>(
     ensures { AnswersQuery S.Store conn.old conn.new result (λ world trip. trip ≡ trip_of world key.now) }
 {
     rows_tell_trips();
-    let line = query_line(conn, key)?;
-    match line {
+    let journey = query_journey(conn, key)?;
+    match journey {
         None => Ok(None),
-        Some(line) => {
-            let trip = query_told_trip(alloc, conn, &line)?;
-            match trip {
-                None => Err(ReadingFault::Damaged),
-                Some(trip) => Ok(Some(trip)),
-            }
+        Some((order, journey)) => {
+            let trip = query_told_trip(alloc, conn, &order, &journey)?;
+            Ok(Some(trip))
         }
     }
 }

@@ -24,7 +24,7 @@ use sqlite::{Alter, Connection, Row};
 use std::alloc::Global;
 
 // The number of the schema, as `meta` has it.
-const SCHEMA_NUMBER: u32 = 1;
+const SCHEMA_NUMBER: u32 = 2;
 
 // Notes that the vehicle holds the thing, which nobody holds so far.
 fn note_hold(holds: &mut HoldTable, thing: &Thing, key: &VehicleKey) -> Result<(), ReadingFault>

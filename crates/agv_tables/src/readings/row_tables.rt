@@ -5,17 +5,19 @@ ghost use Rattle.std.specs.Prelude.{◌≡◌, ◌∷◌, Err, IfErr, List, OnOk
 ghost use Rattle.std.specs.FinMap as map;
 ghost use Rattle.std.specs.FinSet as set;
 ghost use Rattle.sqlite_value.specs.Order.{Row as SqlRow};
-ghost use Rattle.agv_tables.specs.rows.Columns.{edge_in, job_in, leg_in, load_in, node_in, station_in, used_in, vehicle_in};
+ghost use Rattle.agv_tables.specs.rows.Columns.{act_in, capacity_in, edge_in, job_in, journey_in, leg_in, load_in, node_in, station_in, used_in};
+ghost use Rattle.agv_tables.specs.rows.DecodedTrips.{vehicle_with};
 ghost use Rattle.agv_tables.specs.readings.ReadTables.{Reads, read_members, read_rows};
 
-use crate::ReadingFault;
+use crate::{CapacityRow, ReadingFault};
 use crate::rows::decode_row::{
-    decode_edge, decode_job, decode_leg, decode_load, decode_node, decode_station, decode_used,
-    decode_vehicle,
+    decode_act, decode_capacity, decode_edge, decode_job, decode_journey, decode_leg, decode_load,
+    decode_node, decode_station, decode_used, decode_vehicle,
 };
 use agv_header::VehicleKey;
 use agv_layout::{EdgeEnds, StationSite};
 use agv_stock::Place;
+use agv_trip_rows::{ByAct, JourneyRow};
 use agv_world::{ByLeg, ByName, ByVehicle, JobRow, LegKey, Names, UseKey, UsedNames, VehicleRow};
 use sqlite::Row;
 use std::alloc::Global;
@@ -87,19 +89,113 @@ fn has_vehicle(table: &ByVehicle<VehicleRow>, key: &VehicleKey) -> bool
     table.get(*key).is_some()
 }
 
-/// The table that these rows tell.
+// The vehicle that a row tells, with its room, if that is known.
+fn vehicle_in_row(
+    row: &Row,
+    capacities: &ByVehicle<CapacityRow>,
+) -> Option<(VehicleKey, VehicleRow)>
+    ensures { result ≡ vehicle_with capacities.now row.now }
+{
+    let (key, vehicle) = decode_vehicle(row)?;
+    let room = capacities.get(key)?;
+    let vehicle = VehicleRow {
+        capacity: room.capacity,
+        ..vehicle
+    };
+    Some((key, vehicle))
+}
+
+/// The table that these rows tell, where these are the rooms of vehicles.
 pub(crate) fn vehicles_in_rows(
     alloc: Global,
     rows: &[Row],
+    capacities: &ByVehicle<CapacityRow>,
 ) -> Result<ByVehicle<VehicleRow>, ReadingFault>
-    ensures { Reads result (read_rows vehicle_in map.empty rows.now) }
+    ensures { Reads result (read_rows (vehicle_with capacities.now) map.empty rows.now) }
 {
     let mut table = ByVehicle::new(alloc);
     for row in rows {
-        match decode_vehicle(row) {
+        match vehicle_in_row(row, capacities) {
             None => return Err(ReadingFault::Damaged),
             Some((key, value)) => {
                 if has_vehicle(&table, &key) {
+                    return Err(ReadingFault::Damaged);
+                }
+                table.insert(key, value)?;
+            }
+        }
+    }
+    Ok(table)
+}
+
+// Whether the table has a row of this key.
+fn has_capacity(table: &ByVehicle<CapacityRow>, key: &VehicleKey) -> bool
+    ensures { result ≡ is_some (map.get table.now key.now) }
+{
+    table.get(*key).is_some()
+}
+
+/// The table that these rows tell.
+pub(crate) fn capacities_in_rows(
+    alloc: Global,
+    rows: &[Row],
+) -> Result<ByVehicle<CapacityRow>, ReadingFault>
+    ensures { Reads result (read_rows capacity_in map.empty rows.now) }
+{
+    let mut table = ByVehicle::new(alloc);
+    for row in rows {
+        match decode_capacity(row) {
+            None => return Err(ReadingFault::Damaged),
+            Some((key, value)) => {
+                if has_capacity(&table, &key) {
+                    return Err(ReadingFault::Damaged);
+                }
+                table.insert(key, value)?;
+            }
+        }
+    }
+    Ok(table)
+}
+
+/// The table that these rows tell.
+pub(crate) fn journeys_in_rows(
+    alloc: Global,
+    rows: &[Row],
+) -> Result<ByName<JourneyRow>, ReadingFault>
+    ensures { Reads result (read_rows journey_in map.empty rows.now) }
+{
+    let mut table = ByName::new(alloc);
+    for row in rows {
+        match decode_journey(row) {
+            None => return Err(ReadingFault::Damaged),
+            Some((id, value)) => {
+                if table.get(id).is_some() {
+                    return Err(ReadingFault::Damaged);
+                }
+                table.insert(id, value)?;
+            }
+        }
+    }
+    Ok(table)
+}
+
+// Whether the table has a row of this key.
+fn has_act(table: &ByAct, key: &LegKey) -> bool
+    ensures { result ≡ is_some (map.get table.now key.now) }
+{
+    table.get(*key).is_some()
+}
+
+/// The table that these rows tell.
+pub(crate) fn acts_in_rows(alloc: Global, rows: &[Row]) -> Result<ByAct, ReadingFault>
+    ensures { Reads result (read_rows act_in map.empty rows.now) }
+{
+    let mut table = ByAct::new(alloc);
+    for row in rows {
+        match decode_act(row) {
+            None => return Err(ReadingFault::Damaged),
+            Some((key, value)) => {
+                if has_act(&table, &key) {
                     return Err(ReadingFault::Damaged);
                 }
                 table.insert(key, value)?;

@@ -79,6 +79,9 @@ fn rowids_text(table: TableName) -> &'static str
         TableName::Job => "SELECT rowid FROM job",
         TableName::Hold => "SELECT rowid FROM hold",
         TableName::Used => "SELECT rowid FROM used",
+        TableName::Capacity => "SELECT rowid FROM capacity",
+        TableName::Journey => "SELECT rowid FROM journey",
+        TableName::Act => "SELECT rowid FROM act",
     }
 }
 
@@ -153,6 +156,9 @@ pub fn query_rowids<S: Alter>(alloc: Global, conn: &mut Connection<S>) -> Result
             TableName::Job,
             TableName::Hold,
             TableName::Used,
+            TableName::Capacity,
+            TableName::Journey,
+            TableName::Act,
         ],
     )
 }

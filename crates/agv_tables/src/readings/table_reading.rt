@@ -5,16 +5,17 @@
 //! and any other table as the list of its rows.
 ghost use Rattle.std.specs.Prelude.{◌≡◌, IsPermutation};
 ghost use Rattle.agv_world.specs.Rows.{rows_of};
-ghost use Rattle.agv_tables.specs.rows.Columns.{edge_columns, job_columns, leg_columns, load_columns, node_columns, station_columns, used_columns, vehicle_columns};
+ghost use Rattle.agv_tables.specs.rows.Columns.{capacity_columns, edge_columns, job_columns, leg_columns, load_columns, node_columns, room_columns, station_columns, used_columns, vehicle_columns};
+ghost use Rattle.agv_tables.specs.rows.DecodedTrips.{capacities_of};
 ghost use Rattle.agv_tables.specs.rows.DeskRows.{place_of, table_at};
 ghost use Rattle.agv_tables.specs.rows.RowLists.{rows_for, rows_in};
 ghost use Rattle.agv_tables.specs.readings.TablesRead.{TellsAll};
 ghost use Rattle.agv_tables.specs.declared.schema.table_name.TableName.TheVariants as the;
 
-use crate::ReadingFault;
+use crate::{CapacityRow, ReadingFault};
 use crate::queries::queried_rows::query_all_rows;
 use crate::readings::row_tables::{
-    edges_in_rows, jobs_in_rows, legs_in_rows, nodes_in_rows, stations_in_rows, take_place,
+    capacities_in_rows, edges_in_rows, jobs_in_rows, legs_in_rows, nodes_in_rows, stations_in_rows, take_place,
     used_in_rows, vehicles_in_rows,
 };
 use crate::schema::table_name::TableName;
@@ -62,17 +63,40 @@ pub fn query_stations<S: Alter>(
     stations_in_rows(alloc, rows.as_slice())
 }
 
-/// The vehicles, each by its maker and its serial number, but for their open trips.
+// The room of each vehicle for loads.
+fn query_capacities<S: Alter>(
+    alloc: Global,
+    conn: &mut Connection<S>,
+) -> Result<ByVehicle<CapacityRow>, ReadingFault>
+    ensures { TellsAll S.Store conn.old conn.new result
+        (λ world table. table ≡ capacities_of (rows_of world).vehicles)
+        (λ lists table. IsPermutation (table_at (place_of the.Capacity) lists) (rows_in capacity_columns table)) }
+{
+    is_in_good_order();
+    let rows = query_all_rows(conn, TableName::Capacity)?;
+    capacities_in_rows(alloc, rows.as_slice())
+}
+
+/// The vehicles, each by its maker and its serial number, with its room for loads, but for their open trips. Each has a row of
+/// its room, and no other vehicle has one.
 ///
 /// It fails as [`ReadingFault`] says.
 pub fn query_vehicles<S: Alter>(
     alloc: Global,
     conn: &mut Connection<S>,
 ) -> Result<ByVehicle<VehicleRow>, ReadingFault>
-    ensures { TellsAll S.Store conn.old conn.new result (λ world table. table ≡ (rows_of world).vehicles) (λ lists table. IsPermutation (table_at (place_of the.Vehicle) lists) (rows_in vehicle_columns table)) }
+    ensures { TellsAll S.Store conn.old conn.new result (λ world table. table ≡ (rows_of world).vehicles)
+        (λ lists table. IsPermutation (table_at (place_of the.Vehicle) lists) (rows_in vehicle_columns table)
+        × IsPermutation (table_at (place_of the.Capacity) lists) (rows_in room_columns table)) }
 {
+    let capacities = query_capacities(alloc, conn)?;
     let rows = query_all_rows(conn, TableName::Vehicle)?;
-    vehicles_in_rows(alloc, rows.as_slice())
+    let vehicles = vehicles_in_rows(alloc, rows.as_slice(), &capacities)?;
+    if vehicles.len() == capacities.len() {
+        Ok(vehicles)
+    } else {
+        Err(ReadingFault::Damaged)
+    }
 }
 
 /// The edges of all open trips.

@@ -1,71 +1,63 @@
-//! The jobs and the open trips are read, whole tables: the row of a trip tells it with that of its job.
+//! The jobs and the open trips are read, whole tables: the rows of its journey and its acts tell a trip, with those of their jobs.
 //!
 //! It answers as the other readings do (`specs/readings/TablesRead.antt`).
-ghost use Rattle.std.specs.Prelude.{◌≡◌, IfOk, IsPermutation};
-ghost use Rattle.std.specs.FinMap as map;
+ghost use Rattle.std.specs.Prelude.{◌≡◌, [], IsPermutation};
+ghost use Rattle.agv_trip_rows.specs.TripRows.{acts_of, journeys_of};
 ghost use Rattle.agv_world.specs.Rows.{rows_of};
-ghost use Rattle.agv_tables.specs.rows.Columns.{job_columns};
+ghost use Rattle.agv_tables.specs.rows.Columns.{act_columns, job_columns, journey_columns};
 ghost use Rattle.agv_tables.specs.rows.DeskRows.{place_of, table_at};
-ghost use Rattle.agv_tables.specs.readings.ReadTables.{Reads, read_rows};
-ghost use Rattle.agv_tables.specs.rows.RowLists.{rows_in, trip_rows};
+ghost use Rattle.agv_tables.specs.rows.RowLists.{rows_in};
 ghost use Rattle.agv_tables.specs.readings.TablesRead.{TellsAll};
-ghost use Rattle.agv_tables.specs.rows.DecodedTrips.{trip_with};
 ghost use Rattle.agv_tables.specs.declared.schema.table_name.TableName.TheVariants as the;
 
 use crate::ReadingFault;
 use crate::queries::queried_rows::query_all_rows;
+use crate::readings::row_tables::{acts_in_rows, journeys_in_rows};
 use crate::readings::table_reading::query_jobs;
-use crate::rows::decode_row::decode_trip;
-use crate::rows::row_list_laws::lawful_worlds_carry_one_each;
+use crate::rows::row_list_laws::lawful_acts_are_of_jobs;
 use crate::rows::trip_laws::rows_tell_trips;
 use crate::schema::table_name::TableName;
-use agv_header::{Memory, Name};
+use agv_trip_rows::trip_laws::lawful_rows_tell_trips;
+use agv_trip_rows::{ByAct, JourneyRow, trips_told};
 use agv_world::{ByName, JobRow, TripRow};
-use sqlite::{Alter, Connection, Row};
+use sqlite::{Alter, Connection};
 use std::alloc::Global;
 
-// The order and the trip that a row tells, where its job is one of these.
-fn trip_in_row(
-    alloc: Global,
-    row: &Row,
-    jobs: &ByName<JobRow>,
-) -> Result<Option<(Name, TripRow)>, Memory>
-    ensures { IfOk result (λ entry. entry ≡ trip_with jobs.now row.now) }
+// That the table of the first schema's trips is empty.
+fn query_no_trips<S: Alter>(conn: &mut Connection<S>) -> Result<(), ReadingFault>
+    ensures { TellsAll S.Store conn.old conn.new result (λ world nothing. Unit {0}) (λ lists nothing. table_at (place_of the.Trip) lists ≡ []) }
 {
-    match decode_trip(row) {
-        None => Ok(None),
-        Some(line) => match jobs.get(line.job) {
-            None => Ok(None),
-            Some(job) => {
-                let trip = line.trip(alloc, job)?;
-                Ok(Some((line.order, trip)))
-            }
-        },
+    let rows = query_all_rows(conn, TableName::Trip)?;
+    if rows.is_empty() {
+        Ok(())
+    } else {
+        Err(ReadingFault::Damaged)
     }
 }
 
-// The table that these rows tell.
-fn trips_in_rows(
+// The journeys, by their orders.
+fn query_journeys<S: Alter>(
     alloc: Global,
-    rows: &[Row],
-    jobs: &ByName<JobRow>,
-) -> Result<ByName<TripRow>, ReadingFault>
-    ensures { Reads result (read_rows (trip_with jobs.now) map.empty rows.now) }
+    conn: &mut Connection<S>,
+) -> Result<ByName<JourneyRow>, ReadingFault>
+    ensures { TellsAll S.Store conn.old conn.new result
+        (λ world table. table ≡ journeys_of (rows_of world).trips)
+        (λ lists table. IsPermutation (table_at (place_of the.Journey) lists) (rows_in journey_columns table)) }
 {
-    let mut table = ByName::new(alloc);
-    for row in rows {
-        let entry = trip_in_row(alloc, row, jobs)?;
-        match entry {
-            None => return Err(ReadingFault::Damaged),
-            Some((order, trip)) => {
-                if table.get(order).is_some() {
-                    return Err(ReadingFault::Damaged);
-                }
-                table.insert(order, trip)?;
-            }
-        }
-    }
-    Ok(table)
+    rows_tell_trips();
+    let rows = query_all_rows(conn, TableName::Journey)?;
+    journeys_in_rows(alloc, rows.as_slice())
+}
+
+// The acts, by their orders and numbers.
+fn query_acts<S: Alter>(alloc: Global, conn: &mut Connection<S>) -> Result<ByAct, ReadingFault>
+    ensures { TellsAll S.Store conn.old conn.new result
+        (λ world table. table ≡ acts_of (rows_of world).trips)
+        (λ lists table. IsPermutation (table_at (place_of the.Act) lists) (rows_in act_columns table)) }
+{
+    rows_tell_trips();
+    let rows = query_all_rows(conn, TableName::Act)?;
+    acts_in_rows(alloc, rows.as_slice())
 }
 
 /// The jobs, and the open trips by their orders, but for their edges.
@@ -75,12 +67,19 @@ pub(crate) fn query_trips<S: Alter>(
 ) -> Result<(ByName<JobRow>, ByName<TripRow>), ReadingFault>
     ensures { TellsAll S.Store conn.old conn.new result
         (λ world tables. (tables.0 ≡ world.jobs) × (tables.1 ≡ (rows_of world).trips))
-        (λ lists tables. IsPermutation (table_at (place_of the.Job) lists) (rows_in job_columns tables.0) × IsPermutation (table_at (place_of the.Trip) lists) (trip_rows tables.1)) }
+        (λ lists tables. IsPermutation (table_at (place_of the.Job) lists) (rows_in job_columns tables.0)
+        × IsPermutation (table_at (place_of the.Journey) lists) (rows_in journey_columns (journeys_of tables.1))
+        × IsPermutation (table_at (place_of the.Act) lists) (rows_in act_columns (acts_of tables.1))
+        × (table_at (place_of the.Trip) lists ≡ [])) }
 {
-    rows_tell_trips();
-    lawful_worlds_carry_one_each();
+    lawful_rows_tell_trips();
+    query_no_trips(conn)?;
     let jobs = query_jobs(alloc, conn)?;
-    let rows = query_all_rows(conn, TableName::Trip)?;
-    let trips = trips_in_rows(alloc, rows.as_slice(), &jobs)?;
-    Ok((jobs, trips))
+    let journeys = query_journeys(alloc, conn)?;
+    let acts = query_acts(alloc, conn)?;
+    let told = trips_told(alloc, &journeys, &acts, &jobs)?;
+    match told {
+        None => Err(ReadingFault::Damaged),
+        Some(trips) => Ok((jobs, trips)),
+    }
 }

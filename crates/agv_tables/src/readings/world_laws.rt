@@ -6,7 +6,6 @@ ghost use Rattle.agv_tables.specs.rows.DeskRows.{Placing};
 ghost use Rattle.agv_tables.specs.queries.WorldAnswers.{HasWorld};
 ghost use Rattle.agv_tables.specs.readings.WorldIn.{world_in};
 
-use crate::rows::row_list_laws::lawful_worlds_carry_one_each;
 use crate::rows::trip_laws::rows_tell_trips;
 use agv_world::lawful_laws::is_in_good_order;
 use agv_world::laws::tables_tell_the_world;
@@ -15,7 +14,6 @@ use agv_world::laws::tables_tell_the_world;
 pub fn a_database_tells_its_world()
     ensures { (desk : Placing) (db : Database) (world : World) → HasWorld desk db world → world_in db ≡ world }
 {
-    lawful_worlds_carry_one_each();
     rows_tell_trips();
     is_in_good_order();
     tables_tell_the_world();

@@ -1,16 +1,18 @@
 //! The rows of a world that the columns of a row of SQL tell, or none.
 ghost use Rattle.std.specs.Prelude.{◌≡◌};
 ghost use Rattle.sqlite_value.specs.Order.{column};
-ghost use Rattle.agv_tables.specs.rows.Columns.{meta_in, node_in, edge_in, station_in, key_in, rest_of, rest_in, sent_in, vehicle_in, trip_in, leg_in, place_of, load_in, job_in, thing_of, hold_in, used_in};
+ghost use Rattle.agv_tables.specs.rows.Columns.{meta_in, node_in, edge_in, station_in, key_in, rest_of, rest_in, sent_in, vehicle_in, capacity_in, journey_in, act_in, leg_in, place_of, load_in, job_in, thing_of, hold_in, used_in};
 
+use crate::rows::capacity_row::CapacityRow;
 use crate::rows::decode_value::{
-    flag_at, maybe_instant_at, maybe_name_at, maybe_number_at, moment_at, name_at, number_at,
+    act_kind_at, flag_at, maybe_instant_at, maybe_name_at, maybe_number_at, moment_at, name_at, number_at,
     phase_at, place_kind_at, status_at, thing_kind_at, use_at,
 };
-use crate::{PlaceKind, ThingKind, TripLine};
+use crate::{PlaceKind, ThingKind};
 use agv_header::{Name, Thing, VehicleKey};
 use agv_layout::{EdgeEnds, StationSite};
 use agv_stock::Place;
+use agv_trip_rows::{ActRow, JourneyRow};
 use agv_world::{JobRow, LegKey, Sent, UseKey, VehicleRow};
 use sqlite::Row;
 
@@ -104,7 +106,7 @@ fn sent_at(row: &Row, first: usize, second: usize) -> Option<Sent>
     Some(Sent { count, at })
 }
 
-/// A vehicle, but for its open trip.
+/// A vehicle, as if it had room for one load, but for its open trip.
 #[tactic(auto, unfolding(crate::specs::rows::Columns::vehicle_in))]
 pub(crate) fn decode_vehicle(row: &Row) -> Option<(VehicleKey, VehicleRow)>
     ensures { result ≡ vehicle_in row.now }
@@ -139,42 +141,68 @@ pub(crate) fn decode_vehicle(row: &Row) -> Option<(VehicleKey, VehicleRow)>
     ))
 }
 
-/// An open trip of one job.
-#[tactic(auto, unfolding(crate::specs::rows::Columns::trip_in))]
-pub(crate) fn decode_trip(row: &Row) -> Option<TripLine>
-    ensures { result ≡ trip_in row.now }
+/// How many loads a vehicle has room for.
+#[tactic(auto, unfolding(crate::specs::rows::Columns::capacity_in))]
+pub(crate) fn decode_capacity(row: &Row) -> Option<(VehicleKey, CapacityRow)>
+    ensures { result ≡ capacity_in row.now }
 {
-    if row.column_count() != 14 {
+    if row.column_count() != 3 {
+        return None;
+    }
+    let key = key_at(row, 0, 1)?;
+    let capacity = number_at(row, 2)?;
+    Some((key, CapacityRow { capacity }))
+}
+
+/// An open trip's journey, at its order.
+#[tactic(auto, unfolding(crate::specs::rows::Columns::journey_in))]
+pub(crate) fn decode_journey(row: &Row) -> Option<(Name, JourneyRow)>
+    ensures { result ≡ journey_in row.now }
+{
+    if row.column_count() != 9 {
         return None;
     }
     let order = name_at(row, 0)?;
     let vehicle = key_at(row, 1, 2)?;
-    let job = name_at(row, 3)?;
-    let start = name_at(row, 4)?;
-    let first = number_at(row, 5)?;
-    let base = number_at(row, 6)?;
-    let sent = number_at(row, 7)?;
-    let confirmed = maybe_number_at(row, 8)?;
-    let seen = number_at(row, 9)?;
-    let pick_at = number_at(row, 10)?;
-    let drop_at = number_at(row, 11)?;
-    let pick_status = status_at(row, 12)?;
-    let drop_status = status_at(row, 13)?;
-    Some(TripLine {
-        order,
+    let start = name_at(row, 3)?;
+    let first = number_at(row, 4)?;
+    let base = number_at(row, 5)?;
+    let sent = number_at(row, 6)?;
+    let confirmed = maybe_number_at(row, 7)?;
+    let seen = number_at(row, 8)?;
+    let journey = JourneyRow {
         vehicle,
-        job,
         start,
         first,
         base,
         sent,
         confirmed,
         seen,
-        pick_at,
-        drop_at,
-        pick_status,
-        drop_status,
-    })
+    };
+    Some((order, journey))
+}
+
+/// An act of an open trip, at its order and its number.
+#[tactic(auto, unfolding(crate::specs::rows::Columns::act_in))]
+pub(crate) fn decode_act(row: &Row) -> Option<(LegKey, ActRow)>
+    ensures { result ≡ act_in row.now }
+{
+    if row.column_count() != 6 {
+        return None;
+    }
+    let order = name_at(row, 0)?;
+    let k = number_at(row, 1)?;
+    let job = name_at(row, 2)?;
+    let kind = act_kind_at(row, 3)?;
+    let place_at = number_at(row, 4)?;
+    let status = status_at(row, 5)?;
+    let act = ActRow {
+        job,
+        kind,
+        place_at,
+        status,
+    };
+    Some((LegKey { order, k }, act))
 }
 
 /// An edge of an open trip.

@@ -2,11 +2,11 @@
 ghost use Rattle.std.specs.Prelude.{◌≡◌};
 ghost use Rattle.sqlite_value.specs.Value.{owned};
 ghost use Rattle.sqlite_value.specs.Order.{column};
-ghost use Rattle.agv_tables.specs.rows.ValueEncodings.{name_in, number_in, flag_in, moment_in, is_absent, maybe_in, phase_in, status_in, instant_in, use_in, place_kind_in, thing_kind_in};
+ghost use Rattle.agv_tables.specs.rows.ValueEncodings.{act_kind_in, name_in, number_in, flag_in, moment_in, is_absent, maybe_in, phase_in, status_in, instant_in, use_in, place_kind_in, thing_kind_in};
 
 use crate::rows::words::{PlaceKind, ThingKind};
 use agv_header::{Moment, Name};
-use agv_message::{InstantKind, Status};
+use agv_message::{ActKind, InstantKind, Status};
 use agv_stock::Phase;
 use agv_world::UseKind;
 use sqlite::Row;
@@ -130,6 +130,23 @@ pub(crate) fn instant_at(row: &Row, at: usize) -> Option<InstantKind>
         Some(InstantKind::StopPause)
     } else if text == b"cancelOrder".as_slice() {
         Some(InstantKind::CancelOrder)
+    } else {
+        None
+    }
+}
+
+/// The kind of an act in a column.
+#[tactic(auto, unfolding(crate::specs::rows::ValueEncodings::act_kind_in))]
+pub(crate) fn act_kind_at(row: &Row, at: usize) -> Option<ActKind>
+    ensures { result ≡ act_kind_in (column row.now at) }
+{
+    let ValueRef::Text(text) = value_at(row, at) else {
+        return None;
+    };
+    if text == b"pick".as_slice() {
+        Some(ActKind::Pick)
+    } else if text == b"drop".as_slice() {
+        Some(ActKind::Drop)
     } else {
         None
     }

@@ -9,10 +9,12 @@ ghost use Rattle.agv_world.specs.declared.key.LegKey.{LegKey};
 ghost use Rattle.agv_world.specs.declared.key.UseKey.{UseKey};
 ghost use Rattle.agv_world.specs.declared.row.JobRow.{JobRow};
 ghost use Rattle.agv_world.specs.declared.row.VehicleRow.{VehicleRow};
-ghost use Rattle.agv_tables.specs.rows.Columns.{meta_columns, node_columns, edge_columns, station_columns, vehicle_columns, trip_columns, leg_columns, load_columns, job_columns, hold_columns, used_columns};
+ghost use Rattle.agv_tables.specs.rows.Columns.{meta_columns, node_columns, edge_columns, station_columns, vehicle_columns, capacity_columns, journey_columns, act_columns, leg_columns, load_columns, job_columns, hold_columns, used_columns};
 ghost use Rattle.agv_tables.specs.rows.DeskRows.{FitsTable};
 ghost use Rattle.agv_tables.specs.declared.schema.table_name.TableName.TheVariants as the;
-ghost use Rattle.agv_tables.specs.declared.rows.trip_line.TripLine.{TripLine};
+ghost use Rattle.agv_tables.specs.declared.rows.capacity_row.CapacityRow.{CapacityRow};
+ghost use Rattle.agv_trip_rows.specs.declared.act_row.ActRow.{ActRow};
+ghost use Rattle.agv_trip_rows.specs.declared.journey_row.JourneyRow.{JourneyRow};
 
 /// A row has as many values as its table has columns, each of the column's kind or NULL.
 pub fn rows_fit_their_tables()
@@ -21,7 +23,9 @@ pub fn rows_fit_their_tables()
     ensures edge { (id : List ℕ) (ends : EdgeEnds) → FitsTable the.Edge (edge_columns id ends) }
     ensures station { (id : List ℕ) (spot : StationSite) → FitsTable the.Station (station_columns id spot) }
     ensures vehicle { (key : VehicleKey) (row : VehicleRow) → FitsTable the.Vehicle (vehicle_columns key row) }
-    ensures trip { (line : TripLine) → FitsTable the.Trip (trip_columns line) }
+    ensures capacity { (key : VehicleKey) (room : CapacityRow) → FitsTable the.Capacity (capacity_columns key room) }
+    ensures journey { (order : List ℕ) (row : JourneyRow) → FitsTable the.Journey (journey_columns order row) }
+    ensures act { (key : LegKey) (row : ActRow) → FitsTable the.Act (act_columns key row) }
     ensures leg { (key : LegKey) (edge : List ℕ) → FitsTable the.Leg (leg_columns key edge) }
     ensures load { (id : List ℕ) (place : Place) → FitsTable the.Load (load_columns id place) }
     ensures job { (id : List ℕ) (job : JobRow) → FitsTable the.Job (job_columns id job) }

@@ -3,7 +3,6 @@
 ghost use Rattle.std.specs.Prelude.{◌≡◌, ◌∷◌, ◌++◌, [], ℕ, List, if◌then◌else◌};
 ghost use Rattle.std.specs.FinMap as finite;
 ghost use Rattle.std.specs.FinSet as set;
-ghost use Rattle.std.specs.Option.{option_and_then};
 ghost use Rattle.sqlite_value.specs.Order.{Row};
 ghost use Rattle.sqlite.specs.Effect.{Database};
 ghost use Rattle.agv_header.specs.declared.key.Thing.{Thing};
@@ -18,14 +17,14 @@ ghost use Rattle.agv_world.specs.declared.key.UseKey.{UseKey};
 ghost use Rattle.agv_tables.specs.schema.SchemaNumbers.{desk_seats};
 ghost use Rattle.agv_tables.specs.queries.QueriedRows.{ShowAsked};
 ghost use Rattle.agv_tables.specs.rows.ValueEncodings.{number_cell};
-ghost use Rattle.agv_tables.specs.rows.Columns.{meta_columns, node_columns, edge_columns, station_columns, vehicle_columns, trip_columns, leg_columns, load_columns, job_columns, hold_columns, used_columns};
+ghost use Rattle.agv_tables.specs.rows.Columns.{meta_columns, node_columns, edge_columns, station_columns, vehicle_columns, room_columns, journey_columns, act_columns, leg_columns, load_columns, job_columns, hold_columns, used_columns};
 ghost use Rattle.agv_tables.specs.rows.DeskRows.{Placing, Holds, IsDesk, rows_of_key};
 ghost use Rattle.agv_tables.specs.rows.RowKeys.{name_key, vehicle_key, leg_key, hold_key};
-ghost use Rattle.agv_tables.specs.rows.RowLists.{AreAlike, CarriesOneEach, HoldsWorld, ShowAll, TellRows, listed, listed_all, row_if, row_lists};
-ghost use Rattle.agv_tables.specs.rows.TripLines.{line_of};
+ghost use Rattle.agv_tables.specs.rows.RowLists.{ActsAreOfJobs, AreAlike, HoldsWorld, ShowAll, TellRows, listed, listed_all, row_if, row_lists};
+ghost use Rattle.agv_trip_rows.specs.TripRows.{acts_of, journeys_of};
 ghost use Rattle.agv_tables.specs.declared.schema.table_name.TableName.TheVariants as the;
 
-use agv_order::laws::stops_twice;
+use agv_trip_rows::trip_laws::{lawful_rows_tell_trips, rows_tell_one_table};
 use agv_world::lawful_laws::is_in_good_order;
 use agv_world::laws::rows_tell_the_world;
 
@@ -37,17 +36,19 @@ pub fn lists_follow_changes()
     ensures in_turn { (first later : List Change) (lists : List (List Row)) → listed_all (first ++ later) lists ≡ listed_all later (listed_all first lists) }
 {}
 
-/// Lists tell the rows of one world alone, where each vehicle carries one load.
+/// Lists tell the rows of one world alone, where each act has the load and the station of its job.
 pub fn lists_tell_one_world()
-    ensures { (lists : List (List Row)) (rows others : Rows) → CarriesOneEach rows → CarriesOneEach others
+    ensures { (lists : List (List Row)) (rows others : Rows) → ActsAreOfJobs rows → ActsAreOfJobs others
         → TellRows lists rows → TellRows lists others → rows ≡ others }
-{}
-
-/// In a lawful world each vehicle carries one load, where each has room for one.
-pub fn lawful_worlds_carry_one_each()
-    ensures { (world : World) → IsLawful desk_seats world → CarriesOneEach (rows_of world) }
 {
-    stops_twice();
+    rows_tell_one_table();
+}
+
+/// In a lawful world each act of an open trip has the load and the station of its job, which is known.
+pub fn lawful_acts_are_of_jobs()
+    ensures { (world : World) → IsLawful desk_seats world → ActsAreOfJobs (rows_of world) }
+{
+    lawful_rows_tell_trips();
 }
 
 /// In lists that tell the rows of a world, the rows of a key are the one that the world has at the key, or none.
@@ -62,8 +63,12 @@ pub fn a_key_shows_its_row()
         → rows_of_key the.Station (name_key id) lists ≡ row_if (station_columns id) (finite.get rows.stations id) }
     ensures vehicle { (lists : List (List Row)) (rows : Rows) → TellRows lists rows → (key : VehicleKey)
         → rows_of_key the.Vehicle (vehicle_key key) lists ≡ row_if (vehicle_columns key) (finite.get rows.vehicles key) }
-    ensures trip { (lists : List (List Row)) (rows : Rows) → TellRows lists rows → (order : List ℕ)
-        → rows_of_key the.Trip (name_key order) lists ≡ row_if trip_columns (option_and_then (line_of order) (finite.get rows.trips order)) }
+    ensures capacity { (lists : List (List Row)) (rows : Rows) → TellRows lists rows → (key : VehicleKey)
+        → rows_of_key the.Capacity (vehicle_key key) lists ≡ row_if (room_columns key) (finite.get rows.vehicles key) }
+    ensures journey { (lists : List (List Row)) (rows : Rows) → TellRows lists rows → (order : List ℕ)
+        → rows_of_key the.Journey (name_key order) lists ≡ row_if (journey_columns order) (finite.get (journeys_of rows.trips) order) }
+    ensures act { (lists : List (List Row)) (rows : Rows) → TellRows lists rows → (key : LegKey)
+        → rows_of_key the.Act (leg_key key) lists ≡ row_if (act_columns key) (finite.get (acts_of rows.trips) key) }
     ensures leg { (lists : List (List Row)) (rows : Rows) → TellRows lists rows → (key : LegKey)
         → rows_of_key the.Leg (leg_key key) lists ≡ row_if (leg_columns key) (finite.get rows.legs key) }
     ensures load { (lists : List (List Row)) (rows : Rows) → TellRows lists rows → (id : List ℕ)
@@ -83,7 +88,7 @@ pub fn a_test_shows_its_rows()
 {}
 
 /// In lists that tell the rows of a world, each look-up by other columns than the key shows the rows of those
-/// entries of the world's table that are asked for: the open trip of a vehicle, the edges of an order, the loads at a
+/// entries of the world's table that are asked for: the journey of a vehicle, the acts and the edges of an order, the loads at a
 /// station or on a vehicle, and the jobs of a load or to a station that are in a phase.
 pub fn a_query_shows_its_rows()
     ensures { (lists : List (List Row)) (rows : Rows) → TellRows lists rows → ShowAsked lists rows }
@@ -105,12 +110,12 @@ pub fn a_database_follows_changes()
         → (rows : Rows) → Holds desk old (row_lists rows) → Holds desk new (row_lists (changed changes rows)) }
 {}
 
-/// A database has the rows of one lawful world at most, where each vehicle has room for one load.
+/// A database has the rows of one lawful world at most.
 pub fn a_database_tells_one_world()
     ensures { (desk again : Placing) (db : Database) (world other : World) → IsDesk desk → IsDesk again → IsLawful desk_seats world → IsLawful desk_seats other
         → HoldsWorld desk db world → HoldsWorld again db other → world ≡ other }
 {
-    lawful_worlds_carry_one_each();
+    lawful_acts_are_of_jobs();
     is_in_good_order();
     rows_tell_the_world();
 }

@@ -7,6 +7,7 @@ pub(crate) enum RowOf {
     Edge,
     Station,
     Vehicle,
+    Capacity,
     Load,
     Job,
     Hold,

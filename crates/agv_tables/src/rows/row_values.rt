@@ -5,14 +5,14 @@ ghost use Rattle.sqlite_value.specs.Value.{owned};
 ghost use Rattle.sqlite_value.specs.declared.value.Value.TheVariants.{Null, Text};
 ghost use Rattle.agv_message.specs.Instant.{instant_name};
 ghost use Rattle.agv_tables.specs.rows.ValueEncodings.{number_cell};
-ghost use Rattle.agv_tables.specs.rows.Columns.{node_columns, edge_columns, station_columns, vehicle_columns, trip_columns, leg_columns, load_columns, job_columns, hold_columns, used_columns};
+ghost use Rattle.agv_tables.specs.rows.Columns.{node_columns, edge_columns, station_columns, vehicle_columns, room_columns, journey_columns, act_columns, leg_columns, load_columns, job_columns, hold_columns, used_columns};
 
-use crate::TripLine;
-use crate::rows::words::{phase_text, use_text};
+use crate::rows::words::{act_text, phase_text, use_text};
 use agv_header::{Name, Thing, VehicleKey};
 use agv_layout::{EdgeEnds, StationSite};
 use agv_message::InstantKind;
 use agv_stock::Place;
+use agv_trip_rows::{ActRow, JourneyRow};
 use agv_world::{JobRow, LegKey, UseKey, VehicleRow};
 use sqlite::types::{ToSql, ValueRef};
 
@@ -116,25 +116,45 @@ pub(crate) fn vehicle_values<'a>(key: &'a VehicleKey, row: &'a VehicleRow) -> [V
     ]
 }
 
-/// The row of an open trip.
-pub(crate) fn trip_values(line: &TripLine) -> [ValueRef<'_>; 14]
-    ensures { bound result ≡ trip_columns line.now }
+/// The row of a vehicle's room for loads.
+pub(crate) fn capacity_values<'a>(key: &'a VehicleKey, row: &'a VehicleRow) -> [ValueRef<'a>; 3]
+    ensures { bound result ≡ room_columns key.now row.now }
 {
     [
-        name_value(&line.order),
-        name_value(&line.vehicle.manufacturer),
-        name_value(&line.vehicle.serial),
-        name_value(&line.job),
-        name_value(&line.start),
-        line.first.to_sql(),
-        line.base.to_sql(),
-        line.sent.to_sql(),
-        maybe_number_value(line.confirmed),
-        line.seen.to_sql(),
-        line.pick_at.to_sql(),
-        line.drop_at.to_sql(),
-        line.pick_status.name().to_sql(),
-        line.drop_status.name().to_sql(),
+        name_value(&key.manufacturer),
+        name_value(&key.serial),
+        row.capacity.to_sql(),
+    ]
+}
+
+/// The row of an open trip's journey.
+pub(crate) fn journey_values<'a>(order: &'a Name, journey: &'a JourneyRow) -> [ValueRef<'a>; 9]
+    ensures { bound result ≡ journey_columns order.now journey.now }
+{
+    [
+        name_value(order),
+        name_value(&journey.vehicle.manufacturer),
+        name_value(&journey.vehicle.serial),
+        name_value(&journey.start),
+        journey.first.to_sql(),
+        journey.base.to_sql(),
+        journey.sent.to_sql(),
+        maybe_number_value(journey.confirmed),
+        journey.seen.to_sql(),
+    ]
+}
+
+/// The row of an act of an open trip.
+pub(crate) fn act_values<'a>(key: &'a LegKey, act: &'a ActRow) -> [ValueRef<'a>; 6]
+    ensures { bound result ≡ act_columns key.now act.now }
+{
+    [
+        name_value(&key.order),
+        key.k.to_sql(),
+        name_value(&act.job),
+        act_text(act.kind).to_sql(),
+        act.place_at.to_sql(),
+        act.status.name().to_sql(),
     ]
 }
 

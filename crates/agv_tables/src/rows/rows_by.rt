@@ -3,8 +3,10 @@
 /// Rows that are asked for by some of their columns.
 #[derive(Clone, Copy, Debug)]
 pub enum RowsBy {
-    /// The open trip of a vehicle.
-    VehicleTrip,
+    /// The journey of a vehicle's open trip.
+    VehicleJourney,
+    /// The acts of an open trip.
+    OrderActs,
     /// The edges of an open trip.
     OrderLegs,
     /// The loads at a station.

@@ -1,38 +1,49 @@
 //! What the rows of a lawful world tell of its open trips. The function does nothing: its clauses are the law.
-ghost use Rattle.std.specs.Prelude.{◌≡◌, ℕ, List, Some};
+ghost use Rattle.std.specs.Prelude.{◌≡◌, ℕ, List, Some, filter};
 ghost use Rattle.std.specs.FinMap as finite;
 ghost use Rattle.std.specs.Option.{option_and_then};
+ghost use Rattle.agv_header.specs.Name.{IsName};
 ghost use Rattle.agv_header.specs.declared.key.VehicleKey.{VehicleKey};
+ghost use Rattle.agv_order.specs.declared.act.Act.{Act};
+ghost use Rattle.agv_trip_rows.specs.TripRows.{acts_of, is_of, journeys_of};
+ghost use Rattle.agv_trip_rows.specs.TripsTold.{acts_told};
+ghost use Rattle.agv_trip_rows.specs.declared.act_row.ActRow.{ActRow};
+ghost use Rattle.agv_trip_rows.specs.declared.journey_row.JourneyRow.{JourneyRow};
 ghost use Rattle.agv_world.specs.Lawful.{IsLawful};
 ghost use Rattle.agv_world.specs.Questions.{trip_of};
 ghost use Rattle.agv_world.specs.Rows.{rows_of};
 ghost use Rattle.agv_world.specs.Worlds.{World};
-ghost use Rattle.agv_order.specs.declared.trip.Trip.{Trip};
-ghost use Rattle.agv_world.specs.declared.row.TripRow.{TripRow};
+ghost use Rattle.agv_world.specs.declared.key.LegKey.{LegKey};
 ghost use Rattle.agv_tables.specs.schema.SchemaNumbers.{desk_seats};
-ghost use Rattle.agv_tables.specs.rows.TripLines.{line_of};
-ghost use Rattle.agv_tables.specs.rows.DecodedTrips.{line_for, told_by_line};
-ghost use Rattle.agv_tables.specs.rows.TypedRows.{IsTripLine};
-ghost use Rattle.agv_tables.specs.declared.rows.trip_line.TripLine.{TripLine};
+ghost use Rattle.agv_tables.specs.rows.DecodedTrips.{journey_for, told_by_journey, trips_with};
+ghost use Rattle.agv_tables.specs.rows.TypedRows.{IsActRow, IsJourneyRow, IsLegKey};
 
-use crate::rows::row_list_laws::lawful_worlds_carry_one_each;
-use agv_layout::laws::joins_nodes;
+use agv_trip_rows::row_laws::{rows_are_of_trips, rows_have_keys, tables_have_rows};
+use agv_trip_rows::trip_laws::{lawful_rows_have_values, lawful_rows_tell_trips, rows_tell_one_table};
 use agv_world::lawful_laws::is_in_good_order;
 use agv_world::laws::tables_tell_the_world;
 
-/// In a lawful world, where each vehicle has room for one load, the open trip of a vehicle is what the line of the row that
-/// names the vehicle tells, with the row of its job and the rows of its edges: there is a trip just where there is a line.
-/// The numbers of each line are in their ranges, and its names are names.
+/// In a lawful world the open trip of a vehicle is what the journey that names the vehicle tells, with the acts of its order,
+/// the rows of their jobs and the rows of its edges: there is a trip just where there is a journey. The acts of any order are
+/// told, and all trips by all journeys and acts. Numbers are in their ranges, and names are names.
 pub fn rows_tell_trips()
     ensures trip { (world : World) → IsLawful desk_seats world → (key : VehicleKey)
-        → trip_of world key ≡ option_and_then (told_by_line (rows_of world)) (line_for (rows_of world) key) }
-    ensures known { (world : World) → IsLawful desk_seats world → (key : VehicleKey) (line : TripLine) → line_for (rows_of world) key ≡ Some line
-        → (trip : Trip) × (told_by_line (rows_of world) line ≡ Some trip) }
-    ensures line { (world : World) → IsLawful desk_seats world → (order : List ℕ) (row : TripRow) (line : TripLine)
-        → finite.get (rows_of world).trips order ≡ Some row → line_of order row ≡ Some line → IsTripLine line }
+        → trip_of world key ≡ option_and_then (told_by_journey (rows_of world)) (journey_for (rows_of world) key) }
+    ensures acts { (world : World) → IsLawful desk_seats world → (order : List ℕ)
+        → (acts : List Act) × (acts_told (rows_of world).jobs 0 (filter (is_of order) (finite.entries (acts_of (rows_of world).trips))) ≡ Some acts) }
+    ensures all { (world : World) → IsLawful desk_seats world
+        → trips_with (journeys_of (rows_of world).trips) (acts_of (rows_of world).trips) (rows_of world).jobs ≡ (rows_of world).trips }
+    ensures journeys { (world : World) → IsLawful desk_seats world → (order : List ℕ) (journey : JourneyRow)
+        → finite.get (journeys_of (rows_of world).trips) order ≡ Some journey → IsName order × IsJourneyRow journey }
+    ensures act_values { (world : World) → IsLawful desk_seats world → (key : LegKey) (act : ActRow)
+        → finite.get (acts_of (rows_of world).trips) key ≡ Some act → IsLegKey key × IsActRow act }
 {
-    joins_nodes();
+    rows_have_keys();
+    tables_have_rows();
+    rows_are_of_trips();
+    lawful_rows_tell_trips();
+    rows_tell_one_table();
+    lawful_rows_have_values();
     is_in_good_order();
     tables_tell_the_world();
-    lawful_worlds_carry_one_each();
 }

@@ -15,8 +15,9 @@ use sqlite::{Alter, Connection, Error};
 use sqlite_catalog::layout::is_used;
 use sqlite_schema::schema::Schema;
 
-pub(crate) const NAMES: [&str; 11] = [
+pub(crate) const NAMES: [&str; 14] = [
     "meta", "node", "edge", "station", "vehicle", "trip", "leg", "load", "job", "hold", "used",
+    "capacity", "journey", "act",
 ];
 
 // Whether a table, a view or an index has one of the names.
@@ -50,7 +51,7 @@ fn make_tables<S: Alter>(conn: &mut Connection<S>) -> Result<(), Error>
     run_steps(conn, &steps)
 }
 
-/// Makes the eleven tables, the row of `meta` and the indexes in one transaction, beside whatever the
+/// Makes the fourteen tables, the row of `meta` and the indexes in one transaction, beside whatever the
 /// database has; an index whose name is taken is left out. Where it succeeds all of it is committed, and the
 /// store was open and is; after an error that leaves the store open nothing is; a store that was shut stays shut; and a
 /// crash leaves none of it or all.

@@ -55,7 +55,7 @@ fn stand_by(alloc: Global, schema: &Schema, texts: &[&str]) -> Result<bool, Memo
     stand_by(alloc, schema, others)
 }
 
-/// Whether the desk's eleven tables stand in a database, in whatever trees: each with just its columns and keys and no rule
+/// Whether the desk's fourteen tables stand in a database, in whatever trees: each with just its columns and keys and no rule
 /// more, no foreign key referring to one of them, and no two tables of the database in one tree. Tables of other names, views and
 /// plain indexes may stand beside them.
 ///

@@ -1,4 +1,4 @@
-//! The eleven tables of the desk, by name.
+//! The fourteen tables of the desk, by name.
 
 /// A table of the desk's database. What it holds is in docs/TABLES.md.
 #[derive(Clone, Copy, Debug)]
@@ -8,10 +8,14 @@ pub enum TableName {
     Edge,
     Station,
     Vehicle,
+    /// The open trips of the first schema; here it is empty.
     Trip,
     Leg,
     Load,
     Job,
     Hold,
     Used,
+    Capacity,
+    Journey,
+    Act,
 }

@@ -36,12 +36,22 @@ const HOLD: &str =
 
 const USED: &str = "CREATE TABLE used (kind TEXT, id TEXT, PRIMARY KEY (kind, id)) STRICT";
 
+const CAPACITY: &str =
+    "CREATE TABLE capacity (manufacturer TEXT, serial TEXT, capacity INTEGER NOT NULL, PRIMARY KEY (manufacturer, serial)) STRICT";
+
+const JOURNEY: &str =
+    "CREATE TABLE journey (order_id TEXT PRIMARY KEY, manufacturer TEXT NOT NULL, serial TEXT NOT NULL, start TEXT NOT NULL, first INTEGER NOT NULL, base INTEGER NOT NULL, sent INTEGER NOT NULL, confirmed INTEGER, seen INTEGER NOT NULL, UNIQUE (manufacturer, serial)) STRICT";
+
+const ACT: &str =
+    "CREATE TABLE act (order_id TEXT, n INTEGER, job TEXT NOT NULL, kind TEXT NOT NULL, place_at INTEGER NOT NULL, status TEXT NOT NULL, PRIMARY KEY (order_id, n), UNIQUE (job, kind)) STRICT";
+
 /// The texts that define the tables, one for each, in the order in which they are carried out.
-pub fn creation_texts() -> [&'static str; 11]
+pub fn creation_texts() -> [&'static str; 14]
     ensures { map (λ text. text.now) result ≡ table_texts }
 {
     [
-        META, NODE, EDGE, STATION, VEHICLE, TRIP, LEG, LOAD, JOB, HOLD, USED,
+        META, NODE, EDGE, STATION, VEHICLE, TRIP, LEG, LOAD, JOB, HOLD, USED, CAPACITY, JOURNEY,
+        ACT,
     ]
 }
 
@@ -54,7 +64,7 @@ fn is_free(schema: &Schema, name: &str) -> bool
 
 /// The texts of the making in the order in which they are carried out, each with whether it is: the index
 /// whose name is taken is left out.
-pub(crate) fn making_steps(schema: &Schema) -> [(bool, &'static str); 16]
+pub(crate) fn making_steps(schema: &Schema) -> [(bool, &'static str); 19]
     ensures { map (λ step. (step.0, step.1.now)) result ≡ making_steps schema.now }
 {
     [
@@ -69,6 +79,9 @@ pub(crate) fn making_steps(schema: &Schema) -> [(bool, &'static str); 16]
         (true, JOB),
         (true, HOLD),
         (true, USED),
+        (true, CAPACITY),
+        (true, JOURNEY),
+        (true, ACT),
         (
             is_free(schema, "load_station"),
             "CREATE INDEX load_station ON load (station)",
@@ -85,7 +98,7 @@ pub(crate) fn making_steps(schema: &Schema) -> [(bool, &'static str); 16]
             is_free(schema, "job_target"),
             "CREATE INDEX job_target ON job (target, phase)",
         ),
-        (true, "INSERT INTO meta (id, schema) VALUES (1, 1)"),
+        (true, "INSERT INTO meta (id, schema) VALUES (1, 2)"),
     ]
 }
 

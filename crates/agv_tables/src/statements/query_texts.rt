@@ -10,8 +10,10 @@ pub(crate) fn query(by: RowsBy) -> &'static str
     ensures { result.now ≡ query_text by }
 {
     match by {
-        RowsBy::VehicleTrip =>
-            "SELECT order_id, manufacturer, serial, job, start, first, base, sent, confirmed, seen, pick_at, drop_at, pick_status, drop_status FROM trip WHERE manufacturer = ?1 AND serial = ?2",
+        RowsBy::VehicleJourney =>
+            "SELECT order_id, manufacturer, serial, start, first, base, sent, confirmed, seen FROM journey WHERE manufacturer = ?1 AND serial = ?2",
+        RowsBy::OrderActs =>
+            "SELECT order_id, n, job, kind, place_at, status FROM act WHERE order_id = ?1",
         RowsBy::OrderLegs => "SELECT order_id, k, edge FROM leg WHERE order_id = ?1",
         RowsBy::StationLoads =>
             "SELECT id, kind, station, manufacturer, serial FROM load WHERE station = ?1",
@@ -42,5 +44,9 @@ pub(crate) fn all_rows(table: TableName) -> &'static str
         TableName::Job => "SELECT id, load, origin, target, phase FROM job",
         TableName::Hold => "SELECT kind, id, manufacturer, serial FROM hold",
         TableName::Used => "SELECT kind, id FROM used",
+        TableName::Capacity => "SELECT manufacturer, serial, capacity FROM capacity",
+        TableName::Journey =>
+            "SELECT order_id, manufacturer, serial, start, first, base, sent, confirmed, seen FROM journey",
+        TableName::Act => "SELECT order_id, n, job, kind, place_at, status FROM act",
     }
 }

@@ -19,8 +19,12 @@ pub(crate) fn insertion(table: WorldTable) -> &'static str
         WorldTable::Station => "INSERT INTO station (id, node, capacity) VALUES (?1, ?2, ?3)",
         WorldTable::Vehicle =>
             "INSERT INTO vehicle (manufacturer, serial, node, rest_edge, rest_node, last_header, reported, ready, paused, order_header, order_at, instant_header, instant_at, pending) VALUES (?1, ?2, ?3, ?4, ?5, ?6, ?7, ?8, ?9, ?10, ?11, ?12, ?13, ?14)",
-        WorldTable::Trip =>
-            "INSERT INTO trip (order_id, manufacturer, serial, job, start, first, base, sent, confirmed, seen, pick_at, drop_at, pick_status, drop_status) VALUES (?1, ?2, ?3, ?4, ?5, ?6, ?7, ?8, ?9, ?10, ?11, ?12, ?13, ?14)",
+        WorldTable::Capacity =>
+            "INSERT INTO capacity (manufacturer, serial, capacity) VALUES (?1, ?2, ?3)",
+        WorldTable::Journey =>
+            "INSERT INTO journey (order_id, manufacturer, serial, start, first, base, sent, confirmed, seen) VALUES (?1, ?2, ?3, ?4, ?5, ?6, ?7, ?8, ?9)",
+        WorldTable::Act =>
+            "INSERT INTO act (order_id, n, job, kind, place_at, status) VALUES (?1, ?2, ?3, ?4, ?5, ?6)",
         WorldTable::Leg => "INSERT INTO leg (order_id, k, edge) VALUES (?1, ?2, ?3)",
         WorldTable::Load =>
             "INSERT INTO load (id, kind, station, manufacturer, serial) VALUES (?1, ?2, ?3, ?4, ?5)",
@@ -32,7 +36,7 @@ pub(crate) fn insertion(table: WorldTable) -> &'static str
     }
 }
 
-/// Takes out the row of a key, whose columns are the parameters.
+/// Takes out the row of a key, whose columns are the parameters; of the acts, all of an order.
 pub(crate) fn deletion(table: WorldTable) -> &'static str
     ensures { result.now ≡ deletion_text table }
 {
@@ -41,7 +45,9 @@ pub(crate) fn deletion(table: WorldTable) -> &'static str
         WorldTable::Edge => "DELETE FROM edge WHERE id = ?1",
         WorldTable::Station => "DELETE FROM station WHERE id = ?1",
         WorldTable::Vehicle => "DELETE FROM vehicle WHERE manufacturer = ?1 AND serial = ?2",
-        WorldTable::Trip => "DELETE FROM trip WHERE order_id = ?1",
+        WorldTable::Capacity => "DELETE FROM capacity WHERE manufacturer = ?1 AND serial = ?2",
+        WorldTable::Journey => "DELETE FROM journey WHERE order_id = ?1",
+        WorldTable::Act => "DELETE FROM act WHERE order_id = ?1",
         WorldTable::Leg => "DELETE FROM leg WHERE order_id = ?1 AND k = ?2",
         WorldTable::Load => "DELETE FROM load WHERE id = ?1",
         WorldTable::Job => "DELETE FROM job WHERE id = ?1",
@@ -60,6 +66,8 @@ pub(crate) fn look_up(row: RowOf) -> &'static str
         RowOf::Station => "SELECT id, node, capacity FROM station WHERE id = ?1",
         RowOf::Vehicle =>
             "SELECT manufacturer, serial, node, rest_edge, rest_node, last_header, reported, ready, paused, order_header, order_at, instant_header, instant_at, pending FROM vehicle WHERE manufacturer = ?1 AND serial = ?2",
+        RowOf::Capacity =>
+            "SELECT manufacturer, serial, capacity FROM capacity WHERE manufacturer = ?1 AND serial = ?2",
         RowOf::Load => "SELECT id, kind, station, manufacturer, serial FROM load WHERE id = ?1",
         RowOf::Job => "SELECT id, load, origin, target, phase FROM job WHERE id = ?1",
         RowOf::Hold =>

@@ -6,8 +6,8 @@ ghost use Rattle.std.specs.Prelude.{◌≡◌, OnOk};
 ghost use Rattle.sqlite.specs.State.{HasCleanDisk, KeepsCommit, Survives};
 ghost use Rattle.sqlite.specs.Held.{state};
 ghost use Rattle.sqlite.specs.Values.{bound};
-ghost use Rattle.agv_tables.specs.rows.DeskRows.{FitsTable, Makes, with_row, without_key, with_put};
-ghost use Rattle.agv_tables.specs.statements.RowTexts.{table_written};
+ghost use Rattle.agv_tables.specs.rows.DeskRows.{FitsTable, Makes, with_row, without_rows};
+ghost use Rattle.agv_tables.specs.statements.RowTexts.{columns_deleted, table_written};
 
 use crate::rows::world_table::WorldTable;
 use crate::statements::row_texts::{deletion, insertion};
@@ -29,7 +29,7 @@ pub(crate) fn insert_row<S: Alter>(
     tx.execute(insertion(table), row)
 }
 
-/// Takes out the row of that key, if there is one.
+/// Takes out the row of that key, if there is one; of the acts, all of that order.
 pub(crate) fn delete_row<S: Alter>(
     tx: &mut Transaction<'_, S>,
     table: WorldTable,
@@ -39,12 +39,12 @@ pub(crate) fn delete_row<S: Alter>(
     ensures survives { Survives (state S.Store tx.old.conn.now) (state S.Store tx.new.conn.now) (λ _. ⊥) }
     ensures kept { HasCleanDisk (state S.Store tx.new.conn.now) → KeepsCommit (state S.Store tx.old.conn.now) (state S.Store tx.new.conn.now) }
     ensures made { HasCleanDisk (state S.Store tx.new.conn.now)
-        → OnOk result (Makes (without_key (table_written table) (bound key.now)) (state S.Store tx.old.conn.now) (state S.Store tx.new.conn.now)) }
+        → OnOk result (Makes (without_rows (table_written table) (columns_deleted table) (bound key.now)) (state S.Store tx.old.conn.now) (state S.Store tx.new.conn.now)) }
 {
     tx.execute(deletion(table), key)
 }
 
-/// Puts the row in the place of that of its key, if there is one.
+/// Puts the row in the place of that of its key, if there is one; an act in the place of all of its order.
 pub(crate) fn put_row<S: Alter>(
     tx: &mut Transaction<'_, S>,
     table: WorldTable,
@@ -55,7 +55,7 @@ pub(crate) fn put_row<S: Alter>(
     ensures survives { Survives (state S.Store tx.old.conn.now) (state S.Store tx.new.conn.now) (λ _. ⊥) }
     ensures kept { HasCleanDisk (state S.Store tx.new.conn.now) → KeepsCommit (state S.Store tx.old.conn.now) (state S.Store tx.new.conn.now) }
     ensures made { HasCleanDisk (state S.Store tx.new.conn.now) → FitsTable (table_written table) (bound row.now)
-        → OnOk result (Makes (with_put (table_written table) (bound key.now) (bound row.now)) (state S.Store tx.old.conn.now) (state S.Store tx.new.conn.now)) }
+        → OnOk result (Makes (λ lists. with_row (table_written table) (bound row.now) (without_rows (table_written table) (columns_deleted table) (bound key.now) lists)) (state S.Store tx.old.conn.now) (state S.Store tx.new.conn.now)) }
 {
     delete_row(tx, table, key)?;
     insert_row(tx, table, row)
