@@ -1,0 +1,3 @@
+pub mod TripLines
+pub mod FirstColumns
+pub mod FirstRows
