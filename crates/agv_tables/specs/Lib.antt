@@ -1,4 +1,5 @@
 pub mod changes
+pub mod first_schema
 pub mod queries
 pub mod readings
 pub mod rows

@@ -2,8 +2,8 @@
 ghost use Rattle.std.specs.Prelude.{◌≡◌, List, ℕ, Some, IfOk};
 ghost use Rattle.agv_world.specs.declared.row.JobRow.{JobRow as RowOfJob};
 ghost use Rattle.agv_world.specs.declared.row.TripRow.{TripRow as RowOfTrip};
-ghost use Rattle.agv_first_schema.specs.TripLines.{TellsTrip, are_of_one_job, line_of, trip_told};
-ghost use Rattle.agv_first_schema.specs.declared.trip_line.TripLine.{TripLine as Line};
+ghost use Rattle.agv_tables.specs.first_schema.TripLines.{TellsTrip, are_of_one_job, line_of, trip_told};
+ghost use Rattle.agv_tables.specs.declared.first_schema.trip_line.TripLine.{TripLine as Line};
 
 use agv_header::{Memory, Name, VehicleKey};
 use agv_message::{ActKind, Sequence, Status};

@@ -6,7 +6,7 @@ use Rattle.agv_order.specs.Stops.{is_drop}
 use Rattle.agv_order.specs.declared.act.Act.{Act}
 use Rattle.agv_world.specs.declared.row.JobRow.{JobRow}
 use Rattle.agv_world.specs.declared.row.TripRow.{TripRow}
-use Rattle.agv_first_schema.specs.declared.trip_line.TripLine.{TripLine}
+use Rattle.agv_tables.specs.declared.first_schema.trip_line.TripLine.{TripLine}
 
 -- the load of the job is picked at the job's origin, and then dropped at its target
 abbrev pub acts_of : TripLine → JobRow → List Act

@@ -10,8 +10,8 @@ use Rattle.agv_world.specs.declared.row.JobRow.{JobRow}
 use Rattle.agv_world.specs.declared.row.TripRow.{TripRow}
 use Rattle.agv_tables.specs.rows.Columns.{if_columns, key_in}
 use Rattle.agv_tables.specs.rows.ValueEncodings.{if_some, maybe_in, name_in, number_cell, number_in, status_in}
-use Rattle.agv_first_schema.specs.TripLines.{trip_told}
-use Rattle.agv_first_schema.specs.declared.trip_line.TripLine.{TripLine}
+use Rattle.agv_tables.specs.first_schema.TripLines.{trip_told}
+use Rattle.agv_tables.specs.declared.first_schema.trip_line.TripLine.{TripLine}
 
 -- ---- trip: order_id, manufacturer, serial, job, start, first, base, sent, confirmed, seen, pick_at, drop_at, pick_status, drop_status
 

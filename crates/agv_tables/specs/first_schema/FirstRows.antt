@@ -16,8 +16,8 @@ use Rattle.agv_tables.specs.rows.DeskRows.{Placing, HaveRows, TableStands, width
 use Rattle.agv_tables.specs.rows.RowLists.{row_if, rows_for, rows_in}
 use Rattle.agv_tables.specs.declared.schema.table_name.TableName.{TableName}
 use Rattle.agv_tables.specs.declared.schema.table_name.TableName.TheVariants as the
-use Rattle.agv_first_schema.specs.FirstColumns.{trip_columns}
-use Rattle.agv_first_schema.specs.TripLines.{line_of}
+use Rattle.agv_tables.specs.first_schema.FirstColumns.{trip_columns}
+use Rattle.agv_tables.specs.first_schema.TripLines.{line_of}
 
 -- ---- the tables
 
