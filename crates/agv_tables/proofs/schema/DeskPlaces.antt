@@ -93,6 +93,9 @@ once the.Load = refl
 once the.Job = refl
 once the.Hold = refl
 once the.Used = refl
+once the.Capacity = refl
+once the.Journey = refl
+once the.Act = refl
 
 in_place : (name : TableName) → slice_get table_names (place_of name) ≡ Some name
 in_place the.Meta = refl
@@ -106,6 +109,9 @@ in_place the.Load = refl
 in_place the.Job = refl
 in_place the.Hold = refl
 in_place the.Used = refl
+in_place the.Capacity = refl
+in_place the.Journey = refl
+in_place the.Act = refl
 
 abbrev AreRows : (TableName → ℕ) → Trees → List TableName → List (List Row) → Type 0
 AreRows tree db = AllZip (λ name rows. HaveRows (width_of name) (db (tree name)) rows)

@@ -108,12 +108,26 @@ key_typed the.Used params h =
     let k0 : is_of_kind kind.Text (column params 0) ≡ true = fits_at (columns_at the.Used (table_for the.Used).primary) params h 0 _ refl in
     let k1 : is_of_kind kind.Text (column params 1) ≡ true = fits_at (columns_at the.Used (table_for the.Used).primary) params h 1 _ refl in
     rw (text_compares (column params 0) k0, text_compares (column params 1) k1)
+key_typed the.Capacity params h =
+    let k0 : is_of_kind kind.Text (column params 0) ≡ true = fits_at (columns_at the.Capacity (table_for the.Capacity).primary) params h 0 _ refl in
+    let k1 : is_of_kind kind.Text (column params 1) ≡ true = fits_at (columns_at the.Capacity (table_for the.Capacity).primary) params h 1 _ refl in
+    rw (text_compares (column params 0) k0, text_compares (column params 1) k1)
+key_typed the.Journey params h =
+    let k0 : is_of_kind kind.Text (column params 0) ≡ true = fits_at (columns_at the.Journey (table_for the.Journey).primary) params h 0 _ refl in
+    rw (text_compares (column params 0) k0)
+key_typed the.Act params h =
+    let k0 : is_of_kind kind.Text (column params 0) ≡ true = fits_at (columns_at the.Act (table_for the.Act).primary) params h 0 _ refl in
+    let k1 : is_of_kind kind.Integer (column params 1) ≡ true = fits_at (columns_at the.Act (table_for the.Act).primary) params h 1 _ refl in
+    rw (text_compares (column params 0) k0, number_compares (column params 1) k1)
 
 query_typed : (query : RowsBy) (params : Row) → FitsColumns (table_asked query) (columns_asked query) params → IsTypedFor (table_asked query) (query_terms query) params
-query_typed by.VehicleTrip params h =
-    let k0 : is_of_kind kind.Text (column params 0) ≡ true = fits_at (columns_at the.Trip (columns_asked by.VehicleTrip)) params h 0 _ refl in
-    let k1 : is_of_kind kind.Text (column params 1) ≡ true = fits_at (columns_at the.Trip (columns_asked by.VehicleTrip)) params h 1 _ refl in
+query_typed by.VehicleJourney params h =
+    let k0 : is_of_kind kind.Text (column params 0) ≡ true = fits_at (columns_at the.Journey (columns_asked by.VehicleJourney)) params h 0 _ refl in
+    let k1 : is_of_kind kind.Text (column params 1) ≡ true = fits_at (columns_at the.Journey (columns_asked by.VehicleJourney)) params h 1 _ refl in
     rw (text_compares (column params 0) k0, text_compares (column params 1) k1)
+query_typed by.OrderActs params h =
+    let k0 : is_of_kind kind.Text (column params 0) ≡ true = fits_at (columns_at the.Act (columns_asked by.OrderActs)) params h 0 _ refl in
+    rw (text_compares (column params 0) k0)
 query_typed by.OrderLegs params h =
     let k0 : is_of_kind kind.Text (column params 0) ≡ true = fits_at (columns_at the.Leg (columns_asked by.OrderLegs)) params h 0 _ refl in
     rw (text_compares (column params 0) k0)
@@ -145,6 +159,9 @@ all_typed the.Load = refl
 all_typed the.Job = refl
 all_typed the.Hold = refl
 all_typed the.Used = refl
+all_typed the.Capacity = refl
+all_typed the.Journey = refl
+all_typed the.Act = refl
 
 -- ---- why it fails
 
@@ -188,6 +205,7 @@ key_whole keyed.Node = (lit≤ tt, refl)
 key_whole keyed.Edge = (lit≤ tt, refl)
 key_whole keyed.Station = (lit≤ tt, refl)
 key_whole keyed.Vehicle = (lit≤ tt, refl)
+key_whole keyed.Capacity = (lit≤ tt, refl)
 key_whole keyed.Load = (lit≤ tt, refl)
 key_whole keyed.Job = (lit≤ tt, refl)
 key_whole keyed.Hold = (lit≤ tt, refl)
@@ -195,7 +213,8 @@ key_whole keyed.Used = (lit≤ tt, refl)
 
 query_whole : (query : RowsBy) → IsWholeText (query_text query) (length (columns_at (table_asked query) (columns_asked query)))
 unfolding everything
-query_whole by.VehicleTrip = (lit≤ tt, refl)
+query_whole by.VehicleJourney = (lit≤ tt, refl)
+query_whole by.OrderActs = (lit≤ tt, refl)
 query_whole by.OrderLegs = (lit≤ tt, refl)
 query_whole by.StationLoads = (lit≤ tt, refl)
 query_whole by.VehicleLoads = (lit≤ tt, refl)
@@ -215,6 +234,9 @@ all_whole the.Load = (lit≤ tt, refl)
 all_whole the.Job = (lit≤ tt, refl)
 all_whole the.Hold = (lit≤ tt, refl)
 all_whole the.Used = (lit≤ tt, refl)
+all_whole the.Capacity = (lit≤ tt, refl)
+all_whole the.Journey = (lit≤ tt, refl)
+all_whole the.Act = (lit≤ tt, refl)
 
 -- ---- the look-ups
 

@@ -112,6 +112,7 @@ look_ups keyed.Node = tt
 look_ups keyed.Edge = tt
 look_ups keyed.Station = tt
 look_ups keyed.Vehicle = tt
+look_ups keyed.Capacity = tt
 look_ups keyed.Load = tt
 look_ups keyed.Job = tt
 look_ups keyed.Hold = tt
@@ -119,7 +120,8 @@ look_ups keyed.Used = tt
 
 queries : (query : RowsBy) → IsSelectText (query_text query)
 unfolding everything
-queries by.VehicleTrip = tt
+queries by.VehicleJourney = tt
+queries by.OrderActs = tt
 queries by.OrderLegs = tt
 queries by.StationLoads = tt
 queries by.VehicleLoads = tt
@@ -139,6 +141,9 @@ whole_tables the.Load = tt
 whole_tables the.Job = tt
 whole_tables the.Hold = tt
 whole_tables the.Used = tt
+whole_tables the.Capacity = tt
+whole_tables the.Journey = tt
+whole_tables the.Act = tt
 
 pub look_up_selects : (one : RowOf) (sql : List ℕ) → sql ≡ look_up_text one → IsSelectText sql
 look_up_selects one sql text = subst IsSelectText (sym text) (look_ups one)

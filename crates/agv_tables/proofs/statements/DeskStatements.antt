@@ -11,20 +11,21 @@ use Rattle.sqlite.specs.declared.error.Error.TheVariants.{SqliteFailure}
 use Rattle.sqlite.specs.declared.error.ErrorCode.TheVariants.{TransactionState}
 use Rattle.sqlite.specs.Effect.{Database}
 use Rattle.sqlite.specs.State.{State, Executes, ExecutesInside, Shown}
-use Rattle.agv_tables.specs.rows.DeskRows.{Placing, IsDesk, KeepsOthers, on_table, table_at, place_of, width_of, has_key, with_row, without_key, with_put, rows_of_key, FitsTable, Makes, Answers}
+use Rattle.agv_tables.specs.rows.DeskRows.{Placing, IsDesk, KeepsOthers, on_table, table_at, place_of, width_of, has_columns, has_key, with_row, without_rows, rows_of_key, FitsTable, Makes, Answers}
 use Rattle.agv_tables.specs.statements.RowQueries.{table_asked, columns_asked, equal_from, rows_asked, all_rows_of, query_text, all_rows_text}
-use Rattle.agv_tables.specs.statements.RowTexts.{insertion_text, deletion_text, look_up_text, table_written, table_looked_up}
+use Rattle.agv_tables.specs.statements.RowTexts.{insertion_text, deletion_text, look_up_text, table_written, table_looked_up, columns_deleted}
 use Rattle.agv_tables.specs.declared.rows.row_of.RowOf.{RowOf}
 use Rattle.agv_tables.specs.declared.rows.rows_by.RowsBy.{RowsBy}
 use Rattle.agv_tables.specs.declared.schema.table_name.TableName.{TableName}
 use Rattle.agv_tables.specs.declared.schema.table_name.TableName.TheVariants as the
 use Rattle.agv_tables.specs.declared.rows.world_table.WorldTable.{WorldTable}
+use Rattle.agv_tables.specs.declared.rows.world_table.WorldTable.TheVariants as world
 use Rattle.agv_tables.proofs.schema.DeskPlaces.{is_in}
 use Rattle.agv_tables.proofs.sql.EntryEdits.{filter_nothing}
 use Rattle.agv_tables.proofs.statements.QueryMeanings.{Asks, query_terms, query_passes, query_within, query_asks, all_rows_asked}
 use Rattle.agv_tables.proofs.sql.QueryRows.{passes, reads_within}
 use Rattle.agv_tables.proofs.statements.RowForms.{Lands, rows_deleted, row_inserted, rows_shown}
-use Rattle.agv_tables.proofs.statements.RowMeanings.{key_terms, column_names, inserts, deletes, looks_up}
+use Rattle.agv_tables.proofs.statements.RowMeanings.{key_terms, deleted_terms, column_names, inserts, deletes, looks_up}
 
 -- ---- keys
 
@@ -40,6 +41,9 @@ key_passes the.Load key = refl
 key_passes the.Job key = refl
 key_passes the.Hold key = refl
 key_passes the.Used key = refl
+key_passes the.Capacity key = refl
+key_passes the.Journey key = refl
+key_passes the.Act key = refl
 
 within : (name : TableName) → list_all (reads_within (width_of name)) (key_terms name) ≡ true
 within the.Meta = refl
@@ -53,6 +57,39 @@ within the.Load = refl
 within the.Job = refl
 within the.Hold = refl
 within the.Used = refl
+within the.Capacity = refl
+within the.Journey = refl
+within the.Act = refl
+
+-- ---- columns by which rows are taken out
+
+deleted_passes : (table : WorldTable) (key : Row) → passes (deleted_terms table) key ≡ has_columns (columns_deleted table) key
+deleted_passes world.Node key = refl
+deleted_passes world.Edge key = refl
+deleted_passes world.Station key = refl
+deleted_passes world.Vehicle key = refl
+deleted_passes world.Capacity key = refl
+deleted_passes world.Journey key = refl
+deleted_passes world.Act key = refl
+deleted_passes world.Leg key = refl
+deleted_passes world.Load key = refl
+deleted_passes world.Job key = refl
+deleted_passes world.Hold key = refl
+deleted_passes world.Used key = refl
+
+deleted_within : (table : WorldTable) → list_all (reads_within (width_of (table_written table))) (deleted_terms table) ≡ true
+deleted_within world.Node = refl
+deleted_within world.Edge = refl
+deleted_within world.Station = refl
+deleted_within world.Vehicle = refl
+deleted_within world.Capacity = refl
+deleted_within world.Journey = refl
+deleted_within world.Act = refl
+deleted_within world.Leg = refl
+deleted_within world.Load = refl
+deleted_within world.Job = refl
+deleted_within world.Hold = refl
+deleted_within world.Used = refl
 
 -- ---- inside a transaction
 
@@ -82,13 +119,13 @@ inserts_row table sql text row fit old new r ran =
     (λ desk is has. row_inserted desk is name old new has (insertion_text table) row fit (inserts table desk.schema (is.stands name).at (desk.tree name) (is_in desk is name)))
     (subst (λ t. RunsInside t row old new r) text ran)
 
-pub deletes_row : (table : WorldTable) (sql : List ℕ) → sql ≡ deletion_text table → (key : Row) (old new : State) (r : Result ℕ Error) → RunsInside sql key old new r → OnOk r (Makes (without_key (table_written table) key) old new)
+pub deletes_row : (table : WorldTable) (sql : List ℕ) → sql ≡ deletion_text table → (key : Row) (old new : State) (r : Result ℕ Error) → RunsInside sql key old new r → OnOk r (Makes (without_rows (table_written table) (columns_deleted table) key) old new)
 deletes_row table sql text key old new r ran =
     let name = table_written table in
-    makes (without_key name key) (deletion_text table) key old new r
+    makes (without_rows name (columns_deleted table) key) (deletion_text table) key old new r
     (λ desk is has count done.
-    subst (λ (p : Row → _). Lands desk old.now new.now (on_table (place_of name) (filter (λ row. not (p row))))) (key_passes name key)
-    (rows_deleted desk is name old new has (deletion_text table) key (key_terms name) (within name) (deletes table desk.schema (is.stands name).at (desk.tree name) (is_in desk is name)) count done))
+    subst (λ (p : Row → _). Lands desk old.now new.now (on_table (place_of name) (filter (λ row. not (p row))))) (deleted_passes table key)
+    (rows_deleted desk is name old new has (deletion_text table) key (deleted_terms table) (deleted_within table) (deletes table desk.schema (is.stands name).at (desk.tree name) (is_in desk is name)) count done))
     (subst (λ t. RunsInside t key old new r) text ran)
 
 -- the other tables stay where nothing is done, and through one change and then another
@@ -112,9 +149,10 @@ makes_then f g a b c p q =
       mode = q.mode;
     }
 
-pub puts_row : (name : TableName) (key row : Row) (a b c : State) (last : Result ℕ Error) → OnOk last (Makes (with_row name row) b c) → Makes (without_key name key) a b → OnOk last (Makes (with_put name key row) a c)
-puts_row name key row a b c (Ok count) added gone = makes_then (without_key name key) (with_row name row) a b c gone added
-puts_row name key row a b c (Err e) added gone = tt
+pub puts_row : (name : TableName) (columns : List ℕ) (key row : Row) (a b c : State) (last : Result ℕ Error) → OnOk last (Makes (with_row name row) b c) → Makes (without_rows name columns key) a b
+    → OnOk last (Makes (λ lists. with_row name row (without_rows name columns key lists)) a c)
+puts_row name columns key row a b c (Ok count) added gone = makes_then (without_rows name columns key) (with_row name row) a b c gone added
+puts_row name columns key row a b c (Err e) added gone = tt
 
 -- ---- queries
 

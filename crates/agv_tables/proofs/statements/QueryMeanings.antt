@@ -29,7 +29,8 @@ Asks name sql terms = AsksFor name sql terms (column_terms name) (column_names n
 
 -- the columns that are asked by equal the parameters
 abbrev pub query_terms : RowsBy → List Term
-query_terms by.VehicleTrip = is_param 2 0 ∷ is_param 3 1 ∷ []
+query_terms by.VehicleJourney = is_param 2 0 ∷ is_param 3 1 ∷ []
+query_terms by.OrderActs = is_param 1 0 ∷ []
 query_terms by.OrderLegs = is_param 1 0 ∷ []
 query_terms by.StationLoads = is_param 3 0 ∷ []
 query_terms by.VehicleLoads = is_param 4 0 ∷ is_param 5 1 ∷ []
@@ -37,7 +38,8 @@ query_terms by.LoadJobs = is_param 2 0 ∷ is_param 5 1 ∷ []
 query_terms by.TargetJobs = is_param 4 0 ∷ is_param 5 1 ∷ []
 
 pub query_passes : (query : RowsBy) (values : Row) → passes (query_terms query) values ≡ equal_from 0 (columns_asked query) values
-query_passes by.VehicleTrip values = refl
+query_passes by.VehicleJourney values = refl
+query_passes by.OrderActs values = refl
 query_passes by.OrderLegs values = refl
 query_passes by.StationLoads values = refl
 query_passes by.VehicleLoads values = refl
@@ -45,7 +47,8 @@ query_passes by.LoadJobs values = refl
 query_passes by.TargetJobs values = refl
 
 pub query_within : (query : RowsBy) → list_all (reads_within (width_of (table_asked query))) (query_terms query) ≡ true
-query_within by.VehicleTrip = refl
+query_within by.VehicleJourney = refl
+query_within by.OrderActs = refl
 query_within by.OrderLegs = refl
 query_within by.StationLoads = refl
 query_within by.VehicleLoads = refl
@@ -54,13 +57,20 @@ query_within by.TargetJobs = refl
 
 pub query_asks : (query : RowsBy) → Asks (table_asked query) (query_text query) (query_terms query)
 unfolding everything
-query_asks by.VehicleTrip s at tree stands =
-    let p = parsed (query_text by.VehicleTrip) in
+query_asks by.VehicleJourney s at tree stands =
+    let p = parsed (query_text by.VehicleJourney) in
     let sel = selection p.statement tt in
-    select_means s (codes "trip") (with_tree the.Trip tree) at stands (query_text by.VehicleTrip) p refl refl sel refl
+    select_means s (codes "journey") (with_tree the.Journey tree) at stands (query_text by.VehicleJourney) p refl refl sel refl
     (record { with = refl; others = refl; order = refl; limit = refl; offset = refl })
     (record { source = head_of (out-Core (out-Select sel).first).from tt; from = refl; origin = refl; alias = refl; on = refl; using = refl; inner = refl; group = refl; having = refl; repeats = refl })
-    (query_terms by.VehicleTrip) (column_terms the.Trip) (column_names the.Trip) (collations the.Trip) refl refl refl refl refl
+    (query_terms by.VehicleJourney) (column_terms the.Journey) (column_names the.Journey) (collations the.Journey) refl refl refl refl refl
+query_asks by.OrderActs s at tree stands =
+    let p = parsed (query_text by.OrderActs) in
+    let sel = selection p.statement tt in
+    select_means s (codes "act") (with_tree the.Act tree) at stands (query_text by.OrderActs) p refl refl sel refl
+    (record { with = refl; others = refl; order = refl; limit = refl; offset = refl })
+    (record { source = head_of (out-Core (out-Select sel).first).from tt; from = refl; origin = refl; alias = refl; on = refl; using = refl; inner = refl; group = refl; having = refl; repeats = refl })
+    (query_terms by.OrderActs) (column_terms the.Act) (column_names the.Act) (collations the.Act) refl refl refl refl refl
 query_asks by.OrderLegs s at tree stands =
     let p = parsed (query_text by.OrderLegs) in
     let sel = selection p.statement tt in
@@ -176,3 +186,24 @@ all_rows_asked the.Used s at tree stands =
     (record { with = refl; others = refl; order = refl; limit = refl; offset = refl })
     (record { source = head_of (out-Core (out-Select sel).first).from tt; from = refl; origin = refl; alias = refl; on = refl; using = refl; inner = refl; group = refl; having = refl; repeats = refl })
     ([]) (column_terms the.Used) (column_names the.Used) (collations the.Used) refl refl refl refl refl
+all_rows_asked the.Capacity s at tree stands =
+    let p = parsed (all_rows_text the.Capacity) in
+    let sel = selection p.statement tt in
+    select_means s (codes "capacity") (with_tree the.Capacity tree) at stands (all_rows_text the.Capacity) p refl refl sel refl
+    (record { with = refl; others = refl; order = refl; limit = refl; offset = refl })
+    (record { source = head_of (out-Core (out-Select sel).first).from tt; from = refl; origin = refl; alias = refl; on = refl; using = refl; inner = refl; group = refl; having = refl; repeats = refl })
+    ([]) (column_terms the.Capacity) (column_names the.Capacity) (collations the.Capacity) refl refl refl refl refl
+all_rows_asked the.Journey s at tree stands =
+    let p = parsed (all_rows_text the.Journey) in
+    let sel = selection p.statement tt in
+    select_means s (codes "journey") (with_tree the.Journey tree) at stands (all_rows_text the.Journey) p refl refl sel refl
+    (record { with = refl; others = refl; order = refl; limit = refl; offset = refl })
+    (record { source = head_of (out-Core (out-Select sel).first).from tt; from = refl; origin = refl; alias = refl; on = refl; using = refl; inner = refl; group = refl; having = refl; repeats = refl })
+    ([]) (column_terms the.Journey) (column_names the.Journey) (collations the.Journey) refl refl refl refl refl
+all_rows_asked the.Act s at tree stands =
+    let p = parsed (all_rows_text the.Act) in
+    let sel = selection p.statement tt in
+    select_means s (codes "act") (with_tree the.Act tree) at stands (all_rows_text the.Act) p refl refl sel refl
+    (record { with = refl; others = refl; order = refl; limit = refl; offset = refl })
+    (record { source = head_of (out-Core (out-Select sel).first).from tt; from = refl; origin = refl; alias = refl; on = refl; using = refl; inner = refl; group = refl; having = refl; repeats = refl })
+    ([]) (column_terms the.Act) (column_names the.Act) (collations the.Act) refl refl refl refl refl

@@ -75,6 +75,9 @@ one_row the.Load params = refl
 one_row the.Job params = refl
 one_row the.Hold params = refl
 one_row the.Used params = refl
+one_row the.Capacity params = refl
+one_row the.Journey params = refl
+one_row the.Act params = refl
 
 unstamped : (name : TableName) (tree : ℕ) (params : Row) → stamped (record (table_for name) { tree = tree }) params ≡ params
 unstamped the.Meta tree params = append-nil params
@@ -88,6 +91,9 @@ unstamped the.Load tree params = append-nil params
 unstamped the.Job tree params = append-nil params
 unstamped the.Hold tree params = append-nil params
 unstamped the.Used tree params = append-nil params
+unstamped the.Capacity tree params = append-nil params
+unstamped the.Journey tree params = append-nil params
+unstamped the.Act tree params = append-nil params
 
 uncounted : (name : TableName) → (table_for name).is_counted ≡ false
 uncounted the.Meta = refl
@@ -101,6 +107,9 @@ uncounted the.Load = refl
 uncounted the.Job = refl
 uncounted the.Hold = refl
 uncounted the.Used = refl
+uncounted the.Capacity = refl
+uncounted the.Journey = refl
+uncounted the.Act = refl
 
 -- ---- parts of what a statement does
 

@@ -42,7 +42,14 @@ key_terms the.Vehicle = is_param 1 0 ∷ is_param 2 1 ∷ []
 key_terms the.Leg = is_param 1 0 ∷ is_param 2 1 ∷ []
 key_terms the.Hold = is_param 1 0 ∷ is_param 2 1 ∷ []
 key_terms the.Used = is_param 1 0 ∷ is_param 2 1 ∷ []
+key_terms the.Capacity = is_param 1 0 ∷ is_param 2 1 ∷ []
+key_terms the.Act = is_param 1 0 ∷ is_param 2 1 ∷ []
 key_terms _ = is_param 1 0 ∷ []
+
+-- the columns by which rows are taken out equal the parameters
+abbrev pub deleted_terms : WorldTable → List Term
+deleted_terms world.Act = is_param 1 0 ∷ []
+deleted_terms table = key_terms (table_written table)
 
 -- the table of that name, with this tree
 abbrev pub with_tree : TableName → ℕ → Table
@@ -67,9 +74,15 @@ inserts world.Station s at tree stands =
 inserts world.Vehicle s at tree stands =
     let p = parsed (insertion_text world.Vehicle) in
     insert_means s (codes "vehicle") (with_tree the.Vehicle tree) at stands (insertion_text world.Vehicle) p refl refl (insertion_columns p.statement) (insertion_rows p.statement) (row_terms the.Vehicle) 15 refl refl refl
-inserts world.Trip s at tree stands =
-    let p = parsed (insertion_text world.Trip) in
-    insert_means s (codes "trip") (with_tree the.Trip tree) at stands (insertion_text world.Trip) p refl refl (insertion_columns p.statement) (insertion_rows p.statement) (row_terms the.Trip) 15 refl refl refl
+inserts world.Capacity s at tree stands =
+    let p = parsed (insertion_text world.Capacity) in
+    insert_means s (codes "capacity") (with_tree the.Capacity tree) at stands (insertion_text world.Capacity) p refl refl (insertion_columns p.statement) (insertion_rows p.statement) (row_terms the.Capacity) 4 refl refl refl
+inserts world.Journey s at tree stands =
+    let p = parsed (insertion_text world.Journey) in
+    insert_means s (codes "journey") (with_tree the.Journey tree) at stands (insertion_text world.Journey) p refl refl (insertion_columns p.statement) (insertion_rows p.statement) (row_terms the.Journey) 10 refl refl refl
+inserts world.Act s at tree stands =
+    let p = parsed (insertion_text world.Act) in
+    insert_means s (codes "act") (with_tree the.Act tree) at stands (insertion_text world.Act) p refl refl (insertion_columns p.statement) (insertion_rows p.statement) (row_terms the.Act) 7 refl refl refl
 inserts world.Leg s at tree stands =
     let p = parsed (insertion_text world.Leg) in
     insert_means s (codes "leg") (with_tree the.Leg tree) at stands (insertion_text world.Leg) p refl refl (insertion_columns p.statement) (insertion_rows p.statement) (row_terms the.Leg) 4 refl refl refl
@@ -86,10 +99,10 @@ inserts world.Used s at tree stands =
     let p = parsed (insertion_text world.Used) in
     insert_means s (codes "used") (with_tree the.Used tree) at stands (insertion_text world.Used) p refl refl (insertion_columns p.statement) (insertion_rows p.statement) (row_terms the.Used) 3 refl refl refl
 
--- ---- the row of a key is taken out
+-- ---- the row of a key is taken out, or the acts of an order
 
 abbrev pub Deletes : WorldTable → Type 0
-Deletes table = (s : Schema) (at tree : ℕ) → IsIn s (table_for (table_written table)).name (with_tree (table_written table) tree) at → Means s (deletion_text table) (Delete at (record { lets = []; body = query_by tree (key_terms (table_written table)) (col 1 0 ∷ []) }))
+Deletes table = (s : Schema) (at tree : ℕ) → IsIn s (table_for (table_written table)).name (with_tree (table_written table) tree) at → Means s (deletion_text table) (Delete at (record { lets = []; body = query_by tree (deleted_terms table) (col 1 0 ∷ []) }))
 
 pub deletes : (table : WorldTable) → Deletes table
 unfolding everything
@@ -105,9 +118,15 @@ deletes world.Station s at tree stands =
 deletes world.Vehicle s at tree stands =
     let p = parsed (deletion_text world.Vehicle) in
     delete_means s (codes "vehicle") (with_tree the.Vehicle tree) at stands (deletion_text world.Vehicle) p refl refl (deletion_test p.statement) (key_terms the.Vehicle) refl refl refl refl
-deletes world.Trip s at tree stands =
-    let p = parsed (deletion_text world.Trip) in
-    delete_means s (codes "trip") (with_tree the.Trip tree) at stands (deletion_text world.Trip) p refl refl (deletion_test p.statement) (key_terms the.Trip) refl refl refl refl
+deletes world.Capacity s at tree stands =
+    let p = parsed (deletion_text world.Capacity) in
+    delete_means s (codes "capacity") (with_tree the.Capacity tree) at stands (deletion_text world.Capacity) p refl refl (deletion_test p.statement) (key_terms the.Capacity) refl refl refl refl
+deletes world.Journey s at tree stands =
+    let p = parsed (deletion_text world.Journey) in
+    delete_means s (codes "journey") (with_tree the.Journey tree) at stands (deletion_text world.Journey) p refl refl (deletion_test p.statement) (key_terms the.Journey) refl refl refl refl
+deletes world.Act s at tree stands =
+    let p = parsed (deletion_text world.Act) in
+    delete_means s (codes "act") (with_tree the.Act tree) at stands (deletion_text world.Act) p refl refl (deletion_test p.statement) (deleted_terms world.Act) refl refl refl refl
 deletes world.Leg s at tree stands =
     let p = parsed (deletion_text world.Leg) in
     delete_means s (codes "leg") (with_tree the.Leg tree) at stands (deletion_text world.Leg) p refl refl (deletion_test p.statement) (key_terms the.Leg) refl refl refl refl
@@ -166,6 +185,13 @@ looks_up keyed.Vehicle s at tree stands =
     (record { with = refl; others = refl; order = refl; limit = refl; offset = refl })
     (record { source = head_of (out-Core (out-Select sel).first).from tt; from = refl; origin = refl; alias = refl; on = refl; using = refl; inner = refl; group = refl; having = refl; repeats = refl })
     (key_terms the.Vehicle) (column_terms the.Vehicle) (column_names the.Vehicle) (collations the.Vehicle) refl refl refl refl refl
+looks_up keyed.Capacity s at tree stands =
+    let p = parsed (look_up_text keyed.Capacity) in
+    let sel = selection p.statement tt in
+    select_means s (codes "capacity") (with_tree the.Capacity tree) at stands (look_up_text keyed.Capacity) p refl refl sel refl
+    (record { with = refl; others = refl; order = refl; limit = refl; offset = refl })
+    (record { source = head_of (out-Core (out-Select sel).first).from tt; from = refl; origin = refl; alias = refl; on = refl; using = refl; inner = refl; group = refl; having = refl; repeats = refl })
+    (key_terms the.Capacity) (column_terms the.Capacity) (column_names the.Capacity) (collations the.Capacity) refl refl refl refl refl
 looks_up keyed.Load s at tree stands =
     let p = parsed (look_up_text keyed.Load) in
     let sel = selection p.statement tt in

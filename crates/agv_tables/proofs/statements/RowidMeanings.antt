@@ -167,6 +167,39 @@ rowids_asked the.Used s at tree stands =
     select_means s (codes "used") (with_tree the.Used tree) at stands (rowids_text the.Used) p refl refl sel refl
     (record { with = refl; others = refl; order = refl; limit = refl; offset = refl }) plain [] rowid_terms rowid_names (None ∷ []) (rw low refl) refl refl
     (rowids_named (with_tree the.Used tree) (codes "used") core plain _ shows refl (sole (with_tree the.Used tree)) 0 refl refl) refl
+rowids_asked the.Capacity s at tree stands =
+    let p = parsed (rowids_text the.Capacity) in
+    let sel = selection p.statement tt in
+    let core = (out-Select sel).first in
+    let all = (out-Core core).shown in
+    let low = is_low tree stands.low in
+    let plain : IsPlainFrom core (codes "capacity") = record { source = head_of (out-Core core).from tt; from = refl; origin = refl; alias = refl; on = refl; using = refl; inner = refl; group = refl; having = refl; repeats = refl } in
+    let shows : ShowsRowid (with_tree the.Capacity tree) all (shown_in (out-Shown (first_of_all all tt)) tt) = record { one = first_of_all all tt; text = _; word = _; all_is = refl; one_is = refl; expr_is = refl; names = record { unnamed = refl; rowid = refl; low = low } } in
+    select_means s (codes "capacity") (with_tree the.Capacity tree) at stands (rowids_text the.Capacity) p refl refl sel refl
+    (record { with = refl; others = refl; order = refl; limit = refl; offset = refl }) plain [] rowid_terms rowid_names (None ∷ []) (rw low refl) refl refl
+    (rowids_named (with_tree the.Capacity tree) (codes "capacity") core plain _ shows refl (sole (with_tree the.Capacity tree)) 0 refl refl) refl
+rowids_asked the.Journey s at tree stands =
+    let p = parsed (rowids_text the.Journey) in
+    let sel = selection p.statement tt in
+    let core = (out-Select sel).first in
+    let all = (out-Core core).shown in
+    let low = is_low tree stands.low in
+    let plain : IsPlainFrom core (codes "journey") = record { source = head_of (out-Core core).from tt; from = refl; origin = refl; alias = refl; on = refl; using = refl; inner = refl; group = refl; having = refl; repeats = refl } in
+    let shows : ShowsRowid (with_tree the.Journey tree) all (shown_in (out-Shown (first_of_all all tt)) tt) = record { one = first_of_all all tt; text = _; word = _; all_is = refl; one_is = refl; expr_is = refl; names = record { unnamed = refl; rowid = refl; low = low } } in
+    select_means s (codes "journey") (with_tree the.Journey tree) at stands (rowids_text the.Journey) p refl refl sel refl
+    (record { with = refl; others = refl; order = refl; limit = refl; offset = refl }) plain [] rowid_terms rowid_names (None ∷ []) (rw low refl) refl refl
+    (rowids_named (with_tree the.Journey tree) (codes "journey") core plain _ shows refl (sole (with_tree the.Journey tree)) 0 refl refl) refl
+rowids_asked the.Act s at tree stands =
+    let p = parsed (rowids_text the.Act) in
+    let sel = selection p.statement tt in
+    let core = (out-Select sel).first in
+    let all = (out-Core core).shown in
+    let low = is_low tree stands.low in
+    let plain : IsPlainFrom core (codes "act") = record { source = head_of (out-Core core).from tt; from = refl; origin = refl; alias = refl; on = refl; using = refl; inner = refl; group = refl; having = refl; repeats = refl } in
+    let shows : ShowsRowid (with_tree the.Act tree) all (shown_in (out-Shown (first_of_all all tt)) tt) = record { one = first_of_all all tt; text = _; word = _; all_is = refl; one_is = refl; expr_is = refl; names = record { unnamed = refl; rowid = refl; low = low } } in
+    select_means s (codes "act") (with_tree the.Act tree) at stands (rowids_text the.Act) p refl refl sel refl
+    (record { with = refl; others = refl; order = refl; limit = refl; offset = refl }) plain [] rowid_terms rowid_names (None ∷ []) (rw low refl) refl refl
+    (rowids_named (with_tree the.Act tree) (codes "act") core plain _ shows refl (sole (with_tree the.Act tree)) 0 refl refl) refl
 
 pub rowids_typed : (name : TableName) → IsTypedTo name [] rowid_terms []
 rowids_typed the.Meta = refl
@@ -180,6 +213,9 @@ rowids_typed the.Load = refl
 rowids_typed the.Job = refl
 rowids_typed the.Hold = refl
 rowids_typed the.Used = refl
+rowids_typed the.Capacity = refl
+rowids_typed the.Journey = refl
+rowids_typed the.Act = refl
 
 pub rowids_whole : (name : TableName) → IsWholeText (rowids_text name) 0
 unfolding everything
@@ -194,6 +230,9 @@ rowids_whole the.Load = (lit≤ tt, refl)
 rowids_whole the.Job = (lit≤ tt, refl)
 rowids_whole the.Hold = (lit≤ tt, refl)
 rowids_whole the.Used = (lit≤ tt, refl)
+rowids_whole the.Capacity = (lit≤ tt, refl)
+rowids_whole the.Journey = (lit≤ tt, refl)
+rowids_whole the.Act = (lit≤ tt, refl)
 
 select_texts : (name : TableName) → IsSelectText (rowids_text name)
 unfolding everything
@@ -208,6 +247,9 @@ select_texts the.Load = tt
 select_texts the.Job = tt
 select_texts the.Hold = tt
 select_texts the.Used = tt
+select_texts the.Capacity = tt
+select_texts the.Journey = tt
+select_texts the.Act = tt
 
 pub rowids_select : (name : TableName) (sql : List ℕ) → sql ≡ rowids_text name → IsSelectText sql
 rowids_select name sql text = subst IsSelectText (sym text) (select_texts name)
