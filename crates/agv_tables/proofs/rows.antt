@@ -6,12 +6,11 @@ pub mod ColumnsWritten
 pub mod FittingRows
 pub mod KeyedRows
 pub mod LawfulHolds
-pub mod LawfulSingle
 pub mod LawfulTrips
 pub mod LawfulValues
 pub mod ListsFollow
 pub mod ListsHeld
 pub mod ListsTell
 pub mod SpreadRows
-pub mod TripLineLemmas
+pub mod TripRowLaws
 pub mod TripsTell

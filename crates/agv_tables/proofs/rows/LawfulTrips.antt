@@ -1,22 +1,23 @@
 -- The rows of the open trips of a lawful world: whose they are, and what their values are.
-use Rattle.std.proofs.Common.{◌≡◌, ℕ, ◌+◌, ◌≤◌, true, false, cond, List, [], ◌∷◌, map, length, Option, None, Some, IfSome, inl, inr, refl, sym, ap, subst, ◌∙◌, arith}
+use Rattle.std.proofs.Common.{◌≡◌, ℕ, ◌+◌, ◌<◌, ◌≤◌, true, false, cond, List, [], ◌∷◌, map, length, Option, None, Some, IfSome, refl, sym, ap, subst, ◌∙◌, arith}
 use Rattle.std.proofs.lemmas.Bool.{and_parts}
 use Rattle.std.proofs.lemmas.Option.{same_Some}
 use Rattle.std.specs.Cmp.{Equal-is}
 use Rattle.std.specs.Cmp.Lexicographic.{nat_list_cmp_total}
 use Rattle.std.specs.FinMap as finite
 use Rattle.std.specs.List.{AllByRecursion, enumerate_from}
+use Rattle.std.specs.Option.{option_map}
 use Rattle.std.specs.Ordering.{eq_by_cmp}
 use Rattle.agv_header.specs.KeyOrder.{key_cmp-total}
 use Rattle.agv_header.specs.Name.{IsName, name_cmp}
 use Rattle.agv_header.specs.declared.key.VehicleKey.{VehicleKey}
-use Rattle.agv_layout.specs.Layout.{IsNode, KeepsRules, Layout}
-use Rattle.agv_layout.specs.Walk.{IsWalk}
 use Rattle.agv_layout.specs.declared.edge.Edge.{Edge}
 use Rattle.agv_layout.specs.declared.edge.EdgeEnds.{EdgeEnds}
-use Rattle.agv_order.specs.Trips.{task_of}
-use Rattle.agv_order.specs.WellFormed.{IsConfirmed, IsRising}
 use Rattle.agv_order.specs.declared.trip.Trip.{Trip}
+use Rattle.agv_trip_rows.specs.RowValues.{IsActKey, IsActValue, IsJourneyValue}
+use Rattle.agv_trip_rows.specs.TripRows.{journey_of, journeys_of}
+use Rattle.agv_trip_rows.specs.declared.act_row.ActRow.{ActRow}
+use Rattle.agv_trip_rows.specs.declared.journey_row.JourneyRow.{JourneyRow}
 use Rattle.agv_world.specs.GoodOrder.{InGoodOrder, IsOfLayout}
 use Rattle.agv_world.specs.KeyOrders.{leg_cmp-IsAntisymmetric, leg_cmp-total}
 use Rattle.agv_world.specs.Keys.{leg_cmp}
@@ -26,14 +27,20 @@ use Rattle.agv_world.specs.Told.{names_vehicle}
 use Rattle.agv_world.specs.Worlds.{Vehicle, World}
 use Rattle.agv_world.specs.declared.key.LegKey.{LegKey}
 use Rattle.agv_world.specs.declared.row.TripRow.{TripRow}
-use Rattle.agv_tables.specs.rows.RowLists.{CarriesOneEach}
-use Rattle.agv_tables.specs.rows.TripLines.{acts_of, line_of, trip_told}
-use Rattle.agv_tables.specs.rows.TypedRows.{IsLegKey, IsNumber, IsTripLine}
-use Rattle.agv_tables.specs.declared.rows.trip_line.TripLine.{TripLine}
-use Rattle.agv_tables.proofs.rows.LawfulSingle.{of_one}
-use Rattle.agv_tables.proofs.rows.LawfulValues.{edge_named, node_named, node_rules}
+use Rattle.agv_tables.specs.schema.SchemaNumbers.{desk_seats}
+use Rattle.agv_tables.specs.rows.DecodedTrips.{is_driven_by}
+use Rattle.agv_tables.specs.rows.TypedRows.{IsActRow, IsJourneyRow, IsLegKey, IsNumber}
+use Rattle.agv_tables.proofs.rows.LawfulValues.{edge_named}
 use Rattle.agv_tables.proofs.rows.SpreadRows.{spread_from}
-use Rattle.agv_tables.proofs.rows.TripLineLemmas.{same_name, trip_told_back}
+use Rattle.agv_tables.proofs.rows.TripRowLaws.{JourneysStand}
+use Rattle.agv_tables.proofs.sql.KeyTests.{names_apart, same_name}
+
+of_one : {Y : Type 0} (q k : List ℕ) (x y : Y) → finite.find name_cmp q ((k, x) ∷ []) ≡ Some y → (q ≡ k) × (x ≡ y)
+of_one q k x y found =
+    elim (eq_by_cmp name_cmp q k) as (λ b. eq_by_cmp name_cmp q k ≡ b → cond b (Some x) None ≡ Some y → (q ≡ k) × (x ≡ y)) [
+      | true ↦ λ t is. (names_apart q k ((Equal-is (name_cmp q k)).0 t), same_Some x y is)
+      | false ↦ λ t is. absurd (cc is)
+    ] refl found
 
 -- ---- whose a row is
 
@@ -77,58 +84,52 @@ one_order world key a b at bt one two =
     let trips : first.trip ≡ second.trip = same_Some _ _ (sym first.has ∙ ap (λ (vehicle : Vehicle). vehicle.trip) vehicles ∙ second.has) in
     first.order_is ∙ ap (λ (trip : Trip). trip.order) trips ∙ sym second.order_is
 
--- ---- the values of a line
+-- ---- the rows of journeys and acts
 
--- no walk has an unknown name at an end
-abbrev pub JoinsNodes : Type 0
-JoinsNodes = (layout : Layout) → KeepsRules layout → (from to : List ℕ) (ids : List (List ℕ)) → IsWalk layout from ids to → IsNode layout from × IsNode layout to
+journey_from : (o : Option TripRow) (journey : JourneyRow) → option_map journey_of o ≡ Some journey → (trip : TripRow) × (o ≡ Some trip) × (journey_of trip ≡ journey)
+journey_from None journey is = absurd (cc is)
+journey_from (Some trip) journey is = (trip, refl, same_Some (journey_of trip) journey is)
 
-confirmed_value : (trip : Trip) (o : Option ℕ) → IsConfirmed trip o → trip.sent ≤ 200 → IfSome o IsNumber
-confirmed_value trip None is low = tt
-confirmed_value trip (Some update) (inl same) low = omega (arith, same, low)
-confirmed_value trip (Some update) (inr before) low = let next = before.0 in omega (arith, next, low)
+-- journeys that name one vehicle are of one order
+pub one_journey : JourneysStand → (world : World) (key : VehicleKey) (a b : List ℕ × JourneyRow)
+    → finite.get (journeys_of (rows_of world).trips) a.0 ≡ Some a.1 → finite.get (journeys_of (rows_of world).trips) b.0 ≡ Some b.1
+    → is_driven_by key a ≡ true → is_driven_by key b ≡ true → a.0 ≡ b.0
+one_journey stand world key a b at bt one two =
+    let trips = (rows_of world).trips in
+    let first = journey_from (finite.get trips a.0) a.1 (sym (stand trips a.0) ∙ at) in
+    let second = journey_from (finite.get trips b.0) b.1 (sym (stand trips b.0) ∙ bt) in
+    one_order world key (a.0, first.0) (b.0, second.0) first.1 second.1
+    (ap (λ (journey : JourneyRow). is_driven_by key (a.0, journey)) first.2 ∙ one)
+    (ap (λ (journey : JourneyRow). is_driven_by key (b.0, journey)) second.2 ∙ two)
 
-module _ (joins : JoinsNodes) (world : World) (lawful : IsLawful 1 world) (single : CarriesOneEach (rows_of world)) where
-  pub line_value : (order : List ℕ) (row : TripRow) (line : TripLine) → finite.get (rows_of world).trips order ≡ Some row → line_of order row ≡ Some line → IsTripLine line
-  line_value order row line at is =
-      let own = trip_own world order row at in
-      let key = own.key in
-      let trip = own.trip in
-      let kept = lawful.vehicles.trips key own.vehicle trip own.there own.has in
-      let vehicle = lawful.vehicles.vehicles key own.vehicle own.there in
-      let planned = kept.well_formed.planned in
-      let under = kept.well_formed.under_way in
-      let back = trip_told_back order row line is in
-      let single_one = single.trips order row at in
-      let same_line : single_one.line ≡ line = same_Some _ _ (sym single_one.is ∙ is) in
-      let job_known = subst (λ (l : TripLine). finite.get world.jobs l.job ≡ Some single_one.job) same_line single_one.known in
-      let told : trip_told line back.job ≡ trip_row key trip = back.trip ∙ sym own.row_is in
-      let rising : IsRising 0 (map task_of (acts_of line back.job)) (length trip.edges) = subst (λ acts. IsRising 0 (map task_of acts) (length trip.edges)) (sym (ap (λ (r : TripRow). r.acts) told)) planned.rising in
-      let short = planned.short in
-      let sent_low : trip.sent ≤ 200 = at_most trip.sent trip.base (length trip.edges) under.sent_released under.on_way short in
-      let rules = node_rules world lawful own.vehicle.row.node vehicle.node in
-      record {
-        order = subst IsName (sym (back.order ∙ own.order_is)) (lawful.vehicles.orders_named trip.order (lawful.vehicles.used key trip (own.vehicle, own.there, own.has)));
-        vehicle = subst Rattle.agv_world.specs.Lawful.IsKey (sym (ap (λ (r : TripRow). r.vehicle) told)) (lawful.vehicles.vehicles_named key own.vehicle own.there);
-        job = lawful.loads.jobs_named line.job single_one.job job_known;
-        start = subst IsName (sym (ap (λ (r : TripRow). r.start) told)) (node_named world lawful trip.start (joins world.layout rules trip.start planned.walk.0 _ planned.walk.1).0);
-        first = small line.first (at_most line.first trip.base (length trip.edges) (subst (λ n. n ≤ trip.base) (sym (ap (λ (r : TripRow). r.first) told)) under.in_base) under.on_way short);
-        base = small line.base (at_most line.base trip.base (length trip.edges) (subst (λ n. n ≤ trip.base) (sym (ap (λ (r : TripRow). r.base) told)) (omega arith)) under.on_way short);
-        sent = small line.sent (at_most line.sent trip.base (length trip.edges) (subst (λ n. n ≤ trip.base) (sym (ap (λ (r : TripRow). r.sent) told)) under.sent_released) under.on_way short);
-        confirmed = subst (λ (o : Option ℕ). IfSome o IsNumber) (sym (ap (λ (r : TripRow). r.confirmed) told)) (confirmed_value trip trip.confirmed under.confirmed sent_low);
-        seen = small line.seen (at_most line.seen trip.base (length trip.edges) (subst (λ n. n ≤ trip.base) (sym (ap (λ (r : TripRow). r.seen) told)) under.seen_released) under.on_way short);
-        pick_at = small line.pick_at (placed line.pick_at line.drop_at (length trip.edges) rising.1.0 rising.1.1 short).0;
-        drop_at = small line.drop_at (placed line.pick_at line.drop_at (length trip.edges) rising.1.0 rising.1.1 short).1;
-      }
-    where
-      at_most : (n base edges : ℕ) → n ≤ base → base ≤ edges → edges ≤ 200 → n ≤ 200
-      at_most n base edges p q r = omega arith
+-- ---- their values
 
-      small : (n : ℕ) → n ≤ 200 → IsNumber n
-      small n p = omega arith
+small : (n : ℕ) → n ≤ 200 → IsNumber n
+small n low = omega arith
 
-      placed : (pick drop edges : ℕ) → pick ≤ drop → drop ≡ edges → edges ≤ 200 → (pick ≤ 200) × (drop ≤ 200)
-      placed pick drop edges p q r = (omega arith, omega arith)
+few : (n : ℕ) → n < 8 → IsNumber n
+few n low = omega arith
+
+confirmed_value : (o : Option ℕ) → ((update : ℕ) → o ≡ Some update → update ≤ 200) → IfSome o IsNumber
+confirmed_value None low = tt
+confirmed_value (Some update) low = small update (low update refl)
+
+pub journey_typed : (journey : JourneyRow) → IsJourneyValue journey → IsJourneyRow journey
+journey_typed journey value = record {
+  vehicle = value.vehicle;
+  start = value.start;
+  first = small journey.first value.first;
+  base = small journey.base value.base;
+  sent = small journey.sent value.sent;
+  confirmed = confirmed_value journey.confirmed value.confirmed;
+  seen = small journey.seen value.seen;
+}
+
+pub act_key_typed : (key : LegKey) → IsActKey key → IsLegKey key
+act_key_typed key value = (value.order, few key.k value.number)
+
+pub act_typed : (act : ActRow) → IsActValue act → IsActRow act
+act_typed act value = record { job = value.job; place_at = small act.place_at value.place_at }
 
 -- ---- the rows of edges
 
@@ -157,7 +158,7 @@ leg_of world good key vehicle (Some trip) is at q id found =
     let low : q.k ≤ 0 + length trip.edges = one.1 in
     (trip, is, one.0, omega (arith, low), one.2, one.3, one.4)
 
-module _ (world : World) (lawful : IsLawful 1 world) (good : InGoodOrder world) where
+module _ (world : World) (lawful : IsLawful desk_seats world) (good : InGoodOrder world) where
   -- the layout has the edge of each row, and the values of the row are in their ranges
   pub leg_value : (q : LegKey) (id : List ℕ) → finite.get (rows_of world).legs q ≡ Some id → IsLegKey q × IsName id × (ends : EdgeEnds) × (finite.get world.layout.edges id ≡ Some ends)
   leg_value q id at =

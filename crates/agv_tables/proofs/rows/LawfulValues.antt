@@ -113,8 +113,8 @@ row_from : (o : Option Vehicle) (row : VehicleRow) → option_map (λ (vehicle :
 row_from None row is = absurd (cc is)
 row_from (Some vehicle) row is = (vehicle, refl, cc is)
 
-squeezed : (n : ℕ) → 1 ≤ n → n ≤ 1 → n ≡ 1
-squeezed n low high = omega arith
+few_places : (n : ℕ) → n ≤ desk_seats → n ≤ 4294967295
+few_places n low = omega arith
 
 few_enough : (n : ℕ) → n ≤ 999 → n ≤ 4294967295
 few_enough n low = omega arith
@@ -182,7 +182,7 @@ module _ (world : World) (lawful : IsLawful desk_seats world) where
 
   vehicle_of : (vehicle : VehicleRow) → IsVehicleOf desk_seats world.layout vehicle → IsVehicleRow vehicle
   vehicle_of vehicle is = record {
-    capacity = squeezed vehicle.capacity is.carries is.seated;
+    capacity = few_places vehicle.capacity is.seated;
     node = node_named vehicle.node is.node;
     rest = at_some vehicle.rest (rest_value vehicle.node vehicle.rest is.rest);
     last_header = at_some vehicle.last_header is.header;

@@ -27,10 +27,8 @@ use Rattle.agv_tables.specs.declared.rows.trip_line.TripLine.{TripLine}
 use Rattle.agv_tables.proofs.rows.KeyedRows.{on_table-alike, on_table-twice, rows-removed, rows-written, row-removed, row-written}
 use Rattle.agv_tables.proofs.sql.KeyTests.{node_tested, edge_tested, station_tested, vehicle_tested, line_tested, leg_tested, load_tested, job_tested, hold_tested, used_tested}
 use Rattle.agv_tables.proofs.sql.Members.{marked-insert}
+pub use Rattle.agv_tables.proofs.sql.KeyTests.{names_apart}
 use Rattle.agv_tables.proofs.rows.TripLineLemmas.{trip_told_back}
-
-pub names_apart : IsAntisymmetric name_cmp
-names_apart = slice_cmp-IsAntisymmetric nat_cmp-IsAntisymmetric
 
 -- ---- a table of lists that are alike
 

@@ -1,8 +1,9 @@
 -- SQL finds the row of a key by its columns.
-use Rattle.std.proofs.Common.{◌≡◌, ℕ, pos, Bool, true, false, ◌&&◌, List, [], ◌∷◌, Some, refl, sym, ap, ◌∙◌}
-use Rattle.std.specs.Cmp.{both_tied, both_ways, eq_by_cmp_equiv, Equal-is, tied_itself, nat_cmp_total, int_cmp_total}
-use Rattle.std.specs.Cmp.Lexicographic.{nat_list_cmp_total}
-use Rattle.std.specs.FinMap.{nat_cmp-IsAntisymmetric, int_cmp-IsAntisymmetric}
+use Rattle.std.proofs.Common.{◌≡◌, ℕ, pos, nat_eq, Bool, true, false, ◌&&◌, Decides, List, [], ◌∷◌, Some, refl, sym, ap, ◌∙◌}
+use Rattle.std.proofs.lemmas.Slice.Eq.{slice_eq-Decides}
+use Rattle.std.specs.Cmp.{both_tied, both_ways, eq_by_cmp_equiv, Equal-is, tied_itself, nat_cmp_total, int_cmp_total, unsigned_Decides}
+use Rattle.std.specs.Cmp.Lexicographic.{nat_list_cmp_total, pointwise, texts_ties}
+use Rattle.std.specs.FinMap.{IsAntisymmetric, nat_cmp-IsAntisymmetric, int_cmp-IsAntisymmetric, slice_cmp-IsAntisymmetric}
 use Rattle.std.specs.Ordering.{eq_by_cmp, is_eq, nat_cmp, int_cmp}
 use Rattle.sqlite_value.specs.declared.value.Value.TheVariants.{Int, Text}
 use Rattle.sqlite_value.specs.Order.{value_cmp}
@@ -17,6 +18,9 @@ use Rattle.agv_layout.specs.declared.edge.EdgeEnds.{EdgeEnds}
 use Rattle.agv_layout.specs.declared.station.StationSite.{StationSite}
 use Rattle.agv_stock.specs.declared.place.Place.{Place}
 use Rattle.agv_stock.specs.declared.place.Place.TheVariants as place
+use Rattle.agv_trip_rows.specs.TripRows.{is_of}
+use Rattle.agv_trip_rows.specs.declared.act_row.ActRow.{ActRow}
+use Rattle.agv_trip_rows.specs.declared.journey_row.JourneyRow.{JourneyRow}
 use Rattle.agv_world.specs.Keys.{leg_cmp, use_cmp, use_rank}
 use Rattle.agv_world.specs.declared.key.LegKey.{LegKey}
 use Rattle.agv_world.specs.declared.key.UseKey.{UseKey}
@@ -25,10 +29,11 @@ use Rattle.agv_world.specs.declared.key.UseKind.TheVariants as used
 use Rattle.agv_world.specs.declared.row.JobRow.{JobRow}
 use Rattle.agv_world.specs.declared.row.VehicleRow.{VehicleRow}
 use Rattle.agv_tables.specs.rows.ValueEncodings.{number_cell, use_name}
-use Rattle.agv_tables.specs.rows.Columns.{meta_columns, node_columns, edge_columns, station_columns, vehicle_columns, trip_columns, leg_columns, load_columns, job_columns, hold_columns, used_columns}
-use Rattle.agv_tables.specs.rows.DeskRows.{has_key, is_equal}
+use Rattle.agv_tables.specs.rows.Columns.{meta_columns, node_columns, edge_columns, station_columns, vehicle_columns, room_columns, journey_columns, act_columns, leg_columns, load_columns, job_columns, hold_columns, used_columns}
+use Rattle.agv_tables.specs.rows.DeskRows.{has_columns, has_key, is_equal}
 use Rattle.agv_tables.specs.rows.RowKeys.{name_key, vehicle_key, leg_key, hold_key}
-use Rattle.agv_tables.specs.declared.rows.trip_line.TripLine.{TripLine}
+use Rattle.agv_tables.specs.statements.RowTexts.{columns_deleted}
+use Rattle.agv_tables.specs.declared.rows.world_table.WorldTable.TheVariants as table
 use Rattle.agv_tables.specs.declared.schema.table_name.TableName.TheVariants as the
 
 truth_of : (b : Bool) → is_true (from_truth (Some b)) ≡ b
@@ -41,10 +46,24 @@ and_true false = refl
 
 -- ---- values
 
+pub names_apart : IsAntisymmetric name_cmp
+names_apart = slice_cmp-IsAntisymmetric nat_cmp-IsAntisymmetric
+
+-- names are the same where they have the same bytes
+pub same_name : (a b : List ℕ) → Decides (pointwise nat_eq a b) (a ≡ b)
+same_name a b = slice_eq-Decides unsigned_Decides a b (pointwise nat_eq a b) refl
+
 -- texts are equal where they are the same bytes
 pub texts_equal : (k q : List ℕ) → is_equal (Text q) (Text k) ≡ eq_by_cmp name_cmp k q
 unfolding binary
 texts_equal k q = truth_of (is_eq (value_cmp (Text q) (Text k))) ∙ ap is_eq (value_cmp-Text q k) ∙ (eq_by_cmp_equiv nat_list_cmp_total).symm q k
+
+-- and so it is read the other way round
+pub text_is : (q k : List ℕ) → is_equal (Text q) (Text k) ≡ pointwise nat_eq q k
+text_is q k = texts_equal k q ∙ (eq_by_cmp_equiv nat_list_cmp_total).symm k q ∙ sym (texts_ties q k)
+
+pub last_text_is : (q k : List ℕ) → (is_equal (Text q) (Text k) && true) ≡ pointwise nat_eq q k
+last_text_is q k = and_true _ ∙ text_is q k
 
 same_pos : (a b : ℕ) → pos a ≡ pos b → a ≡ b
 same_pos a b e = cc
@@ -82,8 +101,18 @@ station_tested k q x = one_name k q
 pub vehicle_tested : (k q : VehicleKey) (x : VehicleRow) → has_key the.Vehicle (vehicle_key k) (vehicle_columns q x) ≡ eq_by_cmp key_cmp k q
 vehicle_tested k q x = both_tied _ _ (name_cmp k.manufacturer q.manufacturer) (name_cmp k.serial q.serial) (texts_equal k.manufacturer q.manufacturer) (one_name k.serial q.serial)
 
-pub line_tested : (k : List ℕ) (line : TripLine) → has_key the.Trip (name_key k) (trip_columns line) ≡ eq_by_cmp name_cmp k line.order
-line_tested k line = one_name k line.order
+pub capacity_tested : (k q : VehicleKey) (x : VehicleRow) → has_key the.Capacity (vehicle_key k) (room_columns q x) ≡ eq_by_cmp key_cmp k q
+capacity_tested k q x = both_tied _ _ (name_cmp k.manufacturer q.manufacturer) (name_cmp k.serial q.serial) (texts_equal k.manufacturer q.manufacturer) (one_name k.serial q.serial)
+
+pub journey_tested : (k q : List ℕ) (x : JourneyRow) → has_key the.Journey (name_key k) (journey_columns q x) ≡ eq_by_cmp name_cmp k q
+journey_tested k q x = one_name k q
+
+pub act_tested : (k q : LegKey) (x : ActRow) → has_key the.Act (leg_key k) (act_columns q x) ≡ eq_by_cmp leg_cmp k q
+act_tested k q x = both_tied _ _ (name_cmp k.order q.order) (nat_cmp k.k q.k) (texts_equal k.order q.order) (and_true _ ∙ numbers_equal k.k q.k)
+
+-- the acts of an order
+pub act_order_tested : (order : List ℕ) (q : LegKey) (x : ActRow) → has_columns (columns_deleted table.Act) (name_key order) (act_columns q x) ≡ is_of order (q, x)
+act_order_tested order q x = last_text_is q.order order
 
 pub leg_tested : (k q : LegKey) (x : List ℕ) → has_key the.Leg (leg_key k) (leg_columns q x) ≡ eq_by_cmp leg_cmp k q
 leg_tested k q x = both_tied _ _ (name_cmp k.order q.order) (nat_cmp k.k q.k) (texts_equal k.order q.order) (and_true _ ∙ numbers_equal k.k q.k)

@@ -1,5 +1,5 @@
 //! What the rows of a lawful world tell of its open trips. The function does nothing: its clauses are the law.
-ghost use Rattle.std.specs.Prelude.{◌≡◌, ℕ, List, Some, filter};
+ghost use Rattle.std.specs.Prelude.{◌≡◌, ℕ, List, Some, filter, true};
 ghost use Rattle.std.specs.FinMap as finite;
 ghost use Rattle.std.specs.Option.{option_and_then};
 ghost use Rattle.agv_header.specs.Name.{IsName};
@@ -15,7 +15,7 @@ ghost use Rattle.agv_world.specs.Rows.{rows_of};
 ghost use Rattle.agv_world.specs.Worlds.{World};
 ghost use Rattle.agv_world.specs.declared.key.LegKey.{LegKey};
 ghost use Rattle.agv_tables.specs.schema.SchemaNumbers.{desk_seats};
-ghost use Rattle.agv_tables.specs.rows.DecodedTrips.{journey_for, told_by_journey, trips_with};
+ghost use Rattle.agv_tables.specs.rows.DecodedTrips.{is_driven_by, journey_for, told_by_journey, trips_with};
 ghost use Rattle.agv_tables.specs.rows.TypedRows.{IsActRow, IsJourneyRow, IsLegKey};
 
 use agv_trip_rows::row_laws::{rows_are_of_trips, rows_have_keys, tables_have_rows};
@@ -24,11 +24,15 @@ use agv_world::lawful_laws::is_in_good_order;
 use agv_world::laws::tables_tell_the_world;
 
 /// In a lawful world the open trip of a vehicle is what the journey that names the vehicle tells, with the acts of its order,
-/// the rows of their jobs and the rows of its edges: there is a trip just where there is a journey. The acts of any order are
-/// told, and all trips by all journeys and acts. Numbers are in their ranges, and names are names.
+/// the rows of their jobs and the rows of its edges: there is a trip just where there is a journey. Journeys that name one
+/// vehicle are one. The acts of any order are told, and all trips by all journeys and acts. Numbers are in their ranges, and names are
+/// names.
 pub fn rows_tell_trips()
     ensures trip { (world : World) → IsLawful desk_seats world → (key : VehicleKey)
         → trip_of world key ≡ option_and_then (told_by_journey (rows_of world)) (journey_for (rows_of world) key) }
+    ensures one { (world : World) → IsLawful desk_seats world → (key : VehicleKey) (a b : List ℕ × JourneyRow)
+        → finite.get (journeys_of (rows_of world).trips) a.0 ≡ Some a.1 → finite.get (journeys_of (rows_of world).trips) b.0 ≡ Some b.1
+        → is_driven_by key a ≡ true → is_driven_by key b ≡ true → a.0 ≡ b.0 }
     ensures acts { (world : World) → IsLawful desk_seats world → (order : List ℕ)
         → (acts : List Act) × (acts_told (rows_of world).jobs 0 (filter (is_of order) (finite.entries (acts_of (rows_of world).trips))) ≡ Some acts) }
     ensures all { (world : World) → IsLawful desk_seats world

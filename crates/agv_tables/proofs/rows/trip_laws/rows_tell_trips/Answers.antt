@@ -1,10 +1,18 @@
-use Rattle.agv_tables.proofs.rows.LawfulTrips.{line_value}
-use Rattle.agv_tables.proofs.rows.TripsTell.{line_known, trip_again}
+use Rattle.agv_tables.specs.schema.SchemaNumbers.{desk_seats}
+use Rattle.agv_tables.proofs.rows.LawfulTrips.{act_key_typed, act_typed, journey_typed, one_journey}
+use Rattle.agv_tables.proofs.rows.TripsTell.{acts_known, all_told, trip_again}
 use Rattle.agv_tables.proofs.rows.trip_laws.rows_tell_trips.Goals as goal
 
 pub returns : goal.returns
 returns c = record {
-  trip = λ world lawful. trip_again c.tables_tell_the_world.ensures world (c.is_in_good_order.ensures 1 world lawful) (c.lawful_worlds_carry_one_each.ensures world lawful);
-  known = λ world lawful. line_known c.tables_tell_the_world.ensures world (c.is_in_good_order.ensures 1 world lawful) (c.lawful_worlds_carry_one_each.ensures world lawful);
-  line = λ world lawful. line_value c.joins_nodes.ensures world lawful (c.lawful_worlds_carry_one_each.ensures world lawful);
+  trip = λ world lawful.
+      trip_again c.rows_have_keys.ensures.journeys_listed c.rows_have_keys.ensures.acts_listed c.rows_are_of_trips.ensures.acts c.rows_tell_one_table.ensures.acts world (c.lawful_rows_tell_trips.ensures.all desk_seats world lawful).of_jobs
+      c.tables_tell_the_world.ensures (c.is_in_good_order.ensures desk_seats world lawful);
+  one = λ world lawful. one_journey c.tables_have_rows.ensures.journeys world;
+  acts = λ world lawful.
+      acts_known c.rows_have_keys.ensures.journeys_listed c.rows_have_keys.ensures.acts_listed c.rows_are_of_trips.ensures.acts c.rows_tell_one_table.ensures.acts world (c.lawful_rows_tell_trips.ensures.all desk_seats world lawful).of_jobs;
+  all = λ world lawful.
+      all_told c.rows_have_keys.ensures.journeys_listed c.rows_have_keys.ensures.acts_listed c.rows_are_of_trips.ensures.acts c.rows_tell_one_table.ensures.acts world (c.lawful_rows_tell_trips.ensures.all desk_seats world lawful).of_jobs;
+  journeys = λ world lawful order journey at. let value = c.lawful_rows_have_values.ensures.journeys desk_seats world lawful order journey at in (value.0, journey_typed journey value.1);
+  act_values = λ world lawful key act at. let value = c.lawful_rows_have_values.ensures.acts desk_seats world lawful key act at in (act_key_typed key value.0, act_typed act value.1);
 }
