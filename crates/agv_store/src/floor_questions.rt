@@ -37,7 +37,7 @@ impl<S: Alter + Drop> Floor for KeyedFloor<S> {
     }
 
     fn seats(&self) -> u32 {
-        1
+        4
     }
 
     fn vehicle(&mut self, key: VehicleKey) -> Result<Option<VehicleRow>, Fault> {

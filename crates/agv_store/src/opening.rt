@@ -36,7 +36,7 @@ use std::alloc::Global;
 fn are_of_a_lawful_world(alloc: Global, tables: &World, holds: &HeldThings) -> Result<bool, Memory>
     ensures { IfOk result (λ are. IsTrue are ↔ ((world : WorldOf) × Keeps tables.now world × IsLawful desk_seats world × (holds.now.table ≡ (rows_of world).holds))) }
 {
-    Ok(tables.is_lawful(alloc, 1)? && holds.are_footprints(alloc, tables)?)
+    Ok(tables.is_lawful(alloc, 4)? && holds.are_footprints(alloc, tables)?)
 }
 
 // The counts of the world whose rows the desk's tables have, where they have the rows of a lawful one.
