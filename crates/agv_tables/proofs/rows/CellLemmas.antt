@@ -10,16 +10,19 @@ use Rattle.sqlite_value.specs.declared.value.Value.TheVariants.{Null, Int, Real,
 use Rattle.std.specs.Ordering.{int_eq}
 use Rattle.agv_header.specs.Name.{IsName, is_name}
 use Rattle.agv_message.specs.Instant.{instant_name}
+use Rattle.agv_message.specs.Order.{act_name}
 use Rattle.agv_message.specs.Status.{status_name, statuses}
 use Rattle.agv_message.specs.declared.instant.InstantKind.{InstantKind}
 use Rattle.agv_message.specs.declared.instant.InstantKind.TheVariants as instant
+use Rattle.agv_message.specs.declared.order.ActKind.{ActKind}
+use Rattle.agv_message.specs.declared.order.ActKind.TheVariants as act
 use Rattle.agv_message.specs.declared.status.Status.{Status}
 use Rattle.agv_message.specs.declared.status.Status.TheVariants as status
 use Rattle.agv_stock.specs.declared.job.Phase.{Phase}
 use Rattle.agv_stock.specs.declared.job.Phase.TheVariants as phase
 use Rattle.agv_world.specs.declared.key.UseKind.{UseKind}
 use Rattle.agv_world.specs.declared.key.UseKind.TheVariants as used
-use Rattle.agv_tables.specs.rows.ValueEncodings.{if_some, name_in, number_cell, number_in, flag_cell, flag_in, moment_in, word_in, phases, instants, use_kinds, place_kinds, thing_kinds, phase_name, phase_in, status_in, instant_in, place_name, place_kind_in, thing_name, thing_kind_in, use_name, use_in, is_absent, maybe_in}
+use Rattle.agv_tables.specs.rows.ValueEncodings.{if_some, name_in, number_cell, number_in, flag_cell, flag_in, moment_in, word_in, phases, instants, act_kinds, use_kinds, place_kinds, thing_kinds, phase_name, phase_in, status_in, instant_in, act_kind_in, place_name, place_kind_in, thing_name, thing_kind_in, use_name, use_in, is_absent, maybe_in}
 use Rattle.agv_tables.specs.declared.rows.words.PlaceKind.{PlaceKind}
 use Rattle.agv_tables.specs.declared.rows.words.ThingKind.{ThingKind}
 
@@ -85,6 +88,10 @@ status_written = word_written status_name statuses
 pub instant_written : (v : Value) (one : InstantKind) → instant_in v ≡ Some one → v ≡ Text (instant_name one)
 unfolding instant_in
 instant_written = word_written instant_name instants
+
+pub act_kind_written : (v : Value) (one : ActKind) → act_kind_in v ≡ Some one → v ≡ Text (act_name one)
+unfolding act_kind_in
+act_kind_written = word_written act_name act_kinds
 
 pub use_written : (v : Value) (one : UseKind) → use_in v ≡ Some one → v ≡ Text (use_name one)
 unfolding use_in
@@ -170,6 +177,11 @@ unfolding instant_in
 instant_kept instant.StartPause = refl
 instant_kept instant.StopPause = refl
 instant_kept instant.CancelOrder = refl
+
+pub act_kind_kept : (one : ActKind) → act_kind_in (Text (act_name one)) ≡ Some one
+unfolding act_kind_in
+act_kind_kept act.Pick = refl
+act_kind_kept act.Drop = refl
 
 pub use_kept : (one : UseKind) → use_in (Text (use_name one)) ≡ Some one
 unfolding use_in

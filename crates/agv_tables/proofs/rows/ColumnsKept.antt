@@ -1,5 +1,5 @@
 -- The columns that a row of the world writes tell that row.
-use Rattle.std.proofs.Common.{◌≡◌, ℕ, pos, List, Option, None, Some, IfSome, codes, refl, sym, ap, ◌∙◌}
+use Rattle.std.proofs.Common.{◌≡◌, ℕ, pos, List, Option, None, Some, IfSome, codes, refl}
 use Rattle.sqlite.specs.Values.{or_null}
 use Rattle.sqlite_value.specs.declared.value.Value.TheVariants.{Int, Text}
 use Rattle.agv_header.specs.Name.{IsName}
@@ -12,6 +12,8 @@ use Rattle.agv_message.specs.Instant.{instant_name}
 use Rattle.agv_message.specs.declared.instant.InstantKind.{InstantKind}
 use Rattle.agv_stock.specs.declared.place.Place.{Place}
 use Rattle.agv_stock.specs.declared.place.Place.TheVariants as place
+use Rattle.agv_trip_rows.specs.declared.act_row.ActRow.{ActRow}
+use Rattle.agv_trip_rows.specs.declared.journey_row.JourneyRow.{JourneyRow}
 use Rattle.agv_world.specs.Lawful.{IsKey}
 use Rattle.agv_world.specs.declared.key.LegKey.{LegKey}
 use Rattle.agv_world.specs.declared.key.UseKey.{UseKey}
@@ -19,12 +21,12 @@ use Rattle.agv_world.specs.declared.row.JobRow.{JobRow}
 use Rattle.agv_world.specs.declared.row.Sent.{Sent}
 use Rattle.agv_world.specs.declared.row.VehicleRow.{VehicleRow}
 use Rattle.agv_tables.specs.rows.ValueEncodings.{name_in, number_cell, number_in, instant_in, maybe_in, place_kind_in, thing_kind_in}
-use Rattle.agv_tables.specs.rows.Columns.{meta_columns, meta_in, edge_columns, edge_in, station_columns, station_in, key_in, rest_in, sent_in, vehicle_columns, vehicle_in, trip_columns, trip_in, leg_columns, leg_in, load_columns, load_in, job_columns, job_in, hold_columns, hold_in, used_columns, used_in}
-use Rattle.agv_tables.specs.rows.TypedRows.{IsNumber, AreEnds, IsSpot, IsSending, IsVehicleRow, IsTripLine, IsLegKey, IsPlace, IsJobRow, IsThing}
-use Rattle.agv_tables.specs.declared.rows.trip_line.TripLine.{TripLine}
+use Rattle.agv_tables.specs.rows.Columns.{meta_columns, meta_in, edge_columns, edge_in, station_columns, station_in, key_in, rest_in, sent_in, vehicle_columns, vehicle_in, capacity_columns, capacity_in, journey_columns, journey_in, act_columns, act_in, leg_columns, leg_in, load_columns, load_in, job_columns, job_in, hold_columns, hold_in, used_columns, used_in}
+use Rattle.agv_tables.specs.rows.TypedRows.{IsNumber, AreEnds, IsSpot, IsSending, IsVehicleRow, IsJourneyRow, IsActRow, IsLegKey, IsPlace, IsJobRow, IsThing}
+use Rattle.agv_tables.specs.declared.rows.capacity_row.CapacityRow.{CapacityRow}
 use Rattle.agv_tables.specs.declared.rows.words.PlaceKind.TheVariants as kind
 use Rattle.agv_tables.specs.declared.rows.words.ThingKind.TheVariants as held
-use Rattle.agv_tables.proofs.rows.CellLemmas.{name_kept, number_kept, moment_kept, flag_kept, phase_kept, status_kept, instant_kept, use_kept, maybe_kept}
+use Rattle.agv_tables.proofs.rows.CellLemmas.{name_kept, number_kept, moment_kept, flag_kept, phase_kept, status_kept, instant_kept, act_kind_kept, use_kept, maybe_kept}
 
 -- ---- parts
 
@@ -89,17 +91,24 @@ edge_kept id ends is are = rw (name_kept id is, name_kept ends.start are.0, name
 pub station_kept : (id : List ℕ) (spot : StationSite) → IsName id → IsSpot spot → station_in (station_columns id spot) ≡ Some (id, spot)
 station_kept id spot is at = rw (name_kept id is, name_kept spot.node at.0, number_kept spot.capacity at.1)
 
-pub vehicle_kept : (key : VehicleKey) (row : VehicleRow) → IsKey key → IsVehicleRow row → vehicle_in (vehicle_columns key row) ≡ Some (key, row)
+pub vehicle_kept : (key : VehicleKey) (row : VehicleRow) → IsKey key → IsVehicleRow row → vehicle_in (vehicle_columns key row) ≡ Some (key, record row { capacity = 1 })
 unfolding vehicle_in
 vehicle_kept key row named is =
-    let told : vehicle_in (vehicle_columns key row) ≡ Some (key, record row { capacity = 1 }) =
-    rw (key_kept key named, name_kept row.node is.node, rest_kept row.rest is.rest, maybe_number_kept row.last_header is.last_header, maybe_name_kept row.reported is.reported, flag_kept row.ready, flag_kept row.paused, sent_kept row.orders is.orders, sent_kept row.instants is.instants, maybe_instant_kept row.pending) in
-    told ∙ ap (λ n. Some (key, record row { capacity = n })) (sym is.capacity)
+    rw (key_kept key named, name_kept row.node is.node, rest_kept row.rest is.rest, maybe_number_kept row.last_header is.last_header, maybe_name_kept row.reported is.reported, flag_kept row.ready, flag_kept row.paused, sent_kept row.orders is.orders, sent_kept row.instants is.instants, maybe_instant_kept row.pending)
 
-pub trip_kept : (line : TripLine) → IsTripLine line → trip_in (trip_columns line) ≡ Some line
-unfolding trip_in
-trip_kept line is =
-    rw (name_kept line.order is.order, key_kept line.vehicle is.vehicle, name_kept line.job is.job, name_kept line.start is.start, number_kept line.first is.first, number_kept line.base is.base, number_kept line.sent is.sent, maybe_number_kept line.confirmed is.confirmed, number_kept line.seen is.seen, number_kept line.pick_at is.pick_at, number_kept line.drop_at is.drop_at, status_kept line.pick_status, status_kept line.drop_status)
+pub capacity_kept : (key : VehicleKey) (room : CapacityRow) → IsKey key → IsNumber room.capacity → capacity_in (capacity_columns key room) ≡ Some (key, room)
+unfolding capacity_in
+capacity_kept key room named is = rw (key_kept key named, number_kept room.capacity is)
+
+pub journey_kept : (order : List ℕ) (row : JourneyRow) → IsName order → IsJourneyRow row → journey_in (journey_columns order row) ≡ Some (order, row)
+unfolding journey_in
+journey_kept order row named is =
+    rw (name_kept order named, key_kept row.vehicle is.vehicle, name_kept row.start is.start, number_kept row.first is.first, number_kept row.base is.base, number_kept row.sent is.sent, maybe_number_kept row.confirmed is.confirmed, number_kept row.seen is.seen)
+
+pub act_kept : (key : LegKey) (row : ActRow) → IsLegKey key → IsActRow row → act_in (act_columns key row) ≡ Some (key, row)
+unfolding act_in
+act_kept key row numbered is =
+    rw (name_kept key.order numbered.0, number_kept key.k numbered.1, name_kept row.job is.job, act_kind_kept row.kind, number_kept row.place_at is.place_at, status_kept row.status)
 
 pub leg_kept : (key : LegKey) (edge : List ℕ) → IsLegKey key → IsName edge → leg_in (leg_columns key edge) ≡ Some (key, edge)
 leg_kept key edge is also = rw (name_kept key.order is.0, number_kept key.k is.1, name_kept edge also)

@@ -11,19 +11,22 @@ use Rattle.agv_header.specs.declared.key.VehicleKey.{VehicleKey}
 use Rattle.agv_layout.specs.declared.edge.EdgeEnds.{EdgeEnds}
 use Rattle.agv_layout.specs.declared.station.StationSite.{StationSite}
 use Rattle.agv_message.specs.Instant.{instant_name}
+use Rattle.agv_message.specs.Order.{act_name}
 use Rattle.agv_message.specs.Status.{status_name}
 use Rattle.agv_message.specs.declared.instant.InstantKind.{InstantKind}
+use Rattle.agv_message.specs.declared.order.ActKind.{ActKind}
 use Rattle.agv_message.specs.declared.status.Status.{Status}
 use Rattle.agv_stock.specs.declared.job.Phase.{Phase}
 use Rattle.agv_stock.specs.declared.place.Place.{Place}
 use Rattle.agv_stock.specs.declared.place.Place.TheVariants as place
+use Rattle.agv_trip_rows.specs.declared.act_row.ActRow.{ActRow}
+use Rattle.agv_trip_rows.specs.declared.journey_row.JourneyRow.{JourneyRow}
 use Rattle.agv_world.specs.declared.key.LegKey.{LegKey}
 use Rattle.agv_world.specs.declared.row.JobRow.{JobRow}
 use Rattle.agv_world.specs.declared.row.VehicleRow.{VehicleRow}
-use Rattle.agv_tables.specs.rows.ValueEncodings.{number_cell, flag_cell, flag_in, phase_name, phase_in, status_in, instant_in}
-use Rattle.agv_tables.specs.rows.Columns.{meta_columns, edge_columns, station_columns, vehicle_columns, trip_columns, leg_columns, load_columns, job_columns, hold_columns}
-use Rattle.agv_tables.specs.declared.rows.trip_line.TripLine.{TripLine}
-use Rattle.agv_tables.proofs.rows.CellLemmas.{flag_kept, phase_kept, status_kept, instant_kept}
+use Rattle.agv_tables.specs.rows.ValueEncodings.{number_cell, flag_cell, flag_in, phase_name, phase_in, status_in, instant_in, act_kind_in}
+use Rattle.agv_tables.specs.rows.Columns.{meta_columns, edge_columns, station_columns, vehicle_columns, room_columns, journey_columns, act_columns, leg_columns, load_columns, job_columns, hold_columns}
+use Rattle.agv_tables.proofs.rows.CellLemmas.{flag_kept, phase_kept, status_kept, instant_kept, act_kind_kept}
 
 -- ---- values
 
@@ -44,6 +47,9 @@ status a b e = same_Some a b (sym (status_kept a) ∙ ap status_in e ∙ status_
 
 instant : (a b : InstantKind) → Text (instant_name a) ≡ Text (instant_name b) → a ≡ b
 instant a b e = same_Some a b (sym (instant_kept a) ∙ ap instant_in e ∙ instant_kept b)
+
+act_kind : (a b : ActKind) → Text (act_name a) ≡ Text (act_name b) → a ≡ b
+act_kind a b e = same_Some a b (sym (act_kind_kept a) ∙ ap act_kind_in e ∙ act_kind_kept b)
 
 maybe : {X : Type 0} (write : X → Value) → ((x : X) → ¬ (Null ≡ write x)) → ((x y : X) → write x ≡ write y → x ≡ y) → (a b : Option X) → or_null write a ≡ or_null write b → a ≡ b
 maybe write there same None None e = refl
@@ -93,9 +99,12 @@ station_tells id a b e =
     let capacity = number a.capacity b.capacity (same_at _ _ 2 e) in
     λ i. record { node = node i; capacity = capacity i }
 
-pub vehicle_tells : (key : VehicleKey) (a b : VehicleRow) → a.capacity ≡ 1 → b.capacity ≡ 1 → vehicle_columns key a ≡ vehicle_columns key b → a ≡ b
-vehicle_tells key a b one other e =
-    let capacity : a.capacity ≡ b.capacity = one ∙ sym other in
+pub room_tells : (key : VehicleKey) (a b : VehicleRow) → room_columns key a ≡ room_columns key b → a.capacity ≡ b.capacity
+room_tells key a b e = number a.capacity b.capacity (same_at _ _ 2 e)
+
+-- its room isn't there
+pub vehicle_tells : (key : VehicleKey) (a b : VehicleRow) → a.capacity ≡ b.capacity → vehicle_columns key a ≡ vehicle_columns key b → a ≡ b
+vehicle_tells key a b capacity e =
     let node : a.node ≡ b.node = text (same_at _ _ 2 e) in
     let stood = rest a.rest b.rest (same_at _ _ 3 e) (same_at _ _ 4 e) in
     let last_header = maybe_number a.last_header b.last_header (same_at _ _ 5 e) in
@@ -120,37 +129,33 @@ vehicle_tells key a b one other e =
       pending = pending i;
     }
 
-pub line_tells : (a b : TripLine) → trip_columns a ≡ trip_columns b → a ≡ b
-line_tells a b e =
-    let order : a.order ≡ b.order = text (same_at _ _ 0 e) in
+pub journey_tells : (order : List ℕ) (a b : JourneyRow) → journey_columns order a ≡ journey_columns order b → a ≡ b
+journey_tells order a b e =
     let manufacturer : a.vehicle.manufacturer ≡ b.vehicle.manufacturer = text (same_at _ _ 1 e) in
     let serial : a.vehicle.serial ≡ b.vehicle.serial = text (same_at _ _ 2 e) in
-    let job : a.job ≡ b.job = text (same_at _ _ 3 e) in
-    let start : a.start ≡ b.start = text (same_at _ _ 4 e) in
-    let first = number a.first b.first (same_at _ _ 5 e) in
-    let base = number a.base b.base (same_at _ _ 6 e) in
-    let sent = number a.sent b.sent (same_at _ _ 7 e) in
-    let confirmed = maybe_number a.confirmed b.confirmed (same_at _ _ 8 e) in
-    let seen = number a.seen b.seen (same_at _ _ 9 e) in
-    let pick_at = number a.pick_at b.pick_at (same_at _ _ 10 e) in
-    let drop_at = number a.drop_at b.drop_at (same_at _ _ 11 e) in
-    let pick_status = status a.pick_status b.pick_status (same_at _ _ 12 e) in
-    let drop_status = status a.drop_status b.drop_status (same_at _ _ 13 e) in
+    let start : a.start ≡ b.start = text (same_at _ _ 3 e) in
+    let first = number a.first b.first (same_at _ _ 4 e) in
+    let base = number a.base b.base (same_at _ _ 5 e) in
+    let sent = number a.sent b.sent (same_at _ _ 6 e) in
+    let confirmed = maybe_number a.confirmed b.confirmed (same_at _ _ 7 e) in
+    let seen = number a.seen b.seen (same_at _ _ 8 e) in
     λ i. record {
-      order = order i;
       vehicle = record { manufacturer = manufacturer i; serial = serial i };
-      job = job i;
       start = start i;
       first = first i;
       base = base i;
       sent = sent i;
       confirmed = confirmed i;
       seen = seen i;
-      pick_at = pick_at i;
-      drop_at = drop_at i;
-      pick_status = pick_status i;
-      drop_status = drop_status i;
     }
+
+pub act_tells : (key : LegKey) (a b : ActRow) → act_columns key a ≡ act_columns key b → a ≡ b
+act_tells key a b e =
+    let job : a.job ≡ b.job = text (same_at _ _ 2 e) in
+    let kind = act_kind a.kind b.kind (same_at _ _ 3 e) in
+    let place_at = number a.place_at b.place_at (same_at _ _ 4 e) in
+    let reported = status a.status b.status (same_at _ _ 5 e) in
+    λ i. record { job = job i; kind = kind i; place_at = place_at i; status = reported i }
 
 pub leg_tells : (key : LegKey) (a b : List ℕ) → leg_columns key a ≡ leg_columns key b → a ≡ b
 leg_tells key a b e = text (same_at _ _ 2 e)

@@ -12,19 +12,21 @@ use Rattle.agv_layout.specs.declared.station.StationSite.{StationSite}
 use Rattle.agv_message.specs.Instant.{instant_name}
 use Rattle.agv_message.specs.declared.instant.InstantKind.{InstantKind}
 use Rattle.agv_stock.specs.declared.place.Place.{Place}
+use Rattle.agv_trip_rows.specs.declared.act_row.ActRow.{ActRow}
+use Rattle.agv_trip_rows.specs.declared.journey_row.JourneyRow.{JourneyRow}
 use Rattle.agv_world.specs.declared.key.LegKey.{LegKey}
 use Rattle.agv_world.specs.declared.key.UseKey.{UseKey}
 use Rattle.agv_world.specs.declared.row.JobRow.{JobRow}
 use Rattle.agv_world.specs.declared.row.Sent.{Sent}
 use Rattle.agv_world.specs.declared.row.VehicleRow.{VehicleRow}
 use Rattle.agv_tables.specs.rows.ValueEncodings.{name_in, number_cell, number_in, instant_in, maybe_in, place_name, thing_name}
-use Rattle.agv_tables.specs.rows.Columns.{if_columns, meta_columns, meta_in, node_columns, node_in, edge_columns, edge_in, station_columns, station_in, key_in, rest_of, rest_in, sent_in, vehicle_columns, vehicle_in, trip_columns, trip_in, leg_columns, leg_in, place_of, load_columns, load_in, job_columns, job_in, thing_of, hold_columns, hold_in, used_columns, used_in}
-use Rattle.agv_tables.specs.declared.rows.trip_line.TripLine.{TripLine}
+use Rattle.agv_tables.specs.rows.Columns.{if_columns, meta_columns, meta_in, node_columns, node_in, edge_columns, edge_in, station_columns, station_in, key_in, rest_of, rest_in, sent_in, vehicle_columns, vehicle_in, capacity_columns, capacity_in, journey_columns, journey_in, act_columns, act_in, leg_columns, leg_in, place_of, load_columns, load_in, job_columns, job_in, thing_of, hold_columns, hold_in, used_columns, used_in}
+use Rattle.agv_tables.specs.declared.rows.capacity_row.CapacityRow.{CapacityRow}
 use Rattle.agv_tables.specs.declared.rows.words.PlaceKind.{PlaceKind}
 use Rattle.agv_tables.specs.declared.rows.words.PlaceKind.TheVariants as kind
 use Rattle.agv_tables.specs.declared.rows.words.ThingKind.{ThingKind}
 use Rattle.agv_tables.specs.declared.rows.words.ThingKind.TheVariants as held
-use Rattle.agv_tables.proofs.rows.CellLemmas.{if_some_parts, name_written, number_written, moment_written, flag_written, phase_written, status_written, instant_written, use_written, place_kind_written, thing_kind_written, maybe_written}
+use Rattle.agv_tables.proofs.rows.CellLemmas.{if_some_parts, name_written, number_written, moment_written, flag_written, phase_written, status_written, instant_written, act_kind_written, use_written, place_kind_written, thing_kind_written, maybe_written}
 
 -- ---- columns one by one
 
@@ -188,25 +190,41 @@ vehicle_written row key vehicle e =
     let pending = if_some_parts _ _ _ instants.2 in
     all_columns 14 row shape.0 ∙ next keyed_cells.0 (next keyed_cells.1 (next (name_written _ at.0 at.1) (next rest_cells.0 (next rest_cells.1 (next (maybe_number_written _ last.0 last.1) (next (maybe_name_written _ reported.0 reported.1) (next (flag_written _ ready.0 ready.1) (next (flag_written _ paused.0 paused.1) (next orders_cells.0 (next orders_cells.1 (next instants_cells.0 (next instants_cells.1 (next (maybe_instant_written _ pending.0 pending.1) refl))))))))))))) ∙ ap (λ (p : VehicleKey × VehicleRow). vehicle_columns p.0 p.1) (some_same pending.2)
 
-pub trip_written : (row : Row) (line : TripLine) → trip_in row ≡ Some line → row ≡ trip_columns line
-unfolding trip_in
-trip_written row line e =
-    let shape = in_columns 14 row _ _ e in
-    let order = if_some_parts _ _ _ shape.1 in
-    let keyed = if_some_parts _ _ _ order.2 in
+pub capacity_written : (row : Row) (key : VehicleKey) (room : CapacityRow) → capacity_in row ≡ Some (key, room) → row ≡ capacity_columns key room
+unfolding capacity_in
+capacity_written row key room e =
+    let shape = in_columns 3 row _ _ e in
+    let keyed = if_some_parts _ _ _ shape.1 in
     let keyed_cells = key_written _ _ keyed.0 keyed.1 in
-    let job = if_some_parts _ _ _ keyed.2 in
-    let start = if_some_parts _ _ _ job.2 in
+    let capacity = if_some_parts _ _ _ keyed.2 in
+    all_columns 3 row shape.0 ∙ next keyed_cells.0 (next keyed_cells.1 (next (number_written _ capacity.0 capacity.1) refl)) ∙ ap (λ (p : VehicleKey × CapacityRow). capacity_columns p.0 p.1) (some_same capacity.2)
+
+pub journey_written : (row : Row) (order : List ℕ) (journey : JourneyRow) → journey_in row ≡ Some (order, journey) → row ≡ journey_columns order journey
+unfolding journey_in
+journey_written row order journey e =
+    let shape = in_columns 9 row _ _ e in
+    let named = if_some_parts _ _ _ shape.1 in
+    let keyed = if_some_parts _ _ _ named.2 in
+    let keyed_cells = key_written _ _ keyed.0 keyed.1 in
+    let start = if_some_parts _ _ _ keyed.2 in
     let first = if_some_parts _ _ _ start.2 in
     let base = if_some_parts _ _ _ first.2 in
     let sent = if_some_parts _ _ _ base.2 in
     let confirmed = if_some_parts _ _ _ sent.2 in
     let seen = if_some_parts _ _ _ confirmed.2 in
-    let pick_at = if_some_parts _ _ _ seen.2 in
-    let drop_at = if_some_parts _ _ _ pick_at.2 in
-    let pick_status = if_some_parts _ _ _ drop_at.2 in
-    let drop_status = if_some_parts _ _ _ pick_status.2 in
-    all_columns 14 row shape.0 ∙ next (name_written _ order.0 order.1) (next keyed_cells.0 (next keyed_cells.1 (next (name_written _ job.0 job.1) (next (name_written _ start.0 start.1) (next (number_written _ first.0 first.1) (next (number_written _ base.0 base.1) (next (number_written _ sent.0 sent.1) (next (maybe_number_written _ confirmed.0 confirmed.1) (next (number_written _ seen.0 seen.1) (next (number_written _ pick_at.0 pick_at.1) (next (number_written _ drop_at.0 drop_at.1) (next (status_written _ pick_status.0 pick_status.1) (next (status_written _ drop_status.0 drop_status.1) refl))))))))))))) ∙ ap trip_columns (some_same drop_status.2)
+    all_columns 9 row shape.0 ∙ next (name_written _ named.0 named.1) (next keyed_cells.0 (next keyed_cells.1 (next (name_written _ start.0 start.1) (next (number_written _ first.0 first.1) (next (number_written _ base.0 base.1) (next (number_written _ sent.0 sent.1) (next (maybe_number_written _ confirmed.0 confirmed.1) (next (number_written _ seen.0 seen.1) refl)))))))) ∙ ap (λ (p : List ℕ × JourneyRow). journey_columns p.0 p.1) (some_same seen.2)
+
+pub act_written : (row : Row) (key : LegKey) (act : ActRow) → act_in row ≡ Some (key, act) → row ≡ act_columns key act
+unfolding act_in
+act_written row key act e =
+    let shape = in_columns 6 row _ _ e in
+    let order = if_some_parts _ _ _ shape.1 in
+    let n = if_some_parts _ _ _ order.2 in
+    let job = if_some_parts _ _ _ n.2 in
+    let of = if_some_parts _ _ _ job.2 in
+    let place_at = if_some_parts _ _ _ of.2 in
+    let reported = if_some_parts _ _ _ place_at.2 in
+    all_columns 6 row shape.0 ∙ next (name_written _ order.0 order.1) (next (number_written _ n.0 n.1) (next (name_written _ job.0 job.1) (next (act_kind_written _ of.0 of.1) (next (number_written _ place_at.0 place_at.1) (next (status_written _ reported.0 reported.1) refl))))) ∙ ap (λ (p : LegKey × ActRow). act_columns p.0 p.1) (some_same reported.2)
 
 pub leg_written : (row : Row) (key : LegKey) (edge : List ℕ) → leg_in row ≡ Some (key, edge) → row ≡ leg_columns key edge
 leg_written row key edge e =

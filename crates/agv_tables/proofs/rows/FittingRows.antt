@@ -11,12 +11,12 @@ use Rattle.agv_header.specs.declared.key.VehicleKey.{VehicleKey}
 use Rattle.agv_message.specs.Instant.{instant_name}
 use Rattle.agv_stock.specs.declared.place.Place.{Place}
 use Rattle.agv_stock.specs.declared.place.Place.TheVariants as place
+use Rattle.agv_trip_rows.specs.declared.journey_row.JourneyRow.{JourneyRow}
 use Rattle.agv_world.specs.declared.row.VehicleRow.{VehicleRow}
 use Rattle.agv_tables.specs.rows.ValueEncodings.{number_cell}
-use Rattle.agv_tables.specs.rows.Columns.{vehicle_columns, trip_columns, load_columns, hold_columns}
+use Rattle.agv_tables.specs.rows.Columns.{vehicle_columns, journey_columns, load_columns, hold_columns}
 use Rattle.agv_tables.specs.rows.DeskRows.{FitsTable, is_of_kind}
 use Rattle.agv_tables.specs.declared.schema.table_name.TableName.TheVariants as the
-use Rattle.agv_tables.specs.declared.rows.trip_line.TripLine.{TripLine}
 
 maybe_fits : {X : Type 0} (k : Kind) (f : X → Value) (o : Option X) → is_of_kind k Null ≡ true → ((x : X) → is_of_kind k (f x) ≡ true) → is_of_kind k (or_null f o) ≡ true
 maybe_fits k f None null each = null
@@ -31,8 +31,8 @@ vehicle_fits key row = rw (
   maybe_fits kind.Text (λ what. Text (instant_name what)) row.pending refl (λ _. refl),
 )
 
-pub trip_fits : (line : TripLine) → FitsTable the.Trip (trip_columns line)
-trip_fits line = rw (maybe_fits kind.Integer number_cell line.confirmed refl (λ _. refl))
+pub journey_fits : (order : List ℕ) (row : JourneyRow) → FitsTable the.Journey (journey_columns order row)
+journey_fits order row = rw (maybe_fits kind.Integer number_cell row.confirmed refl (λ _. refl))
 
 pub load_fits : (id : List ℕ) (where_it_is : Place) → FitsTable the.Load (load_columns id where_it_is)
 load_fits id (place.Station station) = refl

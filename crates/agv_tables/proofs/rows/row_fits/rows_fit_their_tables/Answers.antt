@@ -1,5 +1,5 @@
 use Rattle.std.proofs.Common.{refl}
-use Rattle.agv_tables.proofs.rows.FittingRows.{vehicle_fits, trip_fits, load_fits, hold_fits}
+use Rattle.agv_tables.proofs.rows.FittingRows.{vehicle_fits, journey_fits, load_fits, hold_fits}
 use Rattle.agv_tables.proofs.rows.row_fits.rows_fit_their_tables.Goals as goal
 
 pub returns-clause-meta : goal.returns-clause-meta
@@ -17,8 +17,14 @@ returns-clause-station c = λ id spot. refl
 pub returns-clause-vehicle : goal.returns-clause-vehicle
 returns-clause-vehicle c = vehicle_fits
 
-pub returns-clause-trip : goal.returns-clause-trip
-returns-clause-trip c = trip_fits
+pub returns-clause-capacity : goal.returns-clause-capacity
+returns-clause-capacity c = λ key room. refl
+
+pub returns-clause-journey : goal.returns-clause-journey
+returns-clause-journey c = journey_fits
+
+pub returns-clause-act : goal.returns-clause-act
+returns-clause-act c = λ key row. refl
 
 pub returns-clause-leg : goal.returns-clause-leg
 returns-clause-leg c = λ key edge. refl

@@ -1,4 +1,4 @@
-use Rattle.agv_tables.proofs.rows.ColumnsWritten.{meta_written, node_written, edge_written, station_written, vehicle_written, trip_written, leg_written, load_written, job_written, hold_written, used_written}
+use Rattle.agv_tables.proofs.rows.ColumnsWritten.{meta_written, node_written, edge_written, station_written, vehicle_written, capacity_written, journey_written, act_written, leg_written, load_written, job_written, hold_written, used_written}
 use Rattle.agv_tables.proofs.rows.row_laws.a_row_told_writes_its_columns.Goals as goal
 
 pub returns : goal.returns
@@ -8,7 +8,9 @@ returns c = record {
   edge = edge_written;
   station = station_written;
   vehicle = vehicle_written;
-  trip = trip_written;
+  capacity = capacity_written;
+  journey = journey_written;
+  act = act_written;
   leg = leg_written;
   load = load_written;
   job = job_written;

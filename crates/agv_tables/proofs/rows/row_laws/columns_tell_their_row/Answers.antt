@@ -1,5 +1,5 @@
 use Rattle.agv_tables.proofs.rows.CellLemmas.{name_kept}
-use Rattle.agv_tables.proofs.rows.ColumnsKept.{meta_kept, edge_kept, station_kept, vehicle_kept, trip_kept, leg_kept, load_kept, job_kept, hold_kept, used_kept}
+use Rattle.agv_tables.proofs.rows.ColumnsKept.{meta_kept, edge_kept, station_kept, vehicle_kept, capacity_kept, journey_kept, act_kept, leg_kept, load_kept, job_kept, hold_kept, used_kept}
 use Rattle.agv_tables.proofs.rows.row_laws.columns_tell_their_row.Goals as goal
 
 pub returns : goal.returns
@@ -9,7 +9,9 @@ returns c = record {
   edge = edge_kept;
   station = station_kept;
   vehicle = vehicle_kept;
-  trip = trip_kept;
+  capacity = capacity_kept;
+  journey = journey_kept;
+  act = act_kept;
   leg = leg_kept;
   load = load_kept;
   job = job_kept;
