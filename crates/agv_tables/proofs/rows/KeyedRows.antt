@@ -1,17 +1,18 @@
 -- The rows that the entries of a map give, where the row of a key is found by its first columns.
 use Rattle.std.proofs.Common.{◌≡◌, ℕ, zero, suc, not, Bool, true, false, cond, List, [], ◌∷◌, ◌++◌, Option, Some, None, Ordering, IsPermutation, filter, flat_map, map, refl, sym, ap, ap₂, subst, ◌∙◌}
-use Rattle.std.proofs.lemmas.List.{append-nil}
+use Rattle.std.proofs.lemmas.List.{append-nil, map-append}
 use Rattle.std.proofs.lemmas.List.Elements.{filter-append}
-use Rattle.std.proofs.lemmas.List.Sorted.{IsPermutation-append_right, IsPermutation-sym, IsPermutation-trans, length_permutation}
+use Rattle.std.proofs.lemmas.List.Sorted.{IsPermutation-append_right, IsPermutation-map, IsPermutation-middle, IsPermutation-refl, IsPermutation-sym, IsPermutation-trans, length_permutation}
 use Rattle.std.specs.Cmp.{IsTotalOrder}
 use Rattle.std.specs.FinMap.{FinMap, IsAntisymmetric, get, insert, remove, entries, same_map}
 use Rattle.std.specs.List.{AllByRecursion, AllZip}
 use Rattle.std.specs.Ordering.{eq_by_cmp}
 use Rattle.sqlite_trees.proofs.ListLemmas.{all_of, filter-map, filter_same, all_weaker, filter_all, filter_none, flat_map-map, flat_map-one, IsPermutation-filter, IsPermutation-flat_map}
 use Rattle.sqlite_value.specs.Order.{Row}
-use Rattle.agv_tables.specs.rows.DeskRows.{on_table, table_at}
+use Rattle.agv_tables.specs.rows.DeskRows.{on_table, place_of, table_at, with_row, with_rows}
 use Rattle.sqlite.proofs.Callers.{one_permutation}
 use Rattle.agv_tables.specs.rows.RowLists.{ShowEntries, rows_in}
+use Rattle.agv_tables.specs.declared.schema.table_name.TableName.{TableName}
 use Rattle.agv_tables.proofs.sql.MapEntries.{at_key, entries-remove, entries-insert-permuted, entries-at_key}
 
 -- where all that an element gives passes as the element does, what passes is what the elements that pass give
@@ -32,6 +33,23 @@ rows-shown {K} {X} columns m rows h passes is alike =
     (filter-map passes (λ (e : K × X). columns e.0 e.1) (entries m)
     ∙ ap (map (λ (e : K × X). columns e.0 e.1)) (filter_same (λ (e : K × X). passes (columns e.0 e.1)) is (entries m) (all_of _ (λ e. alike e.0 e.1) (entries m))))
     (IsPermutation-filter passes _ _ h)
+
+-- the rows that fail a test go, and the entries that fail it
+pub rows-kept : {K X : Type 0} {R : K → K → Ordering} (columns : K → X → Row) (m n : FinMap R X) (passes : Row → Bool) (is : K × X → Bool) → ((k : K) (x : X) → passes (columns k x) ≡ is (k, x))
+    → entries n ≡ filter (λ e. not (is e)) (entries m) → (rows : List Row) → IsPermutation rows (rows_in columns m) → IsPermutation (filter (λ row. not (passes row)) rows) (rows_in columns n)
+rows-kept {K} {X} columns m n passes is alike same rows h =
+    subst (λ es. IsPermutation (filter (λ row. not (passes row)) rows) (map (λ (e : K × X). columns e.0 e.1) es)) (sym same)
+    (rows-shown columns m rows h (λ row. not (passes row)) (λ e. not (is e)) (λ k x. ap not (alike k x)))
+
+-- and more rows come, and more entries
+pub rows-kept-more : {K X : Type 0} {R : K → K → Ordering} (columns : K → X → Row) (m n : FinMap R X) (passes : Row → Bool) (is : K × X → Bool) → ((k : K) (x : X) → passes (columns k x) ≡ is (k, x))
+    → (new : List (K × X)) → IsPermutation (new ++ filter (λ e. not (is e)) (entries m)) (entries n) → (rows : List Row) → IsPermutation rows (rows_in columns m)
+    → IsPermutation (map (λ (e : K × X). columns e.0 e.1) new ++ filter (λ row. not (passes row)) rows) (rows_in columns n)
+rows-kept-more {K} {X} columns m n passes is alike new moved rows h =
+    let cells : K × X → Row = λ (e : K × X). columns e.0 e.1 in
+    let kept = rows-shown columns m rows h (λ row. not (passes row)) (λ e. not (is e)) (λ k x. ap not (alike k x)) in
+    IsPermutation-trans _ _ _ (IsPermutation-append_right (map cells new) _ _ kept)
+    (subst (λ l. IsPermutation l (rows_in columns n)) (map-append cells new _) (IsPermutation-map cells _ _ moved))
 
 -- the rows that the entries of a map give
 abbrev pub entry_rows : {K X : Type 0} {R : K → K → Ordering} → (K → X → List Row) → FinMap R X → List Row
@@ -139,8 +157,28 @@ on_table-alike at f new (xs ∷ lists) [] h each = absurd h
 on_table-alike zero f new (xs ∷ lists) (ys ∷ others) h each = (each h.0, h.1)
 on_table-alike (suc at) f new (xs ∷ lists) (ys ∷ others) h each = (h.0, on_table-alike at f new lists others h.1 each)
 
+-- a table that stays as it is
+pub on_table-same : (at : ℕ) (lists : List (List Row)) → on_table at (λ rows. rows) lists ≡ lists
+on_table-same at [] = refl
+on_table-same zero (rows ∷ lists) = refl
+on_table-same (suc at) (rows ∷ lists) = ap (λ more. rows ∷ more) (on_table-same at lists)
+
 -- a table is changed twice
 pub on_table-twice : (at : ℕ) (f g : List Row → List Row) (lists : List (List Row)) → on_table at f (on_table at g lists) ≡ on_table at (λ rows. f (g rows)) lists
 on_table-twice at f g [] = refl
 on_table-twice zero f g (rows ∷ lists) = refl
 on_table-twice (suc at) f g (rows ∷ lists) = ap (λ more. rows ∷ more) (on_table-twice at f g lists)
+
+-- rows are written one after the other
+abbrev pub added : List Row → List Row → List Row
+added [] rows = rows
+added (row ∷ more) rows = added more (row ∷ rows)
+
+pub with_rows-added : (name : TableName) (more : List Row) (lists : List (List Row)) → with_rows name more lists ≡ on_table (place_of name) (added more) lists
+with_rows-added name [] lists = sym (on_table-same (place_of name) lists)
+with_rows-added name (row ∷ more) lists =
+    with_rows-added name more (with_row name row lists) ∙ on_table-twice (place_of name) (added more) (λ rows. row ∷ rows) lists
+
+pub added-permuted : (more rows : List Row) → IsPermutation (added more rows) (more ++ rows)
+added-permuted [] rows = IsPermutation-refl rows
+added-permuted (row ∷ more) rows = IsPermutation-trans _ _ _ (added-permuted more (row ∷ rows)) (IsPermutation-middle more row rows)

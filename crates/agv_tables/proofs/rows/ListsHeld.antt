@@ -12,10 +12,9 @@ use Rattle.agv_world.specs.Changes.{changed}
 use Rattle.agv_world.specs.Rows.{Rows}
 use Rattle.agv_world.specs.declared.change.Change.{Change}
 use Rattle.agv_tables.specs.rows.DeskRows.{Placing, Holds, HaveRows, IsDesk, table_for, table_in, table_names, width_of}
-use Rattle.agv_tables.specs.rows.RowLists.{AreAlike, CarriesOneEach, listed, listed_all, row_lists}
+use Rattle.agv_tables.specs.rows.RowLists.{ActsAreOfJobs, AreAlike, TellRows, listed_all, row_lists}
 use Rattle.agv_tables.specs.declared.schema.table_name.TableName.{TableName}
-use Rattle.agv_tables.proofs.rows.ListsFollow.{follows_all}
-use Rattle.agv_tables.proofs.rows.ListsTell.{one_rows}
+pub use Rattle.agv_tables.proofs.rows.ListsFollow.{listed_in_turn}
 
 -- ---- lists
 
@@ -76,19 +75,20 @@ one_lists desk other db lists others is too h g =
 
 -- ---- worlds
 
-pub held_changed : (desk : Placing) (old new : Database) (changes : List Change) (rows : Rows)
+-- lists that tell the rows of a world tell, after changes of the lists, the rows after those changes
+abbrev pub FollowAll : Type 0
+FollowAll = (changes : List Change) (lists : List (List Row)) (rows : Rows) → TellRows lists rows → TellRows (listed_all changes lists) (changed changes rows)
+
+pub held_changed : FollowAll → (desk : Placing) (old new : Database) (changes : List Change) (rows : Rows)
     → ((lists : List (List Row)) → Holds desk old lists → Holds desk new (listed_all changes lists))
     → Holds desk old (row_lists rows) → Holds desk new (row_lists (changed changes rows))
-held_changed desk old new changes rows made h =
-    held_alike desk new (listed_all changes (row_lists rows)) (row_lists (changed changes rows)) (follows_all changes (row_lists rows) rows (alike_itself (row_lists rows))) (made (row_lists rows) h)
+held_changed follow desk old new changes rows made h =
+    held_alike desk new (listed_all changes (row_lists rows)) (row_lists (changed changes rows)) (follow changes (row_lists rows) rows (alike_itself (row_lists rows))) (made (row_lists rows) h)
 
-pub one_rows_held : (desk other : Placing) (db : Database) (a b : Rows) → IsDesk desk → IsDesk other → CarriesOneEach a → CarriesOneEach b → Holds desk db (row_lists a) → Holds other db (row_lists b) → a ≡ b
-one_rows_held desk other db a b is too single once h g =
-    one_rows (row_lists a) a b single once (alike_itself (row_lists a)) (one_lists desk other db (row_lists a) (row_lists b) is too h g)
+-- lists tell the rows of one world
+abbrev pub TellOneWorld : Type 0
+TellOneWorld = (lists : List (List Row)) (rows others : Rows) → ActsAreOfJobs rows → ActsAreOfJobs others → TellRows lists rows → TellRows lists others → rows ≡ others
 
--- ---- changes in turn
-
-pub listed_in_turn : (first later : List Change) (lists : List (List Row)) → listed_all (first ++ later) lists ≡ listed_all later (listed_all first lists)
-unfolding listed_all
-listed_in_turn [] later lists = refl
-listed_in_turn (one ∷ first) later lists = listed_in_turn first later (listed one lists)
+pub one_rows_held : TellOneWorld → (desk other : Placing) (db : Database) (a b : Rows) → IsDesk desk → IsDesk other → ActsAreOfJobs a → ActsAreOfJobs b → Holds desk db (row_lists a) → Holds other db (row_lists b) → a ≡ b
+one_rows_held tell desk other db a b is too known other_known h g =
+    tell (row_lists a) a b known other_known (alike_itself (row_lists a)) (one_lists desk other db (row_lists a) (row_lists b) is too h g)

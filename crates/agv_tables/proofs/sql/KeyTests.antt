@@ -18,7 +18,7 @@ use Rattle.agv_layout.specs.declared.edge.EdgeEnds.{EdgeEnds}
 use Rattle.agv_layout.specs.declared.station.StationSite.{StationSite}
 use Rattle.agv_stock.specs.declared.place.Place.{Place}
 use Rattle.agv_stock.specs.declared.place.Place.TheVariants as place
-use Rattle.agv_trip_rows.specs.TripRows.{is_of}
+use Rattle.agv_trip_rows.specs.TripRows.{is_journey_of, is_of}
 use Rattle.agv_trip_rows.specs.declared.act_row.ActRow.{ActRow}
 use Rattle.agv_trip_rows.specs.declared.journey_row.JourneyRow.{JourneyRow}
 use Rattle.agv_world.specs.Keys.{leg_cmp, use_cmp, use_rank}
@@ -110,7 +110,10 @@ journey_tested k q x = one_name k q
 pub act_tested : (k q : LegKey) (x : ActRow) → has_key the.Act (leg_key k) (act_columns q x) ≡ eq_by_cmp leg_cmp k q
 act_tested k q x = both_tied _ _ (name_cmp k.order q.order) (nat_cmp k.k q.k) (texts_equal k.order q.order) (and_true _ ∙ numbers_equal k.k q.k)
 
--- the acts of an order
+-- the journey and the acts of an order
+pub journey_order_tested : (order q : List ℕ) (x : JourneyRow) → has_key the.Journey (name_key order) (journey_columns q x) ≡ is_journey_of order (q, x)
+journey_order_tested order q x = last_text_is q order
+
 pub act_order_tested : (order : List ℕ) (q : LegKey) (x : ActRow) → has_columns (columns_deleted table.Act) (name_key order) (act_columns q x) ≡ is_of order (q, x)
 act_order_tested order q x = last_text_is q.order order
 

@@ -24,6 +24,7 @@ ghost use Rattle.agv_tables.specs.rows.RowLists.{ActsAreOfJobs, AreAlike, HoldsW
 ghost use Rattle.agv_trip_rows.specs.TripRows.{acts_of, journeys_of};
 ghost use Rattle.agv_tables.specs.declared.schema.table_name.TableName.TheVariants as the;
 
+use agv_trip_rows::row_laws::{rows_follow_changes, rows_have_keys};
 use agv_trip_rows::trip_laws::{lawful_rows_tell_trips, rows_tell_one_table};
 use agv_world::lawful_laws::is_in_good_order;
 use agv_world::laws::rows_tell_the_world;
@@ -34,7 +35,10 @@ pub fn lists_follow_changes()
     ensures one { (one : Change) (lists : List (List Row)) (rows : Rows) → TellRows lists rows → TellRows (listed one lists) (change rows one) }
     ensures all { (changes : List Change) (lists : List (List Row)) (rows : Rows) → TellRows lists rows → TellRows (listed_all changes lists) (changed changes rows) }
     ensures in_turn { (first later : List Change) (lists : List (List Row)) → listed_all (first ++ later) lists ≡ listed_all later (listed_all first lists) }
-{}
+{
+    rows_have_keys();
+    rows_follow_changes();
+}
 
 /// Lists tell the rows of one world alone, where each act has the load and the station of its job.
 pub fn lists_tell_one_world()
