@@ -96,12 +96,8 @@ fn vehicle_in_row(
 ) -> Option<(VehicleKey, VehicleRow)>
     ensures { result ≡ vehicle_with capacities.now row.now }
 {
-    let (key, vehicle) = decode_vehicle(row)?;
-    let room = capacities.get(key)?;
-    let vehicle = VehicleRow {
-        capacity: room.capacity,
-        ..vehicle
-    };
+    let (key, mut vehicle) = decode_vehicle(row)?;
+    vehicle.capacity = capacities.get(key)?.capacity;
     Some((key, vehicle))
 }
 
