@@ -1,3 +1,4 @@
 pub mod TripLines
 pub mod FirstColumns
 pub mod FirstRows
+pub mod Moved

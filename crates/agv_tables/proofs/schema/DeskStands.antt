@@ -51,7 +51,7 @@ module _ (name : List ℕ) where
   sequence_leaves : (s : Schema) → Roomy s → Roomy (with_sequence s)
   sequence_leaves s room = elim (cases_Bool (lacks_sequence s)) [ inl lacks ↦ rw lacks (created_leaves s sequence_table refl room) | inr has ↦ rw has room ]
 
-  tables_leave : (s : Schema) (tables : List Table) → AllByRecursion (λ (t : Table). t.references ≡ []) tables → Roomy s → Roomy (fold with_new_table s tables)
+  pub tables_leave : (s : Schema) (tables : List Table) → AllByRecursion (λ (t : Table). t.references ≡ []) tables → Roomy s → Roomy (fold with_new_table s tables)
   tables_leave s [] none room = room
   tables_leave s (t ∷ tables) none room = tables_leave (with_new_table s t) tables none.1 (sequence_leaves (created s t) (created_leaves s t none.0 room))
 
@@ -117,7 +117,7 @@ all_wide width [] wide = refl
 all_wide width (e ∷ entries) wide = rw (all_columns width (drop 1 e) wide.0, all_wide width entries wide.1) refl
 
 -- rows of the table's width are what the statements see of it
-have_rows : (width : ℕ) (entries rows : List Row) → AreWide width rows → HasRows entries rows → HaveRows width entries rows
+pub have_rows : (width : ℕ) (entries rows : List Row) → AreWide width rows → HasRows entries rows → HaveRows width entries rows
 have_rows width entries rows wide h =
     (shaped_are_keyed entries h.0, subst (IsPermutation rows) (sym (all_wide width entries (all-permutation (λ (row : Row). length row ≡ width) rows (map (drop 1) entries) h.1 wide))) h.1)
 

@@ -6,7 +6,7 @@ use Rattle.sqlite_schema.specs.declared.schema.Schema.{Schema}
 use Rattle.sqlite_schema.specs.declared.schema.Table.{Table}
 use Rattle.sqlite_schema.specs.Names.{same_name}
 use Rattle.sqlite_catalog.specs.Change.{is_used}
-use Rattle.sqlite.specs.Effect.{Database}
+use Rattle.sqlite.specs.Effect.{Database, IsDatabase}
 use Rattle.agv_tables.specs.schema.DeskSchema.{with_new_table}
 use Rattle.agv_tables.specs.schema.DeskTables.{HasTable}
 use Rattle.agv_tables.specs.schema.TextsRun.{RunSteps}
@@ -39,16 +39,23 @@ tables_keep name own s (t ∷ tables) other =
     let p = and_parts _ _ other in
     keeps_again s (with_new_table s t) (fold with_new_table s (t ∷ tables)) name (new_table_keeps name own s t (not-true _ p.0)) (tables_keep name own (with_new_table s t) tables p.1)
 
+-- an opening reads the schema in the trees, where one of the tables was made
+abbrev pub IsListed : List Table → Database → Type 0
+IsListed [] db = Unit {0}
+IsListed (t ∷ tables) db = IsDatabase db
+
 -- the tables stand behind those that were there, with no row
 pub record HaveTables (old new : Database) (tables : List Table) : Type 0 where
   pub schema_is : new.schema ≡ fold with_new_table old.schema tables
   pub grows : Grows old new
   pub stand : AllByRecursion (λ t. HasTable new t []) tables
+  pub listed : IsListed tables new
+  pub listed_still : IsDatabase old → IsDatabase new
 
 pub makes_tables : (texts : List (List ℕ)) (tables : List Table) → AllZip DefinesTable texts tables → are_apart tables ≡ true → AreOwn tables
     → (steps : List (Bool × List ℕ)) (old new : Database) → AreFree old.schema tables → RunSteps (map (λ text. (true, text)) texts ++ steps) old new
     → (mid : Database) × HaveTables old mid tables × RunSteps steps mid new
-makes_tables [] [] defined apart own steps old new free ran = (old, record { schema_is = refl; grows = grows_none old; stand = tt }, ran)
+makes_tables [] [] defined apart own steps old new free ran = (old, record { schema_is = refl; grows = grows_none old; stand = tt; listed = tt; listed_still = λ whole. whole }, ran)
 makes_tables [] (t ∷ tables) defined apart own steps old new free ran = absurd defined
 makes_tables (sql ∷ texts) [] defined apart own steps old new free ran = absurd defined
 makes_tables (sql ∷ texts) (t ∷ tables) defined apart own steps old new free ran =
@@ -62,6 +69,8 @@ makes_tables (sql ∷ texts) (t ∷ tables) defined apart own steps old new free
         schema_is = more.1.schema_is ∙ ap (λ s. fold with_new_table s tables) one.schema_is;
         grows = grows_again old next more.0 one.grows more.1.grows;
         stand = (more.1.grows.stands t [] one.stands, more.1.stand);
+        listed = more.1.listed_still one.listed;
+        listed_still = λ whole. more.1.listed_still one.listed;
       },
       more.2,
     )

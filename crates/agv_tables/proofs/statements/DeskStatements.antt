@@ -97,7 +97,7 @@ deleted_within world.Used = refl
 abbrev pub RunsInside : List ℕ → Row → State → State → Result ℕ Error → Type 0
 RunsInside sql params old new r = (old.in_transaction ≡ false → r ≡ Err (SqliteFailure TransactionState)) × (IsTrue old.in_transaction → ExecutesInside 0 sql params old new r)
 
-makes : (change : List (List Row) → List (List Row)) (sql : List ℕ) (params : Row) (old new : State) (r : Result ℕ Error)
+pub makes : (change : List (List Row) → List (List Row)) (sql : List ℕ) (params : Row) (old new : State) (r : Result ℕ Error)
     → ((desk : Placing) → IsDesk desk → old.now.schema ≡ desk.schema → (count : ℕ) → Executes sql params old new (Ok count) → Lands desk old.now new.now change)
     → RunsInside sql params old new r → OnOk r (Makes change old new)
 makes change sql params old new (Err e) step ran = tt

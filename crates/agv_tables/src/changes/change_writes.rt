@@ -207,8 +207,8 @@ fn add_act<S: Alter>(
     insert_row(tx, WorldTable::Act, &act_values(key, act))
 }
 
-// The order has acts of these tasks besides, which are numbered from a number on.
-fn add_acts<S: Alter>(
+/// The order has acts of these tasks besides, which are numbered from a number on.
+pub(crate) fn add_acts<S: Alter>(
     tx: &mut Transaction<'_, S>,
     order: Name,
     from: u32,

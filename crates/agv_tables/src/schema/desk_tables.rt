@@ -20,8 +20,8 @@ pub(crate) const NAMES: [&str; 14] = [
     "capacity", "journey", "act",
 ];
 
-// Whether a table, a view or an index has one of the names.
-fn is_any_used(schema: &Schema, names: &[&str]) -> bool
+/// Whether a table, a view or an index has one of the names.
+pub(crate) fn is_any_used(schema: &Schema, names: &[&str]) -> bool
     ensures { result ≡ list_any (λ name. is_used schema.now name.now) names.now }
 {
     names.iter().any(|name| is_used(schema, name.as_bytes()))

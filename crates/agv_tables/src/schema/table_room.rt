@@ -30,8 +30,8 @@ fn is_unreferred(tables: &[Table], name: &[u8]) -> bool
     tables.iter().all(|table| refers_elsewhere(table, name))
 }
 
-// The same of each of these names.
-fn are_unreferred(tables: &[Table], names: &[&str]) -> bool
+/// The same of each of these names.
+pub(crate) fn are_unreferred(tables: &[Table], names: &[&str]) -> bool
     ensures { result ≡ list_all (λ name. is_unreferred name.now tables.now) names.now }
 {
     names

@@ -1,6 +1,7 @@
 //! The texts of SQL that make the tables of the desk.
 ghost use Rattle.std.specs.Prelude.{◌≡◌, not, map};
 ghost use Rattle.sqlite_catalog.specs.Change.{is_used};
+ghost use Rattle.agv_tables.specs.first_schema.Moved.{added_texts};
 ghost use Rattle.agv_tables.specs.schema.SchemaTexts.{table_texts, making_steps, DefineTables};
 
 use sqlite_catalog::layout::is_used;
@@ -53,6 +54,13 @@ pub fn creation_texts() -> [&'static str; 14]
         META, NODE, EDGE, STATION, VEHICLE, TRIP, LEG, LOAD, JOB, HOLD, USED, CAPACITY, JOURNEY,
         ACT,
     ]
+}
+
+/// Those of them whose tables came with the second schema.
+pub(crate) fn added_texts() -> [&'static str; 3]
+    ensures { map (λ text. text.now) result ≡ added_texts }
+{
+    [CAPACITY, JOURNEY, ACT]
 }
 
 // Whether nothing has the name.
