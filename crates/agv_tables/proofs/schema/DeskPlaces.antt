@@ -8,14 +8,14 @@ use Rattle.sqlite_trees.specs.Tree.{Trees, IsAscending}
 use Rattle.sqlite_schema.specs.declared.schema.Table.{Table}
 use Rattle.sqlite_rules.specs.Lists.{Has}
 use Rattle.sqlite_rules.proofs.ListLemmas.{all_has}
-use Rattle.agv_tables.specs.rows.DeskRows.{table_for, table_names, place_of, width_of, Placing, table_in, IsDesk, HaveRows, on_table, table_at}
+use Rattle.agv_tables.specs.rows.DeskRows.{table_for, table_names, place_of, width_of, Placing, table_in, TableStands, IsDesk, StandApart, HaveRows, on_table, table_at}
 use Rattle.agv_tables.specs.declared.schema.table_name.TableName.{TableName}
 use Rattle.agv_tables.specs.declared.schema.table_name.TableName.TheVariants as the
 use Rattle.agv_tables.proofs.sql.OneTable.{IsIn}
 
 -- ---- tables of a schema
 
-abbrev Apart : List Table → Type 0
+abbrev pub Apart : List Table → Type 0
 Apart = IsAscending (λ (s t : Table). s.tree ≢ t.tree)
 
 pub is_among : {X : Type 0} (xs : List X) (at : ℕ) (x : X) → slice_get xs at ≡ Some x → Has xs x
@@ -49,10 +49,22 @@ found_by_tree (x ∷ tables) apart (suc at) t h =
 
 -- ---- the desk's tables
 
+pub is_in_alone : (desk : Placing) (name : TableName) (s : TableStands desk name) → Apart desk.schema.tables → IsIn desk.schema (table_for name).name (table_in desk name) s.at
+is_in_alone desk name s apart = record { named = s.named; there = s.there; low = s.low; by_tree = found_by_tree desk.schema.tables apart s.at (table_in desk name) s.there }
+
 pub is_in : (desk : Placing) (is : IsDesk desk) (name : TableName) → IsIn desk.schema (table_for name).name (table_in desk name) (is.stands name).at
-is_in desk is name =
-    let s = is.stands name in
-    record { named = s.named; there = s.there; low = s.low; by_tree = found_by_tree desk.schema.tables is.apart s.at (table_in desk name) s.there }
+is_in desk is name = is_in_alone desk name (is.stands name) is.apart
+
+-- each of them stands apart from the others
+pub one_stands : (desk : Placing) (is : IsDesk desk) (name : TableName) → StandApart desk (name ∷ [])
+one_stands desk is name = record { stands = (is.stands name, tt); apart = is.apart }
+
+pub all_stand : (desk : Placing) (is : IsDesk desk) → StandApart desk table_names
+all_stand desk is = record { stands = each table_names; apart = is.apart }
+  where
+    each : (names : List TableName) → AllByRecursion (TableStands desk) names
+    each [] = tt
+    each (name ∷ names) = (is.stands name, each names)
 
 abbrev is_same : TableName → TableName → Bool
 is_same a b = bytes_eq (table_for a).name (table_for b).name

@@ -18,12 +18,12 @@ use Rattle.sqlite.specs.Listing.{understood, reads_listing, IsSourceOf}
 use Rattle.sqlite.specs.State.{State, IsNotRun, FailsToQuery}
 use Rattle.sqlite.proofs.Callers.{IsPlain, command_of}
 use Rattle.std.proofs.lemmas.Bool.{and_parts}
-use Rattle.agv_tables.specs.rows.DeskRows.{table_for, Placing, IsDesk, is_of_kind, fits}
+use Rattle.agv_tables.specs.rows.DeskRows.{table_for, Placing, IsDesk, StandApart, is_of_kind, fits}
 use Rattle.agv_tables.specs.sql.Errors.{IsOfStore}
 use Rattle.agv_tables.specs.declared.schema.table_name.TableName.{TableName}
 use Rattle.agv_tables.specs.declared.schema.table_name.TableName.TheVariants as the
 use Rattle.agv_tables.proofs.sql.OneTable.{Means, parsed, query_by, compiled_as}
-use Rattle.agv_tables.proofs.schema.DeskPlaces.{is_in}
+use Rattle.agv_tables.proofs.schema.DeskPlaces.{is_in_alone, one_stands}
 use Rattle.agv_tables.proofs.sql.Failing.{IsCaused, IsWhole, caused, is_statement}
 use Rattle.agv_tables.specs.statements.RowTexts.{look_up_text, table_looked_up}
 use Rattle.agv_tables.specs.statements.RowQueries.{table_asked, columns_asked, columns_at, FitsColumns, query_text, all_rows_text}
@@ -170,12 +170,12 @@ abbrev pub IsWholeText : List ℕ → ℕ → Type 0
 IsWholeText sql n = (length sql ≤ (parsed sql).tail) × (length (parsed sql).names ≡ n)
 
 module _ (name : TableName) (terms project : List Term) (names : List (List ℕ)) (sql : List ℕ) (asks : AsksFor name sql terms project names) (params : Row) (whole : IsWholeText sql (length params))
-    (typed : IsTypedTo name terms project params) (old new : State) (e : Error) (desk : Placing) (is : IsDesk desk) (has : old.now.schema ≡ desk.schema) where
+    (typed : IsTypedTo name terms project params) (old new : State) (e : Error) (desk : Placing) (stand : StandApart desk (name ∷ [])) (has : old.now.schema ≡ desk.schema) where
   abbrev means : Means desk.schema sql (Select (record { lets = []; body = query_by (desk.tree name) terms project }) names)
-  means = asks desk.schema (is.stands name).at (desk.tree name) (is_in desk is name)
+  means = asks desk.schema stand.stands.0.at (desk.tree name) (is_in_alone desk name stand.stands.0 stand.apart)
 
   accepted : accepts_program desk.schema [] (query_by (desk.tree name) terms project) params ≡ true
-  accepted = let here = is_in desk is name in rw (here.low, here.by_tree, typed)
+  accepted = let here = is_in_alone desk name stand.stands.0 stand.apart in rw (here.low, here.by_tree, typed)
 
   refused : (db : Database) → db.schema ≡ desk.schema → RefusesToRead old.step_limit (Select (record { lets = []; body = query_by (desk.tree name) terms project }) names) db params e → IsCaused old new
   refused db schema (inl untyped) = absurd (let wrong = sym (ap (λ s. accepts_program s [] (query_by (desk.tree name) terms project) params) schema ∙ accepted) ∙ untyped.1 in cc)
@@ -250,17 +250,17 @@ module _ (params : Row) (old new : State) (r : Result (Vec Row Global) Error) (s
       → IfErr r (λ e. IsOfStore e → (desk : Placing) → IsDesk desk → old.now.schema ≡ desk.schema → FitsColumns (table_looked_up one) (table_for (table_looked_up one)).primary params → IsCaused old new)
   key_caused one text = on_err_all r (λ e h stored desk is has fit.
       let name = table_looked_up one in
-      read_caused name (key_terms name) (column_terms name) (column_names name) (look_up_text one) (looks_up one) params (subst (IsWholeText (look_up_text one)) (sym (fits_length _ params fit)) (key_whole one)) (key_typed name params fit) old new e desk is has stored
+      read_caused name (key_terms name) (column_terms name) (column_names name) (look_up_text one) (looks_up one) params (subst (IsWholeText (look_up_text one)) (sym (fits_length _ params fit)) (key_whole one)) (key_typed name params fit) old new e desk (one_stands desk is name) has stored
       (subst (λ t. FailsToQuery t params old new e) text h)) fails
 
   -- by other columns
   pub query_caused : (query : RowsBy) → sql ≡ query_text query → IfErr r (λ e. IsOfStore e → (desk : Placing) → IsDesk desk → old.now.schema ≡ desk.schema → FitsColumns (table_asked query) (columns_asked query) params → IsCaused old new)
   query_caused query text = on_err_all r (λ e h stored desk is has fit.
-      read_caused (table_asked query) (query_terms query) (column_terms (table_asked query)) (column_names (table_asked query)) (query_text query) (query_asks query) params (subst (IsWholeText (query_text query)) (sym (fits_length _ params fit)) (query_whole query)) (query_typed query params fit) old new e desk is has stored
+      read_caused (table_asked query) (query_terms query) (column_terms (table_asked query)) (column_names (table_asked query)) (query_text query) (query_asks query) params (subst (IsWholeText (query_text query)) (sym (fits_length _ params fit)) (query_whole query)) (query_typed query params fit) old new e desk (one_stands desk is (table_asked query)) has stored
       (subst (λ t. FailsToQuery t params old new e) text h)) fails
 
   -- all rows
-  pub all_caused : (name : TableName) → params ≡ [] → sql ≡ all_rows_text name → IfErr r (λ e. IsOfStore e → (desk : Placing) → IsDesk desk → old.now.schema ≡ desk.schema → IsCaused old new)
-  all_caused name none text = on_err_all r (λ e h stored desk is has.
-      read_caused name [] (column_terms name) (column_names name) (all_rows_text name) (all_rows_asked name) [] (all_whole name) (all_typed name) old new e desk is has stored
+  pub all_caused : (name : TableName) → params ≡ [] → sql ≡ all_rows_text name → IfErr r (λ e. IsOfStore e → (desk : Placing) → StandApart desk (name ∷ []) → old.now.schema ≡ desk.schema → IsCaused old new)
+  all_caused name none text = on_err_all r (λ e h stored desk stand has.
+      read_caused name [] (column_terms name) (column_names name) (all_rows_text name) (all_rows_asked name) [] (all_whole name) (all_typed name) old new e desk stand has stored
       (subst (λ p. FailsToQuery (all_rows_text name) p old new e) none (subst (λ t. FailsToQuery t params old new e) text h))) fails

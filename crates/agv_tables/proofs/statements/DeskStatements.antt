@@ -11,7 +11,7 @@ use Rattle.sqlite.specs.declared.error.Error.TheVariants.{SqliteFailure}
 use Rattle.sqlite.specs.declared.error.ErrorCode.TheVariants.{TransactionState}
 use Rattle.sqlite.specs.Effect.{Database}
 use Rattle.sqlite.specs.State.{State, Executes, ExecutesInside, Shown}
-use Rattle.agv_tables.specs.rows.DeskRows.{Placing, IsDesk, KeepsOthers, on_table, table_at, place_of, width_of, has_columns, has_key, with_row, without_rows, rows_of_key, FitsTable, Makes, Answers}
+use Rattle.agv_tables.specs.rows.DeskRows.{Placing, IsDesk, KeepsOthers, on_table, table_at, place_of, width_of, has_columns, has_key, with_row, without_rows, rows_of_key, FitsTable, Makes, Answers, AnswersAlone}
 use Rattle.agv_tables.specs.statements.RowQueries.{table_asked, columns_asked, equal_from, rows_asked, all_rows_of, query_text, all_rows_text}
 use Rattle.agv_tables.specs.statements.RowTexts.{insertion_text, deletion_text, look_up_text, table_written, table_looked_up, columns_deleted}
 use Rattle.agv_tables.specs.declared.rows.row_of.RowOf.{RowOf}
@@ -20,11 +20,11 @@ use Rattle.agv_tables.specs.declared.schema.table_name.TableName.{TableName}
 use Rattle.agv_tables.specs.declared.schema.table_name.TableName.TheVariants as the
 use Rattle.agv_tables.specs.declared.rows.world_table.WorldTable.{WorldTable}
 use Rattle.agv_tables.specs.declared.rows.world_table.WorldTable.TheVariants as world
-use Rattle.agv_tables.proofs.schema.DeskPlaces.{is_in}
+use Rattle.agv_tables.proofs.schema.DeskPlaces.{is_in, is_in_alone}
 use Rattle.agv_tables.proofs.sql.EntryEdits.{filter_nothing}
 use Rattle.agv_tables.proofs.statements.QueryMeanings.{Asks, query_terms, query_passes, query_within, query_asks, all_rows_asked}
 use Rattle.agv_tables.proofs.sql.QueryRows.{passes, reads_within}
-use Rattle.agv_tables.proofs.statements.RowForms.{Lands, rows_deleted, row_inserted, rows_shown}
+use Rattle.agv_tables.proofs.statements.RowForms.{Lands, rows_deleted, row_inserted, rows_shown, rows_shown_alone}
 use Rattle.agv_tables.proofs.statements.RowMeanings.{key_terms, deleted_terms, column_names, inserts, deletes, looks_up}
 
 -- ---- keys
@@ -161,7 +161,7 @@ shows : (name : TableName) (terms : List Term) (sql : List ℕ) → Asks name sq
     → (old new : State) (rows : List Row) → Shown sql params old new rows → Answers (λ lists. filter p (table_at (place_of name) lists)) old rows
 shows name terms sql asks alone params p is old new rows shown = λ desk desk_is lists h.
     let means = asks desk.schema (desk_is.stands name).at (desk.tree name) (is_in desk desk_is name) in
-    subst (λ (q : Row → Bool). IsPermutation (filter q (table_at (place_of name) lists)) rows) is (rows_shown desk desk_is name old new h.schema_is sql params terms (column_names name) alone means rows shown lists h)
+    subst (λ (q : Row → Bool). IsPermutation (filter q (table_at (place_of name) lists)) rows) is (rows_shown desk name old new h.schema_is sql params terms (column_names name) alone means rows shown lists h)
 
 asked : (name : TableName) (terms : List Term) (sql : List ℕ) → Asks name sql terms → list_all (reads_within (width_of name)) terms ≡ true → (params : Row) (p : Row → Bool) → passes terms params ≡ p
     → (old new : State) (r : Result (Vec Row Global) Error) → IfOk r (λ rows. Shown sql params old new rows.items)
@@ -176,6 +176,12 @@ whole_table name lists = filter_nothing (table_at (place_of name) lists)
 pub all_given : (name : TableName) (params : Row) (old new : State) (rows : List Row) → Shown (all_rows_text name) params old new rows → Answers (all_rows_of name) old rows
 all_given name params old new rows shown =
     subst (λ (f : List (List Row) → List Row). Answers f old rows) (λ i lists. whole_table name lists i) (shows name [] (all_rows_text name) (all_rows_asked name) refl params (λ _. true) refl old new rows shown)
+
+-- all rows of a table that may stand without the others
+alone_given : (name : TableName) (params : Row) (old new : State) (rows : List Row) → Shown (all_rows_text name) params old new rows → AnswersAlone name old rows
+alone_given name params old new rows shown = λ desk stand has there here.
+    let means = all_rows_asked name desk.schema stand.stands.0.at (desk.tree name) (is_in_alone desk name stand.stands.0 stand.apart) in
+    subst (λ all. IsPermutation all rows) (filter_nothing there) (rows_shown_alone desk name old new has (all_rows_text name) params [] (column_names name) refl means rows shown there here)
 
 pub on_failed : {X E B : Type 0} {P : E → Type 0} (r : Result X E) → ((e : E) → P e → B) → IfErr r P → OnErr r B
 on_failed (Ok x) f h = tt
@@ -197,3 +203,10 @@ module _ (params : Row) (old new : State) (r : Result (Vec Row Global) Error) (s
   all_shown name text shown =
       subst (λ (f : List (List Row) → List Row). IfOk r (λ rows. Answers f old rows.items)) (λ i lists. whole_table name lists i)
       (asked name [] (all_rows_text name) (all_rows_asked name) refl params (λ _. true) refl old new r (subst (λ t. IfOk r (λ rows. Shown t params old new rows.items)) text shown))
+
+  pub all_alone : (name : TableName) → sql ≡ all_rows_text name → IfOk r (λ rows. Shown sql params old new rows.items) → IfOk r (λ rows. AnswersAlone name old rows.items)
+  all_alone name text = alone_of r
+    where
+      alone_of : (q : Result (Vec Row Global) Error) → IfOk q (λ rows. Shown sql params old new rows.items) → IfOk q (λ rows. AnswersAlone name old rows.items)
+      alone_of (Ok rows) shown = alone_given name params old new rows.items (subst (λ t. Shown t params old new rows.items) text shown)
+      alone_of (Err e) shown = tt

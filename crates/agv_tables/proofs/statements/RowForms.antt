@@ -250,23 +250,37 @@ module _ (desk : Placing) (is : IsDesk desk) (name : TableName) (old new : State
       (subst (λ r. HaveRows width (put_all (db table.tree) (entry ∷ [])) (r ∷ rows)) whole
       (one_more_row width entry (db table.tree) rows (fresh_one (db table.tree) entry (subst (λ ns. are_fresh (db table.tree) ns ≡ true) news a.fresh)) refl was))) now w.sound
 
-  -- the rows that pass, in some order
-  pub rows_shown : (sql : List ℕ) (params : Row) (terms : List Term) (names : List (List ℕ)) → list_all (reads_within width) terms ≡ true
-      → Means desk.schema sql (Select (record { lets = []; body = query_by table.tree terms (column_terms name) }) names)
+module _ (desk : Placing) (name : TableName) (old new : State) (has : old.now.schema ≡ desk.schema) where
+  abbrev tree : ℕ
+  tree = desk.tree name
+
+  abbrev shown_width : ℕ
+  shown_width = width_of name
+
+  -- the rows that pass, in some order, of a table that may stand without the others
+  pub rows_shown_alone : (sql : List ℕ) (params : Row) (terms : List Term) (names : List (List ℕ)) → list_all (reads_within shown_width) terms ≡ true
+      → Means desk.schema sql (Select (record { lets = []; body = query_by tree terms (column_terms name) }) names)
+      → (rows : List Row) → Shown sql params old new rows → (there : List Row) → HaveRows shown_width (old.now.trees tree) there
+      → IsPermutation (filter (passes terms params) there) rows
+  rows_shown_alone sql params terms names within means rows shown there here =
+      let q = query_by tree terms (column_terms name) in
+      let got = reads_as sql params old new desk.schema has (Select (record { lets = []; body = q }) names) means.is means.plain means.own rows shown in
+      let found = answered_by tree terms (column_terms name) old.now.trees params rows (got.answer Null) in
+      let entries = old.now.trees tree in
+      let same : map (λ e. eval_all (column_terms name) (params ∷ e ∷ [])) (filter (entry_passes terms params) entries) ≡ filter (passes terms params) (map (columns_in shown_width) entries) =
+      each_in_turn (filter (entry_passes terms params) entries)
+      ∙ ap (map (columns_in shown_width)) (filter_alike shown_width terms params within entries)
+      ∙ sym (filter_of_map (passes terms params) (columns_in shown_width) entries) in
+      IsPermutation-trans _ _ _ (IsPermutation-filter (passes terms params) _ _ here.1) (subst (λ xs. IsPermutation xs rows) same found)
+    where
+      each_in_turn : (es : List Row) → map (λ e. eval_all (column_terms name) (params ∷ e ∷ [])) es ≡ map (columns_in shown_width) es
+      each_in_turn [] = refl
+      each_in_turn (e ∷ es) = ap₂ ◌∷◌ (columns_in_turn 1 shown_width params e) (each_in_turn es)
+
+  -- the same of one of the lists
+  pub rows_shown : (sql : List ℕ) (params : Row) (terms : List Term) (names : List (List ℕ)) → list_all (reads_within shown_width) terms ≡ true
+      → Means desk.schema sql (Select (record { lets = []; body = query_by tree terms (column_terms name) }) names)
       → (rows : List Row) → Shown sql params old new rows → (lists : List (List Row)) → Holds desk old.now lists
       → IsPermutation (filter (passes terms params) (table_at (place_of name) lists)) rows
   rows_shown sql params terms names within means rows shown lists h =
-      let q = query_by table.tree terms (column_terms name) in
-      let got = reads_as sql params old new desk.schema has (Select (record { lets = []; body = q }) names) means.is means.plain means.own rows shown in
-      let found = answered_by table.tree terms (column_terms name) old.now.trees params rows (got.answer Null) in
-      let entries = old.now.trees table.tree in
-      let here = table_has desk name old.now.trees lists h.rows in
-      let same : map (λ e. eval_all (column_terms name) (params ∷ e ∷ [])) (filter (entry_passes terms params) entries) ≡ filter (passes terms params) (map (columns_in width) entries) =
-      each_in_turn (filter (entry_passes terms params) entries)
-      ∙ ap (map (columns_in width)) (filter_alike width terms params within entries)
-      ∙ sym (filter_of_map (passes terms params) (columns_in width) entries) in
-      IsPermutation-trans _ _ _ (IsPermutation-filter (passes terms params) _ _ here.1) (subst (λ xs. IsPermutation xs rows) same found)
-    where
-      each_in_turn : (es : List Row) → map (λ e. eval_all (column_terms name) (params ∷ e ∷ [])) es ≡ map (columns_in width) es
-      each_in_turn [] = refl
-      each_in_turn (e ∷ es) = ap₂ ◌∷◌ (columns_in_turn 1 width params e) (each_in_turn es)
+      rows_shown_alone sql params terms names within means rows shown (table_at (place_of name) lists) (table_has desk name old.now.trees lists h.rows)

@@ -98,6 +98,12 @@ pub record IsDesk (desk : Placing) : Type 0 where
   -- no two tables have one tree
   pub apart : IsAscending (λ (s t : Table). s.tree ≢ t.tree) desk.schema.tables
 
+-- these tables stand in the schema, also where others of the fourteen don't
+pub record StandApart (desk : Placing) (names : List TableName) : Type 0 where
+  pub stands : AllByRecursion (TableStands desk) names
+  -- no two tables have one tree
+  pub apart : IsAscending (λ (s t : Table). s.tree ≢ t.tree) desk.schema.tables
+
 -- ---- their rows
 
 -- each entry has a whole number of its own, the rowid, before its columns
@@ -212,3 +218,8 @@ pub record Makes (change : List (List Row) → List (List Row)) (old new : State
 -- the rows that are shown are those that the tables hold, in some order
 abbrev pub Answers : (List (List Row) → List Row) → State → List Row → Type 0
 Answers asked old shown = (desk : Placing) → IsDesk desk → (lists : List (List Row)) → Holds desk old.now lists → IsPermutation (asked lists) shown
+
+-- the rows that are shown are those that this table holds, in some order, also where it stands without the others
+abbrev pub AnswersAlone : TableName → State → List Row → Type 0
+AnswersAlone name old shown =
+    (desk : Placing) → StandApart desk (name ∷ []) → old.now.schema ≡ desk.schema → (rows : List Row) → HaveRows (width_of name) (old.now.trees (desk.tree name)) rows → IsPermutation rows shown

@@ -3,11 +3,11 @@
 //! The rows that are shown are those of any database in which the desk's tables stand (`specs/rows/DeskRows.antt`), in no
 //! order. Whatever a database has, rows that are shown change nothing, and nothing is committed. An error that is a
 //! fault of the store comes only where the store failed, had been shut, or limits the steps of a query.
-ghost use Rattle.std.specs.Prelude.{◌≡◌, ◌⊎◌, false, IfErr, IfOk, OnErr, OnOk};
+ghost use Rattle.std.specs.Prelude.{◌≡◌, ◌⊎◌, [], ◌∷◌, false, IfErr, IfOk, OnErr, OnOk};
 ghost use Rattle.sqlite.specs.State.{HasCleanDisk, IsUnchanged, IsRolledBack, Survives};
 ghost use Rattle.sqlite.specs.Held.{state};
 ghost use Rattle.sqlite.specs.Values.{bound};
-ghost use Rattle.agv_tables.specs.rows.DeskRows.{Answers, Placing, IsDesk, rows_of_key, table_for};
+ghost use Rattle.agv_tables.specs.rows.DeskRows.{Answers, AnswersAlone, Placing, IsDesk, StandApart, rows_of_key, table_for};
 ghost use Rattle.agv_tables.specs.sql.Errors.{IsOfStore};
 ghost use Rattle.agv_tables.specs.sql.Connections.{HasStorageCause};
 ghost use Rattle.agv_tables.specs.statements.RowQueries.{FitsColumns, all_rows_of, columns_asked, rows_asked, table_asked};
@@ -59,17 +59,18 @@ pub(crate) fn find_rows_by<S: Alter>(
     conn.query_all(query(by), values)
 }
 
-/// All rows of a table.
+/// All rows of a table, which may stand without the others.
 pub(crate) fn find_all_rows<S: Alter>(
     conn: &mut Connection<S>,
     table: TableName,
 ) -> Result<Vec<Row>, Error>
     ensures shown { HasCleanDisk (state S.Store conn.new) → IfOk result (λ rows. Answers (all_rows_of table) (state S.Store conn.old) rows.items) }
+    ensures alone { HasCleanDisk (state S.Store conn.new) → IfOk result (λ rows. AnswersAlone table (state S.Store conn.old) rows.items) }
     ensures kept { HasCleanDisk (state S.Store conn.new) → OnOk result (IsUnchanged (state S.Store conn.old) (state S.Store conn.new)) }
     ensures failed { HasCleanDisk (state S.Store conn.new)
         → OnErr result (IsUnchanged (state S.Store conn.old) (state S.Store conn.new) ⊎ IsRolledBack (state S.Store conn.old) (state S.Store conn.new)) }
     ensures caused { HasCleanDisk (state S.Store conn.new) → IfErr result (λ e. IsOfStore e
-        → (desk : Placing) → IsDesk desk → (state S.Store conn.old).now.schema ≡ desk.schema
+        → (desk : Placing) → StandApart desk (table ∷ []) → (state S.Store conn.old).now.schema ≡ desk.schema
         → HasStorageCause S.Store conn.old conn.new) }
     ensures idle { conn.old.in_transaction ≡ false → conn.new.in_transaction ≡ false }
     ensures survives { Survives (state S.Store conn.old) (state S.Store conn.new) (λ _. ⊥) }

@@ -1,6 +1,6 @@
 use Rattle.std.proofs.Common.{refl}
 use Rattle.sqlite.specs.Held.{state}
-use Rattle.agv_tables.proofs.statements.DeskStatements.{all_shown, on_failed}
+use Rattle.agv_tables.proofs.statements.DeskStatements.{all_alone, all_shown, on_failed}
 use Rattle.agv_tables.proofs.sql.ReadFailing.{all_caused}
 use Rattle.agv_tables.proofs.sql.Running.{query_fails}
 use Rattle.agv_tables.proofs.sql.Selecting.{all_selects, select_keeps, select_survives}
@@ -9,6 +9,10 @@ use Rattle.agv_tables.proofs.statements.row_reads.find_all_rows.Goals as goal
 pub returns-clause-shown : goal.returns-clause-shown
 returns-clause-shown g c clean =
     all_shown _ (state g.S.Store c.args.conn.now) (state g.S.Store c.query_all.new.self) c.query_all.result c.all_rows.result.now c.args.table c.all_rows.ensures (c.query_all.ensures.ok clean)
+
+pub returns-clause-alone : goal.returns-clause-alone
+returns-clause-alone g c clean =
+    all_alone _ (state g.S.Store c.args.conn.now) (state g.S.Store c.query_all.new.self) c.query_all.result c.all_rows.result.now c.args.table c.all_rows.ensures (c.query_all.ensures.ok clean)
 
 pub returns-clause-failed : goal.returns-clause-failed
 returns-clause-failed g c clean = on_failed c.query_all.result (λ e. query_fails _ _ _ _ e) (c.query_all.ensures.err clean)
