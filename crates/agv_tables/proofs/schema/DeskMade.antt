@@ -36,25 +36,7 @@ free_of s (t ∷ all) free = let p = or_parts _ _ free in (p.0, free_of s all p.
 
 tables_own : tables.AreOwn desk_tables
 unfolding everything
-tables_own = (
-  ((λ rest. refl), refl),
-  (
-    ((λ rest. refl), refl),
-    (
-      ((λ rest. refl), refl),
-      (
-        ((λ rest. refl), refl),
-        (
-          ((λ rest. refl), refl),
-          (
-            ((λ rest. refl), refl),
-            (((λ rest. refl), refl), (((λ rest. refl), refl), (((λ rest. refl), refl), (((λ rest. refl), refl), (((λ rest. refl), refl), tt))))),
-          ),
-        ),
-      ),
-    ),
-  ),
-)
+tables_own = (((λ rest. refl), refl), (((λ rest. refl), refl), (((λ rest. refl), refl), (((λ rest. refl), refl), (((λ rest. refl), refl), (((λ rest. refl), refl), (((λ rest. refl), refl), (((λ rest. refl), refl), (((λ rest. refl), refl), (((λ rest. refl), refl), (((λ rest. refl), refl), (((λ rest. refl), refl), (((λ rest. refl), refl), (((λ rest. refl), refl), tt))))))))))))))
 
 tables_apart : tables.are_apart desk_tables ≡ true
 unfolding everything

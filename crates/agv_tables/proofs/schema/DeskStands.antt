@@ -68,7 +68,7 @@ module _ (name : List ℕ) where
 
   desk_leaves : (s : Schema) → Roomy s → Roomy (with_desk s)
   desk_leaves s room = indexes_leave (fold with_new_table s desk_tables) desk_indexes
-      (tables_leave s desk_tables (refl, (refl, (refl, (refl, (refl, (refl, (refl, (refl, (refl, (refl, (refl, tt))))))))))) room)
+      (tables_leave s desk_tables (refl, (refl, (refl, (refl, (refl, (refl, (refl, (refl, (refl, (refl, (refl, (refl, (refl, (refl, tt)))))))))))))) room)
 
 -- ---- a table by its name
 
@@ -85,6 +85,9 @@ module _ (db : Database) (h : HasDesk db first_rows) where
   has_table the.Job = h.1.1.1.1.1.1.1.1.0
   has_table the.Hold = h.1.1.1.1.1.1.1.1.1.0
   has_table the.Used = h.1.1.1.1.1.1.1.1.1.1.0
+  has_table the.Capacity = h.1.1.1.1.1.1.1.1.1.1.1.0
+  has_table the.Journey = h.1.1.1.1.1.1.1.1.1.1.1.1.0
+  has_table the.Act = h.1.1.1.1.1.1.1.1.1.1.1.1.1.0
 
   abbrev desk : Placing
   desk = record { schema = db.schema; tree = λ name. (has_table name).tree }
@@ -130,7 +133,7 @@ stands_new db listed h rooms =
       record { stands = λ name. stands db h listed name (rooms name).unreferred; apart = (rooms the.Meta).apart },
       record {
         schema_is = refl;
-        rows = (have the.Meta (refl, tt), (have the.Node tt, (have the.Edge tt, (have the.Station tt, (have the.Vehicle tt, (have the.Trip tt, (have the.Leg tt, (have the.Load tt, (have the.Job tt, (have the.Hold tt, (have the.Used tt, tt)))))))))));
+        rows = (have the.Meta (refl, tt), (have the.Node tt, (have the.Edge tt, (have the.Station tt, (have the.Vehicle tt, (have the.Trip tt, (have the.Leg tt, (have the.Load tt, (have the.Job tt, (have the.Hold tt, (have the.Used tt, (have the.Capacity tt, (have the.Journey tt, (have the.Act tt, tt))))))))))))));
       },
     )
 

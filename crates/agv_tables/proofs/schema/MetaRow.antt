@@ -39,6 +39,7 @@ use Rattle.sqlite.specs.Effect.{Database, IsDatabase}
 use Rattle.sqlite.specs.State.{text_of}
 use Rattle.sqlite.proofs.Callers.{one_step}
 use Rattle.agv_tables.specs.schema.Schema.{meta_table}
+use Rattle.agv_tables.specs.schema.SchemaNumbers.{schema_number}
 use Rattle.agv_tables.specs.schema.SchemaTexts.{meta_text}
 use Rattle.agv_tables.specs.schema.DeskTables.{HasRows}
 use Rattle.agv_tables.specs.schema.DeskTables.{HasTable}
@@ -50,11 +51,11 @@ use Rattle.agv_tables.proofs.schema.TableTexts.{parsed}
 
 -- the row
 abbrev pub meta_row : Row
-meta_row = Int (pos 1) ∷ Int (pos 1) ∷ []
+meta_row = Int (pos 1) ∷ Int (pos schema_number) ∷ []
 
 -- its terms, behind the number of the row, which the database chooses
 abbrev row_terms : List Term
-row_terms = lit Null ∷ lit (Int (pos 1)) ∷ lit (Int (pos 1)) ∷ []
+row_terms = lit Null ∷ lit (Int (pos 1)) ∷ lit (Int (pos schema_number)) ∷ []
 
 abbrev insertion : ℕ → Command
 insertion at = Insert at (Values row_terms 3)
@@ -130,7 +131,7 @@ unfolding unary
 number_kept n = either _ (Int n)
 
 fits : cast_all meta_table.columns meta_row ≡ meta_row
-fits = rw (number_kept (pos 1)) refl
+fits = rw (number_kept (pos 1), number_kept (pos schema_number)) refl
 
 -- the row is in `meta`, and the other tables have the rows that they had
 pub record GetsRow (old new : Database) (tree : ℕ) : Type 0 where

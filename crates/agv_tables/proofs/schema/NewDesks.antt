@@ -17,7 +17,8 @@ use Rattle.agv_layout.specs.declared.station.StationSite.{StationSite}
 use Rattle.agv_stock.specs.declared.place.Place.{Place}
 use Rattle.agv_world.specs.KeyOrders.{use_cmp-total}
 use Rattle.agv_world.specs.Keys.{leg_cmp, use_cmp}
-use Rattle.agv_world.specs.Rows.{Rows, rows_of, vehicle_rows, trip_rows, leg_rows, hold_rows}
+use Rattle.agv_trip_rows.specs.TripRows.{acts_of, journeys_of}
+use Rattle.agv_world.specs.Rows.{Rows, rows_of, vehicle_rows, trip_rows, leg_rows, hold_rows, schema_number}
 use Rattle.agv_world.specs.Spread.{spread}
 use Rattle.agv_world.specs.Worlds.{empty_world}
 use Rattle.agv_world.specs.declared.key.LegKey.{LegKey}
@@ -27,6 +28,7 @@ use Rattle.agv_world.specs.declared.row.TripRow.{TripRow}
 use Rattle.agv_world.specs.declared.row.VehicleRow.{VehicleRow}
 use Rattle.agv_tables.specs.schema.DeskTables.{first_rows}
 use Rattle.agv_tables.specs.rows.RowLists.{row_lists}
+use Rattle.agv_tables.proofs.rows.TripRowLaws.{ActsListed, JourneysListed}
 
 no_entries : {K X : Type 0} (R : K → K → Ordering) → finite.entries (finite.empty {K = K} {X = X} {R = R}) ≡ []
 no_entries {K} {X} R = nil_from_length _ (sym (finite.len-entries (finite.empty {K = K} {X = X} {R = R})) ∙ finite.len-empty R X)
@@ -46,7 +48,7 @@ nothing_spread {K} {X} R S rows = rw (no_entries {K = K} {X = X} R)
 -- the row of the schema's number, and nothing else
 abbrev nothing : Rows
 nothing = record {
-  meta = finite.insert finite.empty 1 1;
+  meta = finite.insert finite.empty 1 schema_number;
   nodes = set.empty;
   edges = finite.empty;
   stations = finite.empty;
@@ -68,17 +70,24 @@ rows_of_nothing = rw (
   no_items name_cmp nat_list_cmp_total,
 )
 
-lists_of_nothing : row_lists nothing ≡ first_rows
+no_journeys : JourneysListed → finite.entries (journeys_of finite.empty) ≡ []
+no_journeys listed = listed finite.empty ∙ rw (no_entries {K = List ℕ} {X = TripRow} name_cmp)
+
+no_acts : ActsListed → finite.entries (acts_of finite.empty) ≡ []
+no_acts listed = listed finite.empty ∙ rw (no_entries {K = List ℕ} {X = TripRow} name_cmp)
+
+lists_of_nothing : JourneysListed → ActsListed → row_lists nothing ≡ first_rows
 unfolding row_lists
-lists_of_nothing = rw (
-  finite.entries-insert nat_cmp_total (finite.empty {K = ℕ} {X = ℕ} {R = nat_cmp}) 1 1,
+lists_of_nothing journeys acts = rw (
+  finite.entries-insert nat_cmp_total (finite.empty {K = ℕ} {X = ℕ} {R = nat_cmp}) 1 schema_number,
   no_entries {K = ℕ} {X = ℕ} nat_cmp,
   no_items name_cmp nat_list_cmp_total,
   no_items use_cmp use_cmp-total,
   no_entries {K = List ℕ} {X = EdgeEnds} name_cmp,
   no_entries {K = List ℕ} {X = StationSite} name_cmp,
   no_entries {K = VehicleKey} {X = VehicleRow} key_cmp,
-  no_entries {K = List ℕ} {X = TripRow} name_cmp,
+  no_journeys journeys,
+  no_acts acts,
   no_entries {K = LegKey} {X = List ℕ} leg_cmp,
   no_entries {K = List ℕ} {X = Place} name_cmp,
   no_entries {K = List ℕ} {X = JobRow} name_cmp,
@@ -87,5 +96,5 @@ lists_of_nothing = rw (
   no_entries {K = UseKey} {X = Unit {0}} use_cmp,
 )
 
-pub first_are_empty : row_lists (rows_of empty_world) ≡ first_rows
-first_are_empty = ap row_lists rows_of_nothing ∙ lists_of_nothing
+pub first_are_empty : JourneysListed → ActsListed → row_lists (rows_of empty_world) ≡ first_rows
+first_are_empty journeys acts = ap row_lists rows_of_nothing ∙ lists_of_nothing journeys acts

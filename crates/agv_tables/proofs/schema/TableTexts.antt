@@ -8,13 +8,13 @@ use Rattle.sqlite_syntax.specs.declared.statement.Parsed.{Parsed}
 use Rattle.sqlite_resolve.specs.Lowering.{Checked}
 use Rattle.sqlite_resolve.specs.Compile.{first}
 use Rattle.sqlite_tied.specs.Compute.{everything}
-use Rattle.agv_tables.specs.schema.Schema.{meta_table, node_table, edge_table, station_table, vehicle_table, trip_table, leg_table, place_table, job_table, hold_table, used_table, desk_tables}
+use Rattle.agv_tables.specs.schema.Schema.{meta_table, node_table, edge_table, station_table, vehicle_table, trip_table, leg_table, place_table, job_table, hold_table, used_table, capacity_table, journey_table, act_table, desk_tables}
 use Rattle.agv_tables.specs.schema.SchemaTexts.{table_texts, DefineTables}
 use Rattle.agv_tables.proofs.schema.Creations.{DefinesTable}
 
 pub all_defined : DefineTables
 unfolding everything
-all_defined = (refl, (refl, (refl, (refl, (refl, (refl, (refl, (refl, (refl, (refl, (refl, tt)))))))))))
+all_defined = (refl, (refl, (refl, (refl, (refl, (refl, (refl, (refl, (refl, (refl, (refl, (refl, (refl, (refl, tt))))))))))))))
 
 -- ---- the parts of a text
 
@@ -83,5 +83,17 @@ used_defined : DefinesTable (text_at 10) used_table
 unfolding everything
 used_defined = let p = parsed (text_at 10) in record { parsed = p; def = def_in p.statement tt; read = refl; untimed = refl; is = refl; name = refl; own = refl; defined = refl; known = refl; whole = refl; made = refl }
 
+capacity_defined : DefinesTable (text_at 11) capacity_table
+unfolding everything
+capacity_defined = let p = parsed (text_at 11) in record { parsed = p; def = def_in p.statement tt; read = refl; untimed = refl; is = refl; name = refl; own = refl; defined = refl; known = refl; whole = refl; made = refl }
+
+journey_defined : DefinesTable (text_at 12) journey_table
+unfolding everything
+journey_defined = let p = parsed (text_at 12) in record { parsed = p; def = def_in p.statement tt; read = refl; untimed = refl; is = refl; name = refl; own = refl; defined = refl; known = refl; whole = refl; made = refl }
+
+act_defined : DefinesTable (text_at 13) act_table
+unfolding everything
+act_defined = let p = parsed (text_at 13) in record { parsed = p; def = def_in p.statement tt; read = refl; untimed = refl; is = refl; name = refl; own = refl; defined = refl; known = refl; whole = refl; made = refl }
+
 pub each_defined : AllZip DefinesTable table_texts desk_tables
-each_defined = (meta_defined, (node_defined, (edge_defined, (station_defined, (vehicle_defined, (trip_defined, (leg_defined, (place_defined, (job_defined, (hold_defined, (used_defined, tt)))))))))))
+each_defined = (meta_defined, (node_defined, (edge_defined, (station_defined, (vehicle_defined, (trip_defined, (leg_defined, (place_defined, (job_defined, (hold_defined, (used_defined, (capacity_defined, (journey_defined, (act_defined, tt))))))))))))))

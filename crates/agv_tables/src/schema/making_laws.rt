@@ -7,6 +7,7 @@ ghost use Rattle.agv_tables.specs.schema.DeskTables.{first_rows};
 ghost use Rattle.agv_tables.specs.schema.NewDesk.{KnowsNothing, MadeDesksStand, OpeningsFindEither, StandsNew, TreesTellNames, TreesTellSchemas, TreesTellTables};
 ghost use Rattle.agv_tables.specs.rows.RowLists.{row_lists};
 
+use agv_trip_rows::row_laws::rows_have_keys;
 use agv_world::lawful_laws::begins_lawful;
 
 /// Where the tables that were there leave room, what [`make_desk_tables`](crate::schema::desk_tables::make_desk_tables)
@@ -40,4 +41,5 @@ pub fn new_desks_know_nothing()
     ensures world { (db : Database) → StandsNew db → KnowsNothing db }
 {
     begins_lawful();
+    rows_have_keys();
 }

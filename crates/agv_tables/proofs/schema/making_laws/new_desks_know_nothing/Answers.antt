@@ -1,17 +1,18 @@
 use Rattle.std.proofs.Common.{sym, subst}
 use Rattle.agv_tables.specs.rows.DeskRows.{Holds}
+use Rattle.agv_tables.specs.schema.SchemaNumbers.{desk_seats}
 use Rattle.agv_tables.proofs.schema.NewDesks.{first_are_empty}
 use Rattle.agv_tables.proofs.schema.making_laws.new_desks_know_nothing.Goals as goal
 
 pub returns-clause-rows : goal.returns-clause-rows
-returns-clause-rows c = first_are_empty
+returns-clause-rows c = first_are_empty c.rows_have_keys.ensures.journeys_listed c.rows_have_keys.ensures.acts_listed
 
 pub returns-clause-world : goal.returns-clause-world
 returns-clause-world c db new = (
   new.0,
   record {
     stands = new.1;
-    lawful = c.begins_lawful.ensures 1;
-    rows = subst (λ lists. Holds new.0 db lists) (sym first_are_empty) new.2;
+    lawful = c.begins_lawful.ensures desk_seats;
+    rows = subst (λ lists. Holds new.0 db lists) (sym (returns-clause-rows c)) new.2;
   },
 )
