@@ -2,7 +2,7 @@
 //! later one. Once the files are opened again the desk is there, with the rows before that call or after it.
 
 use crate::cases::check;
-use crate::disks::{FailingDisk, blank, reopen};
+use crate::disks::{blank, reopen};
 use crate::table_cases::{
     Request, adopted, call_in, check_rows, made, moment, opened, rows_text, serve_calls,
 };
@@ -11,12 +11,10 @@ use agv_desk::Answer;
 use agv_http::Routes;
 use agv_store::{Desk, OpenFault};
 use agv_world::Fault;
-use sqlite::{Alter, Connection, FileStore, MemStore, Options};
-use sqlite_disk::Disk;
+use sqlite::{Alter, Connection, FileStore, Files, MemStore, Options};
+use sqlite_disk::Crash;
 use std::alloc::Global;
 use std::process::Abort;
-
-type FailingStore = FileStore<FailingDisk>;
 
 /// The rows of a new desk, and those after each call of the example.
 fn all_rows(rt: &impl Abort, alloc: Global) -> Vec<String> {
@@ -79,9 +77,12 @@ fn check_stays_failed<S: Alter + Drop>(rt: &impl Abort, alloc: Global, desk: &mu
     }
 }
 
-/// A new desk whose log or database file fails from this call on, unless it fails before.
-fn failing_desk(rt: &impl Abort, alloc: Global, log: u64, db: u64) -> Option<Desk<FailingStore>> {
-    let files = blank(alloc, log, db);
+/// A new desk over empty files that fail from some call on, unless they fail before.
+fn failing_desk<D: Crash + Drop>(
+    rt: &impl Abort,
+    alloc: Global,
+    files: Files<D>,
+) -> Option<Desk<FileStore<D>>> {
     assert!(rt; files.log.may_be_used(), "the log");
     assert!(rt; files.db.may_be_used(), "the database file");
     let Ok(conn) = Connection::open_files(alloc, files, Options::new(7)) else {
@@ -101,15 +102,20 @@ fn failing_desk(rt: &impl Abort, alloc: Global, log: u64, db: u64) -> Option<Des
 }
 
 /// The rows of the desk that the files have.
-fn rows_left(rt: &impl Abort, alloc: Global, desk: Desk<FailingStore>) -> String {
+fn rows_left<D: Crash + Drop>(rt: &impl Abort, alloc: Global, desk: Desk<FileStore<D>>) -> String {
     let conn = reopen(rt, alloc, desk.release_conn());
     let mut conn = adopted(rt, alloc, conn).release_conn();
     rows_text(rt, alloc, &mut conn)
 }
 
-/// Serves the example by a desk whose store fails. It gives whether the whole example was answered.
-fn check_failing(rt: &impl Abort, alloc: Global, texts: &[String], log: u64, db: u64) -> bool {
-    let Some(mut desk) = failing_desk(rt, alloc, log, db) else {
+/// Serves the example by a desk over empty files that fail. It gives whether the whole example was answered.
+fn check_failing<D: Crash + Drop>(
+    rt: &impl Abort,
+    alloc: Global,
+    texts: &[String],
+    files: Files<D>,
+) -> bool {
+    let Some(mut desk) = failing_desk(rt, alloc, files) else {
         return false;
     };
     let answered = serve_until_it_fails(rt, alloc, &mut desk);
@@ -134,7 +140,8 @@ fn the_database_file_fails(rt: HostRuntime) {
     let alloc = rt.alloc();
     let texts = all_rows(&rt, alloc);
     for calls in 0..MOST {
-        if check_failing(&rt, alloc, texts.as_slice(), u64::MAX, calls) {
+        let files = blank(alloc, u64::MAX, calls);
+        if check_failing(&rt, alloc, texts.as_slice(), files) {
             return;
         }
     }

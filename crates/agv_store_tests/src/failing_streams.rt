@@ -9,12 +9,10 @@ use crate::table_cases::{adopted, made, moment};
 use agv_face::{Ended, StreamFault, StreamSummary, serve_stream};
 use agv_header::Refusal;
 use agv_store::Desk;
-use sqlite::{Connection, FileStore, Files, Options};
-use sqlite_disk::{Disk, Fuse, Memory};
+use sqlite::{Alter, Connection, FileStore, Files, Options};
+use sqlite_disk::{Crash, Fuse, Memory};
 use std::alloc::Global;
 use std::process::Abort;
-
-type FailingStore = FileStore<FailingDisk>;
 
 /// Registers the loads L1 to L3.
 const REGISTERED: &[u8] =
@@ -70,7 +68,7 @@ fn places(rt: &impl Abort, alloc: Global, count: u64) -> Vec<u8> {
 }
 
 /// Each stream is refused with its first call.
-fn check_stays_failed(rt: &impl Abort, alloc: Global, desk: &mut Desk<FailingStore>) {
+fn check_stays_failed<S: Alter + Drop>(rt: &impl Abort, alloc: Global, desk: &mut Desk<S>) {
     for input in &REFUSED {
         let mut reader = Drip::counting(input, 4096, 1000);
         let mut writer = Trickle::counting(alloc, 4096, 1000);
@@ -85,7 +83,12 @@ fn check_stays_failed(rt: &impl Abort, alloc: Global, desk: &mut Desk<FailingSto
 
 /// The files are opened again and the desk is taken over: the loads of answered calls are there, that of the refused call may be,
 /// and the later ones are not.
-fn check_loads(rt: &impl Abort, alloc: Global, desk: Desk<FailingStore>, answered: u64) {
+fn check_loads<D: Crash + Drop>(
+    rt: &impl Abort,
+    alloc: Global,
+    desk: Desk<FileStore<D>>,
+    answered: u64,
+) {
     let conn = reopen(rt, alloc, desk.release_conn());
     let mut desk = adopted(rt, alloc, conn);
     let mut reader = Drip::counting(ASKED, 4096, 1000);
@@ -118,8 +121,11 @@ fn files_of_a_desk(rt: &impl Abort, alloc: Global, log: u64) -> Files<FailingDis
 }
 
 /// The desk in such files, where it is opened before the log fails.
-fn desk_before_it_fails(rt: &impl Abort, alloc: Global, log: u64) -> Option<Desk<FailingStore>> {
-    let files = files_of_a_desk(rt, alloc, log);
+fn desk_before_it_fails<D: Crash + Drop>(
+    rt: &impl Abort,
+    alloc: Global,
+    files: Files<D>,
+) -> Option<Desk<FileStore<D>>> {
     assert!(rt; files.log.may_be_used(), "the log");
     assert!(rt; files.db.may_be_used(), "the database file");
     let Ok(conn) = Connection::open_files(alloc, files, Options::new(7)) else {
@@ -132,9 +138,9 @@ fn desk_before_it_fails(rt: &impl Abort, alloc: Global, log: u64) -> Option<Desk
     }
 }
 
-/// Registers the loads by a desk whose log fails from this call on. It gives whether all were registered.
-fn check_failing(rt: &impl Abort, alloc: Global, log: u64) -> bool {
-    let Some(mut desk) = desk_before_it_fails(rt, alloc, log) else {
+/// Registers the loads by the desk in files whose log fails from some call on. It gives whether all were registered.
+fn check_failing<D: Crash + Drop>(rt: &impl Abort, alloc: Global, files: Files<D>) -> bool {
+    let Some(mut desk) = desk_before_it_fails(rt, alloc, files) else {
         return false;
     };
     let mut reader = Drip::counting(REGISTERED, 4096, 1000);
@@ -171,7 +177,8 @@ const MOST: u64 = 1000;
 #[test]
 fn the_log_fails(rt: HostRuntime) {
     for calls in 0..MOST {
-        if check_failing(&rt, rt.alloc(), calls) {
+        let files = files_of_a_desk(&rt, rt.alloc(), calls);
+        if check_failing(&rt, rt.alloc(), files) {
             return;
         }
     }

@@ -144,18 +144,17 @@ fn answers(rt: &impl Abort, alloc: Global) -> String {
     text
 }
 
-#[test]
-fn reports_of_100_000_loads(rt: HostRuntime) {
-    let alloc = rt.alloc();
-    let mut conn = Connection::open(&rt, "reports_of_100_000_loads.db").expect(&rt, "a file");
+/// Writes the loads, and compares the answers.
+fn check_reports<S: Alter + Drop>(rt: &impl Abort, alloc: Global, conn: Connection<S>) {
+    let mut conn = conn;
     assert!(rt; conn.is_autocommit(), "idle");
-    make_desk_tables(&mut conn).expect(&rt, "tables");
-    write_layout(&rt, alloc, &mut conn);
+    make_desk_tables(&mut conn).expect(rt, "tables");
+    write_layout(rt, alloc, &mut conn);
     for thousand in 0..100 {
-        write_loads(&rt, alloc, &mut conn, thousand * TOGETHER);
+        write_loads(rt, alloc, &mut conn, thousand * TOGETHER);
     }
-    let mut desk = adopted(&rt, alloc, conn);
-    let wanted = answers(&rt, alloc);
+    let mut desk = adopted(rt, alloc, conn);
+    let wanted = answers(rt, alloc);
     let mut reader = Drip::counting(ASKED, 4096, 1000);
     let mut writer = Trickle::counting(alloc, 4096, 10_000);
     let end = Ok(StreamSummary {
@@ -163,7 +162,7 @@ fn reports_of_100_000_loads(rt: HostRuntime) {
         ended: Ended::End,
     });
     check_stream(
-        &rt,
+        rt,
         alloc,
         &mut desk,
         &mut reader,
@@ -171,4 +170,10 @@ fn reports_of_100_000_loads(rt: HostRuntime) {
         end,
         wanted.as_bytes(),
     );
+}
+
+#[test]
+fn reports_of_100_000_loads(rt: HostRuntime) {
+    let conn = Connection::open(&rt, "reports_of_100_000_loads.db").expect(&rt, "a file");
+    check_reports(&rt, rt.alloc(), conn);
 }
