@@ -5,10 +5,9 @@ use Rattle.sqlite.specs.Effect.{Database, IsDatabase}
 use Rattle.agv_world.specs.Changes.{changed}
 use Rattle.agv_world.specs.Rows.{Rows}
 use Rattle.agv_world.specs.declared.change.Change.{Change}
-use Rattle.agv_tables.specs.changes.ChangesMade.{MakesChanges, MayFind}
+use Rattle.agv_tables.specs.changes.ChangesMade.{ChangesWorlds, MakesChanges, MayFind}
 use Rattle.agv_tables.specs.rows.DeskRows.{Placing, Holds, IsDesk}
 use Rattle.agv_tables.specs.rows.RowLists.{listed_all, row_lists}
-use Rattle.agv_tables.proofs.changes.ChangesRun.{worlds_changed}
 use Rattle.agv_tables.proofs.schema.SchemasTold.{trees_tell_schemas}
 
 -- trees tell the database
@@ -29,8 +28,8 @@ module _ (changes : List Change) (desk : Placing) (old found : Database) where
     | inr made ↦ inr (made.rows desk is lists h)
   ]
 
-  pub worlds_found : (rows : Rows) → IsDesk desk → Holds desk old (row_lists rows) → IsDatabase old → MayFind changes old found → Holds desk found (row_lists rows) ⊎ Holds desk found (row_lists (changed changes rows))
-  worlds_found rows is h listed may = elim (found_either is h.schema_is listed may) [
+  pub worlds_found : ((changes : List Change) (old new : Database) → MakesChanges changes old new → ChangesWorlds changes old new) → (rows : Rows) → IsDesk desk → Holds desk old (row_lists rows) → IsDatabase old → MayFind changes old found → Holds desk found (row_lists rows) ⊎ Holds desk found (row_lists (changed changes rows))
+  worlds_found make rows is h listed may = elim (found_either is h.schema_is listed may) [
     | inl same ↦ inl (subst (λ db. Holds desk db (row_lists rows)) (sym same) h)
-    | inr made ↦ inr (worlds_changed changes old found made desk is rows h)
+    | inr made ↦ inr (make changes old found made desk is rows h)
   ]

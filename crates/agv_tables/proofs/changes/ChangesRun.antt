@@ -9,7 +9,8 @@ use Rattle.agv_tables.specs.changes.ChangesMade.{ChangesWorlds, MakesChanges}
 use Rattle.agv_tables.specs.rows.DeskRows.{Makes}
 use Rattle.agv_tables.specs.rows.RowLists.{listed, listed_all}
 use Rattle.agv_tables.proofs.statements.DeskStatements.{keeps_others_as_is, makes_then}
-use Rattle.agv_tables.proofs.rows.ListsHeld.{held_changed, listed_in_turn}
+use Rattle.agv_tables.proofs.rows.ListsFollow.{listed_in_turn}
+use Rattle.agv_tables.proofs.rows.ListsHeld.{FollowAll, held_changed}
 
 pub makes_none : (a : State) → IsTrue a.in_transaction → Makes (listed_all []) a a
 unfolding listed_all
@@ -37,5 +38,5 @@ all_made all i a b whole p =
     let q = subst (λ changes. Makes (listed_all changes) a b) (take_all i all whole) p in
     record { rows = q.made; others = q.others; listed = q.listed }
 
-pub worlds_changed : (changes : List Change) (old new : Database) → MakesChanges changes old new → ChangesWorlds changes old new
-worlds_changed changes old new all desk is rows = held_changed desk old new changes rows (all.rows desk is)
+pub worlds_changed : FollowAll → (changes : List Change) (old new : Database) → MakesChanges changes old new → ChangesWorlds changes old new
+worlds_changed follow changes old new all desk is rows = held_changed follow desk old new changes rows (all.rows desk is)

@@ -14,7 +14,6 @@ use Rattle.agv_world.specs.declared.change.Change.{Change}
 use Rattle.agv_tables.specs.rows.DeskRows.{Placing, Holds, HaveRows, IsDesk, table_for, table_in, table_names, width_of}
 use Rattle.agv_tables.specs.rows.RowLists.{ActsAreOfJobs, AreAlike, TellRows, listed_all, row_lists}
 use Rattle.agv_tables.specs.declared.schema.table_name.TableName.{TableName}
-pub use Rattle.agv_tables.proofs.rows.ListsFollow.{listed_in_turn}
 
 -- ---- lists
 

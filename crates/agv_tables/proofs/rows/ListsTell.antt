@@ -1,33 +1,32 @@
--- Lists tell the rows of one world alone, where each vehicle carries one load.
-use Rattle.std.proofs.Common.{◌≡◌, ℕ, zero, suc, Bool, List, [], ◌∷◌, Some, Ordering, IsPermutation, refl, sym, ap, subst, ◌∙◌}
-use Rattle.std.proofs.lemmas.List.Sorted.{IsPermutation-refl}
-use Rattle.std.proofs.lemmas.Option.{same_Some}
+-- Lists tell the rows of one world alone, where each act of a trip has the load and the station of its job.
+use Rattle.std.proofs.Common.{◌≡◌, ℕ, zero, suc, Bool, List, [], ◌∷◌, filter, Some, Ordering, IsPermutation, refl, sym, subst}
+use Rattle.std.proofs.lemmas.List.Sorted.{IsPermutation-refl, IsPermutation-sym, IsPermutation-trans}
 use Rattle.std.specs.Cmp.{IsTotalOrder, nat_cmp_total}
 use Rattle.std.specs.Cmp.Lexicographic.{nat_list_cmp_total}
 use Rattle.std.specs.FinMap as finite
 use Rattle.std.specs.FinMap.{IsAntisymmetric, nat_cmp-IsAntisymmetric}
 use Rattle.std.specs.FinSet as set
+use Rattle.std.specs.List.{AllByRecursion}
 use Rattle.std.specs.Ordering.{eq_by_cmp}
 use Rattle.sqlite_value.specs.Order.{Row}
 use Rattle.agv_header.specs.KeyOrder.{key_cmp-total, key_cmp-IsAntisymmetric}
 use Rattle.agv_header.specs.Name.{name_cmp}
 use Rattle.agv_header.specs.ThingOrder.{thing_cmp-total, thing_cmp-IsAntisymmetric}
+use Rattle.agv_trip_rows.specs.TripRows.{acts_of, journeys_of}
+use Rattle.agv_trip_rows.specs.TripsTold.{IsOfJob}
 use Rattle.agv_world.specs.KeyOrders.{leg_cmp-total, leg_cmp-IsAntisymmetric, use_cmp-total, use_cmp-IsAntisymmetric}
 use Rattle.agv_world.specs.Rows.{Rows}
 use Rattle.agv_world.specs.declared.row.JobRow.{JobRow}
-use Rattle.agv_world.specs.declared.row.TripRow.{TripRow}
 use Rattle.agv_tables.specs.rows.ValueEncodings.{number_cell}
-use Rattle.agv_tables.specs.rows.Columns.{meta_columns, node_columns, edge_columns, station_columns, vehicle_columns, trip_columns, leg_columns, load_columns, job_columns, hold_columns, used_columns}
+use Rattle.agv_tables.specs.rows.Columns.{meta_columns, node_columns, edge_columns, station_columns, vehicle_columns, room_columns, journey_columns, act_columns, leg_columns, load_columns, job_columns, hold_columns, used_columns}
 use Rattle.agv_tables.specs.rows.DeskRows.{table_at, has_key}
 use Rattle.agv_tables.specs.rows.RowKeys.{name_key, vehicle_key, leg_key, hold_key}
-use Rattle.agv_tables.specs.rows.RowLists.{AreAlike, TellRows, CarriesOneEach, IsTripOfJob, row_lists, marked, rows_for, row_if}
-use Rattle.agv_tables.specs.rows.TripLines.{line_of, trip_told}
+use Rattle.agv_tables.specs.rows.RowLists.{ActsAreOfJobs, AreAlike, TellRows, row_lists, marked, rows_for, rows_in}
 use Rattle.agv_tables.specs.declared.schema.table_name.TableName.TheVariants as the
-use Rattle.agv_tables.specs.declared.rows.trip_line.TripLine.{TripLine}
-use Rattle.agv_tables.proofs.rows.ColumnsTell.{meta_tells, edge_tells, station_tells, vehicle_tells, line_tells, leg_tells, load_tells, job_tells, hold_tells}
-use Rattle.agv_tables.proofs.rows.KeyedRows.{one_map, one_table, no_row, same_row}
-use Rattle.agv_tables.proofs.sql.KeyTests.{meta_tested, node_tested, edge_tested, station_tested, vehicle_tested, leg_tested, load_tested, job_tested, hold_tested, used_tested}
-use Rattle.agv_tables.proofs.rows.ListsFollow.{names_apart, trip_tested}
+use Rattle.agv_tables.proofs.rows.ColumnsTell.{meta_tells, edge_tells, station_tells, room_tells, vehicle_tells, journey_tells, act_tells, leg_tells, load_tells, job_tells, hold_tells}
+use Rattle.agv_tables.proofs.rows.KeyedRows.{one_row, one_table, row-found, rows_at, same_row}
+use Rattle.agv_tables.proofs.rows.TripRowLaws.{TellOneTable}
+use Rattle.agv_tables.proofs.sql.KeyTests.{act_tested, capacity_tested, journey_tested, meta_tested, names_apart, node_tested, edge_tested, station_tested, vehicle_tested, leg_tested, load_tested, job_tested, hold_tested, used_tested}
 use Rattle.agv_tables.proofs.sql.Members.{same_marked}
 
 -- lists that are alike are alike at each place
@@ -43,27 +42,33 @@ one_set : {K : Type 0} {R : K → K → Ordering} (total : IsTotalOrder R) (apar
 one_set total apart columns has tested s t rows h g =
     same_marked total apart s t (one_table total apart (λ key nothing. columns key) has (λ k q x. tested k q) (marked s) (marked t) rows h g (λ k x y _ _ _. refl))
 
+-- rows of which a map has one at a key have the columns of that one, whichever map has them
+same_columns : {K X : Type 0} {R : K → K → Ordering} (total : IsTotalOrder R) (apart : IsAntisymmetric R) (columns : K → X → Row) (has : K → Row → Bool)
+    → ((k q : K) (x : X) → has k (columns q x) ≡ eq_by_cmp R k q) → (m n : finite.FinMap R X) (rows : List Row) → IsPermutation rows (rows_in columns m) → IsPermutation rows (rows_in columns n)
+    → (k : K) (x y : X) → finite.get m k ≡ Some x → finite.get n k ≡ Some y → columns k x ≡ columns k y
+same_columns total apart columns has tested m n rows h g k x y at there =
+    let first = subst (λ o. IsPermutation (filter (has k) rows) (rows_at (one_row columns) k o)) at (row-found total apart columns has tested m rows k h) in
+    let second = subst (λ o. IsPermutation (filter (has k) rows) (rows_at (one_row columns) k o)) there (row-found total apart columns has tested n rows k g) in
+    same_row _ _ (IsPermutation-trans _ _ _ (IsPermutation-sym _ _ first) second)
+
 -- ---- trips
 
-has_line : (rows : Rows) → CarriesOneEach rows → (order : List ℕ) (trip : TripRow) → finite.get rows.trips order ≡ Some trip → ¬ (IsPermutation [] (row_if trip_columns (line_of order trip)))
-has_line rows single order trip at none =
-    let told = single.trips order trip at in
-    no_row (trip_columns told.line) (subst (λ line. IsPermutation [] (row_if trip_columns line)) told.is none)
-
-one_trip : (a b : Rows) → a.jobs ≡ b.jobs → (order : List ℕ) (x y : TripRow) (one : IsTripOfJob a order x) (other : IsTripOfJob b order y)
-    → IsPermutation (row_if trip_columns (line_of order x)) (row_if trip_columns (line_of order y)) → x ≡ y
-one_trip a b jobs order x y one other same =
-    let first : IsPermutation (trip_columns one.line ∷ []) (row_if trip_columns (line_of order y)) = subst (λ line. IsPermutation (row_if trip_columns line) (row_if trip_columns (line_of order y))) one.is same in
-    let both : IsPermutation (trip_columns one.line ∷ []) (trip_columns other.line ∷ []) = subst (λ line. IsPermutation (trip_columns one.line ∷ []) (row_if trip_columns line)) other.is first in
-    let line = line_tells one.line other.line (same_row _ _ both) in
-    let job = same_Some one.job other.job (sym one.known ∙ ap (λ (table : finite.FinMap name_cmp JobRow). finite.get table one.line.job) jobs ∙ ap (λ (l : TripLine). finite.get b.jobs l.job) line ∙ other.known) in
-    sym one.told ∙ (λ i. trip_told (line i) (job i)) ∙ other.told
+-- journeys, acts and jobs of two worlds are the same: so are the trips
+same_trips : TellOneTable → (a b : Rows) → ActsAreOfJobs a → ActsAreOfJobs b → journeys_of a.trips ≡ journeys_of b.trips → acts_of a.trips ≡ acts_of b.trips → a.jobs ≡ b.jobs → a.trips ≡ b.trips
+same_trips one a b known other_known journeys acts jobs =
+    one (journeys_of a.trips) (acts_of a.trips) a.jobs a.trips b.trips
+    (record { has_journeys = refl; has_acts = refl; of_jobs = known })
+    (record {
+      has_journeys = journeys;
+      has_acts = acts;
+      of_jobs = λ order trip at. subst (λ (table : finite.FinMap name_cmp JobRow). AllByRecursion (IsOfJob table) trip.acts) (sym jobs) (other_known order trip at);
+    })
 
 -- ---- all tables
 
-pub one_rows : (lists : List (List Row)) (a b : Rows) → CarriesOneEach a → CarriesOneEach b → TellRows lists a → TellRows lists b → a ≡ b
+pub one_rows : TellOneTable → (lists : List (List Row)) (a b : Rows) → ActsAreOfJobs a → ActsAreOfJobs b → TellRows lists a → TellRows lists b → a ≡ b
 unfolding row_lists
-one_rows lists a b single other h g =
+one_rows one lists a b known other_known h g =
     let meta = one_table nat_cmp_total nat_cmp-IsAntisymmetric meta_columns (λ k. has_key the.Meta (number_cell k ∷ [])) meta_tested a.meta b.meta (table_at 0 lists)
     (alike_at 0 lists (row_lists a) h) (alike_at 0 lists (row_lists b) g) (λ k x y _ _. meta_tells k x y) in
     let nodes = one_set nat_list_cmp_total names_apart node_columns (λ k. has_key the.Node (name_key k)) node_tested a.nodes b.nodes (table_at 1 lists)
@@ -72,8 +77,10 @@ one_rows lists a b single other h g =
     (alike_at 2 lists (row_lists a) h) (alike_at 2 lists (row_lists b) g) (λ k x y _ _. edge_tells k x y) in
     let stations = one_table nat_list_cmp_total names_apart station_columns (λ k. has_key the.Station (name_key k)) station_tested a.stations b.stations (table_at 3 lists)
     (alike_at 3 lists (row_lists a) h) (alike_at 3 lists (row_lists b) g) (λ k x y _ _. station_tells k x y) in
+    let rooms = same_columns key_cmp-total key_cmp-IsAntisymmetric room_columns (λ k. has_key the.Capacity (vehicle_key k)) capacity_tested a.vehicles b.vehicles (table_at 11 lists)
+    (alike_at 11 lists (row_lists a) h) (alike_at 11 lists (row_lists b) g) in
     let vehicles = one_table key_cmp-total key_cmp-IsAntisymmetric vehicle_columns (λ k. has_key the.Vehicle (vehicle_key k)) vehicle_tested a.vehicles b.vehicles (table_at 4 lists)
-    (alike_at 4 lists (row_lists a) h) (alike_at 4 lists (row_lists b) g) (λ k x y at there. vehicle_tells k x y (single.vehicles k x at) (other.vehicles k y there)) in
+    (alike_at 4 lists (row_lists a) h) (alike_at 4 lists (row_lists b) g) (λ k x y at there. vehicle_tells k x y (room_tells k x y (rooms k x y at there))) in
     let legs = one_table leg_cmp-total leg_cmp-IsAntisymmetric leg_columns (λ k. has_key the.Leg (leg_key k)) leg_tested a.legs b.legs (table_at 6 lists)
     (alike_at 6 lists (row_lists a) h) (alike_at 6 lists (row_lists b) g) (λ k x y _ _. leg_tells k x y) in
     let loads = one_table nat_list_cmp_total names_apart load_columns (λ k. has_key the.Load (name_key k)) load_tested a.loads b.loads (table_at 7 lists)
@@ -84,9 +91,11 @@ one_rows lists a b single other h g =
     (alike_at 9 lists (row_lists a) h) (alike_at 9 lists (row_lists b) g) (λ k x y _ _. hold_tells k x y) in
     let used = one_set use_cmp-total use_cmp-IsAntisymmetric used_columns (λ k. has_key the.Used (used_columns k)) used_tested a.used b.used (table_at 10 lists)
     (alike_at 10 lists (row_lists a) h) (alike_at 10 lists (row_lists b) g) in
-    let trips = one_map nat_list_cmp_total names_apart (λ order trip. row_if trip_columns (line_of order trip)) (λ k. has_key the.Trip (name_key k)) trip_tested a.trips b.trips (table_at 5 lists)
-    (alike_at 5 lists (row_lists a) h) (alike_at 5 lists (row_lists b) g) (has_line a single) (has_line b other)
-    (λ order x y at there. one_trip a b jobs order x y (single.trips order x at) (other.trips order y there)) in
+    let journeys = one_table nat_list_cmp_total names_apart journey_columns (λ k. has_key the.Journey (name_key k)) journey_tested (journeys_of a.trips) (journeys_of b.trips) (table_at 12 lists)
+    (alike_at 12 lists (row_lists a) h) (alike_at 12 lists (row_lists b) g) (λ k x y _ _. journey_tells k x y) in
+    let acts = one_table leg_cmp-total leg_cmp-IsAntisymmetric act_columns (λ k. has_key the.Act (leg_key k)) act_tested (acts_of a.trips) (acts_of b.trips) (table_at 13 lists)
+    (alike_at 13 lists (row_lists a) h) (alike_at 13 lists (row_lists b) g) (λ k x y _ _. act_tells k x y) in
+    let trips = same_trips one a b known other_known journeys acts jobs in
     λ i. record {
       meta = meta i;
       nodes = nodes i;

@@ -10,11 +10,15 @@ ghost use Rattle.agv_tables.specs.changes.ChangesMade.{ChangesWorlds, MakesChang
 ghost use Rattle.agv_tables.specs.rows.DeskRows.{Placing, Holds, IsDesk, KeepsOthers};
 ghost use Rattle.agv_tables.specs.rows.RowLists.{listed_all, row_lists};
 
+use crate::rows::row_list_laws::lists_follow_changes;
+
 /// Where the desk's tables had the rows of a world, a list of changes that is made in them leaves the rows of the world
 /// after all of them.
 pub fn changes_make_the_next_world()
     ensures { (changes : List Change) (old new : Database) → MakesChanges changes old new → ChangesWorlds changes old new }
-{}
+{
+    lists_follow_changes();
+}
 
 /// The other tables are as they were where nothing is done (`itself`), and after two steps that both leave them so
 /// (`next`): so after any number of lists of changes.
@@ -33,4 +37,6 @@ pub fn openings_find_rows_before_or_after()
         → MayFind changes old found → Holds desk found lists ⊎ Holds desk found (listed_all changes lists) }
     ensures worlds { (changes : List Change) (desk : Placing) (old found : Database) (rows : Rows) → IsDesk desk → Holds desk old (row_lists rows) → IsDatabase old
         → MayFind changes old found → Holds desk found (row_lists rows) ⊎ Holds desk found (row_lists (changed changes rows)) }
-{}
+{
+    changes_make_the_next_world();
+}

@@ -5,6 +5,7 @@ ghost use Rattle.sqlite.specs.Held.{state};
 ghost use Rattle.agv_tables.specs.changes.ChangesMade.{ChangesWorlds, LeavesChanges, MakesChanges};
 
 use crate::WriteFault;
+use crate::changes::change_laws::changes_make_the_next_world;
 use crate::changes::change_writes::write_change;
 use agv_world::Change;
 use sqlite::{Alter, Connection, Error};
@@ -22,6 +23,7 @@ fn run_changes<S: Alter>(conn: &mut Connection<S>, changes: &[Change]) -> Result
     ensures crash { Survives (state S.Store conn.old) (state S.Store conn.new) (LeavesChanges changes.now (state S.Store conn.old).now) }
     ensures idle { conn.new.in_transaction ≡ false }
 {
+    changes_make_the_next_world();
     let mut tx = conn.transaction();
     for change in changes {
         write_change(&mut tx, change)?;

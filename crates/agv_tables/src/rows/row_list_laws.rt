@@ -112,13 +112,16 @@ pub fn a_database_follows_changes()
     ensures { (desk : Placing) (old new : Database) (changes : List Change)
         → ((lists : List (List Row)) → Holds desk old lists → Holds desk new (listed_all changes lists))
         → (rows : Rows) → Holds desk old (row_lists rows) → Holds desk new (row_lists (changed changes rows)) }
-{}
+{
+    lists_follow_changes();
+}
 
 /// A database has the rows of one lawful world at most.
 pub fn a_database_tells_one_world()
     ensures { (desk again : Placing) (db : Database) (world other : World) → IsDesk desk → IsDesk again → IsLawful desk_seats world → IsLawful desk_seats other
         → HoldsWorld desk db world → HoldsWorld again db other → world ≡ other }
 {
+    lists_tell_one_world();
     lawful_acts_are_of_jobs();
     is_in_good_order();
     rows_tell_the_world();

@@ -8,4 +8,4 @@ pub returns-clause-rows : goal.returns-clause-rows
 returns-clause-rows c = rows_found
 
 pub returns-clause-worlds : goal.returns-clause-worlds
-returns-clause-worlds c = worlds_found
+returns-clause-worlds c = λ changes desk old found. worlds_found changes desk old found c.changes_make_the_next_world.ensures

@@ -4,7 +4,7 @@ use Rattle.sqlite.specs.Held.{state}
 use Rattle.sqlite.proofs.StateLemmas.{survives_then}
 use Rattle.sqlite.proofs.Callers.{survives_begin}
 use Rattle.agv_tables.specs.changes.ChangesMade.{LeavesChanges, MakesChanges}
-use Rattle.agv_tables.proofs.changes.ChangesRun.{all_made, makes_next, makes_none, worlds_changed}
+use Rattle.agv_tables.proofs.changes.ChangesRun.{all_made, makes_next, makes_none}
 use Rattle.agv_tables.proofs.schema.StepsRun.{keeps_itself, keeps_then, on_err, on_ok, open_by_commit, open_by_undoing, undone_to}
 use Rattle.agv_tables.proofs.changes.change_running.run_changes.Goals as goal
 
@@ -72,7 +72,7 @@ returns-clause-made g c clean =
 pub returns-clause-worlds : goal.returns-clause-worlds
 returns-clause-worlds g c clean =
     let old = state g.S.Store c.args.conn.now in
-    on_ok c.commit.result (worlds_changed c.args.changes.now old.now _) (returns-clause-made g c clean)
+    on_ok c.commit.result (c.changes_make_the_next_world.ensures c.args.changes.now old.now _) (returns-clause-made g c clean)
 
 pub returns-clause-open : goal.returns-clause-open
 returns-clause-open g c clean =
