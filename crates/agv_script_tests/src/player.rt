@@ -97,7 +97,7 @@ pub(crate) fn play_over<S: Alter + Drop>(
 ) {
     let mut conn = made(rt, alloc, conn).release_conn();
     let routes = Routes::new(alloc).expect(rt, "memory");
-    let mut memory = in_memory(alloc, 1);
+    let mut memory = in_memory(alloc, 4);
     let mut at = Moment::of(MOMENT).expect(rt, "a moment");
     for step in steps {
         at = moment_after(at, step);
@@ -106,7 +106,7 @@ pub(crate) fn play_over<S: Alter + Drop>(
 }
 
 /// Plays a script by a desk in memory and by one on a disk, as a stream, and as one list of calls.
-fn play_for_one(rt: &impl Abort, alloc: Global, steps: &[Step]) {
+fn play_by_desks(rt: &impl Abort, alloc: Global, steps: &[Step]) {
     play_over(rt, alloc, no_tables(rt, alloc), steps);
     let conn = open(rt, alloc, blank(alloc, u64::MAX, u64::MAX));
     play_over(rt, alloc, conn, steps);
@@ -117,8 +117,8 @@ fn play_for_one(rt: &impl Abort, alloc: Global, steps: &[Step]) {
 /// Plays a script of vehicles for one load, where there may be vehicles for up to four and where there may not.
 fn play(rt: &impl Abort, alloc: Global, parts: &[&str]) {
     let steps = steps_of(rt, alloc, parts);
-    play_in_memory(rt, alloc, 4, &steps);
-    play_for_one(rt, alloc, &steps);
+    play_in_memory(rt, alloc, 1, &steps);
+    play_by_desks(rt, alloc, &steps);
 }
 
 /// Plays scripts of vehicles for one load.
@@ -128,17 +128,17 @@ pub(crate) fn play_all(rt: &impl Abort, alloc: Global, scripts: &[&[&str]]) {
     }
 }
 
-/// Plays scripts that hold only where each vehicle is for one load.
+/// Plays scripts that hold only where each vehicle is for one load, in memory.
 pub(crate) fn play_all_for_one(rt: &impl Abort, alloc: Global, scripts: &[&[&str]]) {
     for parts in scripts {
-        play_for_one(rt, alloc, &steps_of(rt, alloc, parts));
+        play_in_memory(rt, alloc, 1, &steps_of(rt, alloc, parts));
     }
 }
 
-/// Plays scripts of vehicles for up to four loads, in memory.
+/// Plays scripts of vehicles for up to four loads.
 pub(crate) fn play_all_for_four(rt: &impl Abort, alloc: Global, scripts: &[&[&str]]) {
     for parts in scripts {
-        play_in_memory(rt, alloc, 4, &steps_of(rt, alloc, parts));
+        play_by_desks(rt, alloc, &steps_of(rt, alloc, parts));
     }
 }
 

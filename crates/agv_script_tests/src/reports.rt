@@ -11,7 +11,7 @@ use std::process::Abort;
 /// The stations, each with how many live jobs go there.
 fn stations_of(rt: &impl Abort, alloc: Global, world: &World) -> Vec<(Station, u32)> {
     let rows = world.stations.list(alloc).expect(rt, "memory");
-    let mut floor = PlainFloor::new(alloc, world, 1);
+    let mut floor = PlainFloor::new(alloc, world, 4);
     let mut stations = Vec::new(alloc);
     for (id, spot) in &rows {
         let reserved = floor.reserved(*id).expect(rt, "memory");
@@ -55,7 +55,7 @@ fn things_of(rt: &impl Abort, alloc: Global, world: &World) -> Vec<Thing> {
 
 fn holds_of(rt: &impl Abort, alloc: Global, world: &World) -> Vec<u8> {
     let things = things_of(rt, alloc, world);
-    let mut floor = PlainFloor::new(alloc, world, 1);
+    let mut floor = PlainFloor::new(alloc, world, 4);
     let mut holds = Vec::new(alloc);
     for thing in &things {
         if let Some(key) = floor.holder(*thing).expect(rt, "memory") {

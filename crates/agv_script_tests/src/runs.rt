@@ -64,7 +64,7 @@ fn put_step(
 /// The calls of a script.
 pub(crate) fn list_of(rt: &impl Abort, alloc: Global, steps: &[Step]) -> List {
     let routes = Routes::new(alloc).expect(rt, "memory");
-    let mut memory = in_memory(alloc, 1);
+    let mut memory = in_memory(alloc, 4);
     let mut at = moment(rt, MOMENT);
     let mut list = List {
         calls: Vec::new(alloc),

@@ -12,7 +12,7 @@
 //! moves L1 station B                      the loads that the last call moved, in turn, with commas between
 //! row job J1 L1 A B done                  a row that a table has
 //! rows                                    all rows of all tables
-//! | meta 1 1
+//! | meta 1 2
 //! ```
 //!
 //! The heads of requests and answers are worked out.

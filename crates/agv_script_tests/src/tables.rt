@@ -10,7 +10,7 @@ use std::process::Abort;
 use std::str;
 
 /// The name of each table, and all its rows in the order of its key.
-const TABLES: [(&str, &str); 11] = [
+const TABLES: [(&str, &str); 14] = [
     ("meta", "SELECT * FROM meta ORDER BY id"),
     ("node", "SELECT * FROM node ORDER BY id"),
     ("edge", "SELECT * FROM edge ORDER BY id"),
@@ -25,6 +25,12 @@ const TABLES: [(&str, &str); 11] = [
     ("job", "SELECT * FROM job ORDER BY id"),
     ("hold", "SELECT * FROM hold ORDER BY kind, id"),
     ("used", "SELECT * FROM used ORDER BY kind, id"),
+    (
+        "capacity",
+        "SELECT * FROM capacity ORDER BY manufacturer, serial",
+    ),
+    ("journey", "SELECT * FROM journey ORDER BY order_id"),
+    ("act", "SELECT * FROM act ORDER BY order_id, n"),
 ];
 
 /// Appends a value.
@@ -120,7 +126,7 @@ pub(crate) fn told_text<S: Alter>(
     conn: &mut Connection<S>,
 ) -> String {
     let (world, holds) = read_world(alloc, conn).expect(rt, "the world");
-    let lawful = world.is_lawful(alloc, 1).expect(rt, "memory");
+    let lawful = world.is_lawful(alloc, 4).expect(rt, "memory");
     check(rt, lawful, "it is lawful");
     let fit = holds.are_footprints(alloc, &world).expect(rt, "memory");
     check(rt, fit, "what is held is what the vehicles hold");

@@ -38,8 +38,9 @@ fn beside(rt: HostRuntime) {
 }
 
 /// Rows that another lawful world has: one more node, a station with more room, loads elsewhere, names that were used, a vehicle
-/// that is paused, one more vehicle with what it holds, one more job, and a job to the other station at its node.
-const CHANGED: [&str; 10] = [
+/// that is paused, one more vehicle with its room and what it holds, more room on the vehicle, one more job, and a job to the other
+/// station at its node.
+const CHANGED: [&str; 11] = [
     "INSERT INTO node (id) VALUES ('N4')",
     "UPDATE station SET capacity = 999 WHERE id = 'C'",
     "UPDATE load SET kind = 'left' WHERE id = 'L2'",
@@ -47,7 +48,8 @@ const CHANGED: [&str; 10] = [
     "INSERT INTO used (kind, id) VALUES ('order', 'O9'), ('ref', 'R9')",
     "DELETE FROM used WHERE kind = 'ref'",
     "UPDATE vehicle SET pending = NULL, paused = 1",
-    "INSERT INTO vehicle VALUES ('KIT', '0002', 'N3', NULL, NULL, NULL, NULL, 0, 0, 0, 0, 0, 0, NULL); INSERT INTO hold VALUES ('node', 'N3', 'KIT', '0002')",
+    "INSERT INTO vehicle VALUES ('KIT', '0002', 'N3', NULL, NULL, NULL, NULL, 0, 0, 0, 0, 0, 0, NULL); INSERT INTO capacity VALUES ('KIT', '0002', 4); INSERT INTO hold VALUES ('node', 'N3', 'KIT', '0002')",
+    "UPDATE capacity SET capacity = 3",
     "INSERT INTO job VALUES ('J0', 'L2', 'A', 'C', 'done')",
     "UPDATE job SET target = 'C'",
 ];

@@ -22,8 +22,9 @@ use std::alloc::Global;
 use std::process::Abort;
 
 /// The names of the desk's tables, in the order of the texts that make them.
-pub(crate) const NAMES: [&str; 11] = [
+pub(crate) const NAMES: [&str; 14] = [
     "meta", "node", "edge", "station", "vehicle", "trip", "leg", "load", "job", "hold", "used",
+    "capacity", "journey", "act",
 ];
 
 /// The name of a table of the desk's, and the statements that stand in the place of the one that makes it.
@@ -117,9 +118,28 @@ create table trip (
 ) strict;
 ";
 
+/// The same of what the second schema has besides.
+const TYPED_MORE: &str = "
+create table capacity (manufacturer text, serial text, capacity int not null, primary key (manufacturer, serial)) strict;
+create table journey (
+    order_id text not null primary key,
+    manufacturer text not null, serial text not null,
+    start text not null,
+    first integer not null, base integer not null,
+    sent integer not null, confirmed integer, seen integer not null,
+    unique (manufacturer, serial)
+) strict;
+create table act (
+    order_id text, n int,
+    job text not null, kind text not null,     -- pick or drop
+    place_at int not null, status text not null,
+    primary key (order_id, n), constraint once unique (job, kind)
+) strict;
+";
+
 /// A row of each table, and rows whose numbers are given, the least and the greatest too; some are taken out again.
 pub(crate) const ROWS: &str = "
-INSERT INTO meta VALUES (1, 1);
+INSERT INTO meta VALUES (1, 2);
 INSERT INTO node VALUES ('N1'), ('N2'), ('N3'), ('N4');
 DELETE FROM node WHERE id = 'N2';
 INSERT INTO node VALUES ('N5');
@@ -132,6 +152,9 @@ INSERT INTO load VALUES ('L1', 'station', 'A', NULL, NULL);
 INSERT INTO job VALUES ('J1', 'L1', 'A', 'B', 'riding');
 INSERT INTO hold VALUES ('node', 'N1', 'KIT', '0001'), ('edge', 'E13', 'KIT', '0001'), ('node', 'N3', 'KIT', '0001');
 INSERT INTO used VALUES ('order', 'O1');
+INSERT INTO capacity VALUES ('KIT', '0001', 1);
+INSERT INTO journey VALUES ('O1', 'KIT', '0001', 'N1', 0, 1, 0, NULL, 0);
+INSERT INTO act (rowid, order_id, n, job, kind, place_at, status) VALUES (-2, 'O1', 0, 'J1', 'pick', 0, 'WAITING'), (7, 'O1', 1, 'J1', 'drop', 1, 'WAITING');
 ";
 
 fn type_tables(rt: &impl Abort, conn: &mut Connection<MemStore>) {
@@ -139,6 +162,7 @@ fn type_tables(rt: &impl Abort, conn: &mut Connection<MemStore>) {
     run(rt, conn, TYPED_LAYOUT);
     run(rt, conn, TYPED_VEHICLES);
     run(rt, conn, TYPED_TRIPS);
+    run(rt, conn, TYPED_MORE);
 }
 
 pub(crate) fn check_rowids(

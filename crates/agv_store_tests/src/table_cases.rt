@@ -48,7 +48,7 @@ const NODES: [&str; 3] = ["N1", "N2", "N3"];
 const EDGES: [&str; 4] = ["E12", "E21", "E23", "E32"];
 
 /// The name of each table, and all its rows in the order of its key.
-const TABLES: [(&str, &str); 11] = [
+const TABLES: [(&str, &str); 14] = [
     ("meta", "SELECT * FROM meta ORDER BY id"),
     ("node", "SELECT * FROM node ORDER BY id"),
     ("edge", "SELECT * FROM edge ORDER BY id"),
@@ -63,6 +63,12 @@ const TABLES: [(&str, &str); 11] = [
     ("job", "SELECT * FROM job ORDER BY id"),
     ("hold", "SELECT * FROM hold ORDER BY kind, id"),
     ("used", "SELECT * FROM used ORDER BY kind, id"),
+    (
+        "capacity",
+        "SELECT * FROM capacity ORDER BY manufacturer, serial",
+    ),
+    ("journey", "SELECT * FROM journey ORDER BY order_id"),
+    ("act", "SELECT * FROM act ORDER BY order_id, n"),
 ];
 
 /// The call that the request is.
@@ -80,9 +86,9 @@ pub(crate) fn moment(rt: &impl Abort) -> Moment {
     Moment::of(MOMENT).expect(rt, "a moment")
 }
 
-/// What the desk decides of a call, with room for one load on each vehicle.
+/// What the desk decides of a call, with vehicles for up to four loads.
 pub(crate) fn decided(rt: &impl Abort, alloc: Global, world: &World, call: &Call) -> Decision {
-    let mut floor = PlainFloor::new(alloc, world, 1);
+    let mut floor = PlainFloor::new(alloc, world, 4);
     decide(alloc, &mut floor, moment(rt), call).expect(rt, "memory")
 }
 
@@ -334,11 +340,11 @@ pub(crate) fn check_read<S: Alter>(
 ) {
     let (tables, holds) = read_world(alloc, conn).expect(rt, "the world");
     check_same(rt, alloc, &tables, world);
-    let lawful = tables.is_lawful(alloc, 1).expect(rt, "memory");
+    let lawful = tables.is_lawful(alloc, 4).expect(rt, "memory");
     check(rt, lawful, "it is lawful");
     let fit = holds.are_footprints(alloc, world).expect(rt, "memory");
     check(rt, fit, "what is held is what the vehicles hold");
-    let mut floor = PlainFloor::new(alloc, world, 1);
+    let mut floor = PlainFloor::new(alloc, world, 4);
     check_holds(rt, &mut floor, &holds.table);
     let layout = query_layout(alloc, conn).expect(rt, "the layout");
     check_same(rt, alloc, &layout, &floor.layout().expect(rt, "memory"));

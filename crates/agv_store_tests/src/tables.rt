@@ -15,18 +15,18 @@ type Case = (
     usize,
 );
 
-/// The keys of the eleven tables have thirteen indexes, and the desk four more.
-const CASES: [Case; 8] = [
-    (&[], Ok(()), 11, 17),
-    (&["CREATE TABLE other (a TEXT)"], Ok(()), 12, 17),
+/// The keys of the fourteen tables have eighteen indexes, and the desk four more.
+const CASES: [Case; 9] = [
+    (&[], Ok(()), 14, 22),
+    (&["CREATE TABLE other (a TEXT)"], Ok(()), 15, 22),
     (
         &[
             "CREATE TABLE other (a TEXT)",
             "CREATE INDEX by_a ON other (a)",
         ],
         Ok(()),
-        12,
-        18,
+        15,
+        23,
     ),
     (
         &[
@@ -34,8 +34,8 @@ const CASES: [Case; 8] = [
             "CREATE INDEX job_load ON other (a)",
         ],
         Ok(()),
-        12,
-        17,
+        15,
+        22,
     ),
     (
         &["CREATE TABLE hold (a TEXT)"],
@@ -65,6 +65,12 @@ const CASES: [Case; 8] = [
         &["CREATE TABLE other (a TEXT)", "CREATE TABLE LEG (a TEXT)"],
         Err(MakingFault::Taken),
         2,
+        0,
+    ),
+    (
+        &["CREATE TABLE journey (a TEXT)"],
+        Err(MakingFault::Taken),
+        1,
         0,
     ),
 ];

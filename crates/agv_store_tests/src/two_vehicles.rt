@@ -96,7 +96,7 @@ const MEETING: &[Request] = &[
 ];
 
 /// Both have a trip: KIT/0001 holds the way to N2, and KIT/0002 its node.
-const MEETING_ROWS: &str = "meta 1 1
+const MEETING_ROWS: &str = "meta 1 2
 node N1
 node N2
 node N3
@@ -109,8 +109,6 @@ station B N3 1
 station C N3 2
 vehicle KIT 0001 N1 NULL NULL 2 O1 1 0 1 1700000000000 1 1700000000000 cancelOrder
 vehicle KIT 0002 N3 NULL NULL 2 O2 1 0 1 1700000000000 0 0 NULL
-trip O1 KIT 0001 J1 N1 0 1 0 0 0 0 2 FINISHED WAITING
-trip O2 KIT 0002 J2 N3 0 0 0 0 0 0 2 RUNNING WAITING
 leg O1 0 E12
 leg O1 1 E23
 leg O2 0 E32
@@ -125,6 +123,14 @@ hold node N2 KIT 0001
 hold node N3 KIT 0002
 used order O1
 used order O2
+capacity KIT 0001 1
+capacity KIT 0002 1
+journey O1 KIT 0001 N1 0 1 0 0 0
+journey O2 KIT 0002 N3 0 0 0 0 0
+act O1 0 J1 pick 0 FINISHED
+act O1 1 J1 drop 2 WAITING
+act O2 0 J2 pick 0 RUNNING
+act O2 1 J2 drop 2 WAITING
 ";
 
 /// The order of KIT/0001 ends where it may be on its way, and KIT/0002 has picked.
@@ -134,7 +140,7 @@ const CANCELLED: &[Request] = &[
 ];
 
 /// KIT/0001 rests before E12 and N2, and holds them; its load is aboard and its job is stopped.
-const CANCELLED_ROWS: &str = "meta 1 1
+const CANCELLED_ROWS: &str = "meta 1 2
 node N1
 node N2
 node N3
@@ -147,7 +153,6 @@ station B N3 1
 station C N3 2
 vehicle KIT 0001 N1 E12 N2 3 O1 1 0 1 1700000000000 1 1700000000000 NULL
 vehicle KIT 0002 N3 NULL NULL 3 O2 1 0 1 1700000000000 0 0 NULL
-trip O2 KIT 0002 J2 N3 0 0 0 0 0 0 2 FINISHED WAITING
 leg O2 0 E32
 leg O2 1 E21
 load L1 vehicle NULL KIT 0001
@@ -160,6 +165,11 @@ hold node N2 KIT 0001
 hold node N3 KIT 0002
 used order O1
 used order O2
+capacity KIT 0001 1
+capacity KIT 0002 1
+journey O2 KIT 0002 N3 0 0 0 0 0
+act O2 0 J2 pick 0 FINISHED
+act O2 1 J2 drop 2 WAITING
 ";
 
 /// A person places KIT/0001 and puts its load to B, a stocktake finds that at C, and the number of the last state is forgotten.
@@ -181,7 +191,7 @@ const SET_RIGHT: &[Request] = &[
 ];
 
 /// KIT/0001 holds its node alone, and KIT/0002 the way to N2, by an update that it hasn't confirmed.
-const SET_RIGHT_ROWS: &str = "meta 1 1
+const SET_RIGHT_ROWS: &str = "meta 1 2
 node N1
 node N2
 node N3
@@ -194,7 +204,6 @@ station B N3 1
 station C N3 2
 vehicle KIT 0001 N1 NULL NULL NULL O1 1 0 1 1700000000000 1 1700000000000 NULL
 vehicle KIT 0002 N3 NULL NULL 3 O2 1 0 2 1700000000000 0 0 NULL
-trip O2 KIT 0002 J2 N3 0 1 1 0 0 0 2 FINISHED WAITING
 leg O2 0 E32
 leg O2 1 E21
 load L1 station C NULL NULL
@@ -210,6 +219,11 @@ used order O2
 used ref R1
 used ref R2
 used ref R3
+capacity KIT 0001 1
+capacity KIT 0002 1
+journey O2 KIT 0002 N3 0 1 1 0 0
+act O2 0 J2 pick 0 FINISHED
+act O2 1 J2 drop 2 WAITING
 ";
 
 /// Serves the example, and compares the rows three times.

@@ -67,7 +67,7 @@ pub(crate) const PICKED: &[Request] = &[
 ];
 
 /// What the tables then hold: the vehicle holds its node, the first edge and the node behind it.
-pub(crate) const PICKED_ROWS: &str = "meta 1 1
+pub(crate) const PICKED_ROWS: &str = "meta 1 2
 node N1
 node N2
 node N3
@@ -79,7 +79,6 @@ station A N1 1
 station B N3 1
 station C N3 2
 vehicle KIT 0001 N1 NULL NULL 2 O1 1 0 1 1700000000000 1 1700000000000 startPause
-trip O1 KIT 0001 J1 N1 0 1 0 0 0 0 2 FINISHED WAITING
 leg O1 0 E12
 leg O1 1 E23
 load L1 vehicle NULL KIT 0001
@@ -91,6 +90,10 @@ hold node N1 KIT 0001
 hold node N2 KIT 0001
 used order O1
 used ref R1
+capacity KIT 0001 1
+journey O1 KIT 0001 N1 0 1 0 0 0
+act O1 0 J1 pick 0 FINISHED
+act O1 1 J1 drop 2 WAITING
 ";
 
 /// The vehicle gets the rest of its way and drops the load at B; then a load comes to A with a job to C, which is taken back.
@@ -107,7 +110,7 @@ pub(crate) const DROPPED: &[Request] = &[
 ];
 
 /// The trip and its edges are gone, and the vehicle holds the node where it stands.
-pub(crate) const DROPPED_ROWS: &str = "meta 1 1
+pub(crate) const DROPPED_ROWS: &str = "meta 1 2
 node N1
 node N2
 node N3
@@ -128,6 +131,7 @@ hold node N3 KIT 0001
 used order O1
 used ref R1
 used ref R2
+capacity KIT 0001 1
 ";
 
 /// The database of the example, in which an order is under way, once these statements were carried out.
@@ -225,7 +229,7 @@ fn check_part<S: Alter + Drop>(
 }
 
 /// The row of a new desk.
-pub(crate) const NO_ROWS: &str = "meta 1 1\n";
+pub(crate) const NO_ROWS: &str = "meta 1 2\n";
 
 /// In a file, which is closed and opened again between the calls.
 #[test]

@@ -28,7 +28,7 @@ PUT /layout
 | edge,E12,N1,N2
 409 {"name":"LayoutBad","refusal":32}
 rows
-| meta 1 1
+| meta 1 2
 "#;
 
 /// 101 nodes alone, and 100 vehicles.

@@ -14,7 +14,7 @@ POST /loads {"load":"L1"}
 GET /loads/L1
 200 {"job":null,"load":"L1","place":"checking"}
 rows
-| meta 1 1
+| meta 1 2
 | load L1 checking NULL NULL NULL
 "#;
 

@@ -17,7 +17,7 @@ row job J1 L1 A B riding
 GET /loads/L1
 200 {"job":"J1","load":"L1","place":"station A"}
 rows
-| meta 1 1
+| meta 1 2
 | node N1
 | node N2
 | node N3
@@ -29,7 +29,6 @@ rows
 | station B N3 1
 | station C N3 2
 | vehicle KIT 0001 N1 NULL NULL 1 NULL 1 0 1 1700000000000 0 0 NULL
-| trip O1 KIT 0001 J1 N1 0 1 0 NULL 0 0 2 WAITING WAITING
 | leg O1 0 E12
 | leg O1 1 E23
 | load L1 station A NULL NULL
@@ -38,6 +37,10 @@ rows
 | hold node N1 KIT 0001
 | hold node N2 KIT 0001
 | used order O1
+| capacity KIT 0001 1
+| journey O1 KIT 0001 N1 0 1 0 NULL 0
+| act O1 0 J1 pick 0 WAITING
+| act O1 1 J1 drop 2 WAITING
 "#;
 
 /// The second edge is released once the first message is confirmed.
@@ -171,7 +174,7 @@ state 0001 2 O1 0 N1 0 O1.0=FINISHED
 POST /vehicles/KIT/0001/pause
 200 {"actionId":"instant-1"}
 rows
-| meta 1 1
+| meta 1 2
 | node N1
 | node N2
 | node N3
@@ -183,7 +186,6 @@ rows
 | station B N3 1
 | station C N3 2
 | vehicle KIT 0001 N1 NULL NULL 2 O1 1 0 1 1700000000000 1 1700000000000 startPause
-| trip O1 KIT 0001 J1 N1 0 1 0 0 0 0 2 FINISHED WAITING
 | leg O1 0 E12
 | leg O1 1 E23
 | load L1 vehicle NULL KIT 0001
@@ -195,6 +197,10 @@ rows
 | hold node N2 KIT 0001
 | used order O1
 | used ref R1
+| capacity KIT 0001 1
+| journey O1 KIT 0001 N1 0 1 0 0 0
+| act O1 0 J1 pick 0 FINISHED
+| act O1 1 J1 drop 2 WAITING
 "#;
 
 /// Orders in one message.

@@ -28,7 +28,7 @@ const COLUMNS: [Exchange; 6] = [
 ];
 
 /// Columns of another type, or NULL where it may not be and the other way round.
-const TYPES: [Exchange; 8] = [
+const TYPES: [Exchange; 10] = [
     ("node", "CREATE TABLE node (id BLOB PRIMARY KEY) STRICT"),
     ("node", "CREATE TABLE node (id INT PRIMARY KEY) STRICT"),
     (
@@ -54,6 +54,14 @@ const TYPES: [Exchange; 8] = [
     (
         "load",
         "CREATE TABLE load (id TEXT PRIMARY KEY, kind TEXT NOT NULL, station TEXT NOT NULL, manufacturer TEXT, serial TEXT) STRICT",
+    ),
+    (
+        "capacity",
+        "CREATE TABLE capacity (manufacturer TEXT, serial TEXT, capacity INTEGER, PRIMARY KEY (manufacturer, serial)) STRICT",
+    ),
+    (
+        "journey",
+        "CREATE TABLE journey (order_id TEXT PRIMARY KEY, manufacturer TEXT NOT NULL, serial TEXT NOT NULL, start TEXT NOT NULL, first INTEGER NOT NULL, base INTEGER NOT NULL, sent INTEGER NOT NULL, confirmed INTEGER NOT NULL, seen INTEGER NOT NULL, UNIQUE (manufacturer, serial)) STRICT",
     ),
 ];
 

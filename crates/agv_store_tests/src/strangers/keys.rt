@@ -21,7 +21,7 @@ const NO_KEYS: [Exchange; 5] = [
 ];
 
 /// Keys of other columns, of fewer, of more, in another order, descending, or under another collation.
-const KEYS: [Exchange; 7] = [
+const KEYS: [Exchange; 8] = [
     (
         "leg",
         "CREATE TABLE leg (order_id TEXT, k INTEGER NOT NULL, edge TEXT, PRIMARY KEY (order_id, edge)) STRICT",
@@ -45,6 +45,10 @@ const KEYS: [Exchange; 7] = [
     (
         "node",
         "CREATE TABLE node (id TEXT PRIMARY KEY DESC) STRICT",
+    ),
+    (
+        "capacity",
+        "CREATE TABLE capacity (manufacturer TEXT, serial TEXT, capacity INTEGER NOT NULL, PRIMARY KEY (serial, manufacturer)) STRICT",
     ),
     (
         "used",
