@@ -8,11 +8,11 @@ use Rattle.sqlite_trees.specs.Tree.{rowid}
 use Rattle.sqlite.specs.declared.error.Error.{Error}
 use Rattle.sqlite.specs.State.{FailsToQuery, State, Shown}
 use Rattle.sqlite.proofs.Callers.{reads_as}
-use Rattle.agv_tables.specs.rows.DeskRows.{IsDesk, Placing}
+use Rattle.agv_tables.specs.rows.DeskRows.{StandApart, Placing}
 use Rattle.agv_tables.specs.sql.Errors.{IsOfStore}
 use Rattle.agv_tables.specs.readings.Rowids.{ShowRowids, rowids_text}
 use Rattle.agv_tables.specs.declared.schema.table_name.TableName.{TableName}
-use Rattle.agv_tables.proofs.schema.DeskPlaces.{is_in}
+use Rattle.agv_tables.proofs.schema.DeskPlaces.{is_in_alone}
 use Rattle.agv_tables.proofs.sql.EntryEdits.{filter_nothing}
 use Rattle.agv_tables.proofs.sql.Failing.{IsCaused}
 use Rattle.agv_tables.proofs.sql.OneTable.{query_by}
@@ -26,8 +26,8 @@ module _ (params : Row) (old new : State) (name : TableName) where
   ids_alone (e ∷ entries) = ap (λ rows. (rowid e ∷ []) ∷ rows) (ids_alone entries)
 
   read_by : (rows : List Row) → Shown (rowids_text name) params old new rows → ShowRowids name old.now rows
-  read_by rows shown desk is has =
-      let means = rowids_asked name desk.schema (is.stands name).at (desk.tree name) (is_in desk is name) in
+  read_by rows shown desk stand has =
+      let means = rowids_asked name desk.schema stand.stands.0.at (desk.tree name) (is_in_alone desk name stand.stands.0 stand.apart) in
       let got = reads_as (rowids_text name) params old new desk.schema has (Select (record { lets = []; body = query_by (desk.tree name) [] rowid_terms }) rowid_names) means.is means.plain means.own rows shown in
       let found = answered_by (desk.tree name) [] rowid_terms old.now.trees params rows (got.answer Null) in
       let entries = old.now.trees (desk.tree name) in
@@ -39,8 +39,8 @@ module _ (params : Row) (old new : State) (name : TableName) where
 
 -- why they aren't shown
 pub rowids_caused : (params : Row) (old new : State) (name : TableName) (r : Result (Vec Row Global) Error) (sql : List ℕ) → params ≡ [] → sql ≡ rowids_text name → IfErr r (FailsToQuery sql params old new)
-    → IfErr r (λ e. IsOfStore e → (desk : Placing) → IsDesk desk → old.now.schema ≡ desk.schema → IsCaused old new)
+    → IfErr r (λ e. IsOfStore e → (desk : Placing) → StandApart desk (name ∷ []) → old.now.schema ≡ desk.schema → IsCaused old new)
 rowids_caused params old new name (Ok rows) sql none text fails = tt
-rowids_caused params old new name (Err e) sql none text fails = λ stored desk is has.
-    read_caused name [] rowid_terms rowid_names (rowids_text name) (rowids_asked name) [] (rowids_whole name) (rowids_typed name) old new e desk is has stored
+rowids_caused params old new name (Err e) sql none text fails = λ stored desk stand has.
+    read_caused name [] rowid_terms rowid_names (rowids_text name) (rowids_asked name) [] (rowids_whole name) (rowids_typed name) old new e desk stand has stored
     (subst (λ p. FailsToQuery (rowids_text name) p old new e) none (subst (λ t. FailsToQuery t params old new e) text fails))

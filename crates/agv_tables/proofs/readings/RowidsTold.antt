@@ -11,17 +11,18 @@ use Rattle.sqlite.specs.Held.{Held, state}
 use Rattle.sqlite.specs.State.{HasCleanDisk, IsUnchanged, IsRolledBack, Survives}
 use Rattle.sqlite.proofs.StateLemmas.{survives_then}
 use Rattle.agv_world.specs.Rows.{rows_of}
-use Rattle.agv_tables.specs.rows.DeskRows.{AreKeyed, HaveRows, IsDesk, Placing, table_names, width_of}
+use Rattle.agv_tables.specs.rows.DeskRows.{AreKeyed, HaveRows, IsDesk, StandApart, Placing, table_names, width_of}
 use Rattle.agv_tables.specs.sql.Errors.{IsOfStore, is_of_store}
 use Rattle.agv_tables.specs.sql.Connections.{HasStorageCause}
 use Rattle.agv_tables.specs.queries.ReadingFault.{reading_fault_of}
 use Rattle.agv_tables.specs.rows.RowLists.{row_lists}
-use Rattle.agv_tables.specs.readings.Rowids.{AreTablesKeyed, ShowRowids, TellsKeyed}
+use Rattle.agv_tables.specs.readings.Rowids.{AreTablesKeyed, ShowRowids, TellsKeyed, TellsKeyedAlone}
 use Rattle.agv_tables.specs.queries.WorldAnswers.{AnswersQuery}
 use Rattle.agv_tables.specs.declared.queries.reading_fault.ReadingFault.{ReadingFault}
 use Rattle.agv_tables.specs.declared.queries.reading_fault.ReadingFault.TheVariants as fault
 use Rattle.agv_tables.specs.declared.schema.table_name.TableName.{TableName}
 use Rattle.agv_tables.proofs.queries.Asking.{sound_of, storage_of}
+use Rattle.agv_tables.proofs.schema.DeskPlaces.{all_stand}
 use Rattle.agv_tables.proofs.sql.Later.{fault_later, later_by}
 use Rattle.agv_tables.proofs.readings.RowidsKeyed.{keyed_alike}
 use Rattle.agv_tables.proofs.sql.StatesThen.{failed_then, unchanged_then}
@@ -32,7 +33,7 @@ module _ {S : Type 0} (g : Ghosts S) (old : Held S) where
   module _ (new : Held S) (idle : old.in_transaction ≡ false → new.in_transaction ≡ false) (survives : Survives (state g old) (state g new) (λ _. ⊥)) where
     -- an error of the database
     pub keyed_error : (names : List TableName) (r : Result Bool ReadingFault) (e : Error) → IsErrAnd r (λ why. why ≡ reading_fault_of e) → (HasCleanDisk (state g new) → IsUnchanged (state g old) (state g new) ⊎ IsRolledBack (state g old) (state g new))
-        → (HasCleanDisk (state g new) → IsOfStore e → (desk : Placing) → IsDesk desk → (state g old).now.schema ≡ desk.schema → HasStorageCause g old new) → TellsKeyed g old new names r
+        → (HasCleanDisk (state g new) → IsOfStore e → (desk : Placing) → StandApart desk names → (state g old).now.schema ≡ desk.schema → HasStorageCause g old new) → TellsKeyedAlone g old new names r
     keyed_error names (Ok b) e is failed why = absurd is
     keyed_error names (Err f) e is failed why = record {
       told = λ _. tt;
@@ -45,10 +46,10 @@ module _ {S : Type 0} (g : Ghosts S) (old : Held S) where
     }
 
     -- rows that are shown
-    pub keyed_rows : (HasCleanDisk (state g new) → IsUnchanged (state g old) (state g new)) → (name : TableName) (rows : List Row) (b : Bool) → (HasCleanDisk (state g new) → ShowRowids name (state g old).now rows) → (IsTrue b ↔ AreKeyed rows) → TellsKeyed g old new (name ∷ []) (Ok b)
+    pub keyed_rows : (HasCleanDisk (state g new) → IsUnchanged (state g old) (state g new)) → (name : TableName) (rows : List Row) (b : Bool) → (HasCleanDisk (state g new) → ShowRowids name (state g old).now rows) → (IsTrue b ↔ AreKeyed rows) → TellsKeyedAlone g old new (name ∷ []) (Ok b)
     keyed_rows kept name rows b shown so = record {
-      told = λ clean desk is has.
-          let alike = keyed_alike ((state g old).now.trees (desk.tree name)) rows (shown clean desk is has) in
+      told = λ clean desk stand has.
+          let alike = keyed_alike ((state g old).now.trees (desk.tree name)) rows (shown clean desk stand has) in
           ((λ yes. (alike.0 (so.0 yes), tt)), (λ all. so.1 (alike.1 all.0)));
       kept = kept;
       failed = λ _. tt;
@@ -60,8 +61,21 @@ module _ {S : Type 0} (g : Ghosts S) (old : Held S) where
 
   -- ---- several in turn
 
-  module _ (mid new : Held S) (name : TableName) (others : List TableName) (b : Bool) (yes : b ≡ true) (first : TellsKeyed g old mid (name ∷ []) (Ok b)) where
-    module _ (r : Result Bool ReadingFault) (next : TellsKeyed g mid new others r) where
+  -- a first that fails
+  pub keyed_fails : (mid : Held S) (name : TableName) (others : List TableName) (f : ReadingFault) (r : Result Bool ReadingFault) → IsErrAnd r (λ why. why ≡ f) → TellsKeyedAlone g old mid (name ∷ []) (Err f) → TellsKeyedAlone g old mid (name ∷ others) r
+  keyed_fails mid name others f (Ok b) is first = absurd is
+  keyed_fails mid name others f (Err e) is first = record {
+    told = λ _. tt;
+    kept = λ _. tt;
+    failed = first.failed;
+    caused = λ clean stored desk stand has. first.caused clean (sym is ∙ stored) desk (record { stands = (stand.stands.0, tt); apart = stand.apart }) has;
+    sound = λ damaged. first.sound (ap Err (sym is) ∙ damaged);
+    idle = first.idle;
+    survives = first.survives;
+  }
+
+  module _ (mid new : Held S) (name : TableName) (others : List TableName) (b : Bool) (yes : b ≡ true) (first : TellsKeyedAlone g old mid (name ∷ []) (Ok b)) where
+    module _ (r : Result Bool ReadingFault) (next : TellsKeyedAlone g mid new others r) where
       earlier : HasCleanDisk (state g new) → HasCleanDisk (state g mid)
       earlier clean = omega (arith, next.survives.clean)
 
@@ -74,12 +88,18 @@ module _ {S : Type 0} (g : Ghosts S) (old : Held S) where
       saved : Survives (state g old) (state g new) (λ _. ⊥)
       saved = survives_then (state g old) (state g mid) (state g new) _ _ (λ _. ⊥) (λ _ _ none. none) (λ _ _ none. none) first.survives next.survives
 
+    the_first : (desk : Placing) → StandApart desk (name ∷ others) → StandApart desk (name ∷ [])
+    the_first desk stand = record { stands = (stand.stands.0, tt); apart = stand.apart }
+
+    the_others : (desk : Placing) → StandApart desk (name ∷ others) → StandApart desk others
+    the_others desk stand = record { stands = stand.stands.1; apart = stand.apart }
+
     -- one table, and then the others
-    pub keyed_then : (r : Result Bool ReadingFault) → TellsKeyed g mid new others r → TellsKeyed g old new (name ∷ others) r
+    pub keyed_then : (r : Result Bool ReadingFault) → TellsKeyedAlone g mid new others r → TellsKeyedAlone g old new (name ∷ others) r
     keyed_then (Ok c) next = record {
-      told = λ clean desk is has.
-          let one = first.told (earlier (Ok c) next clean) desk is has in
-          let more = next.told clean desk is (moved (Ok c) next clean desk has) in
+      told = λ clean desk stand has.
+          let one = first.told (earlier (Ok c) next clean) desk (the_first desk stand) has in
+          let more = next.told clean desk (the_others desk stand) (moved (Ok c) next clean desk has) in
           let now = same (Ok c) next clean in (
             (λ all. ((one.0 yes).0, subst (λ (db : Database). AreTablesKeyed desk db others) now (more.0 all))),
             (λ all. more.1 (subst (λ (db : Database). AreTablesKeyed desk db others) (sym now) all.1)),
@@ -95,11 +115,33 @@ module _ {S : Type 0} (g : Ghosts S) (old : Held S) where
       told = λ _. tt;
       kept = λ _. tt;
       failed = λ clean. failed_then (state g old) (state g mid) (state g new) (first.kept (earlier (Err f) next clean)) (next.failed clean);
-      caused = λ clean stored desk is has. fault_later g old mid new (later_by g old mid first.survives) (later_by g mid new next.survives) clean (next.caused clean stored desk is (moved (Err f) next clean desk has));
+      caused = λ clean stored desk stand has. fault_later g old mid new (later_by g old mid first.survives) (later_by g mid new next.survives) clean (next.caused clean stored desk (the_others desk stand) (moved (Err f) next clean desk has));
       sound = next.sound;
       idle = λ was. next.idle (first.idle was);
       survives = saved (Err f) next;
     }
+
+-- ---- where the fourteen stand
+
+pub tells_all : {S : Type 0} (g : Ghosts S) (old new : Held S) (r : Result Bool ReadingFault) → TellsKeyedAlone g old new table_names r → TellsKeyed g old new table_names r
+tells_all g old new (Ok b) keyed = record {
+  told = λ clean desk is has. keyed.told clean desk (all_stand desk is) has;
+  kept = keyed.kept;
+  failed = keyed.failed;
+  caused = λ _. tt;
+  sound = keyed.sound;
+  idle = keyed.idle;
+  survives = keyed.survives;
+}
+tells_all g old new (Err f) keyed = record {
+  told = λ _. tt;
+  kept = keyed.kept;
+  failed = keyed.failed;
+  caused = λ clean stored desk is has. keyed.caused clean stored desk (all_stand desk is) has;
+  sound = keyed.sound;
+  idle = keyed.idle;
+  survives = keyed.survives;
+}
 
 -- ---- a query about the world whose rows the tables have: it is keyed
 

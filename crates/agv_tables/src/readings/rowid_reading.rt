@@ -8,10 +8,10 @@ ghost use Rattle.sqlite_trees.specs.View.{is_int};
 ghost use Rattle.sqlite_rules.specs.Edit.{id_in};
 ghost use Rattle.sqlite.specs.State.{HasCleanDisk, IsUnchanged, IsRolledBack, Survives};
 ghost use Rattle.sqlite.specs.Held.{state};
-ghost use Rattle.agv_tables.specs.rows.DeskRows.{AreKeyed, Placing, IsDesk, table_names};
+ghost use Rattle.agv_tables.specs.rows.DeskRows.{AreKeyed, Placing, StandApart, table_names};
 ghost use Rattle.agv_tables.specs.sql.Errors.{IsOfStore};
 ghost use Rattle.agv_tables.specs.sql.Connections.{HasStorageCause};
-ghost use Rattle.agv_tables.specs.readings.Rowids.{ShowRowids, TellsKeyed, rowids_text};
+ghost use Rattle.agv_tables.specs.readings.Rowids.{ShowRowids, TellsKeyed, TellsKeyedAlone, rowids_text};
 ghost use Rattle.agv_tables.specs.queries.WorldAnswers.{AnswersQuery};
 
 use crate::ReadingFault;
@@ -92,7 +92,7 @@ fn find_rowids<S: Alter>(conn: &mut Connection<S>, table: TableName) -> Result<V
     ensures failed { HasCleanDisk (state S.Store conn.new)
         → OnErr result (IsUnchanged (state S.Store conn.old) (state S.Store conn.new) ⊎ IsRolledBack (state S.Store conn.old) (state S.Store conn.new)) }
     ensures caused { HasCleanDisk (state S.Store conn.new) → IfErr result (λ e. IsOfStore e
-        → (desk : Placing) → IsDesk desk → (state S.Store conn.old).now.schema ≡ desk.schema
+        → (desk : Placing) → StandApart desk (table ∷ []) → (state S.Store conn.old).now.schema ≡ desk.schema
         → HasStorageCause S.Store conn.old conn.new) }
     ensures idle { conn.old.in_transaction ≡ false → conn.new.in_transaction ≡ false }
     ensures survives { Survives (state S.Store conn.old) (state S.Store conn.new) (λ _. ⊥) }
@@ -106,21 +106,24 @@ fn query_keyed<S: Alter>(
     conn: &mut Connection<S>,
     table: TableName,
 ) -> Result<bool, ReadingFault>
-    ensures { TellsKeyed S.Store conn.old conn.new (table ∷ []) result }
+    ensures { TellsKeyedAlone S.Store conn.old conn.new (table ∷ []) result }
 {
     let rows = find_rowids(conn, table)?;
     let keyed = are_keyed(alloc, rows.as_slice())?;
     Ok(keyed)
 }
 
-// The same of a table and then of others.
-fn query_each_keyed<S: Alter>(
+/// Whether each row of a table, and then of others, has a whole number of its own, also where these stand without the rest.
+///
+/// # Errors
+/// [`ReadingFault::Memory`] and [`ReadingFault::Storage`]; none is [`ReadingFault::Damaged`].
+pub(crate) fn query_each_keyed<S: Alter>(
     alloc: Global,
     conn: &mut Connection<S>,
     table: TableName,
     others: &[TableName],
 ) -> Result<bool, ReadingFault>
-    ensures { TellsKeyed S.Store conn.old conn.new (table ∷ others.now) result }
+    ensures { TellsKeyedAlone S.Store conn.old conn.new (table ∷ others.now) result }
 {
     let keyed = query_keyed(alloc, conn, table)?;
     let [next, more @ ..] = others else {

@@ -6,7 +6,7 @@ use Rattle.agv_tables.proofs.readings.rowid_reading.query_keyed.Goals as goal
 pub returns-in_err-rows : goal.returns-in_err-rows
 returns-in_err-rows g c =
     keyed_error g.S.Store c.args.conn.now c.find_rowids.new.conn c.find_rowids.ensures.idle c.find_rowids.ensures.survives (c.args.table ∷ []) c.from_residual.result c.in_err-rows.field-0.0 c.from_residual.ensures.1 c.in_err-rows.ensures.failed
-    (λ clean stored desk is has. c.in_err-rows.ensures.caused clean stored desk is has)
+    (λ clean stored desk stand has. c.in_err-rows.ensures.caused clean stored desk stand has)
 
 pub returns : goal.returns
 returns g c =
