@@ -1,40 +1,30 @@
 -- What the look-ups by columns other than the key show.
-use Rattle.std.proofs.Common.{◌≡◌, ℕ, ◌&&◌, nat_eq, Bool, true, false, List, Some, refl, sym, ap, ap₂, ◌∙◌}
-use Rattle.std.specs.Cmp.{eq_by_cmp_equiv}
-use Rattle.std.specs.Cmp.Lexicographic.{pointwise, nat_list_cmp_total, texts_ties}
+use Rattle.std.proofs.Common.{◌≡◌, ℕ, ◌&&◌, nat_eq, Bool, true, false, List, refl, ap, ap₂}
+use Rattle.std.specs.Cmp.Lexicographic.{pointwise}
 use Rattle.sqlite_value.specs.declared.value.Value.TheVariants.{Null, Text}
 use Rattle.sqlite_value.specs.Order.{Row}
 use Rattle.sqlite_sql.specs.Ops.{binary}
-use Rattle.agv_header.specs.KeyOrder.{key_eq}
 use Rattle.agv_header.specs.declared.key.VehicleKey.{VehicleKey}
 use Rattle.agv_stock.specs.Room.{is_at, is_on}
 use Rattle.agv_stock.specs.declared.place.Place.{Place}
 use Rattle.agv_stock.specs.declared.place.Place.TheVariants as place
+use Rattle.agv_trip_rows.specs.TripRows.{is_of}
 use Rattle.agv_world.specs.Rows.{Rows}
-use Rattle.agv_world.specs.Told.{is_of_order, names_vehicle}
+use Rattle.agv_world.specs.Told.{is_of_order}
 use Rattle.agv_world.specs.declared.row.JobRow.{JobRow}
-use Rattle.agv_world.specs.declared.row.TripRow.{TripRow}
 use Rattle.agv_tables.specs.queries.QueriedRows.{ShowAsked, is_in_phase, name_and_phase}
 use Rattle.agv_tables.specs.rows.ValueEncodings.{phase_name}
-use Rattle.agv_tables.specs.rows.Columns.{load_columns, trip_columns}
+use Rattle.agv_tables.specs.rows.Columns.{load_columns}
+use Rattle.agv_tables.specs.rows.DecodedTrips.{is_driven_by}
 use Rattle.agv_tables.specs.rows.DeskRows.{is_equal}
 use Rattle.agv_tables.specs.rows.RowKeys.{name_key, vehicle_key}
 use Rattle.agv_tables.specs.rows.RowLists.{TellRows}
 use Rattle.agv_tables.specs.statements.RowQueries.{columns_asked, equal_from}
-use Rattle.agv_tables.specs.rows.TripLines.{line_of}
 use Rattle.agv_tables.specs.declared.rows.rows_by.RowsBy.TheVariants as by
-use Rattle.agv_tables.specs.declared.rows.trip_line.TripLine.{TripLine}
-use Rattle.agv_tables.proofs.sql.KeyTests.{and_true, texts_equal}
+use Rattle.agv_tables.proofs.sql.KeyTests.{last_text_is, text_is}
 use Rattle.agv_tables.proofs.queries.KeysShown.{all_shown}
-use Rattle.agv_tables.proofs.rows.TripLineLemmas.{trip_told_back}
 
 -- ---- values
-
-text_is : (q k : List ℕ) → is_equal (Text q) (Text k) ≡ pointwise nat_eq q k
-text_is q k = texts_equal k q ∙ (eq_by_cmp_equiv nat_list_cmp_total).symm k q ∙ sym (texts_ties q k)
-
-last_text_is : (q k : List ℕ) → (is_equal (Text q) (Text k) && true) ≡ pointwise nat_eq q k
-last_text_is q k = and_true _ ∙ text_is q k
 
 -- what is NULL is equal to nothing
 null_is_none : (k : List ℕ) → is_equal Null (Text k) ≡ false
@@ -61,17 +51,13 @@ load_on key id (place.Vehicle other) = two_texts other.manufacturer other.serial
 load_on key id place.Checking = null_fails key.manufacturer _
 load_on key id place.Left = null_fails key.manufacturer _
 
-trip_of : (key : VehicleKey) (order : List ℕ) (trip : TripRow) (line : TripLine) → line_of order trip ≡ Some line
-    → equal_from 0 (columns_asked by.VehicleTrip) (vehicle_key key) (trip_columns line) ≡ names_vehicle key (order, trip)
-trip_of key order trip line is =
-    two_texts line.vehicle.manufacturer line.vehicle.serial key.manufacturer key.serial
-    ∙ ap (λ (vehicle : VehicleKey). key_eq vehicle key) (ap (λ (row : TripRow). row.vehicle) (trip_told_back order trip line is).trip)
-
 pub shown_asked : (lists : List (List Row)) (rows : Rows) → TellRows lists rows → ShowAsked lists rows
 shown_asked lists rows told =
     let all = all_shown lists rows told in
     record {
-      trip = λ key. all.trips (equal_from 0 (columns_asked by.VehicleTrip) (vehicle_key key)) (names_vehicle key) (trip_of key);
+      journey = λ key. all.journeys (equal_from 0 (columns_asked by.VehicleJourney) (vehicle_key key)) (is_driven_by key)
+          (λ order journey. two_texts journey.vehicle.manufacturer journey.vehicle.serial key.manufacturer key.serial);
+      acts = λ order. all.acts (equal_from 0 (columns_asked by.OrderActs) (name_key order)) (is_of order) (λ key act. last_text_is key.order order);
       legs = λ order. all.legs (equal_from 0 (columns_asked by.OrderLegs) (name_key order)) (is_of_order order) (λ key edge. last_text_is key.order order);
       loads_at = λ station. all.loads (equal_from 0 (columns_asked by.StationLoads) (name_key station)) (λ (load : List ℕ × Place). is_at station load.1) (load_at station);
       loads_on = λ key. all.loads (equal_from 0 (columns_asked by.VehicleLoads) (vehicle_key key)) (λ (load : List ℕ × Place). is_on key load.1) (load_on key);

@@ -3,35 +3,28 @@ use Rattle.std.proofs.Common.{◌≡◌, ℕ, Bool, true, false, cond, List, [],
 use Rattle.std.proofs.lemmas.List.Sorted.{IsPermutation-sym, length_permutation}
 use Rattle.std.specs.Cmp.{IsTotalOrder, nat_cmp_total}
 use Rattle.std.specs.Cmp.Lexicographic.{nat_list_cmp_total}
-use Rattle.std.specs.FinMap.{FinMap, entries, IsAntisymmetric, get, nat_cmp-IsAntisymmetric}
+use Rattle.std.specs.FinMap.{FinMap, IsAntisymmetric, get, nat_cmp-IsAntisymmetric}
 use Rattle.std.specs.FinSet as set
-use Rattle.std.specs.List.{AllByRecursion}
-use Rattle.std.specs.Option.{option_and_then}
 use Rattle.std.specs.Ordering.{eq_by_cmp}
 use Rattle.sqlite.proofs.Callers.{one_permutation}
 use Rattle.sqlite_value.specs.Order.{Row}
-use Rattle.sqlite_trees.proofs.ListLemmas.{IsPermutation-filter}
-use Rattle.agv_header.specs.Name.{name_cmp}
 use Rattle.agv_header.specs.KeyOrder.{key_cmp-total, key_cmp-IsAntisymmetric}
 use Rattle.agv_header.specs.ThingOrder.{thing_cmp-total, thing_cmp-IsAntisymmetric}
 use Rattle.agv_header.specs.declared.key.Thing.{Thing}
 use Rattle.agv_header.specs.declared.key.VehicleKey.{VehicleKey}
+use Rattle.agv_trip_rows.specs.TripRows.{acts_of, journeys_of}
 use Rattle.agv_world.specs.KeyOrders.{leg_cmp-total, leg_cmp-IsAntisymmetric, use_cmp-total, use_cmp-IsAntisymmetric}
 use Rattle.agv_world.specs.Rows.{Rows}
 use Rattle.agv_world.specs.declared.key.LegKey.{LegKey}
 use Rattle.agv_world.specs.declared.key.UseKey.{UseKey}
-use Rattle.agv_world.specs.declared.row.TripRow.{TripRow}
 use Rattle.agv_tables.specs.rows.ValueEncodings.{number_cell}
-use Rattle.agv_tables.specs.rows.Columns.{meta_columns, node_columns, edge_columns, station_columns, vehicle_columns, trip_columns, leg_columns, load_columns, job_columns, hold_columns, used_columns}
+use Rattle.agv_tables.specs.rows.Columns.{meta_columns, node_columns, edge_columns, station_columns, vehicle_columns, room_columns, journey_columns, act_columns, leg_columns, load_columns, job_columns, hold_columns, used_columns}
 use Rattle.agv_tables.specs.rows.DeskRows.{has_key, rows_of_key, table_at}
 use Rattle.agv_tables.specs.rows.RowKeys.{name_key, vehicle_key, leg_key, hold_key}
-use Rattle.agv_tables.specs.rows.RowLists.{ShowAll, ShowTrips, trip_rows, TellRows, marked, row_if, row_lists, rows_for, rows_in}
-use Rattle.agv_tables.specs.rows.TripLines.{line_of}
+use Rattle.agv_tables.specs.rows.RowLists.{ShowAll, TellRows, marked, row_if, row_lists, rows_for, rows_in}
 use Rattle.agv_tables.specs.declared.schema.table_name.TableName.TheVariants as the
-use Rattle.agv_tables.specs.declared.rows.trip_line.TripLine.{TripLine}
-use Rattle.agv_tables.proofs.rows.KeyedRows.{filtered, rows-shown, one_row, row-found, rows_at, rows-found}
-use Rattle.agv_tables.proofs.sql.KeyTests.{meta_tested, node_tested, edge_tested, station_tested, vehicle_tested, leg_tested, load_tested, job_tested, hold_tested, used_tested}
-use Rattle.agv_tables.proofs.rows.ListsFollow.{names_apart, trip_tested}
+use Rattle.agv_tables.proofs.rows.KeyedRows.{rows-shown, one_row, row-found, rows_at}
+use Rattle.agv_tables.proofs.sql.KeyTests.{act_tested, capacity_tested, journey_tested, meta_tested, names_apart, node_tested, edge_tested, station_tested, vehicle_tested, leg_tested, load_tested, job_tested, hold_tested, used_tested}
 use Rattle.agv_tables.proofs.rows.ListsTell.{alike_at}
 use Rattle.agv_tables.proofs.sql.Members.{get-marked, mark}
 
@@ -63,10 +56,6 @@ member_shown : {K : Type 0} {R : K → K → Ordering} (total : IsTotalOrder R) 
 member_shown total apart columns has tested s rows k h =
     shown total apart (λ key nothing. columns key) has (λ k q x. tested k q) (marked s) rows k h ∙ ap (row_if (λ nothing. columns k)) (get-marked total s k) ∙ of_mark (columns k) (set.contains s k)
 
-of_trip : (order : List ℕ) (o : Option TripRow) → rows_at (λ order trip. row_if trip_columns (line_of order trip)) order o ≡ row_if trip_columns (option_and_then (line_of order) o)
-of_trip order None = refl
-of_trip order (Some trip) = refl
-
 module _ (lists : List (List Row)) (rows : Rows) (told : TellRows lists rows) where
   pub meta_shown : (id : ℕ) → rows_of_key the.Meta (number_cell id ∷ []) lists ≡ row_if (meta_columns id) (get rows.meta id)
   unfolding row_lists
@@ -89,13 +78,19 @@ module _ (lists : List (List Row)) (rows : Rows) (told : TellRows lists rows) wh
   vehicle_shown key =
       shown key_cmp-total key_cmp-IsAntisymmetric vehicle_columns (λ k. has_key the.Vehicle (vehicle_key k)) vehicle_tested rows.vehicles (table_at 4 lists) key (alike_at 4 lists (row_lists rows) told)
 
-  pub trip_shown : (order : List ℕ) → rows_of_key the.Trip (name_key order) lists ≡ row_if trip_columns (option_and_then (line_of order) (get rows.trips order))
+  pub capacity_shown : (key : VehicleKey) → rows_of_key the.Capacity (vehicle_key key) lists ≡ row_if (room_columns key) (get rows.vehicles key)
   unfolding row_lists
-  trip_shown order =
-      alone trip_columns (option_and_then (line_of order) (get rows.trips order)) _
-      (subst (IsPermutation (rows_of_key the.Trip (name_key order) lists)) (of_trip order (get rows.trips order))
-      (rows-found nat_list_cmp_total names_apart (λ order trip. row_if trip_columns (line_of order trip)) (λ k. has_key the.Trip (name_key k)) trip_tested rows.trips (table_at 5 lists) order
-      (alike_at 5 lists (row_lists rows) told)))
+  capacity_shown key =
+      shown key_cmp-total key_cmp-IsAntisymmetric room_columns (λ k. has_key the.Capacity (vehicle_key k)) capacity_tested rows.vehicles (table_at 11 lists) key (alike_at 11 lists (row_lists rows) told)
+
+  pub journey_shown : (order : List ℕ) → rows_of_key the.Journey (name_key order) lists ≡ row_if (journey_columns order) (get (journeys_of rows.trips) order)
+  unfolding row_lists
+  journey_shown order =
+      shown nat_list_cmp_total names_apart journey_columns (λ k. has_key the.Journey (name_key k)) journey_tested (journeys_of rows.trips) (table_at 12 lists) order (alike_at 12 lists (row_lists rows) told)
+
+  pub act_shown : (key : LegKey) → rows_of_key the.Act (leg_key key) lists ≡ row_if (act_columns key) (get (acts_of rows.trips) key)
+  unfolding row_lists
+  act_shown key = shown leg_cmp-total leg_cmp-IsAntisymmetric act_columns (λ k. has_key the.Act (leg_key k)) act_tested (acts_of rows.trips) (table_at 13 lists) key (alike_at 13 lists (row_lists rows) told)
 
   pub leg_shown : (key : LegKey) → rows_of_key the.Leg (leg_key key) lists ≡ row_if (leg_columns key) (get rows.legs key)
   unfolding row_lists
@@ -119,19 +114,6 @@ module _ (lists : List (List Row)) (rows : Rows) (told : TellRows lists rows) wh
 
 -- ---- tests
 
-trip_alike : (passes : Row → Bool) (is : List ℕ × TripRow → Bool) → ((order : List ℕ) (trip : TripRow) (line : TripLine) → line_of order trip ≡ Some line → passes (trip_columns line) ≡ is (order, trip))
-    → (entry : List ℕ × TripRow) → AllByRecursion (λ row. passes row ≡ is entry) (row_if trip_columns (line_of entry.0 entry.1))
-trip_alike passes is alike entry = at (line_of entry.0 entry.1) refl
-  where
-    at : (o : Option TripLine) → line_of entry.0 entry.1 ≡ o → AllByRecursion (λ row. passes row ≡ is entry) (row_if trip_columns o)
-    at None e = tt
-    at (Some line) e = (alike entry.0 entry.1 line e, tt)
-
-trips-shown : (trips : FinMap name_cmp TripRow) (rows : List Row) → IsPermutation rows (trip_rows trips) → ShowTrips rows trips
-trips-shown trips rows h passes is alike =
-    subst (IsPermutation (filter passes rows)) (filtered passes is (λ (entry : List ℕ × TripRow). row_if trip_columns (line_of entry.0 entry.1)) (trip_alike passes is alike) (entries trips))
-    (IsPermutation-filter passes _ _ h)
-
 module _ (lists : List (List Row)) (rows : Rows) (told : TellRows lists rows) where
   pub all_shown : ShowAll lists rows
   unfolding row_lists
@@ -140,10 +122,13 @@ module _ (lists : List (List Row)) (rows : Rows) (told : TellRows lists rows) wh
     edges = rows-shown edge_columns rows.edges _ (alike_at 2 lists (row_lists rows) told);
     stations = rows-shown station_columns rows.stations _ (alike_at 3 lists (row_lists rows) told);
     vehicles = rows-shown vehicle_columns rows.vehicles _ (alike_at 4 lists (row_lists rows) told);
-    trips = trips-shown rows.trips _ (alike_at 5 lists (row_lists rows) told);
+    trips = none_left _ (alike_at 5 lists (row_lists rows) told);
     legs = rows-shown leg_columns rows.legs _ (alike_at 6 lists (row_lists rows) told);
     loads = rows-shown load_columns rows.loads _ (alike_at 7 lists (row_lists rows) told);
     jobs = rows-shown job_columns rows.jobs _ (alike_at 8 lists (row_lists rows) told);
     holds = rows-shown hold_columns rows.holds _ (alike_at 9 lists (row_lists rows) told);
     used = rows-shown (λ key nothing. used_columns key) (marked rows.used) _ (alike_at 10 lists (row_lists rows) told);
+    capacities = rows-shown room_columns rows.vehicles _ (alike_at 11 lists (row_lists rows) told);
+    journeys = rows-shown journey_columns (journeys_of rows.trips) _ (alike_at 12 lists (row_lists rows) told);
+    acts = rows-shown act_columns (acts_of rows.trips) _ (alike_at 13 lists (row_lists rows) told);
   }

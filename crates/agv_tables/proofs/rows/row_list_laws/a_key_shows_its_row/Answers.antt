@@ -1,4 +1,4 @@
-use Rattle.agv_tables.proofs.queries.KeysShown.{meta_shown, node_shown, edge_shown, station_shown, vehicle_shown, trip_shown, leg_shown, load_shown, job_shown, hold_shown, used_shown}
+use Rattle.agv_tables.proofs.queries.KeysShown.{meta_shown, node_shown, edge_shown, station_shown, vehicle_shown, capacity_shown, journey_shown, act_shown, leg_shown, load_shown, job_shown, hold_shown, used_shown}
 use Rattle.agv_tables.proofs.rows.row_list_laws.a_key_shows_its_row.Goals as goal
 
 pub returns : goal.returns
@@ -8,7 +8,9 @@ returns c = record {
   edge = edge_shown;
   station = station_shown;
   vehicle = vehicle_shown;
-  trip = trip_shown;
+  capacity = capacity_shown;
+  journey = journey_shown;
+  act = act_shown;
   leg = leg_shown;
   load = load_shown;
   job = job_shown;
