@@ -13,10 +13,12 @@ COLUMNS = {
                'instant_at pending',
     'trip': 'order_id manufacturer serial job start first base sent confirmed seen pick_at drop_at pick_status drop_status',
     'leg': 'order_id k edge', 'load': 'id kind station manufacturer serial', 'job': 'id load origin target phase',
-    'hold': 'kind id manufacturer serial', 'used': 'kind id'}
+    'hold': 'kind id manufacturer serial', 'used': 'kind id', 'capacity': 'manufacturer serial capacity',
+    'journey': 'order_id manufacturer serial start first base sent confirmed seen', 'act': 'order_id n job kind place_at status'}
 STATUSES = {'WAITING', 'INITIALIZING', 'RUNNING', 'PAUSED', 'FINISHED', 'FAILED'}
 PENDING = {None, 'startPause', 'stopPause', 'cancelOrder'}
 OVER = {'FINISHED', 'FAILED'}
+SEATS = 4
 MOST = 4294967295
 LAST_MOMENT = 4102444799999
 
@@ -76,9 +78,11 @@ def broken(rows):
             found.append(' '.join([rule, *map(str, of)]))
 
     tables = {table: [Row(columns.split(), row) for row in rows[table]] for table, columns in COLUMNS.items()}
-    must(rows['meta'] == [(1, 1)], 'meta')
-    keys = {'node': ['id'], 'edge': ['id'], 'station': ['id'], 'vehicle': ['manufacturer', 'serial'], 'trip': ['order_id'],
-            'leg': ['order_id', 'k'], 'load': ['id'], 'job': ['id'], 'hold': ['kind', 'id'], 'used': ['kind', 'id']}
+    must(rows['meta'] == [(1, 2)], 'meta')
+    must(rows['trip'] == [], 'trip')
+    keys = {'node': ['id'], 'edge': ['id'], 'station': ['id'], 'vehicle': ['manufacturer', 'serial'],
+            'leg': ['order_id', 'k'], 'load': ['id'], 'job': ['id'], 'hold': ['kind', 'id'], 'used': ['kind', 'id'],
+            'capacity': ['manufacturer', 'serial'], 'journey': ['order_id'], 'act': ['order_id', 'n']}
     for table, names in keys.items():
         told = collections.Counter(tuple(getattr(row, name) for name in names) for row in tables[table])
         must(all(count == 1 for count in told.values()), 'a key twice', table)
@@ -101,17 +105,25 @@ def broken(rows):
         used.setdefault(row.kind, set()).add(row.id)
     must(all(len(names) <= 1_000_000 for names in used.values()), 'few_orders, few_references')
     vehicles = {(row.manufacturer, row.serial): row for row in tables['vehicle']}
+    capacities = {(row.manufacturer, row.serial): row.capacity for row in tables['capacity']}
+    must(set(capacities) == set(vehicles), 'capacity: vehicles')
+    must(all(is_number(capacity, 1, SEATS) for capacity in capacities.values()), 'capacity')
     trips = {}
-    for row in tables['trip']:
+    for row in tables['journey']:
         key = row.manufacturer, row.serial
         must(key in vehicles and key not in trips, 'trips: vehicle', key)
         trips[key] = row
-    must(len({row.job for row in tables['trip']}) == len(tables['trip']), 'one_vehicle')
+    acts = collections.defaultdict(list)
+    for row in sorted(tables['act'], key=lambda row: (row.order_id, row.n)):
+        must(row.n == len(acts[row.order_id]), 'acts', row.order_id, row.n)
+        acts[row.order_id].append(row)
+    must(set(acts) <= {row.order_id for row in tables['journey']}, 'acts of no trip')
+    must(len({(row.job, row.kind) for row in tables['act']}) == len(tables['act']), 'one_vehicle')
     legs = collections.defaultdict(list)
     for row in sorted(tables['leg'], key=lambda row: (row.order_id, row.k)):
         must(row.k == len(legs[row.order_id]), 'legs', row.order_id, row.k)
         legs[row.order_id].append(row.edge)
-    must(set(legs) <= {row.order_id for row in tables['trip']}, 'legs of no trip')
+    must(set(legs) <= {row.order_id for row in tables['journey']}, 'legs of no trip')
     jobs = {row.id: row for row in tables['job']}
     held = collections.defaultdict(set)
     for key, row in vehicles.items():
@@ -130,7 +142,7 @@ def broken(rows):
                 held['edge', row.rest_edge].add(key)
                 held['node', row.rest_node].add(key)
     for key, row in trips.items():
-        check_trip(row, vehicles.get(key), jobs.get(row.job), legs[row.order_id], edges, stations, must)
+        check_trip(row, vehicles.get(key), acts[row.order_id], jobs, legs[row.order_id], edges, stations, must)
         must(row.order_id in used['order'], 'used', row.order_id)
         way = [row.start] + [edges[edge][1] for edge in legs[row.order_id] if edge in edges]
         for k in range(row.seen, row.base + 1):
@@ -155,7 +167,7 @@ def broken(rows):
             must((row.manufacturer, row.serial) in vehicles, 'places: vehicle', row.id)
             on_vehicle[row.manufacturer, row.serial].add(row.id)
     live = collections.Counter()
-    to_drop = {row.job: row for row in trips.values() if row.drop_status != 'FINISHED'}
+    to_drop = {row.job for row in tables['act'] if row.kind == 'drop' and row.status != 'FINISHED'}
     for row in jobs.values():
         must(row.load in loads and row.origin in stations and row.target in stations, 'jobs', row.id)
         must(row.phase in ('waiting', 'riding', 'done', 'stopped'), 'jobs: phase', row.id)
@@ -168,46 +180,57 @@ def broken(rows):
     must(all(count == 1 for count in live.values()), 'one_job')
     must(all(count <= stations[name].capacity for name, count in at_station.items() if name in stations), 'room')
     for key in vehicles:
-        trip = trips.get(key)
-        job = jobs.get(trip.job) if trip else None
-        others = on_vehicle[key] - ({job.load} if job and job.phase in ('waiting', 'riding') else set())
-        must(len(others) + (job is not None and job.phase != 'done') <= 1, 'idle, within_capacity', key)
-        if job and trip.drop_status == 'FINISHED':
-            must(job.phase == 'done', 'done', job.id)
-        if job and job.phase in ('waiting', 'riding') and job.load in loads:
-            row = loads[job.load]
-            if trip.pick_status == 'FINISHED':
-                must((row.manufacturer, row.serial) == key, 'carried', job.id)
-            else:
-                must(row.station == job.origin, 'carried', job.id)
+        to_do = acts[trips[key].order_id] if key in trips else []
+        of_trip = [jobs[act.job] for act in to_do if act.kind == 'pick' and act.job in jobs]
+        others = on_vehicle[key] - {job.load for job in of_trip if job.phase in ('waiting', 'riding')}
+        under_way = [job for job in of_trip if job.phase != 'done']
+        must(max(len(of_trip), len(others) + len(under_way)) <= capacities.get(key, 0), 'idle, within_capacity', key)
+        for act in to_do:
+            job = jobs.get(act.job)
+            if job and act.kind == 'drop' and act.status == 'FINISHED':
+                must(job.phase == 'done', 'done', job.id)
+            if job and act.kind == 'pick' and job.phase in ('waiting', 'riding') and job.load in loads:
+                row = loads[job.load]
+                if act.status == 'FINISHED':
+                    must((row.manufacturer, row.serial) == key, 'carried', job.id)
+                else:
+                    must(row.station == job.origin, 'carried', job.id)
     return found
 
 
-def check_trip(row, vehicle, job, legs, edges, stations, must):
+def check_trip(row, vehicle, acts, jobs, legs, edges, stations, must):
     """A trip is planned on the layout, was sent, and is under way."""
     order = row.order_id
-    must(job is not None and vehicle is not None, 'trips: job', order)
+    must(acts and all(act.job in jobs for act in acts) and vehicle is not None, 'trips: jobs', order)
     must(len(legs) <= 200 and all(edge in edges for edge in legs), 'trips: edges', order)
-    if job is None or vehicle is None or any(edge not in edges for edge in legs):
+    if not acts or any(act.job not in jobs for act in acts) or vehicle is None or any(edge not in edges for edge in legs):
         return
+    picked = {act.job: act for act in acts if act.kind == 'pick'}
+    dropped = {act.job: act for act in acts if act.kind == 'drop'}
+    must(len(picked) <= SEATS and set(picked) == set(dropped) and len(acts) == 2 * len(picked), 'trips: stops', order)
+    must(all(act.kind in ('pick', 'drop') for act in acts), 'trips: kinds', order)
+    must(all(name in picked and picked[name].n < act.n for name, act in dropped.items()), 'trips: picked before', order)
     way, end = [row.start], len(legs)
     for edge in legs:
         must(edges[edge][0] == way[-1], 'trips: walk', order)
         way.append(edges[edge][1])
-    for number in (row.first, row.base, row.sent, row.seen, row.pick_at, row.drop_at):
+    for number in (row.first, row.base, row.sent, row.seen, *[act.place_at for act in acts]):
         must(is_number(number), 'trips: numbers', order)
     must(row.first <= row.base <= end and row.seen <= row.base and row.sent <= row.base, 'trips: base', order)
     must(row.first < row.base if row.sent else row.first == 0, 'trips: first', order)
-    must(row.pick_at <= row.drop_at == end, 'trips: rising', order)
-    for at, station in ((row.pick_at, job.origin), (row.drop_at, job.target)):
-        must(station in stations and at <= end and way[at] == stations[station].node, 'trips: stations', order)
-    must({row.pick_status, row.drop_status} <= STATUSES, 'trips: statuses', order)
+    places, statuses = [act.place_at for act in acts], {act.status for act in acts}
+    must(places == sorted(places) and places[-1] == end, 'trips: rising', order)
+    for act in acts:
+        station = jobs[act.job].origin if act.kind == 'pick' else jobs[act.job].target
+        must(station in stations and 0 <= act.place_at <= end and way[act.place_at] == stations[station].node, 'trips: stations', order)
+    must(statuses <= STATUSES, 'trips: statuses', order)
     if row.confirmed is None:
-        must(row.sent == row.first == row.seen == 0 and row.pick_status == row.drop_status == 'WAITING', 'trips: confirmed', order)
+        must(row.sent == row.first == row.seen == 0 and statuses == {'WAITING'}, 'trips: confirmed', order)
     else:
         must(row.confirmed == row.sent or row.confirmed + 1 == row.sent and row.seen <= row.first, 'trips: confirmed', order)
-    must(row.pick_status != 'FINISHED' or row.pick_at <= row.seen, 'trips: reached', order)
-    must(row.drop_status != 'FINISHED' or row.drop_at <= row.seen and row.pick_status == 'FINISHED', 'trips: in turn', order)
-    must(not (row.seen == end and {row.pick_status, row.drop_status} <= OVER), 'trips: open', order)
+    for act in acts:
+        must(act.status != 'FINISHED' or act.place_at <= row.seen, 'trips: reached', order)
+        must(act.kind == 'pick' or act.status != 'FINISHED' or act.job in picked and picked[act.job].status == 'FINISHED', 'trips: in turn', order)
+    must(not (row.seen == end and statuses <= OVER), 'trips: open', order)
     must(vehicle.order_header and vehicle.rest_edge is None, 'trips: sent', order)
     must(row.seen <= end and way[row.seen] == vehicle.node, 'trips: stands', order)

@@ -21,10 +21,10 @@ LAYOUT = 'kind,id,from,to\n' + ''.join('node,N%d,,\n' % n for n in NODES) + ''.j
         'station,%s,N%d,2\n' % one for one in (('A', 1), ('B', 3), ('C', 5), ('D', 8)))
 FINISHED = 'FINISHED'
 
-# Each table gets rows of each kind: a load at each kind of place, a job of each phase, an open trip, a vehicle that left its order on the
-# way, one whose action is pending, and used names.
+# Each table but `trip`, which stays empty, gets rows of each kind: a load at each kind of place, a job of each phase, an open trip, a vehicle
+# that left its order on the way, one whose action is pending and which has room for three, and used names.
 FILLED = [
-    ok('PUT /layout', LAYOUT), vehicle('0001', 'N1'), vehicle('0002', 'N7'), vehicle('0003', 'N6'), accepted(state(1)),
+    ok('PUT /layout', LAYOUT), vehicle('0001', 'N1'), vehicle('0002', 'N7'), vehicle('0003', 'N6', 3), accepted(state(1)),
     accepted(state(1, node='N7', serial='0002')), accepted(state(1, node='N6', serial='0003')),
     load('L1', 'A'), load('L2', 'D'), load('L3'), load('L4'), load('L5', 'A'), load('L6', 'B'),
     ok('POST /loads/L4/leave', {'ref': 'R1'}), job('J1', 'L1', 'B'), order('O1', 'J1', 2),
@@ -72,7 +72,7 @@ def damaged(data, chance):
 
 # Rows of others in the filled file, each set breaking a rule.
 BREAKS = [
-    "UPDATE meta SET schema = 2", "INSERT INTO meta VALUES (2, 1)", "DELETE FROM meta", "DELETE FROM node WHERE id = 'N2'", "DELETE FROM node",
+    "UPDATE meta SET schema = 1", "UPDATE meta SET schema = 3", "INSERT INTO meta VALUES (2, 2)", "DELETE FROM meta", "DELETE FROM node WHERE id = 'N2'", "DELETE FROM node",
     "INSERT INTO node VALUES ('a b')", "UPDATE edge SET start = 'N9' WHERE id = 'E12'", "UPDATE edge SET start = finish WHERE id = 'E12'",
     "UPDATE edge SET finish = 'N7' WHERE id = 'E45'", "DELETE FROM edge WHERE id = 'E78'", "UPDATE station SET node = 'N9' WHERE id = 'A'",
     "UPDATE station SET node = 'N4' WHERE id = 'C'", "UPDATE station SET capacity = 0 WHERE id = 'A'",
@@ -85,12 +85,22 @@ BREAKS = [
     "UPDATE vehicle SET instant_at = 4102444800000 WHERE serial = '0003'", "UPDATE vehicle SET last_header = -1 WHERE serial = '0003'",
     "UPDATE vehicle SET pending = 'stop' WHERE serial = '0003'", "UPDATE vehicle SET pending = 'startPause' WHERE serial = '0001'",
     "UPDATE vehicle SET order_header = 4294967296 WHERE serial = '0003'", "UPDATE vehicle SET serial = '0004' WHERE serial = '0001'",
-    "UPDATE trip SET base = 3", "UPDATE trip SET base = 2", "UPDATE trip SET base = 0", "UPDATE trip SET seen = 1", "UPDATE trip SET seen = 2",
-    "UPDATE trip SET first = 1", "UPDATE trip SET sent = 2", "UPDATE trip SET confirmed = 1", "UPDATE trip SET confirmed = NULL",
-    "UPDATE trip SET start = 'N2'", "UPDATE trip SET pick_at = 1", "UPDATE trip SET drop_at = 1", "UPDATE trip SET drop_status = 'FINISHED'",
-    "UPDATE trip SET pick_status = 'WAITING'", "UPDATE trip SET pick_status = 'DONE'", "UPDATE trip SET job = 'J5'",
-    "UPDATE trip SET job = 'J9'", "UPDATE trip SET serial = '0002'", "UPDATE trip SET serial = '0009'", "UPDATE trip SET order_id = 'O9'",
-    "DELETE FROM trip", "DELETE FROM leg WHERE k = 0", "DELETE FROM leg WHERE k = 1", "DELETE FROM leg", "UPDATE leg SET edge = 'E12' WHERE k = 0",
+    "DELETE FROM capacity", "DELETE FROM capacity WHERE serial = '0002'", "INSERT INTO capacity VALUES ('KIT', '0009', 1)",
+    "UPDATE capacity SET capacity = 0 WHERE serial = '0003'", "UPDATE capacity SET capacity = 5 WHERE serial = '0003'",
+    "UPDATE capacity SET capacity = 4294967297 WHERE serial = '0003'", "UPDATE capacity SET serial = '0009' WHERE serial = '0003'",
+    "UPDATE journey SET base = 3", "UPDATE journey SET base = 2", "UPDATE journey SET base = 0", "UPDATE journey SET seen = 1",
+    "UPDATE journey SET seen = 2", "UPDATE journey SET first = 1", "UPDATE journey SET sent = 2", "UPDATE journey SET confirmed = 1",
+    "UPDATE journey SET confirmed = NULL", "UPDATE journey SET start = 'N2'", "UPDATE journey SET serial = '0002'",
+    "UPDATE journey SET serial = '0009'", "UPDATE journey SET order_id = 'O9'", "DELETE FROM journey",
+    "INSERT INTO journey VALUES ('O9', 'KIT', '0003', 'N6', 0, 0, 0, NULL, 0)",
+    "INSERT INTO trip VALUES ('O2', 'KIT', '0001', 'J2', 'N3', 0, 1, 0, 0, 0, 0, 2, 'FINISHED', 'WAITING')",
+    "UPDATE act SET place_at = 1 WHERE n = 0", "UPDATE act SET place_at = 1 WHERE n = 1", "UPDATE act SET place_at = 3 WHERE n = 1",
+    "UPDATE act SET status = 'FINISHED' WHERE n = 1", "UPDATE act SET status = 'WAITING' WHERE n = 0",
+    "UPDATE act SET status = 'DONE' WHERE n = 0", "UPDATE act SET kind = 'move' WHERE n = 0", "UPDATE act SET job = 'J5'",
+    "UPDATE act SET job = 'J5' WHERE n = 1", "UPDATE act SET job = 'J9'", "UPDATE act SET n = 2 WHERE n = 1", "UPDATE act SET n = 2 WHERE n = 0",
+    "UPDATE act SET order_id = 'O9'", "DELETE FROM act", "DELETE FROM act WHERE n = 0", "DELETE FROM act WHERE n = 1",
+    "INSERT INTO act VALUES ('O2', 2, 'J5', 'pick', 2, 'WAITING')", "INSERT INTO act VALUES ('O1', 0, 'J5', 'pick', 0, 'WAITING')",
+    "DELETE FROM leg WHERE k = 0", "DELETE FROM leg WHERE k = 1", "DELETE FROM leg", "UPDATE leg SET edge = 'E12' WHERE k = 0",
     "UPDATE leg SET k = 3 WHERE k = 1", "INSERT INTO leg VALUES ('O1', 0, 'E12')", "INSERT INTO leg VALUES ('O2', 2, 'E56')",
     "UPDATE load SET station = 'Z' WHERE id = 'L5'", "UPDATE load SET station = NULL WHERE id = 'L5'",
     "UPDATE load SET kind = 'shelf' WHERE id = 'L3'", "UPDATE load SET station = 'A' WHERE id = 'L3'",
@@ -166,7 +176,7 @@ class Damaged(unittest.TestCase):
             rows.append(rows_of(self.db))
             self.assertEqual(broken(rows[-1]), [])
         logged = self.files()
-        self.assertEqual({table for table in COLUMNS if not rows[-1][table]}, set())
+        self.assertEqual({table for table in COLUMNS if not rows[-1][table]}, {'trip'})
         base = sqlite3.connect(self.db)
         base.execute('PRAGMA wal_checkpoint(TRUNCATE)')
         base.close()

@@ -2,10 +2,10 @@
 in memory, request by request by a program of its own on one file, and over one connection; the file is then read by another SQLite."""
 import json
 import os
-import sqlite3
 import tempfile
 import unittest
 
+from records import broken, rows_of
 from test_program import AT, Serving, over_sockets, requests_of, run
 
 HERE = os.path.dirname(os.path.abspath(__file__))
@@ -42,8 +42,13 @@ def refused_state(said, status, name, number):
     return refused(said[0], said[1], status, name, number)
 
 
-def vehicle(serial, node):
-    return ok('POST /vehicles', {'manufacturer': 'KIT', 'serialNumber': serial, 'node': node})
+def new_vehicle(serial, node, capacity=None):
+    body = {'manufacturer': 'KIT', 'serialNumber': serial, 'node': node}
+    return body if capacity is None else {**body, 'capacity': capacity}
+
+
+def vehicle(serial, node, capacity=None):
+    return ok('POST /vehicles', new_vehicle(serial, node, capacity))
 
 
 def load(name, station=None):
@@ -60,6 +65,12 @@ def order_of(name, of, edges, serial='0001'):
 
 def order(name, of, edges, serial='0001'):
     return ok('POST /orders', order_of(name, of, edges, serial), '{"orderUpdateId":0}')
+
+
+def order_over(name, stops, edges, serial):
+    """An order over several jobs; `stops` are words as `pick J1`."""
+    body = {'order': name, 'stops': [dict(zip(('action', 'job'), stop.split())) for stop in stops]}
+    return {**body, 'manufacturer': 'KIT', 'serialNumber': serial, 'edges': edges}
 
 
 def advance(name, update, edges, serial='0001'):
@@ -80,6 +91,13 @@ FIRST_EDGE = AT_A + [job('J1', 'L1', 'B'), order('O1', 'J1', 1)]
 BOTH_EDGES = AT_A + [job('J1', 'L1', 'B'), order('O1', 'J1', 2)]
 CANCELLED = FIRST_EDGE + [ok('POST /vehicles/KIT/0001/cancel', '', '{"actionId":"instant-1"}')]
 FINISHED = [('O1.0', 'FINISHED'), ('O1.1', 'FINISHED')]
+FOR_TWO = [ok('PUT /layout', LAYOUT), vehicle('0003', 'N1', 2), accepted(state(1, serial='0003'))]
+TWO_LOADS = FOR_TWO + [
+    load('L1', 'A'), load('L2', 'C'), job('J1', 'L1', 'C'), job('J2', 'L2', 'B'),
+    ok('POST /orders', order_over('O5', ['pick J1', 'pick J2', 'drop J1', 'drop J2'], 2, '0003'), '{"orderUpdateId":0}'),
+    accepted(state(2, 'O5', node='N3', sequence=4, serial='0003',
+                   statuses=[('O5.0', 'FINISHED'), ('O5.1', 'FINISHED'), ('O5.2', 'FINISHED'), ('O5.3', 'RUNNING')])),
+    stands('L1', 'station C'), stands('L2', 'vehicle KIT/0003', 'J2'), job('J3', 'L1', 'A')]
 THREE_NODES = [ok('PUT /layout', LAYOUT), vehicle('0002', 'N3'), accepted(state(1, node='N3', serial='0002'))]
 
 SCRIPTS = {
@@ -149,6 +167,19 @@ SCRIPTS = {
         refused('POST /vehicles/KIT/0001/resume', '', 409, 'InstantPending', 42),
         accepted(state(4294967295, statuses=[('instant-1', 'FINISHED')])), accepted(state(4294967295), '{"accepted":false}'),
         ok('POST /vehicles/KIT/0001/resume', '', '{"actionId":"instant-2"}')],
+    'a vehicle for two carries two loads in one order': TWO_LOADS + [
+        accepted(state(3, 'O5', node='N3', sequence=4, statuses=[('O5.3', 'FINISHED')], serial='0003')), stands('L2', 'station B'),
+        ('GET /uagv/v2/KIT/0003/order', None, 204, ''), holds('node N3 KIT/0003')],
+    'a load that is not dropped keeps its place': TWO_LOADS + [
+        accepted(state(3, 'O5', node='N3', sequence=4, statuses=[('O5.3', 'FAILED')], serial='0003')), stands('L2', 'vehicle KIT/0003'),
+        load('L5', 'C'), job('J4', 'L5', 'B'),
+        refused('POST /orders', order_over('O6', ['pick J3', 'drop J3', 'pick J4', 'drop J4'], 0, '0003'), 409, 'Loaded', 40),
+        ok('POST /orders', order_over('O6', ['pick J3', 'drop J3'], 0, '0003'), '{"orderUpdateId":0}'),
+        refused('POST /orders', order_over('O7', ['pick J4', 'pick J4', 'drop J4'], 0, '0003'), 409, 'BadStops', 53),
+        refused('POST /orders', order_over('O7', [], 0, '0003'), 409, 'BadStops', 53)],
+    'a vehicle is for one load to four': [
+        ok('PUT /layout', LAYOUT), refused('POST /vehicles', new_vehicle('0003', 'N1', 0), 409, 'Limit', 51),
+        refused('POST /vehicles', new_vehicle('0003', 'N1', 5), 409, 'Limit', 51), vehicle('0003', 'N1', 4)],
     'a layout is set once': READY + [refused('PUT /layout', LAYOUT, 409, 'LayoutSet', 31)],
     'a layout with an edge to nowhere': [refused('PUT /layout', 'kind,id,from,to\nnode,N1,,\nedge,E1,N1,N2\n', 409, 'LayoutBad', 32)],
     'a hundred vehicles': [
@@ -208,9 +239,7 @@ class Scripts(unittest.TestCase):
                     status, out, said = run('replay', '--db', db, '--at', AT, stdin=bytes_of(line))
                     self.assertEqual((status, said), (0, b''))
                     self.check([line], answers_of(out))
-                base = sqlite3.connect(db)
-                self.assertEqual(base.execute('PRAGMA integrity_check').fetchall(), [('ok',)])
-                base.close()
+                self.assertEqual(broken(rows_of(db)), [])
 
     @over_sockets
     def test_over_one_connection(self):
