@@ -1,6 +1,6 @@
 //! The schema of the desk's database (`specs/schema/Schema.antt`), its making, and whether it stands.
 //!
-//! - `table_name` names the eleven tables, `table_texts` has the texts of SQL that make them.
+//! - `table_name` names the fourteen tables, `table_texts` has the texts of SQL that make them.
 //! - `desk_tables` makes the tables, the row of `meta` and the indexes in one transaction, beside whatever a database
 //!   has, or refuses where one of the names is taken. `making_laws` says that what it makes is a desk for the
 //!   statements, and that an opening finds it again, after a crash too.

@@ -1,4 +1,4 @@
--- The tables leave room for the desk's where none refers to one of the eleven names and no two have one tree.
+-- The tables leave room for the desk's where none refers to one of the fourteen names and no two have one tree.
 use Rattle.std.proofs.Common.{◌≡◌, ◌≢◌, ◌&&◌, ℕ, zero, suc, Bool, true, List, [], ◌∷◌, Some, slice_get, refl, subst}
 use Rattle.std.specs.List.{list_all}
 use Rattle.std.proofs.lemmas.Bool.{and_parts}
@@ -32,6 +32,9 @@ name_at the.Load = refl
 name_at the.Job = refl
 name_at the.Hold = refl
 name_at the.Used = refl
+name_at the.Capacity = refl
+name_at the.Journey = refl
+name_at the.Act = refl
 
 pub has_room : (s : Schema) → are_unreferred s.tables ≡ true → IsAscending (λ (t u : Table). t.tree ≢ u.tree) s.tables → LeavesRoom s
 has_room s unreferred apart = record {
@@ -42,4 +45,5 @@ has_room s unreferred apart = record {
 pub room_unreferred : (s : Schema) → LeavesRoom s → are_unreferred s.tables ≡ true
 room_unreferred s room =
     let each = room.unreferred in λ i.
-    each the.Meta i && (each the.Node i && (each the.Edge i && (each the.Station i && (each the.Vehicle i && (each the.Trip i && (each the.Leg i && (each the.Load i && (each the.Job i && (each the.Hold i && (each the.Used i && true))))))))))
+    each the.Meta i && (each the.Node i && (each the.Edge i && (each the.Station i && (each the.Vehicle i && (each the.Trip i && (each the.Leg i && (each the.Load i && (each the.Job i && (each the.Hold i && (each the.Used i
+    && (each the.Capacity i && (each the.Journey i && (each the.Act i && true)))))))))))))

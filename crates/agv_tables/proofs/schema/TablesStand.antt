@@ -26,6 +26,9 @@ no_rules the.Load = record { checks = refl; references = refl; computed = refl; 
 no_rules the.Job = record { checks = refl; references = refl; computed = refl; stamps = refl; uncounted = refl }
 no_rules the.Hold = record { checks = refl; references = refl; computed = refl; stamps = refl; uncounted = refl }
 no_rules the.Used = record { checks = refl; references = refl; computed = refl; stamps = refl; uncounted = refl }
+no_rules the.Capacity = record { checks = refl; references = refl; computed = refl; stamps = refl; uncounted = refl }
+no_rules the.Journey = record { checks = refl; references = refl; computed = refl; stamps = refl; uncounted = refl }
+no_rules the.Act = record { checks = refl; references = refl; computed = refl; stamps = refl; uncounted = refl }
 
 no_defaults : (name : TableName) → HaveNoDefaults (table_for name).columns
 no_defaults the.Meta = (refl, (refl, tt))
@@ -39,6 +42,9 @@ no_defaults the.Load = (refl, (refl, (refl, (refl, (refl, tt)))))
 no_defaults the.Job = (refl, (refl, (refl, (refl, (refl, tt)))))
 no_defaults the.Hold = (refl, (refl, (refl, (refl, tt))))
 no_defaults the.Used = (refl, (refl, tt))
+no_defaults the.Capacity = (refl, (refl, (refl, tt)))
+no_defaults the.Journey = (refl, (refl, (refl, (refl, (refl, (refl, (refl, (refl, (refl, tt)))))))))
+no_defaults the.Act = (refl, (refl, (refl, (refl, (refl, (refl, tt))))))
 
 -- ---- what holds of each of them, as a list
 
@@ -47,7 +53,7 @@ Each P = (name : TableName) → P (table_for name)
 
 listed : (P : Table → Type 0) → Each P → AllByRecursion P desk_tables
 listed P each =
-    (each the.Meta, (each the.Node, (each the.Edge, (each the.Station, (each the.Vehicle, (each the.Trip, (each the.Leg, (each the.Load, (each the.Job, (each the.Hold, (each the.Used, tt)))))))))))
+    (each the.Meta, (each the.Node, (each the.Edge, (each the.Station, (each the.Vehicle, (each the.Trip, (each the.Leg, (each the.Load, (each the.Job, (each the.Hold, (each the.Used, (each the.Capacity, (each the.Journey, (each the.Act, tt))))))))))))))
 
 named : (P : Table → Type 0) → AllByRecursion P desk_tables → Each P
 named P all the.Meta = all.0
@@ -61,6 +67,9 @@ named P all the.Load = all.1.1.1.1.1.1.1.0
 named P all the.Job = all.1.1.1.1.1.1.1.1.0
 named P all the.Hold = all.1.1.1.1.1.1.1.1.1.0
 named P all the.Used = all.1.1.1.1.1.1.1.1.1.1.0
+named P all the.Capacity = all.1.1.1.1.1.1.1.1.1.1.1.0
+named P all the.Journey = all.1.1.1.1.1.1.1.1.1.1.1.1.0
+named P all the.Act = all.1.1.1.1.1.1.1.1.1.1.1.1.1.0
 
 pub all_plain : AllByRecursion IsPlain desk_tables
 all_plain = listed IsPlain (λ name. record { rules = no_rules name; defaults = no_defaults name })
