@@ -7,10 +7,7 @@ ghost use Rattle.agv_tables.specs.schema.TextsRun.{LeavesSteps, RunSteps, RunsSt
 use sqlite::{Alter, Connection, Error, Transaction};
 
 /// Carries out the text.
-pub(crate) fn run_text<S: Alter>(
-    tx: &mut Transaction<'_, S>,
-    sql: &str,
-) -> Result<usize, Error>
+pub(crate) fn run_text<S: Alter>(tx: &mut Transaction<'_, S>, sql: &str) -> Result<usize, Error>
     ensures same_reference { tx.new.conn.ghost_name ≡ tx.old.conn.ghost_name }
     ensures survives { Survives (state S.Store tx.old.conn.now) (state S.Store tx.new.conn.now) (λ _. ⊥) }
     ensures kept { HasCleanDisk (state S.Store tx.new.conn.now) → KeepsCommit (state S.Store tx.old.conn.now) (state S.Store tx.new.conn.now) }
