@@ -30,7 +30,7 @@ use Rattle.agv_tables.proofs.sql.FewEntries.{counts_add, found_entry, listed, on
 use Rattle.agv_tables.proofs.queries.KeyAnswers.{only}
 use Rattle.agv_tables.proofs.rows.LawfulValues.{job_value}
 use Rattle.agv_tables.proofs.rows.ListsHeld.{alike_itself}
-use Rattle.agv_tables.proofs.rows.TripLineLemmas.{same_name}
+use Rattle.agv_tables.proofs.sql.KeyTests.{same_name}
 use Rattle.agv_tables.proofs.queries.LoadAnswers.{again, counted}
 
 -- ---- jobs

@@ -25,7 +25,7 @@ use Rattle.agv_tables.specs.schema.SchemaNumbers.{desk_seats}
 use Rattle.agv_tables.specs.rows.TypedRows.{IsThing}
 use Rattle.agv_tables.proofs.rows.LawfulValues.{edge_named, ends_value, node_named, rest_value}
 use Rattle.agv_tables.proofs.rows.SpreadRows.{spread_from}
-use Rattle.agv_tables.proofs.queries.StationLoads.{all-filter}
+use Rattle.sqlite_trees.proofs.ListLemmas.{all-filter}
 
 -- what nobody holds is held by no other vehicle
 pub held_by_none : (table : Holds) (key : VehicleKey) (thing : Thing) → finite.get table thing ≡ None → (held : Thing × VehicleKey) → first_held table key (thing ∷ []) ≡ Some held → ⊥

@@ -19,7 +19,9 @@ ghost use Rattle.agv_tables.specs.rows.DecodedTrips.{is_driven_by, journey_for, 
 ghost use Rattle.agv_tables.specs.rows.TypedRows.{IsActRow, IsJourneyRow, IsLegKey};
 
 use agv_trip_rows::row_laws::{rows_are_of_trips, rows_have_keys, tables_have_rows};
-use agv_trip_rows::trip_laws::{lawful_rows_have_values, lawful_rows_tell_trips, rows_tell_one_table};
+use agv_trip_rows::trip_laws::{
+    lawful_rows_have_values, lawful_rows_tell_trips, rows_tell_one_table,
+};
 use agv_world::lawful_laws::is_in_good_order;
 use agv_world::laws::tables_tell_the_world;
 
