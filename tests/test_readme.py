@@ -152,6 +152,8 @@ class Lines(unittest.TestCase):
                 [('node', 'N3', 'KIT/0001')],
                 [],
                 [],
+                [('KIT', '0001', 1, 0)],
+                [],
             ],
         )
 

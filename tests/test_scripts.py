@@ -265,6 +265,23 @@ class Scripts(unittest.TestCase):
         self.assertEqual(len(told), len(requests_of(data)))
         self.assertEqual({status for status, _ in told}, {200})
 
+    def test_two_loads(self):
+        """`examples/two-loads.http`: L1 is picked at A, then L2 at C, where L1 is dropped; then L2 is dropped at B."""
+        with open(os.path.join(HERE, '..', 'examples', 'two-loads.http'), 'rb') as file:
+            data = file.read()
+        status, out, said = run('replay', '--db', 'memory', '--at', AT, stdin=data)
+        self.assertEqual((status, said), (0, b''))
+        told = answers_of(out)
+        self.assertEqual(len(told), len(requests_of(data)))
+        self.assertEqual({status for status, _ in told}, {200})
+        self.assertEqual(told[10][1], '{"job":"J1","load":"L1","place":"vehicle KIT/0001"}')
+        stock = ('station A at N1: 0 of 1, reserved 0\nstation B at N3: 0 of 1, reserved 1\nstation C at N3: 1 of 2, reserved 0\n  L1\n'
+                 'checking: 0\nvehicle KIT/0001: 1\n  L2\nleft: 0\n')
+        self.assertEqual(told[12][1], stock)
+        stock = ('station A at N1: 0 of 1, reserved 0\nstation B at N3: 1 of 1, reserved 0\n  L2\nstation C at N3: 1 of 2, reserved 0\n  L1\n'
+                 'checking: 0\nvehicle KIT/0001: 0\nleft: 0\n')
+        self.assertEqual(told[14][1], stock)
+
     def test_fronts_of_an_input(self):
         """Of two registrations and a cut one each third front is served up to its last whole request, and then refused, or at its end."""
         first = b'POST /loads HTTP/1.1\r\nContent-Length: 13\r\n\r\n{"load":"L1"}'
