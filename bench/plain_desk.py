@@ -1,11 +1,12 @@
 """A plain desk to compare with: all calls of the table, in Python over the SQLite of C, by WAL with
-`synchronous=FULL` and one commit a call, over the same eleven tables with the same indexes. It keeps the layout in
+`synchronous=FULL` and one commit a call, over the same fourteen tables with the same indexes. It keeps the layout in
 memory. It reads requests from standard input, writes the answers to standard output, and proves nothing; with a
 port it serves one connection instead.
 
     python3 bench/plain_desk.py FILE|:memory: [MILLIS] < requests
     python3 bench/plain_desk.py FILE|:memory: MILLIS PORT
 """
+import collections
 import csv
 import datetime
 import io
@@ -54,7 +55,14 @@ CREATE TABLE IF NOT EXISTS job (id TEXT NOT NULL PRIMARY KEY, load TEXT NOT NULL
 CREATE TABLE IF NOT EXISTS hold (kind TEXT NOT NULL, id TEXT NOT NULL, manufacturer TEXT NOT NULL, serial TEXT NOT
  NULL, PRIMARY KEY (kind, id)) STRICT;
 CREATE TABLE IF NOT EXISTS used (kind TEXT NOT NULL, id TEXT NOT NULL, PRIMARY KEY (kind, id)) STRICT;
-INSERT OR IGNORE INTO meta VALUES (1, 1);
+CREATE TABLE IF NOT EXISTS capacity (manufacturer TEXT NOT NULL, serial TEXT NOT NULL, capacity INT NOT NULL, PRIMARY
+ KEY (manufacturer, serial)) STRICT;
+CREATE TABLE IF NOT EXISTS journey (order_id TEXT NOT NULL PRIMARY KEY, manufacturer TEXT NOT NULL, serial TEXT NOT
+ NULL, start TEXT NOT NULL, first INT NOT NULL, base INT NOT NULL, sent INT NOT NULL, confirmed INT, seen INT NOT NULL,
+ UNIQUE (manufacturer, serial)) STRICT;
+CREATE TABLE IF NOT EXISTS act (order_id TEXT NOT NULL, n INT NOT NULL, job TEXT NOT NULL, kind TEXT NOT NULL, place_at
+ INT NOT NULL, status TEXT NOT NULL, PRIMARY KEY (order_id, n), UNIQUE (job, kind)) STRICT;
+INSERT OR IGNORE INTO meta VALUES (1, 2);
 CREATE INDEX IF NOT EXISTS load_station ON load (station);
 CREATE INDEX IF NOT EXISTS load_vehicle ON load (manufacturer, serial);
 CREATE INDEX IF NOT EXISTS job_load ON job (load, phase);
@@ -205,7 +213,7 @@ def vehicle_of(key):
 
 
 class Trip:
-    """An open order, with its edges and the nodes between them."""
+    """An open order, with its edges, the nodes between them, and its picks and drops."""
 
     def __init__(self, row):
         self.row = row
@@ -214,11 +222,20 @@ class Trip:
             for leg in base.execute('SELECT edge FROM leg WHERE order_id = ? ORDER BY k', (row['order_id'],))
         ]
         self.nodes = [row['start']] + [layout.edges[edge][1] for edge in self.edges]
+        self.acts = base.execute(
+            "SELECT act.*, load, CASE kind WHEN 'pick' THEN origin ELSE target END AS station "
+            'FROM act JOIN job ON job.id = job WHERE order_id = ? ORDER BY n',
+            (row['order_id'],),
+        ).fetchall()
 
 
 def trip_of(key):
-    row = one('SELECT * FROM trip WHERE manufacturer = ? AND serial = ?', *key)
+    row = one('SELECT * FROM journey WHERE manufacturer = ? AND serial = ?', *key)
     return Trip(row) if row else None
+
+
+def capacity_of(key):
+    return one('SELECT capacity FROM capacity WHERE manufacturer = ? AND serial = ?', *key)[0]
 
 
 def load_of(load):
@@ -287,11 +304,12 @@ def hold(key, wanted):
         put('INSERT INTO hold VALUES (?, ?, ?, ?)', kind, name, *key)
 
 
-def end_trip(trip, dropped):
-    if not dropped:
-        put("UPDATE job SET phase = 'stopped' WHERE id = ?", trip.row['job'])
-    put('DELETE FROM trip WHERE order_id = ?', trip.row['order_id'])
-    put('DELETE FROM leg WHERE order_id = ?', trip.row['order_id'])
+def end_trip(trip):
+    order = trip.row['order_id']
+    for act in trip.acts:
+        put("UPDATE job SET phase = 'stopped' WHERE phase = 'riding' AND id = ?", act['job'])
+    for name in ('journey', 'act', 'leg'):
+        put('DELETE FROM %s WHERE order_id = ?' % name, order)
 
 
 # The calls. Each takes the names of its path and its body, and answers what is told.
@@ -343,8 +361,9 @@ def register_vehicle(body):
     check(node not in layout.nodes, 'NoNode')
     check_free(key, [('node', node)])
     check_limit('vehicle', 100)
-    check(capacity != 1, 'Limit')
+    check(not 1 <= capacity <= 4, 'Limit')
     put('INSERT INTO vehicle VALUES (?, ?, ?, NULL, NULL, NULL, NULL, 0, 0, 0, 0, 0, 0, NULL)', *key, node)
+    put('INSERT INTO capacity VALUES (?, ?, ?)', *key, capacity)
     hold(key, [('node', node)])
     return {}
 
@@ -413,63 +432,66 @@ def stop_job(job, _):
     return {}
 
 
-def jobs_of(told):
-    """The jobs of an order's stops; one job stands for its pick and its drop."""
+def stops_of(told):
+    """The stops of an order, each a kind and a job; one job stands for its pick and its drop."""
     stops = told.get('stops')
     check((stops is None) == (told.get('job') is None), 'BadBody')
     if stops is None:
-        return names(told, 'job'), True
+        (job,) = names(told, 'job')
+        return [('pick', job), ('drop', job)]
     check(not isinstance(stops, list), 'BadBody')
     said = []
     for stop in stops:
         (job,) = names(stop, 'job')
         check(stop.get('action') not in ('pick', 'drop'), 'BadBody')
         said.append((stop['action'], job))
-    jobs = list(dict.fromkeys(job for _, job in said))
-    return jobs, bool(said) and all([act for act, of in said if of == job] == ['pick', 'drop'] for job in jobs)
+    return said
+
+
+def plan(at, stops, jobs):
+    """The edges from stop to stop, and the place of each stop on the way."""
+    way, places = [], []
+    for kind, job in stops:
+        node = layout.stations[jobs[job]['origin' if kind == 'pick' else 'target']][0]
+        way += layout.route(at, node)
+        at = node
+        places.append(len(way))
+    return way, places
 
 
 def start_order(body):
     told = read_body(body)
     order, *key = names(told, 'order', 'manufacturer', 'serialNumber')
     key, edges = tuple(key), number(told, 'edges')
-    jobs, sound = jobs_of(told)
+    stops = stops_of(told)
     check(is_used('order', order), 'Exists')
     vehicle = vehicle_of(key)
-    check(not sound, 'BadStops')
-    rows = [one('SELECT * FROM job WHERE id = ?', job) for job in jobs]
-    check(None in rows, 'NoJob')
+    kinds = {job: [kind for kind, of in stops if of == job] for _, job in stops}
+    check(not stops or any(said != ['pick', 'drop'] for said in kinds.values()), 'BadStops')
+    jobs = {job: one('SELECT * FROM job WHERE id = ?', job) for job in kinds}
+    check(None in jobs.values(), 'NoJob')
     check(vehicle['reported'] == order, 'OrderKnown')
-    check(any(row['phase'] != 'waiting' for row in rows), 'JobState')
-    check(one('SELECT 1 FROM trip WHERE manufacturer = ? AND serial = ?', *key), 'Busy')
+    check(any(row['phase'] != 'waiting' for row in jobs.values()), 'JobState')
+    check(one('SELECT 1 FROM journey WHERE manufacturer = ? AND serial = ?', *key), 'Busy')
     check(vehicle['rest_node'] is not None, 'Astray')
-    check(len(jobs) > 1 or one('SELECT 1 FROM load WHERE manufacturer = ? AND serial = ?', *key), 'Loaded')
+    aboard = one('SELECT count(*) FROM load WHERE manufacturer = ? AND serial = ?', *key)[0]
+    check(aboard + len(jobs) > capacity_of(key), 'Loaded')
     check(not vehicle['ready'], 'NotReady')
     check(vehicle['pending'] == 'cancelOrder', 'InstantPending')
-    (job,) = rows
-    pick, drop = layout.stations[job['origin']][0], layout.stations[job['target']][0]
-    before = layout.route(vehicle['node'], pick)
-    way = before + layout.route(pick, drop)
+    way, places = plan(vehicle['node'], stops, jobs)
     check(len(way) > 200, 'TooLong')
     check(edges > len(way), 'Beyond')
     wanted = things([vehicle['node']] + [layout.edges[edge][1] for edge in way], way, 0, edges)
     check_free(key, wanted)
     check(vehicle['order_header'] == 4294967295, 'Spent')
     check_limit("used WHERE kind = 'order'")
-    put(
-        'INSERT INTO trip VALUES (?, ?, ?, ?, ?, 0, ?, 0, NULL, 0, ?, ?, ?, ?)',
-        order,
-        *key,
-        job['id'],
-        vehicle['node'],
-        edges,
-        len(before),
-        len(way),
-        'WAITING',
-        'WAITING',
+    put('INSERT INTO journey VALUES (?, ?, ?, ?, 0, ?, 0, NULL, 0)', order, *key, vehicle['node'], edges)
+    base.executemany(
+        "INSERT INTO act VALUES (?, ?, ?, ?, ?, 'WAITING')",
+        [(order, n, job, kind, at) for n, ((kind, job), at) in enumerate(zip(stops, places))],
     )
     base.executemany('INSERT INTO leg VALUES (?, ?, ?)', [(order, k, edge) for k, edge in enumerate(way)])
-    put("UPDATE job SET phase = 'riding' WHERE id = ?", job['id'])
+    base.executemany("UPDATE job SET phase = 'riding' WHERE id = ?", [(job,) for job in jobs])
     put(
         'UPDATE vehicle SET order_header = order_header + 1, order_at = ? WHERE manufacturer = ? AND serial = ?',
         now,
@@ -495,7 +517,7 @@ def advance(manufacturer, serial, body):
     wanted = things(trip.nodes, trip.edges, row['seen'], row['base'] + edges)
     check_free(key, wanted)
     check(vehicle['order_header'] == 4294967295, 'Spent')
-    put('UPDATE trip SET first = base, base = base + ?, sent = sent + 1 WHERE order_id = ?', edges, order)
+    put('UPDATE journey SET first = base, base = base + ?, sent = sent + 1 WHERE order_id = ?', edges, order)
     put(
         'UPDATE vehicle SET order_header = order_header + 1, order_at = ? WHERE manufacturer = ? AND serial = ?',
         now,
@@ -510,7 +532,7 @@ def instant(kind):
         key = manufacturer, serial
         vehicle = vehicle_of(key)
         check(
-            kind == 'cancelOrder' and not one('SELECT 1 FROM trip WHERE manufacturer = ? AND serial = ?', *key),
+            kind == 'cancelOrder' and not one('SELECT 1 FROM journey WHERE manufacturer = ? AND serial = ?', *key),
             'NoOrder',
         )
         check(vehicle['pending'] is not None, 'InstantPending')
@@ -537,7 +559,7 @@ def place_vehicle(manufacturer, serial, body):
     check_limit("used WHERE kind = 'ref'")
     trip = trip_of(key)
     if trip:
-        end_trip(trip, trip.row['drop_status'] == 'FINISHED')
+        end_trip(trip)
     put(
         'UPDATE vehicle SET node = ?, rest_edge = NULL, rest_node = NULL, pending = NULL WHERE manufacturer = ? '
         'AND serial = ?',
@@ -592,7 +614,7 @@ def read_state(body):
 
 
 def judged(trip, action, told, listed):
-    """The node that a state of the trip reports, and the statuses of the two actions by it."""
+    """The node that a state of the trip reports, and the statuses of its actions by it."""
     row, update = trip.row, told['orderUpdateId']
     check(update > row['sent'], 'UpdateNotSent')
     check(row['confirmed'] is not None and update < row['confirmed'], 'UpdateBackwards')
@@ -602,13 +624,17 @@ def judged(trip, action, told, listed):
         check(odd or k > len(trip.edges) or told['lastNodeId'] != trip.nodes[k], 'NotOurNode')
     check(k < row['seen'], 'Backwards')
     check(k > (row['base'] if update == row['sent'] else row['first']), 'BeyondBase')
-    wanted = ['%s.%d' % (row['order_id'], n) for n in (0, 1)]
-    check(any(sum(name == one for one, _ in listed) > 1 for name in wanted + [action]), 'ActionTwice')
-    before = row['pick_status'], row['drop_status']
-    acts = [dict(listed).get(name, old) for name, old in zip(wanted, before)]
+    wanted = ['%s.%d' % (row['order_id'], act['n']) for act in trip.acts]
+    counts = collections.Counter(name for name, _ in listed)
+    check(any(counts[name] > 1 for name in wanted + [action]), 'ActionTwice')
+    before = [act['status'] for act in trip.acts]
+    found = dict(listed)
+    acts = [found.get(name, old) for name, old in zip(wanted, before)]
     check(any(new != old and (old in FINAL or new == 'WAITING') for old, new in zip(before, acts)), 'ActionBackwards')
-    check(any(act == 'FINISHED' and at > k for act, at in zip(acts, (row['pick_at'], row['drop_at']))), 'ActionEarly')
-    check(acts[1] == 'FINISHED' != acts[0], 'DropFirst')
+    check(any(new == 'FINISHED' and act['place_at'] > k for act, new in zip(trip.acts, acts)), 'ActionEarly')
+    picked = {act['job'] for act, new in zip(trip.acts, acts) if (act['kind'], new) == ('pick', 'FINISHED')}
+    dropped = {act['job'] for act, new in zip(trip.acts, acts) if (act['kind'], new) == ('drop', 'FINISHED')}
+    check(not dropped <= picked, 'DropFirst')
     return k, acts
 
 
@@ -652,17 +678,17 @@ def state(manufacturer, serial, body):
 def report(key, trip, k, acts, cancelled, update):
     """What a judged state changes besides the vehicle's own report."""
     row = trip.row
-    job = one('SELECT * FROM job WHERE id = ?', row['job'])
-    if acts[0] == 'FINISHED' != row['pick_status']:
-        put_load(job['load'], 'vehicle', None, key)
-    if acts[1] == 'FINISHED' != row['drop_status']:
-        put_load(job['load'], 'station', job['target'])
-        put("UPDATE job SET phase = 'done' WHERE id = ?", row['job'])
+    for act, new in zip(trip.acts, acts):
+        if new == 'FINISHED' != act['status'] and act['kind'] == 'pick':
+            put_load(act['load'], 'vehicle', None, key)
+        elif new == 'FINISHED' != act['status']:
+            put_load(act['load'], 'station', act['station'])
+            put("UPDATE job SET phase = 'done' WHERE id = ?", act['job'])
     put('UPDATE vehicle SET node = ? WHERE manufacturer = ? AND serial = ?', trip.nodes[k], *key)
     wanted = things(trip.nodes, trip.edges, k, row['base'])
-    at_end = k == len(trip.edges) and acts[0] in FINAL and acts[1] in FINAL
+    at_end = k == len(trip.edges) and all(act in FINAL for act in acts)
     if at_end or cancelled:
-        end_trip(trip, acts[1] == 'FINISHED')
+        end_trip(trip)
         wanted = wanted[:1]
         if not at_end and k < row['base']:
             put(
@@ -673,13 +699,9 @@ def report(key, trip, k, acts, cancelled, update):
             )
             wanted = things(trip.nodes, trip.edges, k, k + 1)
     else:
-        put(
-            'UPDATE trip SET confirmed = ?, seen = ?, pick_status = ?, drop_status = ? WHERE order_id = ?',
-            update,
-            k,
-            *acts,
-            row['order_id'],
-        )
+        put('UPDATE journey SET confirmed = ?, seen = ? WHERE order_id = ?', update, k, row['order_id'])
+        for act, new in zip(trip.acts, acts):
+            put('UPDATE act SET status = ? WHERE order_id = ? AND n = ?', new, row['order_id'], act['n'])
     hold(key, wanted)
 
 
@@ -700,23 +722,22 @@ def get_order(manufacturer, serial, _):
     if trip is None:
         return None
     row = trip.row
-    job = one('SELECT * FROM job WHERE id = ?', row['job'])
 
     def actions(k):
         return [
             {
-                'actionId': '%s.%d' % (row['order_id'], n),
+                'actionId': '%s.%d' % (row['order_id'], act['n']),
                 'actionParameters': [
                     {'key': 'stationType', 'value': 'station'},
-                    {'key': 'stationName', 'value': job[end]},
+                    {'key': 'stationName', 'value': act['station']},
                     {'key': 'loadType', 'value': 'load'},
-                    {'key': 'loadId', 'value': job['load']},
+                    {'key': 'loadId', 'value': act['load']},
                 ],
-                'actionType': kind,
+                'actionType': act['kind'],
                 'blockingType': 'HARD',
             }
-            for n, (kind, end, at) in enumerate((('pick', 'origin', 'pick_at'), ('drop', 'target', 'drop_at')))
-            if row[at] == k
+            for act in trip.acts
+            if act['place_at'] == k
         ]
 
     nodes = [
@@ -801,12 +822,12 @@ def get_load(load, _):
 def get_vehicle(manufacturer, serial, _):
     row = vehicle_of((manufacturer, serial))
     trip = one(
-        'SELECT order_id, sent, confirmed FROM trip WHERE manufacturer = ? AND serial = ?', manufacturer, serial
+        'SELECT order_id, sent, confirmed FROM journey WHERE manufacturer = ? AND serial = ?', manufacturer, serial
     )
     order, sent, confirmed = trip or (None, None, None)
     return {
         'astray': row['rest_node'] is not None,
-        'capacity': 1,
+        'capacity': capacity_of((manufacturer, serial)),
         'confirmed': confirmed,
         'headerId': row['last_header'],
         'manufacturer': manufacturer,
