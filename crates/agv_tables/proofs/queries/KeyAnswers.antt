@@ -1,8 +1,10 @@
 -- What the rows of a key answer, in a lawful world.
-use Rattle.std.proofs.Common.{◌≡◌, ℕ, Bool, true, false, not, cond, ◌==◌, List, [], ◌∷◌, length, Option, None, Some, Ok, Result, IsPermutation, refl, sym, ap, subst, ◌∙◌}
+use Rattle.std.proofs.Common.{◌≡◌, ℕ, Bool, true, false, not, cond, ◌==◌, List, [], ◌∷◌, length, Option, None, Some, Ok, Result, IsPermutation, refl, sym, ap, ap₂, subst, ◌∙◌}
 use Rattle.std.proofs.lemmas.List.Sorted.{length_permutation}
+use Rattle.std.proofs.lemmas.Option.{same_Some}
 use Rattle.std.specs.FinMap as finite
 use Rattle.std.specs.FinSet as set
+use Rattle.std.specs.Option.{option_map}
 use Rattle.sqlite.proofs.Callers.{one_permutation}
 use Rattle.sqlite_value.specs.Order.{Row}
 use Rattle.agv_header.specs.declared.key.Thing.{Thing}
@@ -18,7 +20,7 @@ use Rattle.agv_world.specs.Worlds.{World}
 use Rattle.agv_world.specs.declared.key.UseKey.{UseKey}
 use Rattle.agv_world.specs.declared.row.JobRow.{JobRow}
 use Rattle.agv_world.specs.declared.row.VehicleRow.{VehicleRow}
-use Rattle.agv_tables.specs.rows.Columns.{edge_columns, edge_in, hold_columns, hold_in, job_columns, job_in, load_columns, load_in, node_columns, station_columns, station_in, used_columns, vehicle_columns, vehicle_in}
+use Rattle.agv_tables.specs.rows.Columns.{capacity_in, edge_columns, edge_in, hold_columns, hold_in, job_columns, job_in, load_columns, load_in, node_columns, room_columns, station_columns, station_in, used_columns, vehicle_columns, vehicle_in}
 use Rattle.agv_tables.specs.rows.DeskRows.{rows_of_key, table_for}
 use Rattle.agv_tables.specs.queries.FirstRow.{first_in, value_of}
 use Rattle.agv_tables.specs.rows.RowKeys.{hold_key, name_key, vehicle_key}
@@ -27,10 +29,11 @@ use Rattle.agv_tables.specs.statements.RowQueries.{FitsColumns}
 use Rattle.agv_tables.specs.schema.SchemaNumbers.{desk_seats}
 use Rattle.agv_tables.specs.rows.TypedRows.{IsThing}
 use Rattle.agv_tables.specs.declared.queries.reading_fault.ReadingFault.{ReadingFault}
+use Rattle.agv_tables.specs.declared.rows.capacity_row.CapacityRow.{CapacityRow}
 use Rattle.agv_tables.specs.declared.schema.table_name.TableName.TheVariants as the
 use Rattle.agv_tables.proofs.queries.Asking.{Follows}
-use Rattle.agv_tables.proofs.rows.ColumnsKept.{edge_kept, station_kept, vehicle_kept, load_kept, job_kept, hold_kept}
-use Rattle.agv_tables.proofs.queries.KeysShown.{edge_shown, hold_shown, job_shown, load_shown, node_shown, station_shown, used_shown, vehicle_shown}
+use Rattle.agv_tables.proofs.rows.ColumnsKept.{capacity_kept, edge_kept, station_kept, vehicle_kept, load_kept, job_kept, hold_kept}
+use Rattle.agv_tables.proofs.queries.KeysShown.{capacity_shown, edge_shown, hold_shown, job_shown, load_shown, node_shown, station_shown, used_shown, vehicle_shown}
 use Rattle.agv_tables.proofs.rows.LawfulValues.{edge_named, ends_value, holder_value, job_value, place_value, row_at, spot_value, station_named, used_is, vehicle_value}
 use Rattle.agv_tables.proofs.rows.ListsHeld.{alike_itself}
 
@@ -45,22 +48,59 @@ pub only : {X : Type 0} (columns : X → Row) (o : Option X) (rows : List Row) �
 only columns None rows h = none_left rows h
 only columns (Some x) rows h = one_permutation (columns x) rows h
 
+-- what the row of an entry tells is a part of the entry
+first_part : {K X Y : Type 0} (told : Row → Option (K × Y)) (columns : X → Row) (k : K) (part : X → Y) (o : Option X) → ((x : X) → o ≡ Some x → told (columns x) ≡ Some (k, part x)) → first_in told (row_if columns o) ≡ Ok (option_map part o)
+first_part told columns k part None back = refl
+first_part told columns k part (Some x) back = ap value_of (back x refl)
+
 first_found : {K X : Type 0} (told : Row → Option (K × X)) (columns : X → Row) (k : K) (o : Option X) → ((x : X) → o ≡ Some x → told (columns x) ≡ Some (k, x)) → first_in told (row_if columns o) ≡ Ok o
 first_found told columns k None back = refl
 first_found told columns k (Some x) back = ap value_of (back x refl)
 
+tells_first : {K X Y : Type 0} (told : Row → Option (K × Y)) (columns : X → Row) (o : Option X) (answer : Option Y) → first_in told (row_if columns o) ≡ Ok answer
+    → (asked rows : List Row) → asked ≡ row_if columns o → IsPermutation asked rows → (r : Result (Option Y) ReadingFault) → r ≡ first_in told rows → Follows r (λ y. y ≡ answer)
+tells_first told columns o answer first asked rows is shown r given =
+    let alone = only columns o rows (subst (λ a. IsPermutation a rows) is shown) in
+    let so : r ≡ Ok answer = given ∙ ap (first_in told) alone ∙ first in
+    subst (λ q. Follows q (λ y. y ≡ answer)) (sym so) refl
+
 module _ {K X : Type 0} (told : Row → Option (K × X)) (columns : X → Row) (k : K) (o : Option X) (back : (x : X) → o ≡ Some x → told (columns x) ≡ Some (k, x)) where
   pub tells_it : (asked rows : List Row) → asked ≡ row_if columns o → IsPermutation asked rows → (r : Result (Option X) ReadingFault) → r ≡ first_in told rows → Follows r (λ x. x ≡ o)
-  tells_it asked rows is shown r given =
-      let alone = only columns o rows (subst (λ a. IsPermutation a rows) is shown) in
-      let so : r ≡ Ok o = given ∙ ap (first_in told) alone ∙ first_found told columns k o back in
-      subst (λ q. Follows q (λ x. x ≡ o)) (sym so) refl
+  tells_it = tells_first told columns o o (first_found told columns k o back)
+
+module _ {K X Y : Type 0} (told : Row → Option (K × Y)) (columns : X → Row) (k : K) (part : X → Y) (o : Option X) (back : (x : X) → o ≡ Some x → told (columns x) ≡ Some (k, part x)) where
+  tells_part : (asked rows : List Row) → asked ≡ row_if columns o → IsPermutation asked rows → (r : Result (Option Y) ReadingFault) → r ≡ first_in told rows → Follows r (λ y. y ≡ option_map part o)
+  tells_part = tells_first told columns o (option_map part o) (first_part told columns k part o back)
 
 tested : (rows : List Row) (row : Row) (b : Bool) → IsPermutation (cond b (row ∷ []) []) rows → not (length rows == 0) ≡ b
 tested rows row true h = ap (λ n. not (n == 0)) (length_permutation _ _ h)
 tested rows row false h = ap (λ n. not (n == 0)) (length_permutation _ _ h)
 
 -- ---- the queries
+
+-- the vehicle as if it had room for one load, and its room
+abbrev single : VehicleRow → VehicleRow
+single row = record row { capacity = 1 }
+
+abbrev room_for : VehicleRow → CapacityRow
+room_for row = record { capacity = row.capacity }
+
+-- both are there, or neither is
+pub neither : (o : Option VehicleRow) → None ≡ option_map single o → None ≡ o
+neither None none = refl
+neither (Some row) none = absurd (cc none)
+
+pub not_one : (o : Option VehicleRow) (vehicle : VehicleRow) → Some vehicle ≡ option_map single o → ¬ (None ≡ option_map room_for o)
+not_one None vehicle one none = cc one
+not_one (Some row) vehicle one none = cc none
+
+-- and both are the row
+pub joined : (o : Option VehicleRow) (vehicle : VehicleRow) (room : CapacityRow) → Some vehicle ≡ option_map single o → Some room ≡ option_map room_for o → Some (record vehicle { capacity = room.capacity }) ≡ o
+joined None vehicle room one two = absurd (cc one)
+joined (Some row) vehicle room one two =
+    let same : vehicle ≡ single row = same_Some _ _ one in
+    let same_room : room ≡ room_for row = same_Some _ _ two in
+    ap₂ (λ (v : VehicleRow) (r : CapacityRow). Some (record v { capacity = r.capacity })) same same_room
 
 -- the key of what is held is of the kinds of its columns
 pub fits_hold : (thing : Thing) → FitsColumns the.Hold (table_for the.Hold).primary (hold_key thing)
@@ -98,11 +138,19 @@ module _ (world : World) (lawful : IsLawful desk_seats world) where
       tells_it edge_in (edge_columns id) id (finite.get world.layout.edges id) (λ ends at. edge_kept id ends (edge_named world lawful id ends at) (ends_value world lawful id ends at))
       (rows_of_key the.Edge key lists) rows (ap (λ k. rows_of_key the.Edge k lists) is ∙ edge_shown lists (rows_of world) its_own id) shown
 
+  -- its row, as if it had room for one load
   pub tells_vehicle : (id : VehicleKey) (key : Row) → key ≡ vehicle_key id → (rows : List Row) → IsPermutation (rows_of_key the.Vehicle key lists) rows
-      → (r : Result (Option VehicleRow) ReadingFault) → r ≡ first_in vehicle_in rows → Follows r (λ row. row ≡ row_of world id)
+      → (r : Result (Option VehicleRow) ReadingFault) → r ≡ first_in vehicle_in rows → Follows r (λ row. row ≡ option_map single (row_of world id))
   tells_vehicle id key is rows shown =
-      tells_it vehicle_in (vehicle_columns id) id (row_of world id) (λ row at. let its = vehicle_value world lawful id row at in vehicle_kept id row its.0 its.1)
+      tells_part vehicle_in (vehicle_columns id) id single (row_of world id) (λ row at. let its = vehicle_value world lawful id row at in vehicle_kept id row its.0 its.1)
       (rows_of_key the.Vehicle key lists) rows (ap (λ k. rows_of_key the.Vehicle k lists) is ∙ vehicle_shown lists (rows_of world) its_own id ∙ ap (row_if (vehicle_columns id)) (row_at world id)) shown
+
+  -- its room
+  pub tells_capacity : (id : VehicleKey) (key : Row) → key ≡ vehicle_key id → (rows : List Row) → IsPermutation (rows_of_key the.Capacity key lists) rows
+      → (r : Result (Option CapacityRow) ReadingFault) → r ≡ first_in capacity_in rows → Follows r (λ room. room ≡ option_map room_for (row_of world id))
+  tells_capacity id key is rows shown =
+      tells_part capacity_in (room_columns id) id room_for (row_of world id) (λ row at. let its = vehicle_value world lawful id row at in capacity_kept id (room_for row) its.0 its.1.capacity)
+      (rows_of_key the.Capacity key lists) rows (ap (λ k. rows_of_key the.Capacity k lists) is ∙ capacity_shown lists (rows_of world) its_own id ∙ ap (row_if (room_columns id)) (row_at world id)) shown
 
   pub tells_holder : (thing : Thing) → IsThing thing → (key : Row) → key ≡ hold_key thing → (rows : List Row) → IsPermutation (rows_of_key the.Hold key lists) rows
       → (r : Result (Option VehicleKey) ReadingFault) → r ≡ first_in hold_in rows → Follows r (λ holder. holder ≡ holder_of world thing)

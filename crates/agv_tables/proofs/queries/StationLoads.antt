@@ -29,7 +29,7 @@ use Rattle.agv_tables.specs.declared.rows.rows_by.RowsBy.TheVariants as by
 use Rattle.agv_tables.proofs.queries.Asking.{Follows}
 use Rattle.agv_tables.proofs.rows.ColumnsKept.{load_kept}
 use Rattle.agv_tables.proofs.rows.LawfulValues.{place_value}
-use Rattle.agv_tables.proofs.rows.ListsFollow.{names_apart}
+use Rattle.agv_tables.proofs.sql.KeyTests.{names_apart}
 use Rattle.agv_tables.proofs.queries.LoadAnswers.{shows_loads_at}
 use Rattle.agv_tables.proofs.sql.MapEntries.{left, right}
 use Rattle.agv_tables.proofs.rows.SpreadRows.{entries_found}

@@ -1,5 +1,7 @@
--- What the rows of an open trip and of its edges answer, in a lawful world.
-use Rattle.std.proofs.Common.{◌≡◌, ◌++◌, ℕ, List, [], ◌∷◌, filter, find, Option, None, Some, Ok, Err, Result, IsPermutation, refl, sym, ap, ap₂, subst, ◌∙◌, append-nil, append_assoc}
+-- What the rows of a journey, of acts and of edges answer, in a lawful world.
+use Rattle.std.proofs.Common.{◌≡◌, ◌+◌, ◌++◌, ℕ, nat_eq, Bool, true, false, cond, List, [], ◌∷◌, filter, length, Option, None, Some, Ok, Err, Result, IsPermutation, refl, sym, ap, ap₂, subst, ◌∙◌, append-nil, append_assoc}
+use Rattle.std.proofs.lemmas.Bool.{eqb-true}
+use Rattle.std.proofs.lemmas.List.{length-append}
 use Rattle.std.proofs.lemmas.Option.{same_Some}
 use Rattle.std.specs.Cmp.Lexicographic.{nat_list_cmp_total}
 use Rattle.std.specs.FinMap as finite
@@ -7,88 +9,195 @@ use Rattle.std.specs.List.{AllByRecursion, cons_option, filter_map}
 use Rattle.std.specs.Option.{option_and_then, option_map}
 use Rattle.std.specs.Result.{IsErrAnd}
 use Rattle.sqlite_value.specs.Order.{Row}
+use Rattle.agv_header.specs.Name.{IsName, name_cmp}
 use Rattle.agv_header.specs.declared.key.VehicleKey.{VehicleKey}
 use Rattle.agv_layout.specs.Layout.{edge_of}
 use Rattle.agv_layout.specs.declared.edge.Edge.{Edge}
 use Rattle.agv_layout.specs.declared.edge.EdgeEnds.{EdgeEnds}
-use Rattle.agv_order.specs.declared.trip.Trip.{Trip}
+use Rattle.agv_order.specs.declared.act.Act.{Act}
+use Rattle.agv_trip_rows.specs.TripRows.{acts_of, is_of, journeys_of}
+use Rattle.agv_trip_rows.specs.TripsTold.{act_told, acts_told, trip_told}
+use Rattle.agv_trip_rows.specs.declared.act_row.ActRow.{ActRow}
+use Rattle.agv_trip_rows.specs.declared.journey_row.JourneyRow.{JourneyRow}
 use Rattle.agv_world.specs.GoodOrder.{InGoodOrder}
 use Rattle.agv_world.specs.KeyOrders.{leg_cmp-IsAntisymmetric, leg_cmp-total}
 use Rattle.agv_world.specs.Keys.{leg_cmp}
 use Rattle.agv_world.specs.Lawful.{IsLawful}
 use Rattle.agv_world.specs.Rows.{rows_of}
-use Rattle.agv_world.specs.Told.{edge_named, edges_of, is_of_order, names_vehicle, trip_in}
+use Rattle.agv_world.specs.Told.{edge_named, edges_of, is_of_order, trip_in}
 use Rattle.agv_world.specs.Worlds.{World}
 use Rattle.agv_world.specs.declared.key.LegKey.{LegKey}
 use Rattle.agv_world.specs.declared.row.JobRow.{JobRow}
-use Rattle.agv_world.specs.declared.row.TripRow.{TripRow}
-use Rattle.agv_tables.specs.queries.QueriedRows.{legs_shown, trips_shown}
-use Rattle.agv_tables.specs.rows.Columns as columns
-use Rattle.agv_tables.specs.rows.Columns.{leg_columns, leg_in, trip_columns}
+use Rattle.agv_tables.specs.queries.QueriedRows.{journeys_shown, legs_shown}
+use Rattle.agv_tables.specs.rows.Columns.{act_columns, act_in, journey_columns, journey_in, leg_columns, leg_in}
 use Rattle.agv_tables.specs.queries.FirstRow.{first_whole_in, whole_of}
 use Rattle.agv_tables.specs.readings.ReadTables.{Reads, read_rows}
 use Rattle.agv_tables.specs.rows.RowKeys.{name_key, vehicle_key}
-use Rattle.agv_tables.specs.rows.RowLists.{TellRows, row_if, row_lists}
+use Rattle.agv_tables.specs.rows.RowLists.{TellRows, row_if, row_lists, rows_of_acts}
 use Rattle.agv_tables.specs.statements.RowQueries.{rows_asked}
-use Rattle.agv_tables.specs.rows.TripLines.{line_of, trip_told}
-use Rattle.agv_tables.specs.rows.DecodedTrips.{line_for, tables_of, told_by_line}
-use Rattle.agv_tables.specs.rows.TypedRows.{IsTripLine}
+use Rattle.agv_tables.specs.schema.SchemaNumbers.{desk_seats}
+use Rattle.agv_tables.specs.rows.DecodedTrips.{is_driven_by, journey_for, tables_of, told_by_journey}
+use Rattle.agv_tables.specs.rows.TypedRows.{IsActRow, IsJourneyRow, IsLegKey}
 use Rattle.agv_tables.specs.declared.queries.reading_fault.ReadingFault.{ReadingFault}
 use Rattle.agv_tables.specs.declared.rows.rows_by.RowsBy.TheVariants as by
-use Rattle.agv_tables.specs.declared.rows.trip_line.TripLine.{TripLine}
 use Rattle.agv_tables.proofs.queries.Asking.{Follows}
 use Rattle.agv_tables.proofs.queries.AskedShown.{shown_asked}
-use Rattle.agv_tables.proofs.rows.ColumnsKept.{leg_kept, trip_kept}
+use Rattle.agv_tables.proofs.rows.ColumnsKept.{act_kept, journey_kept, leg_kept}
 use Rattle.agv_tables.proofs.sql.FewEntries.{found_entry, listed, one_passes}
 use Rattle.agv_tables.proofs.queries.KeyAnswers.{only}
-use Rattle.agv_tables.proofs.rows.LawfulTrips.{leg_value, one_order}
+use Rattle.agv_tables.proofs.rows.LawfulTrips.{leg_value}
 use Rattle.agv_tables.proofs.rows.ListsHeld.{alike_itself}
 use Rattle.agv_tables.proofs.queries.LoadAnswers.{again}
 use Rattle.agv_tables.proofs.rows.SpreadRows.{entries_found}
 use Rattle.agv_tables.proofs.queries.StationLoads.{all-filter, entries-passing, get-passing, passing}
 use Rattle.agv_tables.proofs.readings.TableReading.{reads_all, reads_fails}
 
--- ---- the line of a vehicle's trip
+-- ---- the journey of a vehicle
 
-abbrev Entry : Type 0
-Entry = List ℕ × TripRow
+abbrev pub Entry : Type 0
+Entry = List ℕ × JourneyRow
 
-abbrev line_at : Entry → Option TripLine
-line_at e = line_of e.0 e.1
+abbrev entry_columns : Entry → Row
+entry_columns e = journey_columns e.0 e.1
 
-one_shown : (o : Option Entry) → trips_shown (listed o) ≡ row_if trip_columns (option_and_then line_at o)
+one_shown : (o : Option Entry) → journeys_shown (listed o) ≡ row_if entry_columns o
 one_shown None = refl
-one_shown (Some e) = append-nil _
+one_shown (Some e) = refl
 
-first_line : (o : Option TripLine) → ((line : TripLine) → o ≡ Some line → columns.trip_in (trip_columns line) ≡ Some line) → first_whole_in columns.trip_in (row_if trip_columns o) ≡ Ok o
-first_line None back = refl
-first_line (Some line) back = ap whole_of (back line refl)
+first_journey : (o : Option Entry) → ((e : Entry) → o ≡ Some e → journey_in (entry_columns e) ≡ Some e) → first_whole_in journey_in (row_if entry_columns o) ≡ Ok o
+first_journey None back = refl
+first_journey (Some e) back = ap whole_of (back e refl)
 
--- each line of a row of the world has its values
-abbrev pub LinesAreTyped : World → Type 0
-LinesAreTyped world = (order : List ℕ) (row : TripRow) (line : TripLine) → finite.get (rows_of world).trips order ≡ Some row → line_of order row ≡ Some line → IsTripLine line
+-- the journeys that name a vehicle are of one order
+abbrev pub OneDrives : World → Type 0
+OneDrives world = (key : VehicleKey) (a b : Entry) → finite.get (journeys_of (rows_of world).trips) a.0 ≡ Some a.1 → finite.get (journeys_of (rows_of world).trips) b.0 ≡ Some b.1
+    → is_driven_by key a ≡ true → is_driven_by key b ≡ true → a.0 ≡ b.0
 
-module _ (world : World) (lawful : IsLawful 1 world) where
+-- each journey has its values
+abbrev pub JourneysAreTyped : World → Type 0
+JourneysAreTyped world = (order : List ℕ) (journey : JourneyRow) → finite.get (journeys_of (rows_of world).trips) order ≡ Some journey → IsName order × IsJourneyRow journey
+
+module _ (world : World) where
   abbrev lists : List (List Row)
   lists = row_lists (rows_of world)
 
   its_own : TellRows lists (rows_of world)
   its_own = alike_itself lists
 
-  pub tells_line : LinesAreTyped world → (key : VehicleKey) (values : Row) → values ≡ vehicle_key key → (rows : List Row) → IsPermutation (rows_asked by.VehicleTrip values lists) rows
-      → (r : Result (Option TripLine) ReadingFault) → r ≡ first_whole_in columns.trip_in rows → Follows r (λ line. line ≡ line_for (rows_of world) key)
-  tells_line typed key values is rows shown r given =
-      let trips = (rows_of world).trips in
-      let perm = again ((shown_asked lists (rows_of world) its_own).trip key) (subst (λ v. IsPermutation (rows_asked by.VehicleTrip v lists) rows) is shown) in
-      let few = ap trips_shown (one_passes nat_list_cmp_total trips (names_vehicle key) (one_order world key)) ∙ one_shown (find (names_vehicle key) (finite.entries trips)) in
-      let alone = only trip_columns (line_for (rows_of world) key) rows (subst (λ l. IsPermutation l rows) few perm) in
-      let so : r ≡ Ok (line_for (rows_of world) key) =
-      given ∙ ap (first_whole_in columns.trip_in) alone ∙ first_line (line_for (rows_of world) key) (λ line found. trip_kept line (value_of line (find (names_vehicle key) (finite.entries trips)) refl found)) in
-      subst (λ q. Follows q (λ line. line ≡ line_for (rows_of world) key)) (sym so) refl
-    where
-      value_of : (line : TripLine) (o : Option Entry) → find (names_vehicle key) (finite.entries (rows_of world).trips) ≡ o → option_and_then line_at o ≡ Some line → IsTripLine line
-      value_of line None at found = absurd (cc found)
-      value_of line (Some e) at found = typed e.0 e.1 line (found_entry nat_list_cmp_total (rows_of world).trips (names_vehicle key) e at).0 found
+  pub tells_journey : OneDrives world → JourneysAreTyped world → (key : VehicleKey) (values : Row) → values ≡ vehicle_key key → (rows : List Row) → IsPermutation (rows_asked by.VehicleJourney values lists) rows
+      → (r : Result (Option Entry) ReadingFault) → r ≡ first_whole_in journey_in rows → Follows r (λ journey. journey ≡ journey_for (rows_of world) key)
+  tells_journey one typed key values is rows shown r given =
+      let journeys = journeys_of (rows_of world).trips in
+      let found = journey_for (rows_of world) key in
+      let perm = again ((shown_asked lists (rows_of world) its_own).journey key) (subst (λ v. IsPermutation (rows_asked by.VehicleJourney v lists) rows) is shown) in
+      let few = ap journeys_shown (one_passes nat_list_cmp_total journeys (is_driven_by key) (one key)) ∙ one_shown found in
+      let alone = only entry_columns found rows (subst (λ l. IsPermutation l rows) few perm) in
+      let so : r ≡ Ok found =
+      given ∙ ap (first_whole_in journey_in) alone
+      ∙ first_journey found (λ e at. let its = typed e.0 e.1 (found_entry nat_list_cmp_total journeys (is_driven_by key) e at).0 in journey_kept e.0 e.1 its.0 its.1) in
+      subst (λ q. Follows q (λ journey. journey ≡ found)) (sym so) refl
+
+-- ---- the acts of an order
+
+-- the acts of a world's order, as they are told
+abbrev pub acts_for : World → List ℕ → Option (List Act)
+acts_for world order = acts_told (rows_of world).jobs 0 (filter (is_of order) (finite.entries (acts_of (rows_of world).trips)))
+
+-- each act has its values
+abbrev pub ActsAreTyped : World → Type 0
+ActsAreTyped world = (key : LegKey) (act : ActRow) → finite.get (acts_of (rows_of world).trips) key ≡ Some act → IsLegKey key × IsActRow act
+
+-- what is left tells more acts, which follow those so far
+pub record Told (jobs : finite.FinMap name_cmp JobRow) (acts : List Act) (rest : List (LegKey × ActRow)) (all : Option (List Act)) : Type 0 where
+  pub more : List Act
+  pub told : acts_told jobs (length acts) rest ≡ Some more
+  pub are : all ≡ Some (acts ++ more)
+
+abbrev pub GoesActs : List Act → List (LegKey × ActRow) → List ℕ → World → Unit {0} → Type 0
+GoesActs acts rest order world nothing = Told (rows_of world).jobs acts rest (acts_for world order)
+
+module _ (world : World) (typed : ActsAreTyped world) (order : List ℕ) where
+  abbrev acts_there : finite.FinMap leg_cmp ActRow
+  acts_there = passing (is_of order) (acts_of (rows_of world).trips)
+
+  module _ (values : Row) (is : values ≡ name_key order) (rows : List Row) (shown : IsPermutation (rows_asked by.OrderActs values (row_lists (rows_of world))) rows) where
+    given_acts : read_rows act_in finite.empty rows ≡ Some acts_there
+    given_acts =
+        let lists = row_lists (rows_of world) in
+        let perm = again ((shown_asked lists (rows_of world) (alike_itself lists)).acts order) (subst (λ v. IsPermutation (rows_asked by.OrderActs v lists) rows) is shown) in
+        reads_all leg_cmp-total leg_cmp-IsAntisymmetric acts_there act_columns act_in
+        (λ key act at. let its = typed key act (get-passing leg_cmp-total leg_cmp-IsAntisymmetric (is_of order) (acts_of (rows_of world).trips) key act at) in act_kept key act its.0 its.1) rows
+        (subst (λ es. IsPermutation (rows_of_acts es) rows) (sym (entries-passing (is_of order) (acts_of (rows_of world).trips))) perm)
+
+    -- the reading of these rows fails for want of memory alone
+    pub acts_fail : {B : Type 0} (f : ReadingFault) → Reads {A = finite.FinMap leg_cmp ActRow} (Err f) (read_rows act_in finite.empty rows) → (r : Result B ReadingFault) → IsErrAnd r (λ why. why ≡ f) → (says : B → Type 0) → Follows r says
+    acts_fail f read r fails says = reads_fails acts_there f (read_rows act_in finite.empty rows) read given_acts r fails says
+
+    -- and with the table the acts begin
+    pub acts_begin : (those : List Act) → acts_for world order ≡ Some those → (table : finite.FinMap leg_cmp ActRow) → Reads {A = finite.FinMap leg_cmp ActRow} (Ok table) (read_rows act_in finite.empty rows)
+        → (acts : List Act) (rest : List (LegKey × ActRow)) → acts ≡ [] → rest ≡ finite.entries table → GoesActs acts rest order world tt
+    acts_begin those known table read acts rest none all =
+        let same : table ≡ acts_there = same_Some table acts_there (sym read ∙ given_acts) in
+        let listed_there : rest ≡ filter (is_of order) (finite.entries (acts_of (rows_of world).trips)) = all ∙ ap finite.entries same ∙ entries-passing (is_of order) (acts_of (rows_of world).trips) in
+        record {
+          more = those;
+          told = ap₂ (λ (a : List Act) l. acts_told (rows_of world).jobs (length a) l) none listed_there ∙ known;
+          are = known ∙ ap (λ (a : List Act). Some (a ++ those)) (sym none);
+        }
+
+-- ---- one act after the other
+
+-- the act of a row: its number and its job are known, and the others follow
+record Next (jobs : finite.FinMap name_cmp JobRow) (n : ℕ) (row : LegKey × ActRow) (rows : List (LegKey × ActRow)) (all : List Act) : Type 0 where
+  number : nat_eq row.0.k n ≡ true
+  job : JobRow
+  known : finite.get jobs row.1.job ≡ Some job
+  more : List Act
+  told : acts_told jobs (n + 1) rows ≡ Some more
+  are : all ≡ act_told row.1 job ∷ more
+
+next_of : (jobs : finite.FinMap name_cmp JobRow) (n : ℕ) (row : LegKey × ActRow) (rows : List (LegKey × ActRow)) (all : List Act) → acts_told jobs n (row ∷ rows) ≡ Some all → Next jobs n row rows all
+next_of jobs n row rows all is = at (nat_eq row.0.k n) refl (finite.get jobs row.1.job) refl (acts_told jobs (n + 1) rows) refl is
+  where
+    at : (b : Bool) → nat_eq row.0.k n ≡ b → (o : Option JobRow) → finite.get jobs row.1.job ≡ o → (t : Option (List Act)) → acts_told jobs (n + 1) rows ≡ t
+        → cond b (option_and_then (λ (job : JobRow). option_map (λ (acts : List Act). act_told row.1 job ∷ acts) t) o) None ≡ Some all → Next jobs n row rows all
+    at true number (Some job) known (Some more) told same = record { number = number; job = job; known = known; more = more; told = told; are = sym (same_Some _ _ same) }
+    at true number (Some job) known None told same = absurd (cc same)
+    at true number None known t told same = absurd (cc same)
+    at false number o known t told same = absurd (cc same)
+
+module _ (world : World) (order : List ℕ) (acts : List Act) (rest : List (LegKey × ActRow)) (row : LegKey × ActRow) (rows : List (LegKey × ActRow)) (goes : GoesActs acts rest order world tt) (next : rest ≡ row ∷ rows) where
+  next_act : Next (rows_of world).jobs (length acts) row rows goes.more
+  next_act = next_of (rows_of world).jobs (length acts) row rows goes.more (ap (acts_told (rows_of world).jobs (length acts)) (sym next) ∙ goes.told)
+
+  -- its number is that of the acts so far
+  pub act_numbered : row.0.k ≡ length acts
+  act_numbered = eqb-true row.0.k (length acts) next_act.number
+
+  -- its job is known
+  pub act_known : ¬ (None ≡ finite.get world.jobs row.1.job)
+  act_known none =
+      let wrong : ◌≡◌ {A = Option JobRow} None (Some next_act.job) = none ∙ next_act.known in
+      cc wrong
+
+  -- with it the acts go on
+  pub acts_go_on : (job : JobRow) → Some job ≡ finite.get world.jobs row.1.job → (now : List Act) → now ≡ acts ++ act_told row.1 job ∷ [] → GoesActs now rows order world tt
+  acts_go_on job there now pushed =
+      let one = next_act in
+      let same : one.job ≡ job = same_Some _ _ (sym one.known ∙ sym there) in
+      record {
+        more = one.more;
+        told = ap (λ n. acts_told (rows_of world).jobs n rows) (ap length pushed ∙ length-append acts (act_told row.1 job ∷ [])) ∙ one.told;
+        are =
+            goes.are ∙ ap (λ (l : List Act). Some (acts ++ l)) (one.are ∙ ap (λ j. act_told row.1 j ∷ one.more) same)
+            ∙ ap Some (sym (append_assoc acts (act_told row.1 job ∷ []) one.more) ∙ ap (λ (l : List Act). l ++ one.more) (sym pushed));
+      }
+
+-- they are at their end
+pub acts_end : (world : World) (order : List ℕ) (acts : List Act) (rest : List (LegKey × ActRow)) → GoesActs acts rest order world tt → rest ≡ [] → (all : List Act) → all ≡ acts → acts_for world order ≡ Some all
+acts_end world order acts rest goes none all are =
+    let no_more : goes.more ≡ [] = same_Some _ _ (sym goes.told ∙ ap (acts_told (rows_of world).jobs (length acts)) none) in
+    goes.are ∙ ap (λ (l : List Act). Some (acts ++ l)) no_more ∙ ap Some (append-nil acts ∙ sym are)
 
 -- ---- the edges of an order
 
@@ -107,7 +216,7 @@ pub all_of : {A : Type 0} (P Q : A → Type 0) → ((a : A) → P a → Q a) →
 all_of P Q so [] h = tt
 all_of P Q so (x ∷ xs) h = (so x h.0, all_of P Q so xs h.1)
 
-module _ (world : World) (lawful : IsLawful 1 world) (good : InGoodOrder world) (order : List ℕ) where
+module _ (world : World) (lawful : IsLawful desk_seats world) (good : InGoodOrder world) (order : List ℕ) where
   abbrev pub legs_there : finite.FinMap leg_cmp (List ℕ)
   legs_there = passing (is_of_order order) (rows_of world).legs
 
@@ -162,35 +271,32 @@ goes_known world order edges rest leg more goes next none =
 pub goes_all : (world : World) (order : List ℕ) (edges : List Edge) (rest : List (LegKey × List ℕ)) → Goes edges rest order world tt → rest ≡ [] → edges ≡ edges_of (tables_of (rows_of world)) order
 goes_all world order edges rest goes none = sym (append-nil edges) ∙ (subst (λ l. Goes edges l order world tt) none goes).0
 
--- ---- what is told of the line
+-- ---- what is told of the journey
 
-pub told_none : (world : World) (line : TripLine) → None ≡ finite.get world.jobs line.job → None ≡ told_by_line (rows_of world) line
-told_none world line none = ap (option_map (λ (job : JobRow). trip_in (tables_of (rows_of world)) (line.order, trip_told line job))) none
-
-pub told_some : (world : World) (line : TripLine) (job : JobRow) (row : TripRow) (edges : List Edge) → Some job ≡ finite.get world.jobs line.job → row ≡ trip_told line job → edges ≡ edges_of (tables_of (rows_of world)) line.order
-    → ◌≡◌ {A = Option Trip} (Some (record {
-      order = line.order;
-      vehicle = row.vehicle;
-      start = row.start;
+pub told_journey : (world : World) (journey : Entry) (acts : List Act) (edges : List Edge) → acts_for world journey.0 ≡ Some acts → edges ≡ edges_of (tables_of (rows_of world)) journey.0
+    → told_by_journey (rows_of world) journey ≡ Some (record {
+      order = journey.0;
+      vehicle = journey.1.vehicle;
+      start = journey.1.start;
       edges = edges;
-      first = row.first;
-      base = row.base;
-      sent = row.sent;
-      confirmed = row.confirmed;
-      seen = row.seen;
-      acts = row.acts;
-    })) (told_by_line (rows_of world) line)
-told_some world line job row edges known told goes =
-    (λ i. Some (record {
-      order = line.order;
-      vehicle = (told i).vehicle;
-      start = (told i).start;
-      edges = goes i;
-      first = (told i).first;
-      base = (told i).base;
-      sent = (told i).sent;
-      confirmed = (told i).confirmed;
-      seen = (told i).seen;
-      acts = (told i).acts;
+      first = journey.1.first;
+      base = journey.1.base;
+      sent = journey.1.sent;
+      confirmed = journey.1.confirmed;
+      seen = journey.1.seen;
+      acts = acts;
+    })
+told_journey world journey acts edges told way =
+    ap (λ (o : Option (List Act)). option_map (trip_in (tables_of (rows_of world))) (option_map (λ (acts : List Act). (journey.0, trip_told journey.1 acts)) o)) told
+    ∙ (λ i. Some (record {
+      order = journey.0;
+      vehicle = journey.1.vehicle;
+      start = journey.1.start;
+      edges = sym way i;
+      first = journey.1.first;
+      base = journey.1.base;
+      sent = journey.1.sent;
+      confirmed = journey.1.confirmed;
+      seen = journey.1.seen;
+      acts = acts;
     }))
-    ∙ ap (option_map (λ (job : JobRow). trip_in (tables_of (rows_of world)) (line.order, trip_told line job))) known

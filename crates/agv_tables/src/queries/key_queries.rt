@@ -85,14 +85,18 @@ pub fn query_vehicle<S: Alter>(
     ensures { AnswersQuery S.Store conn.old conn.new result (λ world row. row ≡ row_of world key.now) }
 {
     let vehicle = query_vehicle_row(conn, key)?;
-    let room = query_capacity(conn, key)?;
-    match (vehicle, room) {
-        (None, None) => Ok(None),
-        (Some(vehicle), Some(room)) => Ok(Some(VehicleRow {
-            capacity: room.capacity,
-            ..vehicle
-        })),
-        _ => Err(ReadingFault::Damaged),
+    match vehicle {
+        None => Ok(None),
+        Some(vehicle) => {
+            let room = query_capacity(conn, key)?;
+            match room {
+                None => Err(ReadingFault::Damaged),
+                Some(room) => Ok(Some(VehicleRow {
+                    capacity: room.capacity,
+                    ..vehicle
+                })),
+            }
+        }
     }
 }
 

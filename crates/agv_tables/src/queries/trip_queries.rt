@@ -107,15 +107,15 @@ fn query_way<S: Alter>(
     Ok(Sequence::from(edges))
 }
 
-// The trip of a journey, with its acts and its edges.
+// The trip of a journey with its order, with its acts and its edges.
 fn query_told_trip<S: Alter>(
     alloc: Global,
     conn: &mut Connection<S>,
-    order: &Name,
-    journey: &JourneyRow,
+    journey: &(Name, JourneyRow),
 ) -> Result<Trip, ReadingFault>
-    ensures { AnswersQuery S.Store conn.old conn.new result (λ world trip. told_by_journey (rows_of world) (order.now, journey.now) ≡ Some trip) }
+    ensures { AnswersQuery S.Store conn.old conn.new result (λ world trip. told_by_journey (rows_of world) journey.now ≡ Some trip) }
 {
+    let (order, journey) = journey;
     let acts = query_acts(alloc, conn, order)?;
     let edges = query_way(alloc, conn, order)?;
     Ok(Trip {
@@ -146,8 +146,8 @@ pub fn query_trip<S: Alter>(
     let journey = query_journey(conn, key)?;
     match journey {
         None => Ok(None),
-        Some((order, journey)) => {
-            let trip = query_told_trip(alloc, conn, &order, &journey)?;
+        Some(journey) => {
+            let trip = query_told_trip(alloc, conn, &journey)?;
             Ok(Some(trip))
         }
     }
