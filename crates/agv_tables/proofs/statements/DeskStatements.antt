@@ -11,7 +11,7 @@ use Rattle.sqlite.specs.declared.error.Error.TheVariants.{SqliteFailure}
 use Rattle.sqlite.specs.declared.error.ErrorCode.TheVariants.{TransactionState}
 use Rattle.sqlite.specs.Effect.{Database}
 use Rattle.sqlite.specs.State.{State, Executes, ExecutesInside, Shown}
-use Rattle.agv_tables.specs.rows.DeskRows.{Placing, IsDesk, KeepsOthers, on_table, table_at, place_of, width_of, has_columns, has_key, with_row, without_rows, rows_of_key, FitsTable, Makes, Answers, AnswersAlone}
+use Rattle.agv_tables.specs.rows.DeskRows.{Placing, IsDesk, KeepsOthers, on_table, table_at, place_of, width_of, has_columns, has_key, with_put_by, with_row, without_rows, rows_of_key, FitsTable, Makes, Answers, AnswersAlone}
 use Rattle.agv_tables.specs.statements.RowQueries.{table_asked, columns_asked, equal_from, rows_asked, all_rows_of, query_text, all_rows_text}
 use Rattle.agv_tables.specs.statements.RowTexts.{insertion_text, deletion_text, look_up_text, table_written, table_looked_up, columns_deleted}
 use Rattle.agv_tables.specs.declared.rows.row_of.RowOf.{RowOf}
@@ -150,7 +150,7 @@ makes_then f g a b c p q =
     }
 
 pub puts_row : (name : TableName) (columns : List ℕ) (key row : Row) (a b c : State) (last : Result ℕ Error) → OnOk last (Makes (with_row name row) b c) → Makes (without_rows name columns key) a b
-    → OnOk last (Makes (λ lists. with_row name row (without_rows name columns key lists)) a c)
+    → OnOk last (Makes (with_put_by name columns key row) a c)
 puts_row name columns key row a b c (Ok count) added gone = makes_then (without_rows name columns key) (with_row name row) a b c gone added
 puts_row name columns key row a b c (Err e) added gone = tt
 

@@ -177,9 +177,13 @@ without_rows name columns other = on_table (place_of name) (filter (λ row. not 
 abbrev pub without_key : TableName → Row → List (List Row) → List (List Row)
 without_key name = without_rows name (table_for name).primary
 
+-- with the row in the place of those that are equal to one in these columns
+abbrev pub with_put_by : TableName → List ℕ → Row → Row → List (List Row) → List (List Row)
+with_put_by name columns other row lists = with_row name row (without_rows name columns other lists)
+
 -- with the row in the place of that of its key, if there is one
 abbrev pub with_put : TableName → Row → Row → List (List Row) → List (List Row)
-with_put name key row lists = with_row name row (without_key name key lists)
+with_put name = with_put_by name (table_for name).primary
 
 -- the rows of that key
 abbrev pub rows_of_key : TableName → Row → List (List Row) → List Row

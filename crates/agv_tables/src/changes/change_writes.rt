@@ -2,11 +2,11 @@
 //!
 //! Each clause `made` says of one kind of change what the definition of all of them says, in any database in which
 //! the desk's tables stand. An error changes what the transaction's end undoes.
-ghost use Rattle.std.specs.Prelude.{◌≡◌, ◌+◌, ◌≤◌, IsTrue, None, Some, OnOk, length};
+ghost use Rattle.std.specs.Prelude.{◌≡◌, IsTrue, None, Some, OnOk};
 ghost use Rattle.sqlite.specs.State.{HasCleanDisk, KeepsCommit, Survives};
 ghost use Rattle.sqlite.specs.Held.{state};
 ghost use Rattle.agv_world.specs.declared.change.Change.TheVariants as row;
-ghost use Rattle.agv_trip_rows.specs.TripRows.{act_rows_from};
+ghost use Rattle.agv_trip_rows.specs.TripRows.{act_key, act_row, act_rows_from};
 ghost use Rattle.agv_tables.specs.rows.Columns.{act_columns, room_columns, journey_columns, vehicle_columns};
 ghost use Rattle.agv_tables.specs.rows.DeskRows.{Makes, with_put, with_row, with_rows, without_key};
 ghost use Rattle.agv_tables.specs.rows.RowKeys.{name_key, vehicle_key};
@@ -192,43 +192,42 @@ fn put_journey<S: Alter>(
     )
 }
 
-// One more act.
+// The order has this act besides, at this number.
 fn add_act<S: Alter>(
     tx: &mut Transaction<'_, S>,
-    key: &LegKey,
-    act: &ActRow,
+    order: &Name,
+    n: usize,
+    act: &Act,
 ) -> Result<usize, Error>
     ensures same_reference { tx.new.conn.ghost_name ≡ tx.old.conn.ghost_name }
     ensures survives { Survives (state S.Store tx.old.conn.now) (state S.Store tx.new.conn.now) (λ _. ⊥) }
     ensures kept { HasCleanDisk (state S.Store tx.new.conn.now) → KeepsCommit (state S.Store tx.old.conn.now) (state S.Store tx.new.conn.now) }
     ensures made { HasCleanDisk (state S.Store tx.new.conn.now)
-        → OnOk result (Makes (with_row the.Act (act_columns key.now act.now)) (state S.Store tx.old.conn.now) (state S.Store tx.new.conn.now)) }
+        → OnOk result (Makes (with_row the.Act (act_columns (act_key order.now n) (act_row act.now))) (state S.Store tx.old.conn.now) (state S.Store tx.new.conn.now)) }
 {
-    insert_row(tx, WorldTable::Act, &act_values(key, act))
+    let Ok(k) = u32::try_from(n) else {
+        return Err(Error::IntegralValueOutOfRange(1));
+    };
+    let key = LegKey { order: *order, k };
+    insert_row(tx, WorldTable::Act, &act_values(&key, &ActRow::of(act)))
 }
 
-/// The order has acts of these tasks besides, which are numbered from a number on.
+/// The order has these acts besides, which are numbered from 0 on.
 pub(crate) fn add_acts<S: Alter>(
     tx: &mut Transaction<'_, S>,
-    order: Name,
-    from: u32,
+    order: &Name,
     acts: &[Act],
 ) -> Result<(), Error>
-    requires few { from + length acts.now ≤ 4294967296 }
     ensures same_reference { tx.new.conn.ghost_name ≡ tx.old.conn.ghost_name }
     ensures survives { Survives (state S.Store tx.old.conn.now) (state S.Store tx.new.conn.now) (λ _. ⊥) }
     ensures kept { HasCleanDisk (state S.Store tx.new.conn.now) → KeepsCommit (state S.Store tx.old.conn.now) (state S.Store tx.new.conn.now) }
     ensures made { HasCleanDisk (state S.Store tx.new.conn.now) → IsTrue (state S.Store tx.old.conn.now).in_transaction
-        → OnOk result (Makes (with_rows the.Act (rows_of_acts (act_rows_from order from acts.now))) (state S.Store tx.old.conn.now) (state S.Store tx.new.conn.now)) }
+        → OnOk result (Makes (with_rows the.Act (rows_of_acts (act_rows_from order.now 0 acts.now))) (state S.Store tx.old.conn.now) (state S.Store tx.new.conn.now)) }
 {
-    let [act, others @ ..] = acts else {
-        return Ok(());
-    };
-    add_act(tx, &LegKey { order, k: from }, &ActRow::of(act))?;
-    if others.is_empty() {
-        return Ok(());
+    for (n, act) in acts.iter().enumerate() {
+        add_act(tx, order, n, act)?;
     }
-    add_acts(tx, order, from + 1, others)
+    Ok(())
 }
 
 // The order has this open trip.
@@ -245,9 +244,8 @@ fn write_open_trip<S: Alter>(
 {
     put_journey(tx, order, &JourneyRow::of(trip))?;
     drop_acts(tx, order)?;
-    let acts = trip.acts.as_slice();
-    add_acts(tx, *order, 0, acts)?;
-    Ok(acts.len())
+    add_acts(tx, order, trip.acts.as_slice())?;
+    Ok(trip.acts.len())
 }
 
 // The open trip of the order, if it has one.

@@ -6,7 +6,7 @@ ghost use Rattle.std.specs.Prelude.{◌≡◌, OnOk};
 ghost use Rattle.sqlite.specs.State.{HasCleanDisk, KeepsCommit, Survives};
 ghost use Rattle.sqlite.specs.Held.{state};
 ghost use Rattle.sqlite.specs.Values.{bound};
-ghost use Rattle.agv_tables.specs.rows.DeskRows.{FitsTable, Makes, with_row, without_rows};
+ghost use Rattle.agv_tables.specs.rows.DeskRows.{FitsTable, Makes, with_put_by, with_row, without_rows};
 ghost use Rattle.agv_tables.specs.statements.RowTexts.{columns_deleted, table_written};
 
 use crate::rows::world_table::WorldTable;
@@ -55,7 +55,7 @@ pub(crate) fn put_row<S: Alter>(
     ensures survives { Survives (state S.Store tx.old.conn.now) (state S.Store tx.new.conn.now) (λ _. ⊥) }
     ensures kept { HasCleanDisk (state S.Store tx.new.conn.now) → KeepsCommit (state S.Store tx.old.conn.now) (state S.Store tx.new.conn.now) }
     ensures made { HasCleanDisk (state S.Store tx.new.conn.now) → FitsTable (table_written table) (bound row.now)
-        → OnOk result (Makes (λ lists. with_row (table_written table) (bound row.now) (without_rows (table_written table) (columns_deleted table) (bound key.now) lists)) (state S.Store tx.old.conn.now) (state S.Store tx.new.conn.now)) }
+        → OnOk result (Makes (with_put_by (table_written table) (columns_deleted table) (bound key.now) (bound row.now)) (state S.Store tx.old.conn.now) (state S.Store tx.new.conn.now)) }
 {
     delete_row(tx, table, key)?;
     insert_row(tx, table, row)

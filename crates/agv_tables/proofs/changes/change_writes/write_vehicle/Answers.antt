@@ -1,0 +1,21 @@
+use Rattle.std.proofs.Common.{arith}
+use Rattle.sqlite.specs.State.{HasCleanDisk}
+use Rattle.sqlite.specs.Held.{state}
+use Rattle.agv_tables.specs.rows.Columns.{room_columns, vehicle_columns}
+use Rattle.agv_tables.specs.rows.DeskRows.{with_put}
+use Rattle.agv_tables.specs.rows.RowKeys.{vehicle_key}
+use Rattle.agv_tables.specs.declared.schema.table_name.TableName.TheVariants as the
+use Rattle.agv_tables.proofs.schema.StepsRun.{on_ok}
+use Rattle.agv_tables.proofs.statements.DeskStatements.{makes_then}
+use Rattle.agv_tables.proofs.changes.change_writes.write_vehicle.Goals as goal
+
+pub returns-clause-made : goal.returns-clause-made
+returns-clause-made g c clean =
+    let key = c.args.key.now in
+    let vehicle = c.args.vehicle.now in
+    let mid = state g.S.Store c.put_vehicle.new.tx.conn.now in
+    let early : HasCleanDisk mid = omega (arith, c.put_capacity.ensures.survives.clean) in
+    on_ok c.put_capacity.result
+    (makes_then (with_put the.Vehicle (vehicle_key key) (vehicle_columns key vehicle)) (with_put the.Capacity (vehicle_key key) (room_columns key vehicle))
+    (state g.S.Store c.args.tx.now.conn.now) mid (state g.S.Store c.put_capacity.new.tx.conn.now) (c.in_ok-put_vehicle.ensures.made early))
+    (c.put_capacity.ensures.made clean)
