@@ -12,7 +12,6 @@ ghost use Rattle.agv_tables.specs.queries.FirstRow.{first_in};
 ghost use Rattle.agv_tables.specs.rows.TypedRows.{IsThing};
 ghost use Rattle.agv_tables.specs.queries.WorldAnswers.{AnswersQuery};
 
-use crate::{CapacityRow, ReadingFault};
 use crate::queries::queried_rows::query_rows;
 use crate::rows::decode_row::{
     decode_capacity, decode_edge, decode_hold, decode_job, decode_load, decode_station,
@@ -21,6 +20,7 @@ use crate::rows::decode_row::{
 use crate::rows::key_values::{hold_key_values, name_key_values, vehicle_key_values};
 use crate::rows::row_of::RowOf;
 use crate::rows::row_values::used_values;
+use crate::{CapacityRow, ReadingFault};
 use agv_header::{Name, Thing, VehicleKey};
 use agv_layout::{EdgeEnds, StationSite};
 use agv_stock::Place;

@@ -13,6 +13,7 @@ ghost use Rattle.agv_tables.specs.queries.FirstRow.{first_whole_in};
 ghost use Rattle.agv_tables.specs.rows.DecodedTrips.{journey_for, tables_of, told_by_journey};
 ghost use Rattle.agv_tables.specs.queries.WorldAnswers.{AnswersQuery};
 
+use crate::ReadingFault;
 use crate::queries::key_queries::{query_edge, query_job};
 use crate::queries::queried_rows::query_rows_by;
 use crate::readings::row_tables::{acts_in_rows, legs_in_rows};
@@ -20,7 +21,6 @@ use crate::rows::decode_row::decode_journey;
 use crate::rows::key_values::{name_key_values, vehicle_key_values};
 use crate::rows::rows_by::RowsBy;
 use crate::rows::trip_laws::rows_tell_trips;
-use crate::ReadingFault;
 use agv_header::{Name, VehicleKey};
 use agv_layout::Edge;
 use agv_message::Sequence;
