@@ -61,7 +61,7 @@ adds_next order acts n act a b c low is p q =
     let front = take n acts in
     let whole : front ++ act ∷ [] ≡ take (n + 1) acts = ap (λ x. front ++ x ∷ []) is ∙ sym (take_more acts n act low) in
     let same : (lists : List (List Row)) → one_added order n act (added order 0 front lists) ≡ added order 0 (take (n + 1) acts) lists =
-        λ lists. ap (λ k. one_added order k act (added order 0 front lists)) (sym at) ∙ sym (added_in_turn order 0 front act lists) ∙ ap (λ acts. added order 0 acts lists) whole in
+    λ lists. ap (λ k. one_added order k act (added order 0 front lists)) (sym at) ∙ sym (added_in_turn order 0 front act lists) ∙ ap (λ acts. added order 0 acts lists) whole in
     subst (λ (change : List (List Row) → List (List Row)). Makes change a c) (λ i lists. same lists i) (makes_then (added order 0 front) (one_added order n act) a b c p q)
 
 pub adds_all : (order : List ℕ) (acts : List Act) (n : ℕ) (a b : State) → length acts ≤ n → Makes (added order 0 (take n acts)) a b → Makes (added order 0 acts) a b

@@ -5,8 +5,8 @@ ghost use Rattle.agv_tables.specs.rows.Columns.{meta_in, node_in, edge_in, stati
 
 use crate::rows::capacity_row::CapacityRow;
 use crate::rows::decode_value::{
-    act_kind_at, flag_at, maybe_instant_at, maybe_name_at, maybe_number_at, moment_at, name_at, number_at,
-    phase_at, place_kind_at, status_at, thing_kind_at, use_at,
+    act_kind_at, flag_at, maybe_instant_at, maybe_name_at, maybe_number_at, moment_at, name_at,
+    number_at, phase_at, place_kind_at, status_at, thing_kind_at, use_at,
 };
 use crate::{PlaceKind, ThingKind};
 use agv_header::{Name, Thing, VehicleKey};

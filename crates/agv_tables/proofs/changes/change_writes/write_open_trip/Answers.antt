@@ -21,10 +21,10 @@ returns-clause-made g c clean =
     let late : HasCleanDisk gone = omega (arith, c.add_acts.ensures.survives.clean) in
     let early : HasCleanDisk put = omega (arith, c.drop_acts.ensures.survives.clean) in
     let puts : Makes (with_put the.Journey (name_key order) (journey_columns order (journey_of trip))) first put =
-        subst (λ journey. Makes (with_put the.Journey (name_key order) (journey_columns order journey)) first put) c.of.ensures (c.in_ok-put_journey.ensures.made early) in
+    subst (λ journey. Makes (with_put the.Journey (name_key order) (journey_columns order journey)) first put) c.of.ensures (c.in_ok-put_journey.ensures.made early) in
     let drops = c.in_ok-drop_acts.ensures.made late in
     let adds : Makes (with_rows the.Act (rows_of_acts (act_rows order trip))) gone last =
-        subst (λ acts. Makes (with_rows the.Act (rows_of_acts (act_rows_from order 0 acts))) gone last) c.as_slice.ensures (c.in_ok-add_acts.ensures.made clean drops.mode) in
+    subst (λ acts. Makes (with_rows the.Act (rows_of_acts (act_rows_from order 0 acts))) gone last) c.as_slice.ensures (c.in_ok-add_acts.ensures.made clean drops.mode) in
     let replaced = makes_then (with_put the.Journey (name_key order) (journey_columns order (journey_of trip))) (without_acts order) first put gone puts drops in
     makes_then (λ lists. without_acts order (with_put the.Journey (name_key order) (journey_columns order (journey_of trip)) lists)) (with_rows the.Act (rows_of_acts (act_rows order trip)))
     first gone last replaced adds
