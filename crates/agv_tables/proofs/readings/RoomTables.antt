@@ -157,6 +157,11 @@ module _ (rooms : Rooms) where
   )
 
 -- the rooms of these vehicles are of vehicles
-pub all_of_vehicles : (vehicles : Vehicles) → are_of_vehicles vehicles (capacities_of vehicles) ≡ true
+all_of_vehicles : (vehicles : Vehicles) → are_of_vehicles vehicles (capacities_of vehicles) ≡ true
 all_of_vehicles vehicles =
     all-entries key_cmp-total key_cmp-IsAntisymmetric (λ (e : VehicleKey × CapacityRow). is_some (finite.get vehicles e.0)) (capacities_of vehicles) (λ key room at. ap is_some (vehicle_of vehicles key room at).1)
+
+pub none_left_over : (world : Vehicles) (vehicles : Vehicles) (rooms : Rooms) → vehicles ≡ world → rooms ≡ capacities_of world → ¬ (are_of_vehicles vehicles rooms ≡ false)
+none_left_over world vehicles rooms same are some =
+    let wrong : true ≡ false = sym (all_of_vehicles world) ∙ (λ i. are_of_vehicles (sym same i) (sym are i)) ∙ some in
+    cc wrong

@@ -1,5 +1,7 @@
 -- What all rows of journeys and acts answer, in a lawful world, and which rows trips have that were told.
-use Rattle.std.proofs.Common.{◌≡◌, ◌↔◌, ℕ, List, [], Option, Some, Result, IsPermutation, sym, ap, subst, ◌∙◌}
+use Rattle.std.proofs.Common.{◌≡◌, ◌↔◌, ℕ, nat_eq, true, false, List, [], length, Option, Some, Result, IsPermutation, sym, ap, subst, ◌∙◌}
+use Rattle.std.proofs.lemmas.Bool.{eqb-true}
+use Rattle.std.proofs.lemmas.List.Sorted.{length_permutation}
 use Rattle.std.specs.Cmp.Lexicographic.{nat_list_cmp_total}
 use Rattle.std.specs.FinMap as finite
 use Rattle.sqlite_value.specs.Order.{Row}
@@ -25,7 +27,7 @@ use Rattle.agv_tables.specs.declared.schema.table_name.TableName.TheVariants as 
 use Rattle.agv_tables.proofs.queries.Asking.{Follows}
 use Rattle.agv_tables.proofs.rows.ColumnsKept.{act_kept, journey_kept}
 use Rattle.agv_tables.proofs.rows.ListsFollow.{names_apart}
-use Rattle.agv_tables.proofs.readings.TableReading.{reads_all, reads_it}
+use Rattle.agv_tables.proofs.readings.TableReading.{none_left, reads_all, reads_it}
 
 -- ---- all rows of a lawful world
 
@@ -53,10 +55,13 @@ module _ (world : World) (rows : List Row) where
       reads_it acts r (read_rows act_in finite.empty rows) read
       (reads_all leg_cmp-total leg_cmp-IsAntisymmetric acts act_columns act_in (λ key act at. let its = values key act at in act_kept key act its.0 its.1) rows shown)
 
-  -- the table of the first schema's trips has none
-  pub tells_no_trips : IsPermutation (all_rows_of the.Trip (row_lists (rows_of world))) rows → IsPermutation [] rows
+  -- no open trip is in the table of the first schema's
+  pub tells_no_trips : IsPermutation (all_rows_of the.Trip (row_lists (rows_of world))) rows → ¬ (nat_eq (length rows) 0 ≡ false)
   unfolding row_lists
-  tells_no_trips shown = shown
+  tells_no_trips shown some = let wrong : true ≡ false = ap (λ n. nat_eq n 0) (sym (length_permutation [] rows shown)) ∙ some in cc wrong
+
+pub none_shown : (asked rows : List Row) → nat_eq (length rows) 0 ≡ true → IsPermutation asked rows → asked ≡ []
+none_shown asked rows none shown = none_left asked (sym (length_permutation asked rows shown) ∙ eqb-true (length rows) 0 none)
 
 -- ---- the trips that are told
 

@@ -1,13 +1,14 @@
-use Rattle.std.proofs.Common.{◌∙◌, Err, Ok, ap, subst, sym}
+use Rattle.std.proofs.Common.{◌∙◌, Err, Ok, subst, sym}
 use Rattle.std.proofs.lemmas.Option.{same_Some}
 use Rattle.std.specs.FinMap as map
 use Rattle.agv_header.specs.Key.{key_cmp}
 use Rattle.agv_world.specs.Rows.{rows_of}
 use Rattle.agv_world.specs.declared.row.VehicleRow.{VehicleRow}
 use Rattle.agv_tables.specs.rows.DecodedTrips.{vehicle_with}
-use Rattle.agv_tables.specs.readings.ReadTables.{Reads, are_of_vehicles, read_rows}
+use Rattle.agv_tables.specs.readings.ReadTables.{Reads, read_rows}
+use Rattle.agv_tables.specs.declared.queries.reading_fault.ReadingFault.TheVariants as fault
 use Rattle.agv_tables.proofs.readings.AskingAll.{all_passes, all_then_follows, all_then_passes, if_err}
-use Rattle.agv_tables.proofs.readings.RoomTables.{all_of_vehicles, vehicles_shown}
+use Rattle.agv_tables.proofs.readings.RoomTables.{none_left_over, vehicles_shown}
 use Rattle.agv_tables.proofs.readings.TableAnswers.{reads_vehicles}
 use Rattle.agv_tables.proofs.readings.TableReading.{reads_fails}
 use Rattle.agv_tables.proofs.readings.table_reading.query_vehicles.Goals as goal
@@ -40,5 +41,13 @@ returns-then-are_of_vehicles g c =
     (λ world lawful one two. same_Some vehicles (rows_of world).vehicles (sym read ∙ reads_vehicles world lawful c.in_ok-rows.rows.items rooms one two))
     (λ lists one two. vehicles_shown rooms vehicles c.in_ok-rows.rows.items _ _ read (sym c.are_of_vehicles.ensures ∙ c.if-are_of_vehicles.true) two one) c.in_ok-rows.ensures
 
-pub returns-else-are_of_vehicles : goal.returns-else-are_of_vehicles
-returns-else-are_of_vehicles g c = ?
+pub returns : goal.returns
+returns g c =
+    let rooms = c.in_ok-capacities.capacities in
+    let vehicles = c.in_ok-vehicles.vehicles in
+    let read = subst (λ rows. Reads {A = map.FinMap key_cmp VehicleRow} (Ok vehicles) (read_rows (vehicle_with rooms) map.empty rows)) c.as_slice.ensures.value c.in_ok-vehicles.ensures in
+    all_then_follows g.S.Store c.args.conn.now c.query_capacities.new.conn c.query_all_rows.new.conn rooms _ _ c.in_ok-capacities.ensures
+    c.in_ok-rows.rows _ _ _ _ (Err fault.Damaged)
+    (λ world lawful one two.
+    none_left_over (rows_of world).vehicles vehicles rooms (same_Some vehicles (rows_of world).vehicles (sym read ∙ reads_vehicles world lawful c.in_ok-rows.rows.items rooms one two)) one (sym c.are_of_vehicles.ensures ∙ c.if-are_of_vehicles.false))
+    (λ lists one two. tt) c.in_ok-rows.ensures
