@@ -171,8 +171,11 @@ module _ (first : Placing) (old mid : Database) (added : AreAdded first old mid)
   second_holds lists h = record {
     schema_is = refl;
     rows = zipped_more (λ name rows. HaveRows (width_of name) (mid.trees (second.tree name)) rows) first_names (the.Capacity ∷ the.Journey ∷ the.Act ∷ []) lists ([] ∷ [] ∷ [] ∷ [])
-        (first_rows_stay first_names (refl, (refl, (refl, (refl, (refl, (refl, (refl, (refl, (refl, (refl, (refl, tt))))))))))) lists h.rows)
-        (have_rows 3 (mid.trees (second.tree the.Capacity)) [] tt added.made.stand.0.rows_are,
-          (have_rows 9 (mid.trees (second.tree the.Journey)) [] tt added.made.stand.1.0.rows_are,
-            (have_rows 6 (mid.trees (second.tree the.Act)) [] tt added.made.stand.1.1.0.rows_are, tt)));
+        (first_rows_stay first_names (refl, (refl, (refl, (refl, (refl, (refl, (refl, (refl, (refl, (refl, (refl, tt))))))))))) lists h.rows) (
+          have_rows 3 (mid.trees (second.tree the.Capacity)) [] tt added.made.stand.0.rows_are,
+          (
+            have_rows 9 (mid.trees (second.tree the.Journey)) [] tt added.made.stand.1.0.rows_are,
+            (have_rows 6 (mid.trees (second.tree the.Act)) [] tt added.made.stand.1.1.0.rows_are, tt),
+          ),
+        );
   }

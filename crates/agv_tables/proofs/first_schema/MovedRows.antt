@@ -78,9 +78,9 @@ module _ (meta nodes edges stations vehicles trips legs loads jobs holds used : 
       ap (for_each with_journey es) (acts_added (acts e) a (journey e ∷ b) c) ∙ trips_added es a (journey e ∷ b) (onto (acts e) c)
       ∙ ap (beside a (onto (map journey (e ∷ es)) b)) (sym (onto_more (acts e) (flat_map acts es) c))
 
-  all_added : (rooms : List (VehicleKey × VehicleRow)) (trips : List (List ℕ × TripRow))
-      → for_each with_journey trips (for_each with_room rooms (beside [] [] [])) ≡ beside (onto (map room rooms) []) (onto (map journey trips) []) (onto (flat_map acts trips) [])
-  all_added rooms trips = ap (for_each with_journey trips) (rooms_added rooms [] [] []) ∙ trips_added trips (onto (map room rooms) []) [] []
+  all_added : (rooms : List (VehicleKey × VehicleRow)) (opened : List (List ℕ × TripRow))
+      → for_each with_journey opened (for_each with_room rooms (beside [] [] [])) ≡ beside (onto (map room rooms) []) (onto (map journey opened) []) (onto (flat_map acts opened) [])
+  all_added rooms opened = ap (for_each with_journey opened) (rooms_added rooms [] [] []) ∙ trips_added opened (onto (map room rooms) []) [] []
 
 -- ---- the tables of journeys and acts
 
@@ -116,27 +116,21 @@ moved_alike journeys listed tables world keeps =
     let rows = rows_of world in
     let vehicles = finite.entries tables.vehicles in
     let trips = finite.entries tables.trips in
+    let rooms_are : IsPermutation (onto (map room vehicles) []) (rows_in room_columns rows.vehicles) =
+    subst (λ (m : finite.FinMap key_cmp VehicleRow). IsPermutation (onto (map room vehicles) []) (rows_in room_columns m)) keeps.vehicles (onto_nothing (map room vehicles)) in
+    let journeys_moved : IsPermutation (onto (map journey trips) []) (rows_in journey_columns (journeys_of rows.trips)) =
+    subst (λ (m : finite.FinMap name_cmp TripRow). IsPermutation (onto (map journey trips) []) (rows_in journey_columns (journeys_of m))) keeps.trips
+    (subst (IsPermutation (onto (map journey trips) [])) (journeys_are journeys tables.trips) (onto_nothing (map journey trips))) in
+    let acts_moved : IsPermutation (onto (flat_map acts trips) []) (rows_in act_columns (acts_of rows.trips)) =
+    subst (λ (m : finite.FinMap name_cmp TripRow). IsPermutation (onto (flat_map acts trips) []) (rows_in act_columns (acts_of m))) keeps.trips
+    (subst (IsPermutation (onto (flat_map acts trips) [])) (acts_are listed tables.trips) (onto_nothing (flat_map acts trips))) in
+    let number : IsPermutation (meta_columns 1 schema_number ∷ []) (rows_in meta_columns rows.meta) =
+    subst (IsPermutation (meta_columns 1 schema_number ∷ [])) (sym (number_is world)) (IsPermutation-refl _) in
+    let same : (l : List Row) → IsPermutation l l = λ l. IsPermutation-refl l in
     subst (λ lists. AreAlike lists (row_lists rows))
     (sym (all_added (meta_columns 1 schema_number ∷ []) (rows_for node_columns rows.nodes) (rows_in edge_columns rows.edges) (rows_in station_columns rows.stations) (rows_in vehicle_columns rows.vehicles) []
-        (rows_in leg_columns rows.legs) (rows_in load_columns rows.loads) (rows_in job_columns rows.jobs) (rows_in hold_columns rows.holds) (rows_for used_columns rows.used) vehicles trips)) (
-      subst (IsPermutation (meta_columns 1 schema_number ∷ [])) (sym (number_is world)) (IsPermutation-refl _),
-      IsPermutation-refl _,
-      IsPermutation-refl _,
-      IsPermutation-refl _,
-      IsPermutation-refl _,
-      IsPermutation-refl _,
-      IsPermutation-refl _,
-      IsPermutation-refl _,
-      IsPermutation-refl _,
-      IsPermutation-refl _,
-      IsPermutation-refl _,
-      subst (λ (m : finite.FinMap key_cmp VehicleRow). IsPermutation (onto (map room vehicles) []) (rows_in room_columns m)) keeps.vehicles (onto_nothing (map room vehicles)),
-      subst (λ (m : finite.FinMap name_cmp TripRow). IsPermutation (onto (map journey trips) []) (rows_in journey_columns (journeys_of m))) keeps.trips
-      (subst (IsPermutation (onto (map journey trips) [])) (journeys_are journeys tables.trips) (onto_nothing (map journey trips))),
-      subst (λ (m : finite.FinMap name_cmp TripRow). IsPermutation (onto (flat_map acts trips) []) (rows_in act_columns (acts_of m))) keeps.trips
-      (subst (IsPermutation (onto (flat_map acts trips) [])) (acts_are listed tables.trips) (onto_nothing (flat_map acts trips))),
-      tt,
-    )
+    (rows_in leg_columns rows.legs) (rows_in load_columns rows.loads) (rows_in job_columns rows.jobs) (rows_in hold_columns rows.holds) (rows_for used_columns rows.used) vehicles trips))
+    (number, (same _, (same _, (same _, (same _, (same _, (same _, (same _, (same _, (same _, (same _, (rooms_are, (journeys_moved, (acts_moved, tt))))))))))))))
 
 -- ---- more seats
 

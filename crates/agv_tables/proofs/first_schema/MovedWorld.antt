@@ -66,13 +66,13 @@ module _ (first : Placing) (old mid : Database) (is : IsFirstDesk first) (has : 
     | inr other ↦ can.unreferred name other
   ]
 
-  rooms : (name : TableName) → LeaveRoom (table_for name).name mid.schema.tables
+  pub rooms : (name : TableName) → LeaveRoom (table_for name).name mid.schema.tables
   rooms name =
       subst (λ (s : Schema). LeaveRoom (table_for name).name s.tables) (sym made.schema_is)
       (tables_leave (table_for name).name old.schema added_tables (refl, (refl, (refl, tt)))
       (record { unreferred = unreferred name; apart = subst (λ (s : Schema). IsAscending (λ (a b : Table). a.tree ≢ b.tree) s.tables) (sym has) is.apart }))
 
-  pub are_added : AreAdded first old mid
+  abbrev pub are_added : AreAdded first old mid
   are_added = record { is = is; has = has; made = made; rooms = rooms }
 
   -- no table that was there has the tree of one of the three

@@ -1,19 +1,12 @@
 -- Rows that are written for each entry of a table, in turn.
-use Rattle.std.proofs.Common.{◌≡◌, ◌∙◌, ◌++◌, List, [], ◌∷◌, append_assoc, append-nil, Result, Ok, Err, OnOk, IsTrue, refl, sym, ap, subst}
+use Rattle.std.proofs.Common.{◌≡◌, ◌∙◌, ◌++◌, List, [], ◌∷◌, append_assoc, append-nil, Result, Ok, Err, OnOk, IsTrue, refl, sym, ap, subst, arith}
 use Rattle.sqlite_value.specs.Order.{Row}
-use Rattle.sqlite.specs.State.{State}
+use Rattle.sqlite_trees.specs.Tree.{Trees}
+use Rattle.sqlite.specs.State.{HasCleanDisk, State, Survives}
 use Rattle.agv_tables.specs.first_schema.Moved.{for_each}
 use Rattle.agv_tables.specs.rows.DeskRows.{Makes}
-use Rattle.agv_tables.proofs.statements.DeskStatements.{keeps_others_as_is, makes_then}
-
-pub makes_nothing : (a : State) → IsTrue a.in_transaction → Makes (λ lists. lists) a a
-makes_nothing a inside = record {
-  made = λ desk is lists h. h;
-  others = λ desk is has. keeps_others_as_is desk a.now;
-  listed = λ desk is has whole. whole;
-  kept = refl;
-  mode = inside;
-}
+use Rattle.agv_tables.proofs.changes.ChangesRun.{makes_nothing}
+use Rattle.agv_tables.proofs.statements.DeskStatements.{makes_then}
 
 module _ {E : Type 0} (step : E → List (List Row) → List (List Row)) where
   each_more : (es : List E) (one : E) (lists : List (List Row)) → for_each step (es ++ one ∷ []) lists ≡ step one (for_each step es lists)
@@ -45,3 +38,7 @@ module _ {E : Type 0} (step : E → List (List Row) → List (List Row)) where
 pub then_made : {X E : Type 0} (f g : List (List Row) → List (List Row)) (a b c : State) (r : Result X E) → Makes f a b → OnOk r (Makes g b c) → OnOk r (Makes (λ lists. g (f lists)) a c)
 then_made f g a b c (Ok x) p q = makes_then f g a b c p q
 then_made f g a b c (Err e) p q = tt
+
+-- a state before another of a clean store was clean
+pub was_clean : (a b : State) (leaves : Trees → Type 0) → Survives a b leaves → HasCleanDisk b → HasCleanDisk a
+was_clean a b leaves survives clean = omega (arith, survives.clean)

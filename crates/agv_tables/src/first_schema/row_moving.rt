@@ -138,7 +138,7 @@ fn add_trip<S: Alter>(
         → OnOk result (Makes (with_journey (order.now, trip.now)) (state S.Store tx.old.conn.now) (state S.Store tx.new.conn.now)) }
 {
     add_journey(tx, order, &JourneyRow::of(trip))?;
-    add_acts(tx, *order, 0, trip.acts.as_slice())
+    add_acts(tx, order, trip.acts.as_slice())
 }
 
 // Adds the journey and the acts of each open trip.
@@ -156,10 +156,7 @@ fn add_trips<S: Alter>(tx: &mut Transaction<'_, S>, trips: &ByName<TripRow>) -> 
 }
 
 /// The open trips stand as journeys and acts, each vehicle has a row of its room, and the number of the schema is that of this one.
-pub(crate) fn move_rows<S: Alter>(
-    tx: &mut Transaction<'_, S>,
-    tables: &World,
-) -> Result<(), Error>
+pub(crate) fn move_rows<S: Alter>(tx: &mut Transaction<'_, S>, tables: &World) -> Result<(), Error>
     ensures same_reference { tx.new.conn.ghost_name ≡ tx.old.conn.ghost_name }
     ensures survives { Survives (state S.Store tx.old.conn.now) (state S.Store tx.new.conn.now) (λ _. ⊥) }
     ensures kept { HasCleanDisk (state S.Store tx.new.conn.now) → KeepsCommit (state S.Store tx.old.conn.now) (state S.Store tx.new.conn.now) }

@@ -15,6 +15,7 @@ use crate::schema::desk_tables::is_any_used;
 use crate::schema::step_running::run_text;
 use crate::schema::table_room::are_unreferred;
 use crate::schema::table_texts::{ACT, CAPACITY, JOURNEY};
+use agv_trip_rows::row_laws::rows_have_keys;
 use agv_world::World;
 use sqlite::{Alter, Connection, Error, Transaction};
 use sqlite_schema::schema::Schema;
@@ -56,6 +57,7 @@ fn run_move<S: Alter>(conn: &mut Connection<S>, tables: &World) -> Result<(), Er
     ensures crash { Survives (state S.Store conn.old) (state S.Store conn.new) (LeavesMoved tables.now (state S.Store conn.old).now) }
     ensures idle { conn.new.in_transaction ≡ false }
 {
+    rows_have_keys();
     let mut tx = conn.transaction();
     add_tables(&mut tx)?;
     move_rows(&mut tx, tables)?;

@@ -1,7 +1,6 @@
 use Rattle.std.proofs.Common.{◌≡◌, ◌∙◌, false, sym}
 use Rattle.agv_tables.specs.first_schema.Moved.{is_added_name_taken}
 use Rattle.agv_tables.proofs.first_schema.AddingSteps.{are_unreferred, told}
-use Rattle.agv_tables.proofs.first_schema.MovedWorld.{moved}
 use Rattle.agv_tables.proofs.first_schema.table_moving.can_be_added.Goals as goal
 
 pub returns-then-not-is_any_used : goal.returns-then-not-is_any_used
