@@ -1,6 +1,14 @@
 pub mod AddedTables
+pub mod AddingSteps
+pub mod CarriedSingly
+pub mod Found
+pub mod ListsRead
 pub mod MovedRows
+pub mod MovedWorld
 pub mod MovingEach
 pub mod MovingStatements
-pub mod MovedWorld
-pub mod AddingSteps
+pub mod NoList
+pub mod TablesStanding
+pub mod TripLineLemmas
+pub mod TripRows
+pub mod WorldTold
