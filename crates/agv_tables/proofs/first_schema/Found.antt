@@ -86,6 +86,7 @@ module _ {S : Type 0} (g : Ghosts S) where
     no_memory_before (Err made) is = record {
       told = λ _. tt;
       damaged = λ _ damaged. let wrong = sym is ∙ damaged in absurd (cc wrong);
+      caused = λ _ stored. let wrong = sym is ∙ stored in absurd (cc wrong);
       kept = λ _. tt;
       failed = λ _. inl refl;
       idle = λ was. was;
@@ -97,6 +98,7 @@ module _ {S : Type 0} (g : Ghosts S) where
     tables_missing stand isnt so = record {
       told = λ _. tt;
       damaged = λ _ _ desk world has. both_ways stand isnt (so.1 (desk, has.stands, has.rows.schema_is));
+      caused = λ _ wrong. absurd (cc wrong);
       kept = λ _. tt;
       failed = λ _. inl refl;
       idle = λ was. was;
@@ -105,12 +107,13 @@ module _ {S : Type 0} (g : Ghosts S) where
 
   -- ---- the rows weren't read
 
-  pub reading_fails : (old new : Held S) (r : Result Tables ReadingFault) (why : ReadingFault) → IsErrAnd r (λ made. made ≡ why) → ReadsLists g old new first_names (Err why) → FindsFirst g old new r
-  reading_fails old new (Ok tables) why is reads = absurd is
-  reading_fails old new (Err made) why is reads = record {
+  pub reading_fails : (old new : Held S) (r : Result Tables ReadingFault) (why : ReadingFault) → IsErrAnd r (λ made. made ≡ why) → FirstTablesStand (state g old).now.schema → ReadsLists g old new first_names (Err why) → FindsFirst g old new r
+  reading_fails old new (Ok tables) why is stand reads = absurd is
+  reading_fails old new (Err made) why is stand reads = record {
     told = λ _. tt;
     damaged = λ clean damaged desk world has.
         reads.damaged clean (sym is ∙ damaged) desk (stand_apart desk has.stands) has.rows.schema_is (are_keyed desk (state g old).now first_names (first_lists (rows_of world)) has.rows.rows);
+    caused = λ clean stored. reads.caused clean (sym is ∙ stored) stand.0 (stand_apart stand.0 stand.1) stand.2;
     kept = λ _. tt;
     failed = λ clean. inr (reads.failed clean);
     idle = reads.idle;
@@ -126,11 +129,12 @@ module _ {S : Type 0} (g : Ghosts S) where
         tell world lists has.lawful
         (are_alike desk (state g old).now first_names (first_lists (rows_of world)) lists has.rows.rows (reads.told clean desk (stand_apart desk has.stands) has.rows.schema_is))
 
-    ends : (r : Result Tables ReadingFault) (why : ReadingFault) → IsErrAnd r (λ made. made ≡ why) → (HasCleanDisk (state g new) → why ≡ fault.Damaged → HasNoFirstWorld (state g old).now) → FindsFirst g old new r
-    ends (Ok tables) why is none = absurd is
-    ends (Err made) why is none = record {
+    ends : (r : Result Tables ReadingFault) (why : ReadingFault) → IsErrAnd r (λ made. made ≡ why) → ¬ (why ≡ fault.Storage) → (HasCleanDisk (state g new) → why ≡ fault.Damaged → HasNoFirstWorld (state g old).now) → FindsFirst g old new r
+    ends (Ok tables) why is sound none = absurd is
+    ends (Err made) why is sound none = record {
       told = λ _. tt;
       damaged = λ clean damaged. none clean (sym is ∙ damaged);
+      caused = λ _ stored. absurd (sound (sym is ∙ stored));
       kept = λ _. tt;
       failed = λ clean. inr (inl (reads.kept clean));
       idle = reads.idle;
@@ -138,19 +142,19 @@ module _ {S : Type 0} (g : Ghosts S) where
     }
 
     pub no_memory : (r : Result Tables ReadingFault) → IsErrAnd r (λ made. made ≡ fault.Memory) → FindsFirst g old new r
-    no_memory r is = ends r fault.Memory is (λ clean wrong. absurd (cc wrong))
+    no_memory r is = ends r fault.Memory is (λ wrong. cc wrong) (λ clean wrong. absurd (cc wrong))
 
     -- they tell no tables
     pub telling_fails : (r : Result Tables ReadingFault) (why : ReadingFault) → IsErrAnd r (λ made. made ≡ why) → Finds {A = Tables × Holders} (Err why) (λ read. TellFirst lists read.0 read.1) → FindsFirst g old new r
     telling_fails r why is found =
-        ends r why is
+        ends r why is (λ stored. subst (λ (w : ReadingFault). Finds {A = Tables × Holders} (Err w) (λ read. TellFirst lists read.0 read.1)) stored found)
         (λ clean damaged desk world has. subst (λ (w : ReadingFault). Finds {A = Tables × Holders} (Err w) (λ read. TellFirst lists read.0 read.1)) damaged found (tables_of (rows_of world), (rows_of world).holds) (tells_it clean desk world has))
 
     module _ (tables : Tables) (held : HeldThings) (told : TellFirst lists tables held.table) where
       -- they tell the tables of no such world
       pub not_first : (are : Bool) → are ≡ false → (are ≡ true) ↔ AreFirst tables held → FindsFirst g old new (Err fault.Damaged)
       not_first are isnt so =
-          ends (Err fault.Damaged) fault.Damaged refl
+          ends (Err fault.Damaged) fault.Damaged refl (λ wrong. cc wrong)
           (λ clean _ desk world has. let same = one_told lists tables held.table world told (tells_it clean desk world has) in both_ways are isnt (so.1 (world, same.0, has.lawful, same.1)))
 
       -- they tell those of one
@@ -168,6 +172,7 @@ module _ {S : Type 0} (g : Ghosts S) where
             } in
             (at, world, has, are.1);
         damaged = λ _. tt;
+        caused = λ _. tt;
         kept = reads.kept;
         failed = λ _. tt;
         idle = reads.idle;

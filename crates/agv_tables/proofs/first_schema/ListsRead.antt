@@ -15,11 +15,13 @@ use Rattle.agv_tables.specs.first_schema.FirstFound.{ReadsLists, StaysBy, all_li
 use Rattle.agv_tables.specs.queries.ReadingFault.{reading_fault_of}
 use Rattle.agv_tables.specs.readings.Rowids.{AreTablesKeyed, TellsKeyedAlone}
 use Rattle.agv_tables.specs.rows.DeskRows.{AnswersAlone, HaveRows, Placing, StandApart, columns_in, width_of}
-use Rattle.agv_tables.specs.sql.Errors.{is_of_store}
+use Rattle.agv_tables.specs.sql.Connections.{HasStorageCause}
+use Rattle.agv_tables.specs.sql.Errors.{IsOfStore, is_of_store}
 use Rattle.agv_tables.specs.declared.queries.reading_fault.ReadingFault.{ReadingFault}
 use Rattle.agv_tables.specs.declared.queries.reading_fault.ReadingFault.TheVariants as fault
 use Rattle.agv_tables.specs.declared.schema.table_name.TableName.{TableName}
-use Rattle.agv_tables.proofs.queries.Asking.{sound_of}
+use Rattle.agv_tables.proofs.queries.Asking.{sound_of, storage_of}
+use Rattle.agv_tables.proofs.sql.Later.{fault_later, later_by}
 use Rattle.agv_tables.proofs.sql.StatesThen.{failed_then, unchanged_then}
 
 -- an error of one table, and of several, as an error of lists
@@ -44,12 +46,6 @@ stays_then g [] a b c one same = subst (λ (held : Held _). IsUnchanged (state g
 stays_then g (name ∷ names) a b c one two = unchanged_then (state g a) (state g b) (state g c) one two
 
 module _ {S : Type 0} (g : Ghosts S) where
-  -- ---- an error that is passed on
-
-  pub reads_passes : (old new : Held S) (names : List TableName) (r : Result (List (List Row)) ReadingFault) (why : ReadingFault) → IsErrAnd r (λ made. made ≡ why) → ReadsLists g old new names (Err why) → ReadsLists g old new names r
-  reads_passes old new names (Ok lists) why is reads = absurd is
-  reads_passes old new names (Err made) why is reads = subst (λ (w : ReadingFault). ReadsLists g old new names (Err w)) (sym is) reads
-
   -- memory ran out after all was read
   pub reads_short : (old new : Held S) (name : TableName) (others : List TableName) (lists : List (List Row)) (r : Result (List (List Row)) ReadingFault) → IsErrAnd r (λ made. made ≡ fault.Memory)
       → ReadsLists g old new (name ∷ others) (Ok lists) → ReadsLists g old new (name ∷ others) r
@@ -57,6 +53,7 @@ module _ {S : Type 0} (g : Ghosts S) where
   reads_short old new name others lists (Err made) is reads = record {
     told = λ _. tt;
     damaged = λ clean damaged. let wrong = sym is ∙ damaged in absurd (cc wrong);
+    caused = λ clean stored. let wrong = sym is ∙ stored in absurd (cc wrong);
     kept = λ _. tt;
     failed = λ clean. inl (reads.kept clean);
     idle = reads.idle;
@@ -72,6 +69,7 @@ module _ {S : Type 0} (g : Ghosts S) where
     numbers_fail (Err made) why is keyed = record {
       told = λ _. tt;
       damaged = λ clean damaged. absurd (keyed.sound (let same = sym is ∙ damaged in λ i. Err (same i)));
+      caused = λ clean stored. keyed.caused clean (sym is ∙ stored);
       kept = λ _. tt;
       failed = keyed.failed;
       idle = keyed.idle;
@@ -83,6 +81,7 @@ module _ {S : Type 0} (g : Ghosts S) where
     unnumbered b isnt keyed = record {
       told = λ _. tt;
       damaged = λ clean _ desk stand has all. both_ways b isnt ((keyed.told clean desk stand has).1 all);
+      caused = λ clean wrong. absurd (cc wrong);
       kept = λ _. tt;
       failed = λ clean. inl (keyed.kept clean);
       idle = keyed.idle;
@@ -98,11 +97,15 @@ module _ {S : Type 0} (g : Ghosts S) where
 
       -- the rows weren't shown
       pub rows_fail : (r : Result (List (List Row)) ReadingFault) (e : Error) → IsErrAnd r (λ made. made ≡ reading_fault_of e)
-          → (HasCleanDisk (state g new) → IsUnchanged (state g mid) (state g new) ⊎ IsRolledBack (state g mid) (state g new)) → ReadsLists g old new (name ∷ []) r
-      rows_fail (Ok lists) e is failed = absurd is
-      rows_fail (Err made) e is failed = record {
+          → (HasCleanDisk (state g new) → IsUnchanged (state g mid) (state g new) ⊎ IsRolledBack (state g mid) (state g new))
+          → (HasCleanDisk (state g new) → IsOfStore e → (desk : Placing) → StandApart desk (name ∷ []) → (state g mid).now.schema ≡ desk.schema → HasStorageCause g mid new) → ReadsLists g old new (name ∷ []) r
+      rows_fail (Ok lists) e is failed why = absurd is
+      rows_fail (Err made) e is failed why = record {
         told = λ _. tt;
         damaged = λ clean damaged. absurd (sound_of (is_of_store e) (sym is ∙ damaged));
+        caused = λ clean stored desk stand has.
+            fault_later g old mid new (later_by g old mid keyed.survives) (later_by g mid new survives) clean
+            (why clean (storage_of (is_of_store e) (sym is ∙ stored)) desk stand (subst (λ (db : Database). db.schema ≡ desk.schema) (sym (keyed.kept (earlier clean)).0.now_is) has));
         kept = λ _. tt;
         failed = λ clean. failed_then (state g old) (state g mid) (state g new) (keyed.kept (earlier clean)) (failed clean);
         idle = λ was. idle (keyed.idle was);
@@ -120,6 +123,7 @@ module _ {S : Type 0} (g : Ghosts S) where
             let at_mid : HaveRows (width_of name) ((state g mid).now.trees (desk.tree name)) all = subst (λ (db : Database). HaveRows (width_of name) (db.trees (desk.tree name)) all) (sym same) (there, IsPermutation-refl all) in
             ((there, IsPermutation-sym _ _ (shown clean desk stand (subst (λ (db : Database). db.schema ≡ desk.schema) (sym same) has) all at_mid)), tt);
         damaged = λ _. tt;
+        caused = λ _. tt;
         kept = λ clean. unchanged_then (state g old) (state g mid) (state g new) (keyed.kept (earlier clean)) (kept clean);
         failed = λ _. tt;
         idle = λ was. idle (keyed.idle was);
@@ -127,17 +131,6 @@ module _ {S : Type 0} (g : Ghosts S) where
       }
 
   -- ---- several in turn
-
-  -- no table
-  pub reads_none : (held : Held S) → ReadsLists g held held [] (Ok [])
-  reads_none held = record {
-    told = λ _ desk stand has. tt;
-    damaged = λ _. tt;
-    kept = λ _. refl;
-    failed = λ _. tt;
-    idle = λ was. was;
-    survives = record { clean = omega arith; shield = λ is. is; counts = omega arith; limit = refl; closes = λ _ still. inl still; crash = λ _ db may. inl may };
-  }
 
   -- one table, and then the others
   module _ (old mid new : Held S) (name : TableName) (others : List TableName) (rows : List Row) (first : ReadsLists g old mid (name ∷ []) (Ok (rows ∷ []))) where
@@ -161,6 +154,7 @@ module _ {S : Type 0} (g : Ghosts S) where
           let more = next.told clean desk (the_others desk name others stand) (moved (Ok lists) next clean desk has) in
           (one.0, subst (λ (db : Database). AllZip (λ name rows. HaveRows (width_of name) (db.trees (desk.tree name)) rows) others lists) (same_now (Ok lists) next clean) more);
       damaged = λ _. tt;
+      caused = λ _. tt;
       kept = λ clean. stays_then g others old mid new (first.kept (before (Ok lists) next clean)) (next.kept clean);
       failed = λ _. tt;
       idle = λ was. next.idle (first.idle was);
@@ -174,6 +168,9 @@ module _ {S : Type 0} (g : Ghosts S) where
       damaged = λ clean damaged desk stand has all.
           next.damaged clean (sym is ∙ damaged) desk (the_others desk name others stand) (moved (Err why) next clean desk has)
           (subst (λ (db : Database). AreTablesKeyed desk db others) (sym (same_now (Err why) next clean)) all.1);
+      caused = λ clean stored desk stand has.
+          fault_later g old mid new (later_by g old mid first.survives) (later_by g mid new next.survives) clean
+          (next.caused clean (sym is ∙ stored) desk (the_others desk name others stand) (moved (Err why) next clean desk has));
       kept = λ _. tt;
       failed = λ clean. failed_then (state g old) (state g mid) (state g new) (first.kept (before (Err why) next clean)) (next.failed clean);
       idle = λ was. next.idle (first.idle was);
@@ -187,6 +184,7 @@ module _ {S : Type 0} (g : Ghosts S) where
   first_fails old mid name others (Err made) why is reads = record {
     told = λ _. tt;
     damaged = λ clean damaged desk stand has all. reads.damaged clean (sym is ∙ damaged) desk (the_first desk name others stand) has (all.0, tt);
+    caused = λ clean stored desk stand has. reads.caused clean (sym is ∙ stored) desk (the_first desk name others stand) has;
     kept = λ _. tt;
     failed = reads.failed;
     idle = reads.idle;

@@ -12,6 +12,7 @@ use Rattle.agv_world.specs.Worlds.{World}
 use Rattle.agv_world.specs.declared.world.World.{World as Tables}
 use Rattle.agv_tables.specs.rows.DeskRows.{HaveRows, Placing, StandApart, width_of}
 use Rattle.agv_tables.specs.readings.Rowids.{AreTablesKeyed}
+use Rattle.agv_tables.specs.sql.Connections.{HasStorageCause}
 use Rattle.agv_tables.specs.declared.queries.reading_fault.ReadingFault.{ReadingFault}
 use Rattle.agv_tables.specs.declared.queries.reading_fault.ReadingFault.TheVariants as fault
 use Rattle.agv_tables.specs.declared.schema.table_name.TableName.{TableName}
@@ -47,6 +48,8 @@ module _ {S : Type 0} (g : Ghosts S) (old new : Held S) (names : List TableName)
     -- they are damaged where two rows of a table have one number, or a row has none
     pub damaged : HasCleanDisk (state g new) → IfErr result (λ why. why ≡ fault.Damaged → (desk : Placing) → StandApart desk names → (state g old).now.schema ≡ desk.schema
         → ¬ AreTablesKeyed desk (state g old).now names)
+    -- a fault of the store comes only where the store failed, had been shut, or limits the steps of a query
+    pub caused : HasCleanDisk (state g new) → IfErr result (λ why. why ≡ fault.Storage → (desk : Placing) → StandApart desk names → (state g old).now.schema ≡ desk.schema → HasStorageCause g old new)
     pub kept : HasCleanDisk (state g new) → OnOk result (StaysBy g names old new)
     pub failed : HasCleanDisk (state g new) → OnErr result (IsUnchanged (state g old) (state g new) ⊎ IsRolledBack (state g old) (state g new))
     pub idle : old.in_transaction ≡ false → new.in_transaction ≡ false
@@ -61,6 +64,8 @@ module _ {S : Type 0} (g : Ghosts S) (old new : Held S) (result : Result Tables 
     pub told : HasCleanDisk (state g new) → IfOk result (λ tables. (at : Placing) × (world : World) × HasFirstWorld at (state g old).now world × Keeps tables world)
     -- it is damaged where the database has the rows of no such world
     pub damaged : HasCleanDisk (state g new) → IfErr result (λ why. why ≡ fault.Damaged → HasNoFirstWorld (state g old).now)
+    -- a fault of the store comes only where the store failed, had been shut, or limits the steps of a query
+    pub caused : HasCleanDisk (state g new) → IfErr result (λ why. why ≡ fault.Storage → HasStorageCause g old new)
     -- what is found comes from an open store, and changes nothing
     pub kept : HasCleanDisk (state g new) → OnOk result (IsUnchanged (state g old) (state g new))
     -- a failure that leaves the store open changes nothing, but that it may end the transaction and so undo it

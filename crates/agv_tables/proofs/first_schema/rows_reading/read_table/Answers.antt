@@ -15,7 +15,7 @@ pub returns-in_err-rows : goal.returns-in_err-rows
 returns-in_err-rows g c =
     rows_fail g.S.Store c.args.conn.now c.query_keyed.new.conn c.args.table c.find_all_rows.new.conn c.in_ok-query_keyed.field-0 c.if-not-branch.false c.in_ok-query_keyed.ensures
     c.find_all_rows.ensures.idle c.find_all_rows.ensures.survives (one_list c.from_residual-in_err-rows.result) c.in_err-rows.field-0.0
-    (one_err _ c.from_residual-in_err-rows.result c.from_residual-in_err-rows.ensures.1) c.in_err-rows.ensures.failed
+    (one_err _ c.from_residual-in_err-rows.result c.from_residual-in_err-rows.ensures.1) c.in_err-rows.ensures.failed c.in_err-rows.ensures.caused
 
 pub returns : goal.returns
 returns g c =

@@ -17,7 +17,8 @@ returns-then-not-branch g c =
 
 pub returns-in_err-lists : goal.returns-in_err-lists
 returns-in_err-lists g c =
-    reading_fails g.S.Store c.args.conn.now c.read_first_tables.new.conn c.from_residual-in_err-lists.result c.in_err-lists.field-0.0 c.from_residual-in_err-lists.ensures.1 c.in_err-lists.ensures
+    reading_fails g.S.Store c.args.conn.now c.read_first_tables.new.conn c.from_residual-in_err-lists.result c.in_err-lists.field-0.0 c.from_residual-in_err-lists.ensures.1
+    (subst FirstTablesStand c.schema.ensures.value (c.in_ok-first_tables_stand.ensures.0 c.if-not-branch.false)) c.in_err-lists.ensures
 
 pub returns-in_err-tables : goal.returns-in_err-tables
 returns-in_err-tables g c =
