@@ -35,7 +35,7 @@ fn things_of(
 ) -> Result<Vec<Thing>, Memory>
     ensures { IfOk result (λ things. things.items ≡ things_of (world_of tables.now) (key, row.now)) }
 {
-    let mut floor = PlainFloor::new(alloc, tables, 1);
+    let mut floor = PlainFloor::new(alloc, tables, 4);
     let Ok(trip) = floor.trip(key) else {
         return Err(Memory);
     };
@@ -104,7 +104,7 @@ impl HeldThings {
     }
 
     /// Whether what is held is what the vehicles of these tables hold: each its footprint, and nothing else. It answers so
-    /// where they are the tables of a lawful world with one place on each vehicle.
+    /// where they are the tables of a lawful world with at most four places on each vehicle.
     ///
     /// `Memory` for want of memory alone. It takes time in proportion to the vehicles times what is held and what is open, and
     /// for each thing that is held it looks over the footprint of its vehicle.

@@ -14,7 +14,6 @@ use crate::ReadingFault;
 use crate::queries::queried_rows::query_all_rows;
 use crate::readings::row_tables::{acts_in_rows, journeys_in_rows};
 use crate::readings::table_reading::query_jobs;
-use crate::rows::row_list_laws::lawful_acts_are_of_jobs;
 use crate::rows::trip_laws::rows_tell_trips;
 use crate::schema::table_name::TableName;
 use agv_trip_rows::trip_laws::lawful_rows_tell_trips;
