@@ -6,8 +6,9 @@
 //! - [`held_things::HeldThings`] is what is held, and tells whether that is what the vehicles of a world hold.
 //! - The world that the tables tell is a function of the database (`specs/readings/WorldIn.antt`): `world_laws` says that it is
 //!   the lawful world whose rows they have, where they have those of one.
-//! - `table_reading` and `hold_reading` read one table each, as a query about the world (`TellsAll` of
-//!   `specs/readings/TablesRead.antt`): what is read is what the lawful world has whose rows the tables have.
+//! - `table_reading`, `trip_reading` and `hold_reading` read the tables of one thing each, as a query about the world (`TellsAll`
+//!   of `specs/readings/TablesRead.antt`): what is read is what the lawful world has whose rows the tables have. A vehicle is
+//!   read with its room for loads, and an open trip with its journey, its acts and the rows of their jobs.
 //! - `rowid_reading` asks whether each row has a number of its own (`specs/readings/Rowids.antt`).
 
 pub(crate) mod held_things;

@@ -56,10 +56,11 @@ entries-capacities_of vehicles =
     let sorted = sorted_from_rise key_cmp (finite.entries vehicles) (rise_from_sorted key_cmp (finite.entries vehicles) (finite.entries_sorted vehicles)) in
     entries-shown key_cmp-total key_cmp-IsAntisymmetric _ (subst (IsStrictlySortedBy key_cmp) (sym (keys_of-map_values room_of (finite.entries vehicles))) sorted)
 
+-- each vehicle has its room there
 pub room_known : (vehicles : Vehicles) (key : VehicleKey) (vehicle : VehicleRow) → finite.get vehicles key ≡ Some vehicle → finite.get (capacities_of vehicles) key ≡ Some (room_of vehicle)
 room_known vehicles key vehicle at = get-capacities_of vehicles key ∙ ap (option_map room_of) at
 
--- each of them is that of a vehicle
+-- and each room is that of a vehicle
 pub vehicle_of : (vehicles : Vehicles) (key : VehicleKey) (room : CapacityRow) → finite.get (capacities_of vehicles) key ≡ Some room → (vehicle : VehicleRow) × (finite.get vehicles key ≡ Some vehicle) × (room_of vehicle ≡ room)
 vehicle_of vehicles key room at =
     elim (finite.get vehicles key) as (λ (o : Option VehicleRow). finite.get vehicles key ≡ o → option_map room_of o ≡ Some room → (vehicle : VehicleRow) × (finite.get vehicles key ≡ Some vehicle) × (room_of vehicle ≡ room)) [
@@ -75,18 +76,19 @@ room_rows vehicles =
 
 -- ---- a vehicle that is told with its room
 
-with_room : Rooms → VehicleKey × VehicleRow → Option (VehicleKey × VehicleRow)
+-- the vehicle with its room, where that is known
+abbrev with_room : Rooms → VehicleKey × VehicleRow → Option (VehicleKey × VehicleRow)
 with_room rooms vehicle = if_some (finite.get rooms vehicle.0) (λ (room : CapacityRow). Some (vehicle.0, record vehicle.1 { capacity = room.capacity }))
 
 module _ (rooms : Rooms) where
   -- where its room is known
   pub told_with : (row : Row) (key : VehicleKey) (vehicle : VehicleRow) (room : CapacityRow) → vehicle_in row ≡ Some (key, vehicle) → finite.get rooms key ≡ Some room
       → vehicle_with rooms row ≡ Some (key, record vehicle { capacity = room.capacity })
-  unfolding with_room
   told_with row key vehicle room told at =
       ap (λ (o : Option (VehicleKey × VehicleRow)). if_some o (with_room rooms)) told
       ∙ ap (λ (o : Option CapacityRow). if_some o (λ (room : CapacityRow). Some (key, record vehicle { capacity = room.capacity }))) at
 
+  -- what a row has that tells one
   record IsWith (row : Row) (entry : VehicleKey × VehicleRow) : Type 0 where
     vehicle : VehicleRow
     told : vehicle_in row ≡ Some (entry.0, vehicle)
@@ -95,7 +97,7 @@ module _ (rooms : Rooms) where
 
   is_with : (row : Row) (entry : VehicleKey × VehicleRow) → vehicle_with rooms row ≡ Some entry → IsWith row entry
   is_with row entry is =
-      elim (vehicle_in row) as (λ (o : Option (VehicleKey × VehicleRow)). vehicle_in row ≡ o → if_some o (λ vehicle. if_some (finite.get rooms vehicle.0) (λ (room : CapacityRow). Some (vehicle.0, record vehicle.1 { capacity = room.capacity }))) ≡ Some entry → IsWith row entry) [
+      elim (vehicle_in row) as (λ (o : Option (VehicleKey × VehicleRow)). vehicle_in row ≡ o → if_some o (with_room rooms) ≡ Some entry → IsWith row entry) [
         | None ↦ λ _ found. absurd (cc found)
         | Some vehicle ↦ λ told. elim (finite.get rooms vehicle.0) as (λ (o : Option CapacityRow). finite.get rooms vehicle.0 ≡ o → if_some o (λ (room : CapacityRow). Some (vehicle.0, record vehicle.1 { capacity = room.capacity })) ≡ Some entry → IsWith row entry) [
           | None ↦ λ _ found. absurd (cc found)
@@ -161,6 +163,7 @@ all_of_vehicles : (vehicles : Vehicles) → are_of_vehicles vehicles (capacities
 all_of_vehicles vehicles =
     all-entries key_cmp-total key_cmp-IsAntisymmetric (λ (e : VehicleKey × CapacityRow). is_some (finite.get vehicles e.0)) (capacities_of vehicles) (λ key room at. ap is_some (vehicle_of vehicles key room at).1)
 
+-- so none is left over, where both tables are those of the same vehicles
 pub none_left_over : (world : Vehicles) (vehicles : Vehicles) (rooms : Rooms) → vehicles ≡ world → rooms ≡ capacities_of world → ¬ (are_of_vehicles vehicles rooms ≡ false)
 none_left_over world vehicles rooms same are some =
     let wrong : true ≡ false = sym (all_of_vehicles world) ∙ (λ i. are_of_vehicles (sym same i) (sym are i)) ∙ some in

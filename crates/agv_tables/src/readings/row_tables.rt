@@ -9,11 +9,11 @@ ghost use Rattle.agv_tables.specs.rows.Columns.{act_in, capacity_in, edge_in, jo
 ghost use Rattle.agv_tables.specs.rows.DecodedTrips.{vehicle_with};
 ghost use Rattle.agv_tables.specs.readings.ReadTables.{Reads, read_members, read_rows};
 
-use crate::{CapacityRow, ReadingFault};
 use crate::rows::decode_row::{
     decode_act, decode_capacity, decode_edge, decode_job, decode_journey, decode_leg, decode_load,
     decode_node, decode_station, decode_used, decode_vehicle,
 };
+use crate::{CapacityRow, ReadingFault};
 use agv_header::VehicleKey;
 use agv_layout::{EdgeEnds, StationSite};
 use agv_stock::Place;

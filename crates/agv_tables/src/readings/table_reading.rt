@@ -13,14 +13,14 @@ ghost use Rattle.agv_tables.specs.readings.ReadTables.{are_of_vehicles};
 ghost use Rattle.agv_tables.specs.readings.TablesRead.{TellsAll};
 ghost use Rattle.agv_tables.specs.declared.schema.table_name.TableName.TheVariants as the;
 
-use crate::{CapacityRow, ReadingFault};
 use crate::queries::queried_rows::query_all_rows;
 use crate::readings::row_tables::{
-    capacities_in_rows, edges_in_rows, jobs_in_rows, legs_in_rows, nodes_in_rows, stations_in_rows, take_place,
-    used_in_rows, vehicles_in_rows,
+    capacities_in_rows, edges_in_rows, jobs_in_rows, legs_in_rows, nodes_in_rows, stations_in_rows,
+    take_place, used_in_rows, vehicles_in_rows,
 };
 use crate::schema::table_name::TableName;
 use crate::statements::query_texts::all_rows;
+use crate::{CapacityRow, ReadingFault};
 use agv_layout::{EdgeEnds, StationSite};
 use agv_stock::Place;
 use agv_world::lawful_laws::is_in_good_order;

@@ -52,7 +52,7 @@ returns-in-None g c =
     c.in_ok-acts.acts _ _ _ _ (Err fault.Damaged)
     (λ world lawful before acts.
     let wrong : ◌≡◌ {A = Option (map.FinMap name_cmp TripRow)} None (Some (rows_of world).trips) =
-        sym c.in-None.is ∙ tells_trips c.in_ok-journeys.journeys c.in_ok-acts.acts c.in_ok-jobs.jobs c.in_ok-told.told c.in_ok-told.ensures world (c.lawful_rows_tell_trips.ensures.all desk_seats world lawful) before.0.1 before.1 acts in
+    sym c.in-None.is ∙ tells_trips c.in_ok-journeys.journeys c.in_ok-acts.acts c.in_ok-jobs.jobs c.in_ok-told.told c.in_ok-told.ensures world (c.lawful_rows_tell_trips.ensures.all desk_seats world lawful) before.0.1 before.1 acts in
     cc wrong)
     (λ lists before acts. tt) c.in_ok-acts.ensures
 
