@@ -11,7 +11,7 @@ use Rattle.agv_tables.specs.rows.RowLists.{listed_all, row_lists}
 use Rattle.agv_tables.proofs.schema.SchemasTold.{trees_tell_schemas}
 
 -- trees tell the database
-same_database : (old found : Database) → IsDatabase old → IsDatabase found → found.trees ≡ old.trees → found ≡ old
+pub same_database : (old found : Database) → IsDatabase old → IsDatabase found → found.trees ≡ old.trees → found ≡ old
 same_database old found listed finds same =
     let schema = trees_tell_schemas old found listed finds same in
     λ i. record { schema = schema i; trees = same i }

@@ -1,5 +1,5 @@
 -- What the move of a database from the first schema to the second makes of it.
-use Rattle.std.specs.Prelude.{◌≡◌, ◌≢◌, ℕ, Bool, true, false, List, [], ◌∷◌, map, fold, drop}
+use Rattle.std.specs.Prelude.{◌≡◌, ◌≢◌, ◌⊎◌, ℕ, Bool, true, false, List, [], ◌∷◌, map, fold, drop}
 use Rattle.std.specs.FinMap as finite
 use Rattle.std.specs.List.{AllByRecursion, list_any}
 use Rattle.sqlite_trees.specs.Tree.{Trees}
@@ -96,3 +96,9 @@ MovesTables tables old new = (first : Placing) (world : World) → HasFirstWorld
 -- what a crash may leave of it: all
 abbrev pub LeavesMoved : Tables → Database → Trees → Type 0
 LeavesMoved tables old trees = (new : Database) × MovesTables tables old new × (trees ≡ new.trees)
+
+-- after a crash of the move an opening finds the database as it was, or moved
+abbrev pub OpeningsFindEitherSchema : Type 0
+OpeningsFindEitherSchema =
+    (tables : Tables) (old found : Database) (first : Placing) (world : World) → HasFirstWorld first old world → Keeps tables world → IsDatabase old → IsDatabase found
+    → (found.trees ≡ old.trees) ⊎ LeavesMoved tables old found.trees → (found ≡ old) ⊎ MovesWorld first world old found
