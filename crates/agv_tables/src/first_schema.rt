@@ -13,7 +13,7 @@
 pub mod first_laws;
 pub mod moving_laws;
 pub(crate) mod row_moving;
-pub mod rows_reading;
+pub(crate) mod rows_reading;
 pub mod standing;
 pub mod table_moving;
 pub mod trip_line;

@@ -1,5 +1,5 @@
 -- What is read of the rows of one table, and of several in turn.
-use Rattle.std.proofs.Common.{◌≡◌, ◌⊎◌, ◌∙◌, Bool, true, false, List, [], ◌∷◌, map, Result, Ok, Err, IsTrue, IsPermutation, Vec, sym, subst, arith, inl, refl}
+use Rattle.std.proofs.Common.{◌≡◌, ◌⊎◌, ◌∙◌, Bool, true, false, List, [], ◌∷◌, map, Result, Ok, Err, Vec, sym, subst, arith, inl}
 use Rattle.std.proofs.lemmas.Bool.{both_ways}
 use Rattle.std.proofs.lemmas.List.Sorted.{IsPermutation-refl, IsPermutation-sym}
 use Rattle.std.specs.List.{AllZip}

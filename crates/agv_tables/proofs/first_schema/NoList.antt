@@ -1,5 +1,5 @@
 -- Where there is no list.
-use Rattle.std.proofs.Common.{◌≡◌, ◌≤◌, ◌<◌, ℕ, zero, suc, List, [], ◌∷◌, length, map, refl, arith}
+use Rattle.std.proofs.Common.{◌≡◌, ◌≤◌, ℕ, zero, suc, List, [], ◌∷◌, length, map, refl, arith}
 use Rattle.sqlite_value.specs.Order.{Row}
 use Rattle.agv_tables.specs.rows.DeskRows.{table_at}
 

@@ -1,5 +1,5 @@
 -- The first schema: eleven of the desk's tables, and the rows that they have of a world in which each vehicle has room for one load.
-use Rattle.std.specs.Prelude.{◌≡◌, ◌≢◌, ℕ, Bool, true, false, List, [], ◌∷◌, Option, None, Some}
+use Rattle.std.specs.Prelude.{◌≡◌, ◌≢◌, ℕ, Bool, true, false, List, [], ◌∷◌}
 use Rattle.std.specs.FinMap as finite
 use Rattle.std.specs.List.{AllZip, flat_map}
 use Rattle.sqlite_value.specs.Order.{Row}

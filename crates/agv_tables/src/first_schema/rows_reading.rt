@@ -45,7 +45,7 @@ fn read_each<S: Alter>(
 ///
 /// # Errors
 /// `Damaged` where a row has no number of its own. Else as [`ReadingFault`] says.
-pub fn read_first_tables<S: Alter>(
+pub(crate) fn read_first_tables<S: Alter>(
     alloc: Global,
     conn: &mut Connection<S>,
 ) -> Result<Vec<Vec<Row>>, ReadingFault>

@@ -1,4 +1,4 @@
-use Rattle.std.proofs.Common.{◌≡◌, ◌≤◌, ◌-◌, List, [], ◌∷◌, length, get_or, take, drop, Ok, ap, arith, subst, sym, ◌∙◌}
+use Rattle.std.proofs.Common.{◌≡◌, ◌≤◌, ◌-◌, List, [], ◌∷◌, length, get_or, take, drop, Ok, ap, arith, subst, sym}
 use Rattle.std.proofs.lemmas.List.{take_all}
 use Rattle.agv_tables.specs.first_schema.FirstFound.{ReadsLists, all_lists}
 use Rattle.agv_tables.specs.first_schema.FirstTold.{rows_listed}

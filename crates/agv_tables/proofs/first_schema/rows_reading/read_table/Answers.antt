@@ -1,4 +1,3 @@
-use Rattle.std.proofs.Common.{◌≡◌}
 use Rattle.agv_tables.specs.first_schema.FirstFound.{one_list}
 use Rattle.agv_tables.proofs.first_schema.ListsRead.{numbers_fail, one_err, rows_fail, rows_shown, unnumbered}
 use Rattle.agv_tables.proofs.first_schema.rows_reading.read_table.Goals as goal

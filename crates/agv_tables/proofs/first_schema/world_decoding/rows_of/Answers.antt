@@ -1,4 +1,4 @@
-use Rattle.std.proofs.Common.{◌≡◌, ◌≤◌, Vec, Global, length, ap, sym, subst, arith, ◌∙◌}
+use Rattle.std.proofs.Common.{◌≤◌, Vec, Global, length, sym, subst, arith}
 use Rattle.sqlite_value.specs.Order.{Row}
 use Rattle.agv_tables.specs.rows.DeskRows.{place_of}
 use Rattle.agv_tables.proofs.first_schema.NoList.{none_at}
