@@ -11,6 +11,7 @@ use Rattle.agv_tables.specs.schema.DeskTables.{LeavesDesk}
 use Rattle.agv_tables.specs.schema.NewDesk.{KnowsNothing, MadeDesksStand, StandsNew, TreesTellSchemas}
 use Rattle.agv_tables.specs.sql.Connections.{IsClean, IsOpen}
 use Rattle.agv_store.specs.Floors.{Knows, world_at}
+use Rattle.agv_store.specs.Migration.{FirstFound, LeavesMigrated}
 use Rattle.agv_store.specs.Opening.{CanBeMade}
 use Rattle.agv_store.specs.Serving.{FoundIn, LeavesCall, world_after}
 
@@ -61,3 +62,22 @@ module _ {S : Type 0} (g : Ghosts S) (schemas : TreesTellSchemas) (only_committe
     pub opened : (new : Held S) → IsClean g new → Survives (state g old) (state g new) (λ trees. CanBeMade (state g old).now.schema × LeavesDesk (state g old).now trees) → (state g new).may_leave found.trees
         → (found ≡ (state g old).now) ⊎ FoundIn found empty_world
     opened new clean survives left = none_or_all (survives.crash clean found.trees left)
+
+  -- ---- of a move from the first schema
+
+  module _ (old : Held S) (is_open : IsOpen g old) (settled : (state g old).committed ≡ (state g old).now) (listed : IsDatabase (state g old).now) (found : Database) (finds : IsDatabase found) where
+    abbrev MovedOrNot : Type 0
+    MovedOrNot = (found ≡ (state g old).now) ⊎ ((had : FirstFound (state g old).now) × FoundIn found had.world)
+
+    first_or_second : (state g old).may_leave found.trees ⊎ LeavesMigrated (state g old).now found.trees → MovedOrNot
+    first_or_second (inl before) =
+        let trees_same : found.trees ≡ (state g old).now.trees = only_committed old.store found.trees is_open before ∙ ap (λ (db : Database). db.trees) settled in
+        let schema = schemas (state g old).now found listed finds trees_same in
+        inl (λ i. record { schema = schema i; trees = trees_same i })
+    first_or_second (inr left) =
+        let schema = schemas left.found found left.moves.listed finds left.trees_are in
+        let found_is : found ≡ left.found = λ i. record { schema = schema i; trees = left.trees_are i } in
+        inr (left.had, subst (λ db. FoundIn db left.had.world) (sym found_is) (left.moves.at, left.moves.has))
+
+    pub migrated : (new : Held S) → IsClean g new → Survives (state g old) (state g new) (LeavesMigrated (state g old).now) → (state g new).may_leave found.trees → MovedOrNot
+    migrated new clean survives left = first_or_second (survives.crash clean found.trees left)

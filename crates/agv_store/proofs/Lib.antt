@@ -5,6 +5,7 @@ mod Crashes
 mod Deciding
 mod Found
 mod InTurn
+mod Migration
 mod ReportLists
 mod Reporting
 mod Writing

@@ -8,6 +8,7 @@ ghost use Rattle.agv_desk.specs.declared.call.Call.{Call};
 ghost use Rattle.agv_tables.specs.schema.DeskTables.{LeavesDesk};
 ghost use Rattle.agv_tables.specs.sql.Connections.{IsClean, IsOpen};
 ghost use Rattle.agv_store.specs.Floors.{Knows, world_at};
+ghost use Rattle.agv_store.specs.Migration.{FirstFound, LeavesMigrated};
 ghost use Rattle.agv_store.specs.Opening.{CanBeMade};
 ghost use Rattle.agv_store.specs.Serving.{FoundIn, LeavesCall, world_after};
 
@@ -46,4 +47,16 @@ pub fn crashes_leave_no_desk_or_all_of_it<S: Alter>()
     trees_tell_schemas();
     made_desks_stand();
     new_desks_know_nothing();
+}
+
+/// After a crash in the middle of [`Desk::migrate`](crate::Desk::migrate), of a connection that was open and at rest, an
+/// opening finds the database as it was, or this schema's rows of the world whose rows it had as the first schema has them:
+/// so it can be moved still, or adopted.
+pub fn crashes_leave_the_first_schema_or_this<S: Alter>()
+    ensures { (old new : Held S) → IsOpen S.Store old → (state S.Store old).committed ≡ (state S.Store old).now → IsDatabase (state S.Store old).now
+        → IsClean S.Store new → Survives (state S.Store old) (state S.Store new) (LeavesMigrated (state S.Store old).now)
+        → (found : Database) → IsDatabase found → (state S.Store new).may_leave found.trees
+        → (found ≡ (state S.Store old).now) ⊎ ((had : FirstFound (state S.Store old).now) × FoundIn found had.world) }
+{
+    trees_tell_schemas();
 }

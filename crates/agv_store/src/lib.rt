@@ -2,14 +2,16 @@
 //! written in one transaction before it is answered.
 //!
 //! - [`Desk`] is made in a database, or adopted from one (`opening`; [`OpenFault`] says why there is none). It serves one
-//!   call, or a list of calls in turn up to the first fault (`running`), and keeps its world lawful.
+//!   call, or a list of calls in turn up to the first fault (`running`), and keeps its world lawful. A database of the first
+//!   schema is moved to this one first (`migration`).
 //! - `keyed_floor` has a connection to the desk's tables that is asked by keys and indexes, as `agv_desk` asks a floor.
 //!   Beside the connection it keeps five counts, and whether the store has failed. `serving` serves one call over it.
 //! - An answer that names a report doesn't hold it: [`Desk::report`] gives its bytes (`reports`). What a report lists is
 //!   gathered from whole tables (`report_lists`, `whole_tables`), and `agv_count` writes the text.
 //!
 //! What a desk keeps true of its connection is `specs/Floors.antt`, what it makes of a call `specs/Serving.antt`, of a list of
-//! calls `specs/Running.antt`, and how it is opened `specs/Opening.antt`.
+//! calls `specs/Running.antt`, how it is opened `specs/Opening.antt`, and what a move gives
+//! `specs/Migration.antt`.
 #![tactic(auto)]
 
 mod counts;
@@ -18,6 +20,7 @@ mod flags;
 mod floor_questions;
 mod keyed_floor;
 pub mod laws;
+mod migration;
 mod open_fault;
 mod opening;
 mod report_lists;

@@ -1,0 +1,182 @@
+-- The move of a database from the first schema: what is found there, and what the desk knows after it.
+use Rattle.std.proofs.Common.{◌≡◌, ◌⊎◌, ◌∙◌, ℕ, inl, inr, IsTrue, Ok, Err, Result, false, refl, sym, ap, subst}
+use Rattle.std.specs.Result.{IsErrAnd}
+use Rattle.sqlite.proofs.StateLemmas.{survives_then}
+use Rattle.sqlite_trees.specs.Tree.{Trees}
+use Rattle.sqlite_trees.specs.declared.store.Store.{Ghosts}
+use Rattle.sqlite.specs.Effect.{Database}
+use Rattle.sqlite.specs.Held.{Held, state}
+use Rattle.sqlite.specs.State.{IsUnchanged, IsRolledBack, State, Survives}
+use Rattle.agv_world.specs.GoodOrder.{InGoodOrder}
+use Rattle.agv_world.specs.Kept.{Keeps}
+use Rattle.agv_world.specs.Lawful.{IsLawful}
+use Rattle.agv_world.specs.Questions.{count_of}
+use Rattle.agv_world.specs.Told.{world_of}
+use Rattle.agv_world.specs.Worlds.{World}
+use Rattle.agv_world.specs.declared.floor.Counted.{Counted}
+use Rattle.agv_world.specs.declared.world.World.{World as Tables}
+use Rattle.agv_tables.specs.first_schema.FirstFound.{FindsFirst}
+use Rattle.agv_tables.specs.first_schema.FirstRows.{HasNoFirstWorld}
+use Rattle.agv_tables.specs.first_schema.Moved.{CanBeAdded, LeavesMoved, MovesTables, MovesWorld}
+use Rattle.agv_tables.proofs.sql.Later.{later_by}
+use Rattle.agv_tables.specs.sql.Connections.{IsClean, IsOpen}
+use Rattle.agv_tables.specs.declared.queries.reading_fault.ReadingFault.{ReadingFault}
+use Rattle.agv_tables.specs.declared.schema.making_fault.MakingFault.{MakingFault}
+use Rattle.agv_tables.specs.declared.schema.making_fault.MakingFault.TheVariants as making
+use Rattle.agv_store.specs.Counts.{count_in}
+use Rattle.agv_store.specs.Floors.{IsAsked, IsKept, Keyed, Knows, world_at}
+use Rattle.agv_store.specs.Migration.{CannotBeMigrated, FindsFirstDesk, FirstFound, LeavesMigrated, Migrates}
+use Rattle.agv_store.specs.OpenFaults.{of_making, of_reading}
+use Rattle.agv_store.specs.Opening.{IsDamaged, Opening}
+use Rattle.agv_store.specs.declared.counts.Counts.{Counts}
+use Rattle.agv_store.specs.declared.open_fault.OpenFault.{OpenFault}
+use Rattle.agv_store.specs.declared.open_fault.OpenFault.TheVariants as fault
+use Rattle.agv_store.proofs.Asked.{clean_before}
+use Rattle.agv_store.proofs.Found.{TellsItsWorld, read_damaged}
+
+-- ---- a refusal
+
+abbrev pub refused : {S : Type 0} → Held S → OpenFault → Opening S
+refused held why = Err (held, why)
+
+pub damaged_only : {S : Type 0} (held : Held S) (why : OpenFault) → IsDamaged (refused held why) → why ≡ fault.Damaged
+damaged_only held fault.Damaged is = refl
+damaged_only held fault.Memory is = absurd is
+damaged_only held fault.Storage is = absurd is
+
+taken_only : (why : MakingFault) → of_making why ≡ fault.Damaged → why ≡ making.Taken
+taken_only making.Taken is = refl
+taken_only making.Memory is = absurd (cc is)
+taken_only making.Storage is = absurd (cc is)
+
+-- ---- what is found
+
+abbrev pub TablesTell : Type 0
+TablesTell = (tables : Tables) (world : World) → Keeps tables world → InGoodOrder world → world_of tables ≡ world
+
+abbrev pub LawfulIsInOrder : Type 0
+LawfulIsInOrder = (seats : ℕ) (world : World) → IsLawful seats world → InGoodOrder world
+
+module _ {S : Type 0} (g : Ghosts S) where
+  abbrev Stays : Held S → Held S → Type 0
+  Stays old new = (state g new ≡ state g old) ⊎ (IsUnchanged (state g old) (state g new) ⊎ IsRolledBack (state g old) (state g new))
+
+  stays : (old new : Held S) (r : Result Tables ReadingFault) → FindsFirst g old new r → IsClean g new → Stays old new
+  stays old new (Ok tables) finds clean = inr (inl (finds.kept clean))
+  stays old new (Err why) finds clean = finds.failed clean
+
+  open_by : (old new : Held S) → Stays old new → IsOpen g new → IsOpen g old
+  open_by old new (inl same) still = subst (λ (s : State). IsTrue s.is_open) same still
+  open_by old new (inr (inl kept)) still = kept.0.was_open
+  open_by old new (inr (inr back)) still = back.was_open still
+
+  now_by : (old new : Held S) → Stays old new → IsOpen g new → (state g old).committed ≡ (state g old).now → (state g new).now ≡ (state g old).now
+  now_by old new (inl same) still settled = ap (λ (s : State). s.now) same
+  now_by old new (inr (inl kept)) still settled = kept.0.now_is
+  now_by old new (inr (inr back)) still settled = (back.undone still).0 ∙ settled
+
+  committed_by : (old new : Held S) → Stays old new → IsOpen g new → (state g new).committed ≡ (state g old).committed
+  committed_by old new (inl same) still = ap (λ (s : State). s.committed) same
+  committed_by old new (inr (inl kept)) still = kept.0.committed_is
+  committed_by old new (inr (inr back)) still = (back.undone still).1
+
+  asked_first : (old new : Held S) (r : Result Tables ReadingFault) → FindsFirst g old new r → IsAsked g old new
+  asked_first old new r finds = record {
+    survives = finds.survives;
+    was_open = λ clean still. open_by old new (stays old new r finds clean) still;
+    same = λ clean still settled. now_by old new (stays old new r finds clean) still settled;
+    committed = λ clean still. committed_by old new (stays old new r finds clean) still;
+    idle = finds.idle;
+  }
+
+  -- the reading failed
+  pub finds_fault : (old new : Held S) (r : Result (Tables × Counts) OpenFault) (why : ReadingFault) → IsErrAnd r (λ made. made ≡ of_reading why) → FindsFirst g old new (Err why) → FindsFirstDesk g old new r
+  finds_fault old new (Ok found) why made finds = absurd made
+  finds_fault old new (Err told) why made finds = record {
+    found = λ _. tt;
+    damaged = λ clean is. finds.damaged clean (read_damaged why (sym made ∙ is));
+    asked = asked_first old new (Err why) finds;
+  }
+
+  -- memory ran out after it
+  pub finds_no_memory : (old new : Held S) (tables : Tables) (r : Result (Tables × Counts) OpenFault) → IsErrAnd r (λ made. made ≡ fault.Memory) → FindsFirst g old new (Ok tables) → FindsFirstDesk g old new r
+  finds_no_memory old new tables (Ok found) made finds = absurd made
+  finds_no_memory old new tables (Err told) made finds = record {
+    found = λ _. tt;
+    damaged = λ clean is. absurd (not_damaged told made is);
+    asked = asked_first old new (Ok tables) finds;
+  }
+    where
+      not_damaged : (told : OpenFault) → told ≡ fault.Memory → told ≡ fault.Damaged → ⊥
+      not_damaged told made is = let both : fault.Memory ≡ fault.Damaged = sym made ∙ is in cc
+
+  -- the tables are those of a world
+  pub finds_first : (old new : Held S) (tables : Tables) (counts : Counts) → FindsFirst g old new (Ok tables) → ((what : Counted) → count_in counts what ≡ count_of (world_of tables) what)
+      → TablesTell → LawfulIsInOrder → FindsFirstDesk g old new (Ok (tables, counts))
+  finds_first old new tables counts finds counted tell ordered = record {
+    found = λ clean.
+        let told = finds.told clean in
+        let same = tell tables told.1 told.3 (ordered 1 told.1 told.2.lawful) in
+        let kept = (finds.kept clean).0 in
+        (kept.was_open, kept.is_open, (record { first = told.0; world = told.1; has = told.2 }, told.3, λ what. counted what ∙ ap (λ (w : World). count_of w what) same));
+    damaged = λ _. tt;
+    asked = asked_first old new (Ok tables) finds;
+  }
+
+  -- ---- the move
+
+  -- the moments before, between the search and the move, and after; the search gave these tables and counts
+  module _ (old mid new : Held S) (tables : Tables) (counts : Counts) (finds : FindsFirstDesk g old mid (Ok (tables, counts)))
+      (settled : IsOpen g old → (state g old).now ≡ (state g old).committed)
+      (crash : Survives (state g mid) (state g new) (LeavesMoved tables (state g mid).now)) where
+    clean_mid : IsClean g new → IsClean g mid
+    clean_mid = (later_by g mid new crash).clean
+
+    same_mid : IsClean g mid → (state g mid).now ≡ (state g old).now
+    same_mid clean =
+        let found = finds.found clean in
+        finds.asked.same clean found.1 (sym (settled found.0))
+
+    had : IsClean g mid → FirstFound (state g old).now
+    had clean = (finds.found clean).2.0
+
+    moves_by : (clean : IsClean g mid) (then : Database) → MovesTables tables (state g mid).now then → MovesWorld (had clean).first (had clean).world (state g old).now then
+    moves_by clean then moved =
+        let from : MovesTables tables (state g old).now then = subst (λ (db : Database). MovesTables tables db then) (same_mid clean) moved in
+        from (had clean).first (had clean).world (had clean).has (finds.found clean).2.1
+
+    -- what a crash leaves
+    pub crash_leaves : Survives (state g old) (state g new) (LeavesMigrated (state g old).now)
+    crash_leaves =
+        survives_then (state g old) (state g mid) (state g new) _ _ _ (λ _ _ never. absurd never)
+        (λ clean trees left. let early = clean_mid clean in record { had = had early; found = left.0; moves = moves_by early left.0 left.1; trees_are = left.2 })
+        finds.asked.survives crash
+
+    module _ (idle : new.in_transaction ≡ false)
+        (opens : IsClean g new → IsTrue (state g mid).is_open × IsTrue (state g new).is_open)
+        (same : IsClean g new → (state g new).now ≡ (state g new).committed)
+        (made : IsClean g new → MovesTables tables (state g mid).now (state g new).committed) where
+      moves : (clean : IsClean g new) → MovesWorld (had (clean_mid clean)).first (had (clean_mid clean)).world (state g old).now (state g new).now
+      moves clean = moves_by (clean_mid clean) (state g new).now (subst (MovesTables tables (state g mid).now) (sym (same clean)) (made clean))
+
+      knows : (clean : IsClean g new) → Knows g new (had (clean_mid clean)).world
+      knows clean =
+          let it = moves clean in
+          record { is_open = (opens clean).1; idle = idle; settled = sym (same clean); listed = it.listed; at = it.at; has = it.has }
+
+      pub migrates : IsClean g new → Migrates g old (record { held = new; failed = false })
+      migrates clean =
+          let early = clean_mid clean in
+          record { was_open = (finds.found early).0; had = had early; moves = moves clean; knows = knows clean }
+
+      module _ (tells_its_world : TellsItsWorld) where
+        told : (clean : IsClean g new) → world_at g new ≡ (had (clean_mid clean)).world
+        told clean = let it = knows clean in tells_its_world it.at (state g new).now (had (clean_mid clean)).world it.has
+
+        pub moved_kept : IsKept g new counts false false
+        moved_kept = record {
+          idle = idle;
+          opens = λ clean _ _. (opens clean).1;
+          knows = λ clean _. subst (λ (world : World). Knows g new world) (sym (told clean)) (knows clean);
+          counted = λ clean _ what. (finds.found (clean_mid clean)).2.2 what ∙ ap (λ (w : World). count_of w what) (sym (told clean));
+        }

@@ -1,0 +1,52 @@
+-- What the move of a database from the first schema to this one gives.
+use Rattle.std.specs.Prelude.{◌≡◌, ◌⊎◌, Result, IfErr, IfOk}
+use Rattle.sqlite_trees.specs.Tree.{Trees}
+use Rattle.sqlite_trees.specs.declared.store.Store.{Ghosts}
+use Rattle.sqlite.specs.Effect.{Database}
+use Rattle.sqlite.specs.Held.{Held, state}
+use Rattle.agv_world.specs.Kept.{Keeps}
+use Rattle.agv_world.specs.Questions.{count_of}
+use Rattle.agv_world.specs.Worlds.{World}
+use Rattle.agv_world.specs.declared.floor.Counted.{Counted}
+use Rattle.agv_world.specs.declared.world.World.{World as Tables}
+use Rattle.agv_tables.specs.first_schema.FirstRows.{HasFirstWorld, HasNoFirstWorld}
+use Rattle.agv_tables.specs.first_schema.Moved.{CanBeAdded, MovesWorld}
+use Rattle.agv_tables.specs.rows.DeskRows.{Placing}
+use Rattle.agv_tables.specs.sql.Connections.{IsClean, IsOpen}
+use Rattle.agv_store.specs.Counts.{count_in}
+use Rattle.agv_store.specs.Floors.{IsAsked, Keyed, Knows}
+use Rattle.agv_store.specs.declared.counts.Counts.{Counts}
+use Rattle.agv_store.specs.declared.open_fault.OpenFault.{OpenFault}
+use Rattle.agv_store.specs.declared.open_fault.OpenFault.TheVariants as fault
+
+-- the database can't be moved: it has the first schema's rows of no lawful world, or the tables that this schema has besides can't be made beside what it has
+abbrev pub CannotBeMigrated : Database → Type 0
+CannotBeMigrated db = HasNoFirstWorld db ⊎ (¬ CanBeAdded db.schema)
+
+-- the first schema's rows of a world are there
+pub record FirstFound (db : Database) : Type 0 where
+  pub first : Placing
+  pub world : World
+  pub has : HasFirstWorld first db world
+
+-- what a crash may leave: the rows of that world as this schema has them
+pub record LeavesMigrated (old : Database) (trees : Trees) : Type 0 where
+  pub had : FirstFound old
+  pub found : Database
+  pub moves : MovesWorld had.first had.world old found
+  pub trees_are : trees ≡ found.trees
+
+module _ {S : Type 0} (g : Ghosts S) where
+  -- the database had the first schema's rows of a lawful world, it has this schema's rows of the same world, and the desk knows that world
+  pub record Migrates (old : Held S) (desk : Keyed S) : Type 0 where
+    pub was_open : IsOpen g old
+    pub had : FirstFound (state g old).now
+    pub moves : MovesWorld had.first had.world (state g old).now (state g desk.held).now
+    pub knows : Knows g desk.held had.world
+
+  -- how it ends that the first schema's world is looked for in a database: with its tables and its counts; as damaged only where there is none
+  pub record FindsFirstDesk (old new : Held S) (result : Result (Tables × Counts) OpenFault) : Type 0 where
+    pub found : IsClean g new
+        → IfOk result (λ desk. IsOpen g old × IsOpen g new × ((at : FirstFound (state g old).now) × Keeps desk.0 at.world × ((what : Counted) → count_in desk.1 what ≡ count_of at.world what)))
+    pub damaged : IsClean g new → IfErr result (λ why. why ≡ fault.Damaged → HasNoFirstWorld (state g old).now)
+    pub asked : IsAsked g old new
