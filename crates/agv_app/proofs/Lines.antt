@@ -44,7 +44,10 @@ module _ (kinds : Choice) where
     inl (record { fits = ((refl, refl, inl (refl, refl, refl)), ((refl, refl, inl (refl, refl, refl)), ((refl, refl, inr refl), tt))); own = refl; asks = refl }),
     (
       inl (record { fits = ((refl, refl, inl (refl, refl, refl)), ((refl, refl, inl (refl, refl, refl)), ((refl, refl, inl (refl, refl, refl)), ((refl, refl, inr refl), tt)))); own = refl; asks = refl }),
-      (inl (record { fits = ((refl, refl, inl (refl, refl, refl)), ((refl, refl, inl (refl, refl, refl)), ((refl, refl, inr refl), tt))); own = refl; asks = refl }), (inr (refl, refl), tt)),
+      (
+        inl (record { fits = ((refl, refl, inl (refl, refl, refl)), ((refl, refl, inl (refl, refl, refl)), ((refl, refl, inr refl), tt))); own = refl; asks = refl }),
+        (inl (record { fits = ((refl, refl, inl (refl, refl, refl)), ((refl, refl, inr refl), tt)); own = refl; asks = refl }), (inr (refl, refl), tt)),
+      ),
     ),
   )
 
@@ -53,8 +56,9 @@ module _ (kinds : Choice) where
   desk_values name rows (inl replay) = inl (replay.1, (replay.2.0 (refl, refl, refl) refl, (replay.2.1.0 (refl, refl, refl) refl, tt)))
   desk_values name rows (inr (inl serve)) = inr (inl (serve.1, (serve.2.0 (refl, refl, refl) refl, (serve.2.1.0 (refl, refl, refl) refl, (serve.2.1.1.0 (refl, refl, refl) refl, tt)))))
   desk_values name rows (inr (inr (inl report))) = inr (inr (inl (report.1, (report.2.0 (refl, refl, refl) refl, (report.2.1.0 (refl, refl, refl) refl, tt)))))
-  desk_values name rows (inr (inr (inr (inl help)))) = absurd (not_help help.0.fits.0.2)
-  desk_values name rows (inr (inr (inr (inr none)))) = absurd none
+  desk_values name rows (inr (inr (inr (inl migrate)))) = inr (inr (inr (inl (migrate.1, (migrate.2.0 (refl, refl, refl) refl, tt)))))
+  desk_values name rows (inr (inr (inr (inr (inl help))))) = absurd (not_help help.0.fits.0.2)
+  desk_values name rows (inr (inr (inr (inr (inr none))))) = absurd none
 
   -- so is the subcommand that is found of words with no fault
   found_values : (words : List Text) → fault_of (desk kinds) words ≡ [] → (name : Text) (rows : List Row) → subcommand_of (desk kinds) words ≡ Some (name, rows)

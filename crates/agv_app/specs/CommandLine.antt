@@ -71,13 +71,17 @@ serve = with_rule (with_rule (with_rule (new_app (codes "serve")) db) (number (c
 abbrev pub report : Choice → App
 report kinds = with_rule (with_rule (new_app (codes "report")) db) (report_kind kinds)
 
+-- the subcommand `migrate`
+abbrev pub migrate : App
+migrate = with_rule (new_app (codes "migrate")) db
+
 -- the program's name is not among the words, and the first of them is a subcommand
 abbrev pub desk_top : App
 desk_top = record { top = record (new_app (codes "desk")).top { no_binary_name = true; subcommand_required = true }; subs = [] }
 
 -- the whole command, as `clap` is told of it
 abbrev pub desk : Choice → App
-desk kinds = with_subcommand (with_subcommand (with_subcommand desk_top replay.top) serve.top) (report kinds).top
+desk kinds = with_subcommand (with_subcommand (with_subcommand (with_subcommand desk_top replay.top) serve.top) (report kinds).top) migrate.top
 
 -- the command is told so, and none of its arguments is one of its subcommands' too
 abbrev pub IsApp : App → Command → Type 0
@@ -113,12 +117,14 @@ Gives rows (line.Replay file at) = (one_of (codes "db") rows ≡ Some file.now) 
 Gives rows (line.Serve file port connections) = (one_of (codes "db") rows ≡ Some file.now) × GivesNumber rows (codes "port") last_port port
     × GivesNumber rows (codes "connections") most_connections connections
 Gives rows (line.Report file kind) = (one_of (codes "db") rows ≡ Some file.now) × (one_of (codes "kind") rows ≡ Some (kind_word kind))
+Gives rows (line.Migrate file) = one_of (codes "db") rows ≡ Some file.now
 
 -- the subcommand of a line
 abbrev pub name_of : Line → Text
 name_of (line.Replay file at) = codes "replay"
 name_of (line.Serve file port connections) = codes "serve"
 name_of (line.Report file kind) = codes "report"
+name_of (line.Migrate file) = codes "migrate"
 
 -- `clap` finds no fault in the words (of a command as simple as `desk`, `fault_of` is all that it can find), and what it finds is the line's subcommand with the line's values
 abbrev pub IsLine : List Text → Line → Type 0

@@ -110,6 +110,7 @@ module _ {R W : Type 0} (remaining : R → Option (List ℕ)) (contents : W → 
   IsCarriedOut (line.Replay db at) end = db.now ≡ codes "memory" → IsReplayedInMemory at end
   IsCarriedOut (line.Serve db port connections) end = Unit {0}
   IsCarriedOut (line.Report db kind) end = Unit {0}
+  IsCarriedOut (line.Migrate db) end = Unit {0}
 
 -- a line was carried out to an end, which was told and gave the exit status
 pub record IsRun {R W E : Type 0} (remaining : R → Option (List ℕ)) (contents : W → Option (List ℕ)) (contents_of_errors : E → Option (List ℕ)) (asked : Line)

@@ -1,9 +1,9 @@
 //! The command line: `replay --db FILE|memory --at MILLIS`, `serve --db FILE --port P
-//! --connections N`, and `report --db FILE stock|holds`.
+//! --connections N`, `report --db FILE stock|holds`, and `migrate --db FILE`.
 ghost use Rattle.std.specs.Prelude.{◌≡◌, IfOk, IfErr, IfSome, IsSome, false, map, string_bytes, codes};
 ghost use Rattle.clap.specs.Words.{found_of, rows_of, rule_of};
 ghost use Rattle.clap.specs.declared.builder.command.Command.TheViews.{out-Command};
-ghost use Rattle.agv_app.specs.CommandLine.{AreKinds, Choice, Gives, HasValues, IsApp, IsLine, IsLineFault, IsOneOf, db, desk, kind_word, name_of, number, replay, report, report_kind, required_option, serve};
+ghost use Rattle.agv_app.specs.CommandLine.{AreKinds, Choice, Gives, HasValues, IsApp, IsLine, IsLineFault, IsOneOf, db, desk, kind_word, migrate, name_of, number, replay, report, report_kind, required_option, serve};
 ghost use Rattle.agv_app.specs.declared.line.ReportKind.{ReportKind};
 
 use clap::error::ErrorKind;
@@ -45,6 +45,11 @@ pub enum Line<'a> {
         db: &'a str,
         /// Which report.
         kind: ReportKind,
+    },
+    /// Moves a file of the first schema to the second, in which a vehicle has room for several loads.
+    Migrate {
+        /// The file of the records.
+        db: &'a str,
     },
 }
 
@@ -167,13 +172,25 @@ fn report_command<'a>(alloc: Global) -> Result<Command<'a>, AllocError>
         .arg(kind_arg(alloc))
 }
 
-/// The command, with its three subcommands.
+/// The subcommand `migrate`.
+fn migrate_command<'a>(alloc: Global) -> Result<Command<'a>, AllocError>
+    ensures { IfOk result (IsApp migrate) }
+{
+    let db = required_arg(alloc, "db", "FILE", "The file that keeps the records");
+    Command::new(alloc, "migrate")
+        .about("Moves a file of the first schema to this one, and prints `migrated`")
+        .after_help("Example: cp desk.db copy.db; desk migrate --db desk.db")
+        .arg(db)
+}
+
+/// The command, with its four subcommands.
 fn desk_command<'a>(alloc: Global) -> Result<Command<'a>, AllocError>
     ensures { IfOk result (λ command. (kinds : Choice) × AreKinds kinds × IsApp (desk kinds) command) }
 {
     let replay = replay_command(alloc)?;
     let serve = serve_command(alloc)?;
     let report = report_command(alloc)?;
+    let migrate = migrate_command(alloc)?;
     Command::new(alloc, "desk")
         .about("The control desk of one warehouse: its vehicles, loads and orders")
         .after_help("Example: desk replay --db memory --at 1700000000000 < requests.txt")
@@ -181,7 +198,8 @@ fn desk_command<'a>(alloc: Global) -> Result<Command<'a>, AllocError>
         .subcommand_required(true)
         .subcommand(replay)?
         .subcommand(serve)?
-        .subcommand(report)
+        .subcommand(report)?
+        .subcommand(migrate)
 }
 
 /// The line of `replay`.
@@ -251,6 +269,18 @@ fn report_line<'a>(found: &ArgMatches<'a>) -> Line<'a>
     Line::Report { db, kind }
 }
 
+/// The line of `migrate`.
+fn migrate_line<'a>(found: &ArgMatches<'a>) -> Line<'a>
+    requires values { HasValues (rows_of (found_of found.now)) migrate.top.rules }
+    ensures name { name_of result ≡ codes "migrate" }
+    ensures values { Gives (rows_of (found_of found.now)) result }
+{
+    let Some(db) = found.get_str("db") else {
+        unreachable!()
+    };
+    Line::Migrate { db }
+}
+
 /// The line of the subcommand `name`.
 fn named_line<'a>(name: &str, found: &ArgMatches<'a>) -> Line<'a>
     requires named { (kinds : Choice) × AreKinds kinds × IsOneOf (desk kinds).subs name.now (rows_of (found_of found.now)) }
@@ -261,6 +291,7 @@ fn named_line<'a>(name: &str, found: &ArgMatches<'a>) -> Line<'a>
         "replay" => replay_line(found),
         "serve" => serve_line(found),
         "report" => report_line(found),
+        "migrate" => migrate_line(found),
         _ => unreachable!(),
     }
 }

@@ -1,5 +1,6 @@
-//! What the program does with its line: it opens a desk, and serves a stream or connections, or prints a report.
-ghost use Rattle.std.specs.Prelude.{◌≡◌, ◌⊎◌, ◌≤◌, ◌<◌, codes, IfErr, IfOk, IfSome, None};
+//! What the program does with its line: it opens a desk, and serves a stream or connections, or prints a report; or it
+//! moves a file of the first schema to this one.
+ghost use Rattle.std.specs.Prelude.{◌≡◌, ◌⊎◌, ◌≤◌, ◌<◌, codes, false, IfErr, IfOk, IfSome, None};
 ghost use Rattle.agv_memory.specs.MemoryStores.{over_memory_files};
 ghost use Rattle.agv_store.specs.Floors.{world_at};
 ghost use Rattle.agv_world.specs.Worlds.{empty_world};
@@ -62,12 +63,19 @@ fn open_in_memory(alloc: Global) -> Result<Desk<FileStore<MemoryFile>>, RunFault
     }
 }
 
+/// The database in the file.
+fn connect(rt: &HostRuntime, file: &str) -> Result<Connection<FileStore<File>>, RunFault>
+    ensures idle { IfOk result (λ conn. conn.in_transaction ≡ false) }
+{
+    match Connection::open(rt, file) {
+        Ok(conn) => Ok(conn),
+        Err(error) => Err(fault_of(error)),
+    }
+}
+
 /// The desk in the file; a new one where the file has none of its tables.
 fn open_in_file(rt: &HostRuntime, file: &str) -> Result<Desk<FileStore<File>>, RunFault> {
-    let conn = match Connection::open(rt, file) {
-        Ok(conn) => conn,
-        Err(error) => return Err(fault_of(error)),
-    };
+    let conn = connect(rt, file)?;
     match Desk::open(rt.alloc(), conn) {
         Ok(desk) => Ok(desk),
         Err((_, why)) => Err(RunFault::from(why)),
@@ -231,6 +239,24 @@ fn report<S: Alter + Drop, W: Write>(
     }
 }
 
+/// Moves the file of the first schema to this one, and says so.
+fn migrate<W: Write>(
+    rt: &HostRuntime,
+    file: &str,
+    writer: &mut CountingIo<W>,
+) -> Result<(), RunFault> {
+    let conn = connect(rt, file)?;
+    match Desk::migrate(rt.alloc(), conn) {
+        Ok(_) => {}
+        Err((_, why)) => return Err(RunFault::from(why)),
+    }
+    if write_whole(writer, b"migrated\n") {
+        Ok(())
+    } else {
+        Err(RunFault::Write)
+    }
+}
+
 /// Does what the line says.
 fn carry_out<R: Read, W: Write>(
     rt: &HostRuntime,
@@ -249,6 +275,7 @@ fn carry_out<R: Read, W: Write>(
             connections,
         } => serve(rt, alloc, open_in_file(rt, db)?, port, connections, writer),
         Line::Report { db, kind } => report(open_in_file(rt, db)?, kind, writer),
+        Line::Migrate { db } => migrate(rt, db, writer),
     }
 }
 
