@@ -77,8 +77,9 @@ class Migrate(unittest.TestCase):
 
     def write(self, *texts):
         """Has these statements carried out by another SQLite, in a file of the first schema if there is none yet."""
+        first = [] if os.path.exists(self.db) else [FIRST]
         base = sqlite3.connect(self.db)
-        for text in texts if os.path.getsize(self.db) else (FIRST, *texts):
+        for text in (*first, *texts):
             base.executescript(text)
         base.close()
 
