@@ -3,6 +3,7 @@ pub mod HeldFootprints
 pub mod HeldRead
 pub mod MetaAnswers
 pub mod ReadWorld
+pub mod RoomTables
 pub mod RowidsKeyed
 pub mod RowidsRead
 pub mod RowidsTold

@@ -12,6 +12,7 @@ use Rattle.agv_world.specs.Worlds.{World}
 use Rattle.agv_tables.specs.rows.Columns.{meta_columns, meta_in}
 use Rattle.agv_tables.specs.readings.ReadTables.{is_first_meta, meta_read}
 use Rattle.agv_tables.specs.rows.RowLists.{row_lists, rows_in}
+use Rattle.agv_tables.specs.schema.SchemaNumbers.{schema_number}
 use Rattle.agv_tables.specs.statements.RowQueries.{all_rows_of}
 use Rattle.agv_tables.specs.readings.TablesRead.{first_meta}
 use Rattle.agv_tables.specs.declared.queries.reading_fault.ReadingFault.{ReadingFault}
@@ -23,29 +24,29 @@ use Rattle.agv_tables.proofs.rows.ColumnsWritten.{meta_written}
 use Rattle.agv_tables.proofs.readings.TableReading.{added, no_entries}
 
 -- the one row
-one_entry : finite.entries first_meta ≡ (1, 1) ∷ []
+one_entry : finite.entries first_meta ≡ (1, schema_number) ∷ []
 one_entry =
-    one_permutation (1, 1) (finite.entries first_meta)
-    (subst (λ l. IsPermutation ((1, 1) ∷ l) (finite.entries first_meta)) (no_entries {X = ℕ} nat_cmp) (added nat_cmp_total nat_cmp-IsAntisymmetric (finite.empty {X = ℕ} {R = nat_cmp}) 1 1 (finite.get-empty {X = ℕ} nat_cmp 1)))
+    one_permutation (1, schema_number) (finite.entries first_meta)
+    (subst (λ l. IsPermutation ((1, schema_number) ∷ l) (finite.entries first_meta)) (no_entries {X = ℕ} nat_cmp) (added nat_cmp_total nat_cmp-IsAntisymmetric (finite.empty {X = ℕ} {R = nat_cmp}) 1 schema_number (finite.get-empty {X = ℕ} nat_cmp 1)))
 
-one_row : rows_in meta_columns first_meta ≡ meta_columns 1 1 ∷ []
+one_row : rows_in meta_columns first_meta ≡ meta_columns 1 schema_number ∷ []
 one_row = ap (map (λ (e : ℕ × ℕ). meta_columns e.0 e.1)) one_entry
 
-is_read : meta_read (meta_columns 1 1 ∷ []) ≡ Ok tt
-is_read = ap (λ (o : Option (ℕ × ℕ)). cond (is_first_meta o) (Ok tt) (Err fault.Damaged)) (meta_kept 1 1 (omega arith) (omega arith))
+is_read : meta_read (meta_columns 1 schema_number ∷ []) ≡ Ok tt
+is_read = ap (λ (o : Option (ℕ × ℕ)). cond (is_first_meta o) (Ok tt) (Err fault.Damaged)) (meta_kept 1 schema_number (omega arith) (omega arith))
 
 pub tells_meta : (world : World) (rows : List Row) → IsPermutation (all_rows_of the.Meta (row_lists (rows_of world))) rows → (r : Result (Unit {0}) ReadingFault) → r ≡ meta_read rows → Follows r (λ nothing. Unit {0})
 unfolding row_lists
 tells_meta world rows shown r read =
-    let alone = one_permutation (meta_columns 1 1) rows (subst (λ l. IsPermutation l rows) one_row shown) in
+    let alone = one_permutation (meta_columns 1 schema_number) rows (subst (λ l. IsPermutation l rows) one_row shown) in
     subst (λ q. Follows q (λ nothing. Unit {0})) (sym (read ∙ ap meta_read alone ∙ is_read)) tt
 
-first_is : (row : Row) (o : Option (ℕ × ℕ)) → meta_in row ≡ o → is_first_meta o ≡ true → row ≡ meta_columns 1 1
+first_is : (row : Row) (o : Option (ℕ × ℕ)) → meta_in row ≡ o → is_first_meta o ≡ true → row ≡ meta_columns 1 schema_number
 first_is row None from is = absurd (cc is)
 first_is row (Some told) from is =
     let both = and_parts _ _ is in
     let id : told.0 ≡ 1 = (unsigned_Decides told.0 1).0 both.0 in
-    let schema : told.1 ≡ 1 = (unsigned_Decides told.1 1).0 both.1 in
+    let schema : told.1 ≡ schema_number = (unsigned_Decides told.1 schema_number).0 both.1 in
     meta_written row told.0 told.1 from ∙ (λ i. meta_columns (id i) (schema i))
 
 pub shows_meta : (asked rows : List Row) (r : Result (Unit {0}) ReadingFault) → r ≡ meta_read rows → IsPermutation asked rows → IfOk r (λ nothing. IsPermutation asked (rows_in meta_columns first_meta))

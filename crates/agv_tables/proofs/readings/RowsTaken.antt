@@ -31,7 +31,7 @@ use Rattle.agv_tables.specs.readings.TablesRead.{TellsAll}
 use Rattle.agv_tables.specs.declared.queries.reading_fault.ReadingFault.{ReadingFault}
 use Rattle.agv_tables.specs.declared.queries.reading_fault.ReadingFault.TheVariants as fault
 use Rattle.agv_tables.specs.declared.schema.table_name.TableName.{TableName}
-use Rattle.agv_tables.proofs.schema.DeskPlaces.{is_in}
+use Rattle.agv_tables.proofs.schema.DeskPlaces.{is_in, one_stands}
 use Rattle.agv_tables.proofs.sql.Later.{fault_later, later_by}
 use Rattle.agv_tables.proofs.sql.ReadFailing.{all_caused}
 use Rattle.agv_tables.proofs.sql.Running.{query_fails}
@@ -102,7 +102,7 @@ module _ {S : Type 0} (g : Ghosts S) (name : TableName) (old new : Held S) (sql 
   not_begun means holds e r is fails idle survives =
       all_error g old new e reading_fault_of means holds r is
       (tells_error g old new means r e is (λ clean. query_fails sql [] (state g old) (state g new) e (fails clean))
-      (λ clean. all_caused [] (state g old) (state g new) (Err e) sql (fails clean) name refl text) idle (saved survives))
+      (λ clean stored desk is has. all_caused [] (state g old) (state g new) (Err e) sql (fails clean) name refl text stored desk (one_stands desk is name) has) idle (saved survives))
 
 -- ---- the rows
 
@@ -148,7 +148,7 @@ module _ {S K X : Type 0} {R : K → K → Ordering} (g : Ghosts S) (name : Tabl
         (λ clean. failed_then (state g old) (state g now) (state g new) (so_far.same (early clean)) (query_fails (all_rows_text name) [] (state g now) (state g new) e (failed clean)))
         (λ clean stored desk stands has.
         fault_later g old now new (later_by g old now so_far.survives) (later_by g now new survives) clean
-        (all_caused [] (state g now) (state g new) (Err e) (all_rows_text name) (failed clean) name refl refl stored desk stands (ap (λ (db : Database). db.schema) (so_far.same (early clean)).0.now_is ∙ has)))
+        (all_caused [] (state g now) (state g new) (Err e) (all_rows_text name) (failed clean) name refl refl stored desk (one_stands desk stands name) (ap (λ (db : Database). db.schema) (so_far.same (early clean)).0.now_is ∙ has)))
         (λ was. idle (so_far.idle was)) saved_all)
 
     module _ (same : HasCleanDisk (state g new) → IsUnchanged (state g now) (state g new)) where

@@ -1,5 +1,5 @@
 -- What all rows of a table answer, in a lawful world.
-use Rattle.std.proofs.Common.{◌≡◌, ℕ, List, Result, IsPermutation, sym, ◌∙◌}
+use Rattle.std.proofs.Common.{◌≡◌, ℕ, List, Some, Result, IsPermutation, sym, ap, subst, ◌∙◌}
 use Rattle.std.specs.Cmp.Lexicographic.{nat_list_cmp_total}
 use Rattle.std.specs.FinMap as finite
 use Rattle.std.specs.FinSet as set
@@ -19,21 +19,24 @@ use Rattle.agv_world.specs.Lawful.{IsLawful}
 use Rattle.agv_world.specs.Rows.{rows_of}
 use Rattle.agv_world.specs.Worlds.{World}
 use Rattle.agv_world.specs.declared.row.JobRow.{JobRow}
-use Rattle.agv_world.specs.declared.row.VehicleRow.{VehicleRow}
-use Rattle.agv_tables.specs.rows.Columns.{edge_columns, edge_in, hold_columns, hold_in, job_columns, job_in, leg_columns, leg_in, load_columns, load_in, node_columns, node_in, station_columns, station_in, used_columns, used_in, vehicle_columns, vehicle_in}
+use Rattle.agv_tables.specs.rows.Columns.{capacity_columns, capacity_in, edge_columns, edge_in, hold_columns, hold_in, job_columns, job_in, leg_columns, leg_in, load_columns, load_in, node_columns, node_in, station_columns, station_in, used_columns, used_in, vehicle_columns}
+use Rattle.agv_tables.specs.rows.DecodedTrips.{capacities_of, vehicle_with}
+use Rattle.agv_tables.specs.rows.TypedRows.{IsNumber}
 use Rattle.agv_tables.specs.readings.ReadTables.{Reads, read_members, read_rows}
 use Rattle.agv_tables.specs.rows.RowLists.{row_lists}
 use Rattle.agv_tables.specs.statements.RowQueries.{all_rows_of}
 use Rattle.agv_tables.specs.schema.SchemaNumbers.{desk_seats}
 use Rattle.agv_tables.specs.declared.queries.reading_fault.ReadingFault.{ReadingFault}
+use Rattle.agv_tables.specs.declared.rows.capacity_row.CapacityRow.{CapacityRow}
 use Rattle.agv_tables.specs.declared.schema.table_name.TableName.TheVariants as the
 use Rattle.agv_tables.proofs.queries.Asking.{Follows}
 use Rattle.agv_tables.proofs.rows.CellLemmas.{name_kept}
-use Rattle.agv_tables.proofs.rows.ColumnsKept.{edge_kept, hold_kept, job_kept, leg_kept, load_kept, station_kept, used_kept, vehicle_kept}
+use Rattle.agv_tables.proofs.rows.ColumnsKept.{capacity_kept, edge_kept, hold_kept, job_kept, leg_kept, load_kept, station_kept, used_kept, vehicle_kept}
 use Rattle.agv_tables.proofs.rows.LawfulHolds.{held_value}
 use Rattle.agv_tables.proofs.rows.LawfulTrips.{leg_value}
 use Rattle.agv_tables.proofs.rows.LawfulValues.{edge_named, ends_value, holder_value, job_value, node_named, place_value, row_at, spot_value, station_named, used_is, used_named, vehicle_value}
 use Rattle.agv_tables.proofs.rows.ListsFollow.{names_apart}
+use Rattle.agv_tables.proofs.readings.RoomTables.{room_known, room_rows, told_with, vehicle_of}
 use Rattle.agv_tables.proofs.readings.TableReading.{reads_all, reads_it}
 use Rattle.agv_tables.proofs.readings.TablesBack.{reads_members}
 
@@ -54,12 +57,26 @@ module _ (world : World) (lawful : IsLawful desk_seats world) (rows : List Row) 
   unfolding row_lists
   tells_edges shown r read = reads_it world.layout.edges r (read_rows edge_in finite.empty rows) read (reads_all nat_list_cmp_total names_apart world.layout.edges edge_columns edge_in (λ id x at. edge_kept id x (edge_named world lawful id x at) (ends_value world lawful id x at)) rows shown)
 
-  pub tells_vehicles : IsPermutation (all_rows_of the.Vehicle (row_lists (rows_of world))) rows → (r : Result (finite.FinMap key_cmp VehicleRow) ReadingFault) → Reads r (read_rows vehicle_in finite.empty rows) → Follows r (λ table. table ≡ (rows_of world).vehicles)
+  pub tells_capacities : IsPermutation (all_rows_of the.Capacity (row_lists (rows_of world))) rows → (r : Result (finite.FinMap key_cmp CapacityRow) ReadingFault) → Reads r (read_rows capacity_in finite.empty rows) → Follows r (λ table. table ≡ capacities_of (rows_of world).vehicles)
   unfolding row_lists
-  tells_vehicles shown r read =
+  tells_capacities shown r read =
       let vehicles = (rows_of world).vehicles in
-      reads_it vehicles r (read_rows vehicle_in finite.empty rows) read
-      (reads_all key_cmp-total key_cmp-IsAntisymmetric vehicles vehicle_columns vehicle_in (λ key row at. let its = vehicle_value world lawful key row (sym (row_at world key) ∙ at) in vehicle_kept key row its.0 its.1) rows shown)
+      reads_it (capacities_of vehicles) r (read_rows capacity_in finite.empty rows) read
+      (reads_all key_cmp-total key_cmp-IsAntisymmetric (capacities_of vehicles) capacity_columns capacity_in (λ key room at.
+      let its = vehicle_of vehicles key room at in
+      let value = vehicle_value world lawful key its.0 (sym (row_at world key) ∙ its.1) in
+      capacity_kept key room value.0 (subst (λ (x : CapacityRow). IsNumber x.capacity) its.2 value.1.capacity)) rows (subst (λ l. IsPermutation l rows) (room_rows vehicles) shown))
+
+  -- the vehicles, where these are their rooms
+  pub reads_vehicles : (rooms : finite.FinMap key_cmp CapacityRow) → rooms ≡ capacities_of (rows_of world).vehicles → IsPermutation (all_rows_of the.Vehicle (row_lists (rows_of world))) rows
+      → read_rows (vehicle_with rooms) finite.empty rows ≡ Some (rows_of world).vehicles
+  unfolding row_lists
+  reads_vehicles rooms are shown =
+      let vehicles = (rows_of world).vehicles in
+      ap (λ (r : finite.FinMap key_cmp CapacityRow). read_rows (vehicle_with r) finite.empty rows) are
+      ∙ reads_all key_cmp-total key_cmp-IsAntisymmetric vehicles vehicle_columns (vehicle_with (capacities_of vehicles)) (λ key row at.
+      let its = vehicle_value world lawful key row (sym (row_at world key) ∙ at) in
+      told_with (capacities_of vehicles) (vehicle_columns key row) key (record row { capacity = 1 }) (record { capacity = row.capacity }) (vehicle_kept key row its.0 its.1) (room_known vehicles key row at)) rows shown
 
   pub tells_nodes : IsPermutation (all_rows_of the.Node (row_lists (rows_of world))) rows → (r : Result (set.FinSet name_cmp) ReadingFault) → Reads r (read_members node_in set.empty rows) → Follows r (λ nodes. nodes ≡ world.layout.nodes)
   unfolding row_lists

@@ -20,7 +20,8 @@ use Rattle.agv_tables.proofs.queries.Asking.{Follows}
 use Rattle.agv_tables.proofs.sql.MapEntries.{at_key, entries-at_key, entries-insert-permuted}
 use Rattle.agv_tables.proofs.rows.SpreadRows.{entries_found}
 
-none_left : {A : Type 0} (xs : List A) → length xs ≡ 0 → xs ≡ []
+-- a list of no length has nothing
+pub none_left : {A : Type 0} (xs : List A) → length xs ≡ 0 → xs ≡ []
 none_left [] h = refl
 none_left (x ∷ xs) h = absurd (cc h)
 

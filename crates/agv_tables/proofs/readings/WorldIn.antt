@@ -5,32 +5,31 @@ use Rattle.std.specs.List.{AllZip}
 use Rattle.sqlite_value.specs.Order.{Row}
 use Rattle.sqlite_schema.specs.declared.schema.Schema.{Schema}
 use Rattle.sqlite.specs.Effect.{Database}
-use Rattle.agv_header.specs.Name.{name_cmp}
+use Rattle.agv_header.specs.Key.{key_cmp}
+use Rattle.agv_trip_rows.specs.TripRows.{acts_of, journeys_of}
 use Rattle.agv_world.specs.GoodOrder.{InGoodOrder}
 use Rattle.agv_world.specs.Kept.{Keeps}
 use Rattle.agv_world.specs.Lawful.{IsLawful}
 use Rattle.agv_world.specs.Rows.{rows_of}
 use Rattle.agv_world.specs.Told.{world_of}
 use Rattle.agv_world.specs.Worlds.{World}
-use Rattle.agv_world.specs.declared.row.JobRow.{JobRow}
-use Rattle.agv_world.specs.declared.row.TripRow.{TripRow}
+use Rattle.agv_world.specs.declared.row.VehicleRow.{VehicleRow}
 use Rattle.agv_world.specs.declared.world.World.{World as Tables}
 use Rattle.agv_tables.specs.rows.DeskRows.{HaveRows, Holds, IsDesk, Placing, columns_in, place_of, table_at, table_names, width_of}
-use Rattle.agv_tables.specs.readings.ReadTables.{Reads, read_rows}
-use Rattle.agv_tables.specs.rows.RowLists.{AreAlike, CarriesOneEach, row_lists}
+use Rattle.agv_tables.specs.readings.ReadTables.{Reads}
+use Rattle.agv_tables.specs.rows.RowLists.{AreAlike, row_lists}
 use Rattle.agv_tables.specs.schema.SchemaNumbers.{desk_seats}
-use Rattle.agv_tables.specs.rows.DecodedTrips.{trip_with}
+use Rattle.agv_tables.specs.rows.DecodedTrips.{capacities_of, trips_with}
 use Rattle.agv_tables.specs.queries.WorldAnswers.{HasWorld}
-use Rattle.agv_tables.specs.readings.WorldIn.{jobs_in, lists_in, placed_in, tables_in, tree_named, tree_of, world_in}
+use Rattle.agv_tables.specs.readings.WorldIn.{acts_in, capacities_in, jobs_in, journeys_in, lists_in, placed_in, tables_in, tree_named, tree_of, world_in}
 use Rattle.agv_tables.specs.declared.queries.reading_fault.ReadingFault.{ReadingFault}
 use Rattle.agv_tables.specs.declared.queries.reading_fault.ReadingFault.TheVariants as fault
 use Rattle.agv_tables.specs.declared.schema.table_name.TableName.{TableName}
 use Rattle.agv_tables.specs.declared.schema.table_name.TableName.TheVariants as the
 use Rattle.agv_tables.proofs.queries.Asking.{Follows}
 use Rattle.agv_tables.proofs.rows.ListsTell.{alike_at}
-use Rattle.agv_tables.proofs.readings.TableAnswers.{tells_edges, tells_jobs, tells_legs, tells_nodes, tells_places, tells_stations, tells_used_names, tells_vehicles}
-use Rattle.agv_tables.proofs.queries.TripAnswers.{LinesAreTyped}
-use Rattle.agv_tables.proofs.readings.TripTableAnswers.{reads_trips}
+use Rattle.agv_tables.proofs.readings.TableAnswers.{reads_vehicles, tells_capacities, tells_edges, tells_jobs, tells_legs, tells_nodes, tells_places, tells_stations, tells_used_names}
+use Rattle.agv_tables.proofs.readings.TripTableAnswers.{AreActValues, AreJourneyValues, tells_acts, tells_journeys}
 
 -- ---- where the tables stand
 
@@ -63,20 +62,25 @@ given_by : {A : Type 0} (table nothing : A) (given : Option A) → ((r : Result 
 given_by table nothing None follows = absurd (follows (Err fault.Damaged) refl)
 given_by table nothing (Some t) follows = follows (Ok t) refl
 
-pub tables_kept : (world : World) → IsLawful desk_seats world → InGoodOrder world → CarriesOneEach (rows_of world) → LinesAreTyped world
+-- all its trips are told by their journeys, their acts and the rows of their jobs
+abbrev TellsTrips : World → Type 0
+TellsTrips world = trips_with (journeys_of (rows_of world).trips) (acts_of (rows_of world).trips) (rows_of world).jobs ≡ (rows_of world).trips
+
+pub tables_kept : (world : World) → IsLawful desk_seats world → InGoodOrder world → AreJourneyValues world → AreActValues world → TellsTrips world
     → (lists : List (List Row)) → AreAlike (row_lists (rows_of world)) lists → Keeps (tables_in lists) world
-tables_kept world lawful good single typed lists alike =
+tables_kept world lawful good journey_values act_values told lists alike =
     let rows : TableName → List Row = λ name. table_at (place_of name) lists in
     let shown : (name : TableName) → IsPermutation (table_at (place_of name) (row_lists (rows_of world))) (rows name) = λ name. alike_at (place_of name) (row_lists (rows_of world)) lists alike in
     let jobs : jobs_in lists ≡ world.jobs = given_by world.jobs finite.empty _ (tells_jobs world lawful (rows the.Job) (shown the.Job)) in
+    let rooms : capacities_in lists ≡ capacities_of (rows_of world).vehicles = given_by (capacities_of (rows_of world).vehicles) finite.empty _ (tells_capacities world lawful (rows the.Capacity) (shown the.Capacity)) in
+    let journeys : journeys_in lists ≡ journeys_of (rows_of world).trips = given_by (journeys_of (rows_of world).trips) finite.empty _ (tells_journeys world (rows the.Journey) journey_values (shown the.Journey)) in
+    let acts : acts_in lists ≡ acts_of (rows_of world).trips = given_by (acts_of (rows_of world).trips) finite.empty _ (tells_acts world (rows the.Act) act_values (shown the.Act)) in
     record {
       nodes = given_by _ _ _ (tells_nodes world lawful (rows the.Node) (shown the.Node));
       edges = given_by _ _ _ (tells_edges world lawful (rows the.Edge) (shown the.Edge));
       stations = given_by _ _ _ (tells_stations world lawful (rows the.Station) (shown the.Station));
-      vehicles = given_by _ _ _ (tells_vehicles world lawful (rows the.Vehicle) (shown the.Vehicle));
-      trips =
-          ap (λ (jobs : finite.FinMap name_cmp JobRow). unwrap_or (read_rows (trip_with jobs) finite.empty (rows the.Trip)) finite.empty) jobs
-          ∙ ap (λ (o : Option (finite.FinMap name_cmp TripRow)). unwrap_or o finite.empty) (reads_trips world single typed (rows the.Trip) (shown the.Trip));
+      vehicles = ap (λ (o : Option (finite.FinMap key_cmp VehicleRow)). unwrap_or o finite.empty) (reads_vehicles world lawful (rows the.Vehicle) (capacities_in lists) rooms (shown the.Vehicle));
+      trips = (λ i. trips_with (journeys i) (acts i) (jobs i)) ∙ told;
       legs = given_by _ _ _ (tells_legs world lawful good (rows the.Leg) (shown the.Leg));
       loads = given_by _ _ _ (tells_places world lawful (rows the.Load) (shown the.Load));
       jobs = jobs;
@@ -85,9 +89,10 @@ tables_kept world lawful good single typed lists alike =
 
 -- ---- the world
 
-pub world_told : ((world : World) → IsLawful desk_seats world → InGoodOrder world) → ((world : World) → IsLawful desk_seats world → CarriesOneEach (rows_of world)) → ((world : World) → IsLawful desk_seats world → LinesAreTyped world)
-    → ((tables : Tables) (world : World) → Keeps tables world → InGoodOrder world → world_of tables ≡ world) → (desk : Placing) (db : Database) (world : World) → HasWorld desk db world → world_in db ≡ world
+pub world_told : ((world : World) → IsLawful desk_seats world → InGoodOrder world) → ((world : World) → IsLawful desk_seats world → AreJourneyValues world) → ((world : World) → IsLawful desk_seats world → AreActValues world)
+    → ((world : World) → IsLawful desk_seats world → TellsTrips world) → ((tables : Tables) (world : World) → Keeps tables world → InGoodOrder world → world_of tables ≡ world) → (desk : Placing) (db : Database) (world : World) → HasWorld desk db world → world_in db ≡ world
 unfolding world_in
-world_told good single typed told desk db world has =
+world_told good journeys acts all told desk db world has =
     let lawful = has.lawful in
-    told (tables_in (lists_in db)) world (tables_kept world lawful (good world lawful) (single world lawful) (typed world lawful) (lists_in db) (lists_alike desk db (row_lists (rows_of world)) has.stands has.rows)) (good world lawful)
+    told (tables_in (lists_in db)) world
+    (tables_kept world lawful (good world lawful) (journeys world lawful) (acts world lawful) (all world lawful) (lists_in db) (lists_alike desk db (row_lists (rows_of world)) has.stands has.rows)) (good world lawful)

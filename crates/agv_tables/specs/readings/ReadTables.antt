@@ -1,14 +1,20 @@
 -- What all rows of a table tell: each tells one entry, and no two tell one key.
 use Rattle.std.specs.Prelude.{◌≡◌, ℕ, nat_eq, ◌&&◌, Bool, false, if◌then◌else◌, List, [], ◌∷◌, Option, None, Some, Result, Ok, Err}
-use Rattle.std.specs.FinMap.{FinMap, get, insert}
+use Rattle.std.specs.FinMap.{FinMap, entries, get, insert}
 use Rattle.std.specs.FinSet as set
+use Rattle.std.specs.List.{list_all}
+use Rattle.std.specs.Option.{is_some}
 use Rattle.std.specs.declared.cmp.Ordering.{Ordering}
 use Rattle.sqlite_value.specs.Order.{Row}
 use Rattle.agv_tables.specs.rows.ValueEncodings.{if_some}
 use Rattle.agv_tables.specs.rows.Columns.{meta_in}
+use Rattle.agv_header.specs.Key.{key_cmp}
+use Rattle.agv_header.specs.declared.key.VehicleKey.{VehicleKey}
 use Rattle.agv_track.specs.Holds.{Holds}
+use Rattle.agv_world.specs.declared.row.VehicleRow.{VehicleRow}
 use Rattle.agv_tables.specs.schema.SchemaNumbers.{schema_number}
 use Rattle.agv_tables.specs.declared.readings.held_things.HeldThings.{HeldThings}
+use Rattle.agv_tables.specs.declared.rows.capacity_row.CapacityRow.{CapacityRow}
 use Rattle.agv_tables.specs.declared.queries.reading_fault.ReadingFault.{ReadingFault}
 use Rattle.agv_tables.specs.declared.queries.reading_fault.ReadingFault.TheVariants as fault
 
@@ -49,3 +55,7 @@ meta_read (row ∷ (other ∷ rows)) = Err fault.Damaged
 abbrev pub table_read : Result HeldThings ReadingFault → Result Holds ReadingFault
 table_read (Ok held) = Ok held.table
 table_read (Err why) = Err why
+
+-- each of the rooms is that of a vehicle
+abbrev pub are_of_vehicles : FinMap key_cmp VehicleRow → FinMap key_cmp CapacityRow → Bool
+are_of_vehicles vehicles rooms = list_all (λ (room : VehicleKey × CapacityRow). is_some (get vehicles room.0)) (entries rooms)

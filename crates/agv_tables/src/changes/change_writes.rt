@@ -192,7 +192,7 @@ fn put_journey<S: Alter>(
     )
 }
 
-// The order has this act besides, at this number.
+// The order has this act besides, at this number. One above 4294967295 has no row.
 fn add_act<S: Alter>(
     tx: &mut Transaction<'_, S>,
     order: &Name,

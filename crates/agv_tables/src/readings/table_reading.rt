@@ -9,6 +9,7 @@ ghost use Rattle.agv_tables.specs.rows.Columns.{capacity_columns, edge_columns, 
 ghost use Rattle.agv_tables.specs.rows.DecodedTrips.{capacities_of};
 ghost use Rattle.agv_tables.specs.rows.DeskRows.{place_of, table_at};
 ghost use Rattle.agv_tables.specs.rows.RowLists.{rows_for, rows_in};
+ghost use Rattle.agv_tables.specs.readings.ReadTables.{are_of_vehicles};
 ghost use Rattle.agv_tables.specs.readings.TablesRead.{TellsAll};
 ghost use Rattle.agv_tables.specs.declared.schema.table_name.TableName.TheVariants as the;
 
@@ -72,9 +73,15 @@ fn query_capacities<S: Alter>(
         (λ world table. table ≡ capacities_of (rows_of world).vehicles)
         (λ lists table. IsPermutation (table_at (place_of the.Capacity) lists) (rows_in capacity_columns table)) }
 {
-    is_in_good_order();
     let rows = query_all_rows(conn, TableName::Capacity)?;
     capacities_in_rows(alloc, rows.as_slice())
+}
+
+// Whether each of the rooms is that of a vehicle.
+fn are_of_vehicles(vehicles: &ByVehicle<VehicleRow>, rooms: &ByVehicle<CapacityRow>) -> bool
+    ensures { result ≡ are_of_vehicles vehicles.now rooms.now }
+{
+    rooms.iter().all(|(key, _)| vehicles.get(*key).is_some())
 }
 
 /// The vehicles, each by its maker and its serial number, with its room for loads, but for their open trips. Each has a row of
@@ -92,7 +99,7 @@ pub fn query_vehicles<S: Alter>(
     let capacities = query_capacities(alloc, conn)?;
     let rows = query_all_rows(conn, TableName::Vehicle)?;
     let vehicles = vehicles_in_rows(alloc, rows.as_slice(), &capacities)?;
-    if vehicles.len() == capacities.len() {
+    if are_of_vehicles(&vehicles, &capacities) {
         Ok(vehicles)
     } else {
         Err(ReadingFault::Damaged)

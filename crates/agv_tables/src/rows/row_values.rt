@@ -93,7 +93,7 @@ pub(crate) fn station_values<'a>(id: &'a Name, spot: &'a StationSite) -> [ValueR
     ]
 }
 
-/// The row of a vehicle.
+/// The row of a vehicle, but for its room for loads.
 pub(crate) fn vehicle_values<'a>(key: &'a VehicleKey, row: &'a VehicleRow) -> [ValueRef<'a>; 14]
     ensures { bound result ≡ vehicle_columns key.now row.now }
 {

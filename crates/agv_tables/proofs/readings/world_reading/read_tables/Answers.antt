@@ -55,10 +55,13 @@ returns g c =
       edges = layout.1;
       stations = layout.2;
       vehicles = traffic.0;
-      trips = work.1;
-      legs = traffic.1;
+      legs = traffic.2;
       loads = stock.0;
       jobs = work.0;
       used = stock.1;
+      capacities = traffic.1;
+      journeys = work.1;
+      acts = work.2;
+      trips = work.3;
     })
     c.in_ok-stock.ensures
