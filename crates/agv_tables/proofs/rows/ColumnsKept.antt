@@ -34,7 +34,7 @@ maybe_name_kept : (name : Option (List ℕ)) → IfSome name IsName → maybe_in
 maybe_name_kept None is = refl
 maybe_name_kept (Some name) is = maybe_kept name_in Text (Some name) (refl, name_kept name is)
 
-maybe_number_kept : (n : Option ℕ) → IfSome n IsNumber → maybe_in number_in (or_null number_cell n) ≡ Some n
+pub maybe_number_kept : (n : Option ℕ) → IfSome n IsNumber → maybe_in number_in (or_null number_cell n) ≡ Some n
 maybe_number_kept None is = refl
 maybe_number_kept (Some n) is = maybe_kept number_in number_cell (Some n) (refl, number_kept n is)
 
@@ -42,7 +42,7 @@ maybe_instant_kept : (kind : Option InstantKind) → maybe_in instant_in (or_nul
 maybe_instant_kept None = refl
 maybe_instant_kept (Some kind) = maybe_kept instant_in (λ kind. Text (instant_name kind)) (Some kind) (refl, instant_kept kind)
 
-key_kept : (key : VehicleKey) → IsKey key → key_in (Text key.manufacturer) (Text key.serial) ≡ Some key
+pub key_kept : (key : VehicleKey) → IsKey key → key_in (Text key.manufacturer) (Text key.serial) ≡ Some key
 unfolding key_in
 key_kept key is = rw (name_kept key.manufacturer is.0, name_kept key.serial is.1)
 

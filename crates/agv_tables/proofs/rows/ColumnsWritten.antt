@@ -35,19 +35,19 @@ abbrev listed : ℕ → (ℕ → Value) → Row
 listed zero value = []
 listed (suc n) value = value 0 ∷ listed n (λ i. value (suc i))
 
-all_columns : (n : ℕ) (row : Row) → length row ≡ n → row ≡ listed n (column row)
+pub all_columns : (n : ℕ) (row : Row) → length row ≡ n → row ≡ listed n (column row)
 all_columns zero [] h = refl
 all_columns zero (v ∷ row) h = absurd (omega arith)
 all_columns (suc n) [] h = absurd (omega arith)
 all_columns (suc n) (v ∷ row) h = ap₂ ◌∷◌ refl (all_columns n row (omega arith))
 
-next : {v w : Value} {row more : Row} → v ≡ w → row ≡ more → v ∷ row ≡ w ∷ more
+pub next : {v w : Value} {row more : Row} → v ≡ w → row ≡ more → v ∷ row ≡ w ∷ more
 next same rest = ap₂ ◌∷◌ same rest
 
-some_same : {A : Type 0} {x y : A} → ◌≡◌ {A = Option A} (Some x) (Some y) → x ≡ y
+pub some_same : {A : Type 0} {x y : A} → ◌≡◌ {A = Option A} (Some x) (Some y) → x ≡ y
 some_same e = cc e
 
-in_columns : {A : Type 0} (n : ℕ) (row : Row) (told : Option A) (x : A) → if_columns n row told ≡ Some x → (length row ≡ n) × (told ≡ Some x)
+pub in_columns : {A : Type 0} (n : ℕ) (row : Row) (told : Option A) (x : A) → if_columns n row told ≡ Some x → (length row ≡ n) × (told ≡ Some x)
 in_columns {A} n row told x e = tested (length row == n) refl e
   where
     tested : (b : Bool) → (length row == n) ≡ b → cond b told None ≡ Some x → (length row ≡ n) × (told ≡ Some x)
@@ -59,10 +59,10 @@ in_columns {A} n row told x e = tested (length row == n) refl e
 maybe_name_written : (v : Value) (name : Option (List ℕ)) → maybe_in name_in v ≡ Some name → v ≡ or_null Text name
 maybe_name_written v name e = maybe_written name_in Text name_written v name e
 
-maybe_number_written : (v : Value) (n : Option ℕ) → maybe_in number_in v ≡ Some n → v ≡ or_null number_cell n
+pub maybe_number_written : (v : Value) (n : Option ℕ) → maybe_in number_in v ≡ Some n → v ≡ or_null number_cell n
 maybe_number_written v n e = maybe_written number_in number_cell number_written v n e
 
-key_written : (a b : Value) (key : VehicleKey) → key_in a b ≡ Some key → (a ≡ Text key.manufacturer) × (b ≡ Text key.serial)
+pub key_written : (a b : Value) (key : VehicleKey) → key_in a b ≡ Some key → (a ≡ Text key.manufacturer) × (b ≡ Text key.serial)
 unfolding key_in
 key_written a b key e =
     let m = if_some_parts _ _ _ e in

@@ -30,11 +30,11 @@ use Rattle.agv_tables.proofs.schema.TablesMade as tables
 
 -- ---- the names
 
-free_of : (s : Schema) (all : List Table) → list_any (is_used s) (map (λ (t : Table). t.name) all) ≡ false → tables.AreFree s all
+pub free_of : (s : Schema) (all : List Table) → list_any (is_used s) (map (λ (t : Table). t.name) all) ≡ false → tables.AreFree s all
 free_of s [] free = tt
 free_of s (t ∷ all) free = let p = or_parts _ _ free in (p.0, free_of s all p.1)
 
-tables_own : tables.AreOwn desk_tables
+pub tables_own : tables.AreOwn desk_tables
 unfolding everything
 tables_own = (((λ rest. refl), refl), (((λ rest. refl), refl), (((λ rest. refl), refl), (((λ rest. refl), refl), (((λ rest. refl), refl), (((λ rest. refl), refl), (((λ rest. refl), refl), (((λ rest. refl), refl), (((λ rest. refl), refl), (((λ rest. refl), refl), (((λ rest. refl), refl), (((λ rest. refl), refl), (((λ rest. refl), refl), (((λ rest. refl), refl), tt))))))))))))))
 

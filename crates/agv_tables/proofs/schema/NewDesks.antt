@@ -30,7 +30,7 @@ use Rattle.agv_tables.specs.schema.DeskTables.{first_rows}
 use Rattle.agv_tables.specs.rows.RowLists.{row_lists}
 use Rattle.agv_tables.proofs.rows.TripRowLaws.{ActsListed, JourneysListed}
 
-no_entries : {K X : Type 0} (R : K → K → Ordering) → finite.entries (finite.empty {K = K} {X = X} {R = R}) ≡ []
+pub no_entries : {K X : Type 0} (R : K → K → Ordering) → finite.entries (finite.empty {K = K} {X = X} {R = R}) ≡ []
 no_entries {K} {X} R = nil_from_length _ (sym (finite.len-entries (finite.empty {K = K} {X = X} {R = R})) ∙ finite.len-empty R X)
 
 -- a list in which nothing is

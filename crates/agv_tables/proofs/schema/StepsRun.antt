@@ -61,7 +61,7 @@ runs_one sql old new (Ok count) ended runs = elim (cases_Bool old.in_transaction
 
 -- ---- the texts in turn
 
-runs_more : (steps more : List (Bool × List ℕ)) (a b c : Database) → RunSteps steps a b → RunSteps more b c → RunSteps (steps ++ more) a c
+pub runs_more : (steps more : List (Bool × List ℕ)) (a b c : Database) → RunSteps steps a b → RunSteps more b c → RunSteps (steps ++ more) a c
 runs_more [] more a b c p q = subst (λ d. RunSteps more d c) p q
 runs_more ((true, sql) ∷ steps) more a b c p q = (p.0, p.1, runs_more steps more p.0 b c p.2 q)
 runs_more ((false, sql) ∷ steps) more a b c p q = runs_more steps more a b c p q

@@ -40,7 +40,7 @@ fn note_hold(holds: &mut HoldTable, thing: &Thing, key: &VehicleKey) -> Result<(
 }
 
 // What these rows tell, as a table and as a list.
-fn holds_in_rows(alloc: Global, rows: &[Row]) -> Result<HeldThings, ReadingFault>
+pub(crate) fn holds_in_rows(alloc: Global, rows: &[Row]) -> Result<HeldThings, ReadingFault>
     ensures { Reads (table_read result) (read_rows hold_in map.empty rows.now) }
 {
     let mut table = HoldTable::new(alloc);

@@ -83,7 +83,7 @@ pub(crate) fn stations_in_rows(
 }
 
 // Whether the table has a row of this key.
-fn has_vehicle(table: &ByVehicle<VehicleRow>, key: &VehicleKey) -> bool
+pub(crate) fn has_vehicle(table: &ByVehicle<VehicleRow>, key: &VehicleKey) -> bool
     ensures { result ≡ is_some (map.get table.now key.now) }
 {
     table.get(*key).is_some()

@@ -101,7 +101,7 @@ fn find_rowids<S: Alter>(conn: &mut Connection<S>, table: TableName) -> Result<V
 }
 
 // Whether each row of a table has a whole number of its own.
-fn query_keyed<S: Alter>(
+pub(crate) fn query_keyed<S: Alter>(
     alloc: Global,
     conn: &mut Connection<S>,
     table: TableName,

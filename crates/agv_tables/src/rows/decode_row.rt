@@ -64,7 +64,7 @@ pub(crate) fn decode_station(row: &Row) -> Option<(Name, StationSite)>
 
 // The vehicle that two columns name.
 #[tactic(auto, unfolding(crate::specs::rows::Columns::key_in))]
-fn key_at(row: &Row, first: usize, second: usize) -> Option<VehicleKey>
+pub(crate) fn key_at(row: &Row, first: usize, second: usize) -> Option<VehicleKey>
     ensures { result ≡ key_in (column row.now first) (column row.now second) }
 {
     let manufacturer = name_at(row, first)?;

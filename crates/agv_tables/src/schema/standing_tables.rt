@@ -42,7 +42,7 @@ fn stands_by(alloc: Global, schema: &Schema, text: &str) -> Result<bool, Memory>
 }
 
 // The same of each of the tables that the texts define.
-fn stand_by(alloc: Global, schema: &Schema, texts: &[&str]) -> Result<bool, Memory>
+pub(crate) fn stand_by(alloc: Global, schema: &Schema, texts: &[&str]) -> Result<bool, Memory>
     ensures { (tables : List Table) → AllZip (λ text (table : Table). table_defined_by text ≡ Ok table) (map (λ text. text.now) texts.now) tables → AllByRecursion IsPlain tables
         → IfOk result (λ stand. IsTrue stand ↔ AllByRecursion (StandsAlike schema.now) tables) }
 {

@@ -47,7 +47,7 @@ fn is_free(tables: &[Table], tree: u32) -> bool
 }
 
 // Whether no two of these tables lie in one tree.
-fn are_apart(tables: &[Table]) -> bool
+pub(crate) fn are_apart(tables: &[Table]) -> bool
     ensures { IsTrue result ↔ IsAscending (λ (s t : Table). s.tree ≢ t.tree) tables.now }
 {
     let mut rest = tables;

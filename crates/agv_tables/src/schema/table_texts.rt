@@ -1,7 +1,6 @@
 //! The texts of SQL that make the tables of the desk.
 ghost use Rattle.std.specs.Prelude.{◌≡◌, not, map};
 ghost use Rattle.sqlite_catalog.specs.Change.{is_used};
-ghost use Rattle.agv_tables.specs.first_schema.Moved.{added_texts};
 ghost use Rattle.agv_tables.specs.schema.SchemaTexts.{table_texts, making_steps, DefineTables};
 
 use sqlite_catalog::layout::is_used;
@@ -37,13 +36,13 @@ const HOLD: &str =
 
 const USED: &str = "CREATE TABLE used (kind TEXT, id TEXT, PRIMARY KEY (kind, id)) STRICT";
 
-const CAPACITY: &str =
+pub(crate) const CAPACITY: &str =
     "CREATE TABLE capacity (manufacturer TEXT, serial TEXT, capacity INTEGER NOT NULL, PRIMARY KEY (manufacturer, serial)) STRICT";
 
-const JOURNEY: &str =
+pub(crate) const JOURNEY: &str =
     "CREATE TABLE journey (order_id TEXT PRIMARY KEY, manufacturer TEXT NOT NULL, serial TEXT NOT NULL, start TEXT NOT NULL, first INTEGER NOT NULL, base INTEGER NOT NULL, sent INTEGER NOT NULL, confirmed INTEGER, seen INTEGER NOT NULL, UNIQUE (manufacturer, serial)) STRICT";
 
-const ACT: &str =
+pub(crate) const ACT: &str =
     "CREATE TABLE act (order_id TEXT, n INTEGER, job TEXT NOT NULL, kind TEXT NOT NULL, place_at INTEGER NOT NULL, status TEXT NOT NULL, PRIMARY KEY (order_id, n), UNIQUE (job, kind)) STRICT";
 
 /// The texts that define the tables, one for each, in the order in which they are carried out.
@@ -54,13 +53,6 @@ pub fn creation_texts() -> [&'static str; 14]
         META, NODE, EDGE, STATION, VEHICLE, TRIP, LEG, LOAD, JOB, HOLD, USED, CAPACITY, JOURNEY,
         ACT,
     ]
-}
-
-/// Those of them whose tables came with the second schema.
-pub(crate) fn added_texts() -> [&'static str; 3]
-    ensures { map (λ text. text.now) result ≡ added_texts }
-{
-    [CAPACITY, JOURNEY, ACT]
 }
 
 // Whether nothing has the name.
