@@ -13,6 +13,7 @@
 //! - `failing_streams` has it serve streams over such files.
 //! - `large_streams` asks for the reports and the export of 500 stations and 100,000 loads.
 //! - `refused_changes` writes a list of changes of which SQL refuses one.
+//! - `moving` moves databases of the first schema, on files that fail, too.
 //! - `table_cases` makes and takes over desks, serves and reads for these, and `disks` has files in memory that fail.
 //! - `streams` has a desk serve requests as bytes, of which `examples` has some: in pieces, with a reader or a writer of `fakes`
 //!   that fails, to each kind of end, a thousand in one input, and one of the greatest length.
@@ -42,6 +43,8 @@ mod fakes;
 mod kept_desks;
 #[cfg(test)]
 mod large_streams;
+#[cfg(test)]
+mod moving;
 #[cfg(test)]
 mod refused_changes;
 #[cfg(test)]
