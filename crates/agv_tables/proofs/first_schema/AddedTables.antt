@@ -1,12 +1,11 @@
 -- Where three tables are made beside the eleven of the first schema, the fourteen stand, and the eleven have the rows that they had.
-use Rattle.std.proofs.Common.{◌≡◌, ◌≢◌, ◌∙◌, ◌^◌, ◌++◌, ℕ, true, false, nat_le, List, [], ◌∷◌, map, fold, drop, append_assoc, append-nil, Some, slice_get, rules, inl, inr, refl, sym, ap, subst}
+use Rattle.std.proofs.Common.{◌≡◌, ◌∙◌, ◌^◌, ◌++◌, ℕ, true, false, nat_le, List, [], ◌∷◌, fold, append_assoc, append-nil, Some, slice_get, rules, inl, inr, refl, sym, ap, subst}
 use Rattle.std.specs.List.{AllByRecursion, AllZip, position_from}
 use Rattle.std.proofs.lemmas.Bool.{cases_Bool}
 use Rattle.sqlite_value.specs.Order.{Row}
-use Rattle.sqlite_trees.specs.Tree.{Trees, IsAscending}
 use Rattle.sqlite_schema.specs.declared.schema.Schema.{Schema}
 use Rattle.sqlite_schema.specs.declared.schema.Table.{Table}
-use Rattle.sqlite_schema.specs.Names.{same_name, table_named}
+use Rattle.sqlite_schema.specs.Names.{same_name}
 use Rattle.sqlite_rules.specs.Lists.{Has}
 use Rattle.sqlite_rules.proofs.ListLemmas.{all_has}
 use Rattle.sqlite_catalog.specs.Change.{created, next_tree}

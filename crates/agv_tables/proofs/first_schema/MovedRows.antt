@@ -1,7 +1,7 @@
 -- The rows of the first schema of a world, moved, are those that the second has of it.
-use Rattle.std.proofs.Common.{◌≡◌, ◌∙◌, ◌++◌, ◌≤◌, ℕ, List, [], ◌∷◌, map, append_assoc, append-nil, IsPermutation, refl, sym, ap, subst, arith}
+use Rattle.std.proofs.Common.{◌≡◌, ◌∙◌, ◌++◌, ℕ, List, [], ◌∷◌, map, append-nil, IsPermutation, refl, sym, ap, subst, arith}
 use Rattle.std.specs.FinMap as finite
-use Rattle.std.specs.List.{AllZip, flat_map}
+use Rattle.std.specs.List.{flat_map}
 use Rattle.std.specs.Ordering.{nat_cmp}
 use Rattle.std.proofs.lemmas.Cmp.{nat_cmp_total}
 use Rattle.std.proofs.lemmas.List.Sorted.{IsPermutation-middle, IsPermutation-refl, IsPermutation-sym, IsPermutation-trans}
@@ -10,12 +10,12 @@ use Rattle.agv_header.specs.Key.{key_cmp}
 use Rattle.agv_header.specs.Name.{name_cmp}
 use Rattle.agv_header.specs.declared.key.VehicleKey.{VehicleKey}
 use Rattle.agv_layout.specs.Layout.{Layout}
-use Rattle.agv_trip_rows.specs.TripRows.{act_rows, acts_of, all_act_rows, journey_of, journey_rows, journeys_of}
+use Rattle.agv_trip_rows.specs.TripRows.{act_rows, acts_of, journey_of, journeys_of}
 use Rattle.agv_trip_rows.specs.declared.act_row.ActRow.{ActRow}
 use Rattle.agv_trip_rows.specs.declared.journey_row.JourneyRow.{JourneyRow}
 use Rattle.agv_world.specs.Kept.{Keeps}
 use Rattle.agv_world.specs.Lawful.{IsLawful, IsVehicleOf}
-use Rattle.agv_world.specs.Rows.{Rows, rows_of}
+use Rattle.agv_world.specs.Rows.{rows_of}
 use Rattle.agv_world.specs.Worlds.{World}
 use Rattle.agv_world.specs.declared.key.LegKey.{LegKey}
 use Rattle.agv_world.specs.declared.row.TripRow.{TripRow}

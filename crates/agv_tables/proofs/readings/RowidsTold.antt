@@ -11,7 +11,7 @@ use Rattle.sqlite.specs.Held.{Held, state}
 use Rattle.sqlite.specs.State.{HasCleanDisk, IsUnchanged, IsRolledBack, Survives}
 use Rattle.sqlite.proofs.StateLemmas.{survives_then}
 use Rattle.agv_world.specs.Rows.{rows_of}
-use Rattle.agv_tables.specs.rows.DeskRows.{AreKeyed, HaveRows, IsDesk, StandApart, Placing, table_names, width_of}
+use Rattle.agv_tables.specs.rows.DeskRows.{AreKeyed, HaveRows, StandApart, Placing, table_names, width_of}
 use Rattle.agv_tables.specs.sql.Errors.{IsOfStore, is_of_store}
 use Rattle.agv_tables.specs.sql.Connections.{HasStorageCause}
 use Rattle.agv_tables.specs.queries.ReadingFault.{reading_fault_of}

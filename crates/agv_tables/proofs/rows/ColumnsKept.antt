@@ -22,7 +22,7 @@ use Rattle.agv_world.specs.declared.row.Sent.{Sent}
 use Rattle.agv_world.specs.declared.row.VehicleRow.{VehicleRow}
 use Rattle.agv_tables.specs.rows.ValueEncodings.{name_in, number_cell, number_in, instant_in, maybe_in, place_kind_in, thing_kind_in}
 use Rattle.agv_tables.specs.rows.Columns.{meta_columns, meta_in, edge_columns, edge_in, station_columns, station_in, key_in, rest_in, sent_in, vehicle_columns, vehicle_in, capacity_columns, capacity_in, journey_columns, journey_in, act_columns, act_in, leg_columns, leg_in, load_columns, load_in, job_columns, job_in, hold_columns, hold_in, used_columns, used_in}
-use Rattle.agv_tables.specs.rows.TypedRows.{IsNumber, AreEnds, IsSpot, IsSending, IsVehicleRow, IsJourneyRow, IsActRow, IsLegKey, IsPlace, IsJobRow, IsThing}
+use Rattle.agv_tables.specs.rows.TypedRows.{IsNumber, AreEnds, IsStationSite, IsSending, IsVehicleRow, IsJourneyRow, IsActRow, IsLegKey, IsPlace, IsJobRow, IsThing}
 use Rattle.agv_tables.specs.declared.rows.capacity_row.CapacityRow.{CapacityRow}
 use Rattle.agv_tables.specs.declared.rows.words.PlaceKind.TheVariants as kind
 use Rattle.agv_tables.specs.declared.rows.words.ThingKind.TheVariants as held
@@ -88,7 +88,7 @@ meta_kept id schema is also = rw (number_kept id is, number_kept schema also)
 pub edge_kept : (id : List ℕ) (ends : EdgeEnds) → IsName id → AreEnds ends → edge_in (edge_columns id ends) ≡ Some (id, ends)
 edge_kept id ends is are = rw (name_kept id is, name_kept ends.start are.0, name_kept ends.finish are.1)
 
-pub station_kept : (id : List ℕ) (spot : StationSite) → IsName id → IsSpot spot → station_in (station_columns id spot) ≡ Some (id, spot)
+pub station_kept : (id : List ℕ) (spot : StationSite) → IsName id → IsStationSite spot → station_in (station_columns id spot) ≡ Some (id, spot)
 station_kept id spot is at = rw (name_kept id is, name_kept spot.node at.0, number_kept spot.capacity at.1)
 
 pub vehicle_kept : (key : VehicleKey) (row : VehicleRow) → IsKey key → IsVehicleRow row → vehicle_in (vehicle_columns key row) ≡ Some (key, record row { capacity = 1 })

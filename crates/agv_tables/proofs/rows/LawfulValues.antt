@@ -31,7 +31,7 @@ use Rattle.agv_world.specs.declared.row.JobRow.{JobRow}
 use Rattle.agv_world.specs.declared.row.VehicleRow.{VehicleRow}
 use Rattle.agv_track.specs.Footprints.{footprint_of}
 use Rattle.agv_tables.specs.schema.SchemaNumbers.{desk_seats}
-use Rattle.agv_tables.specs.rows.TypedRows.{AreEnds, IsJobRow, IsPlace, IsSpot, IsVehicleRow}
+use Rattle.agv_tables.specs.rows.TypedRows.{AreEnds, IsJobRow, IsPlace, IsStationSite, IsVehicleRow}
 use Rattle.agv_tables.proofs.rows.SpreadRows.{spread_from}
 
 -- ---- used names
@@ -148,7 +148,7 @@ module _ (world : World) (lawful : IsLawful desk_seats world) where
   pub edge_named : (id : List ℕ) (ends : EdgeEnds) → IsEdge world.layout id ends → IsName id
   edge_named id ends is = (edge_rules id ends is).edges_named id ends is
 
-  pub spot_value : (id : List ℕ) (spot : StationSite) → IsStation world.layout id spot → IsSpot spot
+  pub spot_value : (id : List ℕ) (spot : StationSite) → IsStation world.layout id spot → IsStationSite spot
   spot_value id spot is =
       let stands = (station_rules id spot is).stands id spot is in (node_named spot.node stands.0, few_enough spot.capacity stands.2)
 

@@ -1,5 +1,5 @@
 -- What holds of every row of the world, since its parts are of their types: names are names, numbers and moments are in their ranges.
-use Rattle.std.specs.Prelude.{◌≡◌, ℕ, ◌≤◌, IfSome}
+use Rattle.std.specs.Prelude.{ℕ, ◌≤◌, IfSome}
 use Rattle.agv_header.specs.Name.{IsName}
 use Rattle.agv_header.specs.declared.key.Thing.{Thing}
 use Rattle.agv_header.specs.declared.key.Thing.TheVariants as thing
@@ -21,8 +21,8 @@ IsNumber n = n ≤ 4294967295
 abbrev pub AreEnds : EdgeEnds → Type 0
 AreEnds ends = IsName ends.start × IsName ends.finish
 
-abbrev pub IsSpot : StationSite → Type 0
-IsSpot spot = IsName spot.node × IsNumber spot.capacity
+abbrev pub IsStationSite : StationSite → Type 0
+IsStationSite spot = IsName spot.node × IsNumber spot.capacity
 
 abbrev pub IsSending : Sent → Type 0
 IsSending sent = IsNumber sent.count × (sent.at ≤ 4102444799999)

@@ -13,7 +13,7 @@ ghost use Rattle.agv_world.specs.declared.key.UseKey.{UseKey};
 ghost use Rattle.agv_world.specs.declared.row.JobRow.{JobRow};
 ghost use Rattle.agv_world.specs.declared.row.VehicleRow.{VehicleRow};
 ghost use Rattle.agv_tables.specs.rows.Columns.{meta_columns, meta_in, node_columns, node_in, edge_columns, edge_in, station_columns, station_in, vehicle_columns, vehicle_in, capacity_columns, capacity_in, journey_columns, journey_in, act_columns, act_in, leg_columns, leg_in, load_columns, load_in, job_columns, job_in, hold_columns, hold_in, used_columns, used_in};
-ghost use Rattle.agv_tables.specs.rows.TypedRows.{IsNumber, AreEnds, IsSpot, IsVehicleRow, IsJourneyRow, IsActRow, IsLegKey, IsPlace, IsJobRow, IsThing};
+ghost use Rattle.agv_tables.specs.rows.TypedRows.{IsNumber, AreEnds, IsStationSite, IsVehicleRow, IsJourneyRow, IsActRow, IsLegKey, IsPlace, IsJobRow, IsThing};
 ghost use Rattle.agv_tables.specs.declared.rows.capacity_row.CapacityRow.{CapacityRow};
 ghost use Rattle.agv_trip_rows.specs.declared.act_row.ActRow.{ActRow};
 ghost use Rattle.agv_trip_rows.specs.declared.journey_row.JourneyRow.{JourneyRow};
@@ -23,7 +23,7 @@ pub fn columns_tell_their_row()
     ensures meta { (id schema : ℕ) → IsNumber id → IsNumber schema → meta_in (meta_columns id schema) ≡ Some (id, schema) }
     ensures node { (id : List ℕ) → IsName id → node_in (node_columns id) ≡ Some id }
     ensures edge { (id : List ℕ) (ends : EdgeEnds) → IsName id → AreEnds ends → edge_in (edge_columns id ends) ≡ Some (id, ends) }
-    ensures station { (id : List ℕ) (spot : StationSite) → IsName id → IsSpot spot → station_in (station_columns id spot) ≡ Some (id, spot) }
+    ensures station { (id : List ℕ) (spot : StationSite) → IsName id → IsStationSite spot → station_in (station_columns id spot) ≡ Some (id, spot) }
     ensures vehicle { (key : VehicleKey) (row : VehicleRow) → IsKey key → IsVehicleRow row → vehicle_in (vehicle_columns key row) ≡ Some (key, record row { capacity = 1 }) }
     ensures capacity { (key : VehicleKey) (room : CapacityRow) → IsKey key → IsNumber room.capacity → capacity_in (capacity_columns key room) ≡ Some (key, room) }
     ensures journey { (order : List ℕ) (row : JourneyRow) → IsName order → IsJourneyRow row → journey_in (journey_columns order row) ≡ Some (order, row) }
