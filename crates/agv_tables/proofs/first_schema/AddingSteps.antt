@@ -1,5 +1,5 @@
 -- The texts that make the three tables run in turn, where these can be made.
-use Rattle.std.proofs.Common.{◌≡◌, ◌∙◌, ◌++◌, ◌&&◌, ℕ, Bool, true, false, List, [], ◌∷◌, map, Result, Ok, Err, OnOk, IsTrue, refl, sym, ap}
+use Rattle.std.proofs.Common.{◌≡◌, ◌∙◌, ◌++◌, ℕ, Bool, true, false, List, [], ◌∷◌, map, Result, Ok, Err, OnOk, IsTrue, refl, sym}
 use Rattle.std.specs.List.{list_all}
 use Rattle.std.proofs.lemmas.Bool.{and_parts}
 use Rattle.sqlite_schema.specs.declared.schema.Schema.{Schema}
@@ -11,7 +11,7 @@ use Rattle.agv_tables.specs.declared.schema.table_name.TableName.TheVariants as 
 use Rattle.agv_tables.specs.first_schema.FirstRows.{is_first}
 use Rattle.agv_tables.specs.first_schema.Moved.{CanBeAdded, added_tables, is_added_name_taken}
 use Rattle.agv_tables.specs.rows.DeskRows.{is_unreferred, table_for}
-use Rattle.agv_tables.specs.schema.TextsRun.{RunSteps, RunsSteps}
+use Rattle.agv_tables.specs.schema.TextsRun.{RunsSteps}
 use Rattle.agv_tables.proofs.schema.StepsRun.{runs_more}
 
 -- ---- whether they can be made

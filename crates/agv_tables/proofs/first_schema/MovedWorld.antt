@@ -1,33 +1,29 @@
 -- Where the three tables are made and the rows are moved, the fourteen have the rows of the same world.
-use Rattle.std.proofs.Common.{◌≡◌, ◌≢◌, ◌∙◌, ◌++◌, ℕ, Bool, true, false, List, [], ◌∷◌, map, fold, drop, None, IsTrue, inl, inr, refl, sym, ap, subst}
-use Rattle.std.specs.List.{AllByRecursion, AllZip, position_from}
+use Rattle.std.proofs.Common.{◌≡◌, ◌≢◌, ◌∙◌, ◌++◌, ℕ, Bool, true, false, List, [], ◌∷◌, map, inl, inr, refl, sym, ap, subst}
+use Rattle.std.specs.List.{AllZip}
 use Rattle.std.proofs.lemmas.Bool.{cases_Bool, true≢false}
-use Rattle.sqlite_value.specs.Order.{Row}
-use Rattle.sqlite_trees.specs.Tree.{Trees, IsAscending}
+use Rattle.sqlite_trees.specs.Tree.{IsAscending}
 use Rattle.sqlite_schema.specs.declared.schema.Schema.{Schema}
 use Rattle.sqlite_schema.specs.declared.schema.Table.{Table}
-use Rattle.sqlite_schema.specs.Names.{same_name, table_named}
+use Rattle.sqlite_schema.specs.Names.{same_name}
 use Rattle.sqlite_rules.specs.Lists.{Has}
 use Rattle.sqlite_rules.proofs.ListLemmas.{all_from, all_has}
 use Rattle.sqlite_catalog.specs.Change.{is_used}
 use Rattle.sqlite_catalog.proofs.StepLemmas.{same_itself}
 use Rattle.sqlite_tied.specs.Compute.{everything}
-use Rattle.sqlite.specs.Effect.{Database, IsDatabase}
+use Rattle.sqlite.specs.Effect.{Database}
 use Rattle.sqlite.specs.State.{State}
-use Rattle.agv_world.specs.Kept.{Keeps}
 use Rattle.agv_world.specs.Rows.{rows_of}
-use Rattle.agv_world.specs.Worlds.{World}
 use Rattle.agv_world.specs.declared.world.World.{World as Tables}
 use Rattle.agv_tables.specs.declared.schema.table_name.TableName.{TableName}
 use Rattle.agv_tables.specs.declared.schema.table_name.TableName.TheVariants as the
-use Rattle.agv_tables.specs.first_schema.FirstRows.{HasFirstWorld, IsFirstDesk, first_lists, is_first}
-use Rattle.agv_tables.specs.first_schema.Moved.{CanBeAdded, LeavesMoved, MovesTables, MovesWorld, added_tables, added_texts, moved_lists}
+use Rattle.agv_tables.specs.first_schema.FirstRows.{IsFirstDesk, first_lists, is_first}
+use Rattle.agv_tables.specs.first_schema.Moved.{CanBeAdded, MovesTables, added_tables, added_texts, moved_lists}
 use Rattle.agv_tables.specs.rows.DeskRows.{Makes, Placing, is_unreferred, table_for}
 use Rattle.agv_tables.specs.rows.RowLists.{row_lists}
-use Rattle.agv_tables.specs.schema.DeskSchema.{with_new_table}
 use Rattle.agv_tables.specs.schema.DeskTables.{HasTable}
 use Rattle.agv_tables.specs.schema.TextsRun.{RunSteps, RunsSteps}
-use Rattle.agv_tables.proofs.first_schema.AddedTables.{AreAdded, is_second, rows_stay, second, second_holds, tree_is}
+use Rattle.agv_tables.proofs.first_schema.AddedTables.{AreAdded, is_second, rows_stay, second, second_holds}
 use Rattle.agv_tables.proofs.first_schema.MovedRows.{moved_alike, seats_grow}
 use Rattle.agv_tables.proofs.rows.ListsHeld.{held_alike}
 use Rattle.agv_tables.proofs.rows.TripRowLaws.{ActsListed, JourneysListed}

@@ -1,5 +1,5 @@
 -- The statements of the move that are of no change: all rows of a table are taken out, and `meta` gets its row.
-use Rattle.std.proofs.Common.{◌≡◌, ◌∙◌, not, ℕ, false, List, [], ◌∷◌, codes, filter, Result, OnOk, IsTrue, refl, ap, subst}
+use Rattle.std.proofs.Common.{◌≡◌, not, ℕ, List, [], ◌∷◌, codes, filter, Result, OnOk, refl, subst}
 use Rattle.sqlite_value.specs.Order.{Row}
 use Rattle.sqlite_sql.specs.Term.{col}
 use Rattle.sqlite_schema.specs.declared.schema.Schema.{Schema}
