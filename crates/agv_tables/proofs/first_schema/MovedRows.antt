@@ -1,5 +1,5 @@
 -- The rows of the first schema of a world, moved, are those that the second has of it.
-use Rattle.std.proofs.Common.{◌≡◌, ◌∙◌, ◌++◌, ℕ, List, [], ◌∷◌, map, append-nil, IsPermutation, refl, sym, ap, subst, arith}
+use Rattle.std.proofs.Common.{◌≡◌, ◌∙◌, ◌++◌, ℕ, List, [], ◌∷◌, map, append-nil, IsPermutation, refl, sym, ap, subst}
 use Rattle.std.specs.FinMap as finite
 use Rattle.std.specs.List.{flat_map}
 use Rattle.std.specs.Ordering.{nat_cmp}
@@ -10,12 +10,10 @@ use Rattle.sqlite_value.specs.Order.{Row}
 use Rattle.agv_header.specs.Key.{key_cmp}
 use Rattle.agv_header.specs.Name.{name_cmp}
 use Rattle.agv_header.specs.declared.key.VehicleKey.{VehicleKey}
-use Rattle.agv_layout.specs.Layout.{Layout}
 use Rattle.agv_trip_rows.specs.TripRows.{act_rows, acts_of, journey_of, journeys_of}
 use Rattle.agv_trip_rows.specs.declared.act_row.ActRow.{ActRow}
 use Rattle.agv_trip_rows.specs.declared.journey_row.JourneyRow.{JourneyRow}
 use Rattle.agv_world.specs.Kept.{Keeps}
-use Rattle.agv_world.specs.Lawful.{IsLawful, IsVehicleOf}
 use Rattle.agv_world.specs.Rows.{rows_of}
 use Rattle.agv_world.specs.Worlds.{World}
 use Rattle.agv_world.specs.declared.key.LegKey.{LegKey}
@@ -28,7 +26,7 @@ use Rattle.agv_tables.specs.first_schema.Moved.{for_each, moved_lists, with_jour
 use Rattle.agv_tables.specs.rows.Columns.{act_columns, edge_columns, hold_columns, job_columns, journey_columns, leg_columns, load_columns, meta_columns, node_columns, room_columns, station_columns, used_columns, vehicle_columns}
 use Rattle.agv_tables.specs.rows.DeskRows.{with_rows}
 use Rattle.agv_tables.specs.rows.RowLists.{AreAlike, row_lists, rows_for, rows_in, rows_of_acts}
-use Rattle.agv_tables.specs.schema.SchemaNumbers.{desk_seats, schema_number}
+use Rattle.agv_tables.specs.schema.SchemaNumbers.{schema_number}
 use Rattle.agv_tables.proofs.rows.TripRowLaws.{ActsListed, JourneysListed}
 use Rattle.agv_tables.proofs.sql.EntryEdits.{map_of_map}
 use Rattle.agv_tables.proofs.schema.NewDesks.{no_entries}
@@ -125,40 +123,3 @@ moved_alike journeys listed tables world keeps =
     (sym (all_added (meta_columns 1 schema_number ∷ []) (rows_for node_columns rows.nodes) (rows_in edge_columns rows.edges) (rows_in station_columns rows.stations) (rows_in vehicle_columns rows.vehicles) []
     (rows_in leg_columns rows.legs) (rows_in load_columns rows.loads) (rows_in job_columns rows.jobs) (rows_in hold_columns rows.holds) (rows_for used_columns rows.used) vehicles trips))
     (number, (same _, (same _, (same _, (same _, (same _, (same _, (same _, (same _, (same _, (same _, (rooms_are, (journeys_moved, (acts_moved, tt))))))))))))))
-
--- ---- more seats
-
-vehicle_grows : (layout : Layout) (row : VehicleRow) → IsVehicleOf 1 layout row → IsVehicleOf desk_seats layout row
-vehicle_grows layout row v = record {
-  carries = v.carries;
-  seated = omega (arith, v.seated);
-  node = v.node;
-  rest = v.rest;
-  header = v.header;
-  reported = v.reported;
-  orders = v.orders;
-  instants = v.instants;
-  pending = v.pending;
-}
-
--- a world with room for one load on each vehicle is lawful where they may have room for more
-pub seats_grow : (world : World) → IsLawful 1 world → IsLawful desk_seats world
-seats_grow world lawful =
-    let v = lawful.vehicles in
-    record {
-      vehicles = record {
-        laid = v.laid;
-        few_vehicles = v.few_vehicles;
-        few_orders = v.few_orders;
-        few_references = v.few_references;
-        vehicles_named = v.vehicles_named;
-        orders_named = v.orders_named;
-        references_named = v.references_named;
-        vehicles = λ key vehicle is. vehicle_grows world.layout vehicle.row (v.vehicles key vehicle is);
-        trips = v.trips;
-        used = v.used;
-        one_trip = v.one_trip;
-        apart = v.apart;
-      };
-      loads = lawful.loads;
-    }
