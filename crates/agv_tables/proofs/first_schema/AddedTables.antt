@@ -1,5 +1,9 @@
 -- Where three tables are made beside the eleven of the first schema, the fourteen stand, and the eleven have the rows that they had.
+<<<<<<< HEAD
 use Rattle.std.proofs.Common.{◌≡◌, ◌∙◌, ◌^◌, ◌++◌, ℕ, true, false, nat_le, List, [], ◌∷◌, fold, append_assoc, append-nil, Some, slice_get, rules, inl, inr, refl, sym, ap, subst}
+=======
+use Rattle.std.proofs.Common.{◌≡◌, ◌∙◌, ◌^◌, ◌++◌, ℕ, true, false, nat_le, List, [], ◌∷◌, fold, append_assoc, append-nil, Some, slice_get, inl, inr, refl, sym, ap, subst}
+>>>>>>> origin/second-schema
 use Rattle.std.specs.List.{AllByRecursion, AllZip, position_from}
 use Rattle.std.proofs.lemmas.Bool.{cases_Bool}
 use Rattle.sqlite_value.specs.Order.{Row}
@@ -9,8 +13,6 @@ use Rattle.sqlite_schema.specs.Names.{same_name}
 use Rattle.sqlite_rules.specs.Lists.{Has}
 use Rattle.sqlite_rules.proofs.ListLemmas.{all_has}
 use Rattle.sqlite_catalog.specs.Change.{created, next_tree}
-use Rattle.sqlite_catalog.specs.Listing.{IsTableRow}
-use Rattle.sqlite_catalog.proofs.LayoutLemmas.{zipped_left}
 use Rattle.sqlite.specs.Does.{lacks_sequence}
 use Rattle.sqlite.specs.Effect.{Database, IsDatabase}
 use Rattle.agv_tables.specs.declared.schema.table_name.TableName.{TableName}
@@ -21,7 +23,7 @@ use Rattle.agv_tables.specs.rows.DeskRows.{HaveRows, Holds, IsDesk, Placing, Tab
 use Rattle.agv_tables.specs.schema.DeskSchema.{sequence_table, with_new_table}
 use Rattle.agv_tables.specs.schema.DeskTables.{HasTable}
 use Rattle.agv_tables.proofs.schema.DeskPlaces.{is_among}
-use Rattle.agv_tables.proofs.schema.DeskStands.{LeaveRoom, have_rows}
+use Rattle.agv_tables.proofs.schema.DeskStands.{LeaveRoom, have_rows, low_tree}
 use Rattle.agv_tables.proofs.schema.NamesKept.{position_kept}
 use Rattle.agv_tables.proofs.schema.TablesKept.{got_kept, has_got}
 use Rattle.agv_tables.proofs.schema.TablesMade.{HaveTables}
@@ -61,12 +63,6 @@ stands_still desk later name s longer tree unreferred = record {
   low = subst (λ n. nat_le (2 ^ 31) n ≡ false) (sym tree) s.low;
   unreferred = unreferred;
 }
-
--- the number of a tree is below 65536
-low_tree : (db : Database) → IsDatabase db → (t : Table) → Has db.schema.tables t → nat_le (2 ^ 31) t.tree ≡ false
-low_tree db listed t has =
-    let r = zipped_left IsTableRow _ db.schema.tables t listed.lists.listed.tables has in
-    let below = r.2.described.low in search (rules, below)
 
 -- a table that was made stands, where its tree is that
 stands_new : (db : Database) → IsDatabase db → (tree : TableName → ℕ) (name : TableName) (rows : List Row) (h : HasTable db (table_for name) rows) → tree name ≡ h.tree

@@ -1,20 +1,31 @@
 -- The rows of the first schema of a world, moved, are those that the second has of it.
+<<<<<<< HEAD
 use Rattle.std.proofs.Common.{◌≡◌, ◌∙◌, ◌++◌, ℕ, List, [], ◌∷◌, map, append-nil, IsPermutation, refl, sym, ap, subst, arith}
+=======
+use Rattle.std.proofs.Common.{◌≡◌, ◌∙◌, ◌++◌, ℕ, List, [], ◌∷◌, map, append-nil, IsPermutation, refl, sym, ap, subst}
+>>>>>>> origin/second-schema
 use Rattle.std.specs.FinMap as finite
 use Rattle.std.specs.List.{flat_map}
 use Rattle.std.specs.Ordering.{nat_cmp}
 use Rattle.std.proofs.lemmas.Cmp.{nat_cmp_total}
+use Rattle.std.proofs.lemmas.List.{map-append}
 use Rattle.std.proofs.lemmas.List.Sorted.{IsPermutation-middle, IsPermutation-refl, IsPermutation-sym, IsPermutation-trans}
 use Rattle.sqlite_value.specs.Order.{Row}
 use Rattle.agv_header.specs.Key.{key_cmp}
 use Rattle.agv_header.specs.Name.{name_cmp}
 use Rattle.agv_header.specs.declared.key.VehicleKey.{VehicleKey}
+<<<<<<< HEAD
 use Rattle.agv_layout.specs.Layout.{Layout}
+=======
+>>>>>>> origin/second-schema
 use Rattle.agv_trip_rows.specs.TripRows.{act_rows, acts_of, journey_of, journeys_of}
 use Rattle.agv_trip_rows.specs.declared.act_row.ActRow.{ActRow}
 use Rattle.agv_trip_rows.specs.declared.journey_row.JourneyRow.{JourneyRow}
 use Rattle.agv_world.specs.Kept.{Keeps}
+<<<<<<< HEAD
 use Rattle.agv_world.specs.Lawful.{IsLawful, IsVehicleOf}
+=======
+>>>>>>> origin/second-schema
 use Rattle.agv_world.specs.Rows.{rows_of}
 use Rattle.agv_world.specs.Worlds.{World}
 use Rattle.agv_world.specs.declared.key.LegKey.{LegKey}
@@ -27,8 +38,9 @@ use Rattle.agv_tables.specs.first_schema.Moved.{for_each, moved_lists, with_jour
 use Rattle.agv_tables.specs.rows.Columns.{act_columns, edge_columns, hold_columns, job_columns, journey_columns, leg_columns, load_columns, meta_columns, node_columns, room_columns, station_columns, used_columns, vehicle_columns}
 use Rattle.agv_tables.specs.rows.DeskRows.{with_rows}
 use Rattle.agv_tables.specs.rows.RowLists.{AreAlike, row_lists, rows_for, rows_in, rows_of_acts}
-use Rattle.agv_tables.specs.schema.SchemaNumbers.{desk_seats, schema_number}
+use Rattle.agv_tables.specs.schema.SchemaNumbers.{schema_number}
 use Rattle.agv_tables.proofs.rows.TripRowLaws.{ActsListed, JourneysListed}
+use Rattle.agv_tables.proofs.sql.EntryEdits.{map_of_map}
 use Rattle.agv_tables.proofs.schema.NewDesks.{no_entries}
 
 -- ---- rows in front of others, one after the other
@@ -84,21 +96,13 @@ module _ (meta nodes edges stations vehicles trips legs loads jobs holds used : 
 
 -- ---- the tables of journeys and acts
 
-map_twice : {A B C : Type 0} (f : B → C) (g : A → B) (xs : List A) → map f (map g xs) ≡ map (λ x. f (g x)) xs
-map_twice f g [] = refl
-map_twice f g (x ∷ xs) = ap (λ ys. f (g x) ∷ ys) (map_twice f g xs)
-
-map_append : {A B : Type 0} (f : A → B) (xs ys : List A) → map f (xs ++ ys) ≡ map f xs ++ map f ys
-map_append f [] ys = refl
-map_append f (x ∷ xs) ys = ap (λ zs. f x ∷ zs) (map_append f xs ys)
-
 map_parts : {A B C : Type 0} (f : B → C) (g : A → List B) (xs : List A) → map f (flat_map g xs) ≡ flat_map (λ x. map f (g x)) xs
 map_parts f g [] = refl
-map_parts f g (x ∷ xs) = map_append f (g x) (flat_map g xs) ∙ ap (λ ys. map f (g x) ++ ys) (map_parts f g xs)
+map_parts f g (x ∷ xs) = map-append f (g x) (flat_map g xs) ∙ ap (λ ys. map f (g x) ++ ys) (map_parts f g xs)
 
 journeys_are : JourneysListed → (trips : finite.FinMap name_cmp TripRow) → map journey (finite.entries trips) ≡ rows_in journey_columns (journeys_of trips)
 journeys_are listed trips =
-    sym (ap (map (λ (e : List ℕ × JourneyRow). journey_columns e.0 e.1)) (listed trips) ∙ map_twice (λ (e : List ℕ × JourneyRow). journey_columns e.0 e.1) (λ (e : List ℕ × TripRow). (e.0, journey_of e.1)) (finite.entries trips))
+    sym (ap (map (λ (e : List ℕ × JourneyRow). journey_columns e.0 e.1)) (listed trips) ∙ map_of_map (λ (e : List ℕ × JourneyRow). journey_columns e.0 e.1) (λ (e : List ℕ × TripRow). (e.0, journey_of e.1)) (finite.entries trips))
 
 acts_are : ActsListed → (trips : finite.FinMap name_cmp TripRow) → flat_map acts (finite.entries trips) ≡ rows_in act_columns (acts_of trips)
 acts_are listed trips =
@@ -131,40 +135,3 @@ moved_alike journeys listed tables world keeps =
     (sym (all_added (meta_columns 1 schema_number ∷ []) (rows_for node_columns rows.nodes) (rows_in edge_columns rows.edges) (rows_in station_columns rows.stations) (rows_in vehicle_columns rows.vehicles) []
     (rows_in leg_columns rows.legs) (rows_in load_columns rows.loads) (rows_in job_columns rows.jobs) (rows_in hold_columns rows.holds) (rows_for used_columns rows.used) vehicles trips))
     (number, (same _, (same _, (same _, (same _, (same _, (same _, (same _, (same _, (same _, (same _, (rooms_are, (journeys_moved, (acts_moved, tt))))))))))))))
-
--- ---- more seats
-
-vehicle_grows : (layout : Layout) (row : VehicleRow) → IsVehicleOf 1 layout row → IsVehicleOf desk_seats layout row
-vehicle_grows layout row v = record {
-  carries = v.carries;
-  seated = omega (arith, v.seated);
-  node = v.node;
-  rest = v.rest;
-  header = v.header;
-  reported = v.reported;
-  orders = v.orders;
-  instants = v.instants;
-  pending = v.pending;
-}
-
--- a world with room for one load on each vehicle is lawful where they may have room for more
-pub seats_grow : (world : World) → IsLawful 1 world → IsLawful desk_seats world
-seats_grow world lawful =
-    let v = lawful.vehicles in
-    record {
-      vehicles = record {
-        laid = v.laid;
-        few_vehicles = v.few_vehicles;
-        few_orders = v.few_orders;
-        few_references = v.few_references;
-        vehicles_named = v.vehicles_named;
-        orders_named = v.orders_named;
-        references_named = v.references_named;
-        vehicles = λ key vehicle is. vehicle_grows world.layout vehicle.row (v.vehicles key vehicle is);
-        trips = v.trips;
-        used = v.used;
-        one_trip = v.one_trip;
-        apart = v.apart;
-      };
-      loads = lawful.loads;
-    }

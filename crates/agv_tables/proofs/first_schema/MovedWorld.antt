@@ -24,7 +24,8 @@ use Rattle.agv_tables.specs.rows.RowLists.{row_lists}
 use Rattle.agv_tables.specs.schema.DeskTables.{HasTable}
 use Rattle.agv_tables.specs.schema.TextsRun.{RunSteps, RunsSteps}
 use Rattle.agv_tables.proofs.first_schema.AddedTables.{AreAdded, is_second, rows_stay, second, second_holds}
-use Rattle.agv_tables.proofs.first_schema.MovedRows.{moved_alike, seats_grow}
+use Rattle.agv_tables.proofs.first_schema.MovedRows.{moved_alike}
+use Rattle.agv_tables.proofs.first_schema.WorldTold.{more_seats}
 use Rattle.agv_tables.proofs.rows.ListsHeld.{held_alike}
 use Rattle.agv_tables.proofs.rows.TripRowLaws.{ActsListed, JourneysListed}
 use Rattle.agv_tables.proofs.schema.Creations.{DefinesTable, unused}
@@ -113,7 +114,7 @@ module _ (journeys : JourneysListed) (acts : ActsListed) (tables_now : Tables) w
       record {
         schema_is = others.schema_is ∙ made.schema_is;
         at = at;
-        has = record { stands = stands; lawful = seats_grow world was.lawful; rows = held_alike at new.now (moved_lists tables_now lists) (row_lists (rows_of world)) (moved_alike journeys acts tables_now world keeps) holds };
+        has = record { stands = stands; lawful = more_seats world was.lawful; rows = held_alike at new.now (moved_lists tables_now lists) (row_lists (rows_of world)) (moved_alike journeys acts tables_now world keeps) holds };
         others = all_from _ old.now.schema.tables (λ t among other.
             all_has (λ (u : Table). ((name : TableName) → u.tree ≢ at.tree name) → new.now.trees u.tree ≡ mid.now.trees u.tree) mid.now.schema.tables t others.rows (made.grows.among t among)
             (elsewhere first old.now mid.now was.stands was.rows.schema_is can made t among other)

@@ -72,6 +72,12 @@ module _ (name : List ℕ) where
 
 -- ---- a table by its name
 
+-- the number of a tree is below 65536
+pub low_tree : (db : Database) → IsDatabase db → (t : Table) → Has db.schema.tables t → nat_le (2 ^ 31) t.tree ≡ false
+low_tree db listed t has =
+    let r = zipped_left IsTableRow _ db.schema.tables t listed.lists.listed.tables has in
+    let below = r.2.described.low in search (rules, below)
+
 module _ (db : Database) (h : HasDesk db first_rows) where
   has_table : (name : TableName) → HasTable db (table_for name) (table_at (place_of name) first_rows)
   has_table the.Meta = h.0
@@ -92,16 +98,10 @@ module _ (db : Database) (h : HasDesk db first_rows) where
   abbrev desk : Placing
   desk = record { schema = db.schema; tree = λ name. (has_table name).tree }
 
-  -- the number of a tree is below 65536
-  low : IsDatabase db → (t : Table) → Has db.schema.tables t → nat_le (2 ^ 31) t.tree ≡ false
-  low listed t has =
-      let r = zipped_left IsTableRow _ db.schema.tables t listed.lists.listed.tables has in
-      let below = r.2.described.low in search (rules, below)
-
   stands : IsDatabase db → (name : TableName) → is_unreferred (table_for name).name db.schema.tables ≡ true → TableStands desk name
   stands listed name unreferred =
       let it = has_table name in
-      record { at = it.at; named = it.named; there = it.there; low = low listed _ (has_got db.schema.tables it.at _ it.there); unreferred = unreferred }
+      record { at = it.at; named = it.named; there = it.there; low = low_tree db listed _ (has_got db.schema.tables it.at _ it.there); unreferred = unreferred }
 
 -- ---- the rows
 

@@ -6,7 +6,6 @@ ghost use Rattle.std.specs.FinMap as finite;
 ghost use Rattle.sqlite.specs.State.{HasCleanDisk, KeepsCommit, Survives};
 ghost use Rattle.sqlite.specs.Held.{state};
 ghost use Rattle.sqlite.specs.Values.{bound};
-ghost use Rattle.agv_trip_rows.specs.TripRows.{journey_of};
 ghost use Rattle.agv_tables.specs.declared.schema.table_name.TableName.TheVariants as the;
 ghost use Rattle.agv_tables.specs.first_schema.Moved.{for_each, moved_lists, numbered_anew, with_journey, with_room, without_all};
 ghost use Rattle.agv_tables.specs.rows.Columns.{journey_columns, meta_columns, room_columns};

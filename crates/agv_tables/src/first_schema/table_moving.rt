@@ -1,11 +1,9 @@
 //! A database of the first schema is moved to the second, in one transaction.
-ghost use Rattle.std.specs.Prelude.{◌≡◌, ◌∷◌, ◌≢◌, ◌↔◌, [], false, true, Err, IsTrue, IfErr, OnErr, OnOk, map};
-ghost use Rattle.std.specs.FinMap as finite;
+ghost use Rattle.std.specs.Prelude.{◌≡◌, ◌≢◌, ◌↔◌, false, true, Err, IsTrue, IfErr, OnErr, OnOk, map};
 ghost use Rattle.sqlite.specs.State.{HasCleanDisk, KeepsCommit, Survives};
 ghost use Rattle.sqlite.specs.Held.{state};
-ghost use Rattle.agv_tables.specs.declared.schema.table_name.TableName.TheVariants as the;
 ghost use Rattle.agv_tables.specs.declared.schema.making_fault.MakingFault.TheVariants as fault;
-ghost use Rattle.agv_tables.specs.first_schema.Moved.{CanBeAdded, LeavesMoved, MovesTables, added_texts, for_each, moved_lists, numbered_anew, with_journey, with_room, without_all};
+ghost use Rattle.agv_tables.specs.first_schema.Moved.{CanBeAdded, LeavesMoved, MovesTables, added_texts};
 ghost use Rattle.agv_tables.specs.rows.DeskRows.{Makes};
 ghost use Rattle.agv_tables.specs.schema.TextsRun.{RunsSteps};
 
