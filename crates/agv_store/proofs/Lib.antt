@@ -5,7 +5,7 @@ mod Crashes
 mod Deciding
 mod Found
 mod InTurn
-mod Migration
+mod Moving
 mod ReportLists
 mod Reporting
 mod Writing

@@ -1,9 +1,5 @@
 -- Where three tables are made beside the eleven of the first schema, the fourteen stand, and the eleven have the rows that they had.
-<<<<<<< HEAD
-use Rattle.std.proofs.Common.{◌≡◌, ◌∙◌, ◌^◌, ◌++◌, ℕ, true, false, nat_le, List, [], ◌∷◌, fold, append_assoc, append-nil, Some, slice_get, rules, inl, inr, refl, sym, ap, subst}
-=======
 use Rattle.std.proofs.Common.{◌≡◌, ◌∙◌, ◌^◌, ◌++◌, ℕ, true, false, nat_le, List, [], ◌∷◌, fold, append_assoc, append-nil, Some, slice_get, inl, inr, refl, sym, ap, subst}
->>>>>>> origin/second-schema
 use Rattle.std.specs.List.{AllByRecursion, AllZip, position_from}
 use Rattle.std.proofs.lemmas.Bool.{cases_Bool}
 use Rattle.sqlite_value.specs.Order.{Row}

@@ -1,4 +1,4 @@
-use Rattle.agv_store.proofs.Migration.{finds_fault, finds_first, finds_no_memory}
+use Rattle.agv_store.proofs.Moving.{finds_fault, finds_first, finds_no_memory}
 use Rattle.agv_store.proofs.migration.find_first_desk.Goals as goal
 
 pub returns-in_err-tables : goal.returns-in_err-tables

@@ -1,3 +1,3 @@
-use Rattle.agv_store.proofs.Migration.{migrates, moved_kept}
+use Rattle.agv_store.proofs.Moving.{migrates, moved_kept}
 use Rattle.agv_store.proofs.desk.Desk.migrate.Goals as goal
 
