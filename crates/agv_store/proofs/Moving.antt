@@ -1,12 +1,11 @@
 -- The move of a database from the first schema: what is found there, and what the desk knows after it.
-use Rattle.std.proofs.Common.{◌≡◌, ◌⊎◌, ◌∙◌, ℕ, inl, inr, IsTrue, Ok, Err, Result, false, refl, sym, ap, subst}
+use Rattle.std.proofs.Common.{◌≡◌, ◌⊎◌, ◌↔◌, ◌∙◌, ℕ, inl, inr, IsTrue, Ok, Err, Result, false, refl, sym, ap, subst}
 use Rattle.std.specs.Result.{IsErrAnd}
 use Rattle.sqlite.proofs.StateLemmas.{survives_then}
-use Rattle.sqlite_trees.specs.Tree.{Trees}
 use Rattle.sqlite_trees.specs.declared.store.Store.{Ghosts}
 use Rattle.sqlite.specs.Effect.{Database}
 use Rattle.sqlite.specs.Held.{Held, state}
-use Rattle.sqlite.specs.State.{IsUnchanged, IsRolledBack, State, Survives}
+use Rattle.sqlite.specs.State.{IsUnchanged, IsRolledBack, Survives}
 use Rattle.agv_world.specs.GoodOrder.{InGoodOrder}
 use Rattle.agv_world.specs.Kept.{Keeps}
 use Rattle.agv_world.specs.Lawful.{IsLawful}
@@ -16,7 +15,6 @@ use Rattle.agv_world.specs.Worlds.{World}
 use Rattle.agv_world.specs.declared.floor.Counted.{Counted}
 use Rattle.agv_world.specs.declared.world.World.{World as Tables}
 use Rattle.agv_tables.specs.first_schema.FirstFound.{FindsFirst}
-use Rattle.agv_tables.specs.first_schema.FirstRows.{HasNoFirstWorld}
 use Rattle.agv_tables.specs.first_schema.Moved.{CanBeAdded, LeavesMoved, MovesTables, MovesWorld}
 use Rattle.agv_tables.proofs.sql.Later.{later_by}
 use Rattle.agv_tables.specs.sql.Connections.{IsClean, IsOpen}
@@ -24,14 +22,13 @@ use Rattle.agv_tables.specs.declared.queries.reading_fault.ReadingFault.{Reading
 use Rattle.agv_tables.specs.declared.schema.making_fault.MakingFault.{MakingFault}
 use Rattle.agv_tables.specs.declared.schema.making_fault.MakingFault.TheVariants as making
 use Rattle.agv_store.specs.Counts.{count_in}
-use Rattle.agv_store.specs.Floors.{IsAsked, IsKept, Keyed, Knows, world_at}
+use Rattle.agv_store.specs.Floors.{IsAsked, IsKept, Knows, world_at}
 use Rattle.agv_store.specs.Migration.{CannotBeMigrated, FindsFirstDesk, FirstFound, LeavesMigrated, Migrates}
 use Rattle.agv_store.specs.OpenFaults.{of_making, of_reading}
 use Rattle.agv_store.specs.Opening.{IsDamaged, Opening}
 use Rattle.agv_store.specs.declared.counts.Counts.{Counts}
 use Rattle.agv_store.specs.declared.open_fault.OpenFault.{OpenFault}
 use Rattle.agv_store.specs.declared.open_fault.OpenFault.TheVariants as fault
-use Rattle.agv_store.proofs.Asked.{clean_before}
 use Rattle.agv_store.proofs.Found.{TellsItsWorld, read_damaged}
 
 -- ---- a refusal
@@ -59,24 +56,24 @@ LawfulIsInOrder = (seats : ℕ) (world : World) → IsLawful seats world → InG
 
 module _ {S : Type 0} (g : Ghosts S) where
   abbrev Stays : Held S → Held S → Type 0
-  Stays old new = (state g new ≡ state g old) ⊎ (IsUnchanged (state g old) (state g new) ⊎ IsRolledBack (state g old) (state g new))
+  Stays old new = (new ≡ old) ⊎ (IsUnchanged (state g old) (state g new) ⊎ IsRolledBack (state g old) (state g new))
 
   stays : (old new : Held S) (r : Result Tables ReadingFault) → FindsFirst g old new r → IsClean g new → Stays old new
   stays old new (Ok tables) finds clean = inr (inl (finds.kept clean))
   stays old new (Err why) finds clean = finds.failed clean
 
   open_by : (old new : Held S) → Stays old new → IsOpen g new → IsOpen g old
-  open_by old new (inl same) still = subst (λ (s : State). IsTrue s.is_open) same still
+  open_by old new (inl same) still = subst (IsOpen g) same still
   open_by old new (inr (inl kept)) still = kept.0.was_open
   open_by old new (inr (inr back)) still = back.was_open still
 
   now_by : (old new : Held S) → Stays old new → IsOpen g new → (state g old).committed ≡ (state g old).now → (state g new).now ≡ (state g old).now
-  now_by old new (inl same) still settled = ap (λ (s : State). s.now) same
+  now_by old new (inl same) still settled = ap (λ (h : Held S). (state g h).now) same
   now_by old new (inr (inl kept)) still settled = kept.0.now_is
   now_by old new (inr (inr back)) still settled = (back.undone still).0 ∙ settled
 
   committed_by : (old new : Held S) → Stays old new → IsOpen g new → (state g new).committed ≡ (state g old).committed
-  committed_by old new (inl same) still = ap (λ (s : State). s.committed) same
+  committed_by old new (inl same) still = ap (λ (h : Held S). (state g h).committed) same
   committed_by old new (inr (inl kept)) still = kept.0.committed_is
   committed_by old new (inr (inr back)) still = (back.undone still).1
 
@@ -137,8 +134,11 @@ module _ {S : Type 0} (g : Ghosts S) where
         let found = finds.found clean in
         finds.asked.same clean found.1 (sym (settled found.0))
 
-    had : IsClean g mid → FirstFound (state g old).now
+    abbrev had : IsClean g mid → FirstFound (state g old).now
     had clean = (finds.found clean).2.0
+
+    counted : (clean : IsClean g mid) (what : Counted) → count_in counts what ≡ count_of (had clean).world what
+    counted clean = (finds.found clean).2.2
 
     moves_by : (clean : IsClean g mid) (then : Database) → MovesTables tables (state g mid).now then → MovesWorld (had clean).first (had clean).world (state g old).now then
     moves_by clean then moved =
@@ -178,5 +178,19 @@ module _ {S : Type 0} (g : Ghosts S) where
           idle = idle;
           opens = λ clean _ _. (opens clean).1;
           knows = λ clean _. subst (λ (world : World). Knows g new world) (sym (told clean)) (knows clean);
-          counted = λ clean _ what. (finds.found (clean_mid clean)).2.2 what ∙ ap (λ (w : World). count_of w what) (sym (told clean));
+          counted = λ clean _ what. counted (clean_mid clean) what ∙ ap (λ (w : World). count_of w what) (sym (told clean));
         }
+
+  -- the names of the three tables are not free, or a key refers to one of them
+  abbrev Refused : MakingFault → Result (Unit {0}) MakingFault
+  Refused why = Err why
+
+  pub none_added : (old mid new : Held S) (tables : Tables) (counts : Counts) → FindsFirstDesk g old mid (Ok (tables, counts)) → (IsOpen g old → (state g old).now ≡ (state g old).committed)
+      → (why : MakingFault) (told : OpenFault) → told ≡ of_making why → (Refused why ≡ Refused making.Taken) ↔ (¬ CanBeAdded (state g mid).now.schema) → (Refused why ≡ Refused making.Taken → new ≡ mid)
+      → IsClean g new → IsDamaged (refused new told) → CannotBeMigrated (state g old).now
+  none_added old mid new tables counts finds settled why told told_is taken unchanged clean is =
+      let named : Refused why ≡ Refused making.Taken = ap Refused (taken_only why (sym told_is ∙ damaged_only new told is)) in
+      let early : IsClean g mid = subst (IsClean g) (unchanged named) clean in
+      let found = finds.found early in
+      let same = finds.asked.same early found.1 (sym (settled found.0)) in
+      inr (subst (λ (db : Database). ¬ CanBeAdded db.schema) same (taken.0 named))

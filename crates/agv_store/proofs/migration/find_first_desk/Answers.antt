@@ -3,7 +3,7 @@ use Rattle.agv_store.proofs.migration.find_first_desk.Goals as goal
 
 pub returns-in_err-tables : goal.returns-in_err-tables
 returns-in_err-tables g c =
-    finds_fault g.S.Store c.args.conn.now c.find_first_world.new.conn c.from_residual-in_err-tables.result c.in_err-tables.field-0.0 c.from_residual-in_err-tables.ensures.1 c.in_err-tables.ensures
+    finds_fault g.S.Store c.args.conn.now c.find_first_world.new.conn c.from_residual.result c.in_err-tables.field-0.0 c.from_residual.ensures.1 c.in_err-tables.ensures
 
 pub returns-in_err-counts : goal.returns-in_err-counts
 returns-in_err-counts g c =
