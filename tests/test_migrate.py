@@ -7,7 +7,7 @@ import unittest
 
 from records import COLUMNS, broken, rows_of
 from test_program import AT, run
-from test_scripts import accepted, advance, answers_of, bytes_of, holds, ok, stands, state
+from test_scripts import SCRIPTS, accepted, advance, answers_of, bytes_of, holds, ok, stands, state
 
 # The first schema, as its desk has made it.
 FIRST = '''
@@ -55,6 +55,11 @@ INSERT INTO hold VALUES ('node', 'N1', 'KIT', '0001'), ('edge', 'E12', 'KIT', '0
 INSERT INTO used VALUES ('order', 'O1');
 '''
 NEW = ('capacity', 'journey', 'act')
+# The open trips of a file of the second schema as the first has them, where each vehicle has room for one load.
+OLD_TRIPS = '''
+SELECT order_id, j.manufacturer, j.serial, p.job, j.start, j.first, j.base, j.sent, j.confirmed, j.seen, p.place_at, d.place_at, p.status, d.status
+FROM journey j JOIN act p USING (order_id) JOIN act d USING (order_id) WHERE p.kind = 'pick' AND d.kind = 'drop'
+'''
 FILES = ('', '-wal')
 MESSAGE = (
     '{"edges":[{"actions":[],"edgeId":"E12","endNodeId":"N2","released":true,"sequenceId":1,"startNodeId":"N1"},'
@@ -163,16 +168,67 @@ class Migrate(unittest.TestCase):
         base.close()
         self.check(ok('GET /uagv/v2/KIT/0001/order', None, MESSAGE))
 
+    def take_back(self, second):
+        """Writes a file of the first schema with the rows of one of the second, in which each vehicle has room for one load."""
+        rows, base = {}, sqlite3.connect(second)
+        for table in COLUMNS:
+            if table not in ('meta', 'trip') + NEW:
+                rows[table] = base.execute('SELECT * FROM ' + table).fetchall()
+        rows['trip'] = base.execute(OLD_TRIPS).fetchall()
+        self.assertEqual(len(rows['trip']), base.execute('SELECT count(*) FROM journey').fetchone()[0])
+        base.close()
+        self.write()
+        base = sqlite3.connect(self.db)
+        for table, found in rows.items():
+            for row in found:
+                base.execute('INSERT INTO %s VALUES (%s)' % (table, ', '.join('?' * len(row))), row)
+        base.commit()
+        base.close()
+
+    def test_each_script(self):
+        """After each of its requests but every second one a script goes on, after the move, as it would have gone on."""
+        moved = 0
+        for title, lines in SCRIPTS.items():
+            for cut in range(1, len(lines), 2):
+                with self.subTest(title, cut=cut), tempfile.TemporaryDirectory() as folder:
+                    self.db = os.path.join(folder, 'second.db')
+                    self.check(*lines[:cut])
+                    base = sqlite3.connect(self.db)
+                    most = base.execute('SELECT max(capacity) FROM capacity').fetchone()[0]
+                    base.close()
+                    if most is not None and most > 1:
+                        continue
+                    second, self.db = self.db, os.path.join(folder, 'first.db')
+                    self.take_back(second)
+                    self.assertEqual(run('migrate', '--db', self.db), (0, b'migrated\n', b''))
+                    self.assertEqual(rows_of(self.db), rows_of(second))
+                    self.check(*lines[cut:])
+                    moved += 1
+        self.assertGreater(moved, len(SCRIPTS))
+
+    def test_no_rows_of_a_trip(self):
+        """Rows of an open order that break a rule, and a vehicle with more loads than one place holds."""
+        self.refuse_each(BEGUN, (
+            "UPDATE trip SET pick_status = 'DONE'", "UPDATE trip SET pick_at = 1", "UPDATE trip SET job = 'J2'", "UPDATE trip SET base = 3",
+            "UPDATE trip SET serial = '0002'", "UPDATE trip SET drop_status = 'FINISHED'", 'DELETE FROM trip', 'DELETE FROM leg WHERE k = 1',
+            "UPDATE leg SET edge = 'E21' WHERE k = 0", "UPDATE job SET phase = 'done'", 'DELETE FROM used', "DELETE FROM hold WHERE id = 'E12'",
+            "INSERT INTO load VALUES ('L2', 'vehicle', NULL, 'KIT', '0001'), ('L3', 'vehicle', NULL, 'KIT', '0001')"))
+
     def test_what_is_not_moved(self):
         """Rows that break a rule, a table that is missing or has the number of another schema, and names that are taken."""
-        self.write(CANCELLED)
-        whole = self.bytes()
-        for text in (
+        self.refuse_each(CANCELLED, (
                 "DELETE FROM hold WHERE id = 'N2'", "UPDATE load SET station = 'Z'", "UPDATE vehicle SET rest_node = NULL",
                 "INSERT INTO leg VALUES ('O1', 0, 'E12')", "UPDATE meta SET schema = 2", "DELETE FROM meta", "DROP TABLE used",
                 "INSERT INTO trip VALUES ('O2', 'KIT', '0001', 'J1', 'N1', 0, 0, 0, NULL, 0, 0, 2, 'WAITING', 'WAITING')",
                 'CREATE TABLE act (a TEXT)', 'CREATE VIEW journey AS SELECT id FROM load', 'CREATE INDEX capacity ON load (id)',
-                'CREATE TABLE CAPACITY (a TEXT)', 'CREATE TABLE note (a TEXT REFERENCES load (id))'):
+                'CREATE TABLE CAPACITY (a TEXT)', 'CREATE TABLE note (a TEXT REFERENCES load (id))',
+                'CREATE TABLE note (a TEXT REFERENCES journey (order_id))'))
+
+    def refuse_each(self, rows, texts):
+        """With each of these statements besides, a file of these rows isn't moved."""
+        self.write(rows)
+        whole = self.bytes()
+        for text in texts:
             with self.subTest(text):
                 for end in FILES:
                     if os.path.exists(self.db + end):
