@@ -263,12 +263,25 @@ fn check_stops(rt: &impl Abort, alloc: Global, rows: &str, after: &str, of_log: 
     panic!(rt; "it never ends");
 }
 
-/// A stop in the middle of a move leaves the rows of the first schema or those of the second one.
+/// A stop at a call of the log, in the middle of a move, leaves the rows of the first schema or those of the second one.
 #[test]
-fn stops_of_a_move(rt: HostRuntime) {
-    let alloc = rt.alloc();
-    check_stops(&rt, alloc, BEGUN, BEGUN_ROWS, true);
-    check_stops(&rt, alloc, BEGUN, BEGUN_ROWS, false);
-    check_stops(&rt, alloc, "", LAYOUT_ROWS, true);
-    check_stops(&rt, alloc, "", LAYOUT_ROWS, false);
+fn stops_at_the_log(rt: HostRuntime) {
+    check_stops(&rt, rt.alloc(), BEGUN, BEGUN_ROWS, true);
+}
+
+/// So does a stop at a call of the database file.
+#[test]
+fn stops_at_the_file(rt: HostRuntime) {
+    check_stops(&rt, rt.alloc(), BEGUN, BEGUN_ROWS, false);
+}
+
+/// The same of a database without a vehicle.
+#[test]
+fn stops_at_the_log_without_a_vehicle(rt: HostRuntime) {
+    check_stops(&rt, rt.alloc(), "", LAYOUT_ROWS, true);
+}
+
+#[test]
+fn stops_at_the_file_without_a_vehicle(rt: HostRuntime) {
+    check_stops(&rt, rt.alloc(), "", LAYOUT_ROWS, false);
 }
