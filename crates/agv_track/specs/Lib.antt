@@ -1,7 +1,7 @@
 pub mod Reports
 pub mod Reached
 pub mod Acts
-pub mod Ids
+pub mod ActionId
 pub mod Judgements
 pub mod Idle
 pub mod Footprints

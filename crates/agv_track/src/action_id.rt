@@ -1,7 +1,7 @@
 //! The ids of actions in messages.
 ghost use Rattle.std.specs.Prelude.{◌≡◌, ◌++◌, decimal, nat_eq};
 ghost use Rattle.std.specs.Cmp.Lexicographic.{pointwise};
-ghost use Rattle.agv_track.specs.Ids.{id_text};
+ghost use Rattle.agv_track.specs.ActionId.{id_text};
 
 use agv_header::Name;
 

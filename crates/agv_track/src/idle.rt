@@ -3,7 +3,7 @@ ghost use Rattle.std.specs.Prelude.{◌≡◌};
 ghost use Rattle.agv_track.specs.Idle.{may_stand, idle_refusals, judged_idle};
 
 use crate::Pending;
-use crate::reported::{has_pending_twice, is_pending_over};
+use crate::reports::{has_pending_twice, is_pending_over};
 use agv_header::{Name, Refusal};
 use agv_message::StateMessage;
 

@@ -7,11 +7,11 @@ ghost use Rattle.agv_track.specs.Reports.{has_act_twice, has_pending_twice, is_p
 ghost use Rattle.agv_track.specs.Acts.{AreNew};
 ghost use Rattle.agv_track.specs.Judgements.{new_statuses, new_acts, goes_back, is_running, is_through, end_by, end_after, next_of, rest_after, eight, progress_of, act_refusals, first_of, judged};
 
-use crate::reported::{
+use crate::reached::{reported_node, way_refusal};
+use crate::reports::{
     has_act_twice, has_pending_twice, is_cancelled, is_pending_over, statuses_after,
 };
 use crate::statuses::{are_carried_out, are_in_turn, are_over, are_reached, goes_back, is_running};
-use crate::way::{reported_node, way_refusal};
 use crate::{End, Pending, Progress};
 use agv_header::{Name, Refusal};
 use agv_message::{StateMessage, Status};

@@ -12,7 +12,7 @@
 
 mod action_id;
 mod claim_fault;
-mod held;
+mod footprints;
 pub mod hold_laws;
 mod holds;
 mod idle;
@@ -21,13 +21,13 @@ pub mod laws;
 mod ordered_set;
 mod pending;
 mod progress;
-mod reported;
+mod reached;
+mod reports;
 mod standing;
 mod statuses;
-mod way;
 
 pub use claim_fault::ClaimFault;
-pub use held::footprint;
+pub use footprints::footprint;
 pub use holds::HoldTable;
 pub use idle::judge_idle;
 pub use judgement::judge;

@@ -2,7 +2,7 @@ use Rattle.std.proofs.Common.{◌++◌, Some, None, nat_eq, decimal, sym, ap, �
 use Rattle.std.specs.Cmp.Lexicographic.{pointwise}
 use Rattle.std.proofs.lemmas.Bool.Decides.{Decides-eqb}
 use Rattle.std.proofs.lemmas.Slice.Eq.{strip_prefix_is}
-use Rattle.agv_track.specs.Ids.{id_text}
+use Rattle.agv_track.specs.ActionId.{id_text}
 use Rattle.agv_track.proofs.Ids.{past_order, no_order}
 use Rattle.agv_track.proofs.action_id.ActionId.is.Goals as goal
 

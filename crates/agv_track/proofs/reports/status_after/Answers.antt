@@ -4,7 +4,7 @@ use Rattle.agv_message.specs.Order.{act_id}
 use Rattle.agv_order.specs.declared.act.Act.{Act}
 use Rattle.agv_track.specs.Reports.{told}
 use Rattle.agv_track.proofs.Numbered.{status-at, status-past}
-use Rattle.agv_track.proofs.reported.status_after.Goals as goal
+use Rattle.agv_track.proofs.reports.status_after.Goals as goal
 
 pub returns-in-Some : goal.returns-in-Some
 returns-in-Some c =

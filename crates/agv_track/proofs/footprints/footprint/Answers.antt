@@ -2,7 +2,7 @@ use Rattle.std.proofs.Common.{[], ap, ◌∙◌}
 use Rattle.agv_track.specs.Footprints.{footprint_of, things_by}
 use Rattle.agv_track.specs.OrderedSet.{with_things}
 use Rattle.agv_track.proofs.Firsts.{once-things}
-use Rattle.agv_track.proofs.held.footprint.Goals as goal
+use Rattle.agv_track.proofs.footprints.footprint.Goals as goal
 
 pub returns : goal.returns
 unfolding footprint_of

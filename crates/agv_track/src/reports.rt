@@ -1,6 +1,6 @@
 //! What a state says of actions.
 ghost use Rattle.std.specs.Prelude.{◌≡◌, length, ◌≤◌};
-ghost use Rattle.agv_track.specs.Ids.{id_text};
+ghost use Rattle.agv_track.specs.ActionId.{id_text};
 ghost use Rattle.agv_track.specs.Reports.{is_twice, told, has_act_twice, status_after, statuses_after, has_pending_twice, pending_told, is_pending_over, is_cancel, is_cancelling, is_cancelled};
 ghost use Rattle.agv_track.specs.Judgements.{nth_status, eight, new_statuses};
 

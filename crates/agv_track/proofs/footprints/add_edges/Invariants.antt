@@ -1,7 +1,7 @@
 use Rattle.std.proofs.Common.{◌≡◌, take}
 use Rattle.agv_track.specs.Footprints.{along}
 use Rattle.agv_track.specs.OrderedSet.{KnowsAll, with_things}
-use Rattle.agv_track.proofs.held.add_edges.Given as goal
+use Rattle.agv_track.proofs.footprints.add_edges.Given as goal
 
 abbrev pub invariant-loop-edge : goal.invariant-loop-edge
 invariant-loop-edge l =

@@ -2,7 +2,7 @@ use Rattle.std.proofs.Common.{ap, ◌∙◌}
 use Rattle.agv_header.specs.declared.key.Thing.TheVariants as thing
 use Rattle.agv_track.specs.OrderedSet.{with_thing}
 use Rattle.agv_track.proofs.Edges.{along-more}
-use Rattle.agv_track.proofs.held.add_edges.Goals as goal
+use Rattle.agv_track.proofs.footprints.add_edges.Goals as goal
 
 pub loop-edge-preserved : goal.loop-edge-preserved
 loop-edge-preserved c =

@@ -5,7 +5,7 @@ use Rattle.std.proofs.lemmas.List.Edits.{fill_by_more}
 use Rattle.std.proofs.lemmas.List.FromFn.{fill_by_all}
 use Rattle.agv_message.specs.declared.status.Status.TheVariants.{Waiting}
 use Rattle.agv_track.specs.Judgements.{nth_status, eight, new_statuses}
-use Rattle.agv_track.proofs.reported.statuses_after.Goals as goal
+use Rattle.agv_track.proofs.reports.statuses_after.Goals as goal
 
 pub loop-n-preserved : goal.loop-n-preserved
 loop-n-preserved c =
