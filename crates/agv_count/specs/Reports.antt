@@ -7,7 +7,7 @@ use Rattle.agv_header.specs.declared.key.Thing.{Thing}
 use Rattle.agv_header.specs.declared.key.Thing.TheVariants as thing
 use Rattle.agv_header.specs.declared.key.VehicleKey.{VehicleKey}
 use Rattle.agv_layout.specs.declared.station.Station.{Station}
-use Rattle.agv_stock.specs.Room.{is_at, is_checking, has_left}
+use Rattle.agv_stock.specs.Rooms.{is_at, is_checking, has_left}
 use Rattle.agv_stock.specs.declared.place.Place.{Place}
 use Rattle.agv_stock.specs.declared.place.Place.TheVariants as place
 

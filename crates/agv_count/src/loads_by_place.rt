@@ -5,7 +5,7 @@ ghost use Rattle.agv_header.specs.Key.{key_cmp};
 ghost use Rattle.agv_header.specs.Name.{name_cmp};
 ghost use Rattle.agv_header.specs.declared.key.VehicleKey.{VehicleKey as Key};
 ghost use Rattle.agv_count.specs.Reports.{is_on_vehicle, loads_where};
-ghost use Rattle.agv_stock.specs.Room.{is_at as is_at_station, is_checking};
+ghost use Rattle.agv_stock.specs.Rooms.{is_at as is_at_station, is_checking};
 ghost use Rattle.agv_count.specs.LoadsByPlace.{loads_at, one_if};
 
 use agv_header::{Memory, Name, VehicleKey};

@@ -4,7 +4,7 @@ ghost use Rattle.std.specs.List.{count_by, flat_map};
 ghost use Rattle.agv_header.specs.Key.{key_cmp};
 ghost use Rattle.agv_header.specs.Name.{name_cmp};
 ghost use Rattle.agv_count.specs.Reports.{checking_part, left_part, listed, station_part, stock_text, vehicle_part};
-ghost use Rattle.agv_stock.specs.Room.{has_left};
+ghost use Rattle.agv_stock.specs.Rooms.{has_left};
 ghost use Rattle.agv_count.specs.LoadsByPlace.{loads_at};
 
 use crate::loads_by_place::{LoadsByPlace, Shelf, loads_at};

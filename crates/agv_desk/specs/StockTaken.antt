@@ -1,7 +1,7 @@
 -- What a stocktake leaves, in the words of a warehouse (this project's profile).
 use Rattle.std.specs.Prelude.{◌≡◌, ◌↔◌, not, ℕ, Bool, true, false, List, count_by, Option, None, Some}
 use Rattle.std.specs.FinMap as finite
-use Rattle.agv_stock.specs.Room.{has_left, is_at, is_checking, is_on}
+use Rattle.agv_stock.specs.Rooms.{has_left, is_at, is_checking, is_on}
 use Rattle.agv_stock.specs.declared.place.Place.{Place}
 use Rattle.agv_stock.specs.declared.place.Place.TheVariants as place
 use Rattle.agv_world.specs.StockInvariant.{Places}

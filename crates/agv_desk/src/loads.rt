@@ -1,7 +1,7 @@
 //! The calls of loads.
 ghost use Rattle.std.specs.Prelude.{◌≡◌, ◌≢◌, IfOk};
 ghost use Rattle.agv_stock.specs.Checks.{is_known};
-ghost use Rattle.agv_stock.specs.Room.{has_left};
+ghost use Rattle.agv_stock.specs.Rooms.{has_left};
 ghost use Rattle.agv_stock.specs.declared.goal.Goal.TheVariants as goals;
 ghost use Rattle.agv_world.specs.Asks.{Asks};
 ghost use Rattle.agv_world.specs.declared.change.Change.TheVariants as row;

@@ -2,7 +2,7 @@
 use Rattle.std.specs.Prelude.{◌==◌, Bool, true, false, not, is_some, if◌then◌else◌, Option, None, Some, Result, Ok, Err}
 use Rattle.agv_header.specs.declared.refusal.Refusal.{Refusal}
 use Rattle.agv_header.specs.declared.refusal.Refusal.TheVariants as refusal
-use Rattle.agv_stock.specs.Room.{is_at, is_checking, has_left}
+use Rattle.agv_stock.specs.Rooms.{is_at, is_checking, has_left}
 use Rattle.agv_stock.specs.declared.goal.Goal.{Goal}
 use Rattle.agv_stock.specs.declared.goal.Goal.TheVariants.{Checking, Unknown, At}
 use Rattle.agv_stock.specs.declared.place.Place.{Place}

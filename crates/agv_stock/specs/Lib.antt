@@ -1,3 +1,3 @@
 pub mod Checks
 pub mod Phase
-pub mod Room
+pub mod Rooms

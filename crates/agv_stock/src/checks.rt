@@ -1,7 +1,7 @@
 //! The checks of what is done with a load, each in its order.
 ghost use Rattle.std.specs.Prelude.{◌≡◌, ◌≢◌};
 ghost use Rattle.agv_stock.specs.Checks.{is_known, has_room, is_there, is_stored, register_check, correct_check, leave_check, job_check};
-ghost use Rattle.agv_stock.specs.Room.{is_checking, has_left};
+ghost use Rattle.agv_stock.specs.Rooms.{is_checking, has_left};
 ghost use Rattle.agv_stock.specs.declared.goal.Goal.TheVariants as goals;
 
 use crate::{Goal, Place};

@@ -1,6 +1,6 @@
 //! How much room a station has left.
 ghost use Rattle.std.specs.Prelude.{◌≡◌, ◌+◌, count_by};
-ghost use Rattle.agv_stock.specs.Room.{is_at, is_on, goes_to, room_left, room_of};
+ghost use Rattle.agv_stock.specs.Rooms.{is_at, is_on, goes_to, room_left, room_of};
 
 use crate::{Job, Place};
 use agv_header::{Name, VehicleKey};

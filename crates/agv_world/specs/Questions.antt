@@ -13,7 +13,7 @@ use Rattle.agv_layout.specs.declared.fault.LayoutFault.{LayoutFault}
 use Rattle.agv_layout.specs.declared.station.StationSite.{StationSite}
 use Rattle.agv_order.specs.declared.trip.Trip.{Trip}
 use Rattle.agv_stock.specs.Phase.{is_live}
-use Rattle.agv_stock.specs.Room.{is_at, is_on, room_left}
+use Rattle.agv_stock.specs.Rooms.{is_at, is_on, room_left}
 use Rattle.agv_stock.specs.declared.place.Place.{Place}
 use Rattle.agv_world.specs.Rows.{rows_of}
 use Rattle.agv_world.specs.Worlds.{Vehicle, World}

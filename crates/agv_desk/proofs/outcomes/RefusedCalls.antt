@@ -19,7 +19,7 @@ use Rattle.agv_order.specs.declared.fault.PlanFault.TheVariants as unplanned
 use Rattle.agv_order.specs.declared.stop.Stop.{Stop}
 use Rattle.agv_order.specs.declared.trip.Trip.{Trip}
 use Rattle.agv_stock.specs.Checks.{Checked, correct_check, has_room, is_known, is_stored, is_there, job_check, leave_check, passed, register_check, require as require_load}
-use Rattle.agv_stock.specs.Room.{has_left}
+use Rattle.agv_stock.specs.Rooms.{has_left}
 use Rattle.agv_stock.specs.declared.goal.Goal.{Goal}
 use Rattle.agv_stock.specs.declared.job.Job.{Job}
 use Rattle.agv_stock.specs.declared.place.Place.{Place}

@@ -12,7 +12,7 @@ use Rattle.agv_layout.specs.Layout.{IsStation}
 use Rattle.agv_layout.specs.declared.station.StationSite.{StationSite}
 use Rattle.agv_stock.specs.Checks as check
 use Rattle.agv_stock.specs.Checks.{Checked, is_known, has_room}
-use Rattle.agv_stock.specs.Room.{is_at, room_left}
+use Rattle.agv_stock.specs.Rooms.{is_at, room_left}
 use Rattle.agv_stock.specs.declared.goal.Goal.{Goal}
 use Rattle.agv_stock.specs.declared.place.Place.{Place}
 use Rattle.agv_stock.specs.declared.place.Place.TheVariants as place

@@ -11,7 +11,7 @@ use Rattle.agv_header.specs.declared.key.VehicleKey.{VehicleKey}
 use Rattle.agv_layout.specs.Layout.{Layout, IsStation}
 use Rattle.agv_layout.specs.declared.station.StationSite.{StationSite}
 use Rattle.agv_stock.specs.Phase.{is_live}
-use Rattle.agv_stock.specs.Room.{is_at, is_on}
+use Rattle.agv_stock.specs.Rooms.{is_at, is_on}
 use Rattle.agv_stock.specs.declared.place.Place.{Place}
 use Rattle.agv_stock.specs.declared.place.Place.TheVariants as place
 use Rattle.agv_world.specs.StockInvariant.{StockInvariant, ActionView, HasStockInvariant, IsSpot, Jobs, Places, loads_on_vehicle, capacity_of, coming, action_views_of, stored}

@@ -8,7 +8,7 @@ use Rattle.agv_header.specs.Name.{IsName, name_cmp}
 use Rattle.agv_header.specs.declared.key.VehicleKey.{VehicleKey}
 use Rattle.agv_message.specs.declared.order.ActKind.{ActKind}
 use Rattle.agv_message.specs.declared.order.ActKind.TheVariants.{Pick, Drop}
-use Rattle.agv_stock.specs.Room.{is_on}
+use Rattle.agv_stock.specs.Rooms.{is_on}
 use Rattle.agv_stock.specs.declared.job.Phase.{Phase}
 use Rattle.agv_stock.specs.declared.job.Phase.TheVariants.{Waiting, Riding, Done, Stopped}
 use Rattle.agv_stock.specs.declared.place.Place.TheVariants as place

@@ -12,7 +12,7 @@ use Rattle.agv_message.specs.declared.instant.InstantKind.{InstantKind}
 use Rattle.agv_message.specs.declared.state.StateMessage.{StateMessage}
 use Rattle.agv_order.specs.Releases.{released}
 use Rattle.agv_order.specs.declared.trip.Trip.{Trip}
-use Rattle.agv_stock.specs.Room.{is_at}
+use Rattle.agv_stock.specs.Rooms.{is_at}
 use Rattle.agv_stock.specs.declared.place.Place.{Place}
 use Rattle.agv_stock.specs.declared.place.Place.TheVariants as place
 use Rattle.agv_world.specs.StockInvariant.{HasStockInvariant, IsSpot, capacity_for, capacity_of, action_views_by, action_views_for}

@@ -8,7 +8,7 @@ use Rattle.std.specs.List.{AllByRecursion}
 use Rattle.std.proofs.lemmas.Bool.{false≢true, and_from, and_parts}
 use Rattle.std.proofs.lemmas.List.Sums.{sum_by-cons}
 use Rattle.agv_header.specs.Name.{name_cmp}
-use Rattle.agv_stock.specs.Room.{is_at}
+use Rattle.agv_stock.specs.Rooms.{is_at}
 use Rattle.agv_stock.specs.declared.place.Place.{Place}
 use Rattle.agv_stock.specs.declared.place.Place.TheVariants as place
 use Rattle.agv_world.specs.StockInvariant.{Places, stored}

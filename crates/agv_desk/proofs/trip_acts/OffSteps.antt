@@ -9,7 +9,7 @@ use Rattle.agv_layout.specs.Layout.{Layout, IsStation}
 use Rattle.agv_layout.specs.declared.station.StationSite.{StationSite}
 use Rattle.agv_message.specs.declared.order.ActKind.TheVariants.{Drop}
 use Rattle.agv_stock.specs.Phase.{is_live}
-use Rattle.agv_stock.specs.Room.{is_at, is_on}
+use Rattle.agv_stock.specs.Rooms.{is_at, is_on}
 use Rattle.agv_stock.specs.declared.job.Phase.{Phase}
 use Rattle.agv_stock.specs.declared.job.Phase.TheVariants as phase
 use Rattle.agv_stock.specs.declared.place.Place.{Place}

@@ -8,7 +8,7 @@ use Rattle.std.specs.Option.{option_map}
 use Rattle.sqlite_value.specs.Order.{Row}
 use Rattle.agv_header.specs.declared.key.VehicleKey.{VehicleKey}
 use Rattle.agv_layout.specs.declared.station.StationSite.{StationSite}
-use Rattle.agv_stock.specs.Room.{is_at, is_on, room_left}
+use Rattle.agv_stock.specs.Rooms.{is_at, is_on, room_left}
 use Rattle.agv_stock.specs.declared.place.Place.{Place}
 use Rattle.agv_world.specs.Lawful.{IsLawful}
 use Rattle.agv_world.specs.Questions.{loads_at, loads_on, reserved, room_at}

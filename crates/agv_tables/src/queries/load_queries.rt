@@ -7,7 +7,7 @@ ghost use Rattle.std.specs.FinMap as map;
 ghost use Rattle.std.specs.Option.{option_map};
 ghost use Rattle.sqlite.specs.Values.{bound};
 ghost use Rattle.agv_stock.specs.Phase.{is_live};
-ghost use Rattle.agv_stock.specs.Room.{room_left};
+ghost use Rattle.agv_stock.specs.Rooms.{room_left};
 ghost use Rattle.agv_world.specs.Questions.{job_of, loads_at, loads_on, reserved, room_at};
 ghost use Rattle.agv_tables.specs.queries.QueriedRows.{is_in_phase, name_and_phase};
 ghost use Rattle.agv_tables.specs.rows.Columns.{job_in};

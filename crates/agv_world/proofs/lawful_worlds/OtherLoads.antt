@@ -9,7 +9,7 @@ use Rattle.std.proofs.lemmas.Bool.{and_parts, and_right, false_from_ne_true}
 use Rattle.agv_header.specs.Name.{name_cmp}
 use Rattle.agv_header.specs.declared.key.VehicleKey.{VehicleKey}
 use Rattle.agv_order.specs.declared.act.Act.{Act}
-use Rattle.agv_stock.specs.Room.{is_on}
+use Rattle.agv_stock.specs.Rooms.{is_on}
 use Rattle.agv_stock.specs.declared.place.Place.{Place}
 use Rattle.agv_world.specs.StockInvariant.{Places, loads_on_vehicle}
 use Rattle.agv_world.specs.Lawful.{is_to_drop}

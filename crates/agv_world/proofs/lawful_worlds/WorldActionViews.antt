@@ -8,7 +8,7 @@ use Rattle.std.specs.List.{filter}
 use Rattle.agv_header.specs.declared.key.VehicleKey.{VehicleKey}
 use Rattle.agv_order.specs.declared.act.Act.{Act}
 use Rattle.agv_order.specs.declared.trip.Trip.{Trip}
-use Rattle.agv_stock.specs.Room.{is_at}
+use Rattle.agv_stock.specs.Rooms.{is_at}
 use Rattle.agv_stock.specs.declared.place.Place.{Place}
 use Rattle.agv_world.specs.StockInvariant.{ActionView, loads_on_vehicle, coming, action_view, action_views, action_views_by, action_views_for, action_views_of, stored}
 use Rattle.agv_world.specs.GoodOrder.{HasTrip, IsVehicle}

@@ -6,7 +6,7 @@ use Rattle.agv_header.specs.KeyOrder.{key_cmp-IsAntisymmetric, key_cmp-total}
 use Rattle.agv_header.specs.declared.key.VehicleKey.{VehicleKey}
 use Rattle.agv_order.specs.declared.act.Act.{Act}
 use Rattle.agv_order.specs.declared.trip.Trip.{Trip}
-use Rattle.agv_stock.specs.Room.{is_on}
+use Rattle.agv_stock.specs.Rooms.{is_on}
 use Rattle.agv_stock.specs.declared.place.Place.{Place}
 use Rattle.agv_world.specs.GoodOrder.{IsVehicle}
 use Rattle.agv_world.specs.Lawful.{is_to_drop, other_loads}

@@ -6,7 +6,7 @@ use Rattle.agv_header.specs.declared.key.VehicleKey.{VehicleKey}
 use Rattle.agv_layout.specs.declared.station.Station.{Station}
 use Rattle.agv_stock.specs.declared.place.Place.{Place}
 use Rattle.agv_count.specs.Reports.{checking_part, is_on_vehicle, left_part, loads_where, station_part, stock_text, vehicle_part}
-use Rattle.agv_stock.specs.Room.{has_left, is_at as is_at_station, is_checking}
+use Rattle.agv_stock.specs.Rooms.{has_left, is_at as is_at_station, is_checking}
 use Rattle.agv_count.specs.LoadsByPlace.{loads_at}
 use Rattle.agv_count.specs.declared.loads_by_place.LoadsByPlace.{LoadsByPlace}
 use Rattle.agv_count.proofs.Pieces.{four_parts}

@@ -1,7 +1,7 @@
 use Rattle.agv_header.specs.Key.{key_cmp}
 use Rattle.agv_header.specs.Name.{name_cmp}
 use Rattle.agv_count.specs.Reports.{is_on_vehicle}
-use Rattle.agv_stock.specs.Room.{is_at as is_at_station, is_checking}
+use Rattle.agv_stock.specs.Rooms.{is_at as is_at_station, is_checking}
 use Rattle.agv_count.proofs.LoadsByPlaceLemmas.{loads_at-empty, one_more_there}
 use Rattle.agv_count.proofs.loads_by_place.LoadsByPlace.of_loads.Goals as goal
 

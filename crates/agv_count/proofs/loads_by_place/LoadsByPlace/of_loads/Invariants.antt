@@ -3,7 +3,7 @@ use Rattle.agv_header.specs.Key.{key_cmp}
 use Rattle.agv_header.specs.Name.{name_cmp}
 use Rattle.agv_header.specs.declared.key.VehicleKey.{VehicleKey}
 use Rattle.agv_count.specs.Reports.{is_on_vehicle, loads_where}
-use Rattle.agv_stock.specs.Room.{is_at as is_at_station, is_checking}
+use Rattle.agv_stock.specs.Rooms.{is_at as is_at_station, is_checking}
 use Rattle.agv_count.specs.LoadsByPlace.{loads_at}
 use Rattle.agv_count.proofs.loads_by_place.LoadsByPlace.of_loads.Given as goal
 

@@ -1,5 +1,5 @@
 use Rattle.std.proofs.Common.{Ok, ap₂, ◌∙◌}
-use Rattle.agv_stock.specs.Room.{room_left}
+use Rattle.agv_stock.specs.Rooms.{room_left}
 use Rattle.agv_tables.proofs.queries.Asking.{passes, then_follows, then_passes}
 use Rattle.agv_tables.proofs.queries.load_queries.query_room_left.Goals as goal
 

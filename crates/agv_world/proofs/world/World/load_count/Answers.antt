@@ -3,7 +3,7 @@ use Rattle.std.proofs.lemmas.List.{length-map}
 use Rattle.std.specs.FinMap as map
 use Rattle.std.specs.List.{filter}
 use Rattle.std.proofs.lemmas.Iterator.Consumers.{count_from_yields_List, YieldsList-from_filter, YieldsList-from_rest, YieldsList-at}
-use Rattle.agv_stock.specs.Room.{is_at}
+use Rattle.agv_stock.specs.Rooms.{is_at}
 use Rattle.agv_stock.specs.declared.place.Place.{Place}
 use Rattle.agv_world.specs.Questions.{loads_at}
 use Rattle.agv_world.proofs.world.World.load_count.Goals as goal

@@ -2,7 +2,7 @@ use Rattle.std.proofs.Common.{rules, tests, ◌∙◌, List, ℕ}
 use Rattle.std.specs.FinMap as map
 use Rattle.std.proofs.lemmas.List.Sums.{length-filter}
 use Rattle.std.proofs.lemmas.Iterator.Consumers.{count_from_yields_List, YieldsList-from_filter, YieldsList-from_rest, YieldsList-at}
-use Rattle.agv_stock.specs.Room.{is_on}
+use Rattle.agv_stock.specs.Rooms.{is_on}
 use Rattle.agv_stock.specs.declared.place.Place.{Place}
 use Rattle.agv_world.specs.Questions.{loads_on}
 use Rattle.agv_world.proofs.world.World.loads_on.Goals as goal

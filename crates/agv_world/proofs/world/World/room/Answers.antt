@@ -1,6 +1,6 @@
 use Rattle.std.proofs.Common.{◌∙◌, ap, length, option_map, Some}
 use Rattle.agv_layout.specs.declared.station.StationSite.{StationSite}
-use Rattle.agv_stock.specs.Room.{room_left}
+use Rattle.agv_stock.specs.Rooms.{room_left}
 use Rattle.agv_world.specs.Questions.{room_at, loads_at, reserved}
 use Rattle.agv_world.specs.Told.{world_of}
 use Rattle.agv_world.proofs.world.World.room.Goals as goal
