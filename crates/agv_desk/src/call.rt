@@ -121,28 +121,28 @@ pub enum Call {
 
 // Each of these functions does nothing: a proof calls it for its clause.
 
-fn is_name(name: &Name)
+fn name_law(name: &Name)
     ensures { IsName name.now }
 {
     let _bytes = name.as_bytes();
 }
 
-fn is_key(key: &VehicleKey)
+fn key_law(key: &VehicleKey)
     ensures { IsKey key.now }
 {
-    is_name(&key.manufacturer);
-    is_name(&key.serial);
+    name_law(&key.manufacturer);
+    name_law(&key.serial);
 }
 
 fn names_law(rows: &[LayoutRow])
     ensures { AreNamed rows.now }
 {
     for row in rows {
-        row.is_named();
+        row.name_law();
     }
 }
 
-fn is_number(number: u32)
+fn number_law(number: u32)
     ensures { number ≤ 4294967295 }
 {}
 
@@ -154,21 +154,21 @@ impl Call {
     {
         match self {
             Call::SetLayout { rows } => names_law(rows.as_slice()),
-            Call::RegisterVehicle { key, .. } => is_key(key),
-            Call::RegisterLoad { load, .. } => is_name(load),
-            Call::CorrectLoad { reference, .. } => is_name(reference),
-            Call::LeaveLoad { reference, .. } => is_name(reference),
-            Call::AddJob { job, .. } => is_name(job),
-            Call::StartOrder { order, .. } => is_name(order),
-            Call::PlaceVehicle { reference, .. } => is_name(reference),
-            Call::Stocktake { reference, .. } => is_name(reference),
+            Call::RegisterVehicle { key, .. } => key_law(key),
+            Call::RegisterLoad { load, .. } => name_law(load),
+            Call::CorrectLoad { reference, .. } => name_law(reference),
+            Call::LeaveLoad { reference, .. } => name_law(reference),
+            Call::AddJob { job, .. } => name_law(job),
+            Call::StartOrder { order, .. } => name_law(order),
+            Call::PlaceVehicle { reference, .. } => name_law(reference),
+            Call::Stocktake { reference, .. } => name_law(reference),
             Call::StopJob { .. } => {}
             Call::Advance { .. } => {}
             Call::Cancel { .. } => {}
             Call::Pause { .. } => {}
             Call::Resume { .. } => {}
             Call::Resync { .. } => {}
-            Call::State { state, .. } => is_number(state.header_id),
+            Call::State { state, .. } => number_law(state.header_id),
             Call::GetOrder { .. } => {}
             Call::GetInstant { .. } => {}
             Call::GetLoad { .. } => {}

@@ -75,7 +75,7 @@ impl Draft {
         ensures limit { result ≡ Err fault.Limit → ⊥ }
         ensures named { IsName (id_in row) }
     {
-        row.is_named();
+        row.name_law();
         let is_new = self.put(row)?;
         if !is_new {
             return Err(LayoutFault::Bad);

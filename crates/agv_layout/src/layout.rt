@@ -80,7 +80,7 @@ impl Layout {
     /// at nodes and hold 1 to 999 loads, all ids are names, and there are at most 500 nodes, 1,500
     /// edges and 500 stations. It does nothing: a proof calls it for its clause, which the type's
     /// invariant gives where a field is looked at.
-    pub fn keeps_rules(&self)
+    pub fn layout_law(&self)
         ensures { KeepsRules self.now }
     {
         let _ = &self.nodes;

@@ -19,7 +19,7 @@ pub enum LayoutRow {
 
 impl LayoutRow {
     /// The id of a row is a name. It does nothing: a proof calls it for its clause.
-    pub fn is_named(&self)
+    pub fn name_law(&self)
         ensures { IsName (id_in self.now) }
     {
         let _bytes = match self {

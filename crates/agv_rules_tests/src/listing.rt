@@ -160,6 +160,6 @@ pub(crate) fn way(
     requires { IsLayoutOf rows.now layout.now }
     ensures { IfOk result (λ way. IsWayTo layout.now from to (option_map (λ ids. ids.items) way)) }
 {
-    layout.keeps_rules();
+    layout.layout_law();
     way_within(alloc, layout, rows, from, to, count_nodes(rows))
 }

@@ -14,7 +14,7 @@ loop-row-preserved c =
     let i = c.loop-row.row-index in
     let row = c.row-item.result in
     let more : take (i + 1) rows ≡ take i rows ++ row ∷ [] = take_more rows i row c.loop-row-test.true ∙ ap (λ x. take i rows ++ x ∷ []) (sym c.row-item.is) in
-    subst AreNamed (sym more) (All-push (λ r. IsName (id_in r)) (take i rows) row c.loop-row.invariant c.is_named.ensures)
+    subst AreNamed (sym more) (All-push (λ r. IsName (id_in r)) (take i rows) row c.loop-row.invariant c.name_law.ensures)
 
 pub returns : goal.returns
 returns c = subst AreNamed (take_all c.loop-row.row-index c.args.rows.now c.loop-row-test.false) c.loop-row.invariant

@@ -8,5 +8,5 @@ pub returns : goal.returns
 returns c =
     IfOk-weaker c.way_within.result (λ way. IsWayWithin c.args.layout.now c.args.from c.args.to c.count_nodes.result (option_map (λ ids. ids.items) way)) _
     (λ way within.
-    IsWayTo-within c.args.rows.now c.args.layout.now c.requires c.keeps_rules.ensures c.args.to c.args.from c.count_nodes.result c.count_nodes.ensures (option_map (λ ids. ids.items) way) within)
+    IsWayTo-within c.args.rows.now c.args.layout.now c.requires c.layout_law.ensures c.args.to c.args.from c.count_nodes.result c.count_nodes.ensures (option_map (λ ids. ids.items) way) within)
     c.way_within.ensures
