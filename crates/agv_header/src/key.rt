@@ -50,7 +50,7 @@ impl VehicleKey {
     ghost use Rattle.agv_header.specs.Key.{key_cmp};
 
     /// The order of keys is total, and only equal keys tie: a finite map can be kept by it.
-    pub fn are_ordered()
+    pub fn order_law()
         ensures total { IsTotalOrder key_cmp }
         ensures apart { IsAntisymmetric key_cmp }
     {}
@@ -124,7 +124,7 @@ impl Thing {
     ghost use Rattle.agv_header.specs.Key.{thing_cmp};
 
     /// The order of things is total, and only equal things tie: a finite map can be kept by it.
-    pub fn are_ordered()
+    pub fn order_law()
         ensures total { IsTotalOrder thing_cmp }
         ensures apart { IsAntisymmetric thing_cmp }
     {}

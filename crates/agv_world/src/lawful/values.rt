@@ -43,7 +43,7 @@ impl World {
         self.nodes.names_law();
         self.edges.names_law();
         self.stations.names_law();
-        self.vehicles.are_keys();
+        self.vehicles.keys_law();
         self.vehicle_values();
         self.loads.names_law();
         self.jobs.names_law();

@@ -61,7 +61,7 @@ impl<V: Row> ByVehicle<V> {
     }
 
     /// Each key is one of names. It does nothing: a proof calls it for its clause.
-    pub fn are_keys(&self)
+    pub fn keys_law(&self)
         ensures { (key : Vehicle) (row : V) → map.get self.now key ≡ Some row → IsKey key }
     {
         for (key, _) in self.iter() {

@@ -3,7 +3,7 @@ use Rattle.std.specs.FinMap as map
 use Rattle.std.specs.List.{AllByRecursion}
 use Rattle.agv_header.specs.declared.key.VehicleKey.{VehicleKey}
 use Rattle.agv_world.specs.Lawful.{IsKey}
-use Rattle.agv_world.proofs.tables.by_vehicle.ByVehicle.are_keys.Given as goal
+use Rattle.agv_world.proofs.tables.by_vehicle.ByVehicle.keys_law.Given as goal
 
 -- where what is left has it, all has
 abbrev pub invariant-loop-key : goal.invariant-loop-key

@@ -4,7 +4,7 @@ use Rattle.agv_header.specs.declared.key.VehicleKey.{VehicleKey}
 use Rattle.agv_world.specs.Lawful.{IsKey}
 use Rattle.agv_header.specs.KeyOrder.{key_cmp-IsAntisymmetric}
 use Rattle.agv_world.proofs.lists.EachEntry.{entry-has}
-use Rattle.agv_world.proofs.tables.by_vehicle.ByVehicle.are_keys.Goals as goal
+use Rattle.agv_world.proofs.tables.by_vehicle.ByVehicle.keys_law.Goals as goal
 
 pub loop-key-init : goal.loop-key-init
 loop-key-init g c each = entry-has key_cmp-IsAntisymmetric (λ (e : VehicleKey × g.row.V.Denot). IsKey e.0) c.args.self.now (subst (AllByRecursion (λ (e : VehicleKey × g.row.V.Denot). IsKey e.0)) (c.into_iter-key-iterator.ensures.into_iter_gives ∙ c.iter-key-items.ensures) each)

@@ -1,5 +1,5 @@
 use Rattle.agv_header.specs.KeyOrder.{key_cmp-total, key_cmp-IsAntisymmetric}
-use Rattle.agv_header.proofs.key.VehicleKey.are_ordered.Goals as goal
+use Rattle.agv_header.proofs.key.VehicleKey.order_law.Goals as goal
 
 pub returns-clause-total : goal.returns-clause-total
 returns-clause-total c = key_cmp-total

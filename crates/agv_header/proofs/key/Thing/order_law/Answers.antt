@@ -1,5 +1,5 @@
 use Rattle.agv_header.specs.ThingOrder.{thing_cmp-total, thing_cmp-IsAntisymmetric}
-use Rattle.agv_header.proofs.key.Thing.are_ordered.Goals as goal
+use Rattle.agv_header.proofs.key.Thing.order_law.Goals as goal
 
 pub returns-clause-total : goal.returns-clause-total
 returns-clause-total c = thing_cmp-total
