@@ -31,9 +31,9 @@ AreCounted world rows (Some stations) = (are_known world rows ≡ true) × (stat
 
 -- whether the station is known, by what is noted of it and by what the layout says, and the stations that are noted then
 abbrev pub noted_station : finite.FinMap name_cmp StationSite → List ℕ → Option StationSite → Option StationSite → Bool × finite.FinMap name_cmp StationSite
-noted_station stations station (Some noted) spot = (true, stations)
+noted_station stations station (Some noted) site = (true, stations)
 noted_station stations station None None = (false, stations)
-noted_station stations station None (Some spot) = (true, finite.insert stations station spot)
+noted_station stations station None (Some site) = (true, finite.insert stations station site)
 
 -- ---- the found loads
 
@@ -127,7 +127,7 @@ moves_in world stations found seen =
 
 -- so many loads and so many jobs fit there
 abbrev pub has_room_for : ℕ → ℕ → StationSite → Bool
-has_room_for found jobs spot = nat_le (found + jobs) spot.capacity
+has_room_for found jobs site = nat_le (found + jobs) site.capacity
 
 -- at each of the stations there is room for the known loads that were found there and the live jobs to it
 abbrev pub all_have_room : World → List CountedLoad → List (List ℕ × StationSite) → Bool

@@ -9,7 +9,7 @@ use Rattle.agv_desk.specs.Outcomes.{Effect, Move}
 abbrev pub move_in : Change → Option (List ℕ × Place)
 move_in (row.Node id) = None
 move_in (row.Edge id ends) = None
-move_in (row.Station id spot) = None
+move_in (row.Station id site) = None
 move_in (row.Vehicle key vehicle) = None
 move_in (row.Trip order trip) = None
 move_in (row.Leg key edge) = None

@@ -127,7 +127,7 @@ found_here world rows station = count_by (λ (row : Row). pointwise nat_eq row.0
 -- they fit, with the live jobs to it
 abbrev pub fits : World → List Row → List ℕ → Option StationSite → Bool
 fits world rows station None = false
-fits world rows station (Some spot) = nat_le (found_here world rows station + reserved world station) spot.capacity
+fits world rows station (Some site) = nat_le (found_here world rows station + reserved world station) site.capacity
 
 -- ---- the call
 

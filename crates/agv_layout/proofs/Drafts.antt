@@ -35,11 +35,11 @@ leads-Decides draft ends =
 pub le-Decides : (a b : ℕ) → Decides (nat_le a b) (a ≤ b)
 le-Decides a b = (leb-true a b, le-leb a b)
 
-stands-Decides : (draft : Draft) (spot : StationSite) → Decides (stands_in_draft draft spot) (StationFits (drawn draft) spot)
-stands-Decides draft spot =
-    let at = Decides-at _ _ (sym (contains-shown draft.nodes.keys spot.node)) (node-Decides draft spot.node) in
+stands-Decides : (draft : Draft) (site : StationSite) → Decides (stands_in_draft draft site) (StationFits (drawn draft) site)
+stands-Decides draft site =
+    let at = Decides-at _ _ (sym (contains-shown draft.nodes.keys site.node)) (node-Decides draft site.node) in
     Decides-like _ (λ w. (w.0, w.1.0, w.1.1)) (λ w. (w.0, (w.1, w.2)))
-    (Decides-and _ _ at (Decides-and _ _ (le-Decides 1 spot.capacity) (le-Decides spot.capacity 999)))
+    (Decides-and _ _ at (Decides-and _ _ (le-Decides 1 site.capacity) (le-Decides site.capacity 999)))
 
 pub AllLead-Decides : (draft : Draft) → IsStrictlySortedBy name_cmp (keys_of draft.edges.entries) → Decides (list_all (leads_in_draft draft) (values_of draft.edges.entries)) (AllLead (drawn draft))
 AllLead-Decides draft ordered =

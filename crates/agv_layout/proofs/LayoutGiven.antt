@@ -39,10 +39,10 @@ leads_decides nodes ends =
     Decides-like _ (λ w. (w.0, w.1.0, w.1.1)) (λ w. (w.0, (w.1, w.2)))
     (Decides-and _ _ (among_decides nodes ends.start) (Decides-and _ _ (among_decides nodes ends.finish) (Decides-not _ (bytes_decides ends.start ends.finish))))
 
-stands_decides : (nodes : List Name) (spot : StationSite) → Decides (stands_among nodes spot) (StandsAmong nodes spot)
-stands_decides nodes spot =
+stands_decides : (nodes : List Name) (site : StationSite) → Decides (stands_among nodes site) (StandsAmong nodes site)
+stands_decides nodes site =
     Decides-like _ (λ w. (w.0, w.1.0, w.1.1)) (λ w. (w.0, (w.1, w.2)))
-    (Decides-and _ _ (among_decides nodes spot.node) (Decides-and _ _ (le-Decides 1 spot.capacity) (le-Decides spot.capacity 999)))
+    (Decides-and _ _ (among_decides nodes site.node) (Decides-and _ _ (le-Decides 1 site.capacity) (le-Decides site.capacity 999)))
 
 module _ (rows : List LayoutRow) where
   over_decides : Decides (is_over_limit rows) (IsOverLimit rows)

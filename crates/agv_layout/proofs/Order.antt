@@ -94,7 +94,7 @@ sound_said rows others p sound =
       once = once_said rows others p sound.once;
       leads = All-weaker (LeadsAmong (nodes_in rows)) (LeadsAmong (nodes_in others)) (λ ends leads. (node ends.start leads.0, node ends.finish leads.1, leads.2)) (values_of (edges_in others))
           (all_values_said edge_in rows others p (LeadsAmong (nodes_in rows)) sound.leads);
-      stands = All-weaker (StandsAmong (nodes_in rows)) (StandsAmong (nodes_in others)) (λ spot stands. (node spot.node stands.0, stands.1, stands.2)) (values_of (stations_in others))
+      stands = All-weaker (StandsAmong (nodes_in rows)) (StandsAmong (nodes_in others)) (λ site stands. (node site.node stands.0, stands.1, stands.2)) (values_of (stations_in others))
           (all_values_said station_in rows others p (StandsAmong (nodes_in rows)) sound.stands);
     }
 
@@ -105,7 +105,7 @@ layout_said rows others p layout is =
     record {
       nodes = λ id. (λ has. there _ ((is.nodes id).0 has), λ among. (is.nodes id).1 (back _ among));
       edges = λ id ends. (λ has. there _ ((is.edges id ends).0 has), λ among. (is.edges id ends).1 (back _ among));
-      stations = λ id spot. (λ has. there _ ((is.stations id spot).0 has), λ among. (is.stations id spot).1 (back _ among));
+      stations = λ id site. (λ has. there _ ((is.stations id site).0 has), λ among. (is.stations id site).1 (back _ among));
     }
 
 pub read_alike : (rows others : List LayoutRow) → IsPermutation rows others → IsReadAlike rows others

@@ -64,11 +64,11 @@ edge_row (row.Edge a start finish) id ends says =
     λ i. row.Edge (is.0 i) (is.1 i).start (is.1 i).finish
 edge_row (row.Station a node capacity) id ends says = absurd (none-some (id, ends) says)
 
-station_row : (r : LayoutRow) (id : Name) (spot : StationSite) → station_in r ≡ Some (id, spot) → r ≡ row.Station id spot.node spot.capacity
-station_row (row.Node a) id spot says = absurd (none-some (id, spot) says)
-station_row (row.Edge a start finish) id spot says = absurd (none-some (id, spot) says)
-station_row (row.Station a node capacity) id spot says =
-    let is = some_pair_parts a id _ spot says in
+station_row : (r : LayoutRow) (id : Name) (site : StationSite) → station_in r ≡ Some (id, site) → r ≡ row.Station id site.node site.capacity
+station_row (row.Node a) id site says = absurd (none-some (id, site) says)
+station_row (row.Edge a start finish) id site says = absurd (none-some (id, site) says)
+station_row (row.Station a node capacity) id site says =
+    let is = some_pair_parts a id _ site says in
     λ i. row.Station (is.0 i) (is.1 i).node (is.1 i).capacity
 
 found_node : (rows : List LayoutRow) (id : Name) → Contains (nodes_in rows) id → Contains rows (row.Node id)
@@ -77,8 +77,8 @@ found_node rows id among = let from = sayer node_in rows id among in subst (Cont
 found_edge : (rows : List LayoutRow) (id : Name) (ends : EdgeEnds) → Contains (edges_in rows) (id, ends) → Contains rows (row.Edge id ends.start ends.finish)
 found_edge rows id ends among = let from = sayer edge_in rows (id, ends) among in subst (Contains rows) (edge_row from.0 id ends from.2) from.1
 
-found_station : (rows : List LayoutRow) (id : Name) (spot : StationSite) → Contains (stations_in rows) (id, spot) → Contains rows (row.Station id spot.node spot.capacity)
-found_station rows id spot among = let from = sayer station_in rows (id, spot) among in subst (Contains rows) (station_row from.0 id spot from.2) from.1
+found_station : (rows : List LayoutRow) (id : Name) (site : StationSite) → Contains (stations_in rows) (id, site) → Contains rows (row.Station id site.node site.capacity)
+found_station rows id site among = let from = sayer station_in rows (id, site) among in subst (Contains rows) (station_row from.0 id site from.2) from.1
 
 -- ---- the layout of the rows
 pub is_layout_of : (rows : List LayoutRow) → IsEachOnce rows → IsLayoutOf rows (layout_in rows)
@@ -93,9 +93,9 @@ is_layout_of rows once =
         λ is. found_edge rows id ends (get_found (edges_in rows) id ends is),
         λ among. get_entry (edges_in rows) d.edges id ends (said edge_in rows (row.Edge id ends.start ends.finish) (id, ends) among refl),
       );
-      stations = λ id spot. (
-        λ is. found_station rows id spot (get_found (stations_in rows) id spot is),
-        λ among. get_entry (stations_in rows) d.stations id spot (said station_in rows (row.Station id spot.node spot.capacity) (id, spot) among refl),
+      stations = λ id site. (
+        λ is. found_station rows id site (get_found (stations_in rows) id site is),
+        λ among. get_entry (stations_in rows) d.stations id site (said station_in rows (row.Station id site.node site.capacity) (id, site) among refl),
       );
     }
 
@@ -105,11 +105,11 @@ leads_among rows ends leads = let at = contains-Decides (nodes_in rows) in ((at 
 leads_in : (rows : List LayoutRow) (ends : EdgeEnds) → LeadsAmong (nodes_in rows) ends → Leads (layout_in rows) ends
 leads_in rows ends leads = let at = contains-Decides (nodes_in rows) in ((at ends.start).1 leads.0, (at ends.finish).1 leads.1, leads.2)
 
-stands_among : (rows : List LayoutRow) (spot : StationSite) → StationFits (layout_in rows) spot → StandsAmong (nodes_in rows) spot
-stands_among rows spot stands = ((contains-Decides (nodes_in rows) spot.node).0 stands.0, stands.1, stands.2)
+stands_among : (rows : List LayoutRow) (site : StationSite) → StationFits (layout_in rows) site → StandsAmong (nodes_in rows) site
+stands_among rows site stands = ((contains-Decides (nodes_in rows) site.node).0 stands.0, stands.1, stands.2)
 
-stands_in : (rows : List LayoutRow) (spot : StationSite) → StandsAmong (nodes_in rows) spot → StationFits (layout_in rows) spot
-stands_in rows spot stands = ((contains-Decides (nodes_in rows) spot.node).1 stands.0, stands.1, stands.2)
+stands_in : (rows : List LayoutRow) (site : StationSite) → StandsAmong (nodes_in rows) site → StationFits (layout_in rows) site
+stands_in rows site stands = ((contains-Decides (nodes_in rows) site.node).1 stands.0, stands.1, stands.2)
 
 pub sound_from : (rows : List LayoutRow) → IsEachOnce rows → IsWhole (layout_in rows) → IsSound rows
 sound_from rows once whole =
@@ -118,7 +118,7 @@ sound_from rows once whole =
       some = subst (λ n. 1 ≤ n) (set_len-distinct (nodes_in rows) d.nodes) whole.some;
       once = once;
       leads = all_values (LeadsAmong (nodes_in rows)) (edges_in rows) d.edges (λ id ends is. leads_among rows ends (whole.leads id ends is));
-      stands = all_values (StandsAmong (nodes_in rows)) (stations_in rows) d.stations (λ id spot is. stands_among rows spot (whole.stands id spot is));
+      stands = all_values (StandsAmong (nodes_in rows)) (stations_in rows) d.stations (λ id site is. stands_among rows site (whole.stands id site is));
     }
 
 pub whole_from : (rows : List LayoutRow) → IsSound rows → IsWhole (layout_in rows)
@@ -127,7 +127,7 @@ whole_from rows sound =
     record {
       some = subst (λ n. 1 ≤ n) (sym (set_len-distinct (nodes_in rows) d.nodes)) sound.some;
       leads = λ id ends is. leads_in rows ends (each_found (LeadsAmong (nodes_in rows)) (edges_in rows) sound.leads id ends is);
-      stands = λ id spot is. stands_in rows spot (each_found (StandsAmong (nodes_in rows)) (stations_in rows) sound.stands id spot is);
+      stands = λ id site is. stands_in rows site (each_found (StandsAmong (nodes_in rows)) (stations_in rows) sound.stands id site is);
     }
 
 -- ---- what holds of every layout
@@ -146,7 +146,7 @@ plan_from rows few once named whole =
       few_stations = subst (λ n. n ≤ 500) (sym (len-distinct (stations_in rows) d.stations)) (within _ _ (λ over. few (inr (inr over))));
       nodes_named = λ id here. name (row.Node id) ((is.nodes id).0 here);
       edges_named = λ id ends here. name (row.Edge id ends.start ends.finish) ((is.edges id ends).0 here);
-      stations_named = λ id spot here. name (row.Station id spot.node spot.capacity) ((is.stations id spot).0 here);
+      stations_named = λ id site here. name (row.Station id site.node site.capacity) ((is.stations id site).0 here);
       leads = whole.leads;
       stands = whole.stands;
     }

@@ -47,7 +47,7 @@ leads_in_draft draft ends =
 
 -- a station at a node, with a capacity of 1 to 999
 abbrev pub stands_in_draft : Draft → StationSite → Bool
-stands_in_draft draft spot = contains name_cmp draft.nodes spot.node && (nat_le 1 spot.capacity && nat_le spot.capacity 999)
+stands_in_draft draft site = contains name_cmp draft.nodes site.node && (nat_le 1 site.capacity && nat_le site.capacity 999)
 
 -- there is a node
 abbrev pub HasNode : Layout → Type 0
@@ -59,7 +59,7 @@ AllLead plan = (id : Name) (ends : EdgeEnds) → IsEdge plan id ends → Leads p
 
 -- each station is at a node, and has room for 1 to 999 loads
 abbrev pub AllStand : Layout → Type 0
-AllStand plan = (id : Name) (spot : StationSite) → IsStation plan id spot → StationFits plan spot
+AllStand plan = (id : Name) (site : StationSite) → IsStation plan id site → StationFits plan site
 
 -- there is a node, and edges and stations are at nodes
 pub record IsWhole (plan : Layout) : Type 0 where

@@ -29,7 +29,7 @@ IsEdge layout id ends = map.get layout.edges id ≡ Some ends
 
 -- the station of this name is there
 abbrev pub IsStation : Layout → Name → StationSite → Type 0
-IsStation layout id spot = map.get layout.stations id ≡ Some spot
+IsStation layout id site = map.get layout.stations id ≡ Some site
 
 -- an edge leads from a node to another node
 abbrev pub Leads : Layout → EdgeEnds → Type 0
@@ -37,7 +37,7 @@ Leads layout ends = IsNode layout ends.start × IsNode layout ends.finish × (en
 
 -- a station is at a node, and has room for 1 to 999 loads
 abbrev pub StationFits : Layout → StationSite → Type 0
-StationFits layout spot = IsNode layout spot.node × (1 ≤ spot.capacity) × (spot.capacity ≤ 999)
+StationFits layout site = IsNode layout site.node × (1 ≤ site.capacity) × (site.capacity ≤ 999)
 
 -- what holds of every layout: there is a node, there are at most 500 nodes, 1,500 edges and 500 stations, and each has a name;
 -- edges lead from a node to another, and stations are at nodes and have room for 1 to 999 loads
@@ -48,9 +48,9 @@ pub record KeepsRules (layout : Layout) : Type 0 where
   pub few_stations : map.len layout.stations ≤ 500
   pub nodes_named : (id : Name) → IsNode layout id → IsName id
   pub edges_named : (id : Name) (ends : EdgeEnds) → IsEdge layout id ends → IsName id
-  pub stations_named : (id : Name) (spot : StationSite) → IsStation layout id spot → IsName id
+  pub stations_named : (id : Name) (site : StationSite) → IsStation layout id site → IsName id
   pub leads : (id : Name) (ends : EdgeEnds) → IsEdge layout id ends → Leads layout ends
-  pub stands : (id : Name) (spot : StationSite) → IsStation layout id spot → StationFits layout spot
+  pub stands : (id : Name) (site : StationSite) → IsStation layout id site → StationFits layout site
 
 -- the nodes, each once, in the order of their names
 pub record AreNodesInOrder (layout : Layout) (ids : List Name) : Type 0 where
@@ -61,6 +61,6 @@ pub record AreNodesInOrder (layout : Layout) (ids : List Name) : Type 0 where
 abbrev pub edge_of : Name → EdgeEnds → Edge
 edge_of id ends = record { id = id; start = ends.start; finish = ends.finish }
 
--- the station of this name, at this spot
+-- the station of this name, at this site
 abbrev pub station_of : Name → StationSite → Station
-station_of id spot = record { id = id; node = spot.node; capacity = spot.capacity }
+station_of id site = record { id = id; node = site.node; capacity = site.capacity }

@@ -30,7 +30,7 @@ leads_among nodes ends = is_among nodes ends.start && (is_among nodes ends.finis
 
 -- the station is at one of these nodes, and has room for 1 to 999 loads
 abbrev pub stands_among : List Name → StationSite → Bool
-stands_among nodes spot = is_among nodes spot.node && (nat_le 1 spot.capacity && nat_le spot.capacity 999)
+stands_among nodes site = is_among nodes site.node && (nat_le 1 site.capacity && nat_le site.capacity 999)
 
 -- there are more than 500 nodes, 1,500 edges or 500 stations
 abbrev pub is_over_limit : List LayoutRow → Bool

@@ -69,7 +69,7 @@ LeadsAmong nodes ends = Contains nodes ends.start × Contains nodes ends.finish 
 
 -- it is at one of these nodes, and has room for 1 to 999 loads
 abbrev pub StandsAmong : List Name → StationSite → Type 0
-StandsAmong nodes spot = Contains nodes spot.node × (1 ≤ spot.capacity) × (spot.capacity ≤ 999)
+StandsAmong nodes site = Contains nodes site.node × (1 ≤ site.capacity) × (site.capacity ≤ 999)
 
 -- a layout can be made of the rows: there is a node, each id is once in its kind, and edges and stations are at listed nodes
 pub record IsSound (rows : List LayoutRow) : Type 0 where
@@ -82,7 +82,7 @@ pub record IsSound (rows : List LayoutRow) : Type 0 where
 pub record IsLayoutOf (rows : List LayoutRow) (layout : Layout) : Type 0 where
   pub nodes : (id : Name) → IsNode layout id ↔ Contains rows (row.Node id)
   pub edges : (id : Name) (ends : EdgeEnds) → IsEdge layout id ends ↔ Contains rows (row.Edge id ends.start ends.finish)
-  pub stations : (id : Name) (spot : StationSite) → IsStation layout id spot ↔ Contains rows (row.Station id spot.node spot.capacity)
+  pub stations : (id : Name) (site : StationSite) → IsStation layout id site ↔ Contains rows (row.Station id site.node site.capacity)
 
 -- both are over the limit or neither, both give a layout or neither, and both give the same
 pub record IsReadAlike (rows others : List LayoutRow) : Type 0 where

@@ -110,10 +110,10 @@ impl Draft {
         self.nodes.contains(&ends.start) && self.nodes.contains(&ends.finish) && is_no_loop(ends)
     }
 
-    fn stands(&self, spot: StationSite) -> bool
-        ensures { result ≡ stands_in_draft self.now spot }
+    fn stands(&self, site: StationSite) -> bool
+        ensures { result ≡ stands_in_draft self.now site }
     {
-        self.nodes.contains(&spot.node) && is_capacity(spot.capacity)
+        self.nodes.contains(&site.node) && is_capacity(site.capacity)
     }
 
     fn edges_lead(&self) -> bool
@@ -125,7 +125,7 @@ impl Draft {
     fn stations_stand(&self) -> bool
         ensures { IsTrue result ↔ AllStand (drawn self.now) }
     {
-        self.stations.values().all(|spot| self.stands(*spot))
+        self.stations.values().all(|site| self.stands(*site))
     }
 
     // Whether these are the parts of a layout, save for their numbers.

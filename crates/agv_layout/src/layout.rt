@@ -164,11 +164,11 @@ impl Layout {
     pub fn station(&self, id: Name) -> Option<Station>
         ensures { result ≡ option_map (station_of id) (map.get self.now.stations id) }
     {
-        let spot = self.stations.get(&id)?;
+        let site = self.stations.get(&id)?;
         Some(Station {
             id,
-            node: spot.node,
-            capacity: spot.capacity,
+            node: site.node,
+            capacity: site.capacity,
         })
     }
 }

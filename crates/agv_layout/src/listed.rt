@@ -45,11 +45,11 @@ fn push_stations(
     ensures items { OnOk result (rows.new.items ≡ rows.old.items ++ map station_row stations.now.entries) }
     ensures ordered { tree.IsOrdered name_cmp stations.now }
 {
-    for (id, spot) in stations {
+    for (id, site) in stations {
         rows.push(LayoutRow::Station {
             id: *id,
-            node: spot.node,
-            capacity: spot.capacity,
+            node: site.node,
+            capacity: site.capacity,
         })?;
     }
     Ok(())

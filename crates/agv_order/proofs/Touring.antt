@@ -26,14 +26,14 @@ module _ (layout : Layout) (jobs : List Job) where
   -- the route makes its stop, at its goal
   abbrev Made : (at : List ℕ) (place : ℕ) (stop_route : StopRoute) (stop : Stop) → Type 0
   Made at place stop_route stop =
-      (made : MakesStop layout jobs at place stop stop_route.edges (act_at stop_route (place + length stop_route.edges))) × (made.spot.node ≡ stop_route.goal)
+      (made : MakesStop layout jobs at place stop stop_route.edges (act_at stop_route (place + length stop_route.edges))) × (made.site.node ≡ stop_route.goal)
 
   made_by : (at : List ℕ) (place : ℕ) (stop : Stop) (stop_route : StopRoute) → IsStopRoute layout jobs at stop stop_route → Made at place stop_route stop
   made_by at place stop stop_route is = subst (Made at place stop_route) is.made (
     record {
       job = stop_route.job;
       named = is.named;
-      spot = is.spot;
+      site = is.site;
       station = is.station;
       route = subst (λ node. IsRoute layout at node (ids_of stop_route.edges)) (sym is.stands) is.route;
       known = is.known;
@@ -66,14 +66,14 @@ module _ (layout : Layout) (jobs : List Job) where
     leads : stop_route.goal ≡ goal
 
   leg_there : (at : List ℕ) (place : ℕ) (stop : Stop) (edges : List Edge) (act : Act) (made : MakesStop layout jobs at place stop edges act)
-      → HasLeg at made.spot.node stop
+      → HasLeg at made.site.node stop
   unfolding stop_route_to
   leg_there at place stop edges act made = record {
-    stop_route = stop_route_over layout stop made.job made.spot.node (ids_of edges);
+    stop_route = stop_route_over layout stop made.job made.site.node (ids_of edges);
     found =
         ap (option_and_then (stop_route_for layout at stop)) made.named
-        ∙ ap (option_and_then (λ (spot : StationSite). option_map (stop_route_over layout stop made.job spot.node) (route_of layout at spot.node))) made.station
-        ∙ ap (option_map (stop_route_over layout stop made.job made.spot.node)) (sym (exact_way layout at made.spot.node (Some (ids_of edges)) made.route));
+        ∙ ap (option_and_then (λ (site : StationSite). option_map (stop_route_over layout stop made.job site.node) (route_of layout at site.node))) made.station
+        ∙ ap (option_map (stop_route_over layout stop made.job made.site.node)) (sym (exact_way layout at made.site.node (Some (ids_of edges)) made.route));
     leads = refl;
   }
 
@@ -90,7 +90,7 @@ module _ (layout : Layout) (jobs : List Job) where
   legs_there at place (stop ∷ stops) edges (act ∷ acts) made e =
       let has = leg_there at place stop made.0 act made.3.0 in
       let more : stop_routes_to layout jobs has.stop_route.goal stops ≢ None =
-      subst (λ node. stop_routes_to layout jobs node stops ≢ None) (sym has.leads) (legs_there made.3.0.spot.node (place + length made.0) stops made.1 acts made.3.1) in
+      subst (λ node. stop_routes_to layout jobs node stops ≢ None) (sym has.leads) (legs_there made.3.0.site.node (place + length made.0) stops made.1 acts made.3.1) in
       some_more has.stop_route (stop_routes_to layout jobs has.stop_route.goal stops) more
       (sym (ap (option_and_then (λ (stop_route : StopRoute). option_map (λ (stop_routes : List StopRoute). stop_route ∷ stop_routes) (stop_routes_to layout jobs stop_route.goal stops))) has.found) ∙ e)
 

@@ -64,22 +64,22 @@ module _ (layout : Layout) where
     pub walk : IsWalk layout at (ids_of stop_route.edges) stop_route.goal
     pub route : IsRoute layout at stop_route.goal (ids_of stop_route.edges)
     pub known : All (IsEdgeOf layout) stop_route.edges
-    pub spot : StationSite
-    pub station : IsStation layout (stop_station stop_route.stop.kind stop_route.job) spot
-    pub stands : spot.node ≡ stop_route.goal
+    pub site : StationSite
+    pub station : IsStation layout (stop_station stop_route.stop.kind stop_route.job) site
+    pub stands : site.node ≡ stop_route.goal
 
-  leg_by : (jobs : List Job) (at : List ℕ) (stop : Stop) (job : Job) (spot : StationSite) (ids : List (List ℕ)) → job_named jobs stop.job ≡ Some job → finite.get layout.stations (stop_station stop.kind job) ≡ Some spot
-      → route_of layout at spot.node ≡ Some ids → IsStopRoute jobs at stop (stop_route_over layout stop job spot.node ids)
-  leg_by jobs at stop job spot ids j e r =
-      let route = subst (IsWayTo layout at spot.node) r (route_is_found layout at spot.node) in
-      let are = are_edges at spot.node ids route.walk in
+  leg_by : (jobs : List Job) (at : List ℕ) (stop : Stop) (job : Job) (site : StationSite) (ids : List (List ℕ)) → job_named jobs stop.job ≡ Some job → finite.get layout.stations (stop_station stop.kind job) ≡ Some site
+      → route_of layout at site.node ≡ Some ids → IsStopRoute jobs at stop (stop_route_over layout stop job site.node ids)
+  leg_by jobs at stop job site ids j e r =
+      let route = subst (IsWayTo layout at site.node) r (route_is_found layout at site.node) in
+      let are = are_edges at site.node ids route.walk in
       record {
         made = refl;
         named = j;
-        walk = subst (λ names. IsWalk layout at names spot.node) (sym are.named) route.walk;
-        route = subst (IsRoute layout at spot.node) (sym are.named) route;
+        walk = subst (λ names. IsWalk layout at names site.node) (sym are.named) route.walk;
+        route = subst (IsRoute layout at site.node) (sym are.named) route;
         known = are.known;
-        spot = spot;
+        site = site;
         station = e;
         stands = refl;
       }
@@ -88,9 +88,9 @@ module _ (layout : Layout) where
   unfolding stop_route_to
   is_leg jobs at stop stop_route e =
       let job = chained (stop_route_for layout at stop) (job_named jobs stop.job) stop_route e in
-      let spot = chained (λ (spot : StationSite). option_map (stop_route_over layout stop job.value spot.node) (route_of layout at spot.node)) (finite.get layout.stations (stop_station stop.kind job.value)) stop_route job.gives in
-      let ids = mapped (stop_route_over layout stop job.value spot.value.node) (route_of layout at spot.value.node) stop_route spot.gives in
-      subst (IsStopRoute jobs at stop) ids.gives (leg_by jobs at stop job.value spot.value ids.value job.here spot.here ids.here)
+      let site = chained (λ (site : StationSite). option_map (stop_route_over layout stop job.value site.node) (route_of layout at site.node)) (finite.get layout.stations (stop_station stop.kind job.value)) stop_route job.gives in
+      let ids = mapped (stop_route_over layout stop job.value site.value.node) (route_of layout at site.value.node) stop_route site.gives in
+      subst (IsStopRoute jobs at stop) ids.gives (leg_by jobs at stop job.value site.value ids.value job.here site.here ids.here)
 
   -- the routes lead on from one to the next, a route for each stop
   abbrev pub AreStopRoutes : List Job → List ℕ → List Stop → List StopRoute → Type 0

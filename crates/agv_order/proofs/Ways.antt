@@ -91,7 +91,7 @@ module _ (layout : Layout) (jobs : List Job) where
   stations_past start before at (stop ∷ stops) [] here are plan s e = elim are [ ]
   stations_past start before at (stop ∷ stops) (stop_route ∷ stop_routes) here are plan s e =
       All-cons (IsAtStation layout plan) (task_of (act_at stop_route (length before + length stop_route.edges))) (tasks_along (length before + length stop_route.edges) stop_routes)
-      (are.0.spot, are.0.station, node ∙ ap Some (there ∙ sym are.0.stands))
+      (are.0.site, are.0.station, node ∙ ap Some (there ∙ sym are.0.stands))
       (subst (λ n. All (IsAtStation layout plan) (tasks_along n stop_routes)) longer
       (stations_past start (before ++ stop_route.edges) stop_route.goal stops stop_routes there are.1 plan s (e ∙ sym (append_assoc before stop_route.edges (way_of stop_routes)))))
     where

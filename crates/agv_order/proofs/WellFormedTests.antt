@@ -18,7 +18,7 @@ use Rattle.agv_layout.specs.declared.station.StationSite.{StationSite}
 use Rattle.agv_order.specs.Stops.{stops_fit}
 use Rattle.agv_order.specs.Trips.{task_of, plan_of, node_at}
 use Rattle.agv_order.specs.WellFormed.{IsEdgeOf, ids_of, IsRising, IsAtStation, IsPlanned, is_reached, is_in_turn, has_not_begun, is_over, IsConfirmed, IsUnderWay, IsWellFormed}
-use Rattle.agv_order.specs.WellFormedTest.{has_ends, is_edge_of, is_way_of, stops_of, is_rising, is_spot_at, is_at_station, is_planned, is_in_base, is_growing, is_confirmed, has_ended, is_under_way, is_well_formed}
+use Rattle.agv_order.specs.WellFormedTest.{has_ends, is_edge_of, is_way_of, stops_of, is_rising, is_site_at, is_at_station, is_planned, is_in_base, is_growing, is_confirmed, has_ended, is_under_way, is_well_formed}
 use Rattle.agv_order.specs.declared.act.Act.{Act}
 use Rattle.agv_order.specs.declared.trip.Trip.{Trip}
 
@@ -78,22 +78,22 @@ module _ (layout : Layout) where
   rising_said from [] to = Decides-eqb from to
   rising_said from (act ∷ acts) to = Decides-and _ _ (at_most from act.place_at) (rising_said act.place_at acts to)
 
-  -- a spot at a node
-  abbrev IsSpotAt : Option (List ℕ) → Option StationSite → Type 0
-  IsSpotAt node found = (spot : StationSite) × (found ≡ Some spot) × (node ≡ Some spot.node)
+  -- a site at a node
+  abbrev IsSiteAt : Option (List ℕ) → Option StationSite → Type 0
+  IsSiteAt node found = (site : StationSite) × (found ≡ Some site) × (node ≡ Some site.node)
 
-  spot_said : (node : Option (List ℕ)) (found : Option StationSite) → Decides (is_spot_at node found) (IsSpotAt node found)
-  spot_said None found = (λ e. absurd (false≢true e), λ at. absurd (none-some _ at.2))
-  spot_said (Some node) None = (λ e. absurd (false≢true e), λ at. absurd (none-some _ at.1))
-  spot_said (Some node) (Some spot) = (
-    λ e. (spot, refl, ap Some (sym ((bytes_decides spot.node node).0 e))),
-    λ at. let same : spot ≡ at.0 = same_Some _ _ at.1 in
+  site_said : (node : Option (List ℕ)) (found : Option StationSite) → Decides (is_site_at node found) (IsSiteAt node found)
+  site_said None found = (λ e. absurd (false≢true e), λ at. absurd (none-some _ at.2))
+  site_said (Some node) None = (λ e. absurd (false≢true e), λ at. absurd (none-some _ at.1))
+  site_said (Some node) (Some site) = (
+    λ e. (site, refl, ap Some (sym ((bytes_decides site.node node).0 e))),
+    λ at. let same : site ≡ at.0 = same_Some _ _ at.1 in
         let here : node ≡ at.0.node = same_Some _ _ at.2 in
-        (bytes_decides spot.node node).1 (ap (λ (s : StationSite). s.node) same ∙ sym here),
+        (bytes_decides site.node node).1 (ap (λ (s : StationSite). s.node) same ∙ sym here),
   )
 
   station_said : (trip : Trip) (act : Act) → Decides (is_at_station layout trip act) (IsAtStation layout (plan_of trip) (task_of act))
-  station_said trip act = spot_said (node_at trip act.place_at) (finite.get layout.stations act.station)
+  station_said trip act = site_said (node_at trip act.place_at) (finite.get layout.stations act.station)
 
   stations_said : (trip : Trip) (acts : List Act) → Decides (list_all (is_at_station layout trip) acts) (All (IsAtStation layout (plan_of trip)) (map task_of acts))
   stations_said trip [] = (λ e. All-nil (IsAtStation layout (plan_of trip)), λ all. refl)

@@ -40,7 +40,7 @@ stop_route_over layout stop job goal ids = record { stop = stop; job = job; goal
 -- the route to a stop of the job: by the route from a node to the node of the job's station
 abbrev pub stop_route_for : Layout → List ℕ → Stop → Job → Option StopRoute
 stop_route_for layout at stop job =
-    option_and_then (λ (spot : StationSite). option_map (stop_route_over layout stop job spot.node) (route_of layout at spot.node)) (finite.get layout.stations (stop_station stop.kind job))
+    option_and_then (λ (site : StationSite). option_map (stop_route_over layout stop job site.node) (route_of layout at site.node)) (finite.get layout.stations (stop_station stop.kind job))
 
 -- the route to a stop; none where its job or its station is unknown, or no walk leads there
 unfoldable pub stop_route_to : Layout → List Job → List ℕ → Stop → Option StopRoute

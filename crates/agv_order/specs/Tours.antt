@@ -17,9 +17,9 @@ module _ (layout : Layout) (jobs : List Job) where
   pub record MakesStop (at : List ℕ) (place : ℕ) (stop : Stop) (edges : List Edge) (act : Act) : Type 0 where
     pub job : Job
     pub named : job_named jobs stop.job ≡ Some job
-    pub spot : StationSite
-    pub station : IsStation layout (stop_station stop.kind job) spot
-    pub route : IsRoute layout at spot.node (ids_of edges)
+    pub site : StationSite
+    pub station : IsStation layout (stop_station stop.kind job) site
+    pub route : IsRoute layout at site.node (ids_of edges)
     pub known : All (IsEdgeOf layout) edges
     pub does : act ≡ record {
       kind = stop.kind;
@@ -37,7 +37,7 @@ module _ (layout : Layout) (jobs : List Job) where
   MakesStops at place (stop ∷ stops) edges [] = ⊥
   MakesStops at place (stop ∷ stops) edges (act ∷ acts) =
       (stop_route : List Edge) × (rest : List Edge) × (edges ≡ stop_route ++ rest)
-      × ((made : MakesStop at place stop stop_route act) × MakesStops made.spot.node (place + length stop_route) stops rest acts)
+      × ((made : MakesStop at place stop stop_route act) × MakesStops made.site.node (place + length stop_route) stops rest acts)
 
   -- the trip starts at the vehicle's node and goes from stop to stop by the routes, over at most 200 edges, of which the first are released
   pub record IsPlanOf (stops : List Stop) (at : List ℕ) (base : ℕ) (trip : Trip) : Type 0 where

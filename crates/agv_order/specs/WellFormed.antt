@@ -30,7 +30,7 @@ IsRising from (task ∷ tasks) to = (from ≤ task.place_at) × IsRising task.pl
 -- the station of the task is at the node of its place
 abbrev pub IsAtStation : Layout → Plan → Task → Type 0
 IsAtStation layout plan task =
-    (spot : StationSite) × IsStation layout task.station spot × (slice_get (nodes_on plan.start plan.edges) task.place_at ≡ Some spot.node)
+    (site : StationSite) × IsStation layout task.station site × (slice_get (nodes_on plan.start plan.edges) task.place_at ≡ Some site.node)
 
 -- a walk of at most 200 edges; one to four jobs, each picked and later dropped; each task at its station, in the order of the way, the last at its end
 pub record IsPlanned (layout : Layout) (plan : Plan) : Type 0 where

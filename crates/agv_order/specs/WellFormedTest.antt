@@ -40,15 +40,15 @@ abbrev pub is_rising : ℕ → List Act → ℕ → Bool
 is_rising from [] to = from == to
 is_rising from (act ∷ acts) to = nat_le from act.place_at && is_rising act.place_at acts to
 
--- the node is there, and the spot is at it
-abbrev pub is_spot_at : Option (List ℕ) → Option StationSite → Bool
-is_spot_at None spot = false
-is_spot_at (Some node) None = false
-is_spot_at (Some node) (Some spot) = pointwise nat_eq spot.node node
+-- the node is there, and the site is at it
+abbrev pub is_site_at : Option (List ℕ) → Option StationSite → Bool
+is_site_at None site = false
+is_site_at (Some node) None = false
+is_site_at (Some node) (Some site) = pointwise nat_eq site.node node
 
 -- the station of the act is at the node of its place
 abbrev pub is_at_station : Layout → Trip → Act → Bool
-is_at_station layout trip act = is_spot_at (node_at trip act.place_at) (finite.get layout.stations act.station)
+is_at_station layout trip act = is_site_at (node_at trip act.place_at) (finite.get layout.stations act.station)
 
 -- a way of at most 200 edges; at most eight acts, a pick and later a drop for each job; each act at its station, in the order of the way, the last at its end
 abbrev pub is_planned : Layout → Trip → Bool

@@ -14,11 +14,11 @@ use Rattle.agv_desk.specs.declared.answer.Answer.TheVariants as answer
 
 -- a station with its name
 abbrev pub station_named : List ℕ × StationSite → Station
-station_named spot = record { id = spot.0; node = spot.1.node; capacity = spot.1.capacity }
+station_named site = record { id = site.0; node = site.1.node; capacity = site.1.capacity }
 
 -- the stations in the order of their names, each with the number of live jobs to it
 abbrev pub stations_told : World → List (Station × ℕ)
-stations_told world = map (λ (spot : List ℕ × StationSite). (station_named spot, reserved world spot.0)) (finite.entries world.layout.stations)
+stations_told world = map (λ (site : List ℕ × StationSite). (station_named site, reserved world site.0)) (finite.entries world.layout.stations)
 
 -- the report that an answer names, of this world: the stock report, the hold report or the export
 abbrev pub report_of : World → Answer → List ℕ

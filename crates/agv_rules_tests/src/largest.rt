@@ -84,7 +84,7 @@ fn check_edges(rt: &impl Abort, alloc: Global, layout: &Layout) {
 
 fn check_stations(rt: &impl Abort, alloc: Global, layout: &Layout) {
     let mut i = 0u32;
-    for (id, spot) in layout.stations() {
+    for (id, site) in layout.stations() {
         let node = numbered(rt, alloc, 'P', i);
         let capacity = i.saturating_add(500);
         check(
@@ -94,7 +94,7 @@ fn check_stations(rt: &impl Abort, alloc: Global, layout: &Layout) {
         );
         check(
             rt,
-            *spot == StationSite { node, capacity },
+            *site == StationSite { node, capacity },
             "where a station is",
         );
         i = i.saturating_add(1);

@@ -24,7 +24,7 @@ fn ends(rt: &impl Abort) -> EdgeEnds {
     }
 }
 
-fn spot(rt: &impl Abort) -> StationSite {
+fn site(rt: &impl Abort) -> StationSite {
     StationSite {
         node: name(rt, "N2"),
         capacity: 1,
@@ -47,7 +47,7 @@ fn put_row(rt: &impl Abort, alloc: Global, world: &mut World, kind: &str, i: u32
     let written: Result<(), Memory> = match kind {
         "node" => world.nodes.insert(name),
         "edge" => world.edges.insert(name, ends(rt)),
-        "station" => world.stations.insert(name, spot(rt)),
+        "station" => world.stations.insert(name, site(rt)),
         "load" => world.loads.insert(name, Place::Checking),
         "job" => world.jobs.insert(name, job_row(rt)),
         "order" => {

@@ -13,13 +13,13 @@ fn stations_of(rt: &impl Abort, alloc: Global, world: &World) -> Vec<(Station, u
     let rows = world.stations.list(alloc).expect(rt, "memory");
     let mut floor = PlainFloor::new(alloc, world, 4);
     let mut stations = Vec::new(alloc);
-    for (id, spot) in &rows {
+    for (id, site) in &rows {
         let reserved = floor.reserved(*id).expect(rt, "memory");
         let reserved = u32::try_from(reserved).expect(rt, "few jobs");
         let station = Station {
             id: *id,
-            node: spot.node,
-            capacity: spot.capacity,
+            node: site.node,
+            capacity: site.capacity,
         };
         stations.push((station, reserved)).expect(rt, "memory");
     }

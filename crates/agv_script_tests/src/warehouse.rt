@@ -42,13 +42,13 @@ fn add_node(rt: &impl Abort, alloc: Global, world: &mut World, number: u32) {
 }
 
 fn add_station(rt: &impl Abort, alloc: Global, world: &mut World, number: u32, node: u32) {
-    let spot = StationSite {
+    let site = StationSite {
         node: numbered(rt, alloc, 'P', node),
         capacity: 4,
     };
     world
         .stations
-        .insert(numbered(rt, alloc, 'S', number), spot)
+        .insert(numbered(rt, alloc, 'S', number), site)
         .expect(rt, "memory");
 }
 

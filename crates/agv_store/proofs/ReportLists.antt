@@ -194,20 +194,20 @@ counted nodes edges n m sum told few n_is m_is sum_is told_is =
 
 -- a station with its name, and the live jobs to it
 abbrev pub with_jobs_to : World → List ℕ × StationSite → Station × ℕ
-with_jobs_to world spot = (station_named spot, reserved world spot.0)
+with_jobs_to world site = (station_named site, reserved world site.0)
 
 append_one : {A : Type 0} (xs more : List A) (x : A) (rest : List A) → more ≡ xs ++ x ∷ [] → more ++ rest ≡ xs ++ x ∷ rest
 append_one xs more x rest is = ap (λ ys. ys ++ rest) is ∙ append_assoc xs (x ∷ []) rest
 
 -- one station more is listed
-pub one_more_station : (world now : World) (spots : List (List ℕ × StationSite)) (i : ℕ) (spot : List ℕ × StationSite) (jobs : ℕ) (so_far more : List (Station × ℕ)) → now ≡ world
-    → i < length spots → spot ≡ get_or spots i spot → (IsLawful desk_seats now → jobs ≡ reserved now spot.0) → more ≡ so_far ++ (station_named spot, jobs) ∷ []
-    → (IsLawful desk_seats world → so_far ++ map (with_jobs_to world) (drop i spots) ≡ map (with_jobs_to world) spots)
-    → IsLawful desk_seats world → more ++ map (with_jobs_to world) (drop (i + 1) spots) ≡ map (with_jobs_to world) spots
-one_more_station world now spots i spot jobs so_far more same low is told pushed before lawful =
-    let jobs_are : jobs ≡ reserved world spot.0 = told (subst (IsLawful desk_seats) (sym same) lawful) ∙ ap (λ (w : World). reserved w spot.0) same in
-    append_one so_far more (station_named spot, jobs) (map (with_jobs_to world) (drop (i + 1) spots)) pushed
-    ∙ ap (λ (n : ℕ). so_far ++ (station_named spot, n) ∷ map (with_jobs_to world) (drop (i + 1) spots)) jobs_are
-    ∙ ap (λ (x : List ℕ × StationSite). so_far ++ with_jobs_to world x ∷ map (with_jobs_to world) (drop (i + 1) spots)) is
-    ∙ sym (at_drop_more (λ (xs : List (List ℕ × StationSite)). so_far ++ map (with_jobs_to world) xs) spots i spot low)
+pub one_more_station : (world now : World) (sites : List (List ℕ × StationSite)) (i : ℕ) (site : List ℕ × StationSite) (jobs : ℕ) (so_far more : List (Station × ℕ)) → now ≡ world
+    → i < length sites → site ≡ get_or sites i site → (IsLawful desk_seats now → jobs ≡ reserved now site.0) → more ≡ so_far ++ (station_named site, jobs) ∷ []
+    → (IsLawful desk_seats world → so_far ++ map (with_jobs_to world) (drop i sites) ≡ map (with_jobs_to world) sites)
+    → IsLawful desk_seats world → more ++ map (with_jobs_to world) (drop (i + 1) sites) ≡ map (with_jobs_to world) sites
+one_more_station world now sites i site jobs so_far more same low is told pushed before lawful =
+    let jobs_are : jobs ≡ reserved world site.0 = told (subst (IsLawful desk_seats) (sym same) lawful) ∙ ap (λ (w : World). reserved w site.0) same in
+    append_one so_far more (station_named site, jobs) (map (with_jobs_to world) (drop (i + 1) sites)) pushed
+    ∙ ap (λ (n : ℕ). so_far ++ (station_named site, n) ∷ map (with_jobs_to world) (drop (i + 1) sites)) jobs_are
+    ∙ ap (λ (x : List ℕ × StationSite). so_far ++ with_jobs_to world x ∷ map (with_jobs_to world) (drop (i + 1) sites)) is
+    ∙ sym (at_drop_more (λ (xs : List (List ℕ × StationSite)). so_far ++ map (with_jobs_to world) xs) sites i site low)
     ∙ before lawful

@@ -3,7 +3,7 @@ ghost use Rattle.std.specs.Prelude.{◌≡◌, ◌<◌, ◌+◌, ◌^◌, ℕ, L
 ghost use Rattle.std.specs.FinMap as finite;
 ghost use Rattle.std.specs.FinSet as set;
 ghost use Rattle.std.specs.Map.{keys_of};
-ghost use Rattle.agv_layout.specs.declared.station.StationSite.{StationSite as SpotOf};
+ghost use Rattle.agv_layout.specs.declared.station.StationSite.{StationSite as SiteOf};
 ghost use Rattle.agv_world.specs.Asks.{Asks};
 ghost use Rattle.agv_world.specs.Lawful.{IsLawful};
 ghost use Rattle.agv_world.specs.Questions.{reserved};
@@ -31,13 +31,13 @@ fn told_number(number: usize) -> u32
 }
 
 // A station with its name.
-fn station_named(id: Name, spot: &StationSite) -> Station
-    ensures { result ≡ station_named (id, spot.now) }
+fn station_named(id: Name, site: &StationSite) -> Station
+    ensures { result ≡ station_named (id, site.now) }
 {
     Station {
         id,
-        node: spot.node,
-        capacity: spot.capacity,
+        node: site.node,
+        capacity: site.capacity,
     }
 }
 
@@ -88,13 +88,13 @@ impl<S: Alter + Drop> KeyedFloor<S> {
     }
 
     // These stations, each with the number of live jobs to it.
-    fn with_jobs(&mut self, spots: &[(Name, StationSite)]) -> Result<Vec<(Station, u32)>, Fault>
-        ensures { Asks (facts_of S.Store) self.old self.new result (λ world stations. IsLawful desk_seats world → stations.items ≡ map (λ (spot : List ℕ × SpotOf). (station_named spot, reserved world spot.0)) spots.now) }
+    fn with_jobs(&mut self, sites: &[(Name, StationSite)]) -> Result<Vec<(Station, u32)>, Fault>
+        ensures { Asks (facts_of S.Store) self.old self.new result (λ world stations. IsLawful desk_seats world → stations.items ≡ map (λ (site : List ℕ × SiteOf). (station_named site, reserved world site.0)) sites.now) }
     {
         let mut stations = Vec::new(self.alloc);
-        for (id, spot) in spots {
+        for (id, site) in sites {
             let jobs = self.jobs_to(*id)?;
-            stations.push((station_named(*id, spot), jobs))?;
+            stations.push((station_named(*id, site), jobs))?;
         }
         Ok(stations)
     }
@@ -104,8 +104,8 @@ impl<S: Alter + Drop> KeyedFloor<S> {
         ensures { Asks (facts_of S.Store) self.old self.new result (λ world stations. IsLawful desk_seats world → stations.items ≡ stations_told world) }
     {
         let table = self.all_stations()?;
-        let spots = table.list(self.alloc)?;
-        self.with_jobs(&spots)
+        let sites = table.list(self.alloc)?;
+        self.with_jobs(&sites)
     }
 
     // The loads by name, each with its place.

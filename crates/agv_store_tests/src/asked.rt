@@ -50,7 +50,7 @@ pub(crate) fn write<S: Alter>(rt: &impl Abort, conn: &mut Connection<S>, changes
     write_changes(conn, changes).expect(rt, "a commit");
 }
 
-fn spot(rt: &impl Abort, node: &str) -> StationSite {
+fn site(rt: &impl Abort, node: &str) -> StationSite {
     StationSite {
         node: name(rt, node),
         capacity: 4,
@@ -158,8 +158,8 @@ fn write_few<S: Alter>(rt: &impl Abort, conn: &mut Connection<S>) {
         Change::Node(name(rt, "N2")),
         Change::Edge(name(rt, "E12"), ends(rt, "N1", "N2")),
         Change::Edge(name(rt, "E21"), ends(rt, "N2", "N1")),
-        Change::Station(name(rt, "A"), spot(rt, "N1")),
-        Change::Station(name(rt, "B"), spot(rt, "N2")),
+        Change::Station(name(rt, "A"), site(rt, "N1")),
+        Change::Station(name(rt, "B"), site(rt, "N2")),
         Change::Vehicle(vehicle(rt), vehicle_row(rt)),
         Change::Hold(Thing::Node(name(rt, "N1")), Some(vehicle(rt))),
         Change::Used(order_key(rt, "O1")),
@@ -210,7 +210,7 @@ fn ask_known<S: Alter>(rt: &impl Abort, alloc: Global, conn: &mut Connection<S>,
     let wanted = job(rt, load, Phase::Done);
     check(rt, ended == Ok(Some(wanted)), "the job");
     let station = query_station(conn, &name(rt, "A"));
-    check(rt, station == Ok(Some(spot(rt, "N1"))), "the station");
+    check(rt, station == Ok(Some(site(rt, "N1"))), "the station");
     let holder = query_holder(conn, &Thing::Node(name(rt, "N1")));
     check(rt, holder == Ok(Some(vehicle(rt))), "the holder");
     let node = query_node(conn, &name(rt, "N2"));

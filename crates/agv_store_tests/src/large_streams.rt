@@ -31,12 +31,12 @@ fn write_layout<S: Alter>(rt: &impl Abort, alloc: Global, conn: &mut Connection<
     changes.push(Change::Node(node)).expect(rt, "memory");
     for number in 0..STATIONS {
         let station = numbered(rt, alloc, 'S', number);
-        let spot = StationSite {
+        let site = StationSite {
             node,
             capacity: 999,
         };
         changes
-            .push(Change::Station(station, spot))
+            .push(Change::Station(station, site))
             .expect(rt, "memory");
     }
     write(rt, conn, changes.as_slice());

@@ -11,7 +11,7 @@ use Rattle.agv_world.specs.declared.change.Change.TheVariants as row
 abbrev pub change : Rows → Change → Rows
 change rows (row.Node id) = record rows { nodes = set.insert rows.nodes id }
 change rows (row.Edge id ends) = record rows { edges = finite.insert rows.edges id ends }
-change rows (row.Station id spot) = record rows { stations = finite.insert rows.stations id spot }
+change rows (row.Station id site) = record rows { stations = finite.insert rows.stations id site }
 change rows (row.Vehicle key vehicle) = record rows { vehicles = finite.insert rows.vehicles key vehicle }
 change rows (row.Trip order trip) = record rows { trips = edit rows.trips order trip }
 change rows (row.Leg key edge) = record rows { legs = edit rows.legs key edge }

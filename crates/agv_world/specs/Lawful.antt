@@ -100,7 +100,7 @@ pub record HasLawfulVehicles (seats : ℕ) (world : World) : Type 0 where
 
 -- the station or the vehicle of a place is known
 abbrev pub IsPlaceIn : World → Place → Type 0
-IsPlaceIn world (place.Station id) = (spot : StationSite) × IsStation world.layout id spot
+IsPlaceIn world (place.Station id) = (site : StationSite) × IsStation world.layout id site
 IsPlaceIn world (place.Vehicle key) = (vehicle : Vehicle) × IsVehicle world key vehicle
 IsPlaceIn world place.Checking = Unit {0}
 IsPlaceIn world place.Left = Unit {0}
@@ -112,8 +112,8 @@ IsJob world job row = finite.get world.jobs job ≡ Some row
 -- the load and the stations of a job are known
 pub record IsJobIn (world : World) (row : JobRow) : Type 0 where
   pub load : (place : Place) × (finite.get world.places row.load ≡ Some place)
-  pub origin : (spot : StationSite) × IsStation world.layout row.origin spot
-  pub target : (spot : StationSite) × IsStation world.layout row.target spot
+  pub origin : (site : StationSite) × IsStation world.layout row.origin site
+  pub target : (site : StationSite) × IsStation world.layout row.target site
 
 -- the vehicle has a trip open, and this is an act of it
 pub record HasAct (world : World) (key : VehicleKey) (trip : Trip) (act : Act) : Type 0 where
@@ -170,8 +170,8 @@ pub record HasLawfulLoads (world : World) : Type 0 where
   pub places : (load : List ℕ) (place : Place) → finite.get world.places load ≡ Some place → IsPlaceIn world place
   pub jobs : (job : List ℕ) (row : JobRow) → IsJob world job row → IsJobIn world row
   -- the loads at a station and the live jobs to it are together at most its capacity
-  pub room : (station : List ℕ) (spot : StationSite)
-      → IsStation world.layout station spot → length (loads_at world station) + reserved world station ≤ spot.capacity
+  pub room : (station : List ℕ) (site : StationSite)
+      → IsStation world.layout station site → length (loads_at world station) + reserved world station ≤ site.capacity
   -- a vehicle without a trip has at most as many loads as it has places; with a trip, its other loads and the trip's jobs that are not done are together at most that many
   pub idle : (key : VehicleKey) (vehicle : Vehicle) → IsVehicle world key vehicle → vehicle.trip ≡ None → loads_on world key ≤ vehicle.row.capacity
   pub within_capacity : (key : VehicleKey) (vehicle : Vehicle) (trip : Trip)

@@ -34,7 +34,7 @@ does_lead tables ends = set.contains tables.nodes ends.start && (set.contains ta
 
 -- the station is at a node, and has room for 1 to 999 loads
 abbrev pub does_stand : Tables → StationSite → Bool
-does_stand tables spot = set.contains tables.nodes spot.node && (nat_le 1 spot.capacity && nat_le spot.capacity 999)
+does_stand tables site = set.contains tables.nodes site.node && (nat_le 1 site.capacity && nat_le site.capacity 999)
 
 -- there are 1 to 500 nodes, and at most 1,500 edges and 500 stations
 abbrev pub is_in_limits : Tables → Bool

@@ -76,7 +76,7 @@ reserved world station = count_by (λ (job : List ℕ × JobRow). is_live_to sta
 -- how many loads more fit at a station: its capacity, less the loads there, less the live jobs to it; none where there is no such station
 unfoldable pub room_at : World → List ℕ → Option ℕ
 room_at world station =
-    option_map (λ (spot : StationSite). room_left spot.capacity (length (loads_at world station)) (reserved world station)) (finite.get world.layout.stations station)
+    option_map (λ (site : StationSite). room_left site.capacity (length (loads_at world station)) (reserved world station)) (finite.get world.layout.stations station)
 
 -- ---- the names that were used, and the counts
 

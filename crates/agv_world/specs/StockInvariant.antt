@@ -90,17 +90,17 @@ coming jobs station = count_by (λ (job : List ℕ × JobRow). is_live_to statio
 -- ---- what is joined
 
 -- the station of a place is known
-abbrev pub IsSpot : Layout → Place → Type 0
-IsSpot layout (place.Station id) = (spot : StationSite) × IsStation layout id spot
-IsSpot layout (place.Vehicle key) = Unit {0}
-IsSpot layout place.Checking = Unit {0}
-IsSpot layout place.Left = Unit {0}
+abbrev pub IsKnownPlace : Layout → Place → Type 0
+IsKnownPlace layout (place.Station id) = (site : StationSite) × IsStation layout id site
+IsKnownPlace layout (place.Vehicle key) = Unit {0}
+IsKnownPlace layout place.Checking = Unit {0}
+IsKnownPlace layout place.Left = Unit {0}
 
 -- the load and the stations of a job are known
 pub record IsJobOn (layout : Layout) (places : Places) (row : JobRow) : Type 0 where
   pub load : (place : Place) × (finite.get places row.load ≡ Some place)
-  pub origin : (spot : StationSite) × IsStation layout row.origin spot
-  pub target : (spot : StationSite) × IsStation layout row.target spot
+  pub origin : (site : StationSite) × IsStation layout row.origin site
+  pub target : (site : StationSite) × IsStation layout row.target site
 
 -- what the phase of an action's job is, and where its load stands:
 -- a pick that is not finished has its job riding and the load at its station;
@@ -135,9 +135,9 @@ pub record StockInvariant (layout : Layout) (carries : VehicleKey → List Actio
   pub few_jobs : finite.len jobs ≤ 1000000
   pub loads_named : (load : List ℕ) (place : Place) → finite.get places load ≡ Some place → IsName load
   pub jobs_named : (job : List ℕ) (row : JobRow) → finite.get jobs job ≡ Some row → IsName job
-  pub spots : (load : List ℕ) (place : Place) → finite.get places load ≡ Some place → IsSpot layout place
+  pub known_places : (load : List ℕ) (place : Place) → finite.get places load ≡ Some place → IsKnownPlace layout place
   pub known : (job : List ℕ) (row : JobRow) → finite.get jobs job ≡ Some row → IsJobOn layout places row
-  pub room : (station : List ℕ) (spot : StationSite) → IsStation layout station spot → stored places station + coming jobs station ≤ spot.capacity
+  pub room : (station : List ℕ) (site : StationSite) → IsStation layout station site → stored places station + coming jobs station ≤ site.capacity
   pub boards : (key : VehicleKey) → loads_on_vehicle places key + to_pick (carries key) ≤ capacity key
   pub one_job : (one other : List ℕ) (row further : JobRow) → finite.get jobs one ≡ Some row → finite.get jobs other ≡ Some further → is_live row.phase ≡ true → is_live further.phase ≡ true → row.load ≡ further.load → one ≡ other
   pub waiting : (job : List ℕ) (row : JobRow) → finite.get jobs job ≡ Some row → row.phase ≡ phase.Waiting → finite.get places row.load ≡ Some (place.Station row.origin)

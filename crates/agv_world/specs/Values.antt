@@ -30,7 +30,7 @@ pub record IsVehicleValue (row : VehicleRow) : Type 0 where
 pub record HasValues (tables : Tables) : Type 0 where
   pub nodes : (id : List ℕ) → set.contains tables.nodes id ≡ true → IsName id
   pub edges : (id : List ℕ) (ends : EdgeEnds) → finite.get tables.edges id ≡ Some ends → IsName id
-  pub stations : (id : List ℕ) (spot : StationSite) → finite.get tables.stations id ≡ Some spot → IsName id
+  pub stations : (id : List ℕ) (site : StationSite) → finite.get tables.stations id ≡ Some site → IsName id
   pub keys : (key : VehicleKey) (row : VehicleRow) → finite.get tables.vehicles key ≡ Some row → IsKey key
   pub vehicles : (key : VehicleKey) (row : VehicleRow) → finite.get tables.vehicles key ≡ Some row → IsVehicleValue row
   pub loads : (load : List ℕ) (place : Place) → finite.get tables.loads load ≡ Some place → IsName load

@@ -74,7 +74,7 @@ pub trait Floor {
 
     /// Where a station is, and how many loads fit there; none where it is unknown.
     fn station(&mut self, id: Name) -> Result<Option<StationSite>, Fault>
-        ensures { Asks facts self.old self.new result (λ world spot. spot ≡ map.get world.layout.stations id) };
+        ensures { Asks facts self.old self.new result (λ world site. site ≡ map.get world.layout.stations id) };
 
     /// Whether a name was used, in its kind.
     fn used(&mut self, kind: UseKind, name: Name) -> Result<bool, Fault>

@@ -134,9 +134,9 @@ impl World {
     pub(crate) fn room(&self, station: Name) -> Option<u32>
         ensures { result ≡ room_at (world_of self.now) station }
     {
-        let spot = self.station(station)?;
+        let site = self.station(station)?;
         Some(room_left(
-            spot.capacity,
+            site.capacity,
             self.load_count(station),
             self.reserved(station),
         ))

@@ -102,7 +102,7 @@ impl World {
         match written {
             Change::Node(id) => self.nodes.insert(*id),
             Change::Edge(id, ends) => self.edges.insert(*id, *ends),
-            Change::Station(id, spot) => self.stations.insert(*id, *spot),
+            Change::Station(id, site) => self.stations.insert(*id, *site),
             Change::Vehicle(key, row) => self.vehicles.insert(*key, *row),
             Change::Trip(order, row) => put_trip(&mut self.trips, *order, row),
             Change::Leg(key, edge) => put_leg(&mut self.legs, *key, *edge),

@@ -51,11 +51,11 @@ impl World {
     fn push_stations(&self, rows: &mut Vec<LayoutRow>) -> Result<(), Memory>
         ensures { OnOk result (rows.new.items ≡ rows.old.items ++ map station_row (finite.entries self.now.stations)) }
     {
-        for (id, spot) in self.stations.iter() {
+        for (id, site) in self.stations.iter() {
             rows.push(LayoutRow::Station {
                 id: *id,
-                node: spot.node,
-                capacity: spot.capacity,
+                node: site.node,
+                capacity: site.capacity,
             })?;
         }
         Ok(())

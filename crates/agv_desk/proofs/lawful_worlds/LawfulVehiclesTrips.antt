@@ -95,5 +95,5 @@ module _ (layout : Layout) (jobs : List Job) where
   planned_picks at place (stop ∷ stops) edges (act ∷ acts) makes =
       let made = makes.3.0 in
       sum_by-cons (λ (a : Act). cond (picks a) 1 0) act acts
-      ∙ (λ i. cond (picks (made.does i)) 1 0 + planned_picks made.spot.node (place + length makes.0) stops makes.1 acts makes.3.1 i)
+      ∙ (λ i. cond (picks (made.does i)) 1 0 + planned_picks made.site.node (place + length makes.0) stops makes.1 acts makes.3.1 i)
       ∙ sym (sum_by-cons (λ (s : Stop). cond (is_pick s) 1 0) stop stops)

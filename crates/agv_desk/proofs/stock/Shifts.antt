@@ -13,7 +13,7 @@ use Rattle.agv_stock.specs.Rooms.{is_at, is_on}
 use Rattle.agv_stock.specs.declared.job.Phase.{Phase}
 use Rattle.agv_stock.specs.declared.job.Phase.TheVariants.{Waiting, Riding}
 use Rattle.agv_stock.specs.declared.place.Place.{Place}
-use Rattle.agv_world.specs.StockInvariant.{ActionView, StockInvariant, IsCarried, IsJobOn, IsSpot, Jobs, Places, ActStands, loads_on_vehicle, coming, to_pick, stored}
+use Rattle.agv_world.specs.StockInvariant.{ActionView, StockInvariant, IsCarried, IsJobOn, IsKnownPlace, Jobs, Places, ActStands, loads_on_vehicle, coming, to_pick, stored}
 use Rattle.agv_world.specs.Questions.{is_live_to}
 use Rattle.agv_world.specs.declared.row.JobRow.{JobRow}
 use Rattle.agv_world.proofs.lists.Orders.{names_total, names_apart}
@@ -57,7 +57,7 @@ pub record Shift (layout : Layout) (carries : VehicleKey → List ActionView) (c
   pub places_after : Places
   pub place_was : finite.get places row.load ≡ Some from
   pub place_is : IsWritten places row.load to places_after
-  pub spot : IsSpot layout to
+  pub known_place : IsKnownPlace layout to
   -- no other vehicle has the job
   pub alone : (other : VehicleKey) (k : ℕ) (action_view : ActionView) → other ≢ key → slice_get (carries other) k ≡ Some action_view → action_view.job ≢ job
   -- the actions of other jobs are old ones, and their drops stay
@@ -174,15 +174,15 @@ module _ (layout : Layout) (carries : VehicleKey → List ActionView) (capacity 
       | inl here ↦ subst IsName (sym here.0) (stock.jobs_named c.job c.row c.job_was)
       | inr old ↦ stock.jobs_named job row old.1
     ];
-    spots = λ load place there. elim (place_case load place there) [
-      | inl here ↦ subst (IsSpot layout) (sym here.1) c.spot
-      | inr old ↦ stock.spots load place old.1
+    known_places = λ load place there. elim (place_case load place there) [
+      | inl here ↦ subst (IsKnownPlace layout) (sym here.1) c.known_place
+      | inr old ↦ stock.known_places load place old.1
     ];
     known = λ job row there. elim (job_case job row there) [
       | inl here ↦ subst (IsJobOn layout c.places_after) (sym here.1) known_after
       | inr old ↦ known_as_before row (stock.known job row old.1)
     ];
-    room = λ station spot there. room_kept _ _ _ _ _ _ _ _ _ (stored_after station) (coming_after station) (c.room station) (stock.room station spot there);
+    room = λ station site there. room_kept _ _ _ _ _ _ _ _ _ (stored_after station) (coming_after station) (c.room station) (stock.room station site there);
     boards = boards_after;
     one_job = λ one other row further there more live still_live same. elim (job_case one row there) [
       | inl here ↦ elim (job_case other further more) [

@@ -14,7 +14,7 @@ use Rattle.agv_stock.specs.declared.job.Phase.{Phase}
 use Rattle.agv_stock.specs.declared.job.Phase.TheVariants.{Waiting, Riding}
 use Rattle.agv_stock.specs.declared.place.Place.{Place}
 use Rattle.agv_stock.specs.declared.place.Place.TheVariants as place
-use Rattle.agv_world.specs.StockInvariant.{ActionView, StockInvariant, HasStockInvariant, IsJobOn, IsSpot, Jobs, Places, capacity_for, capacity_of, coming, action_views_by, action_views_for, action_views_of, stored}
+use Rattle.agv_world.specs.StockInvariant.{ActionView, StockInvariant, HasStockInvariant, IsJobOn, IsKnownPlace, Jobs, Places, capacity_for, capacity_of, coming, action_views_by, action_views_for, action_views_of, stored}
 use Rattle.agv_world.specs.Questions.{is_live_to}
 use Rattle.agv_world.specs.VehicleChanges.{with_vehicle}
 use Rattle.agv_world.specs.Worlds.{Vehicle, World}
@@ -35,10 +35,10 @@ pub record PlaceChange (layout : Layout) (places : Places) (jobs : Jobs) : Type 
   pub is : IsWritten places load to after
   pub few : finite.len after ≤ 1000000
   pub named : IsName load
-  pub spot : IsSpot layout to
+  pub known_place : IsKnownPlace layout to
   pub free : IsFree jobs load
   pub ashore : (key : VehicleKey) → is_on key to ≡ false
-  pub room : (station : List ℕ) (spot : StationSite) → IsStation layout station spot → stored places station + coming jobs station + one_if (is_at station to) ≤ spot.capacity + weight (is_at station) (finite.get places load)
+  pub room : (station : List ℕ) (site : StationSite) → IsStation layout station site → stored places station + coming jobs station + one_if (is_at station to) ≤ site.capacity + weight (is_at station) (finite.get places load)
 
 -- a job, new or in no open trip, is written that does not ride
 pub record JobChange (layout : Layout) (carries : VehicleKey → List ActionView) (places : Places) (jobs : Jobs) : Type 0 where
@@ -53,7 +53,7 @@ pub record JobChange (layout : Layout) (carries : VehicleKey → List ActionView
   pub not_riding : row.phase ≢ Riding
   pub alone : is_live row.phase ≡ true → (other : List ℕ) (further : JobRow) → finite.get jobs other ≡ Some further → is_live further.phase ≡ true → further.load ≡ row.load → other ≡ job
   pub waits : row.phase ≡ Waiting → finite.get places row.load ≡ Some (place.Station row.origin)
-  pub room : (station : List ℕ) (spot : StationSite) → IsStation layout station spot → stored places station + coming jobs station + one_if (is_live_to station row) ≤ spot.capacity + weight (is_live_to station) (finite.get jobs job)
+  pub room : (station : List ℕ) (site : StationSite) → IsStation layout station site → stored places station + coming jobs station + one_if (is_live_to station row) ≤ site.capacity + weight (is_live_to station) (finite.get jobs job)
 
 room_stored : (n o p q j c : ℕ) → n + o ≡ p + q → p + j + q ≤ c + o → n + j ≤ c
 room_stored n o p q j c e f = omega arith
@@ -75,15 +75,15 @@ module _ (layout : Layout) (carries : VehicleKey → List ActionView) (capacity 
         | inr old ↦ stock.loads_named load at old.1
       ];
       jobs_named = stock.jobs_named;
-      spots = λ load at there. elim (written_cases names_total names_apart places c.load c.to c.after c.is load at there) [
-        | inl here ↦ subst (IsSpot layout) (sym here.1) c.spot
-        | inr old ↦ stock.spots load at old.1
+      known_places = λ load at there. elim (written_cases names_total names_apart places c.load c.to c.after c.is load at there) [
+        | inl here ↦ subst (IsKnownPlace layout) (sym here.1) c.known_place
+        | inr old ↦ stock.known_places load at old.1
       ];
       known = λ job row there.
           let known = stock.known job row there in
           record { load = written_has names_total names_apart places c.load c.to c.after c.is row.load known.load; origin = known.origin; target = known.target };
-      room = λ station spot there.
-          room_stored _ _ _ _ _ _ (tally-written names_total names_apart (is_at station) places c.load c.to c.after c.is) (c.room station spot there);
+      room = λ station site there.
+          room_stored _ _ _ _ _ _ (tally-written names_total names_apart (is_at station) places c.load c.to c.after c.is) (c.room station site there);
       boards = λ key.
           boards_still _ _ _ _ _ _ (tally-written names_total names_apart (is_on key) places c.load c.to c.after c.is) (ap one_if (c.ashore key)) (stock.boards key);
       one_job = stock.one_job;
@@ -121,13 +121,13 @@ module _ (layout : Layout) (carries : VehicleKey → List ActionView) (capacity 
         | inl here ↦ subst IsName (sym here.0) c.named
         | inr old ↦ stock.jobs_named job row old.1
       ];
-      spots = stock.spots;
+      known_places = stock.known_places;
       known = λ job row there. elim (job_case job row there) [
         | inl here ↦ subst (IsJobOn layout places) (sym here.1) c.known
         | inr old ↦ stock.known job row old.1
       ];
-      room = λ station spot there.
-          room_coming _ _ _ _ _ _ (tally-written names_total names_apart (is_live_to station) jobs c.job c.row c.after c.is) (c.room station spot there);
+      room = λ station site there.
+          room_coming _ _ _ _ _ _ (tally-written names_total names_apart (is_live_to station) jobs c.job c.row c.after c.is) (c.room station site there);
       boards = stock.boards;
       one_job = λ one other row further there more live still_live same. elim (job_case one row there) [
         | inl here ↦ elim (job_case other further more) [
@@ -164,7 +164,7 @@ same_stock layout carries carries_after capacity capacity_after places jobs same
       few_jobs = stock.few_jobs;
       loads_named = stock.loads_named;
       jobs_named = stock.jobs_named;
-      spots = stock.spots;
+      known_places = stock.known_places;
       known = stock.known;
       room = stock.room;
       boards = λ key. enough _ _ _ (stock.boards key) (more key);

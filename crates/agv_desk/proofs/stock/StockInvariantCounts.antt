@@ -14,7 +14,7 @@ use Rattle.agv_stock.specs.Phase.{is_live}
 use Rattle.agv_stock.specs.Rooms.{is_at, is_on}
 use Rattle.agv_stock.specs.declared.place.Place.{Place}
 use Rattle.agv_stock.specs.declared.place.Place.TheVariants as place
-use Rattle.agv_world.specs.StockInvariant.{StockInvariant, ActionView, HasStockInvariant, IsSpot, Jobs, Places, loads_on_vehicle, capacity_of, coming, action_views_of, stored}
+use Rattle.agv_world.specs.StockInvariant.{StockInvariant, ActionView, HasStockInvariant, IsKnownPlace, Jobs, Places, loads_on_vehicle, capacity_of, coming, action_views_of, stored}
 use Rattle.agv_world.specs.Questions.{reserved}
 use Rattle.agv_world.specs.Worlds.{World}
 use Rattle.agv_world.specs.declared.row.JobRow.{JobRow}
@@ -43,9 +43,9 @@ IsKnown places load = (at : Place) × (finite.get places load ≡ Some at)
 pub record PlacesChange (layout : Layout) (places : Places) (jobs : Jobs) : Type 0 where
   pub after : Places
   pub few : finite.len after ≤ 1000000
-  pub came : (load : List ℕ) (at : Place) → finite.get after load ≡ Some at → (finite.get places load ≡ Some at) ⊎ (IsName load × IsSpot layout at)
+  pub came : (load : List ℕ) (at : Place) → finite.get after load ≡ Some at → (finite.get places load ≡ Some at) ⊎ (IsName load × IsKnownPlace layout at)
   pub stays : (load : List ℕ) (at : Place) → finite.get places load ≡ Some at → (finite.get after load ≡ Some at) ⊎ (IsFree jobs load × IsKnown after load)
-  pub room : (station : List ℕ) (spot : StationSite) → IsStation layout station spot → stored after station + coming jobs station ≤ spot.capacity
+  pub room : (station : List ℕ) (site : StationSite) → IsStation layout station site → stored after station + coming jobs station ≤ site.capacity
   pub ashore : (key : VehicleKey) → loads_on_vehicle after key ≤ loads_on_vehicle places key
 
 module _ (layout : Layout) (carries : VehicleKey → List ActionView) (capacity : VehicleKey → ℕ) (places : Places) (jobs : Jobs) (stock : StockInvariant layout carries capacity places jobs) (c : PlacesChange layout places jobs) where
@@ -74,7 +74,7 @@ module _ (layout : Layout) (carries : VehicleKey → List ActionView) (capacity 
     few_jobs = stock.few_jobs;
     loads_named = λ load at there. elim (c.came load at there) [ inl old ↦ stock.loads_named load at old | inr new ↦ new.0 ];
     jobs_named = stock.jobs_named;
-    spots = λ load at there. elim (c.came load at there) [ inl old ↦ stock.spots load at old | inr new ↦ new.1 ];
+    known_places = λ load at there. elim (c.came load at there) [ inl old ↦ stock.known_places load at old | inr new ↦ new.1 ];
     known = λ job row there. let known = stock.known job row there in record { load = still_known row.load known.load; origin = known.origin; target = known.target };
     room = c.room;
     boards = λ key. fewer _ _ _ _ (c.ashore key) (stock.boards key);
@@ -221,13 +221,13 @@ module _ (world : World) (rows : List Row) (known : AreKnown world rows rows) wh
   free_moves [] none = tt
   free_moves (move ∷ moves) none = let parts = or_parts (is_in_job world move.load) _ none in (free_if world move.load parts.0, free_moves moves parts.1)
 
-  spot_of : (to : Place) → Comes world rows to → IsSpot world.layout to
-  spot_of to (inl checking) = subst (IsSpot world.layout) (sym checking) tt
-  spot_of to (inr station) = subst (IsSpot world.layout) (sym station.1) (there (finite.get world.layout.stations station.0) station.2)
+  known_place_of : (to : Place) → Comes world rows to → IsKnownPlace world.layout to
+  known_place_of to (inl checking) = subst (IsKnownPlace world.layout) (sym checking) tt
+  known_place_of to (inr station) = subst (IsKnownPlace world.layout) (sym station.1) (there (finite.get world.layout.stations station.0) station.2)
     where
-      there : (found : Option StationSite) → is_some found ≡ true → (spot : StationSite) × (found ≡ Some spot)
+      there : (found : Option StationSite) → is_some found ≡ true → (site : StationSite) × (found ≡ Some site)
       there None e = absurd (false≢true e)
-      there (Some spot) e = (spot, refl)
+      there (Some site) e = (site, refl)
 
   not_on_vehicle : (key : VehicleKey) (to : Place) → Comes world rows to → is_on key to ≡ false
   not_on_vehicle key to (inl checking) = ap (is_on key) checking
@@ -242,10 +242,10 @@ module _ (world : World) (rows : List Row) (known : AreKnown world rows rows) wh
         | false ↦ λ differs. ap (is_at station) other.1 ∙ differs
       ] refl
 
-fits_is : (world : World) (rows : List Row) (station : List ℕ) (found : Option StationSite) (spot : StationSite) → found ≡ Some spot → fits world rows station found ≡ true → found_here world rows station + coming world.jobs station ≤ spot.capacity
+fits_is : (world : World) (rows : List Row) (station : List ℕ) (found : Option StationSite) (site : StationSite) → found ≡ Some site → fits world rows station found ≡ true → found_here world rows station + coming world.jobs station ≤ site.capacity
 unfolding reserved
-fits_is world rows station None spot is fit = none_some is
-fits_is world rows station (Some other) spot is fit =
+fits_is world rows station None site is fit = none_some is
+fits_is world rows station (Some other) site is fit =
     subst (λ (one : StationSite). found_here world rows station + coming world.jobs station ≤ one.capacity) (same_Some _ _ is) (le_of _ _ fit)
   where
     le_of : (n m : ℕ) → nat_le n m ≡ true → n ≤ m
@@ -253,17 +253,17 @@ fits_is world rows station (Some other) spot is fit =
 
 module _ (world : World) (stock : HasStockInvariant world) where
   room_after : (rows : List Row) (known : AreKnown world rows rows) (ashore : list_any (λ (row : Row). some_on_vehicle world row.1) rows ≡ false) → list_all (λ (row : Row). fits world rows row.0 (finite.get world.layout.stations row.0)) rows ≡ true
-      → (station : List ℕ) (spot : StationSite) → IsStation world.layout station spot → stored (moved world.places (count_moves world rows)) station + coming world.jobs station ≤ spot.capacity
-  room_after rows known ashore room station spot there =
-      elim (is_counted rows station) as (λ b. is_counted rows station ≡ b → stored (moved world.places (count_moves world rows)) station + coming world.jobs station ≤ spot.capacity) [
+      → (station : List ℕ) (site : StationSite) → IsStation world.layout station site → stored (moved world.places (count_moves world rows)) station + coming world.jobs station ≤ site.capacity
+  room_after rows known ashore room station site there =
+      elim (is_counted rows station) as (λ b. is_counted rows station ≡ b → stored (moved world.places (count_moves world rows)) station + coming world.jobs station ≤ site.capacity) [
         | true ↦ λ counted.
             fewer _ _ _ _ (counted_few world station rows (moved world.places (count_moves world rows)) (taken world rows ashore) counted)
-            (fits_is world rows station (finite.get world.layout.stations station) spot there
+            (fits_is world rows station (finite.get world.layout.stations station) site there
             (passes (λ (row : Row). row.0) (λ q. fits world rows q (finite.get world.layout.stations q)) rows station room counted))
         | false ↦ λ uncounted.
             fewer _ _ _ _ (tally_by (is_at station) (count_moves world rows) world.places
             (each_of (IsCountMove world rows) (λ move. is_at station move.place ≡ false) (λ move is. not_there world rows known station uncounted move.place is.comes) (count_moves world rows) (all_moves world rows known)))
-            (stock.room station spot there)
+            (stock.room station site there)
       ] refl
     where
       fewer : (a b d c : ℕ) → a ≤ b → b + d ≤ c → a + d ≤ c
@@ -281,7 +281,7 @@ module _ (world : World) (stock : HasStockInvariant world) where
           few = subst (λ n. n ≤ 1000000) (sym (as_many_loads world rows known)) stock.few_loads;
           came = λ load at there. elim (came_by (IsCountMove world rows) moves world.places all load at there) [
             | inl old ↦ inl old
-            | inr new ↦ inr (subst IsName new.1 (stock.loads_named new.0.load new.2.known.0 new.2.known.1), subst (IsSpot world.layout) new.3 (spot_of world rows known new.0.place new.2.comes))
+            | inr new ↦ inr (subst IsName new.1 (stock.loads_named new.0.load new.2.known.0 new.2.known.1), subst (IsKnownPlace world.layout) new.3 (known_place_of world rows known new.0.place new.2.comes))
           ];
           stays = stays_by (IsFree world.jobs) moves world.places (free_moves world rows known moves (not-true _ free));
           room = room_after rows known (not-true _ ashore) room;

@@ -93,10 +93,10 @@ module _ (world : World) (stock : HasStockInvariant world) where
           is = is_written names_total names_apart world.places load to;
           few = few_more world.places load to (few_loads world few);
           named = named;
-          spot = goal_known world station is.1;
+          known_place = goal_known world station is.1;
           free = λ job row there live same. none_some (sym is.0 ∙ ap (finite.get world.places) (sym same) ∙ (stock.known job row there).load.1);
           ashore = ashore station;
-          room = λ other spot there. omega (arith, goal_fits world stock station is.1 is.2 other spot there);
+          room = λ other site there. omega (arith, goal_fits world stock station is.1 is.2 other site there);
         });
       }))
 
@@ -113,10 +113,10 @@ module _ (world : World) (stock : HasStockInvariant world) where
           is = is_written names_total names_apart world.places load to;
           few = as_many world.places load to is.0 is.1 stock.few_loads;
           named = stock.loads_named load is.0 is.1;
-          spot = goal_known world station is.3;
+          known_place = goal_known world station is.3;
           free = free_if world load is.2;
           ashore = ashore station;
-          room = λ other spot there. omega (arith, goal_fits world stock station is.3 is.4 other spot there);
+          room = λ other site there. omega (arith, goal_fits world stock station is.3 is.4 other site there);
         });
       })))
 
@@ -132,10 +132,10 @@ module _ (world : World) (stock : HasStockInvariant world) where
           is = is_written names_total names_apart world.places load place.Left;
           few = as_many world.places load place.Left is.0 is.1 stock.few_loads;
           named = stock.loads_named load is.0 is.1;
-          spot = tt;
+          known_place = tt;
           free = free_if world load is.2;
           ashore = λ key. refl;
-          room = λ other spot there. omega (arith, stock.room other spot there);
+          room = λ other site there. omega (arith, stock.room other site there);
         });
       })))
 
@@ -155,12 +155,12 @@ module _ (world : World) (stock : HasStockInvariant world) where
           is = is_written names_total names_apart world.jobs job row;
           few = few_more world.jobs job row (few_jobs world few);
           named = named;
-          known = record { load = (place.Station origin, at); origin = stock.spots load (place.Station origin) at; target = goal_known world (Some to) is.2 };
+          known = record { load = (place.Station origin, at); origin = stock.known_places load (place.Station origin) at; target = goal_known world (Some to) is.2 };
           apart = λ key k action_view here same. false≢true (sym is.0 ∙ ap (λ name. is_some (finite.get world.jobs name)) (sym same) ∙ ap (λ (found : Option JobRow). is_some found) (stock.carried key k action_view here).here);
           not_riding = λ e. cc;
           alone = λ live other further there still_live same. absurd (free other further there still_live same);
           waits = λ waits. at;
-          room = λ other spot there. omega (arith, fits_more world stock to is.2 is.3 other spot there);
+          room = λ other site there. omega (arith, fits_more world stock to is.2 is.3 other site there);
         });
       })))
 
@@ -182,6 +182,6 @@ module _ (world : World) (stock : HasStockInvariant world) where
           not_riding = λ e. cc;
           alone = λ live. absurd (false≢true live);
           waits = λ e. cc;
-          room = λ other spot at. omega (arith, stock.room other spot at);
+          room = λ other site at. omega (arith, stock.room other site at);
         });
       }))

@@ -15,7 +15,7 @@ use Rattle.agv_order.specs.declared.trip.Trip.{Trip}
 use Rattle.agv_stock.specs.Rooms.{is_at}
 use Rattle.agv_stock.specs.declared.place.Place.{Place}
 use Rattle.agv_stock.specs.declared.place.Place.TheVariants as place
-use Rattle.agv_world.specs.StockInvariant.{HasStockInvariant, IsSpot, capacity_for, capacity_of, action_views_by, action_views_for}
+use Rattle.agv_world.specs.StockInvariant.{HasStockInvariant, IsKnownPlace, capacity_for, capacity_of, action_views_by, action_views_for}
 use Rattle.agv_world.specs.Lawful.{HasLawfulVehicles}
 use Rattle.agv_world.specs.Questions.{is_live_to, given as set_where, layout_set, row_of, trip_of}
 use Rattle.agv_world.specs.VehicleChanges.{with_vehicle}
@@ -135,20 +135,20 @@ is_empty gives world unset (inr keeps) = none_some (sym unset ∙ ap set_where (
 
 module _ (gives : GivesItself) (seats : ℕ) (world : World) (lawful : HasLawfulVehicles seats world) (stock : HasStockInvariant world) where
   module _ (empty : world.layout ≡ empty_layout) (layout : Layout) where
-    no_station : (station : List ℕ) (spot : StationSite) → IsStation world.layout station spot → ⊥
-    no_station station spot there = none_some (sym (finite.get-empty name_cmp station) ∙ ap (λ (one : Layout). finite.get one.stations station) (sym empty) ∙ there)
+    no_station : (station : List ℕ) (site : StationSite) → IsStation world.layout station site → ⊥
+    no_station station site there = none_some (sym (finite.get-empty name_cmp station) ∙ ap (λ (one : Layout). finite.get one.stations station) (sym empty) ∙ there)
 
-    still_spot : (at : Place) → IsSpot world.layout at → IsSpot layout at
-    still_spot (place.Station id) spot = absurd (no_station id spot.0 spot.1)
-    still_spot (place.Vehicle key) spot = tt
-    still_spot place.Checking spot = tt
-    still_spot place.Left spot = tt
+    still_known : (at : Place) → IsKnownPlace world.layout at → IsKnownPlace layout at
+    still_known (place.Station id) known = absurd (no_station id known.0 known.1)
+    still_known (place.Vehicle key) known = tt
+    still_known place.Checking known = tt
+    still_known place.Left known = tt
 
-    at_none : (station : List ℕ) (at : Place) → IsSpot world.layout at → is_at station at ≡ false
-    at_none station (place.Station id) spot = absurd (no_station id spot.0 spot.1)
-    at_none station (place.Vehicle key) spot = refl
-    at_none station place.Checking spot = refl
-    at_none station place.Left spot = refl
+    at_none : (station : List ℕ) (at : Place) → IsKnownPlace world.layout at → is_at station at ≡ false
+    at_none station (place.Station id) known = absurd (no_station id known.0 known.1)
+    at_none station (place.Vehicle key) known = refl
+    at_none station place.Checking known = refl
+    at_none station place.Left known = refl
 
     no_job : (job : List ℕ) (row : JobRow) → finite.get world.jobs job ≡ Some row → ⊥
     no_job job row there = let origin = (stock.known job row there).origin in no_station row.origin origin.0 origin.1
@@ -162,10 +162,10 @@ module _ (gives : GivesItself) (seats : ℕ) (world : World) (lawful : HasLawful
       few_jobs = stock.few_jobs;
       loads_named = stock.loads_named;
       jobs_named = stock.jobs_named;
-      spots = λ load at there. still_spot at (stock.spots load at there);
+      known_places = λ load at there. still_known at (stock.known_places load at there);
       known = λ job row there. absurd (no_job job row there);
-      room = λ station spot there. none_of_both _ _ _
-          (tally-none names_total (is_at station) world.places (λ load at there. at_none station at (stock.spots load at there)))
+      room = λ station site there. none_of_both _ _ _
+          (tally-none names_total (is_at station) world.places (λ load at there. at_none station at (stock.known_places load at there)))
           (tally-none names_total (is_live_to station) world.jobs (λ job row there. absurd (no_job job row there)));
       boards = stock.boards;
       one_job = stock.one_job;

@@ -31,13 +31,13 @@ same_some : {A : Type 0} (x y : A) → Some x ≡ Some y → x ≡ y
 same_some x y e = ap (λ o. unwrap_or o x) e
 
 -- ---- the stations that were counted
-counted_known : (spots : finite.FinMap name_cmp StationSite) (rows : List Row) (id : List ℕ) → list_all (λ (row : Row). is_some (finite.get spots row.0)) rows ≡ true → is_counted rows id ≡ true → is_some (finite.get spots id) ≡ true
-counted_known spots [] id known counted = absurd (false≢true counted)
-counted_known spots (row ∷ rows) id known counted =
-    let parts = and_parts (is_some (finite.get spots row.0)) _ known in
-    elim (pointwise nat_eq row.0 id) as (λ b. pointwise nat_eq row.0 id ≡ b → (b || is_counted rows id) ≡ true → is_some (finite.get spots id) ≡ true) [
-      | true ↦ λ same _. ap (λ k. is_some (finite.get spots k)) (sym (same_name row.0 id same)) ∙ parts.0
-      | false ↦ λ _ rest. counted_known spots rows id parts.1 rest
+counted_known : (sites : finite.FinMap name_cmp StationSite) (rows : List Row) (id : List ℕ) → list_all (λ (row : Row). is_some (finite.get sites row.0)) rows ≡ true → is_counted rows id ≡ true → is_some (finite.get sites id) ≡ true
+counted_known sites [] id known counted = absurd (false≢true counted)
+counted_known sites (row ∷ rows) id known counted =
+    let parts = and_parts (is_some (finite.get sites row.0)) _ known in
+    elim (pointwise nat_eq row.0 id) as (λ b. pointwise nat_eq row.0 id ≡ b → (b || is_counted rows id) ≡ true → is_some (finite.get sites id) ≡ true) [
+      | true ↦ λ same _. ap (λ k. is_some (finite.get sites k)) (sym (same_name row.0 id same)) ∙ parts.0
+      | false ↦ λ _ rest. counted_known sites rows id parts.1 rest
     ] refl counted
 
 is_there : (b : Bool) (o : Option StationSite) → (b ≡ true → is_some o ≡ true) → is_some (cond b o None) ≡ b

@@ -59,9 +59,9 @@ keys_named : (q : List ℕ) (stations : List (List ℕ × StationSite)) → list
 keys_named q [] = refl
 keys_named q (station ∷ stations) = λ i. tie_turned q station.0 i || keys_named q stations i
 
-kept_spot : (counted : Bool) (found : Option StationSite) (spot : StationSite) → cond counted found None ≡ Some spot → found ≡ Some spot
-kept_spot true found spot e = e
-kept_spot false found spot e = absurd (false≢true (ap is_some e))
+kept_site : (counted : Bool) (found : Option StationSite) (site : StationSite) → cond counted found None ≡ Some site → found ≡ Some site
+kept_site true found site e = e
+kept_site false found site e = absurd (false≢true (ap is_some e))
 
 no_more : (b : Bool) (n : ℕ) → n ≡ cond (b && false) 1 0 + n
 no_more true n = omega arith
@@ -109,7 +109,7 @@ module _ (world : World) where
         → all_have_room world (counted_loads world rows) stations ≡ list_all (λ (s : List ℕ × StationSite). fits_at s.0) stations
     room_of_each [] there = refl
     room_of_each (station ∷ stations) there =
-        let known = kept_spot (is_counted rows station.0) (finite.get world.layout.stations station.0) station.1 (sym (get-stations_in world rows station.0) ∙ there.0) in
+        let known = kept_site (is_counted rows station.0) (finite.get world.layout.stations station.0) station.1 (sym (get-stations_in world rows station.0) ∙ there.0) in
         let here : has_room_for (seen_at (counted_loads world rows) station.0) (reserved world station.0) station.1 ≡ fits_at station.0 =
         ap (λ n. has_room_for n (reserved world station.0) station.1) (seen_are station.0 rows) ∙ ap (fits world rows station.0) (sym known) in
         λ i. here i && room_of_each stations there.1 i

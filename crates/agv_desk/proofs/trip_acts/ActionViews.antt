@@ -51,16 +51,16 @@ due-cons one carries = sum_by-cons (λ (e : ActionView). one_if (is_to_pick e)) 
 
 -- at one place of the list there is another action, and all others are as before
 pub record Swap (old new : ActionView) (olds news : List ActionView) : Type 0 where
-  pub spot : ℕ
-  pub was : slice_get olds spot ≡ Some old
-  pub now : slice_get news spot ≡ Some new
-  pub ahead : (k : ℕ) (one : ActionView) → slice_get news k ≡ Some one → ((k ≡ spot) × (one ≡ new)) ⊎ ((k ≢ spot) × (slice_get olds k ≡ Some one))
-  pub back : (k : ℕ) (one : ActionView) → slice_get olds k ≡ Some one → ((k ≡ spot) × (one ≡ old)) ⊎ ((k ≢ spot) × (slice_get news k ≡ Some one))
+  pub index : ℕ
+  pub was : slice_get olds index ≡ Some old
+  pub now : slice_get news index ≡ Some new
+  pub ahead : (k : ℕ) (one : ActionView) → slice_get news k ≡ Some one → ((k ≡ index) × (one ≡ new)) ⊎ ((k ≢ index) × (slice_get olds k ≡ Some one))
+  pub back : (k : ℕ) (one : ActionView) → slice_get olds k ≡ Some one → ((k ≡ index) × (one ≡ old)) ⊎ ((k ≢ index) × (slice_get news k ≡ Some one))
   pub count : to_pick news + one_if (is_to_pick old) ≡ to_pick olds + one_if (is_to_pick new)
 
 pub swap_here : (old new : ActionView) (rest : List ActionView) → Swap old new (old ∷ rest) (new ∷ rest)
 swap_here old new rest = record {
-  spot = 0;
+  index = 0;
   was = refl;
   now = refl;
   ahead = λ k one at. first new old k one at;
@@ -74,7 +74,7 @@ swap_here old new rest = record {
 
 swap_cons : (front old new : ActionView) (olds news : List ActionView) → Swap old new olds news → Swap old new (front ∷ olds) (front ∷ news)
 swap_cons front old new olds news swap = record {
-  spot = suc swap.spot;
+  index = suc swap.index;
   was = swap.was;
   now = swap.now;
   ahead = λ k one at. later olds news new swap.ahead k one at;
@@ -82,8 +82,8 @@ swap_cons front old new olds news swap = record {
   count = omega (arith, due-cons front olds, due-cons front news, swap.count);
 }
   where
-    later : (olds news : List ActionView) (new : ActionView) → ((k : ℕ) (one : ActionView) → slice_get news k ≡ Some one → ((k ≡ swap.spot) × (one ≡ new)) ⊎ ((k ≢ swap.spot) × (slice_get olds k ≡ Some one)))
-        → (k : ℕ) (one : ActionView) → slice_get (front ∷ news) k ≡ Some one → ((k ≡ suc swap.spot) × (one ≡ new)) ⊎ ((k ≢ suc swap.spot) × (slice_get (front ∷ olds) k ≡ Some one))
+    later : (olds news : List ActionView) (new : ActionView) → ((k : ℕ) (one : ActionView) → slice_get news k ≡ Some one → ((k ≡ swap.index) × (one ≡ new)) ⊎ ((k ≢ swap.index) × (slice_get olds k ≡ Some one)))
+        → (k : ℕ) (one : ActionView) → slice_get (front ∷ news) k ≡ Some one → ((k ≡ suc swap.index) × (one ≡ new)) ⊎ ((k ≢ suc swap.index) × (slice_get (front ∷ olds) k ≡ Some one))
     later olds news new cases zero one at = inr (λ e. absurd (omega (arith, e)), at)
     later olds news new cases (suc k) one at = elim (cases k one at) [
       | inl same ↦ inl (ap suc same.0, same.1)

@@ -103,9 +103,9 @@ module _ (layout : Layout) (carries : VehicleKey → List ActionView) (capacity 
   head_finds gone rest kind job load station false false places jobs renews picked same now move e = none_some e
   head_finds gone rest Pick job load station false true places jobs renews picked same now move e =
       let old : ActionView = an_action_view Pick job load station false in
-      let spot = in_rest gone (old ∷ rest) 0 old refl in
-      let row = row_in layout carries capacity key world trip.order (whole gone (old ∷ rest)) places jobs spot.0 old now spot.1 same in
-      let h : Fits places key old row.0 = fits_here layout carries capacity key (whole gone (old ∷ rest)) places jobs now spot.0 old spot.1 row.0 row.1 in
+      let index = in_rest gone (old ∷ rest) 0 old refl in
+      let row = row_in layout carries capacity key world trip.order (whole gone (old ∷ rest)) places jobs index.0 old now index.1 same in
+      let h : Fits places key old row.0 = fits_here layout carries capacity key (whole gone (old ∷ rest)) places jobs now index.0 old index.1 row.0 row.1 in
       subst (Finds world places) (same_some e)
       (same_cause world places _ Pick trip.order job refl (record {
         key = key;
@@ -123,9 +123,9 @@ module _ (layout : Layout) (carries : VehicleKey → List ActionView) (capacity 
   head_finds gone rest Drop job load station false true places jobs renews picked same now move e =
       let old : ActionView = an_action_view Drop job load station false in
       let carried : List ActionView = whole gone (old ∷ rest) in
-      let spot = in_rest gone (old ∷ rest) 0 old refl in
-      let row = row_in layout carries capacity key world trip.order carried places jobs spot.0 old now spot.1 same in
-      let h : Fits places key old row.0 = fits_here layout carries capacity key carried places jobs now spot.0 old spot.1 row.0 row.1 in
+      let index = in_rest gone (old ∷ rest) 0 old refl in
+      let row = row_in layout carries capacity key world trip.order carried places jobs index.0 old now index.1 same in
+      let h : Fits places key old row.0 = fits_here layout carries capacity key carried places jobs now index.0 old index.1 row.0 row.1 in
       let pick : IsPicked carried job = picked refl refl refl in
       let p : Fits places key pick.one row.0 = fits_here layout carries capacity key carried places jobs now pick.k pick.one pick.here row.0 (ap (finite.get jobs) pick.of_job ∙ row.1) in
       let aboard = on_vehicle places key pick.one.load pick.one.station pick.one.kind pick.one.finished row.0.phase pick.kind pick.finished h.stands p.stands in

@@ -14,7 +14,7 @@ use Rattle.agv_stock.specs.declared.job.Phase.{Phase}
 use Rattle.agv_stock.specs.declared.job.Phase.TheVariants as phase
 use Rattle.agv_stock.specs.declared.place.Place.{Place}
 use Rattle.agv_stock.specs.declared.place.Place.TheVariants as place
-use Rattle.agv_world.specs.StockInvariant.{ActionView, IsSpot, Jobs, Places, loads_on_vehicle, to_pick, is_to_pick}
+use Rattle.agv_world.specs.StockInvariant.{ActionView, IsKnownPlace, Jobs, Places, loads_on_vehicle, to_pick, is_to_pick}
 use Rattle.agv_world.specs.Questions.{is_live_to}
 use Rattle.agv_world.specs.declared.row.JobRow.{JobRow}
 use Rattle.agv_world.proofs.lists.Orders.{names_total, names_apart}
@@ -38,7 +38,7 @@ module _ (layout : Layout) (carries : VehicleKey → List ActionView) (capacity 
     few_jobs = now.few_jobs;
     loads_named = now.loads_named;
     jobs_named = now.jobs_named;
-    spots = now.spots;
+    known_places = now.known_places;
     known = now.known;
     room = now.room;
     boards = λ other. elim (same_or_other key_cmp-total key_cmp-IsAntisymmetric other key) [
@@ -60,7 +60,7 @@ module _ (layout : Layout) (carries : VehicleKey → List ActionView) (capacity 
     carried = λ other k action_view at. let h = back other k action_view at in now.carried other h.0 action_view h.1;
     once = λ one_key other i k action_view more at further e.
         let same : one_key ≡ other = (let h = back one_key i action_view at in let q = back other k more further in (now.once one_key other h.0 q.0 action_view more h.1 q.1 e).0) in
-        (same, λ f. same_spot one_key i k action_view more at (subst (λ v. slice_get (at_all rest v) k ≡ Some more) (sym same) further) e f);
+        (same, λ f. same_index one_key i k action_view more at (subst (λ v. slice_get (at_all rest v) k ≡ Some more) (sym same) further) e f);
   }
     where
       fewer : (t all d n c : ℕ) → all ≡ t + d → n + all ≤ c → n + d ≤ c
@@ -79,8 +79,8 @@ module _ (layout : Layout) (carries : VehicleKey → List ActionView) (capacity 
       suc_same : (i k : ℕ) → suc i ≡ suc k → i ≡ k
       suc_same i k e = omega (arith, e)
 
-      same_spot : (other : VehicleKey) (i k : ℕ) (action_view more : ActionView) → slice_get (at_all rest other) i ≡ Some action_view → slice_get (at_all rest other) k ≡ Some more → action_view.job ≡ more.job → action_view.kind ≡ more.kind → i ≡ k
-      same_spot other i k action_view more at further e f = elim (same_or_other key_cmp-total key_cmp-IsAntisymmetric other key) [
+      same_index : (other : VehicleKey) (i k : ℕ) (action_view more : ActionView) → slice_get (at_all rest other) i ≡ Some action_view → slice_get (at_all rest other) k ≡ Some more → action_view.job ≡ more.job → action_view.kind ≡ more.kind → i ≡ k
+      same_index other i k action_view more at further e f = elim (same_or_other key_cmp-total key_cmp-IsAntisymmetric other key) [
         | inl q ↦
             let h = own layout carries capacity key (one ∷ rest) (suc i) action_view (owned layout carries capacity key rest i action_view (subst (λ v. slice_get (at_all rest v) i ≡ Some action_view) q at)) in
             let g = own layout carries capacity key (one ∷ rest) (suc k) more (owned layout carries capacity key rest k more (subst (λ v. slice_get (at_all rest v) k ≡ Some more) q further)) in
@@ -93,12 +93,12 @@ module _ (layout : Layout) (carries : VehicleKey → List ActionView) (capacity 
   off_step : (rest : List ActionView) (job load station : List ℕ) (places places_after : Places) (jobs : Jobs) (row : JobRow) (next : Phase) (from to : Place)
       → ((k : ℕ) (one : ActionView) → slice_get rest k ≡ Some one → one.job ≡ job → ⊥)
       → finite.get jobs job ≡ Some row → next ≢ phase.Waiting → next ≢ phase.Riding
-      → finite.get places row.load ≡ Some from → IsWritten places row.load to places_after → IsSpot layout to
+      → finite.get places row.load ≡ Some from → IsWritten places row.load to places_after → IsKnownPlace layout to
       → ((name : List ℕ) → one_if (is_at name to) + one_if (is_live_to name (record row { phase = next })) ≤ one_if (is_at name from) + one_if (is_live_to name row))
       → ((other : VehicleKey) → one_if (is_on other to) ≤ one_if (is_on other from))
       → With (an_action_view Drop job load station false ∷ rest) places jobs
       → With rest places_after (finite.insert jobs job (record row { phase = next }))
-  off_step rest job load station places places_after jobs row next from to none here not_waiting not_riding place_was place_is spot room off now =
+  off_step rest job load station places places_after jobs row next from to none here not_waiting not_riding place_was place_is known_place room off now =
       let old : ActionView = an_action_view Drop job load station false in
       let olds : List ActionView = old ∷ rest in
       let h : Fits places key old row = fits_here layout carries capacity key olds places jobs now 0 old refl row here in
@@ -123,7 +123,7 @@ module _ (layout : Layout) (carries : VehicleKey → List ActionView) (capacity 
         places_after = places_after;
         place_was = place_was;
         place_is = place_is;
-        spot = spot;
+        known_place = known_place;
         alone = alone_of layout carries capacity key olds places jobs now 0 old refl;
         old = λ k one at other. (suc k, at);
         keeps = λ k one at kind other. kept k one at other;
@@ -152,7 +152,7 @@ module _ (layout : Layout) (carries : VehicleKey → List ActionView) (capacity 
   stop_step rest job load station places jobs row none here now =
       let place = (now.known job row here).load in
       off_step rest job load station places places jobs row phase.Stopped place.0 place.0 none here (λ e. cc) (λ e. cc)
-      place.1 (is_written_already names_total names_apart places row.load place.0 place.1) (now.spots row.load place.0 place.1)
+      place.1 (is_written_already names_total names_apart places row.load place.0 place.1) (now.known_places row.load place.0 place.1)
       (λ name. omega arith) (λ other. omega arith) now
 
   -- a drop becomes finished and goes, and its job is done
@@ -167,7 +167,7 @@ module _ (layout : Layout) (carries : VehicleKey → List ActionView) (capacity 
       let after : Places = finite.insert places load (place.Station station) in
       off_step rest job load station places after jobs row phase.Done was.0 (place.Station station) none here (λ e. cc) (λ e. cc)
       was.1 (subst (λ name. IsWritten places name (place.Station station) after) (sym h.load) (is_written names_total names_apart places load (place.Station station)))
-      (subst (λ name. (spot : StationSite) × IsStation layout name spot) h.station (now.known job row here).target)
+      (subst (λ name. (site : StationSite) × IsStation layout name site) h.station (now.known job row here).target)
       (λ name. drop_room _ _ _ _ (ap (λ target. one_if (pointwise nat_eq target name)) (sym h.station)) (ap (λ f. one_if (is_live f && pointwise nat_eq row.target name)) h.stands))
       (λ other. omega arith) now
     where

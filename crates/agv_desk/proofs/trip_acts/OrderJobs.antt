@@ -145,7 +145,7 @@ module _ (world : World) where
     acts_begin at place [] edges (first ∷ acts) goes k act there = absurd goes
     acts_begin at place (stop ∷ stops) edges [] goes k act there = none_some there
     acts_begin at place (stop ∷ stops) edges (first ∷ acts) goes zero act there = subst Begins (same_some there) (act_begins at place stop goes.0 first goes.3.0)
-    acts_begin at place (stop ∷ stops) edges (first ∷ acts) goes (suc k) act there = acts_begin goes.3.0.spot.node (place + length goes.0) stops goes.1 acts goes.3.1 k act there
+    acts_begin at place (stop ∷ stops) edges (first ∷ acts) goes (suc k) act there = acts_begin goes.3.0.site.node (place + length goes.0) stops goes.1 acts goes.3.1 k act there
 
     pub stops_made : (at : List ℕ) (place : ℕ) (stops : List Stop) (edges : List Edge) (acts : List Act) → MakesStops layout jobs at place stops edges acts → map stop_by acts ≡ stops
     stops_made at place [] edges [] goes = refl
@@ -153,5 +153,5 @@ module _ (world : World) where
     stops_made at place (stop ∷ stops) edges [] goes = absurd goes
     stops_made at place (stop ∷ stops) edges (first ∷ acts) goes =
         let made : MakesStop layout jobs at place stop goes.0 first = goes.3.0 in
-        let rest = stops_made goes.3.0.spot.node (place + length goes.0) stops goes.1 acts goes.3.1 in
+        let rest = stops_made goes.3.0.site.node (place + length goes.0) stops goes.1 acts goes.3.1 in
         λ i. record { kind = (made.does i).kind; job = (made.does i).job } ∷ rest i

@@ -138,8 +138,8 @@ module _ (world : World) (stock : HasStockInvariant world) where
       | inr has ↦ (has.row, has.was, ap is_live has.waited, ap (λ (r : JobRow). r.load) (same_some (sym has.is ∙ at)))
     ]
 
-    new_spot : (i k : ℕ) (one more : ActionView) → slice_get (action_views acts) i ≡ Some one → slice_get (action_views acts) k ≡ Some more → one.job ≡ more.job → one.kind ≡ more.kind → i ≡ k
-    new_spot i k one more at further same kinds =
+    new_index : (i k : ℕ) (one more : ActionView) → slice_get (action_views acts) i ≡ Some one → slice_get (action_views acts) k ≡ Some more → one.job ≡ more.job → one.kind ≡ more.kind → i ≡ k
+    new_index i k one more at further same kinds =
         let a = act_of_action_view acts i one at in
         let b = act_of_action_view acts k more further in
         let here : IsAt stops a.0.job a.0.kind i = at_stop i a.0 a.1 in
@@ -164,14 +164,14 @@ module _ (world : World) (stock : HasStockInvariant world) where
         | inl same ↦ stock.jobs_named job row (sym same ∙ at)
         | inr has ↦ stock.jobs_named job has.row has.was
       ];
-      spots = stock.spots;
+      known_places = stock.known_places;
       known = λ job row at. elim (begun.each job) [
         | inl same ↦ stock.known job row (sym same ∙ at)
         | inr has ↦
             let k = stock.known job has.row has.was in
             subst (IsJobOn world.layout world.places) (same_some (sym has.is ∙ at)) (record { load = k.load; origin = k.origin; target = k.target })
       ];
-      room = λ station spot at. subst (λ n. stored world.places station + n ≤ spot.capacity) (sym (begun.coming station)) (stock.room station spot at);
+      room = λ station site at. subst (λ n. stored world.places station + n ≤ site.capacity) (sym (begun.coming station)) (stock.room station site at);
       boards = λ other. elim (same_or_other key_cmp-total key_cmp-IsAntisymmetric other key) [
         | inl same ↦
             subst (λ v. loads_on_vehicle world.places v + to_pick (carries_after v) ≤ capacity_of world v) (sym same)
@@ -234,7 +234,7 @@ module _ (world : World) (stock : HasStockInvariant world) where
       ];
       once = λ one other i k e more at further same. elim (action_view_case one i e at) [
         | inl new ↦ elim (action_view_case other k more further) [
-          | inl too ↦ (new.0 ∙ sym too.0, λ kinds. new_spot i k e more new.1 too.1 same kinds)
+          | inl too ↦ (new.0 ∙ sym too.0, λ kinds. new_index i k e more new.1 too.1 same kinds)
           | inr old ↦ absurd (untied e.job (new_waits i e new.1) other k more old.1 (sym same))
         ]
         | inr old ↦ elim (action_view_case other k more further) [

@@ -107,8 +107,8 @@ module _ (layout : Layout) (carries : VehicleKey → List ActionView) (capacity 
   head gone rest Pick job load station false true places jobs renews picked same now = pick_step layout carries capacity key gone rest job load station places jobs now
   head gone rest Drop job load station false true places jobs renews picked same now =
       let old : ActionView = an_action_view Drop job load station false in
-      let spot = in_rest gone (old ∷ rest) 0 old refl in
-      let row = row_in (whole gone (old ∷ rest)) places jobs spot.0 old now spot.1 (same refl) in
+      let index = in_rest gone (old ∷ rest) 0 old refl in
+      let row = row_in (whole gone (old ∷ rest)) places jobs index.0 old now index.1 (same refl) in
       subst (λ after. With (whole gone (an_action_view Drop job load station true ∷ rest)) (finite.insert places load (taken_to key Drop station)) after)
       (sym (written_job world jobs job row.0 phase.Done row.2))
       (drop_step layout carries capacity key gone rest job load station places jobs row.0 (picked refl refl refl) row.1 now)

@@ -114,9 +114,9 @@ module _ (layout : Layout) (carries : VehicleKey → List ActionView) (capacity 
   fits_here carried places jobs now k one at row here = fits_row places jobs key one row here (now.carried key k one (own carried k one at))
 
   -- no job has two actions of a kind
-  pub one_spot : (carried : List ActionView) (places : Places) (jobs : Jobs) → Now carried places jobs → (i k : ℕ) (one more : ActionView)
+  pub one_index : (carried : List ActionView) (places : Places) (jobs : Jobs) → Now carried places jobs → (i k : ℕ) (one more : ActionView)
       → slice_get carried i ≡ Some one → slice_get carried k ≡ Some more → one.job ≡ more.job → one.kind ≡ more.kind → i ≡ k
-  one_spot carried places jobs now i k one more at further same = (now.once key key i k one more (own carried i one at) (own carried k more further) same).1
+  one_index carried places jobs now i k one more at further same = (now.once key key i k one more (own carried i one at) (own carried k more further) same).1
 
   -- no other vehicle has the job
   pub alone_of : (carried : List ActionView) (places : Places) (jobs : Jobs) → Now carried places jobs → (i : ℕ) (one : ActionView) → slice_get carried i ≡ Some one
@@ -129,11 +129,11 @@ module _ (layout : Layout) (carries : VehicleKey → List ActionView) (capacity 
   apart_swapped old new olds news places jobs now swap kind job i k one more at further e f = elim (swap.ahead i one at) [
     | inl here ↦ elim (swap.ahead k more further) [
       | inl too ↦ here.0 ∙ sym too.0
-      | inr else_where ↦ here.0 ∙ one_spot olds places jobs now swap.spot k old more swap.was else_where.1 (sym job ∙ ap (λ (x : ActionView). x.job) (sym here.1) ∙ e) (sym kind ∙ ap (λ (x : ActionView). x.kind) (sym here.1) ∙ f)
+      | inr else_where ↦ here.0 ∙ one_index olds places jobs now swap.index k old more swap.was else_where.1 (sym job ∙ ap (λ (x : ActionView). x.job) (sym here.1) ∙ e) (sym kind ∙ ap (λ (x : ActionView). x.kind) (sym here.1) ∙ f)
     ]
     | inr there ↦ elim (swap.ahead k more further) [
-      | inl here ↦ one_spot olds places jobs now i swap.spot one old there.1 swap.was (e ∙ ap (λ (x : ActionView). x.job) here.1 ∙ job) (f ∙ ap (λ (x : ActionView). x.kind) here.1 ∙ kind) ∙ sym here.0
-      | inr too ↦ one_spot olds places jobs now i k one more there.1 too.1 e f
+      | inl here ↦ one_index olds places jobs now i swap.index one old there.1 swap.was (e ∙ ap (λ (x : ActionView). x.job) here.1 ∙ job) (f ∙ ap (λ (x : ActionView). x.kind) here.1 ∙ kind) ∙ sym here.0
+      | inr too ↦ one_index olds places jobs now i k one more there.1 too.1 e f
     ]
   ]
 
@@ -160,7 +160,7 @@ module _ (layout : Layout) (carries : VehicleKey → List ActionView) (capacity 
       let olds : List ActionView = whole gone (old ∷ rest) in
       let news : List ActionView = whole gone (new ∷ rest) in
       let swap : Swap old new olds news = swap_whole gone old new (old ∷ rest) (new ∷ rest) (swap_here old new rest) in
-      let h : IsCarried places jobs key old = now.carried key swap.spot old (own olds swap.spot old swap.was) in
+      let h : IsCarried places jobs key old = now.carried key swap.index old (own olds swap.index old swap.was) in
       let after : Places = finite.insert places load (place.Vehicle key) in
       let put = is_written names_total names_apart places load (place.Vehicle key) in
       shift_kept layout (with_action_views carries key olds) capacity places jobs now (record {
@@ -184,8 +184,8 @@ module _ (layout : Layout) (carries : VehicleKey → List ActionView) (capacity 
         places_after = after;
         place_was = ap (finite.get places) h.load ∙ h.stands.1;
         place_is = subst (λ name. IsWritten places name (place.Vehicle key) after) (sym h.load) put;
-        spot = tt;
-        alone = alone_of olds places jobs now swap.spot old swap.was;
+        known_place = tt;
+        alone = alone_of olds places jobs now swap.index old swap.was;
         old = λ k one at other. old_of old new olds news swap k one at other;
         keeps = λ k one at kind other. kept_of old new olds news swap k one at other;
         mine = λ k one at same. elim (swap.ahead k one at) [
@@ -204,13 +204,13 @@ module _ (layout : Layout) (carries : VehicleKey → List ActionView) (capacity 
                 load = c.load;
                 station = c.station;
                 stands = drop_stands places after key one.load one.station one.kind one.finished c.row.phase
-                    (λ w. other.0 (one_spot olds places jobs now k swap.spot one old other.1 swap.was same w)) c.stands;
+                    (λ w. other.0 (one_index olds places jobs now k swap.index one old other.1 swap.was same w)) c.stands;
               }
         ];
         apart = apart_swapped old new olds news places jobs now swap refl refl;
         rides = λ e.
             let t = now.riding job h.row h.here e in
-            let same : t.key ≡ key = (now.once t.key key t.k swap.spot t.action_view old t.here (own olds swap.spot old swap.was) t.of_job).0 in
+            let same : t.key ≡ key = (now.once t.key key t.k swap.index t.action_view old t.here (own olds swap.index old swap.was) t.of_job).0 in
             let at : slice_get olds t.k ≡ Some t.action_view = owned olds t.k t.action_view (subst (λ b. slice_get (with_action_views carries key olds b) t.k ≡ Some t.action_view) same t.here) in
             elim (swap.back t.k t.action_view at) [
               | inl here ↦ pick_drop t.action_view.kind (ap (λ (x : ActionView). x.kind) here.1) t.drop
@@ -236,7 +236,7 @@ module _ (layout : Layout) (carries : VehicleKey → List ActionView) (capacity 
       let olds : List ActionView = whole gone (old ∷ rest) in
       let news : List ActionView = whole gone (new ∷ rest) in
       let swap : Swap old new olds news = swap_whole gone old new (old ∷ rest) (new ∷ rest) (swap_here old new rest) in
-      let h : Fits places key old row = fits_here olds places jobs now swap.spot old swap.was row here in
+      let h : Fits places key old row = fits_here olds places jobs now swap.index old swap.was row here in
       let p : Fits places key picked.one row = fits_here olds places jobs now picked.k picked.one picked.here row (ap (finite.get jobs) picked.of_job ∙ here) in
       let at : finite.get places row.load ≡ Some (place.Vehicle key) =
       ap (finite.get places) p.load ∙ on_vehicle places key picked.one.load picked.one.station picked.one.kind picked.one.finished row.phase picked.kind picked.finished h.stands p.stands in
@@ -265,8 +265,8 @@ module _ (layout : Layout) (carries : VehicleKey → List ActionView) (capacity 
         places_after = after;
         place_was = at;
         place_is = subst (λ name. IsWritten places name (place.Station station) after) (sym h.load) (is_written names_total names_apart places load (place.Station station));
-        spot = subst (λ name. (spot : StationSite) × IsStation layout name spot) h.station (now.known job row here).target;
-        alone = alone_of olds places jobs now swap.spot old swap.was;
+        known_place = subst (λ name. (site : StationSite) × IsStation layout name site) h.station (now.known job row here).target;
+        alone = alone_of olds places jobs now swap.index old swap.was;
         old = λ k one at other. old_of old new olds news swap k one at other;
         keeps = λ k one at kind other. kept_of old new olds news swap k one at other;
         mine = λ k one at same. elim (swap.ahead k one at) [
@@ -279,9 +279,9 @@ module _ (layout : Layout) (carries : VehicleKey → List ActionView) (capacity 
           })
           | inr other ↦
               let c = fits_here olds places jobs now k one other.1 row (ap (finite.get jobs) same ∙ here) in
-              let kind : one.kind ≡ Pick = not_drop one.kind (λ w. other.0 (one_spot olds places jobs now k swap.spot one old other.1 swap.was same w)) in
-              let spot : k ≡ picked.k = one_spot olds places jobs now k picked.k one picked.one other.1 picked.here (same ∙ sym picked.of_job) (kind ∙ sym picked.kind) in
-              let is : one ≡ picked.one = same_some (sym other.1 ∙ ap (slice_get olds) spot ∙ picked.here) in
+              let kind : one.kind ≡ Pick = not_drop one.kind (λ w. other.0 (one_index olds places jobs now k swap.index one old other.1 swap.was same w)) in
+              let index : k ≡ picked.k = one_index olds places jobs now k picked.k one picked.one other.1 picked.here (same ∙ sym picked.of_job) (kind ∙ sym picked.kind) in
+              let is : one ≡ picked.one = same_some (sym other.1 ∙ ap (slice_get olds) index ∙ picked.here) in
               record {
                 row = done;
                 here = ap (finite.get jobs_after) same ∙ put.here;

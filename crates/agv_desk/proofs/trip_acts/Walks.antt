@@ -27,8 +27,8 @@ Renews (act ∷ acts) = (is_finished act.0.status ≡ true → is_finished act.1
 pub pick_before : (gone : List ActionView) (act : Renewed) (acts : List Renewed) → Fit (stops_by (act ∷ acts)) → AfterPicks (whole gone (all_after (act ∷ acts))) → act.0.kind ≡ Drop → is_finished act.1 ≡ true
     → IsPicked (whole gone (all_before (act ∷ acts))) act.0.job
 pick_before gone act acts fit turns is finishes =
-    let spot = in_rest gone (after act ∷ all_after acts) 0 (after act) refl in
-    let picked : IsPicked (whole gone (after act ∷ all_after acts)) act.0.job = turns spot.0 (after act) spot.1 is finishes in
+    let index = in_rest gone (after act ∷ all_after acts) 0 (after act) refl in
+    let picked : IsPicked (whole gone (after act ∷ all_after acts)) act.0.job = turns index.0 (after act) index.1 is finishes in
     elim (in_whole gone (after act ∷ all_after acts) (all_before (act ∷ acts)) picked.k picked.one picked.here) [
       | inl was ↦ record { k = was.0; one = picked.one; here = was.1; kind = picked.kind; of_job = picked.of_job; finished = picked.finished }
       | inr later ↦ absurd (not_later later.0 picked.one later.1 picked.kind picked.of_job)

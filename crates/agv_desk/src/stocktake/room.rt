@@ -15,10 +15,10 @@ use agv_world::{ByName, Fault, Floor};
 use std::alloc::Global;
 
 // Whether so many loads and so many jobs fit there.
-fn has_room_for(found: usize, reserved: usize, spot: StationSite) -> bool
-    ensures { result ≡ has_room_for found reserved spot }
+fn has_room_for(found: usize, reserved: usize, site: StationSite) -> bool
+    ensures { result ≡ has_room_for found reserved site }
 {
-    found.saturating_add(reserved) <= spot.capacity as usize
+    found.saturating_add(reserved) <= site.capacity as usize
 }
 
 // Whether the loads that were found at a station fit there, with the live jobs to it.
@@ -26,13 +26,13 @@ fn fits<F: Floor>(
     floor: &mut F,
     counts: &ByName<usize>,
     station: Name,
-    spot: StationSite,
+    site: StationSite,
 ) -> Result<bool, Fault>
-    ensures { Asks F.facts floor.old floor.new result (λ world fits. fits ≡ has_room_for (unwrap_or (map.get counts.now station) 0) (reserved world station) spot) }
+    ensures { Asks F.facts floor.old floor.new result (λ world fits. fits ≡ has_room_for (unwrap_or (map.get counts.now station) 0) (reserved world station) site) }
 {
     let found = counts.get(station).copied().unwrap_or(0);
     let reserved = floor.reserved(station)?;
-    Ok(has_room_for(found, reserved, spot))
+    Ok(has_room_for(found, reserved, site))
 }
 
 // Whether they fit at each of the stations.
@@ -43,8 +43,8 @@ fn each_fits<F: Floor>(
 ) -> Result<bool, Fault>
     ensures { Asks F.facts floor.old floor.new result (λ world fit. fit ≡ list_all (λ station. has_room_for (unwrap_or (map.get counts.now station.0) 0) (reserved world station.0) station.1) stations.now) }
 {
-    for (station, spot) in stations {
-        if !fits(floor, counts, *station, *spot)? {
+    for (station, site) in stations {
+        if !fits(floor, counts, *station, *site)? {
             return Ok(false);
         }
     }

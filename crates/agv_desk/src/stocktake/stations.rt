@@ -20,10 +20,10 @@ fn note_station<F: Floor>(
     if stations.get(id).is_some() {
         return Ok(true);
     }
-    let Some(spot) = floor.station(id)? else {
+    let Some(site) = floor.station(id)? else {
         return Ok(false);
     };
-    stations.insert(id, spot)?;
+    stations.insert(id, site)?;
     Ok(true)
 }
 

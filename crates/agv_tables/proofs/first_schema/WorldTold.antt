@@ -41,7 +41,7 @@ use Rattle.agv_tables.proofs.rows.ColumnsKept.{edge_kept, hold_kept, job_kept, l
 use Rattle.agv_tables.proofs.rows.ColumnsWritten.{edge_written, hold_written, job_written, leg_written, load_written, meta_written, node_written, station_written, used_written, vehicle_written}
 use Rattle.agv_tables.proofs.rows.LawfulHolds.{held_value}
 use Rattle.agv_tables.proofs.rows.LawfulTrips.{leg_value}
-use Rattle.agv_tables.proofs.rows.LawfulValues.{edge_named, ends_value, holder_value, job_value, node_named, place_value, row_at, spot_value, station_named, used_is, used_named, vehicle_value}
+use Rattle.agv_tables.proofs.rows.LawfulValues.{edge_named, ends_value, holder_value, job_value, node_named, place_value, row_at, site_value, station_named, used_is, used_named, vehicle_value}
 use Rattle.agv_tables.proofs.sql.KeyTests.{names_apart}
 
 -- ---- more places on a vehicle
@@ -147,7 +147,7 @@ module _ (world : World) (first : IsLawful 1 world) (good : InGoodOrder world) (
   told_tables = record {
     nodes = reads_members nat_list_cmp_total names_apart node_columns node_in world.layout.nodes (λ id there. name_kept id (node_named world lawful id there)) _ (shown the.Node);
     edges = reads_all nat_list_cmp_total names_apart world.layout.edges edge_columns edge_in (λ id x at. edge_kept id x (edge_named world lawful id x at) (ends_value world lawful id x at)) _ (shown the.Edge);
-    stations = reads_all nat_list_cmp_total names_apart world.layout.stations station_columns station_in (λ id x at. station_kept id x (station_named world lawful id x at) (spot_value world lawful id x at)) _ (shown the.Station);
+    stations = reads_all nat_list_cmp_total names_apart world.layout.stations station_columns station_in (λ id x at. station_kept id x (station_named world lawful id x at) (site_value world lawful id x at)) _ (shown the.Station);
     vehicles = reads_all key_cmp-total key_cmp-IsAntisymmetric (rows_of world).vehicles vehicle_columns vehicle_in
         (λ key row at.
         let its = vehicle_value world lawful key row (sym (row_at world key) ∙ at) in

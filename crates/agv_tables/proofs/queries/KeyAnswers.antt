@@ -34,7 +34,7 @@ use Rattle.agv_tables.specs.declared.schema.table_name.TableName.TheVariants as 
 use Rattle.agv_tables.proofs.queries.Asking.{Follows}
 use Rattle.agv_tables.proofs.rows.ColumnsKept.{capacity_kept, edge_kept, station_kept, vehicle_kept, load_kept, job_kept, hold_kept}
 use Rattle.agv_tables.proofs.queries.KeysShown.{capacity_shown, edge_shown, hold_shown, job_shown, load_shown, node_shown, station_shown, used_shown, vehicle_shown}
-use Rattle.agv_tables.proofs.rows.LawfulValues.{edge_named, ends_value, holder_value, job_value, place_value, row_at, spot_value, station_named, used_is, vehicle_value}
+use Rattle.agv_tables.proofs.rows.LawfulValues.{edge_named, ends_value, holder_value, job_value, place_value, row_at, site_value, station_named, used_is, vehicle_value}
 use Rattle.agv_tables.proofs.rows.ListsHeld.{alike_itself}
 
 -- ---- rows of a key
@@ -127,9 +127,9 @@ module _ (world : World) (lawful : IsLawful desk_seats world) where
       (rows_of_key the.Job key lists) rows (ap (λ k. rows_of_key the.Job k lists) is ∙ job_shown lists (rows_of world) its_own id) shown
 
   pub tells_station : (id : List ℕ) (key : Row) → key ≡ name_key id → (rows : List Row) → IsPermutation (rows_of_key the.Station key lists) rows
-      → (r : Result (Option StationSite) ReadingFault) → r ≡ first_in station_in rows → Follows r (λ spot. spot ≡ finite.get world.layout.stations id)
+      → (r : Result (Option StationSite) ReadingFault) → r ≡ first_in station_in rows → Follows r (λ site. site ≡ finite.get world.layout.stations id)
   tells_station id key is rows shown =
-      tells_it station_in (station_columns id) id (finite.get world.layout.stations id) (λ spot at. station_kept id spot (station_named world lawful id spot at) (spot_value world lawful id spot at))
+      tells_it station_in (station_columns id) id (finite.get world.layout.stations id) (λ site at. station_kept id site (station_named world lawful id site at) (site_value world lawful id site at))
       (rows_of_key the.Station key lists) rows (ap (λ k. rows_of_key the.Station k lists) is ∙ station_shown lists (rows_of world) its_own id) shown
 
   pub tells_ends : (id : List ℕ) (key : Row) → key ≡ name_key id → (rows : List Row) → IsPermutation (rows_of_key the.Edge key lists) rows

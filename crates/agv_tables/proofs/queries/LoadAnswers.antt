@@ -61,9 +61,9 @@ module _ (world : World) (lawful : IsLawful desk_seats world) where
 
 pub room_none : (world : World) (station : List ℕ) → finite.get world.layout.stations station ≡ None → None ≡ room_at world station
 unfolding room_at
-room_none world station none = ap (option_map (λ (spot : StationSite). room_left spot.capacity (length (loads_at world station)) (reserved world station))) (sym none)
+room_none world station none = ap (option_map (λ (site : StationSite). room_left site.capacity (length (loads_at world station)) (reserved world station))) (sym none)
 
-pub room_some : (world : World) (station : List ℕ) (spot : StationSite) (room : ℕ) → finite.get world.layout.stations station ≡ Some spot → room ≡ room_left spot.capacity (length (loads_at world station)) (reserved world station)
+pub room_some : (world : World) (station : List ℕ) (site : StationSite) (room : ℕ) → finite.get world.layout.stations station ≡ Some site → room ≡ room_left site.capacity (length (loads_at world station)) (reserved world station)
     → Some room ≡ room_at world station
 unfolding room_at
-room_some world station spot room there is = ap Some is ∙ ap (option_map (λ (spot : StationSite). room_left spot.capacity (length (loads_at world station)) (reserved world station))) (sym there)
+room_some world station site room there is = ap Some is ∙ ap (option_map (λ (site : StationSite). room_left site.capacity (length (loads_at world station)) (reserved world station))) (sym there)

@@ -34,7 +34,7 @@ use Rattle.agv_tables.proofs.rows.CellLemmas.{name_kept}
 use Rattle.agv_tables.proofs.rows.ColumnsKept.{capacity_kept, edge_kept, hold_kept, job_kept, leg_kept, load_kept, station_kept, used_kept, vehicle_kept}
 use Rattle.agv_tables.proofs.rows.LawfulHolds.{held_value}
 use Rattle.agv_tables.proofs.rows.LawfulTrips.{leg_value}
-use Rattle.agv_tables.proofs.rows.LawfulValues.{edge_named, ends_value, holder_value, job_value, node_named, place_value, row_at, spot_value, station_named, used_is, used_named, vehicle_value}
+use Rattle.agv_tables.proofs.rows.LawfulValues.{edge_named, ends_value, holder_value, job_value, node_named, place_value, row_at, site_value, station_named, used_is, used_named, vehicle_value}
 use Rattle.agv_tables.proofs.rows.ListsFollow.{names_apart}
 use Rattle.agv_tables.proofs.readings.RoomTables.{room_known, room_rows, told_with, vehicle_of}
 use Rattle.agv_tables.proofs.readings.TableReading.{reads_all, reads_it}
@@ -51,7 +51,7 @@ module _ (world : World) (lawful : IsLawful desk_seats world) (rows : List Row) 
 
   pub tells_stations : IsPermutation (all_rows_of the.Station (row_lists (rows_of world))) rows → (r : Result (finite.FinMap name_cmp StationSite) ReadingFault) → Reads r (read_rows station_in finite.empty rows) → Follows r (λ table. table ≡ world.layout.stations)
   unfolding row_lists
-  tells_stations shown r read = reads_it world.layout.stations r (read_rows station_in finite.empty rows) read (reads_all nat_list_cmp_total names_apart world.layout.stations station_columns station_in (λ id x at. station_kept id x (station_named world lawful id x at) (spot_value world lawful id x at)) rows shown)
+  tells_stations shown r read = reads_it world.layout.stations r (read_rows station_in finite.empty rows) read (reads_all nat_list_cmp_total names_apart world.layout.stations station_columns station_in (λ id x at. station_kept id x (station_named world lawful id x at) (site_value world lawful id x at)) rows shown)
 
   pub tells_edges : IsPermutation (all_rows_of the.Edge (row_lists (rows_of world))) rows → (r : Result (finite.FinMap name_cmp EdgeEnds) ReadingFault) → Reads r (read_rows edge_in finite.empty rows) → Follows r (λ table. table ≡ world.layout.edges)
   unfolding row_lists

@@ -88,8 +88,8 @@ meta_kept id schema is also = rw (number_kept id is, number_kept schema also)
 pub edge_kept : (id : List ℕ) (ends : EdgeEnds) → IsName id → AreEnds ends → edge_in (edge_columns id ends) ≡ Some (id, ends)
 edge_kept id ends is are = rw (name_kept id is, name_kept ends.start are.0, name_kept ends.finish are.1)
 
-pub station_kept : (id : List ℕ) (spot : StationSite) → IsName id → IsStationSite spot → station_in (station_columns id spot) ≡ Some (id, spot)
-station_kept id spot is at = rw (name_kept id is, name_kept spot.node at.0, number_kept spot.capacity at.1)
+pub station_kept : (id : List ℕ) (site : StationSite) → IsName id → IsStationSite site → station_in (station_columns id site) ≡ Some (id, site)
+station_kept id site is at = rw (name_kept id is, name_kept site.node at.0, number_kept site.capacity at.1)
 
 pub vehicle_kept : (key : VehicleKey) (row : VehicleRow) → IsKey key → IsVehicleRow row → vehicle_in (vehicle_columns key row) ≡ Some (key, record row { capacity = 1 })
 unfolding vehicle_in

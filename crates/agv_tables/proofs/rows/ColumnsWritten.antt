@@ -162,8 +162,8 @@ edge_written row id ends e =
     let c = if_some_parts _ _ _ b.2 in
     all_columns 3 row shape.0 ∙ next (name_written _ a.0 a.1) (next (name_written _ b.0 b.1) (next (name_written _ c.0 c.1) refl)) ∙ ap (λ (p : List ℕ × EdgeEnds). edge_columns p.0 p.1) (some_same c.2)
 
-pub station_written : (row : Row) (id : List ℕ) (spot : StationSite) → station_in row ≡ Some (id, spot) → row ≡ station_columns id spot
-station_written row id spot e =
+pub station_written : (row : Row) (id : List ℕ) (site : StationSite) → station_in row ≡ Some (id, site) → row ≡ station_columns id site
+station_written row id site e =
     let shape = in_columns 3 row _ _ e in
     let a = if_some_parts _ _ _ shape.1 in
     let b = if_some_parts _ _ _ a.2 in

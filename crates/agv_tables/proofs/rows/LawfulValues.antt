@@ -127,9 +127,9 @@ module _ (world : World) (lawful : IsLawful desk_seats world) where
     | inr rules ↦ rules
   ]
 
-  station_rules : (id : List ℕ) (spot : StationSite) → IsStation world.layout id spot → KeepsRules world.layout
-  station_rules id spot is = elim lawful.vehicles.laid [
-    | inl none ↦ absurd (let there = subst (λ (layout : Layout). finite.get layout.stations id ≡ Some spot) none is in let not = finite.get-empty {X = StationSite} name_cmp id in cc)
+  station_rules : (id : List ℕ) (site : StationSite) → IsStation world.layout id site → KeepsRules world.layout
+  station_rules id site is = elim lawful.vehicles.laid [
+    | inl none ↦ absurd (let there = subst (λ (layout : Layout). finite.get layout.stations id ≡ Some site) none is in let not = finite.get-empty {X = StationSite} name_cmp id in cc)
     | inr rules ↦ rules
   ]
 
@@ -142,15 +142,15 @@ module _ (world : World) (lawful : IsLawful desk_seats world) where
   pub node_named : (id : List ℕ) → IsNode world.layout id → IsName id
   node_named id is = (node_rules id is).nodes_named id is
 
-  pub station_named : (id : List ℕ) (spot : StationSite) → IsStation world.layout id spot → IsName id
-  station_named id spot is = (station_rules id spot is).stations_named id spot is
+  pub station_named : (id : List ℕ) (site : StationSite) → IsStation world.layout id site → IsName id
+  station_named id site is = (station_rules id site is).stations_named id site is
 
   pub edge_named : (id : List ℕ) (ends : EdgeEnds) → IsEdge world.layout id ends → IsName id
   edge_named id ends is = (edge_rules id ends is).edges_named id ends is
 
-  pub spot_value : (id : List ℕ) (spot : StationSite) → IsStation world.layout id spot → IsStationSite spot
-  spot_value id spot is =
-      let stands = (station_rules id spot is).stands id spot is in (node_named spot.node stands.0, few_enough spot.capacity stands.2)
+  pub site_value : (id : List ℕ) (site : StationSite) → IsStation world.layout id site → IsStationSite site
+  site_value id site is =
+      let stands = (station_rules id site is).stands id site is in (node_named site.node stands.0, few_enough site.capacity stands.2)
 
   pub ends_value : (id : List ℕ) (ends : EdgeEnds) → IsEdge world.layout id ends → AreEnds ends
   ends_value id ends is = let leads = (edge_rules id ends is).leads id ends is in (node_named ends.start leads.0, node_named ends.finish leads.1)

@@ -108,8 +108,8 @@ follows laws lists rows (row.Node id) h = put-alike the.Node (name_key id) (node
     (member-written nat_list_cmp_total names_apart node_columns (λ k. has_key the.Node (name_key k)) node_tested rows.nodes (table_at 1 lists) id)
 follows laws lists rows (row.Edge id ends) h = put-alike the.Edge (name_key id) (edge_columns id ends) _ lists (row_lists rows) h
     (row-written nat_list_cmp_total names_apart edge_columns (λ k. has_key the.Edge (name_key k)) edge_tested rows.edges (table_at 2 lists) id ends)
-follows laws lists rows (row.Station id spot) h = put-alike the.Station (name_key id) (station_columns id spot) _ lists (row_lists rows) h
-    (row-written nat_list_cmp_total names_apart station_columns (λ k. has_key the.Station (name_key k)) station_tested rows.stations (table_at 3 lists) id spot)
+follows laws lists rows (row.Station id site) h = put-alike the.Station (name_key id) (station_columns id site) _ lists (row_lists rows) h
+    (row-written nat_list_cmp_total names_apart station_columns (λ k. has_key the.Station (name_key k)) station_tested rows.stations (table_at 3 lists) id site)
 follows laws lists rows (row.Vehicle key vehicle) h = put-alike the.Capacity (vehicle_key key) (room_columns key vehicle) _ _ _
     (put-alike the.Vehicle (vehicle_key key) (vehicle_columns key vehicle) _ lists (row_lists rows) h
     (row-written key_cmp-total key_cmp-IsAntisymmetric vehicle_columns (λ k. has_key the.Vehicle (vehicle_key k)) vehicle_tested rows.vehicles (table_at 4 lists) key vehicle))

@@ -61,7 +61,7 @@ edge_in row = if_columns 3 row (
 -- ---- station: id, node, capacity
 
 abbrev pub station_columns : List ℕ → StationSite → Row
-station_columns id spot = Text id ∷ Text spot.node ∷ number_cell spot.capacity ∷ []
+station_columns id site = Text id ∷ Text site.node ∷ number_cell site.capacity ∷ []
 
 abbrev pub station_in : Row → Option (List ℕ × StationSite)
 station_in row = if_columns 3 row (

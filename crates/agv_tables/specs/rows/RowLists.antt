@@ -119,7 +119,7 @@ with_trip order trip lists =
 abbrev pub listed : Change → List (List Row) → List (List Row)
 listed (row.Node id) = with_put the.Node (name_key id) (node_columns id)
 listed (row.Edge id ends) = with_put the.Edge (name_key id) (edge_columns id ends)
-listed (row.Station id spot) = with_put the.Station (name_key id) (station_columns id spot)
+listed (row.Station id site) = with_put the.Station (name_key id) (station_columns id site)
 listed (row.Vehicle key vehicle) = with_vehicle key vehicle
 listed (row.Trip order None) = without_trip order
 listed (row.Trip order (Some trip)) = with_trip order trip

@@ -22,7 +22,7 @@ abbrev pub AreEnds : EdgeEnds → Type 0
 AreEnds ends = IsName ends.start × IsName ends.finish
 
 abbrev pub IsStationSite : StationSite → Type 0
-IsStationSite spot = IsName spot.node × IsNumber spot.capacity
+IsStationSite site = IsName site.node × IsNumber site.capacity
 
 abbrev pub IsSending : Sent → Type 0
 IsSending sent = IsNumber sent.count × (sent.at ≤ 4102444799999)

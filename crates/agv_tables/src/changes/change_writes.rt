@@ -66,19 +66,19 @@ fn write_edge<S: Alter>(
 fn write_station<S: Alter>(
     tx: &mut Transaction<'_, S>,
     id: &Name,
-    spot: &StationSite,
+    site: &StationSite,
 ) -> Result<usize, Error>
     ensures same_reference { tx.new.conn.ghost_name ≡ tx.old.conn.ghost_name }
     ensures survives { Survives (state S.Store tx.old.conn.now) (state S.Store tx.new.conn.now) (λ _. ⊥) }
     ensures kept { HasCleanDisk (state S.Store tx.new.conn.now) → KeepsCommit (state S.Store tx.old.conn.now) (state S.Store tx.new.conn.now) }
     ensures made { HasCleanDisk (state S.Store tx.new.conn.now)
-        → OnOk result (Makes (listed (row.Station id.now spot.now)) (state S.Store tx.old.conn.now) (state S.Store tx.new.conn.now)) }
+        → OnOk result (Makes (listed (row.Station id.now site.now)) (state S.Store tx.old.conn.now) (state S.Store tx.new.conn.now)) }
 {
     put_row(
         tx,
         WorldTable::Station,
         &name_key_values(id),
-        &station_values(id, spot),
+        &station_values(id, site),
     )
 }
 
@@ -384,7 +384,7 @@ pub(crate) fn write_change<S: Alter>(
     match change {
         Change::Node(id) => write_node(tx, id),
         Change::Edge(id, ends) => write_edge(tx, id, ends),
-        Change::Station(id, spot) => write_station(tx, id, spot),
+        Change::Station(id, site) => write_station(tx, id, site),
         Change::Vehicle(key, vehicle) => write_vehicle(tx, key, vehicle),
         Change::Trip(order, trip) => write_trip(tx, order, trip),
         Change::Leg(key, edge) => write_leg(tx, key, edge),

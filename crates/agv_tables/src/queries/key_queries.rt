@@ -152,7 +152,7 @@ pub fn query_job<S: Alter>(
     job_in_rows(rows.as_slice())
 }
 
-// The spot of a station that the rows of its name tell.
+// The site of a station that the rows of its name tell.
 fn station_in_rows(rows: &[Row]) -> Result<Option<StationSite>, ReadingFault>
     ensures { result ≡ first_in station_in rows.now }
 {
@@ -160,7 +160,7 @@ fn station_in_rows(rows: &[Row]) -> Result<Option<StationSite>, ReadingFault>
         None => Ok(None),
         Some(row) => match decode_station(row) {
             None => Err(ReadingFault::Damaged),
-            Some((_, spot)) => Ok(Some(spot)),
+            Some((_, site)) => Ok(Some(site)),
         },
     }
 }
@@ -172,7 +172,7 @@ pub fn query_station<S: Alter>(
     conn: &mut Connection<S>,
     id: &Name,
 ) -> Result<Option<StationSite>, ReadingFault>
-    ensures { AnswersQuery S.Store conn.old conn.new result (λ world spot. spot ≡ map.get world.layout.stations id.now) }
+    ensures { AnswersQuery S.Store conn.old conn.new result (λ world site. site ≡ map.get world.layout.stations id.now) }
 {
     let rows = query_rows(conn, RowOf::Station, &name_key_values(id))?;
     station_in_rows(rows.as_slice())

@@ -152,11 +152,11 @@ pub fn query_room<S: Alter>(
 ) -> Result<Option<u32>, ReadingFault>
     ensures { AnswersQuery S.Store conn.old conn.new result (λ world room. room ≡ room_at world station.now) }
 {
-    let spot = query_station(conn, station)?;
-    match spot {
+    let site = query_station(conn, station)?;
+    match site {
         None => Ok(None),
-        Some(spot) => {
-            let room = query_room_left(conn, station, spot.capacity)?;
+        Some(site) => {
+            let room = query_room_left(conn, station, site.capacity)?;
             Ok(Some(room))
         }
     }

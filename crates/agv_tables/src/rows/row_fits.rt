@@ -21,7 +21,7 @@ pub fn rows_fit_their_tables()
     ensures meta { (id schema : ℕ) → FitsTable the.Meta (meta_columns id schema) }
     ensures node { (id : List ℕ) → FitsTable the.Node (node_columns id) }
     ensures edge { (id : List ℕ) (ends : EdgeEnds) → FitsTable the.Edge (edge_columns id ends) }
-    ensures station { (id : List ℕ) (spot : StationSite) → FitsTable the.Station (station_columns id spot) }
+    ensures station { (id : List ℕ) (site : StationSite) → FitsTable the.Station (station_columns id site) }
     ensures vehicle { (key : VehicleKey) (row : VehicleRow) → FitsTable the.Vehicle (vehicle_columns key row) }
     ensures capacity { (key : VehicleKey) (room : CapacityRow) → FitsTable the.Capacity (capacity_columns key room) }
     ensures journey { (order : List ℕ) (row : JourneyRow) → FitsTable the.Journey (journey_columns order row) }

@@ -23,7 +23,7 @@ pub fn columns_tell_their_row()
     ensures meta { (id schema : ℕ) → IsNumber id → IsNumber schema → meta_in (meta_columns id schema) ≡ Some (id, schema) }
     ensures node { (id : List ℕ) → IsName id → node_in (node_columns id) ≡ Some id }
     ensures edge { (id : List ℕ) (ends : EdgeEnds) → IsName id → AreEnds ends → edge_in (edge_columns id ends) ≡ Some (id, ends) }
-    ensures station { (id : List ℕ) (spot : StationSite) → IsName id → IsStationSite spot → station_in (station_columns id spot) ≡ Some (id, spot) }
+    ensures station { (id : List ℕ) (site : StationSite) → IsName id → IsStationSite site → station_in (station_columns id site) ≡ Some (id, site) }
     ensures vehicle { (key : VehicleKey) (row : VehicleRow) → IsKey key → IsVehicleRow row → vehicle_in (vehicle_columns key row) ≡ Some (key, record row { capacity = 1 }) }
     ensures capacity { (key : VehicleKey) (room : CapacityRow) → IsKey key → IsNumber room.capacity → capacity_in (capacity_columns key room) ≡ Some (key, room) }
     ensures journey { (order : List ℕ) (row : JourneyRow) → IsName order → IsJourneyRow row → journey_in (journey_columns order row) ≡ Some (order, row) }
@@ -40,7 +40,7 @@ pub fn a_row_told_writes_its_columns()
     ensures meta { (row : Row) (id schema : ℕ) → meta_in row ≡ Some (id, schema) → row ≡ meta_columns id schema }
     ensures node { (row : Row) (id : List ℕ) → node_in row ≡ Some id → row ≡ node_columns id }
     ensures edge { (row : Row) (id : List ℕ) (ends : EdgeEnds) → edge_in row ≡ Some (id, ends) → row ≡ edge_columns id ends }
-    ensures station { (row : Row) (id : List ℕ) (spot : StationSite) → station_in row ≡ Some (id, spot) → row ≡ station_columns id spot }
+    ensures station { (row : Row) (id : List ℕ) (site : StationSite) → station_in row ≡ Some (id, site) → row ≡ station_columns id site }
     ensures vehicle { (row : Row) (key : VehicleKey) (vehicle : VehicleRow) → vehicle_in row ≡ Some (key, vehicle) → row ≡ vehicle_columns key vehicle }
     ensures capacity { (row : Row) (key : VehicleKey) (room : CapacityRow) → capacity_in row ≡ Some (key, room) → row ≡ capacity_columns key room }
     ensures journey { (row : Row) (order : List ℕ) (journey : JourneyRow) → journey_in row ≡ Some (order, journey) → row ≡ journey_columns order journey }

@@ -83,13 +83,13 @@ pub(crate) fn edge_values<'a>(id: &'a Name, ends: &'a EdgeEnds) -> [ValueRef<'a>
 }
 
 /// The row of a station.
-pub(crate) fn station_values<'a>(id: &'a Name, spot: &'a StationSite) -> [ValueRef<'a>; 3]
-    ensures { bound result ≡ station_columns id.now spot.now }
+pub(crate) fn station_values<'a>(id: &'a Name, site: &'a StationSite) -> [ValueRef<'a>; 3]
+    ensures { bound result ≡ station_columns id.now site.now }
 {
     [
         name_value(id),
-        name_value(&spot.node),
-        spot.capacity.to_sql(),
+        name_value(&site.node),
+        site.capacity.to_sql(),
     ]
 }
 

@@ -18,7 +18,7 @@ use Rattle.agv_stock.specs.declared.job.Phase.{Phase}
 use Rattle.agv_stock.specs.declared.job.Phase.TheVariants as phase
 use Rattle.agv_stock.specs.declared.place.Place.{Place}
 use Rattle.agv_stock.specs.declared.place.Place.TheVariants as place
-use Rattle.agv_world.specs.StockInvariant.{ActionView, HasStockInvariant, IsCarried, IsCarriedOn, IsSpot, ActStands, loads_on_vehicle, capacity_for, capacity_of, to_pick, action_view, action_views_by, action_views_for, action_views_of}
+use Rattle.agv_world.specs.StockInvariant.{ActionView, HasStockInvariant, IsCarried, IsCarriedOn, IsKnownPlace, ActStands, loads_on_vehicle, capacity_for, capacity_of, to_pick, action_view, action_views_by, action_views_for, action_views_of}
 use Rattle.agv_world.specs.GoodOrder.{HasTrip, IsVehicle}
 use Rattle.agv_world.specs.Lawful.{HasAct, HasLawfulLoads, HasLawfulVehicles, IsJob, IsPlaceIn, carried_at, station_for}
 use Rattle.agv_world.specs.Worlds.{Vehicle, World}
@@ -31,11 +31,11 @@ use Rattle.agv_world.proofs.lawful_worlds.OtherLoads.{boards_none}
 use Rattle.agv_world.proofs.lawful_worlds.WorldActionViews.{on_vehicle_is, coming_is, action_view_of, action_views_is, has_act, of_act, stored_is}
 
 module _ {seats : ℕ} (laws : StopLaws) (world : World) (vehicles : HasLawfulVehicles seats world) (loads : HasLawfulLoads world) where
-  spot_of : (where_is : Place) → IsPlaceIn world where_is → IsSpot world.layout where_is
-  spot_of (place.Station id) known = known
-  spot_of (place.Vehicle key) known = tt
-  spot_of place.Checking known = tt
-  spot_of place.Left known = tt
+  known_place_of : (where_is : Place) → IsPlaceIn world where_is → IsKnownPlace world.layout where_is
+  known_place_of (place.Station id) known = known
+  known_place_of (place.Vehicle key) known = tt
+  known_place_of place.Checking known = tt
+  known_place_of place.Left known = tt
 
   -- ---- acts
 
@@ -53,8 +53,8 @@ module _ {seats : ℕ} (laws : StopLaws) (world : World) (vehicles : HasLawfulVe
     pick_finished : (k : ℕ) (act : Act) → slice_get trip.acts k ≡ Some act → act.kind ≡ Pick → (drop : ActAt trip.acts Drop act.job) → is_finished drop.act.status ≡ true → is_finished act.status ≡ true
     pick_finished k act at kind drop finished =
         let pick = picked_before trip.acts (vehicles.trips key has.0 trip has.1 has.2).well_formed.under_way.in_turn drop.k drop.act drop.here drop.kind_is finished in
-        let spot : pick.k ≡ k = one_place trip.acts done pick.k k pick.act act pick.here at (pick.pick ∙ sym kind) (pick.of_job ∙ drop.job_is) in
-        let same : pick.act ≡ act = same_Some _ _ (sym pick.here ∙ ap (slice_get trip.acts) spot ∙ at) in
+        let index : pick.k ≡ k = one_place trip.acts done pick.k k pick.act act pick.here at (pick.pick ∙ sym kind) (pick.of_job ∙ drop.job_is) in
+        let same : pick.act ≡ act = same_Some _ _ (sym pick.here ∙ ap (slice_get trip.acts) index ∙ at) in
         sym (ap (λ (a : Act). is_finished a.status) same) ∙ pick.finished
 
     module _ (k : ℕ) (act : Act) (at : slice_get trip.acts k ≡ Some act) (row : JobRow) (job : IsJob world act.job row) where
@@ -168,9 +168,9 @@ module _ {seats : ℕ} (laws : StopLaws) (world : World) (vehicles : HasLawfulVe
     few_jobs = loads.few_jobs;
     loads_named = loads.loads_named;
     jobs_named = loads.jobs_named;
-    spots = λ load where_is at. spot_of where_is (loads.places load where_is at);
+    known_places = λ load where_is at. known_place_of where_is (loads.places load where_is at);
     known = λ job row at. let its = loads.jobs job row at in record { load = its.load; origin = its.origin; target = its.target };
-    room = λ station spot known. roomy _ _ _ _ _ (stored_is world station) (coming_is world station) (loads.room station spot known);
+    room = λ station site known. roomy _ _ _ _ _ (stored_is world station) (coming_is world station) (loads.room station site known);
     boards = boards;
     one_job = loads.one_job;
     waiting = loads.waiting;

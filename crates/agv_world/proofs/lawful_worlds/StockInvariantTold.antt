@@ -14,7 +14,7 @@ use Rattle.agv_stock.specs.declared.job.Phase.{Phase}
 use Rattle.agv_stock.specs.declared.job.Phase.TheVariants as phase
 use Rattle.agv_stock.specs.declared.place.Place.{Place}
 use Rattle.agv_stock.specs.declared.place.Place.TheVariants as place
-use Rattle.agv_world.specs.StockInvariant.{ActionView, HasStockInvariant, IsCarried, IsSpot, Places, ActStands, loads_on_vehicle, capacity_for, to_pick, action_view, action_views, action_views_by, action_views_for, action_views_of}
+use Rattle.agv_world.specs.StockInvariant.{ActionView, HasStockInvariant, IsCarried, IsKnownPlace, Places, ActStands, loads_on_vehicle, capacity_for, to_pick, action_view, action_views, action_views_by, action_views_for, action_views_of}
 use Rattle.agv_world.specs.GoodOrder.{HasTrip, IsVehicle}
 use Rattle.agv_world.specs.Lawful.{HasAct, HasLawfulLoads, HasLawfulVehicles, IsJob, IsPlaceIn, IsToDrop, carried_at, is_to_drop, other_loads, station_for}
 use Rattle.agv_world.specs.Worlds.{Vehicle, World}
@@ -60,11 +60,11 @@ module _ {seats : ℕ} (laws : StopLaws) (world : World) (vehicles : HasLawfulVe
       never : (n m : ℕ) → n + m ≤ 0 → 0 < n → ⊥
       never n m e f = omega (arith, e, f)
 
-  place_in : (load : List ℕ) (where_is : Place) → finite.get world.places load ≡ Some where_is → IsSpot world.layout where_is → IsPlaceIn world where_is
-  place_in load (place.Station id) at spot = spot
-  place_in load (place.Vehicle key) at spot = known_vehicle load key at
-  place_in load place.Checking at spot = tt
-  place_in load place.Left at spot = tt
+  place_in : (load : List ℕ) (where_is : Place) → finite.get world.places load ≡ Some where_is → IsKnownPlace world.layout where_is → IsPlaceIn world where_is
+  place_in load (place.Station id) at known = known
+  place_in load (place.Vehicle key) at known = known_vehicle load key at
+  place_in load place.Checking at known = tt
+  place_in load place.Left at known = tt
 
   boards_by : (key : VehicleKey) (vehicle : Vehicle) → IsVehicle world key vehicle → loads_on_vehicle world.places key + to_pick (action_views_for (Some vehicle)) ≤ vehicle.row.capacity
   boards_by key vehicle known = subst (λ found. loads_on_vehicle world.places key + to_pick (action_views_for found) ≤ capacity_for found) known (stock.boards key)
@@ -127,9 +127,9 @@ module _ {seats : ℕ} (laws : StopLaws) (world : World) (vehicles : HasLawfulVe
     few_jobs = stock.few_jobs;
     loads_named = stock.loads_named;
     jobs_named = stock.jobs_named;
-    places = λ load where_is at. place_in load where_is at (stock.spots load where_is at);
+    places = λ load where_is at. place_in load where_is at (stock.known_places load where_is at);
     jobs = λ job row at. let its = stock.known job row at in record { load = its.load; origin = its.origin; target = its.target };
-    room = λ station spot known. roomy _ _ _ _ _ (stored_is world station) (coming_is world station) (stock.room station spot known);
+    room = λ station site known. roomy _ _ _ _ _ (stored_is world station) (coming_is world station) (stock.room station site known);
     idle = λ key vehicle known none. subst (λ n. n ≤ vehicle.row.capacity) (sym (on_vehicle_is world key)) (idle _ _ _ (ap (λ trip. to_pick (action_views_by trip)) none) (boards_by key vehicle known));
     within_capacity = within_capacity;
     one_job = stock.one_job;

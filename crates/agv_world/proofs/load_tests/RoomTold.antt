@@ -133,16 +133,16 @@ few_counted : (n k capacity : ℕ) → IsCount n k → n ≤ capacity → k ≤ 
 few_counted n k capacity (most, limit, exact) fits = omega (arith, most, fits)
 
 module _ {seats : ℕ} (tables : Tables) (vehicles : HasLawfulVehicles seats (world_of tables)) where
-  small : (station : List ℕ) (spot : StationSite) → get tables.stations station ≡ Some spot → spot.capacity ≤ 999
-  small station spot at = by vehicles.laid
+  small : (station : List ℕ) (site : StationSite) → get tables.stations station ≡ Some site → site.capacity ≤ 999
+  small station site at = by vehicles.laid
     where
-      by : ((world_of tables).layout ≡ empty_layout) ⊎ KeepsRules (world_of tables).layout → spot.capacity ≤ 999
-      by (inl unset) = absurd (no_more spot (sym (finite.get-empty name_cmp station) ∙ ap (λ layout. get layout.stations station) (sym unset) ∙ at))
-      by (inr rules) = (rules.stands station spot at).2
+      by : ((world_of tables).layout ≡ empty_layout) ⊎ KeepsRules (world_of tables).layout → site.capacity ≤ 999
+      by (inl unset) = absurd (no_more site (sym (finite.get-empty name_cmp station) ∙ ap (λ layout. get layout.stations station) (sym unset) ∙ at))
+      by (inr rules) = (rules.stands station site at).2
 
   -- each station has room for the loads there and for those to come
   abbrev pub HasRoom : Type 0
-  HasRoom = (station : List ℕ) (spot : StationSite) → IsStation (world_of tables).layout station spot → length (loads_at (world_of tables) station) + reserved (world_of tables) station ≤ spot.capacity
+  HasRoom = (station : List ℕ) (site : StationSite) → IsStation (world_of tables).layout station site → length (loads_at (world_of tables) station) + reserved (world_of tables) station ≤ site.capacity
 
   counts_are : (station : List ℕ) → length (loads_at (world_of tables) station) + reserved (world_of tables) station ≡ stored tables.loads station + coming tables.jobs station
   counts_are station = λ i. stored_is (world_of tables) station i + coming_is (world_of tables) station i
@@ -150,9 +150,9 @@ module _ {seats : ℕ} (tables : Tables) (vehicles : HasLawfulVehicles seats (wo
   pub room_told : (have_room tables ≡ true) ↔ HasRoom
   room_told =
       let test : List ℕ × StationSite → Bool = λ station. leb (tallied (tally_of tables) station.0) station.1.capacity in (
-        λ all station spot at.
-            let fits = leb-true (tallied (tally_of tables) station) spot.capacity (each-entry names_total names_apart test tables.stations all station spot at) in
-            subst (λ n. n ≤ spot.capacity) (sym (counts_are station)) (within _ _ spot.capacity (all_counted tables station) (small station spot at) fits),
-        λ room. all-entries names_total names_apart test tables.stations (λ station spot at.
-            le-leb (tallied (tally_of tables) station) spot.capacity (few_counted _ _ spot.capacity (all_counted tables station) (subst (λ n. n ≤ spot.capacity) (counts_are station) (room station spot at)))),
+        λ all station site at.
+            let fits = leb-true (tallied (tally_of tables) station) site.capacity (each-entry names_total names_apart test tables.stations all station site at) in
+            subst (λ n. n ≤ site.capacity) (sym (counts_are station)) (within _ _ site.capacity (all_counted tables station) (small station site at) fits),
+        λ room. all-entries names_total names_apart test tables.stations (λ station site at.
+            le-leb (tallied (tally_of tables) station) site.capacity (few_counted _ _ site.capacity (all_counted tables station) (subst (λ n. n ≤ site.capacity) (counts_are station) (room station site at)))),
       )

@@ -29,14 +29,14 @@ module _ (tables : Tables) where
   leads_again : (ends : EdgeEnds) → Leads (layout_of_tables tables) ends → does_lead tables ends ≡ true
   leads_again ends is = and_from _ _ is.0 (and_from _ _ is.1 (ap not (name_other ends.start ends.finish is.2)))
 
-  stands : (spot : StationSite) → does_stand tables spot ≡ true → StationFits (layout_of_tables tables) spot
-  stands spot e =
+  stands : (site : StationSite) → does_stand tables site ≡ true → StationFits (layout_of_tables tables) site
+  stands site e =
       let first = and_parts _ _ e in
       let second = and_parts _ _ first.1 in
-      (first.0, leb-true 1 spot.capacity second.0, leb-true spot.capacity 999 second.1)
+      (first.0, leb-true 1 site.capacity second.0, leb-true site.capacity 999 second.1)
 
-  stands_again : (spot : StationSite) → StationFits (layout_of_tables tables) spot → does_stand tables spot ≡ true
-  stands_again spot is = and_from _ _ is.0 (and_from _ _ (le-leb 1 spot.capacity is.1) (le-leb spot.capacity 999 is.2))
+  stands_again : (site : StationSite) → StationFits (layout_of_tables tables) site → does_stand tables site ≡ true
+  stands_again site is = and_from _ _ is.0 (and_from _ _ (le-leb 1 site.capacity is.1) (le-leb site.capacity 999 is.2))
 
   -- ---- a layout that is set
   rules : HasValues tables → is_in_limits tables ≡ true → all_lead tables ≡ true → all_stand tables ≡ true → KeepsRules (layout_of_tables tables)
@@ -53,7 +53,7 @@ module _ (tables : Tables) where
         edges_named = values.edges;
         stations_named = values.stations;
         leads = λ id ends at. leads ends (each-entry names_total names_apart (λ (edge : List ℕ × EdgeEnds). does_lead tables edge.1) tables.edges lead id ends at);
-        stands = λ id spot at. stands spot (each-entry names_total names_apart (λ (station : List ℕ × StationSite). does_stand tables station.1) tables.stations stand id spot at);
+        stands = λ id site at. stands site (each-entry names_total names_apart (λ (station : List ℕ × StationSite). does_stand tables station.1) tables.stations stand id site at);
       }
 
   rules_again : KeepsRules (layout_of_tables tables) → (is_in_limits tables && (all_lead tables && all_stand tables)) ≡ true
@@ -64,7 +64,7 @@ module _ (tables : Tables) where
       (and_from _ _ (le-leb (finite.len tables.edges) 1500 keeps.few_edges) (le-leb (finite.len tables.stations) 500 keeps.few_stations))))
       (and_from _ _
       (all-entries names_total names_apart (λ (edge : List ℕ × EdgeEnds). does_lead tables edge.1) tables.edges (λ id ends at. leads_again ends (keeps.leads id ends at)))
-      (all-entries names_total names_apart (λ (station : List ℕ × StationSite). does_stand tables station.1) tables.stations (λ id spot at. stands_again spot (keeps.stands id spot at))))
+      (all-entries names_total names_apart (λ (station : List ℕ × StationSite). does_stand tables station.1) tables.stations (λ id site at. stands_again site (keeps.stands id site at))))
 
   -- ---- one that is not
   unset : is_unset tables ≡ true → layout_of_tables tables ≡ empty_layout

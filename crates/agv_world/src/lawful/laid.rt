@@ -19,12 +19,12 @@ impl World {
     }
 
     // Whether the station is at a node, and has room for 1 to 999 loads.
-    fn does_stand(&self, spot: StationSite) -> bool
-        ensures { result ≡ does_stand self.now spot }
+    fn does_stand(&self, site: StationSite) -> bool
+        ensures { result ≡ does_stand self.now site }
     {
-        self.nodes.contains(spot.node)
-            && 1 <= spot.capacity
-            && spot.capacity <= MAX_STATION_CAPACITY
+        self.nodes.contains(site.node)
+            && 1 <= site.capacity
+            && site.capacity <= MAX_STATION_CAPACITY
     }
 
     // Whether there are as many nodes, edges and stations as a layout may have.
@@ -56,7 +56,7 @@ impl World {
     fn all_stand(&self) -> bool
         ensures { result ≡ all_stand self.now }
     {
-        self.stations.iter().all(|(_, spot)| self.does_stand(*spot))
+        self.stations.iter().all(|(_, site)| self.does_stand(*site))
     }
 
     // Whether the layout is not set, or keeps the rules of a layout.

@@ -144,8 +144,8 @@ impl World {
         ensures { IfOk result (λ have. have ≡ have_room self.now) }
     {
         let tally = self.tally(alloc)?;
-        let have = self.stations.iter().all(|(id, spot)| tallied(&tally, *id)
-            <= spot.capacity as usize);
+        let have = self.stations.iter().all(|(id, site)| tallied(&tally, *id)
+            <= site.capacity as usize);
         Ok(have)
     }
 

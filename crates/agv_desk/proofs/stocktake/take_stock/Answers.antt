@@ -4,7 +4,7 @@ use Rattle.agv_desk.specs.CountParts.{AreCounted, AreFound, count_by_parts, coun
 use Rattle.agv_desk.specs.Outcomes.{Outcome, decided}
 use Rattle.agv_desk.specs.StocktakeSteps.{are_known, count_loads, has_twice}
 use Rattle.agv_desk.proofs.lists.AskedInTurn.{answers_last, asked_next}
-use Rattle.agv_desk.proofs.stocktakes.CountedStations.{Spots}
+use Rattle.agv_desk.proofs.stocktakes.CountedStations.{Sites}
 use Rattle.agv_desk.proofs.stocktakes.FoundLoads.{Found}
 use Rattle.agv_desk.proofs.stocktakes.CountedWhole.{by_parts, opened}
 use Rattle.agv_desk.proofs.stocktake.take_stock.Goals as goal
@@ -20,7 +20,7 @@ returns g c =
     answers_last g.F.Floor.facts c.args.floor.now c.look_up.new.floor c.count_loads.new.floor c.count_loads.result _ _ looked (λ decision seen_clean told.
     let counted_clean = c.in_ok-seen.ensures.was_clean seen_clean in
     let used_clean = c.in_ok-stations.ensures.was_clean counted_clean in
-    let stations = subst (λ (o : Option Spots). AreCounted start rows o) c.in-Some.is (subst (λ (w : World). AreCounted w rows c.in_ok-stations.field-0) (used.world used_clean) (counted.told counted_clean)) in
+    let stations = subst (λ (o : Option Sites). AreCounted start rows o) c.in-Some.is (subst (λ (w : World). AreCounted w rows c.in_ok-stations.field-0) (used.world used_clean) (counted.told counted_clean)) in
     let found = subst (λ (o : Option Found). AreFound rows o) c.in-Some-2.is c.in_ok-found.ensures in
     let seen : c.deref.result.now ≡ counted_loads start rows = c.deref.ensures.value ∙ looked.told seen_clean ∙ ap (λ (w : World). counted_loads w rows) (counted.world counted_clean) in
     let outcome = (λ i. count_by_parts (looked.world seen_clean i) reference (stations.1 i) (found.1 i) (seen i)) ∙ by_parts start reference rows stations.0

@@ -10,4 +10,4 @@ use Rattle.agv_store.proofs.keyed_floor.KeyedFloor.with_jobs.Given as goal
 abbrev pub invariant-loop-id : goal.invariant-loop-id
 invariant-loop-id g l =
     let world = world_at g.S.Store l.initial.self.held in
-    Answers (facts_of g.S.Store) l.initial.self l.self (IsLawful desk_seats world → l.stations.items ++ map (with_jobs_to world) (drop l.id-index l.spots) ≡ map (with_jobs_to world) l.spots)
+    Answers (facts_of g.S.Store) l.initial.self l.self (IsLawful desk_seats world → l.stations.items ++ map (with_jobs_to world) (drop l.id-index l.sites) ≡ map (with_jobs_to world) l.sites)

@@ -3,19 +3,19 @@ use Rattle.agv_tables.proofs.queries.Asking.{follows, passes, then_follows, then
 use Rattle.agv_tables.proofs.queries.LoadAnswers.{room_none, room_some}
 use Rattle.agv_tables.proofs.queries.load_queries.query_room.Goals as goal
 
-pub returns-in_err-spot : goal.returns-in_err-spot
-returns-in_err-spot g c = passes g.S.Store c.args.conn.now c.query_station.new.conn c.in_err-spot.field-0.0 _ _ c.from_residual.result c.from_residual.ensures.1 c.in_err-spot.ensures
+pub returns-in_err-site : goal.returns-in_err-site
+returns-in_err-site g c = passes g.S.Store c.args.conn.now c.query_station.new.conn c.in_err-site.field-0.0 _ _ c.from_residual.result c.from_residual.ensures.1 c.in_err-site.ensures
 
 pub returns-in-None : goal.returns-in-None
 returns-in-None g c =
-    follows g.S.Store c.args.conn.now c.query_station.new.conn c.in_ok-spot.spot _ _ (Ok None) (λ world lawful one. room_none world c.args.station.now (sym one ∙ c.in-None.is)) c.in_ok-spot.ensures
+    follows g.S.Store c.args.conn.now c.query_station.new.conn c.in_ok-site.site _ _ (Ok None) (λ world lawful one. room_none world c.args.station.now (sym one ∙ c.in-None.is)) c.in_ok-site.ensures
 
 pub returns-in_err-room-in-Some : goal.returns-in_err-room-in-Some
 returns-in_err-room-in-Some g c =
-    then_passes g.S.Store c.args.conn.now c.query_station.new.conn c.query_room_left.new.conn c.in_ok-spot.spot _ c.in_ok-spot.ensures
+    then_passes g.S.Store c.args.conn.now c.query_station.new.conn c.query_room_left.new.conn c.in_ok-site.site _ c.in_ok-site.ensures
     c.in_err-room-in-Some.field-0.0 _ _ c.from_residual-in_err-room-in-Some.result c.from_residual-in_err-room-in-Some.ensures.1 c.in_err-room-in-Some.ensures
 
 pub returns-in_ok-room-in-Some : goal.returns-in_ok-room-in-Some
 returns-in_ok-room-in-Some g c =
-    then_follows g.S.Store c.args.conn.now c.query_station.new.conn c.query_room_left.new.conn c.in_ok-spot.spot _ c.in_ok-spot.ensures
-    c.in_ok-room-in-Some.room _ _ (Ok (Some c.in_ok-room-in-Some.room)) (λ world lawful one two. room_some world c.args.station.now c.in-Some.spot c.in_ok-room-in-Some.room (sym one ∙ c.in-Some.is) two) c.in_ok-room-in-Some.ensures
+    then_follows g.S.Store c.args.conn.now c.query_station.new.conn c.query_room_left.new.conn c.in_ok-site.site _ c.in_ok-site.ensures
+    c.in_ok-room-in-Some.room _ _ (Ok (Some c.in_ok-room-in-Some.room)) (λ world lawful one two. room_some world c.args.station.now c.in-Some.site c.in_ok-room-in-Some.room (sym one ∙ c.in-Some.is) two) c.in_ok-room-in-Some.ensures

@@ -12,7 +12,7 @@ pub returns-clause-edge : goal.returns-clause-edge
 returns-clause-edge c = λ id ends. refl
 
 pub returns-clause-station : goal.returns-clause-station
-returns-clause-station c = λ id spot. refl
+returns-clause-station c = λ id site. refl
 
 pub returns-clause-vehicle : goal.returns-clause-vehicle
 returns-clause-vehicle c = vehicle_fits

@@ -5,16 +5,16 @@ use Rattle.agv_world.specs.Questions.{room_at, loads_at, reserved}
 use Rattle.agv_world.specs.Told.{world_of}
 use Rattle.agv_world.proofs.world.World.room.Goals as goal
 
-pub returns-in_err-spot : goal.returns-in_err-spot
+pub returns-in_err-site : goal.returns-in_err-site
 unfolding room_at
-returns-in_err-spot c =
+returns-in_err-site c =
     let world = world_of c.args.self.now in
     c.from_residual.ensures
-    ∙ ap (option_map (λ (spot : StationSite). room_left spot.capacity (length (loads_at world c.args.station)) (reserved world c.args.station))) c.in_err-spot.ensures
+    ∙ ap (option_map (λ (site : StationSite). room_left site.capacity (length (loads_at world c.args.station)) (reserved world c.args.station))) c.in_err-site.ensures
 
 pub returns : goal.returns
 unfolding room_at
 returns c =
     let world = world_of c.args.self.now in
-    ap Some (c.room_left.ensures ∙ (λ i. room_left c.in_ok-spot.spot.capacity (c.load_count.ensures i) (c.reserved.ensures i)))
-    ∙ ap (option_map (λ (spot : StationSite). room_left spot.capacity (length (loads_at world c.args.station)) (reserved world c.args.station))) c.in_ok-spot.ensures
+    ap Some (c.room_left.ensures ∙ (λ i. room_left c.in_ok-site.site.capacity (c.load_count.ensures i) (c.reserved.ensures i)))
+    ∙ ap (option_map (λ (site : StationSite). room_left site.capacity (length (loads_at world c.args.station)) (reserved world c.args.station))) c.in_ok-site.ensures
