@@ -1,4 +1,4 @@
--- What one more load puts on a shelf, and what is read of one more load.
+-- What one more load adds to the loads at its place, and what is read of one more load.
 use Rattle.std.proofs.Common.{◌≡◌, ℕ, Bool, true, false, cond, Option, Some, None, List, [], ◌∷◌, ◌++◌, filter, length, get_or, take, ◌+◌, ◌<◌, append-nil, refl, sym, ap, ◌∙◌}
 use Rattle.std.specs.BTreeMap.{BTreeMap, get, is_at}
 use Rattle.std.specs.Cmp.{Equal-is, IsTotalOrder}
@@ -19,8 +19,8 @@ lookup_tied o at q tie [] = refl
 lookup_tied o at q tie (e ∷ es) = λ i. cond (is_eq (o.congr at q e.0 tie i)) (Some e.1) (lookup_tied o at q tie es i)
 
 -- nothing is kept at first
-pub loads_at-empty : {K A : Type 0} (R : K → K → Ordering) (shelf : BTreeMap K (Vec (List ℕ) A)) → shelf.entries ≡ [] → (q : K) → loads_at R shelf q ≡ []
-loads_at-empty {K} {A} R shelf empty q = ap (λ (es : List (K × Vec (List ℕ) A)). unwrap_or (option_map (λ loads. loads.items) (lookup (is_at (R q)) es)) []) empty
+pub loads_at-empty : {K A : Type 0} (R : K → K → Ordering) (placed : BTreeMap K (Vec (List ℕ) A)) → placed.entries ≡ [] → (q : K) → loads_at R placed q ≡ []
+loads_at-empty {K} {A} R placed empty q = ap (λ (es : List (K × Vec (List ℕ) A)). unwrap_or (option_map (λ loads. loads.items) (lookup (is_at (R q)) es)) []) empty
 
 module _ {A : Type 0} where
   abbrev pub items_of : Option (Vec (List ℕ) A) → List (List ℕ)

@@ -8,7 +8,7 @@ use Rattle.std.specs.declared.vec.Vec.{Vec}
 module _ {K A : Type 0} where
   -- the loads at one of the places
   abbrev pub loads_at : (K → K → Ordering) → BTreeMap K (Vec (List ℕ) A) → K → List (List ℕ)
-  loads_at cmp shelf at = unwrap_or (option_map (λ loads. loads.items) (get cmp shelf at)) []
+  loads_at cmp placed at = unwrap_or (option_map (λ loads. loads.items) (get cmp placed at)) []
 
 -- the load, if it is there
 abbrev pub one_if : Bool → List ℕ → List (List ℕ)

@@ -14,28 +14,28 @@ use std::alloc::Global;
 use std::collections::BTreeMap;
 
 /// The loads at each of some places, in the order in which they were put there.
-pub type Shelf<K> = BTreeMap<K, Vec<Name>>;
+pub type PlacedLoads<K> = BTreeMap<K, Vec<Name>>;
 
 /// Puts a load behind those at a place.
 fn put<K: Ord + Copy + Drop>(
     alloc: Global,
-    shelf: &mut Shelf<K>,
+    placed: &mut PlacedLoads<K>,
     at: K,
     load: Name,
 ) -> Result<(), Memory>
-    ensures { OnOk result ((q : K) → loads_at K.cmp shelf.new q ≡ loads_at K.cmp shelf.old q ++ one_if (is_at (K.cmp at) q) load) }
+    ensures { OnOk result ((q : K) → loads_at K.cmp placed.new q ≡ loads_at K.cmp placed.old q ++ one_if (is_at (K.cmp at) q) load) }
 {
-    let mut loads = shelf.remove(&at).unwrap_or(Vec::new(alloc));
+    let mut loads = placed.remove(&at).unwrap_or(Vec::new(alloc));
     loads.push(load)?;
-    shelf.insert(at, loads)?;
+    placed.insert(at, loads)?;
     Ok(())
 }
 
 /// The loads at a place.
-pub fn loads_at<K: Ord + Copy>(shelf: &Shelf<K>, at: K) -> &[Name]
-    ensures { result.now ≡ loads_at K.cmp shelf.now at }
+pub fn loads_at<K: Ord + Copy>(placed: &PlacedLoads<K>, at: K) -> &[Name]
+    ensures { result.now ≡ loads_at K.cmp placed.now at }
 {
-    match shelf.get(&at) {
+    match placed.get(&at) {
         Some(loads) => loads,
         None => &[],
     }
@@ -44,8 +44,8 @@ pub fn loads_at<K: Ord + Copy>(shelf: &Shelf<K>, at: K) -> &[Name]
 /// The loads at stations, on vehicles and at the checking place.
 #[derive(Drop)]
 pub struct LoadsByPlace {
-    pub stations: Shelf<Name>,
-    pub vehicles: Shelf<VehicleKey>,
+    pub stations: PlacedLoads<Name>,
+    pub vehicles: PlacedLoads<VehicleKey>,
     pub checking: Vec<Name>,
 }
 
@@ -69,18 +69,18 @@ impl LoadsByPlace {
 
     /// The loads of a list. One pass over it, and for each load a look-up among the stations or the vehicles.
     pub fn of_loads(alloc: Global, loads: &[(Name, Place)]) -> Result<LoadsByPlace, Memory>
-        ensures stations { IfOk result (λ shelves. (id : List ℕ) → loads_at name_cmp shelves.stations id ≡ loads_where (is_at_station id) loads.now) }
-        ensures vehicles { IfOk result (λ shelves. (key : Key) → loads_at key_cmp shelves.vehicles key ≡ loads_where (is_on_vehicle key) loads.now) }
-        ensures checking { IfOk result (λ shelves. shelves.checking.items ≡ loads_where is_checking loads.now) }
+        ensures stations { IfOk result (λ by_place. (id : List ℕ) → loads_at name_cmp by_place.stations id ≡ loads_where (is_at_station id) loads.now) }
+        ensures vehicles { IfOk result (λ by_place. (key : Key) → loads_at key_cmp by_place.vehicles key ≡ loads_where (is_on_vehicle key) loads.now) }
+        ensures checking { IfOk result (λ by_place. by_place.checking.items ≡ loads_where is_checking loads.now) }
     {
-        let mut shelves = LoadsByPlace {
+        let mut by_place = LoadsByPlace {
             stations: BTreeMap::new(alloc),
             vehicles: BTreeMap::new(alloc),
             checking: Vec::new(alloc),
         };
         for (load, place) in loads {
-            shelves.add(alloc, *load, *place)?;
+            by_place.add(alloc, *load, *place)?;
         }
-        Ok(shelves)
+        Ok(by_place)
     }
 }

@@ -7,7 +7,7 @@ ghost use Rattle.agv_count.specs.Reports.{checking_part, left_part, listed, stat
 ghost use Rattle.agv_stock.specs.Rooms.{has_left};
 ghost use Rattle.agv_count.specs.LoadsByPlace.{loads_at};
 
-use crate::loads_by_place::{LoadsByPlace, Shelf, loads_at};
+use crate::loads_by_place::{LoadsByPlace, PlacedLoads, loads_at};
 use agv_header::{Memory, Name, VehicleKey};
 use agv_layout::Station;
 use agv_stock::Place;
@@ -42,13 +42,13 @@ fn write_station(
 fn write_stations(
     out: &mut String,
     stations: &[(Station, u32)],
-    shelf: &Shelf<Name>,
+    placed: &PlacedLoads<Name>,
 ) -> Result<(), Memory>
     ensures { OnOk result (string_bytes out.new ≡ string_bytes out.old
-        ++ flat_map (λ s. station_part (loads_at name_cmp shelf.now s.0.id) s.0 s.1) stations.now) }
+        ++ flat_map (λ s. station_part (loads_at name_cmp placed.now s.0.id) s.0 s.1) stations.now) }
 {
     for (station, reserved) in stations {
-        write_station(out, *station, *reserved, loads_at(shelf, station.id))?;
+        write_station(out, *station, *reserved, loads_at(placed, station.id))?;
     }
     Ok(())
 }
@@ -74,13 +74,13 @@ fn write_vehicle(out: &mut String, key: VehicleKey, here: &[Name]) -> Result<(),
 fn write_vehicles(
     out: &mut String,
     vehicles: &[VehicleKey],
-    shelf: &Shelf<VehicleKey>,
+    placed: &PlacedLoads<VehicleKey>,
 ) -> Result<(), Memory>
     ensures { OnOk result (string_bytes out.new ≡ string_bytes out.old
-        ++ flat_map (λ key. vehicle_part (loads_at key_cmp shelf.now key) key) vehicles.now) }
+        ++ flat_map (λ key. vehicle_part (loads_at key_cmp placed.now key) key) vehicles.now) }
 {
     for key in vehicles {
-        write_vehicle(out, *key, loads_at(shelf, *key))?;
+        write_vehicle(out, *key, loads_at(placed, *key))?;
     }
     Ok(())
 }
@@ -120,11 +120,11 @@ pub fn stock_report(
 ) -> Result<Vec<u8>, Memory>
     ensures { IfOk result (λ report. report.items ≡ stock_text stations.now loads.now vehicles.now) }
 {
-    let shelves = LoadsByPlace::of_loads(alloc, loads)?;
+    let by_place = LoadsByPlace::of_loads(alloc, loads)?;
     let mut out = String::new(alloc);
-    write_stations(&mut out, stations, &shelves.stations)?;
-    write_checking(&mut out, &shelves.checking)?;
-    write_vehicles(&mut out, vehicles, &shelves.vehicles)?;
+    write_stations(&mut out, stations, &by_place.stations)?;
+    write_checking(&mut out, &by_place.checking)?;
+    write_vehicles(&mut out, vehicles, &by_place.vehicles)?;
     write_left(&mut out, left_count(loads))?;
     Ok(out.into_bytes())
 }

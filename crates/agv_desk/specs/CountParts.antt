@@ -71,24 +71,24 @@ counted_loads world rows = filter_map (λ (row : Row). counted_load world row.0 
 
 -- one more
 abbrev pub with_counted_load : World → List CountedLoad → List ℕ → Option (List ℕ) → List CountedLoad
-with_counted_load world seen station None = seen
-with_counted_load world seen station (Some load) = seen ++ record { station = station; load = load; place = finite.get world.places load } ∷ []
+with_counted_load world counted_list station None = counted_list
+with_counted_load world counted_list station (Some load) = counted_list ++ record { station = station; load = load; place = finite.get world.places load } ∷ []
 
 -- the load's name, if it is not known or has left
 abbrev pub unknown_one : CountedLoad → Option (List ℕ)
-unknown_one seen = if is_here seen.place then None else Some seen.load
+unknown_one one = if is_here one.place then None else Some one.load
 
 -- the known load was found at this station
 abbrev pub is_found_at : List ℕ → CountedLoad → Bool
-is_found_at station seen = pointwise nat_eq seen.station station && is_here seen.place
+is_found_at station one = pointwise nat_eq one.station station && is_here one.place
 
 -- how many known loads were found there
-abbrev pub seen_at : List CountedLoad → List ℕ → ℕ
-seen_at seen station = count_by (is_found_at station) seen
+abbrev pub count_at : List CountedLoad → List ℕ → ℕ
+count_at counted_list station = count_by (is_found_at station) counted_list
 
 -- as many as before, and one more where it was found
 abbrev pub counted_up : CountedLoad → ℕ → List ℕ → ℕ
-counted_up seen count station = if is_found_at station seen then count + 1 else count
+counted_up one count station = if is_found_at station one then count + 1 else count
 
 -- ---- where the loads go
 
@@ -108,7 +108,7 @@ recorded_at load recorded = option_map (λ (at : Place). (load, at)) recorded
 
 -- the found loads of which it is known where they are
 abbrev pub recorded : List CountedLoad → List (List ℕ × Place)
-recorded seen = filter_map (λ (one : CountedLoad). recorded_at one.load one.place) seen
+recorded counted_list = filter_map (λ (one : CountedLoad). recorded_at one.load one.place) counted_list
 
 -- loads that stand at a station
 abbrev pub standing_at : List ℕ → List (List ℕ) → List (List ℕ × Place)
@@ -120,8 +120,8 @@ standing world stations = flat_map (λ (station : List ℕ × StationSite). stan
 
 -- where all loads go: those that were found, and those that stand at counted stations
 unfoldable pub moves_in : World → finite.FinMap name_cmp StationSite → finite.FinMap name_cmp (List ℕ) → List CountedLoad → finite.FinMap name_cmp Place
-moves_in world stations found seen =
-    settled (finite.contains_key stations) found (settled (finite.contains_key stations) found finite.empty (recorded seen)) (standing world (finite.entries stations))
+moves_in world stations found counted_list =
+    settled (finite.contains_key stations) found (settled (finite.contains_key stations) found finite.empty (recorded counted_list)) (standing world (finite.entries stations))
 
 -- ---- whether they fit
 
@@ -131,23 +131,23 @@ has_room_for found jobs site = nat_le (found + jobs) site.capacity
 
 -- at each of the stations there is room for the known loads that were found there and the live jobs to it
 abbrev pub all_have_room : World → List CountedLoad → List (List ℕ × StationSite) → Bool
-all_have_room world seen stations = list_all (λ (station : List ℕ × StationSite). has_room_for (seen_at seen station.0) (reserved world station.0) station.1) stations
+all_have_room world counted_list stations = list_all (λ (station : List ℕ × StationSite). has_room_for (count_at counted_list station.0) (reserved world station.0) station.1) stations
 
 -- ---- the whole
 
 -- the loads that move, and their new places
 abbrev pub moves_list : World → finite.FinMap name_cmp StationSite → finite.FinMap name_cmp (List ℕ) → List CountedLoad → List (List ℕ × Place)
-moves_list world stations found seen = finite.entries (moves_in world stations found seen)
+moves_list world stations found counted_list = finite.entries (moves_in world stations found counted_list)
 
 -- what is done with such moves
 abbrev pub counted_effect : List ℕ → List (List ℕ × Place) → List CountedLoad → Effect
-counted_effect reference moves seen = record (answer_only (answer.Counted (length moves) (filter_map unknown_one seen))) { moves = map count_move moves; uses = reference_key reference ∷ [] }
+counted_effect reference moves counted_list = record (answer_only (answer.Counted (length moves) (filter_map unknown_one counted_list))) { moves = map count_move moves; uses = reference_key reference ∷ [] }
 
 -- what a stocktake is answered once its stations and found loads are known, by these parts
 abbrev pub count_by_parts : World → List ℕ → finite.FinMap name_cmp StationSite → finite.FinMap name_cmp (List ℕ) → List CountedLoad → Outcome
-count_by_parts world reference stations found seen =
-    refuse_unless (not (list_any (λ (one : CountedLoad). is_on_vehicle one.place) seen)) refusal.OnVehicle
-    (refuse_unless (not (list_any (λ (load : List ℕ × Place). is_in_job world load.0) (moves_list world stations found seen))) refusal.InJob
-    (refuse_unless (all_have_room world seen (finite.entries stations)) refusal.Full
+count_by_parts world reference stations found counted_list =
+    refuse_unless (not (list_any (λ (one : CountedLoad). is_on_vehicle one.place) counted_list)) refusal.OnVehicle
+    (refuse_unless (not (list_any (λ (load : List ℕ × Place). is_in_job world load.0) (moves_list world stations found counted_list))) refusal.InJob
+    (refuse_unless (all_have_room world counted_list (finite.entries stations)) refusal.Full
     (refuse_unless (nat_lt (count_of world counted.References) most) refusal.Limit
-    (Made (counted_effect reference (moves_list world stations found seen) seen)))))
+    (Made (counted_effect reference (moves_list world stations found counted_list) counted_list)))))

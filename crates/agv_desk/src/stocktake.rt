@@ -50,11 +50,11 @@ fn counted_decision(
     alloc: Global,
     reference: Name,
     moves: &[(Name, Place)],
-    seen: &[CountedLoad],
+    counted_list: &[CountedLoad],
 ) -> Result<Decision, Memory>
-    ensures { IfOk result (λ decision. decision ≡ decided (Made (counted_effect reference moves.now seen.now))) }
+    ensures { IfOk result (λ decision. decision ≡ decided (Made (counted_effect reference moves.now counted_list.now))) }
 {
-    let unknown = unknown(alloc, seen)?;
+    let unknown = unknown(alloc, counted_list)?;
     let changes = changes(alloc, reference, moves)?;
     let answer = Answer::Counted {
         moved: moves.len(),
@@ -69,24 +69,24 @@ fn count_loads<F: Floor>(
     floor: &mut F,
     reference: Name,
     count: &Count,
-    seen: &[CountedLoad],
+    counted_list: &[CountedLoad],
 ) -> Result<Decision, Fault>
-    ensures { Asks F.facts floor.old floor.new result (λ world decision. decision ≡ decided (count_by_parts world reference count.now.stations count.now.found seen.now)) }
+    ensures { Asks F.facts floor.old floor.new result (λ world decision. decision ≡ decided (count_by_parts world reference count.now.stations count.now.found counted_list.now)) }
 {
-    if some_on_vehicle(seen) {
+    if some_on_vehicle(counted_list) {
         return Ok(refused(alloc, Refusal::OnVehicle));
     }
-    let moves = count.moves(alloc, floor, seen)?;
+    let moves = count.moves(alloc, floor, counted_list)?;
     if moves_in_job(floor, &moves)? {
         return Ok(refused(alloc, Refusal::InJob));
     }
-    if !all_fit(alloc, floor, &count.stations, seen)? {
+    if !all_fit(alloc, floor, &count.stations, counted_list)? {
         return Ok(refused(alloc, Refusal::Full));
     }
     if floor.count(Counted::References)? >= MAX_RECORDS {
         return Ok(refused(alloc, Refusal::Limit));
     }
-    Ok(counted_decision(alloc, reference, &moves, seen)?)
+    Ok(counted_decision(alloc, reference, &moves, counted_list)?)
 }
 
 /// Takes stock: each known load that was found at a counted station is there from now on, and each one that
@@ -111,7 +111,7 @@ pub(crate) fn take_stock<F: Floor>(
     let Some(found) = found_loads(alloc, rows)? else {
         return Ok(refused(alloc, Refusal::CountTwice));
     };
-    let seen = look_up(alloc, floor, rows)?;
+    let counted_list = look_up(alloc, floor, rows)?;
     let count = Count { stations, found };
-    count_loads(alloc, floor, reference, &count, &seen)
+    count_loads(alloc, floor, reference, &count, &counted_list)
 }

@@ -9,7 +9,7 @@ use Rattle.agv_track.specs.declared.ordered_set.OrderedSet.{OrderedSet}
 
 -- the set has just the things of the list
 abbrev pub KnowsAll : OrderedSet → Type 0
-KnowsAll once = (q : Thing) → contains thing_cmp once.known q ≡ list_any (thing_eq q) once.things.items
+KnowsAll set = (q : Thing) → contains thing_cmp set.known q ≡ list_any (thing_eq q) set.things.items
 
 -- the list with one more thing, if it does not have it yet
 abbrev pub with_thing : List Thing → Thing → List Thing

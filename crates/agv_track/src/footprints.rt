@@ -24,50 +24,50 @@ fn released_edges(trip: &Trip) -> &[Edge]
 }
 
 // Adds the edges, each with the node where it leads.
-fn add_edges(once: &mut OrderedSet, edges: &[Edge]) -> Result<(), Memory>
-    requires { KnowsAll once.old }
-    ensures added { OnOk result (once.new.things.items ≡ with_things once.old.things.items (along edges.now)) }
+fn add_edges(held: &mut OrderedSet, edges: &[Edge]) -> Result<(), Memory>
+    requires { KnowsAll held.old }
+    ensures added { OnOk result (held.new.things.items ≡ with_things held.old.things.items (along edges.now)) }
 {
     for edge in edges {
-        once.add(&Thing::Edge(edge.id))?;
-        once.add(&Thing::Node(edge.finish))?;
+        held.add(&Thing::Edge(edge.id))?;
+        held.add(&Thing::Node(edge.finish))?;
     }
     Ok(())
 }
 
 // Adds what a vehicle on the trip holds.
-fn add_trip(once: &mut OrderedSet, trip: &Trip) -> Result<(), Memory>
-    requires { KnowsAll once.old }
-    ensures added { OnOk result (once.new.things.items ≡ with_things once.old.things.items (from_node (node_at trip.now trip.now.seen) (released_edges trip.now))) }
+fn add_trip(held: &mut OrderedSet, trip: &Trip) -> Result<(), Memory>
+    requires { KnowsAll held.old }
+    ensures added { OnOk result (held.new.things.items ≡ with_things held.old.things.items (from_node (node_at trip.now trip.now.seen) (released_edges trip.now))) }
 {
     let Some(node) = trip.node_at(trip.seen) else {
         return Ok(());
     };
-    once.add(&Thing::Node(node))?;
-    add_edges(once, released_edges(trip))
+    held.add(&Thing::Node(node))?;
+    add_edges(held, released_edges(trip))
 }
 
 // Adds what a vehicle without a trip holds.
-fn add_rest(once: &mut OrderedSet, node: Name, rest: Option<(Name, Name)>) -> Result<(), Memory>
-    requires { KnowsAll once.old }
-    ensures added { OnOk result (once.new.things.items ≡ with_things once.old.things.items (Node node ∷ rest_things rest)) }
+fn add_rest(held: &mut OrderedSet, node: Name, rest: Option<(Name, Name)>) -> Result<(), Memory>
+    requires { KnowsAll held.old }
+    ensures added { OnOk result (held.new.things.items ≡ with_things held.old.things.items (Node node ∷ rest_things rest)) }
 {
-    once.add(&Thing::Node(node))?;
+    held.add(&Thing::Node(node))?;
     if let Some((edge, finish)) = rest {
-        once.add(&Thing::Edge(edge))?;
-        once.add(&Thing::Node(finish))?;
+        held.add(&Thing::Edge(edge))?;
+        held.add(&Thing::Node(finish))?;
     }
     Ok(())
 }
 
 // Adds what the vehicle holds.
-fn add_standing(once: &mut OrderedSet, standing: &Standing) -> Result<(), Memory>
-    requires { KnowsAll once.old }
-    ensures added { OnOk result (once.new.things.items ≡ with_things once.old.things.items (things_by standing.now.node standing.now.rest standing.now.trip)) }
+fn add_standing(held: &mut OrderedSet, standing: &Standing) -> Result<(), Memory>
+    requires { KnowsAll held.old }
+    ensures added { OnOk result (held.new.things.items ≡ with_things held.old.things.items (things_by standing.now.node standing.now.rest standing.now.trip)) }
 {
     match &standing.trip {
-        Some(trip) => add_trip(once, trip),
-        None => add_rest(once, standing.node, standing.rest),
+        Some(trip) => add_trip(held, trip),
+        None => add_rest(held, standing.node, standing.rest),
     }
 }
 
@@ -81,7 +81,7 @@ fn add_standing(once: &mut OrderedSet, standing: &Standing) -> Result<(), Memory
 pub fn footprint(alloc: Global, standing: &Standing) -> Result<Vec<Thing>, Memory>
     ensures { IfOk result (λ things. things.items ≡ footprint_of standing.now) }
 {
-    let mut once = OrderedSet::new(alloc);
-    add_standing(&mut once, standing)?;
-    Ok(once.things)
+    let mut held = OrderedSet::new(alloc);
+    add_standing(&mut held, standing)?;
+    Ok(held.things)
 }

@@ -17,7 +17,7 @@ use Rattle.agv_world.specs.Worlds.{World}
 use Rattle.agv_world.specs.declared.floor.Counted.TheVariants as counted
 use Rattle.agv_world.proofs.lists.Entries.{entries_found}
 use Rattle.agv_world.proofs.lists.Orders.{names_total}
-use Rattle.agv_desk.specs.CountParts.{all_have_room, count_by_parts, found_in, has_room_for, is_found_at, moves_list, seen_at, counted_loads, stations_in, unknown_one}
+use Rattle.agv_desk.specs.CountParts.{all_have_room, count_by_parts, found_in, has_room_for, is_found_at, moves_list, count_at, counted_loads, stations_in, unknown_one}
 use Rattle.agv_desk.specs.LoadAndJobSteps.{most, is_in_job, reference_key}
 use Rattle.agv_desk.specs.Outcomes.{Outcome, Made, Move, refuse_unless, answer_only}
 use Rattle.agv_desk.specs.StocktakeSteps.{Row, are_known, count_loads, count_move, some_on_vehicle, finds_known, fits, found_here, is_on_vehicle, is_counted, is_here, new_places, unknown_in, unknown_on}
@@ -87,16 +87,16 @@ module _ (world : World) where
         | Some load ↦ ap (cons_option (cond (is_here (finite.get world.places load)) None (Some load))) (unknown_are rows)
       ]
 
-  seen_are : (station : List ℕ) (rows : List Row) → seen_at (counted_loads world rows) station ≡ found_here world rows station
+  counts_are : (station : List ℕ) (rows : List Row) → count_at (counted_loads world rows) station ≡ found_here world rows station
   unfolding counted_loads
-  seen_are station [] = refl
-  seen_are station (row ∷ rows) =
+  counts_are station [] = refl
+  counts_are station (row ∷ rows) =
       let found : Row → Bool = λ row. pointwise nat_eq row.0 station && finds_known world row.1 in
-      elim row.1 as (λ load. seen_at (counted_loads world ((row.0, load) ∷ rows)) station ≡ cond (pointwise nat_eq row.0 station && finds_known world load) 1 0 + found_here world rows station) [
-        | None ↦ seen_are station rows ∙ no_more (pointwise nat_eq row.0 station) (found_here world rows station)
+      elim row.1 as (λ load. count_at (counted_loads world ((row.0, load) ∷ rows)) station ≡ cond (pointwise nat_eq row.0 station && finds_known world load) 1 0 + found_here world rows station) [
+        | None ↦ counts_are station rows ∙ no_more (pointwise nat_eq row.0 station) (found_here world rows station)
         | Some load ↦
             sum_by-cons (λ (one : CountedLoad). cond (is_found_at station one) 1 0) (record { station = row.0; load = load; place = finite.get world.places load }) (counted_loads world rows)
-            ∙ ap (λ n. cond (pointwise nat_eq row.0 station && is_here (finite.get world.places load)) 1 0 + n) (seen_are station rows)
+            ∙ ap (λ n. cond (pointwise nat_eq row.0 station && is_here (finite.get world.places load)) 1 0 + n) (counts_are station rows)
       ]
       ∙ sym (sum_by-cons (λ (row : Row). cond (found row) 1 0) row rows)
 
@@ -110,8 +110,8 @@ module _ (world : World) where
     room_of_each [] there = refl
     room_of_each (station ∷ stations) there =
         let known = kept_site (is_counted rows station.0) (finite.get world.layout.stations station.0) station.1 (sym (get-stations_in world rows station.0) ∙ there.0) in
-        let here : has_room_for (seen_at (counted_loads world rows) station.0) (reserved world station.0) station.1 ≡ fits_at station.0 =
-        ap (λ n. has_room_for n (reserved world station.0) station.1) (seen_are station.0 rows) ∙ ap (fits world rows station.0) (sym known) in
+        let here : has_room_for (count_at (counted_loads world rows) station.0) (reserved world station.0) station.1 ≡ fits_at station.0 =
+        ap (λ n. has_room_for n (reserved world station.0) station.1) (counts_are station.0 rows) ∙ ap (fits world rows station.0) (sym known) in
         λ i. here i && room_of_each stations there.1 i
 
     room_is : are_known world rows ≡ true → all_have_room world (counted_loads world rows) (finite.entries (stations_in world rows)) ≡ list_all (λ (row : Row). fits_at row.0) rows

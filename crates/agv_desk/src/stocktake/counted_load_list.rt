@@ -4,7 +4,7 @@ ghost use Rattle.std.specs.FinMap as map;
 ghost use Rattle.std.specs.List.{list_any, filter_map};
 ghost use Rattle.std.specs.Option.{unwrap_or};
 ghost use Rattle.agv_world.specs.Asks.{Asks};
-ghost use Rattle.agv_desk.specs.CountParts.{counted_loads, unknown_one, counted_up, seen_at, with_counted_load};
+ghost use Rattle.agv_desk.specs.CountParts.{counted_loads, unknown_one, counted_up, count_at, with_counted_load};
 ghost use Rattle.agv_desk.specs.StocktakeSteps.{is_on_vehicle};
 
 use crate::stocktake::counted_load::CountedLoad;
@@ -15,15 +15,15 @@ use std::alloc::Global;
 // Looks up the load of a row, if one was found.
 fn note_counted_load<F: Floor>(
     floor: &mut F,
-    seen: &mut Vec<CountedLoad>,
+    counted_list: &mut Vec<CountedLoad>,
     station: Name,
     load: Option<Name>,
 ) -> Result<(), Fault>
-    ensures { Asks F.facts floor.old floor.new result (λ world done. seen.new.items ≡ with_counted_load world seen.old.items station load) }
+    ensures { Asks F.facts floor.old floor.new result (λ world done. counted_list.new.items ≡ with_counted_load world counted_list.old.items station load) }
 {
     if let Some(load) = load {
         let place = floor.place(load)?;
-        seen.push(CountedLoad {
+        counted_list.push(CountedLoad {
             station,
             load,
             place,
@@ -38,28 +38,28 @@ pub(crate) fn look_up<F: Floor>(
     floor: &mut F,
     rows: &[(Name, Option<Name>)],
 ) -> Result<Vec<CountedLoad>, Fault>
-    ensures { Asks F.facts floor.old floor.new result (λ world seen. seen.items ≡ counted_loads world rows.now) }
+    ensures { Asks F.facts floor.old floor.new result (λ world counted_list. counted_list.items ≡ counted_loads world rows.now) }
 {
-    let mut seen = Vec::new(alloc);
+    let mut counted_list = Vec::new(alloc);
     for (station, load) in rows {
-        note_counted_load(floor, &mut seen, *station, *load)?;
+        note_counted_load(floor, &mut counted_list, *station, *load)?;
     }
-    Ok(seen)
+    Ok(counted_list)
 }
 
 /// Whether one of the loads is recorded on a vehicle.
-pub(crate) fn some_on_vehicle(seen: &[CountedLoad]) -> bool
-    ensures { result ≡ list_any (λ one. is_on_vehicle one.place) seen.now }
+pub(crate) fn some_on_vehicle(counted_list: &[CountedLoad]) -> bool
+    ensures { result ≡ list_any (λ one. is_on_vehicle one.place) counted_list.now }
 {
-    seen.iter().any(|one| one.is_on_vehicle())
+    counted_list.iter().any(|one| one.is_on_vehicle())
 }
 
 /// The loads that are not known, or have left, in the order of the rows.
-pub(crate) fn unknown(alloc: Global, seen: &[CountedLoad]) -> Result<Vec<Name>, Memory>
-    ensures { IfOk result (λ names. names.items ≡ filter_map unknown_one seen.now) }
+pub(crate) fn unknown(alloc: Global, counted_list: &[CountedLoad]) -> Result<Vec<Name>, Memory>
+    ensures { IfOk result (λ names. names.items ≡ filter_map unknown_one counted_list.now) }
 {
     let mut unknown = Vec::new(alloc);
-    for one in seen {
+    for one in counted_list {
         if !one.is_here() {
             unknown.push(one.load)?;
         }
@@ -80,11 +80,11 @@ fn count_up(counts: &mut ByName<usize>, one: &CountedLoad) -> Result<(), Memory>
 }
 
 /// How many known loads were found at each station.
-pub(crate) fn counts(alloc: Global, seen: &[CountedLoad]) -> Result<ByName<usize>, Memory>
-    ensures { IfOk result (λ counts. (station : List ℕ) → unwrap_or (map.get counts station) 0 ≡ seen_at seen.now station) }
+pub(crate) fn counts(alloc: Global, counted_list: &[CountedLoad]) -> Result<ByName<usize>, Memory>
+    ensures { IfOk result (λ counts. (station : List ℕ) → unwrap_or (map.get counts station) 0 ≡ count_at counted_list.now station) }
 {
     let mut counts = ByName::new(alloc);
-    for one in seen {
+    for one in counted_list {
         count_up(&mut counts, one)?;
     }
     Ok(counts)

@@ -59,10 +59,14 @@ impl Count {
 
     // Notes where the found loads go.
     #[tactic(auto, unfolding(crate::specs::CountParts::settled))]
-    fn settle_found(&self, moves: &mut ByName<Place>, seen: &[CountedLoad]) -> Result<(), Memory>
-        ensures { OnOk result (moves.new ≡ settled (map.contains_key self.now.stations) self.now.found moves.old (recorded seen.now)) }
+    fn settle_found(
+        &self,
+        moves: &mut ByName<Place>,
+        counted_list: &[CountedLoad],
+    ) -> Result<(), Memory>
+        ensures { OnOk result (moves.new ≡ settled (map.contains_key self.now.stations) self.now.found moves.old (recorded counted_list.now)) }
     {
-        for one in seen {
+        for one in counted_list {
             if let Some(place) = one.place {
                 self.settle(moves, one.load, place)?;
             }
@@ -108,12 +112,12 @@ impl Count {
         &self,
         alloc: Global,
         floor: &mut F,
-        seen: &[CountedLoad],
+        counted_list: &[CountedLoad],
     ) -> Result<Vec<(Name, Place)>, Fault>
-        ensures { Asks F.facts floor.old floor.new result (λ world moves. moves.items ≡ map.entries (moves_in world self.now.stations self.now.found seen.now)) }
+        ensures { Asks F.facts floor.old floor.new result (λ world moves. moves.items ≡ map.entries (moves_in world self.now.stations self.now.found counted_list.now)) }
     {
         let mut moves = ByName::new(alloc);
-        self.settle_found(&mut moves, seen)?;
+        self.settle_found(&mut moves, counted_list)?;
         let stations = self.stations.list(alloc)?;
         self.settle_standing(floor, &mut moves, &stations)?;
         Ok(moves.list(alloc)?)

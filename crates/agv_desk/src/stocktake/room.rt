@@ -5,7 +5,7 @@ ghost use Rattle.std.specs.List.{list_all};
 ghost use Rattle.std.specs.Option.{unwrap_or};
 ghost use Rattle.agv_world.specs.Asks.{Asks};
 ghost use Rattle.agv_world.specs.Questions.{reserved};
-ghost use Rattle.agv_desk.specs.CountParts.{has_room_for, all_have_room, seen_at};
+ghost use Rattle.agv_desk.specs.CountParts.{has_room_for, all_have_room, count_at};
 
 use crate::stocktake::counted_load::CountedLoad;
 use crate::stocktake::counted_load_list::counts;
@@ -56,11 +56,11 @@ pub(crate) fn all_fit<F: Floor>(
     alloc: Global,
     floor: &mut F,
     stations: &ByName<StationSite>,
-    seen: &[CountedLoad],
+    counted_list: &[CountedLoad],
 ) -> Result<bool, Fault>
-    ensures { Asks F.facts floor.old floor.new result (λ world fit. fit ≡ all_have_room world seen.now (map.entries stations.now)) }
+    ensures { Asks F.facts floor.old floor.new result (λ world fit. fit ≡ all_have_room world counted_list.now (map.entries stations.now)) }
 {
-    let counts = counts(alloc, seen)?;
+    let counts = counts(alloc, counted_list)?;
     let stations = stations.list(alloc)?;
     each_fits(floor, &counts, &stations)
 }

@@ -13,21 +13,21 @@ use Rattle.agv_count.proofs.Pieces.{four_parts}
 use Rattle.agv_count.proofs.stock.stock_report.Goals as goal
 
 -- what is written of loads that are kept by where they stand
-of_shelves : (stations : List (Station × ℕ)) (loads : List (List ℕ × Place)) (vehicles : List VehicleKey) (shelves : LoadsByPlace)
-    → ((id : List ℕ) → loads_at name_cmp shelves.stations id ≡ loads_where (is_at_station id) loads) → ((key : VehicleKey) → loads_at key_cmp shelves.vehicles key ≡ loads_where (is_on_vehicle key) loads)
-    → shelves.checking.items ≡ loads_where is_checking loads
-    → (flat_map (λ s. station_part (loads_at name_cmp shelves.stations s.0.id) s.0 s.1) stations ++ (checking_part shelves.checking.items ++ (flat_map (λ key. vehicle_part (loads_at key_cmp shelves.vehicles key) key) vehicles ++ left_part (count_by (λ l. has_left l.1) loads))))
+of_loads_by_place : (stations : List (Station × ℕ)) (loads : List (List ℕ × Place)) (vehicles : List VehicleKey) (by_place : LoadsByPlace)
+    → ((id : List ℕ) → loads_at name_cmp by_place.stations id ≡ loads_where (is_at_station id) loads) → ((key : VehicleKey) → loads_at key_cmp by_place.vehicles key ≡ loads_where (is_on_vehicle key) loads)
+    → by_place.checking.items ≡ loads_where is_checking loads
+    → (flat_map (λ s. station_part (loads_at name_cmp by_place.stations s.0.id) s.0 s.1) stations ++ (checking_part by_place.checking.items ++ (flat_map (λ key. vehicle_part (loads_at key_cmp by_place.vehicles key) key) vehicles ++ left_part (count_by (λ l. has_left l.1) loads))))
     ≡ stock_text stations loads vehicles
 unfolding stock_text
-of_shelves stations loads vehicles shelves at on checking = λ i.
+of_loads_by_place stations loads vehicles by_place at on checking = λ i.
     flat_map (λ s. station_part (at s.0.id i) s.0 s.1) stations ++ (checking_part (checking i) ++ (flat_map (λ key. vehicle_part (on key i) key) vehicles ++ left_part (count_by (λ l. has_left l.1) loads)))
 
 pub returns : goal.returns
 returns c =
-    let kept = c.in_ok-shelves.ensures in
+    let kept = c.in_ok-by_place.ensures in
     ap (λ (v : Vec ℕ Global). v.items) c.into_bytes.ensures.value
     ∙ four_parts _ _ _ _ _ _ _ _ _ c.new-out.ensures.bytes c.in_ok-write_stations.ensures
     (c.in_ok-write_checking.ensures ∙ ap (λ (here : List (List ℕ)). string_bytes c.write_stations.new.out ++ checking_part here) c.deref.ensures.value)
     c.in_ok-write_vehicles.ensures
     (c.in_ok-write_left.ensures ∙ ap (λ (gone : ℕ). string_bytes c.write_vehicles.new.out ++ left_part gone) c.left_count.ensures)
-    ∙ of_shelves c.args.stations.now c.args.loads.now c.args.vehicles.now c.in_ok-shelves.shelves kept.stations kept.vehicles kept.checking
+    ∙ of_loads_by_place c.args.stations.now c.args.loads.now c.args.vehicles.now c.in_ok-by_place.by_place kept.stations kept.vehicles kept.checking

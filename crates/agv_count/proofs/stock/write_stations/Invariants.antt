@@ -7,4 +7,4 @@ use Rattle.agv_count.proofs.stock.write_stations.Given as goal
 
 abbrev pub invariant-loop-station : goal.invariant-loop-station
 invariant-loop-station l =
-    string_bytes l.out ≡ string_bytes l.initial.out ++ flat_map (λ s. station_part (loads_at name_cmp l.shelf s.0.id) s.0 s.1) (take l.station-index l.stations)
+    string_bytes l.out ≡ string_bytes l.initial.out ++ flat_map (λ s. station_part (loads_at name_cmp l.placed s.0.id) s.0 s.1) (take l.station-index l.stations)

@@ -7,4 +7,4 @@ use Rattle.agv_count.proofs.stock.write_vehicles.Given as goal
 
 abbrev pub invariant-loop-key : goal.invariant-loop-key
 invariant-loop-key l =
-    string_bytes l.out ≡ string_bytes l.initial.out ++ flat_map (λ key. vehicle_part (loads_at key_cmp l.shelf key) key) (take l.key-index l.vehicles)
+    string_bytes l.out ≡ string_bytes l.initial.out ++ flat_map (λ key. vehicle_part (loads_at key_cmp l.placed key) key) (take l.key-index l.vehicles)

@@ -18,8 +18,8 @@ returns g c =
     let start = g.F.Floor.facts.world c.args.floor.now in
     let stations = c.args.count.now.stations in
     let found = c.args.count.now.found in
-    let seen = c.args.seen.now in
-    let moves = moves_list start stations found seen in
+    let counted_list = c.args.counted_list.now in
+    let moves = moves_list start stations found counted_list in
     let moved = c.in_ok-moves.ensures in
     let jobs = asked_next moved c.in_ok-moves_in_job.ensures in
     let fit = asked_next jobs c.in_ok-all_fit.ensures in
@@ -32,8 +32,8 @@ returns g c =
     let listed_again : c.deref-2.result.now ≡ moves = c.deref-2.ensures.value ∙ moved.told moves_clean in
     let none_on_vehicle = sym c.some_on_vehicle.ensures ∙ c.if-some_on_vehicle.false in
     let none_in_job = sym (jobs.told job_clean ∙ (λ i. list_any (λ (load : List ℕ × Place). is_in_job (moved.world moves_clean i) load.0) (listed i))) ∙ c.if-branch.false in
-    let room = sym (fit.told fit_clean ∙ ap (λ (w : World). all_have_room w seen (map.entries stations)) (jobs.world job_clean)) ∙ c.if-not-branch.false in
+    let room = sym (fit.told fit_clean ∙ ap (λ (w : World). all_have_room w counted_list (map.entries stations)) (jobs.world job_clean)) ∙ c.if-not-branch.false in
     let few = ap (λ n. nat_lt n most) (sym (used.told clean ∙ ap (λ (w : World). count_of w counted.References) (fit.world fit_clean))) ∙ lt-ltb _ _ c.if-branch-ge-MAX_RECORDS.false in
     c.in_ok-counted_decision.ensures
-    ∙ ap (λ (moves : List (List ℕ × Place)). decided (Made (counted_effect c.args.reference moves seen))) listed_again
-    ∙ ap decided (passed _ _ _ _ (Made (counted_effect c.args.reference moves seen)) none_on_vehicle none_in_job room few))
+    ∙ ap (λ (moves : List (List ℕ × Place)). decided (Made (counted_effect c.args.reference moves counted_list))) listed_again
+    ∙ ap decided (passed _ _ _ _ (Made (counted_effect c.args.reference moves counted_list)) none_on_vehicle none_in_job room few))

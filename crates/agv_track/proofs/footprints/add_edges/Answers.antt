@@ -10,5 +10,5 @@ loop-edge-preserved c =
       c.in_ok-add-2.ensures.knows,
       c.in_ok-add-2.ensures.added
           ∙ ap (λ things. with_thing things (thing.Node edge.finish)) (c.in_ok-add.ensures.added ∙ ap (λ things. with_thing things (thing.Edge edge.id)) c.loop-edge.invariant.1)
-          ∙ along-more c.args.edges.now c.loop-edge.edge-index edge c.args.once.now.things.items c.loop-edge-test.true c.edge-item.is,
+          ∙ along-more c.args.edges.now c.loop-edge.edge-index edge c.args.held.now.things.items c.loop-edge-test.true c.edge-item.is,
     )

@@ -5,4 +5,4 @@ use Rattle.agv_track.proofs.footprints.add_edges.Given as goal
 
 abbrev pub invariant-loop-edge : goal.invariant-loop-edge
 invariant-loop-edge l =
-    KnowsAll l.once × (l.once.things.items ≡ with_things l.initial.once.things.items (along (take l.edge-index l.edges)))
+    KnowsAll l.held × (l.held.things.items ≡ with_things l.initial.held.things.items (along (take l.edge-index l.edges)))

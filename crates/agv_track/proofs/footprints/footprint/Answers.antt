@@ -9,4 +9,4 @@ unfolding footprint_of
 returns c =
     let standing = c.args.standing.now in
     let things = things_by standing.node standing.rest standing.trip in
-    c.in_ok-add_standing.ensures.added ∙ ap (λ none. with_things none things) c.new-once.ensures.none ∙ once-things [] things
+    c.in_ok-add_standing.ensures.added ∙ ap (λ none. with_things none things) c.new-held.ensures.none ∙ once-things [] things

@@ -9,7 +9,7 @@ use Rattle.agv_count.proofs.loads_by_place.LoadsByPlace.of_loads.Given as goal
 
 abbrev pub invariant-loop-load : goal.invariant-loop-load
 invariant-loop-load l = record {
-  stations : (id : List ℕ) → loads_at name_cmp l.shelves.stations id ≡ loads_where (is_at_station id) (take l.load-index l.loads);
-  vehicles : (key : VehicleKey) → loads_at key_cmp l.shelves.vehicles key ≡ loads_where (is_on_vehicle key) (take l.load-index l.loads);
-  checking : l.shelves.checking.items ≡ loads_where is_checking (take l.load-index l.loads);
+  stations : (id : List ℕ) → loads_at name_cmp l.by_place.stations id ≡ loads_where (is_at_station id) (take l.load-index l.loads);
+  vehicles : (key : VehicleKey) → loads_at key_cmp l.by_place.vehicles key ≡ loads_where (is_on_vehicle key) (take l.load-index l.loads);
+  checking : l.by_place.checking.items ≡ loads_where is_checking (take l.load-index l.loads);
 }

@@ -1,6 +1,6 @@
 use Rattle.std.proofs.Common.{sym, ap, ◌+◌, ℕ, unwrap_or, ◌∙◌}
 use Rattle.std.specs.FinMap as map
-use Rattle.agv_desk.proofs.stocktakes.SeenLoads.{Counts, recounted_one}
+use Rattle.agv_desk.proofs.stocktakes.CountedLoads.{Counts, recounted_one}
 use Rattle.agv_desk.proofs.stocktake.counted_load_list.count_up.Goals as goal
 
 pub returns-in_ok-insert : goal.returns-in_ok-insert

@@ -7,4 +7,4 @@ abbrev pub invariant-loop-station : goal.invariant-loop-station
 invariant-loop-station g l =
     let facts = g.F.Floor.facts in
     let world = facts.world l.initial.floor in
-    Answers facts l.initial.floor l.floor (l.seen.items ++ counted_loads world (drop l.station-index l.rows) ≡ counted_loads world l.rows)
+    Answers facts l.initial.floor l.floor (l.counted_list.items ++ counted_loads world (drop l.station-index l.rows) ≡ counted_loads world l.rows)

@@ -7,44 +7,44 @@ use Rattle.std.proofs.lemmas.List.Sums.{count_by_more_yes, count_by_more_no, cou
 use Rattle.agv_header.specs.Name.{name_cmp}
 use Rattle.agv_world.specs.Worlds.{World}
 use Rattle.agv_world.proofs.lists.Orders.{names_total}
-use Rattle.agv_desk.specs.CountParts.{counted_up, is_found_at, seen_at, counted_loads, with_counted_load}
+use Rattle.agv_desk.specs.CountParts.{counted_up, is_found_at, count_at, counted_loads, with_counted_load}
 use Rattle.agv_desk.specs.StocktakeSteps.{Row, is_here}
 use Rattle.agv_desk.specs.declared.stocktake.counted_load.CountedLoad.{CountedLoad}
 use Rattle.agv_desk.proofs.lists.SameNames.{same_name, tie_turned}
 
 -- ---- one row more
-look_more : (world : World) (seen : List CountedLoad) (station : List ℕ) (load : Option (List ℕ)) (rows : List Row)
-    → with_counted_load world seen station load ++ counted_loads world rows ≡ seen ++ counted_loads world ((station, load) ∷ rows)
+look_more : (world : World) (counted_list : List CountedLoad) (station : List ℕ) (load : Option (List ℕ)) (rows : List Row)
+    → with_counted_load world counted_list station load ++ counted_loads world rows ≡ counted_list ++ counted_loads world ((station, load) ∷ rows)
 unfolding counted_loads
-look_more world seen station None rows = refl
-look_more world seen station (Some load) rows = append_assoc seen _ _
+look_more world counted_list station None rows = refl
+look_more world counted_list station (Some load) rows = append_assoc counted_list _ _
 
-pub looked_more : (world : World) (seen : List CountedLoad) (rows : List Row) (i : ℕ) (row : Row) (all : List CountedLoad) → i < length rows → row ≡ get_or rows i row
-    → seen ++ counted_loads world (drop i rows) ≡ all → with_counted_load world seen row.0 row.1 ++ counted_loads world (drop (i + 1) rows) ≡ all
-looked_more world seen rows i row all within at is =
-    look_more world seen row.0 row.1 (drop (i + 1) rows)
-    ∙ ap (λ (r : Row). seen ++ counted_loads world (r ∷ drop (i + 1) rows)) at
-    ∙ sym (at_drop_more (λ rest. seen ++ counted_loads world rest) rows i row within)
+pub looked_more : (world : World) (counted_list : List CountedLoad) (rows : List Row) (i : ℕ) (row : Row) (all : List CountedLoad) → i < length rows → row ≡ get_or rows i row
+    → counted_list ++ counted_loads world (drop i rows) ≡ all → with_counted_load world counted_list row.0 row.1 ++ counted_loads world (drop (i + 1) rows) ≡ all
+looked_more world counted_list rows i row all within at is =
+    look_more world counted_list row.0 row.1 (drop (i + 1) rows)
+    ∙ ap (λ (r : Row). counted_list ++ counted_loads world (r ∷ drop (i + 1) rows)) at
+    ∙ sym (at_drop_more (λ rest. counted_list ++ counted_loads world rest) rows i row within)
     ∙ is
 
-pub looked_at_all : (world : World) (seen all : List CountedLoad) (rows : List Row) (i : ℕ) → length rows ≤ i → seen ++ counted_loads world (drop i rows) ≡ all → seen ≡ all
+pub looked_at_all : (world : World) (counted_list all : List CountedLoad) (rows : List Row) (i : ℕ) → length rows ≤ i → counted_list ++ counted_loads world (drop i rows) ≡ all → counted_list ≡ all
 unfolding counted_loads
-looked_at_all world seen all rows i past is = sym (append-nil seen) ∙ sym (at_drop_all (λ rest. seen ++ counted_loads world rest) rows i past) ∙ is
+looked_at_all world counted_list all rows i past is = sym (append-nil counted_list) ∙ sym (at_drop_all (λ rest. counted_list ++ counted_loads world rest) rows i past) ∙ is
 
 -- ---- one load more is counted
 one_more : (b : Bool) (n : ℕ) → cond b (n + 1) n ≡ n + cond b 1 0
 one_more true n = refl
 one_more false n = omega arith
 
-pub counted_more : (seen : List CountedLoad) (i : ℕ) (one : CountedLoad) (station : List ℕ) → i < length seen → one ≡ get_or seen i one → counted_up one (seen_at (take i seen) station) station ≡ seen_at (take (i + 1) seen) station
-counted_more seen i one station within at =
-    elim (is_found_at station one) as (λ b. is_found_at station one ≡ b → cond b (seen_at (take i seen) station + 1) (seen_at (take i seen) station) ≡ seen_at (take (i + 1) seen) station) [
-      | true ↦ λ e. sym (count_by_more_yes (is_found_at station) seen i one within (ap (is_found_at station) (sym at) ∙ e))
-      | false ↦ λ e. sym (count_by_more_no (is_found_at station) seen i one within (ap (is_found_at station) (sym at) ∙ e))
+pub counted_more : (counted_list : List CountedLoad) (i : ℕ) (one : CountedLoad) (station : List ℕ) → i < length counted_list → one ≡ get_or counted_list i one → counted_up one (count_at (take i counted_list) station) station ≡ count_at (take (i + 1) counted_list) station
+counted_more counted_list i one station within at =
+    elim (is_found_at station one) as (λ b. is_found_at station one ≡ b → cond b (count_at (take i counted_list) station + 1) (count_at (take i counted_list) station) ≡ count_at (take (i + 1) counted_list) station) [
+      | true ↦ λ e. sym (count_by_more_yes (is_found_at station) counted_list i one within (ap (is_found_at station) (sym at) ∙ e))
+      | false ↦ λ e. sym (count_by_more_no (is_found_at station) counted_list i one within (ap (is_found_at station) (sym at) ∙ e))
     ] refl
 
-pub counted_few : (seen : List CountedLoad) (i : ℕ) (station : List ℕ) → i < length seen → seen_at (take i seen) station ≤ i
-counted_few seen i station within = omega (arith, count_by-le-length (is_found_at station) (take i seen), length-take i seen)
+pub counted_few : (counted_list : List CountedLoad) (i : ℕ) (station : List ℕ) → i < length counted_list → count_at (take i counted_list) station ≤ i
+counted_few counted_list i station within = omega (arith, count_by-le-length (is_found_at station) (take i counted_list), length-take i counted_list)
 
 abbrev pub Counts : Type 0
 Counts = map.FinMap name_cmp ℕ
