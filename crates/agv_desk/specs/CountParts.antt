@@ -12,8 +12,8 @@ use Rattle.agv_stock.specs.declared.place.Place.TheVariants as place
 use Rattle.agv_world.specs.Questions.{loads_at, reserved, count_of}
 use Rattle.agv_world.specs.Worlds.{World}
 use Rattle.agv_world.specs.declared.floor.Counted.TheVariants as counted
-use Rattle.agv_desk.specs.LoadAndJobSteps.{most, reference_key, is_in_job}
 use Rattle.agv_desk.specs.Outcomes.{Outcome, Effect, Made, refuse_unless, answer_only}
+use Rattle.agv_desk.specs.Shared.{most, reference_key, is_in_job}
 use Rattle.agv_desk.specs.StocktakeSteps.{Row, are_known, count_move, has_twice, is_on_vehicle, is_counted, is_here, new_place}
 use Rattle.agv_desk.specs.declared.answer.Answer.TheVariants as answer
 use Rattle.agv_desk.specs.declared.stocktake.counted_load.CountedLoad.{CountedLoad}

@@ -1,8 +1,11 @@
 pub mod Sizes
 pub mod Outcomes
 pub mod LayoutSteps
-pub mod LoadAndJobSteps
+pub mod Shared
+pub mod LoadSteps
+pub mod JobSteps
 pub mod ActSteps
+pub mod InstantSteps
 pub mod VehicleSteps
 pub mod OrderSteps
 pub mod StateSteps

@@ -27,9 +27,9 @@ use Rattle.agv_world.specs.declared.floor.Counted.TheVariants as counted
 use Rattle.agv_world.specs.declared.key.UseKind.TheVariants as used
 use Rattle.agv_world.specs.declared.row.JobRow.{JobRow}
 use Rattle.agv_world.specs.declared.row.VehicleRow.{VehicleRow}
-use Rattle.agv_desk.specs.LoadAndJobSteps.{most, is_waiting}
+use Rattle.agv_desk.specs.JobSteps.{is_waiting}
 use Rattle.agv_desk.specs.Outcomes.{Effect, Outcome, Refused, Made, Whole, refuse_unless, refuse_if_none, answer_only}
-use Rattle.agv_desk.specs.VehicleSteps.{if_free, next_sent}
+use Rattle.agv_desk.specs.Shared.{most, if_free, next_sent}
 use Rattle.agv_desk.specs.declared.answer.Answer.TheVariants as answer
 
 -- ---- words

@@ -1,14 +1,16 @@
 -- The table of calls: what each does, and what it is answered.
 use Rattle.std.specs.Prelude.{ℕ, List, [], ◌∷◌, ◌++◌}
 use Rattle.agv_world.specs.Worlds.{World}
+use Rattle.agv_desk.specs.InstantSteps.{cancel, pause, resume}
+use Rattle.agv_desk.specs.JobSteps.{add_job, stop_job}
 use Rattle.agv_desk.specs.LayoutSteps.{set_layout}
-use Rattle.agv_desk.specs.LoadAndJobSteps.{register_load, correct_load, leave_load, add_job, stop_job}
+use Rattle.agv_desk.specs.LoadSteps.{register_load, correct_load, leave_load}
 use Rattle.agv_desk.specs.OrderSteps.{start_order, advance}
 use Rattle.agv_desk.specs.Outcomes.{Outcome, Made, Move, answer_only, after, answer_of, moves_of}
 use Rattle.agv_desk.specs.ReadSteps.{get_order, get_instant, get_load, get_vehicle}
 use Rattle.agv_desk.specs.StateSteps.{take_state}
 use Rattle.agv_desk.specs.StocktakeSteps.{take_stock}
-use Rattle.agv_desk.specs.VehicleSteps.{register_vehicle, cancel, pause, resume, place_vehicle, resync}
+use Rattle.agv_desk.specs.VehicleSteps.{register_vehicle, place_vehicle, resync}
 use Rattle.agv_desk.specs.declared.answer.Answer.{Answer}
 use Rattle.agv_desk.specs.declared.answer.Answer.TheVariants as answer
 use Rattle.agv_desk.specs.declared.call.Call.{Call}

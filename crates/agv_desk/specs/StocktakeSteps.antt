@@ -11,8 +11,8 @@ use Rattle.agv_stock.specs.declared.place.Place.TheVariants as place
 use Rattle.agv_world.specs.Questions.{reserved, count_of}
 use Rattle.agv_world.specs.Worlds.{World}
 use Rattle.agv_world.specs.declared.floor.Counted.TheVariants as counted
-use Rattle.agv_desk.specs.LoadAndJobSteps.{most, is_new, reference_key, is_in_job, move_to}
 use Rattle.agv_desk.specs.Outcomes.{Outcome, Made, Move, Recorded, refuse_unless, answer_only}
+use Rattle.agv_desk.specs.Shared.{most, is_new, reference_key, is_in_job, move_to}
 use Rattle.agv_desk.specs.declared.answer.Answer.TheVariants as answer
 
 -- a row: a station that was counted, and a load that was found there, if one was

@@ -1,38 +1,23 @@
--- The calls of a vehicle that move no load: it is registered, told to pause, to go on or to cancel, placed, or begins anew (VDA 5050 2.0, instantActions; this project's profile).
-use Rattle.std.specs.Prelude.{ℕ, ◌+◌, ◌&&◌, nat_lt, nat_le, false, is_none, if◌then◌else◌, List, [], ◌∷◌, Option, None, Some}
+-- The calls of a vehicle that move no load: it is registered, placed by a person, or begins anew (this project's profile).
+use Rattle.std.specs.Prelude.{ℕ, ◌&&◌, nat_lt, nat_le, false, is_none, List, [], ◌∷◌, Option, None, Some}
 use Rattle.std.specs.FinSet as set
-use Rattle.agv_header.specs.declared.key.Thing.{Thing}
 use Rattle.agv_header.specs.declared.key.Thing.TheVariants as thing
 use Rattle.agv_header.specs.declared.key.VehicleKey.{VehicleKey}
 use Rattle.agv_header.specs.declared.refusal.Refusal.TheVariants as refusal
-use Rattle.agv_message.specs.declared.instant.InstantKind.{InstantKind}
-use Rattle.agv_message.specs.declared.instant.InstantKind.TheVariants as instant
 use Rattle.agv_order.specs.declared.trip.Trip.{Trip}
-use Rattle.agv_track.specs.Holds.{first_held}
 use Rattle.agv_world.specs.Questions.{row_of, trip_of, count_of}
-use Rattle.agv_world.specs.Rows.{rows_of}
 use Rattle.agv_world.specs.Worlds.{Vehicle, World}
 use Rattle.agv_world.specs.declared.floor.Counted.TheVariants as counted
 use Rattle.agv_world.specs.declared.row.Sent.{Sent}
 use Rattle.agv_world.specs.declared.row.VehicleRow.{VehicleRow}
 use Rattle.agv_desk.specs.ActSteps.{jobs_stopped}
-use Rattle.agv_desk.specs.LoadAndJobSteps.{most, is_new, reference_key}
-use Rattle.agv_desk.specs.Outcomes.{Outcome, Effect, Made, RowOnly, Whole, refuse_unless, refuse_if_none, unheld, answer_only}
+use Rattle.agv_desk.specs.Outcomes.{Outcome, Effect, Made, RowOnly, Whole, refuse_unless, refuse_if_none, answer_only}
+use Rattle.agv_desk.specs.Shared.{most, is_new, reference_key, if_free}
 use Rattle.agv_desk.specs.declared.answer.Answer.TheVariants as answer
-
--- ---- words
-
--- go on where no other vehicle holds any of the things
-abbrev pub if_free : World → VehicleKey → List Thing → Outcome → Outcome
-if_free world key things rest = unheld (first_held (rows_of world).holds key things) rest
 
 -- no message of the topic was sent
 abbrev pub none_sent : Sent
 none_sent = record { count = 0; at = 0 }
-
--- the number of the next message of the topic; none after 4294967295
-abbrev pub next_sent : Sent → Option ℕ
-next_sent sent = if nat_lt sent.count 4294967295 then Some (sent.count + 1) else None
 
 -- a vehicle that was not heard of yet
 abbrev pub new_vehicle : ℕ → List ℕ → Vehicle
@@ -52,8 +37,6 @@ new_vehicle capacity node = record {
   trip = None;
 }
 
--- ---- the calls
-
 -- the vehicle is registered, and not heard of yet
 abbrev pub registered : VehicleKey → List ℕ → ℕ → Effect
 registered key node capacity = record (answer_only answer.Done) { touched = Whole key None (new_vehicle capacity node) }
@@ -66,32 +49,6 @@ register_vehicle seats world key node capacity =
     (if_free world key (thing.Node node ∷ [])
     (refuse_unless (nat_lt (count_of world counted.Vehicles) 100 && (nat_lt 0 capacity && nat_le capacity seats)) refusal.Limit
     (Made (registered key node capacity)))))
-
--- an instant action for the vehicle: InstantPending where any is pending, Spent
-abbrev pub instruct : ℕ → VehicleKey → VehicleRow → InstantKind → Outcome
-instruct at key row kind =
-    refuse_unless (is_none row.pending) refusal.InstantPending
-    (refuse_if_none (next_sent row.instants) refusal.Spent (λ number.
-    Made (record (answer_only (answer.Instructed number)) { touched = RowOnly key row (record row { instants = record { count = number; at = at }; pending = Some kind }) })))
-
--- POST .../cancel: NoVehicle, NoOrder where no trip is open, InstantPending, Spent
-abbrev pub cancel : World → ℕ → VehicleKey → Outcome
-cancel world at key =
-    refuse_if_none (row_of world key) refusal.NoVehicle (λ row.
-    refuse_if_none (trip_of world key) refusal.NoOrder (λ trip.
-    instruct at key row instant.CancelOrder))
-
--- POST .../pause: NoVehicle, InstantPending, Spent
-abbrev pub pause : World → ℕ → VehicleKey → Outcome
-pause world at key =
-    refuse_if_none (row_of world key) refusal.NoVehicle (λ row.
-    instruct at key row instant.StartPause)
-
--- POST .../resume: NoVehicle, InstantPending, Spent
-abbrev pub resume : World → ℕ → VehicleKey → Outcome
-resume world at key =
-    refuse_if_none (row_of world key) refusal.NoVehicle (λ row.
-    instruct at key row instant.StopPause)
 
 -- where a person has put the vehicle: no trip, no rest, and nothing pending
 abbrev pub placed : VehicleRow → List ℕ → Vehicle

@@ -1,8 +1,9 @@
 //! The calls that give a vehicle an instant action: it is told to cancel, to pause or to go on.
 ghost use Rattle.std.specs.Prelude.{◌≡◌, IfOk, Some};
 ghost use Rattle.agv_world.specs.Asks.{Asks};
+ghost use Rattle.agv_desk.specs.InstantSteps.{cancel, instruct, pause, resume};
 ghost use Rattle.agv_desk.specs.Outcomes.{decided};
-ghost use Rattle.agv_desk.specs.VehicleSteps.{cancel, instruct, next_sent, pause, resume};
+ghost use Rattle.agv_desk.specs.Shared.{next_sent};
 
 use crate::decisions::{refused, row_update};
 use crate::{Answer, Decision};

@@ -2,11 +2,11 @@
 ghost use Rattle.std.specs.Prelude.{◌≡◌, IfOk, Some, is_some};
 ghost use Rattle.agv_stock.specs.Checks.{is_stored};
 ghost use Rattle.agv_world.specs.Asks.{Asks};
-ghost use Rattle.agv_desk.specs.LoadAndJobSteps.{station_in, is_waiting, add_job, job_written, stop_job};
+ghost use Rattle.agv_desk.specs.JobSteps.{station_in, is_waiting, add_job, job_written, stop_job};
 ghost use Rattle.agv_desk.specs.Outcomes.{Made, decided};
 
 use crate::decisions::{accepted_with, refused};
-use crate::loads::{goal_at, is_in_job, is_known};
+use crate::shared::{goal_at, is_in_job, is_known};
 use crate::{Answer, Decision};
 use agv_header::limits::MAX_RECORDS;
 use agv_header::{Memory, Name, Refusal};

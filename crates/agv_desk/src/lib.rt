@@ -3,7 +3,8 @@
 //! - A [`Call`] is what the desk is asked. The table of calls is a definition (`specs/Step.antt`, with a file
 //!   beside it for each family of calls): a world, a moment and a call give an outcome, a refusal or an effect.
 //! - [`decide`] asks a floor what it needs to know, and gives a [`Decision`]: the [`Answer`] of that table, and the
-//!   rows that change. Each call is one private function, in a file for its family; `decide_call` has them all.
+//!   rows that change. Each call is one private function, in a file for its family; `decide_call` has
+//!   them all, and `shared` what several of them need.
 //! - [`moves_of`] tells which loads a decision moves, and where to, in their order.
 //! - [`counted_by`] tells to which count a call has added one; the counts follow it ([`laws::counts`]).
 //! - [`laws::calls`] says that the rows which change take the rows of the world to those of the world after the call.
@@ -27,6 +28,7 @@ mod moves;
 mod order_jobs;
 mod orders;
 mod reads;
+mod shared;
 mod sizes;
 mod states;
 mod stocktake;

@@ -1,31 +1,19 @@
 //! The calls of loads.
-ghost use Rattle.std.specs.Prelude.{◌≡◌, ◌≢◌, IfOk};
-ghost use Rattle.agv_stock.specs.Checks.{is_known};
+ghost use Rattle.std.specs.Prelude.{◌≡◌, IfOk};
 ghost use Rattle.agv_stock.specs.Rooms.{has_left};
-ghost use Rattle.agv_stock.specs.declared.goal.Goal.TheVariants as goals;
 ghost use Rattle.agv_world.specs.Asks.{Asks};
-ghost use Rattle.agv_world.specs.declared.change.Change.TheVariants as row;
-ghost use Rattle.agv_desk.specs.LoadAndJobSteps.{goal_at, goal_of, is_in_job, is_new, place_of, reference_key, register_load, correct_load, leave_load, recorded, registered};
+ghost use Rattle.agv_desk.specs.LoadSteps.{place_of, register_load, correct_load, leave_load, recorded, registered};
 ghost use Rattle.agv_desk.specs.Outcomes.{Made, decided};
+ghost use Rattle.agv_desk.specs.Shared.{goal_of};
 
 use crate::decisions::{accepted_with, refused};
+use crate::shared::{goal_at, is_in_job, is_known, is_new, reference_used};
 use crate::{Answer, Decision};
 use agv_header::limits::MAX_RECORDS;
 use agv_header::{Memory, Name, Refusal};
 use agv_stock::{Goal, Place, can_correct, can_leave, can_register};
-use agv_world::{Change, Counted, Fault, Floor, UseKey, UseKind};
+use agv_world::{Change, Counted, Fault, Floor};
 use std::alloc::Global;
-
-// A station as a goal, with its room, or as one that is unknown.
-pub(crate) fn goal_at(station: Name, room: Option<u32>) -> Goal
-    ensures is { result ≡ goal_at station room }
-    ensures stored { result ≢ goals.Checking }
-{
-    match room {
-        Some(room) => Goal::At(station, room),
-        None => Goal::Unknown,
-    }
-}
 
 // Where a load is to go, with what is known of the place.
 fn goal_of<F: Floor>(floor: &mut F, station: Option<Name>) -> Result<Goal, Fault>
@@ -35,16 +23,6 @@ fn goal_of<F: Floor>(floor: &mut F, station: Option<Name>) -> Result<Goal, Fault
         return Ok(Goal::Checking);
     };
     Ok(goal_at(station, floor.room(station)?))
-}
-
-// Whether it is not a station that is unknown.
-pub(crate) fn is_known(goal: Goal) -> bool
-    ensures { result ≡ is_known goal }
-{
-    match goal {
-        Goal::Checking | Goal::At(_, _) => true,
-        Goal::Unknown => false,
-    }
 }
 
 // Whether a load has left.
@@ -65,30 +43,6 @@ fn place_of(station: Option<Name>) -> Place
         Some(station) => Place::Station(station),
         None => Place::Checking,
     }
-}
-
-// Whether a reference was not used yet.
-pub(crate) fn is_new<F: Floor>(floor: &mut F, reference: Name) -> Result<bool, Fault>
-    ensures { Asks F.facts floor.old floor.new result (λ world new. new ≡ is_new world reference) }
-{
-    Ok(!floor.used(UseKind::Reference, reference)?)
-}
-
-// Whether a load is in a live job.
-pub(crate) fn is_in_job<F: Floor>(floor: &mut F, load: Name) -> Result<bool, Fault>
-    ensures { Asks F.facts floor.old floor.new result (λ world live. live ≡ is_in_job world load) }
-{
-    Ok(floor.job_of(load)?.is_some())
-}
-
-// One reference more.
-pub(crate) fn reference_used(reference: Name) -> Change
-    ensures { result ≡ row.Used (reference_key reference) }
-{
-    Change::Used(UseKey {
-        kind: UseKind::Reference,
-        name: reference,
-    })
 }
 
 // A load is registered there.

@@ -14,7 +14,7 @@ ghost use Rattle.agv_desk.specs.StateSteps.{driven, fresh_state, heard, idle_sta
 
 use crate::acts::{move_loads, write_jobs};
 use crate::decisions::{accepted_with, refused, row_update};
-use crate::orders::standing;
+use crate::shared::standing;
 use crate::sizes::is_of_size;
 use crate::vehicle_rows::write_vehicle;
 use crate::{Answer, Decision};

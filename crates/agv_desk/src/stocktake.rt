@@ -4,8 +4,8 @@ ghost use Rattle.agv_stock.specs.declared.place.Place.{Place as PlaceOf};
 ghost use Rattle.agv_world.specs.Asks.{Asks};
 ghost use Rattle.agv_world.specs.declared.change.Change.TheVariants as row;
 ghost use Rattle.agv_desk.specs.CountParts.{count_by_parts, counted_effect, found_in, counted_loads, stations_in};
-ghost use Rattle.agv_desk.specs.LoadAndJobSteps.{reference_key};
 ghost use Rattle.agv_desk.specs.Outcomes.{Made, decided};
+ghost use Rattle.agv_desk.specs.Shared.{reference_key};
 ghost use Rattle.agv_desk.specs.StocktakeSteps.{are_known, count_loads, take_stock};
 
 mod counted_load;

@@ -9,7 +9,7 @@ ghost use Rattle.agv_desk.specs.Sizes.{IsOfSize, IsShort};
 
 use crate::decisions::{accepted_with, refused};
 use crate::holds::first_held;
-use crate::orders::{Addressee, is_cancelling, is_unready, sent_row, standing};
+use crate::shared::{Addressee, is_cancelling, is_unready, sent_row, standing};
 use crate::sizes::is_of_size;
 use crate::vehicle_rows::write_vehicle;
 use crate::{Answer, Decision};

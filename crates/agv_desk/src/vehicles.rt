@@ -9,8 +9,7 @@ ghost use Rattle.agv_desk.specs.VehicleSteps.{new_vehicle, none_sent, place_vehi
 use crate::acts::stop_jobs;
 use crate::decisions::{accepted_with, refused, row_update};
 use crate::holds::first_held;
-use crate::loads::{is_new, reference_used};
-use crate::orders::standing;
+use crate::shared::{is_new, reference_used, standing};
 use crate::sizes::is_of_size;
 use crate::vehicle_rows::write_vehicle;
 use crate::{Answer, Decision};

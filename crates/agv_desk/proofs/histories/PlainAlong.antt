@@ -13,12 +13,15 @@ use Rattle.agv_world.specs.Worlds.{Vehicle, World}
 use Rattle.agv_world.specs.declared.row.Sent.{Sent}
 use Rattle.agv_world.specs.declared.row.VehicleRow.{VehicleRow}
 use Rattle.agv_desk.specs.Histories.{times}
+use Rattle.agv_desk.specs.InstantSteps.{instruct, cancel, pause, resume}
+use Rattle.agv_desk.specs.JobSteps.{add_job, stop_job}
 use Rattle.agv_desk.specs.LayoutSteps.{if_given, set_layout}
-use Rattle.agv_desk.specs.LoadAndJobSteps.{register_load, correct_load, leave_load, add_job, stop_job}
+use Rattle.agv_desk.specs.LoadSteps.{register_load, correct_load, leave_load}
 use Rattle.agv_desk.specs.Outcomes.{Effect, Outcome, Nothing, RowOnly, Whole}
 use Rattle.agv_desk.specs.ReadSteps.{get_order, get_instant, get_load, get_vehicle}
+use Rattle.agv_desk.specs.Shared.{next_sent}
 use Rattle.agv_desk.specs.StocktakeSteps.{Row, count_move, new_places, take_stock}
-use Rattle.agv_desk.specs.VehicleSteps.{next_sent, register_vehicle, instruct, cancel, pause, resume, place_vehicle, resync}
+use Rattle.agv_desk.specs.VehicleSteps.{register_vehicle, place_vehicle, resync}
 use Rattle.agv_desk.proofs.histories.GoingAlong.{ActsOnce, GoesAlong, RowGoesOn, RowsGoOn, TripGoesOn, TripsGoOn}
 use Rattle.agv_desk.proofs.outcomes.Known.{none_some, same_some}
 use Rattle.agv_desk.proofs.outcomes.Ladders.{IfMade, made_require, made_found, made_checked, made_unheld}

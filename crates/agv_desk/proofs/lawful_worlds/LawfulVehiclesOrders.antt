@@ -24,9 +24,9 @@ use Rattle.agv_world.specs.Worlds.{World}
 use Rattle.agv_world.specs.declared.floor.Counted.TheVariants as counted
 use Rattle.agv_world.specs.declared.key.UseKind.TheVariants as used
 use Rattle.agv_world.specs.declared.row.VehicleRow.{VehicleRow}
-use Rattle.agv_desk.specs.LoadAndJobSteps.{most}
 use Rattle.agv_desk.specs.OrderSteps.{is_confirmed, can_release, sent_on, send_trip, send_order, take_order, start_order, send_update, advance}
 use Rattle.agv_desk.specs.Outcomes.{Effect}
+use Rattle.agv_desk.specs.Shared.{most}
 use Rattle.agv_desk.specs.WellTyped.{IsMoment, IsSeats}
 use Rattle.agv_desk.proofs.row_changes.Given.{Given}
 use Rattle.agv_desk.proofs.outcomes.Keeping.{KeepsVehicles}

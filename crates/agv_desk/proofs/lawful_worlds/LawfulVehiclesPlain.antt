@@ -17,13 +17,16 @@ use Rattle.agv_world.specs.VehicleChanges.{StandsAsBefore, with_vehicle}
 use Rattle.agv_world.specs.Worlds.{World}
 use Rattle.agv_world.specs.declared.floor.Counted.TheVariants as counted
 use Rattle.agv_world.specs.declared.row.VehicleRow.{VehicleRow}
+use Rattle.agv_desk.specs.InstantSteps.{instruct, cancel, pause, resume}
+use Rattle.agv_desk.specs.JobSteps.{add_job, stop_job}
 use Rattle.agv_desk.specs.LayoutSteps.{set_layout}
-use Rattle.agv_desk.specs.LoadAndJobSteps.{most, register_load, correct_load, leave_load, add_job, stop_job}
+use Rattle.agv_desk.specs.LoadSteps.{register_load, correct_load, leave_load}
 use Rattle.agv_desk.specs.Outcomes.{Effect}
 use Rattle.agv_desk.specs.ReadSteps.{get_order, get_instant, get_load, get_vehicle}
+use Rattle.agv_desk.specs.Shared.{most}
 use Rattle.agv_desk.specs.StateSteps.{idle_state}
 use Rattle.agv_desk.specs.StocktakeSteps.{Row, take_stock}
-use Rattle.agv_desk.specs.VehicleSteps.{new_vehicle, placed, register_vehicle, instruct, cancel, pause, resume, place_vehicle, resync}
+use Rattle.agv_desk.specs.VehicleSteps.{new_vehicle, placed, register_vehicle, place_vehicle, resync}
 use Rattle.agv_desk.specs.WellTyped.{IsMoment}
 use Rattle.agv_desk.proofs.row_changes.Given.{Given}
 use Rattle.agv_desk.proofs.outcomes.Keeping.{KeepsVehicles}

@@ -11,8 +11,9 @@ use Rattle.agv_world.specs.Lawful.{IsRestAt, IsSent, IsTripOf, IsVehicleOf, pick
 use Rattle.agv_world.specs.declared.row.Sent.{Sent}
 use Rattle.agv_world.specs.declared.row.VehicleRow.{VehicleRow}
 use Rattle.agv_desk.specs.OrderSteps.{sent_on}
+use Rattle.agv_desk.specs.Shared.{next_sent}
 use Rattle.agv_desk.specs.StateSteps.{heard}
-use Rattle.agv_desk.specs.VehicleSteps.{new_vehicle, next_sent, placed}
+use Rattle.agv_desk.specs.VehicleSteps.{new_vehicle, placed}
 use Rattle.agv_desk.specs.WellTyped.{IsMoment}
 use Rattle.agv_desk.proofs.outcomes.Known.{none_some, same_some}
 

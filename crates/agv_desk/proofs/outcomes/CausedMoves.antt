@@ -15,6 +15,7 @@ use Rattle.agv_world.specs.Worlds.{World}
 use Rattle.agv_world.specs.declared.row.VehicleRow.{VehicleRow}
 use Rattle.agv_desk.specs.Causes.{is_acted, is_recorded, is_refusal, moves_for}
 use Rattle.agv_desk.specs.ActSteps.{Renewed, becomes_finished, taken_to, act_move, act_moves}
+use Rattle.agv_desk.specs.InstantSteps.{instruct}
 use Rattle.agv_desk.specs.LayoutSteps.{if_given}
 use Rattle.agv_desk.specs.OrderSteps.{if_planned, start_order, advance}
 use Rattle.agv_desk.specs.Outcomes.{Acted, Effect, Made, Move, Outcome, Refused, after, answer_of, decided, moves_of}
@@ -22,7 +23,7 @@ use Rattle.agv_desk.specs.ReadSteps.{instant_told, order_told}
 use Rattle.agv_desk.specs.StateSteps.{idle_state, trip_state, fresh_state, take_state}
 use Rattle.agv_desk.specs.Step.{step}
 use Rattle.agv_desk.specs.StocktakeSteps.{count_move, new_places}
-use Rattle.agv_desk.specs.VehicleSteps.{register_vehicle, instruct, place_vehicle}
+use Rattle.agv_desk.specs.VehicleSteps.{register_vehicle, place_vehicle}
 use Rattle.agv_desk.specs.declared.call.Call.{Call}
 use Rattle.agv_desk.specs.declared.call.Call.TheVariants as call
 use Rattle.agv_desk.proofs.outcomes.Known.{none_some, same_some}

@@ -22,14 +22,17 @@ use Rattle.agv_world.specs.declared.row.VehicleRow.{VehicleRow}
 use Rattle.agv_world.proofs.lists.Orders.{names_total}
 use Rattle.agv_desk.specs.Causes.{is_refusal}
 use Rattle.agv_desk.specs.Counts.{added, adds_to, limit_of, one_more}
+use Rattle.agv_desk.specs.InstantSteps.{cancel, instruct, pause, resume}
+use Rattle.agv_desk.specs.JobSteps.{add_job, stop_job}
 use Rattle.agv_desk.specs.LayoutSteps.{set_layout}
-use Rattle.agv_desk.specs.LoadAndJobSteps.{add_job, correct_load, goal_of, is_in_job, is_new, leave_load, place_of, register_load, stop_job}
+use Rattle.agv_desk.specs.LoadSteps.{correct_load, leave_load, place_of, register_load}
 use Rattle.agv_desk.specs.OrderSteps.{advance, start_order}
 use Rattle.agv_desk.specs.Outcomes.{Effect, Made, RowOnly, Outcome, Refused, after, answer_of, answer_only, with_effect}
+use Rattle.agv_desk.specs.Shared.{goal_of, is_in_job, is_new}
 use Rattle.agv_desk.specs.StateSteps.{fresh_state, idle_state, take_state, trip_state}
 use Rattle.agv_desk.specs.Step.{step}
 use Rattle.agv_desk.specs.StocktakeSteps.{Row, take_stock}
-use Rattle.agv_desk.specs.VehicleSteps.{cancel, instruct, new_vehicle, pause, place_vehicle, register_vehicle, resume, resync}
+use Rattle.agv_desk.specs.VehicleSteps.{new_vehicle, place_vehicle, register_vehicle, resync}
 use Rattle.agv_desk.specs.declared.answer.Answer.{Answer}
 use Rattle.agv_desk.specs.declared.answer.Answer.TheVariants as answer
 use Rattle.agv_desk.specs.declared.call.Call.{Call}

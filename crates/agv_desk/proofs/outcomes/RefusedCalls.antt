@@ -28,16 +28,17 @@ use Rattle.agv_track.specs.Judgements.{act_refusals, first_of, judged, unless, w
 use Rattle.agv_track.specs.declared.pending.Pending.{Pending}
 use Rattle.agv_world.specs.Worlds.{World}
 use Rattle.agv_world.specs.declared.row.VehicleRow.{VehicleRow}
+use Rattle.agv_desk.specs.InstantSteps.{instruct}
 use Rattle.agv_desk.specs.LayoutSteps.{if_given, lay}
-use Rattle.agv_desk.specs.LoadAndJobSteps.{goal_of, is_in_job}
 use Rattle.agv_desk.specs.OrderSteps.{advance, if_planned, send_trip, start_order}
 use Rattle.agv_desk.specs.Outcomes.{Effect, Made, Outcome, answer_of, branch, checked, refuse_if_none, refuse_unless, answer_only, unheld}
 use Rattle.agv_desk.specs.ReadSteps.{instant_told, order_told}
 use Rattle.agv_desk.specs.Refusals.{IsOfCall}
+use Rattle.agv_desk.specs.Shared.{goal_of, is_in_job}
 use Rattle.agv_desk.specs.StateSteps.{fresh_state, idle_state, if_judged, take_state, trip_state}
 use Rattle.agv_desk.specs.Step.{step}
 use Rattle.agv_desk.specs.StocktakeSteps.{Row, take_stock}
-use Rattle.agv_desk.specs.VehicleSteps.{instruct, place_vehicle, register_vehicle}
+use Rattle.agv_desk.specs.VehicleSteps.{place_vehicle, register_vehicle}
 use Rattle.agv_desk.specs.declared.answer.Answer.{Answer}
 use Rattle.agv_desk.specs.declared.answer.Answer.TheVariants as answer
 use Rattle.agv_desk.specs.declared.call.Call.{Call}

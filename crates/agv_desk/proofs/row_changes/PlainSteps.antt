@@ -10,12 +10,14 @@ use Rattle.agv_world.specs.VehicleChanges.{GoesOn}
 use Rattle.agv_world.specs.Worlds.{World}
 use Rattle.agv_world.specs.declared.row.VehicleRow.{VehicleRow}
 use Rattle.agv_desk.specs.InOrder.{IsInOrder}
-use Rattle.agv_desk.specs.LoadAndJobSteps.{register_load, correct_load, leave_load, add_job, stop_job}
+use Rattle.agv_desk.specs.InstantSteps.{instruct, cancel, pause, resume}
+use Rattle.agv_desk.specs.JobSteps.{add_job, stop_job}
+use Rattle.agv_desk.specs.LoadSteps.{register_load, correct_load, leave_load}
 use Rattle.agv_desk.specs.Outcomes.{Effect}
 use Rattle.agv_desk.specs.ReadSteps.{get_order, get_instant, get_load, get_vehicle}
 use Rattle.agv_desk.specs.StateSteps.{idle_state}
 use Rattle.agv_desk.specs.StocktakeSteps.{Row, take_stock}
-use Rattle.agv_desk.specs.VehicleSteps.{new_vehicle, placed, register_vehicle, instruct, cancel, pause, resume, place_vehicle, resync}
+use Rattle.agv_desk.specs.VehicleSteps.{new_vehicle, placed, register_vehicle, place_vehicle, resync}
 use Rattle.agv_desk.proofs.row_changes.Effects.{LeadsTo, lays_none, touches_none}
 use Rattle.agv_desk.proofs.row_changes.Given.{Given}
 use Rattle.agv_desk.proofs.outcomes.Known.{vehicle_with, known, unknown}

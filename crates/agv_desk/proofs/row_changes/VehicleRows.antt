@@ -11,8 +11,8 @@ use Rattle.agv_world.specs.declared.change.Change.TheVariants as row
 use Rattle.agv_world.specs.declared.row.JobRow.{JobRow}
 use Rattle.agv_world.specs.declared.row.VehicleRow.{VehicleRow}
 use Rattle.agv_desk.specs.ActSteps.{jobs_stopped}
-use Rattle.agv_desk.specs.LoadAndJobSteps.{reference_key}
 use Rattle.agv_desk.specs.Outcomes.{decided}
+use Rattle.agv_desk.specs.Shared.{reference_key}
 use Rattle.agv_desk.specs.VehicleSteps.{placed, put_down}
 use Rattle.agv_desk.specs.declared.answer.Answer.TheVariants as answer
 use Rattle.agv_desk.specs.declared.answer.Decision.{Decision}

@@ -22,7 +22,9 @@ use Rattle.agv_world.specs.Worlds.{World}
 use Rattle.agv_world.specs.declared.row.JobRow.{JobRow}
 use Rattle.agv_world.proofs.lists.Entries.{same_Some}
 use Rattle.agv_world.proofs.lists.Orders.{names_total}
-use Rattle.agv_desk.specs.LoadAndJobSteps.{goal_at, goal_of, is_in_job, place_of, station_in}
+use Rattle.agv_desk.specs.JobSteps.{station_in}
+use Rattle.agv_desk.specs.LoadSteps.{place_of}
+use Rattle.agv_desk.specs.Shared.{goal_at, goal_of, is_in_job}
 use Rattle.agv_desk.proofs.stock.StockInvariantChanges.{IsFree}
 use Rattle.agv_desk.proofs.outcomes.Known.{none_some}
 use Rattle.agv_desk.proofs.lists.SameNames.{same_name, name_itself}

@@ -20,8 +20,8 @@ use Rattle.agv_world.specs.Worlds.{World}
 use Rattle.agv_world.specs.declared.row.JobRow.{JobRow}
 use Rattle.agv_world.proofs.lists.Entries.{entries_found, same_Some}
 use Rattle.agv_world.proofs.lists.Orders.{names_total, names_apart}
-use Rattle.agv_desk.specs.LoadAndJobSteps.{is_in_job}
 use Rattle.agv_desk.specs.Outcomes.{Effect, Move, moved}
+use Rattle.agv_desk.specs.Shared.{is_in_job}
 use Rattle.agv_desk.specs.StocktakeSteps.{Row, count_move, count_moves, some_on_vehicle, fits, found_at, found_here, has_load, is_counted, new_entry, new_place, recounted, take_stock}
 use Rattle.agv_desk.proofs.stock.StockInvariantChanges.{IsFree}
 use Rattle.agv_desk.proofs.stocktakes.CountedRoom.{counted_few}

@@ -19,8 +19,10 @@ use Rattle.agv_world.specs.declared.floor.Counted.TheVariants as counted
 use Rattle.agv_world.specs.declared.row.JobRow.{JobRow}
 use Rattle.agv_world.proofs.lists.Entries.{same_Some}
 use Rattle.agv_world.proofs.lists.Orders.{names_total, names_apart}
-use Rattle.agv_desk.specs.LoadAndJobSteps.{add_job, correct_load, is_waiting, leave_load, most, place_of, register_load, stop_job}
+use Rattle.agv_desk.specs.JobSteps.{add_job, is_waiting, stop_job}
+use Rattle.agv_desk.specs.LoadSteps.{correct_load, leave_load, place_of, register_load}
 use Rattle.agv_desk.specs.Outcomes.{Effect}
+use Rattle.agv_desk.specs.Shared.{most}
 use Rattle.agv_desk.proofs.stock.StockInvariantChanges.{job_kept, place_kept}
 use Rattle.agv_desk.proofs.outcomes.Keeping.{KeepsStock}
 use Rattle.agv_desk.proofs.outcomes.Known.{none_some}

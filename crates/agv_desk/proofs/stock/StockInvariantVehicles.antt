@@ -23,12 +23,13 @@ use Rattle.agv_world.specs.Worlds.{Vehicle, World, empty_layout}
 use Rattle.agv_world.specs.declared.row.JobRow.{JobRow}
 use Rattle.agv_world.specs.declared.row.VehicleRow.{VehicleRow}
 use Rattle.agv_world.proofs.lists.Orders.{names_total}
+use Rattle.agv_desk.specs.InstantSteps.{cancel, instruct, pause, resume}
 use Rattle.agv_desk.specs.LayoutSteps.{set_layout}
 use Rattle.agv_desk.specs.OrderSteps.{advance, send_update, sent_on, trip_for}
 use Rattle.agv_desk.specs.Outcomes.{Effect, answer_only}
 use Rattle.agv_desk.specs.ReadSteps.{get_instant, get_load, get_order, get_vehicle}
 use Rattle.agv_desk.specs.StateSteps.{heard, idle_state}
-use Rattle.agv_desk.specs.VehicleSteps.{cancel, instruct, new_vehicle, pause, register_vehicle, resume, resync}
+use Rattle.agv_desk.specs.VehicleSteps.{new_vehicle, register_vehicle, resync}
 use Rattle.agv_desk.specs.declared.answer.Answer.{Answer}
 use Rattle.agv_desk.proofs.stock.StockInvariantChanges.{action_views_told, vehicle_kept}
 use Rattle.agv_desk.proofs.row_changes.Given.{GivesItself}

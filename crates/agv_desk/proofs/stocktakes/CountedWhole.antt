@@ -18,8 +18,8 @@ use Rattle.agv_world.specs.declared.floor.Counted.TheVariants as counted
 use Rattle.agv_world.proofs.lists.Entries.{entries_found}
 use Rattle.agv_world.proofs.lists.Orders.{names_total}
 use Rattle.agv_desk.specs.CountParts.{all_have_room, count_by_parts, found_in, has_room_for, is_found_at, moves_list, count_at, counted_loads, stations_in, unknown_one}
-use Rattle.agv_desk.specs.LoadAndJobSteps.{most, is_in_job, reference_key}
 use Rattle.agv_desk.specs.Outcomes.{Outcome, Made, Move, refuse_unless, answer_only}
+use Rattle.agv_desk.specs.Shared.{most, is_in_job, reference_key}
 use Rattle.agv_desk.specs.StocktakeSteps.{Row, are_known, count_loads, count_move, some_on_vehicle, finds_known, fits, found_here, is_on_vehicle, is_counted, is_here, new_places, unknown_in, unknown_on}
 use Rattle.agv_desk.specs.declared.answer.Answer.TheVariants as answer
 use Rattle.agv_desk.specs.declared.stocktake.counted_load.CountedLoad.{CountedLoad}

@@ -17,15 +17,17 @@ use Rattle.agv_world.specs.Questions.{row_of, trip_of}
 use Rattle.agv_world.specs.Worlds.{World}
 use Rattle.agv_world.specs.declared.row.VehicleRow.{VehicleRow}
 use Rattle.agv_desk.specs.ActedMoves.{FindsLoads}
+use Rattle.agv_desk.specs.InstantSteps.{cancel, instruct, pause, resume}
+use Rattle.agv_desk.specs.JobSteps.{add_job, stop_job}
 use Rattle.agv_desk.specs.LayoutSteps.{set_layout}
-use Rattle.agv_desk.specs.LoadAndJobSteps.{register_load, correct_load, leave_load, add_job, stop_job}
+use Rattle.agv_desk.specs.LoadSteps.{register_load, correct_load, leave_load}
 use Rattle.agv_desk.specs.OrderSteps.{advance, start_order}
 use Rattle.agv_desk.specs.Outcomes.{Acted, Cause, Effect, Move}
 use Rattle.agv_desk.specs.ReadSteps.{get_order, get_instant, get_load, get_vehicle}
 use Rattle.agv_desk.specs.StateSteps.{fresh_state, idle_state, pending_of, take_state, trip_state}
 use Rattle.agv_desk.specs.Step.{step}
 use Rattle.agv_desk.specs.StocktakeSteps.{Row, count_move, take_stock}
-use Rattle.agv_desk.specs.VehicleSteps.{cancel, instruct, pause, place_vehicle, register_vehicle, resume, resync}
+use Rattle.agv_desk.specs.VehicleSteps.{place_vehicle, register_vehicle, resync}
 use Rattle.agv_desk.specs.declared.call.Call.{Call}
 use Rattle.agv_desk.specs.declared.call.Call.TheVariants as call
 use Rattle.agv_desk.proofs.stock.StockInvariantOrders.{made_planned}

@@ -22,7 +22,7 @@ use Rattle.agv_world.specs.Lawful.{station_for}
 use Rattle.agv_world.specs.Worlds.{World}
 use Rattle.agv_world.specs.declared.row.JobRow.{JobRow}
 use Rattle.agv_desk.specs.ActSteps.{job_in}
-use Rattle.agv_desk.specs.LoadAndJobSteps.{is_waiting}
+use Rattle.agv_desk.specs.JobSteps.{is_waiting}
 use Rattle.agv_desk.specs.OrderSteps.{job_for, named, riding, riding_by, waits}
 use Rattle.agv_desk.proofs.trip_acts.ActionViews.{stop_by}
 use Rattle.agv_desk.proofs.outcomes.Known.{none_some, same_some}

@@ -4,7 +4,7 @@ ghost use Rattle.std.specs.FinMap as map;
 ghost use Rattle.std.specs.List.{list_any};
 ghost use Rattle.agv_world.specs.Asks.{Asks};
 ghost use Rattle.agv_desk.specs.CountParts.{moves_in, with_new_place, recorded, settled, standing, standing_at};
-ghost use Rattle.agv_desk.specs.LoadAndJobSteps.{is_in_job};
+ghost use Rattle.agv_desk.specs.Shared.{is_in_job};
 ghost use Rattle.agv_desk.specs.StocktakeSteps.{from_station, new_place};
 
 use crate::stocktake::counted_load::CountedLoad;

@@ -9,13 +9,14 @@ use Rattle.agv_order.specs.declared.stop.Stop.{Stop}
 use Rattle.agv_order.specs.declared.trip.Trip.{Trip}
 use Rattle.agv_world.specs.Worlds.{World}
 use Rattle.agv_world.specs.declared.row.VehicleRow.{VehicleRow}
+use Rattle.agv_desk.specs.InstantSteps.{instruct}
 use Rattle.agv_desk.specs.OrderSteps.{start_order, advance}
 use Rattle.agv_desk.specs.Outcomes.{answer_of}
 use Rattle.agv_desk.specs.StateSteps.{idle_state, trip_state, fresh_state, take_state}
 use Rattle.agv_desk.specs.Step.{step}
 use Rattle.agv_desk.specs.Unchanged.{only_tells}
 use Rattle.agv_desk.specs.StocktakeSteps.{Row, count_moves, take_stock, unknown_in}
-use Rattle.agv_desk.specs.VehicleSteps.{instruct, place_vehicle, register_vehicle}
+use Rattle.agv_desk.specs.VehicleSteps.{place_vehicle, register_vehicle}
 use Rattle.agv_desk.specs.declared.answer.Answer.{Answer}
 use Rattle.agv_desk.specs.declared.answer.Answer.TheVariants as answer
 use Rattle.agv_desk.specs.declared.call.Call.{Call}

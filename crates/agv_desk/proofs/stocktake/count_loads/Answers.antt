@@ -7,8 +7,8 @@ use Rattle.agv_world.specs.Questions.{count_of}
 use Rattle.agv_world.specs.Worlds.{World}
 use Rattle.agv_world.specs.declared.floor.Counted.TheVariants as counted
 use Rattle.agv_desk.specs.CountParts.{all_have_room, counted_effect, moves_list}
-use Rattle.agv_desk.specs.LoadAndJobSteps.{most, is_in_job}
 use Rattle.agv_desk.specs.Outcomes.{Made, decided}
+use Rattle.agv_desk.specs.Shared.{most, is_in_job}
 use Rattle.agv_desk.proofs.lists.AskedInTurn.{asked_next, says_so}
 use Rattle.agv_desk.proofs.stocktakes.CountedWhole.{passed}
 use Rattle.agv_desk.proofs.stocktake.count_loads.Goals as goal

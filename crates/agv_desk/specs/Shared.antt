@@ -1,0 +1,59 @@
+-- Words that the calls of several families share: names that are used once, counts and their limit, the goal of a load, what a vehicle may hold and the numbers of its messages (this project's profile).
+use Rattle.std.specs.Prelude.{ℕ, ◌+◌, nat_lt, not, Bool, is_some, if◌then◌else◌, List, Option, None, Some}
+use Rattle.agv_header.specs.declared.key.Thing.{Thing}
+use Rattle.agv_header.specs.declared.key.VehicleKey.{VehicleKey}
+use Rattle.agv_stock.specs.declared.goal.Goal.{Goal}
+use Rattle.agv_stock.specs.declared.goal.Goal.TheVariants as goal
+use Rattle.agv_stock.specs.declared.place.Place.{Place}
+use Rattle.agv_track.specs.Holds.{first_held}
+use Rattle.agv_world.specs.Questions.{room_at, job_of, is_used}
+use Rattle.agv_world.specs.Rows.{rows_of}
+use Rattle.agv_world.specs.Worlds.{World}
+use Rattle.agv_world.specs.declared.key.UseKey.{UseKey}
+use Rattle.agv_world.specs.declared.key.UseKind.TheVariants as used
+use Rattle.agv_world.specs.declared.row.Sent.{Sent}
+use Rattle.agv_desk.specs.Outcomes.{Outcome, Move, Cause, unheld}
+
+-- ---- names and counts
+
+-- the most loads, jobs, orders and references, those that are over counted
+abbrev pub most : ℕ
+most = 1000000
+
+-- the reference was not used yet
+abbrev pub is_new : World → List ℕ → Bool
+is_new world reference = not (is_used world used.Reference reference)
+
+-- one reference more
+abbrev pub reference_key : List ℕ → UseKey
+reference_key reference = record { kind = used.Reference; name = reference }
+
+-- ---- loads
+
+-- a station with so much room, or one that is unknown
+abbrev pub goal_at : List ℕ → Option ℕ → Goal
+goal_at station None = goal.Unknown
+goal_at station (Some room) = goal.At station room
+
+-- where the load is to go
+abbrev pub goal_of : World → Option (List ℕ) → Goal
+goal_of world None = goal.Checking
+goal_of world (Some station) = goal_at station (room_at world station)
+
+-- the load is in a live job
+abbrev pub is_in_job : World → List ℕ → Bool
+is_in_job world load = is_some (job_of world load)
+
+-- the load is at this place from now on
+abbrev pub move_to : List ℕ → Place → Cause → Move
+move_to load to why = record { load = load; place = to; cause = why }
+
+-- ---- vehicles
+
+-- go on where no other vehicle holds any of the things
+abbrev pub if_free : World → VehicleKey → List Thing → Outcome → Outcome
+if_free world key things rest = unheld (first_held (rows_of world).holds key things) rest
+
+-- the number of the next message of the topic; none after 4294967295
+abbrev pub next_sent : Sent → Option ℕ
+next_sent sent = if nat_lt sent.count 4294967295 then Some (sent.count + 1) else None

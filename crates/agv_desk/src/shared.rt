@@ -1,0 +1,104 @@
+//! What the calls of several families share: references, the goals of loads, and what a vehicle is sent and stands on.
+ghost use Rattle.std.specs.Prelude.{◌≡◌, ◌≢◌, not};
+ghost use Rattle.agv_stock.specs.Checks.{is_known};
+ghost use Rattle.agv_stock.specs.declared.goal.Goal.TheVariants as goals;
+ghost use Rattle.agv_world.specs.Asks.{Asks};
+ghost use Rattle.agv_world.specs.declared.change.Change.TheVariants as row;
+ghost use Rattle.agv_desk.specs.OrderSteps.{is_cancelling};
+ghost use Rattle.agv_desk.specs.Shared.{goal_at, is_in_job, is_new, reference_key};
+
+use agv_header::{Moment, Name, VehicleKey};
+use agv_message::InstantKind;
+use agv_order::Trip;
+use agv_stock::Goal;
+use agv_track::Standing;
+use agv_world::{Change, Fault, Floor, Sent, UseKey, UseKind, VehicleRow};
+
+/// Whether a reference was not used yet.
+pub(crate) fn is_new<F: Floor>(floor: &mut F, reference: Name) -> Result<bool, Fault>
+    ensures { Asks F.facts floor.old floor.new result (λ world new. new ≡ is_new world reference) }
+{
+    Ok(!floor.used(UseKind::Reference, reference)?)
+}
+
+/// One reference more.
+pub(crate) fn reference_used(reference: Name) -> Change
+    ensures { result ≡ row.Used (reference_key reference) }
+{
+    Change::Used(UseKey {
+        kind: UseKind::Reference,
+        name: reference,
+    })
+}
+
+/// A station as a goal, with its room, or as one that is unknown.
+pub(crate) fn goal_at(station: Name, room: Option<u32>) -> Goal
+    ensures is { result ≡ goal_at station room }
+    ensures stored { result ≢ goals.Checking }
+{
+    match room {
+        Some(room) => Goal::At(station, room),
+        None => Goal::Unknown,
+    }
+}
+
+/// Whether it is not a station that is unknown.
+pub(crate) fn is_known(goal: Goal) -> bool
+    ensures { result ≡ is_known goal }
+{
+    match goal {
+        Goal::Checking | Goal::At(_, _) => true,
+        Goal::Unknown => false,
+    }
+}
+
+/// Whether a load is in a live job.
+pub(crate) fn is_in_job<F: Floor>(floor: &mut F, load: Name) -> Result<bool, Fault>
+    ensures { Asks F.facts floor.old floor.new result (λ world live. live ≡ is_in_job world load) }
+{
+    Ok(floor.job_of(load)?.is_some())
+}
+
+/// A vehicle that is to get an order message, and the moment of the call that sends it.
+#[derive(Clone, Copy)]
+pub(crate) struct Addressee<'a> {
+    pub(crate) at: Moment,
+    pub(crate) key: &'a VehicleKey,
+    /// Its row before the call.
+    pub(crate) row: &'a VehicleRow,
+}
+
+/// Whether the desk is not in control of the vehicle, or the vehicle can't drive.
+pub(crate) fn is_unready(row: &VehicleRow) -> bool
+    ensures { result ≡ not row.now.ready }
+{
+    !row.ready
+}
+
+/// Whether a cancelOrder is pending.
+pub(crate) fn is_cancelling(pending: Option<InstantKind>) -> bool
+    ensures { result ≡ is_cancelling pending }
+{
+    matches!(pending, Some(InstantKind::CancelOrder))
+}
+
+/// The row of a vehicle that was sent this order message.
+pub(crate) fn sent_row(row: &VehicleRow, at: Moment, number: u32) -> VehicleRow
+    ensures { result ≡ record row.now { orders = record { count = number; at = at } } }
+{
+    VehicleRow {
+        orders: Sent { count: number, at },
+        ..*row
+    }
+}
+
+/// Where a vehicle stands that has this trip.
+pub(crate) fn standing(row: &VehicleRow, trip: Option<Trip>) -> Standing
+    ensures { result ≡ record { node = row.now.node; rest = row.now.rest; trip = trip } }
+{
+    Standing {
+        node: row.node,
+        rest: row.rest,
+        trip,
+    }
+}
