@@ -1,4 +1,4 @@
--- What a stocktake finds out on its way: the stations that were counted, where each load was found, what is known of the found loads, and where the loads go.
+-- What a stocktake finds out on its way: the stations that were counted, where each load was found, what is known of the found loads, and where the loads go. No public clause cites this.
 use Rattle.std.specs.Prelude.{◌≡◌, ℕ, ◌+◌, ◌&&◌, if◌then◌else◌, nat_eq, nat_le, nat_lt, not, length, Bool, true, false, count_by, List, [], ◌∷◌, ◌++◌, map, filter_map, flat_map, Option, None, Some}
 use Rattle.std.specs.Cmp.Lexicographic.{pointwise}
 use Rattle.std.specs.FinMap as finite

@@ -1,4 +1,5 @@
-//! The limits of the desk, in one place. What a limit is for, the contracts say in numbers.
+//! The limits of what the desk keeps. A contract gives its limit as a number, and its proof shows that the constant
+//! here is that number.
 
 /// The most nodes of a layout.
 pub const MAX_LAYOUT_NODES: usize = 500;

@@ -1,4 +1,4 @@
--- What is read of rows so far, as a layout's parts.
+-- What is read of rows so far, as a layout's parts. No public clause cites this.
 use Rattle.std.specs.Prelude.{◌≤◌, Bool, ◌&&◌, not, nat_eq, nat_le, is_some}
 use Rattle.std.specs.BTreeSet.{contains}
 use Rattle.std.specs.Cmp.Lexicographic.{pointwise}

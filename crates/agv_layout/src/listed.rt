@@ -1,4 +1,4 @@
-//! The rows of a layout, as a file or a table lists them.
+//! The rows that a layout gives back.
 ghost use Rattle.std.specs.Prelude.{◌≡◌, ◌++◌, map, IfOk, OnOk};
 ghost use Rattle.std.specs.BTreeMap as tree;
 ghost use Rattle.std.specs.BTreeSet as set;

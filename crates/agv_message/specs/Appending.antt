@@ -11,7 +11,7 @@ pub record Appended (result : Result (Unit {0}) Memory) (old new : Vec ℕ Globa
   pub fits : vec_len old + length text ≤ vec_capacity old → IsOk result
   pub grown : vec_capacity old ≤ vec_capacity new
 
--- the text was appended, and the room has not shrunk; for private clauses
+-- the text was appended, and the room has not shrunk; no public clause cites this
 abbrev pub SoFar : Vec ℕ Global → Vec ℕ Global → List ℕ → Type 0
 SoFar old new text = (new.items ≡ old.items ++ text) × (vec_capacity old ≤ vec_capacity new)
 

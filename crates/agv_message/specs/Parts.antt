@@ -1,4 +1,4 @@
--- What the parts of a state are, and the message that they make; for private clauses.
+-- What the parts of a state are, and the message that they make. No public clause cites this.
 use Rattle.std.specs.Prelude.{◌≡◌, ℕ, [], false, codes, unwrap_or}
 use Rattle.serde_json.specs.Data.{Data}
 use Rattle.agv_message.specs.Member.{truth_at}

@@ -1,4 +1,4 @@
--- The pieces of an order or instantActions message; for private clauses.
+-- The pieces of an order or instantActions message. No public clause cites this.
 use Rattle.std.specs.Prelude.{ℕ, List, ◌∷◌, ◌++◌, codes, map}
 use Rattle.std.specs.List.{flat_map}
 use Rattle.serde_json.specs.Data.{Data}

@@ -1,4 +1,4 @@
--- The ids of actions in messages, as the code names them.
+-- The ids of actions in messages, as the code names them. No public clause cites this.
 use Rattle.std.specs.Prelude.{ℕ, List}
 use Rattle.agv_message.specs.Instant.{instant_id}
 use Rattle.agv_message.specs.Order.{act_id}

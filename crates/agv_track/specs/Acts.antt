@@ -1,4 +1,4 @@
--- What the code looks for among acts.
+-- What the code looks for among acts. No public clause cites this.
 use Rattle.std.specs.Prelude.{◌≡◌, ℕ, Bool, not, ◌&&◌, nat_eq, List}
 use Rattle.std.specs.List.{zip}
 use Rattle.std.specs.Cmp.Lexicographic.{pointwise}

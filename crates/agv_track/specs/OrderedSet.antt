@@ -1,4 +1,4 @@
--- A list in which no thing stands twice, and the set of its things, as the code keeps them.
+-- A list in which no thing stands twice, and the set of its things, as the code keeps them. No public clause cites this.
 use Rattle.std.specs.Prelude.{◌≡◌, if◌then◌else◌, List, [], ◌∷◌, ◌++◌}
 use Rattle.std.specs.List.{list_any}
 use Rattle.std.specs.BTreeSet.{contains}

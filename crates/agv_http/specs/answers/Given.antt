@@ -1,4 +1,4 @@
--- The parts of an answer: words of the writer, for private clauses.
+-- The parts that an answer is written of. No public clause cites this.
 use Rattle.std.specs.Prelude.{ℕ, Bool, List, ◌++◌, take, drop}
 use Rattle.agv_desk.specs.declared.answer.Answer.{Answer}
 use Rattle.agv_http.specs.answers.Answers.{allowed, answer_content, answer_status, media_type}

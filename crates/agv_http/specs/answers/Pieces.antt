@@ -1,4 +1,4 @@
--- Words of the writer; for private clauses.
+-- The pieces that an answer is written of. No public clause cites this.
 use Rattle.std.specs.Prelude.{ℕ, List, ◌∷◌, map, Option}
 use Rattle.std.specs.List.{flat_map}
 use Rattle.serde_json.specs.Data.{Data}

@@ -1,4 +1,4 @@
--- What the code finds of the header lines, and what that says of them.
+-- What the code finds of the header lines, and what that says of them. No public clause cites this.
 use Rattle.std.specs.Prelude.{◌≡◌, ℕ, ◌≤◌, List, [], ◌∷◌, length, min}
 use Rattle.agv_http.specs.request.Lines.{Length, absent, given, wrong}
 use Rattle.agv_http.specs.declared.request.lines.Values.{Values}

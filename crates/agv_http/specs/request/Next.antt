@@ -1,4 +1,4 @@
--- What comes next of a buffer, where the method of a request is lent too.
+-- What comes next of a buffer, where the method of a request is lent too. No public clause cites this.
 use Rattle.std.specs.Prelude.{◌≡◌, ℕ, Bool, List}
 use Rattle.agv_http.specs.request.Requests.{Request, is_last}
 use Rattle.agv_http.specs.request.Heard.{IsWaiting, IsOver, HasFault, HasRequest}

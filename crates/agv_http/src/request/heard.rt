@@ -1,4 +1,4 @@
-//! The next request of a stream, with its method.
+//! What is heard next on a stream: a request with its method, a fault, the end, or that more bytes have to come.
 ghost use Rattle.std.specs.Prelude.{◌≡◌, ◌≤◌, ◌<◌, length, IfOk, IfErr, IsOk};
 ghost use Rattle.http_header.specs.Token.{IsToken};
 ghost use Rattle.agv_http.specs.request.Heard.{IsHeard, HasLongMethod};
