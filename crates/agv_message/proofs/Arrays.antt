@@ -8,7 +8,7 @@ use Rattle.serde_json.specs.Find.{as_array}
 use Rattle.serde_json.specs.View.{view, items_of, items_view}
 use Rattle.serde_json.specs.declared.value.Value.{Value}
 use Rattle.agv_header.specs.Each.{each}
-use Rattle.agv_message.specs.Member.{listed}
+use Rattle.agv_message.specs.Members.{listed}
 
 pub listed-items_of : (ds : List Data) → listed (items_of ds) ≡ ds
 listed-items_of [] = refl

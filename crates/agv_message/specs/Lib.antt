@@ -3,7 +3,7 @@ pub mod Appending
 pub mod Body
 pub mod Instant
 pub mod Json
-pub mod Member
+pub mod Members
 pub mod Order
 pub mod Parts
 pub mod Pieces

@@ -1,7 +1,7 @@
 -- What the parts of a state are, and the message that they make. No public clause cites this.
 use Rattle.std.specs.Prelude.{◌≡◌, ℕ, [], false, codes, unwrap_or}
 use Rattle.serde_json.specs.Data.{Data}
-use Rattle.agv_message.specs.Member.{truth_at}
+use Rattle.agv_message.specs.Members.{truth_at}
 use Rattle.agv_message.specs.State.{is_ready, levels_at, stop_at, text, whole}
 use Rattle.agv_message.specs.declared.condition.Condition.{Condition}
 use Rattle.agv_message.specs.declared.opening.Opening.{Opening}

@@ -2,7 +2,7 @@
 use Rattle.std.specs.Prelude.{ℕ, ◌||◌, List, [], Bool, codes, unwrap_or}
 use Rattle.std.specs.List.{list_any}
 use Rattle.serde_json.specs.Data.{Data}
-use Rattle.agv_message.specs.Member.{has, items_at}
+use Rattle.agv_message.specs.Members.{has, items_at}
 
 -- some item of the array has such a member
 abbrev pub some_item_has : List ℕ → List ℕ → Data → Bool

@@ -6,7 +6,7 @@ use Rattle.serde_json.specs.Data.{Data}
 use Rattle.agv_header.specs.Stamp.{moment_said}
 use Rattle.agv_header.specs.declared.refusal.Refusal.{Refusal}
 use Rattle.agv_header.specs.declared.refusal.Refusal.TheVariants as refusal
-use Rattle.agv_message.specs.Member.{member_at, whole_at, text_at, items_at, truth_at, both}
+use Rattle.agv_message.specs.Members.{member_at, whole_at, text_at, items_at, truth_at, both}
 use Rattle.agv_header.specs.Each.{each}
 use Rattle.agv_message.specs.Position.{has_position}
 use Rattle.agv_message.specs.Status.{status_of}

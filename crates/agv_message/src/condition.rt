@@ -4,11 +4,11 @@ ghost use Rattle.std.specs.List.{list_any};
 ghost use Rattle.std.specs.Str.{bytes_eq};
 ghost use Rattle.serde_json.specs.View.{view};
 ghost use Rattle.agv_header.specs.Each.{each};
-ghost use Rattle.agv_message.specs.Member.{text_at};
+ghost use Rattle.agv_message.specs.Members.{text_at};
 ghost use Rattle.agv_message.specs.Parts.{IsCondition};
 ghost use Rattle.agv_message.specs.State.{has_condition, is_automatic, is_fatal, levels_at, stop_at};
 
-use crate::member::{items, member, text, truth};
+use crate::members::{items, member, text, truth};
 use serde_json::Value;
 
 /// What a state says of the vehicle's condition.

@@ -2,10 +2,10 @@
 ghost use Rattle.std.specs.Prelude.{◌≡◌, IfOk, codes, map};
 ghost use Rattle.serde_json.specs.View.{view};
 ghost use Rattle.agv_header.specs.Each.{each};
-ghost use Rattle.agv_message.specs.Member.{whole_at};
+ghost use Rattle.agv_message.specs.Members.{whole_at};
 ghost use Rattle.agv_message.specs.State.{action_at, actions_at, node_seqs_at, status_at};
 
-use crate::member::{items, text, whole};
+use crate::members::{items, text, whole};
 use crate::{Sequence, Status, Text};
 use agv_header::Memory;
 use serde_json::Value;

@@ -4,7 +4,7 @@ ghost use Rattle.serde_json.specs.View.{view};
 ghost use Rattle.agv_message.specs.Parts.{IsOpening, IsProgress};
 ghost use Rattle.agv_message.specs.State.{has_opening, has_progress};
 
-use crate::member::{text, whole};
+use crate::members::{text, whole};
 use serde_json::Value;
 
 /// What every message begins with.

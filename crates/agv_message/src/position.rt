@@ -2,10 +2,10 @@
 ghost use Rattle.std.specs.Prelude.{◌≡◌};
 ghost use Rattle.std.specs.List.{list_any};
 ghost use Rattle.serde_json.specs.View.{view};
-ghost use Rattle.agv_message.specs.Member.{has as has_member};
+ghost use Rattle.agv_message.specs.Members.{has as has_member};
 ghost use Rattle.agv_message.specs.Position.{some_item_has, has_position as holds_position};
 
-use crate::member::{has, items};
+use crate::members::{has, items};
 use serde_json::Value;
 
 fn any_has(items: &[Value], name: &str) -> bool

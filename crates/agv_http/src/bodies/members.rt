@@ -1,26 +1,12 @@
-//! Members of a JSON object: each reader gives what the member of that name says.
-ghost use Rattle.std.specs.Prelude.{◌≡◌, Some, None, option_map, if◌then◌else◌};
+//! Members of a JSON object, as bodies have them: each reader gives what the member of that name says. `agv_message`
+//! finds the members.
+ghost use Rattle.std.specs.Prelude.{◌≡◌};
 ghost use Rattle.serde_json.specs.View.{view};
-ghost use Rattle.agv_message.specs.Member.{below_2_32, member_at, text_at, unless_null, whole_at};
 ghost use Rattle.agv_http.specs.bodies.Members.{key_at, name_at, name_in, optional_name_at, whole_in, whole_or_at};
 
 use agv_header::{Name, VehicleKey};
+use agv_message::{below_2_32, member};
 use serde_json::Value;
-
-fn is_null(value: &Value) -> bool
-    ensures { (if result then None else Some (view value.now)) ≡ unless_null (view value.now) }
-{
-    matches!(value, Value::Null)
-}
-
-/// The member of that name, unless it is null.
-#[tactic(auto, unfolding(agv_message::specs::Member::member_at))]
-pub(crate) fn member<'a>(object: &'a Value, name: &str) -> Option<&'a Value>
-    ensures { option_map (λ value. view value.now) result ≡ member_at name.now (view object.now) }
-{
-    let found = object.get(name)?;
-    if is_null(found) { None } else { Some(found) }
-}
 
 /// The name that a value is.
 fn name_in(value: &Value) -> Option<Name>
@@ -30,7 +16,7 @@ fn name_in(value: &Value) -> Option<Name>
 }
 
 /// The member as a name.
-#[tactic(auto, unfolding(crate::specs::bodies::Members::name_at, agv_message::specs::Member::text_at))]
+#[tactic(auto, unfolding(crate::specs::bodies::Members::name_at, agv_message::specs::Members::text_at))]
 pub(crate) fn name(object: &Value, member_name: &str) -> Option<Name>
     ensures { result ≡ name_at member_name.now (view object.now) }
 {
@@ -48,25 +34,11 @@ pub(crate) fn optional_name(object: &Value, member_name: &str) -> Option<Option<
     }
 }
 
-fn below_2_32(number: u64) -> Option<u32>
-    ensures { result ≡ below_2_32 number }
-{
-    u32::try_from(number).ok()
-}
-
 /// A value as a whole number from 0 to 4294967295.
 fn whole_in(value: &Value) -> Option<u32>
     ensures { result ≡ whole_in (view value.now) }
 {
     below_2_32(value.as_u64()?)
-}
-
-/// The member as a whole number from 0 to 4294967295.
-#[tactic(auto, unfolding(agv_message::specs::Member::whole_at))]
-pub(crate) fn whole(object: &Value, member_name: &str) -> Option<u32>
-    ensures { result ≡ whole_at member_name.now (view object.now) }
-{
-    whole_in(member(object, member_name)?)
 }
 
 /// The member as a whole number from 0 to 4294967295; absent, it is `absent`.

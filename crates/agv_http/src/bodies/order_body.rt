@@ -7,13 +7,13 @@ ghost use Rattle.agv_header.specs.declared.refusal.Refusal.TheVariants as refusa
 ghost use Rattle.agv_http.specs.bodies.OrderBody.{both_stops, kind_of, listed_stops, order_in, order_from_json, stop_in, stops_from_json};
 ghost use Rattle.agv_http.specs.bodies.Members.{name_at};
 ghost use Rattle.agv_message.specs.Body.{IsFaultOf};
-ghost use Rattle.agv_message.specs.Member.{has, items_at, text_at};
+ghost use Rattle.agv_message.specs.Members.{items_at, text_at};
 ghost use Rattle.agv_message.specs.declared.body.BodyFault.TheVariants as fault;
 
-use crate::bodies::members::{key, member, name, whole};
+use crate::bodies::members::{key, name};
 use agv_desk::Call;
 use agv_header::{Memory, Name, Refusal};
-use agv_message::{ActKind, BodyFault, Sequence, read_body};
+use agv_message::{ActKind, BodyFault, Sequence, has, member, read_body, whole};
 use agv_order::Stop;
 use serde_json::Value;
 use std::alloc::Global;
@@ -30,7 +30,7 @@ fn kind_of(text: &[u8]) -> Option<ActKind>
     }
 }
 
-#[tactic(auto, unfolding(agv_message::specs::Member::text_at))]
+#[tactic(auto, unfolding(agv_message::specs::Members::text_at))]
 fn kind(stop: &Value) -> Option<ActKind>
     ensures { result ≡ option_and_then kind_of (text_at (codes "action") (view stop.now)) }
 {
@@ -62,7 +62,7 @@ fn stops_in(alloc: Global, values: &[Value]) -> Result<Option<Sequence<Stop>>, M
 }
 
 /// The values of the array `stops`.
-#[tactic(auto, unfolding(agv_message::specs::Member::items_at))]
+#[tactic(auto, unfolding(agv_message::specs::Members::items_at))]
 fn listed(order: &Value) -> Option<&[Value]>
     ensures { option_map (λ values. map view values.now) result ≡ items_at (codes "stops") (view order.now) }
 {
@@ -102,12 +102,6 @@ fn job_stops(alloc: Global, order: &Value) -> Result<Option<Sequence<Stop>>, Mem
         Some(job) => Ok(Some(both_stops(alloc, &job)?)),
         None => Ok(None),
     }
-}
-
-fn has(object: &Value, name: &str) -> bool
-    ensures { result ≡ has name.now (view object.now) }
-{
-    member(object, name).is_some()
 }
 
 /// The stops of the order: those of its one job, or those that it lists.

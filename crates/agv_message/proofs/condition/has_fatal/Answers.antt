@@ -2,7 +2,7 @@ use Rattle.std.proofs.Common.{List, Option, codes, option_map, option_and_then, 
 use Rattle.std.specs.List.{list_any}
 use Rattle.serde_json.specs.Data.{Data}
 use Rattle.agv_header.specs.Each.{each}
-use Rattle.agv_message.specs.Member.{text_at}
+use Rattle.agv_message.specs.Members.{text_at}
 use Rattle.agv_message.specs.State.{is_fatal, levels_at}
 use Rattle.agv_message.proofs.condition.has_fatal.Goals as goal
 

@@ -2,7 +2,7 @@ use Rattle.std.proofs.Common.{◌≡◌, ◌||◌, codes, map, drop, option_map}
 use Rattle.std.specs.List.{list_any}
 use Rattle.serde_json.specs.View.{view}
 use Rattle.agv_header.specs.Each.{each}
-use Rattle.agv_message.specs.Member.{text_at}
+use Rattle.agv_message.specs.Members.{text_at}
 use Rattle.agv_message.specs.State.{is_fatal}
 use Rattle.agv_message.proofs.condition.some_is_fatal.Given as goal
 

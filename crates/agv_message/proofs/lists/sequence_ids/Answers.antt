@@ -1,5 +1,5 @@
 use Rattle.std.proofs.Common.{Some, sym, ap, ◌∙◌, codes}
-use Rattle.agv_message.specs.Member.{whole_at}
+use Rattle.agv_message.specs.Members.{whole_at}
 use Rattle.agv_message.proofs.Arrays.{after-all, after-none, after-read, after-unread}
 use Rattle.agv_message.proofs.lists.sequence_ids.Goals as goal
 

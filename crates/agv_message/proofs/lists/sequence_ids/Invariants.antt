@@ -1,7 +1,7 @@
 use Rattle.std.proofs.Common.{◌≡◌, codes, map, drop}
 use Rattle.serde_json.specs.View.{view}
 use Rattle.agv_header.specs.Each.{each}
-use Rattle.agv_message.specs.Member.{whole_at}
+use Rattle.agv_message.specs.Members.{whole_at}
 use Rattle.agv_message.proofs.Arrays.{after}
 use Rattle.agv_message.proofs.lists.sequence_ids.Given as goal
 

@@ -1,5 +1,5 @@
 use Rattle.std.proofs.Common.{rules}
-use Rattle.agv_message.specs.Member.{member_at, items_at}
+use Rattle.agv_message.specs.Members.{member_at, items_at}
 use Rattle.agv_message.specs.Position.{has_position}
 use Rattle.agv_message.proofs.position.has_position.Goals as goal
 

@@ -2,7 +2,7 @@ use Rattle.std.proofs.Common.{List, [], Option, unwrap_or, sym, ap, ◌∙◌}
 use Rattle.std.specs.List.{list_any}
 use Rattle.serde_json.specs.Data.{Data}
 use Rattle.serde_json.specs.View.{view}
-use Rattle.agv_message.specs.Member.{has}
+use Rattle.agv_message.specs.Members.{has}
 use Rattle.agv_message.proofs.Arrays.{list_any-map}
 use Rattle.agv_message.proofs.position.some_item_has.Goals as goal
 

@@ -1,5 +1,5 @@
 use Rattle.agv_message.proofs.Arrays.{items_found}
-use Rattle.agv_message.specs.Member.{items_at}
+use Rattle.agv_message.specs.Members.{items_at}
 use Rattle.agv_http.proofs.bodies.order_body.listed.Goals as goal
 
 pub returns : goal.returns

@@ -1,5 +1,5 @@
 use Rattle.std.proofs.Common.{◌≡◌, Option, Some, None, option_map, is_some, refl, sym, ap, ◌∙◌}
-use Rattle.agv_message.proofs.member.has.Goals as goal
+use Rattle.agv_message.proofs.members.has.Goals as goal
 
 is_some-option_map : {X Y : Type 0} (f : X → Y) (o : Option X) → is_some (option_map f o) ≡ is_some o
 is_some-option_map f None = refl

@@ -2,7 +2,7 @@
 //! there, isn't null, and has the right kind.
 ghost use Rattle.std.specs.Prelude.{◌≡◌, Some, None, option_map, if◌then◌else◌, map};
 ghost use Rattle.serde_json.specs.View.{view};
-ghost use Rattle.agv_message.specs.Member.{unless_null, member_at, has as has_member, below_2_32, whole_at, text_at, items_at, truth_at};
+ghost use Rattle.agv_message.specs.Members.{unless_null, member_at, has as has_member, below_2_32, whole_at, text_at, items_at, truth_at};
 
 use serde_json::Value;
 
@@ -12,8 +12,8 @@ fn is_null(value: &Value) -> bool
     matches!(value, Value::Null)
 }
 
-/// The member of that name, unless it is null.
-#[tactic(auto, unfolding(crate::specs::Member::member_at))]
+/// The member of that name, unless it is null; none where the value is no object. It takes no memory.
+#[tactic(auto, unfolding(crate::specs::Members::member_at))]
 pub fn member<'a>(object: &'a Value, name: &str) -> Option<&'a Value>
     ensures { option_map (λ value. view value.now) result ≡ member_at name.now (view object.now) }
 {
@@ -21,21 +21,22 @@ pub fn member<'a>(object: &'a Value, name: &str) -> Option<&'a Value>
     if is_null(found) { None } else { Some(found) }
 }
 
-/// Whether there is such a member.
+/// Whether there is such a member, and it isn't null.
 pub fn has(object: &Value, name: &str) -> bool
     ensures { result ≡ has_member name.now (view object.now) }
 {
     member(object, name).is_some()
 }
 
-fn below_2_32(number: u64) -> Option<u32>
+/// The number, if it is at most 4294967295.
+pub fn below_2_32(number: u64) -> Option<u32>
     ensures { result ≡ below_2_32 number }
 {
     u32::try_from(number).ok()
 }
 
-/// The member as a whole number from 0 to 4294967295.
-#[tactic(auto, unfolding(crate::specs::Member::whole_at))]
+/// The member as a whole number from 0 to 4294967295; none where it is absent or something else.
+#[tactic(auto, unfolding(crate::specs::Members::whole_at))]
 pub fn whole(object: &Value, name: &str) -> Option<u32>
     ensures { result ≡ whole_at name.now (view object.now) }
 {
@@ -43,7 +44,7 @@ pub fn whole(object: &Value, name: &str) -> Option<u32>
 }
 
 /// The member as a text.
-#[tactic(auto, unfolding(crate::specs::Member::text_at))]
+#[tactic(auto, unfolding(crate::specs::Members::text_at))]
 pub fn text<'a>(object: &'a Value, name: &str) -> Option<&'a str>
     ensures { option_map (λ text. text.now) result ≡ text_at name.now (view object.now) }
 {
@@ -51,7 +52,7 @@ pub fn text<'a>(object: &'a Value, name: &str) -> Option<&'a str>
 }
 
 /// The items of a member that is an array.
-#[tactic(auto, unfolding(crate::specs::Member::items_at))]
+#[tactic(auto, unfolding(crate::specs::Members::items_at))]
 pub fn items<'a>(object: &'a Value, name: &str) -> Option<&'a [Value]>
     ensures { option_map (λ items. map view items.now) result ≡ items_at name.now (view object.now) }
 {
@@ -59,7 +60,7 @@ pub fn items<'a>(object: &'a Value, name: &str) -> Option<&'a [Value]>
 }
 
 /// The member as a truth value, false where it is absent.
-#[tactic(auto, unfolding(crate::specs::Member::truth_at))]
+#[tactic(auto, unfolding(crate::specs::Members::truth_at))]
 pub fn truth(object: &Value, name: &str) -> Option<bool>
     ensures { result ≡ truth_at name.now (view object.now) }
 {

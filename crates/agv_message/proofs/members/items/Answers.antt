@@ -1,6 +1,6 @@
-use Rattle.agv_message.specs.Member.{items_at}
+use Rattle.agv_message.specs.Members.{items_at}
 use Rattle.agv_message.proofs.Arrays.{items_found}
-use Rattle.agv_message.proofs.member.items.Goals as goal
+use Rattle.agv_message.proofs.members.items.Goals as goal
 
 pub returns : goal.returns
 unfolding items_at

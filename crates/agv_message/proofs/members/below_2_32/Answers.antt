@@ -1,7 +1,7 @@
 use Rattle.std.proofs.Common.{◌≡◌, ℕ, ◌<◌, Result, rules}
 use Rattle.std.specs.Result.{OkIff, result_ok}
-use Rattle.agv_message.specs.Member.{below_2_32}
-use Rattle.agv_message.proofs.member.below_2_32.Goals as goal
+use Rattle.agv_message.specs.Members.{below_2_32}
+use Rattle.agv_message.proofs.members.below_2_32.Goals as goal
 
 below : {E : Type 0} (r : Result ℕ E) (n : ℕ) → OkIff r (n < 4294967296) n → result_ok r ≡ below_2_32 n
 below r n e = search rules
