@@ -85,17 +85,11 @@ fn write_vehicles(
     Ok(())
 }
 
-fn has_left(place: Place) -> bool
-    ensures { result ≡ has_left place }
-{
-    matches!(place, Place::Left)
-}
-
 /// How many loads have left.
 fn left_count(loads: &[(Name, Place)]) -> usize
     ensures { result ≡ count_by (λ l. has_left l.1) loads.now }
 {
-    loads.iter().filter(|load| has_left(load.1)).count()
+    loads.iter().filter(|load| load.1.has_left()).count()
 }
 
 /// Writes how many loads have left.

@@ -6,7 +6,7 @@ ghost use Rattle.agv_desk.specs.JobSteps.{station_in, is_waiting, add_job, job_w
 ghost use Rattle.agv_desk.specs.Outcomes.{Made, decided};
 
 use crate::decisions::{accepted_with, refused};
-use crate::shared::{goal_at, is_in_job, is_known};
+use crate::shared::{goal_at, is_in_job};
 use crate::{Answer, Decision};
 use agv_header::limits::MAX_RECORDS;
 use agv_header::{Memory, Name, Refusal};
@@ -61,7 +61,7 @@ pub(crate) fn add_job<F: Floor>(
         return Ok(refused(alloc, Refusal::NoLoad));
     };
     let goal = goal_at(to, floor.room(to)?);
-    if !is_known(goal) {
+    if !goal.is_known() {
         return Ok(refused(alloc, Refusal::NoStation));
     }
     let Some(origin) = station_in(place) else {

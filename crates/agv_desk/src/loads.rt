@@ -1,13 +1,12 @@
 //! The calls of loads.
 ghost use Rattle.std.specs.Prelude.{◌≡◌, IfOk};
-ghost use Rattle.agv_stock.specs.Rooms.{has_left};
 ghost use Rattle.agv_world.specs.Asks.{Asks};
 ghost use Rattle.agv_desk.specs.LoadSteps.{place_of, register_load, correct_load, leave_load, recorded, registered};
 ghost use Rattle.agv_desk.specs.Outcomes.{Made, decided};
 ghost use Rattle.agv_desk.specs.Shared.{goal_of};
 
 use crate::decisions::{accepted_with, refused};
-use crate::shared::{goal_at, is_in_job, is_known, is_new, reference_used};
+use crate::shared::{goal_at, is_in_job, is_new, reference_used};
 use crate::{Answer, Decision};
 use agv_header::limits::MAX_RECORDS;
 use agv_header::{Memory, Name, Refusal};
@@ -23,16 +22,6 @@ fn goal_of<F: Floor>(floor: &mut F, station: Option<Name>) -> Result<Goal, Fault
         return Ok(Goal::Checking);
     };
     Ok(goal_at(station, floor.room(station)?))
-}
-
-// Whether a load has left.
-fn has_left(place: Place) -> bool
-    ensures { result ≡ has_left place }
-{
-    match place {
-        Place::Left => true,
-        Place::Station(_) | Place::Vehicle(_) | Place::Checking => false,
-    }
 }
 
 // Where it is then.
@@ -104,10 +93,10 @@ pub(crate) fn correct_load<F: Floor>(
         return Ok(refused(alloc, Refusal::NoLoad));
     };
     let goal = goal_of(floor, station)?;
-    if !is_known(goal) {
+    if !goal.is_known() {
         return Ok(refused(alloc, Refusal::NoStation));
     }
-    if has_left(place) {
+    if place.has_left() {
         return Ok(refused(alloc, Refusal::Elsewhere));
     }
     let live = is_in_job(floor, load)?;
@@ -135,7 +124,7 @@ pub(crate) fn leave_load<F: Floor>(
     let Some(place) = floor.place(load)? else {
         return Ok(refused(alloc, Refusal::NoLoad));
     };
-    if has_left(place) {
+    if place.has_left() {
         return Ok(refused(alloc, Refusal::Elsewhere));
     }
     let live = is_in_job(floor, load)?;

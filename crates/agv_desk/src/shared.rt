@@ -1,6 +1,5 @@
 //! What the calls of several families share: references, the goals of loads, and what a vehicle is sent and stands on.
 ghost use Rattle.std.specs.Prelude.{◌≡◌, ◌≢◌, not};
-ghost use Rattle.agv_stock.specs.Checks.{is_known};
 ghost use Rattle.agv_stock.specs.declared.goal.Goal.TheVariants as goals;
 ghost use Rattle.agv_world.specs.Asks.{Asks};
 ghost use Rattle.agv_world.specs.declared.change.Change.TheVariants as row;
@@ -39,16 +38,6 @@ pub(crate) fn goal_at(station: Name, room: Option<u32>) -> Goal
     match room {
         Some(room) => Goal::At(station, room),
         None => Goal::Unknown,
-    }
-}
-
-/// Whether it is not a station that is unknown.
-pub(crate) fn is_known(goal: Goal) -> bool
-    ensures { result ≡ is_known goal }
-{
-    match goal {
-        Goal::Checking | Goal::At(_, _) => true,
-        Goal::Unknown => false,
     }
 }
 

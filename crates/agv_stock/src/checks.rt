@@ -8,7 +8,8 @@ use crate::{Goal, Place};
 use agv_header::Refusal;
 
 impl Goal {
-    fn is_known(&self) -> bool
+    /// Whether it is not a station that is unknown.
+    pub fn is_known(&self) -> bool
         ensures { result ≡ is_known self.now }
     {
         match self {
@@ -47,7 +48,8 @@ impl Place {
         }
     }
 
-    fn has_left(&self) -> bool
+    /// Whether the load has left the warehouse.
+    pub fn has_left(&self) -> bool
         ensures { result ≡ has_left self.now }
     {
         match self {
