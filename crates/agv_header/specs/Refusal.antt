@@ -1,7 +1,16 @@
--- Every refusal: its number, its name and its HTTP status (RFC 9110, section 15).
+-- Every refusal: its number, its name and its HTTP status (RFC 9110, section 15), and the names of methods.
 use Rattle.std.specs.Prelude.{ℕ, List, codes}
 use Rattle.agv_header.specs.declared.refusal.Refusal.{Refusal}
 use Rattle.agv_header.specs.declared.refusal.Refusal.TheVariants as refusal
+use Rattle.agv_header.specs.declared.refusal.Verb.{Verb}
+use Rattle.agv_header.specs.declared.refusal.Verb.TheVariants as verb
+
+-- the name of a method, as the first line of a request has it (RFC 9110, section 9)
+abbrev pub verb_text : Verb → List ℕ
+verb_text verb.Get = codes "GET"
+verb_text verb.Post = codes "POST"
+verb_text verb.Put = codes "PUT"
+verb_text verb.Delete = codes "DELETE"
 
 -- what is told of a refusal: its number, its name, and the status code of its answer
 pub record Row : Type 0 where

@@ -14,6 +14,22 @@ pub enum Verb {
     Delete,
 }
 
+impl Verb {
+    ghost use Rattle.agv_header.specs.Refusal.{verb_text};
+
+    /// Its name, as HTTP writes it. Its case counts.
+    pub fn name(self) -> &'static str
+        ensures { result.now ≡ verb_text self }
+    {
+        match self {
+            Verb::Get => "GET",
+            Verb::Post => "POST",
+            Verb::Put => "PUT",
+            Verb::Delete => "DELETE",
+        }
+    }
+}
+
 /// Why the desk refuses a request. The numbers stay as they are for good.
 #[derive(Clone, Copy, Debug, PartialEq, Eq)]
 pub enum Refusal {

@@ -9,7 +9,7 @@ use Rattle.agv_header.specs.declared.refusal.Refusal.TheVariants as refusal
 use Rattle.agv_desk.specs.WellTyped.{AreWellTyped, IsMoment}
 use Rattle.agv_desk.specs.declared.call.Call.{Call}
 use Rattle.agv_http.specs.bodies.BodyCalls.{call_of_body}
-use Rattle.agv_http.specs.answers.Heads.{verb_text}
+use Rattle.agv_header.specs.Refusal.{verb_text}
 use Rattle.agv_http.specs.Output.{timed_call, call_of_routed, call_of_request, calls_of}
 use Rattle.agv_http.specs.routing.Paths.{Part, Word, AName, names_in, path_of, segments_of}
 use Rattle.agv_http.specs.request.Requests.{Request}

@@ -2,8 +2,8 @@
 use Prim.Native.String.{String}
 use Rattle.std.specs.Prelude.{ℕ, Bool, true, false, List, [], ◌∷◌, ◌++◌, decimal, codes, unwrap_or, Option, Some, None}
 use Rattle.http.specs.StatusCode.{reason_phrase}
+use Rattle.agv_header.specs.Refusal.{verb_text}
 use Rattle.agv_header.specs.declared.refusal.Verb.{Verb}
-use Rattle.agv_header.specs.declared.refusal.Verb.TheVariants as verb
 
 -- carriage return, line feed
 abbrev pub line_end : List ℕ
@@ -22,13 +22,6 @@ header_line name value = codes name ++ (codes ": " ++ (value ++ line_end))
 abbrev pub content_lines : Option (List ℕ) → ℕ → List ℕ
 content_lines None len = []
 content_lines (Some kind) len = header_line "Content-Length" (decimal len) ++ header_line "Content-Type" kind
-
--- the name of a method
-abbrev pub verb_text : Verb → List ℕ
-verb_text verb.Get = codes "GET"
-verb_text verb.Post = codes "POST"
-verb_text verb.Put = codes "PUT"
-verb_text verb.Delete = codes "DELETE"
 
 -- `Allow: GET`, where the path is served by that method alone
 abbrev pub allow_line : Option Verb → List ℕ

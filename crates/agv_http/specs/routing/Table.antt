@@ -5,7 +5,7 @@ use Rattle.agv_header.specs.declared.refusal.Refusal.{Refusal}
 use Rattle.agv_header.specs.declared.refusal.Refusal.TheVariants as refusal
 use Rattle.agv_header.specs.declared.refusal.Verb.{Verb}
 use Rattle.agv_header.specs.declared.refusal.Verb.TheVariants.{Get, Post, Put, Delete}
-use Rattle.agv_http.specs.answers.Heads.{verb_text}
+use Rattle.agv_header.specs.Refusal.{verb_text}
 use Rattle.agv_http.specs.routing.Paths.{Part, Word, AName, names_in, path_of, segments_of}
 use Rattle.agv_http.specs.declared.routing.route.Route.{Route}
 use Rattle.agv_http.specs.declared.routing.route.Route.TheVariants as route

@@ -55,16 +55,21 @@ fn put_content_lines(out: &mut Vec<u8>, kind: Option<&str>, len: usize) -> Resul
     }
 }
 
-/// The line that names the method which alone serves the path.
-fn allow_text(allow: Option<Verb>) -> &'static str
-    ensures { result.now ≡ allow_line allow }
+/// Appends the line that names the method which alone serves the path.
+fn put_allow_line(out: &mut Vec<u8>, allow: Option<Verb>) -> Result<(), Memory>
+    ensures { Appended result out.old out.new (allow_line allow) }
 {
     match allow {
-        None => "",
-        Some(Verb::Get) => "Allow: GET\r\n",
-        Some(Verb::Post) => "Allow: POST\r\n",
-        Some(Verb::Put) => "Allow: PUT\r\n",
-        Some(Verb::Delete) => "Allow: DELETE\r\n",
+        None => put_pieces(out, &[]),
+        Some(method) => {
+            let pieces = [
+                Piece::Text("Allow"),
+                Piece::Text(": "),
+                Piece::Text(method.name()),
+                Piece::Text("\r\n"),
+            ];
+            put_pieces(out, &pieces)
+        }
     }
 }
 
@@ -75,16 +80,20 @@ fn connection_text(close: bool) -> &'static str
     if close { "Connection: close\r\n" } else { "" }
 }
 
+/// Appends the end of the head.
+fn put_end(out: &mut Vec<u8>, close: bool) -> Result<(), Memory>
+    ensures { Appended result out.old out.new (connection_line close ++ line_end) }
+{
+    let pieces = [Piece::Text(connection_text(close)), Piece::Text("\r\n")];
+    put_pieces(out, &pieces)
+}
+
 /// Appends the last lines of the head.
 fn put_last_lines(out: &mut Vec<u8>, allow: Option<Verb>, close: bool) -> Result<(), Memory>
     ensures { Appended result out.old out.new (allow_line allow ++ (connection_line close ++ line_end)) }
 {
-    let pieces = [
-        Piece::Text(allow_text(allow)),
-        Piece::Text(connection_text(close)),
-        Piece::Text("\r\n"),
-    ];
-    put_pieces(out, &pieces)
+    put_allow_line(out, allow)?;
+    put_end(out, close)
 }
 
 /// Appends the head of an answer with this status, and with a body of that type and length where it has one.

@@ -4,7 +4,7 @@ ghost use Rattle.agv_http.specs.routing.Kept.{kept_table};
 ghost use Rattle.agv_http.specs.routing.TableLines.{listed, route_with};
 ghost use Rattle.agv_http.specs.routing.Paths.{is_question_mark, path_of};
 ghost use Rattle.agv_http.specs.routing.Table.{at_path, if_method, route_at, with_route};
-ghost use Rattle.agv_http.specs.answers.Heads.{verb_text};
+ghost use Rattle.agv_header.specs.Refusal.{verb_text};
 ghost use Rattle.agv_http.specs.routing.Taken.{IsTaken, all_names, both};
 ghost use Rattle.matchit.specs.Params.{walk};
 
@@ -39,12 +39,7 @@ fn path_in(target: &[u8]) -> &[u8]
 fn text_of(method: Verb) -> &'static [u8]
     ensures { result.now ≡ verb_text method }
 {
-    match method {
-        Verb::Get => b"GET",
-        Verb::Post => b"POST",
-        Verb::Put => b"PUT",
-        Verb::Delete => b"DELETE",
-    }
+    method.name().as_bytes()
 }
 
 fn one_name(first: Option<Name>) -> Option<Names>
