@@ -7,7 +7,7 @@
 //!   earns: a position, a member that is absent or of the wrong kind, another version, a bad
 //!   timestamp. An absent member and one that is null are the same, of two members with one name
 //!   the last counts, and no other member is looked at.
-//! - [`member`], [`has`] and [`whole`] look at members of other bodies so.
+//! - [`member`], [`has`], [`whole`] and [`items`] look at members of other bodies so.
 //!
 //! Writing. [`put_order`] and [`put_instant`] append the exact bytes of an order or instantActions
 //! message to a buffer, and take no memory where they fit; [`order_text`] and [`instant_text`] give
@@ -47,7 +47,7 @@ pub use body::{BodyFault, read_body};
 pub use header::Header;
 pub use instant::{InstantKind, InstantMessage};
 pub use instant_message::{instant_text, put_instant};
-pub use members::{below_2_32, has, member, whole};
+pub use members::{below_2_32, has, items, member, whole};
 pub use order::{ActKind, OrderAct, OrderEdge, OrderMessage, OrderNode};
 pub use order_message::{order_text, put_order};
 pub use read::read_state;

@@ -51,7 +51,7 @@ pub fn text<'a>(object: &'a Value, name: &str) -> Option<&'a str>
     member(object, name)?.as_str()
 }
 
-/// The items of a member that is an array.
+/// The items of a member that is an array; none where it is absent or something else. It takes no memory.
 #[tactic(auto, unfolding(crate::specs::Members::items_at))]
 pub fn items<'a>(object: &'a Value, name: &str) -> Option<&'a [Value]>
     ensures { option_map (λ items. map view items.now) result ≡ items_at name.now (view object.now) }

@@ -7,13 +7,13 @@ ghost use Rattle.agv_header.specs.declared.refusal.Refusal.TheVariants as refusa
 ghost use Rattle.agv_http.specs.bodies.OrderBody.{both_stops, kind_of, listed_stops, order_in, order_from_json, stop_in, stops_from_json};
 ghost use Rattle.agv_http.specs.bodies.Members.{name_at};
 ghost use Rattle.agv_message.specs.Body.{IsFaultOf};
-ghost use Rattle.agv_message.specs.Members.{items_at, text_at};
+ghost use Rattle.agv_message.specs.Members.{text_at};
 ghost use Rattle.agv_message.specs.declared.body.BodyFault.TheVariants as fault;
 
 use crate::bodies::members::{key, name};
 use agv_desk::Call;
 use agv_header::{Memory, Name, Refusal};
-use agv_message::{ActKind, BodyFault, Sequence, has, member, read_body, whole};
+use agv_message::{ActKind, BodyFault, Sequence, has, items, member, read_body, whole};
 use agv_order::Stop;
 use serde_json::Value;
 use std::alloc::Global;
@@ -61,19 +61,11 @@ fn stops_in(alloc: Global, values: &[Value]) -> Result<Option<Sequence<Stop>>, M
     Ok(Some(stops.into()))
 }
 
-/// The values of the array `stops`.
-#[tactic(auto, unfolding(agv_message::specs::Members::items_at))]
-fn listed(order: &Value) -> Option<&[Value]>
-    ensures { option_map (λ values. map view values.now) result ≡ items_at (codes "stops") (view order.now) }
-{
-    Some(member(order, "stops")?.as_array()?.as_slice())
-}
-
 #[tactic(auto, unfolding(crate::specs::bodies::OrderBody::listed_stops))]
 fn listed_stops(alloc: Global, order: &Value) -> Result<Option<Sequence<Stop>>, Memory>
     ensures { IfOk result (λ said. said ≡ listed_stops (view order.now)) }
 {
-    match listed(order) {
+    match items(order, "stops") {
         Some(values) => stops_in(alloc, values),
         None => Ok(None),
     }
