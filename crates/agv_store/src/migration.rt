@@ -1,4 +1,4 @@
-//! A database of the first schema is moved to this one, and the desk in it is taken over.
+//! A database of the first schema is moved to the second, and the desk in it is taken over.
 ghost use Rattle.std.specs.Prelude.{◌≡◌, false, IfOk, OnErr};
 ghost use Rattle.sqlite.specs.Held.{state};
 ghost use Rattle.sqlite.specs.State.{Survives};
@@ -35,11 +35,12 @@ fn find_first_desk<S: Alter>(
 }
 
 impl<S: Alter + Drop> Desk<S> {
-    /// Moves a database of the first schema, in which each vehicle has room for one load, to this one, and takes the desk
+    /// Moves a database of the first schema, in which each vehicle has room for one load, to the second, and takes the desk
     /// over. All is done in one transaction: the tables `capacity`, `journey` and `act` are made and have their rows, `trip`
-    /// is emptied, and `meta` has the number of this schema. The world stays the same, and each vehicle has room for one load.
+    /// is emptied, and `meta` has the number of the second schema. The world stays the same, and each vehicle has room for one
+    /// load.
     ///
-    /// A crash leaves the database as it was, or the rows of the same world as this schema has them
+    /// A crash leaves the database as it was, or the rows of the same world as the second schema has them
     /// ([`laws`](crate::laws)).
     ///
     /// # Errors
