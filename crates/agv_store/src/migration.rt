@@ -2,6 +2,7 @@
 ghost use Rattle.std.specs.Prelude.{◌≡◌, false, IfOk, OnErr};
 ghost use Rattle.sqlite.specs.Held.{state};
 ghost use Rattle.sqlite.specs.State.{Survives};
+ghost use Rattle.agv_tables.specs.first_schema.Moved.{CanBeAdded};
 ghost use Rattle.agv_tables.specs.sql.Connections.{IsClean, IsOpen};
 ghost use Rattle.agv_store.specs.Migration.{CannotBeMigrated, FindsFirstDesk, LeavesMigrated, Migrates};
 ghost use Rattle.agv_store.specs.Opening.{IsDamaged, left_by};
@@ -56,6 +57,7 @@ impl<S: Alter + Drop> Desk<S> {
         ensures migrated { IfOk result (λ desk. IsClean S.Store desk.held → Migrates S.Store conn desk) }
         ensures works { IfOk result (λ desk. desk.failed ≡ false) }
         ensures damaged { IsClean S.Store (left_by result) → IsDamaged result → CannotBeMigrated (state S.Store conn).now }
+        ensures possible { IfOk result (λ desk. IsClean S.Store desk.held → CanBeAdded (state S.Store conn).now.schema) }
         ensures undone { IsClean S.Store (left_by result) → IsOpen S.Store (left_by result)
             → OnErr result (IsOpen S.Store conn × ((state S.Store (left_by result)).now ≡ (state S.Store conn).now)) }
         ensures idle { (left_by result).in_transaction ≡ false }
