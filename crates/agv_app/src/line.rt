@@ -178,8 +178,8 @@ fn migrate_command<'a>(alloc: Global) -> Result<Command<'a>, AllocError>
 {
     let db = required_arg(alloc, "db", "FILE", "The file that keeps the records");
     Command::new(alloc, "migrate")
-        .about("Moves a file of the first schema to this one, and prints `migrated`")
-        .after_help("Example: cp desk.db copy.db; desk migrate --db desk.db")
+        .about("Moves a file of the first schema (one load a vehicle) to the second")
+        .after_help("Example: sqlite3 desk.db '.backup before.db'; desk migrate --db desk.db")
         .arg(db)
 }
 

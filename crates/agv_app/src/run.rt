@@ -1,5 +1,5 @@
 //! What the program does with its line: it opens a desk, and serves a stream or connections, or prints a report; or it
-//! moves a file of the first schema to this one.
+//! moves a file of the first schema to the second.
 ghost use Rattle.std.specs.Prelude.{◌≡◌, ◌⊎◌, ◌≤◌, ◌<◌, codes, false, IfErr, IfOk, IfSome, None};
 ghost use Rattle.agv_memory.specs.MemoryStores.{over_memory_files};
 ghost use Rattle.agv_store.specs.Floors.{world_at};
@@ -239,7 +239,7 @@ fn report<S: Alter + Drop, W: Write>(
     }
 }
 
-/// Moves the file of the first schema to this one, and says so.
+/// Moves the file of the first schema to the second, and says so.
 fn migrate<W: Write>(
     rt: &HostRuntime,
     file: &str,

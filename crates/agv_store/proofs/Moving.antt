@@ -1,5 +1,5 @@
 -- The move of a database from the first schema: what is found there, and what the desk knows after it.
-use Rattle.std.proofs.Common.{◌≡◌, ◌⊎◌, ◌↔◌, ◌∙◌, ℕ, inl, inr, IsTrue, Ok, Err, Result, false, refl, sym, ap, subst}
+use Rattle.std.proofs.Common.{◌≡◌, ◌⊎◌, ◌↔◌, ◌∙◌, ℕ, inl, inr, IsTrue, Ok, Err, Result, Bool, true, false, true≢false, refl, sym, ap, subst}
 use Rattle.std.specs.Result.{IsErrAnd}
 use Rattle.sqlite.proofs.StateLemmas.{survives_then}
 use Rattle.sqlite_trees.specs.declared.store.Store.{Ghosts}
@@ -45,6 +45,22 @@ taken_only : (why : MakingFault) → of_making why ≡ fault.Damaged → why ≡
 taken_only making.Taken is = refl
 taken_only making.Memory is = absurd (cc is)
 taken_only making.Storage is = absurd (cc is)
+
+-- ---- what isn't denied
+
+not_denied_false : (b : Bool) → ¬ (¬ (b ≡ false)) → b ≡ false
+not_denied_false false so = refl
+not_denied_false true so = absurd (so true≢false)
+
+not_denied_true : (b : Bool) → ¬ (¬ (b ≡ true)) → b ≡ true
+not_denied_true true so = refl
+not_denied_true false so = absurd (so (λ is. true≢false (sym is)))
+
+not_denied_added : (db : Database) → ¬ (¬ CanBeAdded db.schema) → CanBeAdded db.schema
+not_denied_added db so = record {
+  free = not_denied_false _ (λ taken. so (λ can. taken can.free));
+  unreferred = λ name is. not_denied_true _ (λ referred. so (λ can. referred (can.unreferred name is)));
+}
 
 -- ---- what is found
 
@@ -194,3 +210,19 @@ module _ {S : Type 0} (g : Ghosts S) where
       let found = finds.found early in
       let same = finds.asked.same early found.1 (sym (settled found.0)) in
       inr (subst (λ (db : Database). ¬ CanBeAdded db.schema) same (taken.0 named))
+
+  -- the three tables were added, so they could be
+  abbrev Moved : Unit {0} → Result (Unit {0}) MakingFault
+  Moved it = Ok it
+
+  not_taken : (it : Unit {0}) (why : MakingFault) → Moved it ≡ Refused why → ⊥
+  not_taken it why is = cc is
+
+  pub could_be_added : (old mid new : Held S) (tables : Tables) (counts : Counts) → FindsFirstDesk g old mid (Ok (tables, counts)) → (IsOpen g old → (state g old).now ≡ (state g old).committed)
+      → Survives (state g mid) (state g new) (LeavesMoved tables (state g mid).now) → (it : Unit {0}) → (Moved it ≡ Refused making.Taken) ↔ (¬ CanBeAdded (state g mid).now.schema)
+      → IsClean g new → CanBeAdded (state g old).now.schema
+  could_be_added old mid new tables counts finds settled crash it taken clean =
+      let early : IsClean g mid = (later_by g mid new crash).clean clean in
+      let found = finds.found early in
+      let same = finds.asked.same early found.1 (sym (settled found.0)) in
+      subst (λ (db : Database). CanBeAdded db.schema) same (not_denied_added (state g mid).now (λ cannot. not_taken it making.Taken (taken.1 cannot)))

@@ -1,4 +1,4 @@
--- What the move of a database from the first schema to this one gives.
+-- What the move of a database from the first schema to the second gives.
 use Rattle.std.specs.Prelude.{◌≡◌, ◌⊎◌, Result, IfErr, IfOk}
 use Rattle.sqlite_trees.specs.Tree.{Trees}
 use Rattle.sqlite_trees.specs.declared.store.Store.{Ghosts}
@@ -19,7 +19,7 @@ use Rattle.agv_store.specs.declared.counts.Counts.{Counts}
 use Rattle.agv_store.specs.declared.open_fault.OpenFault.{OpenFault}
 use Rattle.agv_store.specs.declared.open_fault.OpenFault.TheVariants as fault
 
--- the database can't be moved: it has the first schema's rows of no lawful world, or the tables that this schema has besides can't be made beside what it has
+-- the database can't be moved: it has the first schema's rows of no lawful world, or the tables that the second schema has besides can't be made beside what it has
 abbrev pub CannotBeMigrated : Database → Type 0
 CannotBeMigrated db = HasNoFirstWorld db ⊎ (¬ CanBeAdded db.schema)
 
@@ -29,7 +29,7 @@ pub record FirstFound (db : Database) : Type 0 where
   pub world : World
   pub has : HasFirstWorld first db world
 
--- what a crash may leave: the rows of that world as this schema has them
+-- what a crash may leave: the rows of that world as the second schema has them
 pub record LeavesMigrated (old : Database) (trees : Trees) : Type 0 where
   pub had : FirstFound old
   pub found : Database
@@ -37,7 +37,7 @@ pub record LeavesMigrated (old : Database) (trees : Trees) : Type 0 where
   pub trees_are : trees ≡ found.trees
 
 module _ {S : Type 0} (g : Ghosts S) where
-  -- the database had the first schema's rows of a lawful world, it has this schema's rows of the same world, and the desk knows that world
+  -- the database had the first schema's rows of a lawful world, it has the second schema's rows of the same world, and the desk knows that world
   pub record Migrates (old : Held S) (desk : Keyed S) : Type 0 where
     pub was_open : IsOpen g old
     pub had : FirstFound (state g old).now

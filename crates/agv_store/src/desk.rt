@@ -18,7 +18,7 @@ use std::marker::Model;
 /// The desk of one warehouse over its tables in a database. While its store is open, the tables have the rows of a lawful
 /// world (`specs/Floors.antt`): it is the desk's world, and each call is answered from it.
 ///
-/// A desk is made by [`Desk::create`], [`Desk::adopt`] or [`Desk::open`], and gives its connection back by
+/// A desk is made by [`Desk::create`], [`Desk::adopt`], [`Desk::open`] or [`Desk::migrate`], and gives its connection back by
 /// [`Desk::release_conn`].
 #[derive(Drop)]
 pub struct Desk<S: Alter> {

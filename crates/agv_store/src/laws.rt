@@ -50,8 +50,8 @@ pub fn crashes_leave_no_desk_or_all_of_it<S: Alter>()
 }
 
 /// After a crash in the middle of [`Desk::migrate`](crate::Desk::migrate), of a connection that was open and at rest, an
-/// opening finds the database as it was, or this schema's rows of the world whose rows it had as the first schema has them:
-/// so it can be moved still, or adopted.
+/// opening finds the database as it was, or the second schema's rows of the world whose rows it had as the first schema has
+/// them: so it can be moved still, or adopted.
 pub fn crashes_leave_the_first_schema_or_this<S: Alter>()
     ensures { (old new : Held S) → IsOpen S.Store old → (state S.Store old).committed ≡ (state S.Store old).now → IsDatabase (state S.Store old).now
         → IsClean S.Store new → Survives (state S.Store old) (state S.Store new) (LeavesMigrated (state S.Store old).now)

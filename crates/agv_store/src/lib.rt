@@ -3,7 +3,7 @@
 //!
 //! - [`Desk`] is made in a database, or adopted from one (`opening`; [`OpenFault`] says why there is none). It serves one
 //!   call, or a list of calls in turn up to the first fault (`running`), and keeps its world lawful. A database of the first
-//!   schema is moved to this one first (`migration`).
+//!   schema is moved to the second, and its desk taken over (`migration`).
 //! - `keyed_floor` has a connection to the desk's tables that is asked by keys and indexes, as `agv_desk` asks a floor.
 //!   Beside the connection it keeps five counts, and whether the store has failed. `serving` serves one call over it.
 //! - An answer that names a report doesn't hold it: [`Desk::report`] gives its bytes (`reports`). What a report lists is

@@ -1,7 +1,8 @@
-//! A database of the first schema is moved to this one, and the desk in it is taken over.
+//! A database of the first schema is moved to the second, and the desk in it is taken over.
 ghost use Rattle.std.specs.Prelude.{◌≡◌, false, IfOk, OnErr};
 ghost use Rattle.sqlite.specs.Held.{state};
 ghost use Rattle.sqlite.specs.State.{Survives};
+ghost use Rattle.agv_tables.specs.first_schema.Moved.{CanBeAdded};
 ghost use Rattle.agv_tables.specs.sql.Connections.{IsClean, IsOpen};
 ghost use Rattle.agv_store.specs.Migration.{CannotBeMigrated, FindsFirstDesk, LeavesMigrated, Migrates};
 ghost use Rattle.agv_store.specs.Opening.{IsDamaged, left_by};
@@ -35,11 +36,12 @@ fn find_first_desk<S: Alter>(
 }
 
 impl<S: Alter + Drop> Desk<S> {
-    /// Moves a database of the first schema, in which each vehicle has room for one load, to this one, and takes the desk
+    /// Moves a database of the first schema, in which each vehicle has room for one load, to the second, and takes the desk
     /// over. All is done in one transaction: the tables `capacity`, `journey` and `act` are made and have their rows, `trip`
-    /// is emptied, and `meta` has the number of this schema. The world stays the same, and each vehicle has room for one load.
+    /// is emptied, and `meta` has the number of the second schema. The world stays the same, and each vehicle has room for one
+    /// load.
     ///
-    /// A crash leaves the database as it was, or the rows of the same world as this schema has them
+    /// A crash leaves the database as it was, or the rows of the same world as the second schema has them
     /// ([`laws`](crate::laws)).
     ///
     /// # Errors
@@ -55,6 +57,7 @@ impl<S: Alter + Drop> Desk<S> {
         ensures migrated { IfOk result (λ desk. IsClean S.Store desk.held → Migrates S.Store conn desk) }
         ensures works { IfOk result (λ desk. desk.failed ≡ false) }
         ensures damaged { IsClean S.Store (left_by result) → IsDamaged result → CannotBeMigrated (state S.Store conn).now }
+        ensures possible { IfOk result (λ desk. IsClean S.Store desk.held → CanBeAdded (state S.Store conn).now.schema) }
         ensures undone { IsClean S.Store (left_by result) → IsOpen S.Store (left_by result)
             → OnErr result (IsOpen S.Store conn × ((state S.Store (left_by result)).now ≡ (state S.Store conn).now)) }
         ensures idle { (left_by result).in_transaction ≡ false }

@@ -13,6 +13,9 @@ pub enum OpenFault {
     /// or two tables lie in one tree.
     /// For [`Desk::adopt`](crate::Desk::adopt) and [`Desk::open`](crate::Desk::open): the database has the rows of no lawful
     /// world, or a table is missing or is another.
+    /// For [`Desk::migrate`](crate::Desk::migrate): the database has the first schema's rows of no lawful world, or one of its
+    /// eleven tables is missing or is another; or a table, a view or an index has the name of one of the three tables that the
+    /// second schema has besides, or a foreign key refers to one of them.
     #[error("the database's tables are no desk's, or have the rows of no lawful world")]
     Damaged,
     /// Want of memory.

@@ -1,5 +1,5 @@
-//! The first schema of the desk's database, which a world needs in which each vehicle has room for one load, and the move of it
-//! to the second.
+//! The first schema of the desk's database, and the move of it to the second. It has the worlds in which each vehicle has room
+//! for one load.
 //!
 //! - `standing` tells whether its eleven tables stand in a database, and `rows_reading` reads the rows of each.
 //! - `trip_line` and `trip_reading`: an open trip is one row, with that of its job. `world_decoding` tells what all rows tell

@@ -7,7 +7,7 @@
 //! - [`changes`]: what a call changes is written in one transaction.
 //! - [`queries`]: what a floor is asked is asked of the tables, by keys and indexes.
 //! - [`readings`]: whole tables are read, for the world that they tell and what is held.
-//! - [`first_schema`]: the database of the first schema is read, and moved to this one.
+//! - [`first_schema`]: the database of the first schema is read, and moved to the second.
 //!
 //! What holds of a connection and of the next moment is `specs/sql/Connections.antt`; [`laws`] has what follows. What a
 //! database has is stated for a clean store: one whose disk has so far given back what was written to it. A store

@@ -1,13 +1,12 @@
 //! The rows of acts.
-ghost use Rattle.std.specs.Prelude.{◌≡◌, ◌≤◌, IfOk, length};
-ghost use Rattle.agv_trip_rows.specs.TripRows.{act_row, act_rows};
+ghost use Rattle.std.specs.Prelude.{◌≡◌};
+ghost use Rattle.agv_trip_rows.specs.TripRows.{act_row};
 ghost use Rattle.agv_trip_rows.specs.TripsTold.{act_told};
 
-use agv_header::{Memory, Name};
+use agv_header::Name;
 use agv_message::{ActKind, Status};
 use agv_order::Act;
-use agv_world::{JobRow, LegKey, TripRow};
-use std::alloc::Global;
+use agv_world::JobRow;
 
 /// An act of an open trip, but for its order and its number there, and but for its load and its station,
 /// which its job's row has.
@@ -52,19 +51,4 @@ impl ActRow {
             status: self.status,
         }
     }
-}
-
-/// The rows of a trip's acts with their keys: the order and the number of the act, from 0. There are at most 2^32.
-///
-/// `Memory` where an allocation was refused.
-pub fn act_rows(alloc: Global, order: Name, trip: &TripRow) -> Result<Vec<(LegKey, ActRow)>, Memory>
-    requires { length trip.now.acts ≤ 4294967296 }
-    ensures { IfOk result (λ rows. rows.items ≡ act_rows order trip.now) }
-{
-    let mut rows = Vec::new(alloc);
-    for (n, act) in trip.acts.as_slice().iter().enumerate() {
-        let key = LegKey { order, k: n as u32 };
-        rows.push((key, ActRow::of(act)))?;
-    }
-    Ok(rows)
 }

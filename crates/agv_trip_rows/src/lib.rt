@@ -18,7 +18,7 @@ pub mod row_laws;
 pub mod trip_laws;
 mod trip_telling;
 
-pub use act_row::{ActRow, act_rows};
+pub use act_row::ActRow;
 pub use by_act::ByAct;
 pub use journey_row::JourneyRow;
 pub use trip_telling::{acts_told, trips_told};

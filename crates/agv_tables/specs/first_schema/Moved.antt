@@ -51,7 +51,7 @@ pub record CanBeAdded (schema : Schema) : Type 0 where
 abbrev pub without_all : TableName → List (List Row) → List (List Row)
 without_all name = on_table (place_of name) (λ rows. [])
 
--- with the number of this schema in the one row of `meta`
+-- with the number of the second schema in the one row of `meta`
 abbrev pub numbered_anew : List (List Row) → List (List Row)
 numbered_anew lists = with_row the.Meta (meta_columns 1 schema_number) (without_all the.Meta lists)
 

@@ -40,7 +40,7 @@ Reads (Err fault.Memory) given = Unit {0}
 Reads (Err fault.Storage) given = ⊥
 Reads (Err fault.Damaged) given = given ≡ None
 
--- the row of `meta` of this schema
+-- the row of `meta` of the second schema
 abbrev pub is_first_meta : Option (ℕ × ℕ) → Bool
 is_first_meta None = false
 is_first_meta (Some told) = nat_eq told.0 1 && nat_eq told.1 schema_number

@@ -52,7 +52,7 @@ pub record HaveTables (lists : List (List Row)) (tables : Tables) : Type 0 where
   -- the trips of the first schema are gone
   pub trips : table_at (place_of the.Trip) lists ≡ []
 
--- the lists have the row of this schema, the rows of these tables, and those of what is held
+-- the lists have the row of `meta` of the second schema, the rows of these tables, and those of what is held
 pub record HaveAll (lists : List (List Row)) (read : Tables) (held : Holders) : Type 0 where
   pub meta : IsPermutation (table_at (place_of the.Meta) lists) (rows_in meta_columns first_meta)
   pub tables : HaveTables lists read

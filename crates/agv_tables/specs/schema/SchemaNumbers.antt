@@ -1,4 +1,4 @@
--- The numbers of this schema of the desk: its own, and how many loads a vehicle of its desk may be built for.
+-- The numbers of the second schema of the desk: its own, and how many loads a vehicle of its desk may be built for.
 use Rattle.std.specs.Prelude.{ℕ}
 -- the number of the schema, as `meta` has it
 pub use Rattle.agv_world.specs.Rows.{schema_number}

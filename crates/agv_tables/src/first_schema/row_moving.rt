@@ -44,7 +44,7 @@ fn clear_number<S: Alter>(tx: &mut Transaction<'_, S>) -> Result<usize, Error>
     tx.execute("DELETE FROM meta", &[])
 }
 
-// The row of `meta` of this schema.
+// The row of `meta` of the second schema.
 fn number_values() -> [ValueRef<'static>; 2]
     ensures { bound result ≡ meta_columns 1 schema_number }
 {
@@ -65,7 +65,7 @@ fn write_number<S: Alter>(tx: &mut Transaction<'_, S>) -> Result<usize, Error>
     )
 }
 
-// The number of this schema stands in `meta`.
+// The number of the second schema stands in `meta`.
 fn number_anew<S: Alter>(tx: &mut Transaction<'_, S>) -> Result<usize, Error>
     ensures same_reference { tx.new.conn.ghost_name ≡ tx.old.conn.ghost_name }
     ensures survives { Survives (state S.Store tx.old.conn.now) (state S.Store tx.new.conn.now) (λ _. ⊥) }
@@ -154,7 +154,7 @@ fn add_trips<S: Alter>(tx: &mut Transaction<'_, S>, trips: &ByName<TripRow>) -> 
     Ok(())
 }
 
-/// The open trips stand as journeys and acts, each vehicle has a row of its room, and the number of the schema is that of this one.
+/// The open trips stand as journeys and acts, each vehicle has a row of its room, and `meta` has the number of the second schema.
 pub(crate) fn move_rows<S: Alter>(tx: &mut Transaction<'_, S>, tables: &World) -> Result<(), Error>
     ensures same_reference { tx.new.conn.ghost_name ≡ tx.old.conn.ghost_name }
     ensures survives { Survives (state S.Store tx.old.conn.now) (state S.Store tx.new.conn.now) (λ _. ⊥) }

@@ -1,13 +1,10 @@
 //! An open trip of one job, as the table `trip` has it.
-ghost use Rattle.std.specs.Prelude.{◌≡◌, List, ℕ, Some, IfOk};
-ghost use Rattle.agv_world.specs.declared.row.JobRow.{JobRow as RowOfJob};
-ghost use Rattle.agv_world.specs.declared.row.TripRow.{TripRow as RowOfTrip};
-ghost use Rattle.agv_tables.specs.first_schema.TripLines.{TellsTrip, are_of_one_job, line_of, trip_told};
-ghost use Rattle.agv_tables.specs.declared.first_schema.trip_line.TripLine.{TripLine as Line};
+ghost use Rattle.std.specs.Prelude.{◌≡◌, IfOk};
+ghost use Rattle.agv_tables.specs.first_schema.TripLines.{trip_told};
 
 use agv_header::{Memory, Name, VehicleKey};
 use agv_message::{ActKind, Sequence, Status};
-use agv_order::{Act, is_drop};
+use agv_order::Act;
 use agv_world::{JobRow, TripRow};
 use std::alloc::Global;
 
@@ -31,37 +28,7 @@ pub struct TripLine {
     pub drop_status: Status,
 }
 
-fn are_of_one_job(pick: &Act, drop: &Act) -> bool
-    ensures { result ≡ are_of_one_job pick.now drop.now }
-{
-    !is_drop(pick.kind) && is_drop(drop.kind) && pick.job == drop.job && pick.load == drop.load
-}
-
 impl TripLine {
-    /// The line of an open trip; none where the trip's acts are not the pick and the drop of one job.
-    pub fn of(order: Name, trip: &TripRow) -> Option<TripLine>
-        ensures { result ≡ line_of order trip.now }
-    {
-        match trip.acts.as_slice() {
-            [pick, drop] if are_of_one_job(pick, drop) => Some(TripLine {
-                order,
-                vehicle: trip.vehicle,
-                job: pick.job,
-                start: trip.start,
-                first: trip.first,
-                base: trip.base,
-                sent: trip.sent,
-                confirmed: trip.confirmed,
-                seen: trip.seen,
-                pick_at: pick.place_at,
-                drop_at: drop.place_at,
-                pick_status: pick.status,
-                drop_status: drop.status,
-            }),
-            _ => None,
-        }
-    }
-
     /// The row of the trip, where its job has this row.
     ///
     /// `Memory` where an allocation was refused.
@@ -97,10 +64,3 @@ impl TripLine {
         })
     }
 }
-
-/// The trip that a line tells has that line, and a trip that has a line is what the line tells, with some
-/// row of its job.
-pub fn a_line_tells_its_trip()
-    ensures line { (line : Line) (job : RowOfJob) → line_of line.order (trip_told line job) ≡ Some line }
-    ensures trip { (order : List ℕ) (trip : RowOfTrip) (line : Line) → line_of order trip ≡ Some line → TellsTrip order trip line }
-{}

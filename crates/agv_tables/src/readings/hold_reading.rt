@@ -74,7 +74,7 @@ pub fn query_holds<S: Alter>(
     holds_in_rows(alloc, rows.as_slice())
 }
 
-// Whether it is the row of `meta` of this schema.
+// Whether it is the row of `meta` of the second schema.
 fn is_meta(row: &Row) -> bool
     ensures { result ≡ is_first_meta (meta_in row.now) }
 {
@@ -84,7 +84,7 @@ fn is_meta(row: &Row) -> bool
     }
 }
 
-// That these are just the row of `meta` of this schema.
+// That these are just the row of `meta` of the second schema.
 fn meta_in_rows(rows: &[Row]) -> Result<(), ReadingFault>
     ensures { result ≡ meta_read rows.now }
 {
@@ -94,7 +94,8 @@ fn meta_in_rows(rows: &[Row]) -> Result<(), ReadingFault>
     }
 }
 
-/// The table `meta` has just the row of this schema. An answer comes only from an open store, so this asks whether it is one.
+/// The table `meta` has just the row of the second schema. An answer comes only from an open store, so this asks whether it is
+/// one.
 ///
 /// It fails as [`ReadingFault`] says.
 pub fn query_meta<S: Alter>(conn: &mut Connection<S>) -> Result<(), ReadingFault>

@@ -77,7 +77,7 @@ pub fn read_tables<S: Alter>(alloc: Global, conn: &mut Connection<S>) -> Result<
     })
 }
 
-/// All tables: those of the world in memory, and who holds what. The row of `meta` is that of this schema.
+/// All tables: those of the world in memory, and who holds what. The row of `meta` is that of the second schema.
 ///
 /// Where [`World::is_lawful`](agv_world::World::is_lawful), asked with four places on each vehicle (`is_lawful(alloc, 4)`), and
 /// [`HeldThings::are_footprints`] both answer `true`, the database has the rows of a lawful world with at most four places on each

@@ -7,7 +7,8 @@ use sqlite::{Error, ErrorCode};
 /// Why the desk's tables aren't made.
 #[derive(Clone, Copy, Debug, PartialEq, Eq, thiserror::Error)]
 pub enum MakingFault {
-    /// A table, a view or an index has the name of one of the desk's tables.
+    /// A table, a view or an index has the name of one of the desk's tables that are to be made. For
+    /// [`move_tables`](crate::first_schema::table_moving::move_tables) also: a foreign key refers to one of them.
     #[error("a table, a view or an index has the name of one of the desk's tables")]
     Taken,
     /// Want of memory.

@@ -1,5 +1,5 @@
 use Rattle.std.proofs.Common.{inl, not, ap, ◌∙◌}
-use Rattle.agv_store.proofs.Moving.{crash_leaves, damaged_only, migrates, moved_kept, none_added}
+use Rattle.agv_store.proofs.Moving.{could_be_added, crash_leaves, damaged_only, migrates, moved_kept, none_added}
 use Rattle.agv_store.proofs.desk.Desk.migrate.Goals as goal
 
 pub returns-in-Err-clause-damaged : goal.returns-in-Err-clause-damaged
@@ -16,6 +16,11 @@ returns-in-Ok-move_tables-clause-migrated g c =
     let its = c.in-Ok-move_tables.ensures in
     migrates g.S.Store c.args.conn c.find_first_desk.new.conn c.move_tables.new.conn c.in-Ok.found.0 c.in-Ok.found.1 c.in-Ok.ensures
     (c.is_autocommit-settled.ensures.settled (c.is_autocommit-settled.ensures.value ∙ ap not c.requires)) its.crash its.idle its.open its.all_committed its.made
+
+pub returns-in-Ok-move_tables-clause-possible : goal.returns-in-Ok-move_tables-clause-possible
+returns-in-Ok-move_tables-clause-possible g c =
+    could_be_added g.S.Store c.args.conn c.find_first_desk.new.conn c.move_tables.new.conn c.in-Ok.found.0 c.in-Ok.found.1 c.in-Ok.ensures
+    (c.is_autocommit-settled.ensures.settled (c.is_autocommit-settled.ensures.value ∙ ap not c.requires)) c.in-Ok-move_tables.ensures.crash _ c.in-Ok-move_tables.ensures.taken
 
 pub returns-in-Ok-move_tables-clause-crash : goal.returns-in-Ok-move_tables-clause-crash
 returns-in-Ok-move_tables-clause-crash g c =
