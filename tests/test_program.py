@@ -167,7 +167,8 @@ class Replay(ProgramTest):
         """They are the same before the file is closed and once it is opened again, by a request and by `report`."""
         stock, holds = (b'GET /report/%s HTTP/1.1\r\n\r\n' % name for name in (b'stock', b'holds'))
         self.assertTrue(self.transport.endswith(stock))
-        wanted = b''.join(b'HTTP/1.1 200 OK\r\nContent-Length: %d\r\nContent-Type: text/plain\r\n\r\n%s' % (len(text), text) for text in (STOCK, HOLDS))
+        head = b'HTTP/1.1 200 OK\r\nContent-Length: %d\r\nContent-Type: text/plain\r\n\r\n'
+        wanted = b''.join(head % len(text) + text for text in (STOCK, HOLDS))
         status, out, said = self.replay(self.transport + holds)
         self.assertEqual((status, out[-len(wanted):], said), (0, wanted, b''))
         self.assertEqual(self.replay(stock + holds), (0, wanted, b''))
