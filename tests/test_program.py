@@ -410,12 +410,10 @@ class Clock(ProgramTest):
         order = b'GET /uagv/v2/KIT/0001/order HTTP/1.1\r\n\r\n'
         front = self.transport[:self.transport.index(order)] + order
         for seconds, moment in ((0, b'1970-01-01T00:00:00.00Z'), (4_102_444_799, b'2099-12-31T23:59:59.00Z')):
+            self.db = os.path.join(self.folder.name, '%d.db' % seconds)
             status, said, answer = self.serve(seconds, front, 1)
             self.assertEqual((status, said), (0, b''))
-            # the answer to the order that is made, and the one to the question for it
-            self.assertEqual(re.findall(b'"timestamp":"([^"]*)"', answer), [moment] * 2)
-            os.remove(self.db)
-            os.remove(self.db + '-wal')
+            self.assertEqual(re.findall(b'"timestamp":"([^"]*)"', answer), [moment])
 
     def test_moments_out_of_range(self):
         """From 2100 on, before 1970, and where there is no time to be had: the first connection is closed with no answer, and nobody else
