@@ -20,10 +20,17 @@ import threading
 import time
 import unittest
 
+import tracing
+
 HERE = os.path.dirname(os.path.abspath(__file__))
 DESK = os.path.abspath(os.environ.get('DESK', os.path.join(HERE, '..', 'build', 'desk')))
 TRANSPORT = os.path.join(HERE, '..', 'examples', 'transport.http')
 AT = '1700000000000'
+
+# The reports at the end of the transport: L1 stands at B, and of three nodes and four edges the vehicle holds the one where it stands.
+STOCK = b'station A at N1: 0 of 1, reserved 0\nstation B at N3: 1 of 1, reserved 0\n  L1\nstation C at N3: 0 of 2, reserved 0\n' \
+    b'checking: 0\nvehicle KIT/0001: 0\nleft: 0\n'
+HOLDS = b'node N3 KIT/0001\nheld 1 of 7\n'
 
 
 def has_loopback():
@@ -157,13 +164,16 @@ class Replay(ProgramTest):
         self.assertEqual((status, out[-43:]), (0, b'{"job":null,"load":"L1","place":"checking"}'))
 
     def test_reports(self):
-        self.replay(self.transport)
-        status, out, _ = self.replay(b'GET /report/stock HTTP/1.1\r\n\r\n')
-        body = out[out.index(b'\r\n\r\n') + 4:]
-        self.assertEqual(run('report', '--db', self.db, 'stock'), (0, body, b''))
-        status, out, _ = self.replay(b'GET /report/holds HTTP/1.1\r\n\r\n')
-        body = out[out.index(b'\r\n\r\n') + 4:]
-        self.assertEqual(run('report', '--db', self.db, 'holds'), (0, body, b''))
+        """They are the same before the file is closed and once it is opened again, by a request and by `report`."""
+        stock, holds = (b'GET /report/%s HTTP/1.1\r\n\r\n' % name for name in (b'stock', b'holds'))
+        self.assertTrue(self.transport.endswith(stock))
+        head = b'HTTP/1.1 200 OK\r\nContent-Length: %d\r\nContent-Type: text/plain\r\n\r\n'
+        wanted = b''.join(head % len(text) + text for text in (STOCK, HOLDS))
+        status, out, said = self.replay(self.transport + holds)
+        self.assertEqual((status, out[-len(wanted):], said), (0, wanted, b''))
+        self.assertEqual(self.replay(stock + holds), (0, wanted, b''))
+        self.assertEqual(run('report', '--db', self.db, 'stock'), (0, STOCK, b''))
+        self.assertEqual(run('report', '--db', self.db, 'holds'), (0, HOLDS, b''))
 
     @over_sockets
     def test_the_file_while_a_desk_holds_it(self):
@@ -191,10 +201,8 @@ class Replay(ProgramTest):
         base.backup(other)
         base.close()
         other.close()
-        told = run('report', '--db', copy, 'stock')
-        self.assertEqual((told[0], told[2]), (0, b''))
-        self.assertIn(b'  L1\n', told[1])
-        self.assertEqual(told, run('report', '--db', self.db, 'stock'))
+        for db in (copy, self.db):
+            self.assertEqual(run('report', '--db', db, 'stock'), (0, STOCK, b''))
 
     def test_the_program_is_one_file(self):
         """A copy in an empty folder runs with an empty environment, and loads nothing of the kit."""
@@ -338,7 +346,7 @@ class Serve(ProgramTest):
 class Killed(ProgramTest):
     def test_each_answered_call_is_kept(self):
         """The program is killed under load; what it had answered is in the file."""
-        number = 0
+        number, kept = 0, 0
         for turn in range(10):
             answered = []
             with Serving(self.db) as desk:
@@ -361,6 +369,61 @@ class Killed(ProgramTest):
                 for name in answered:
                     self.assertEqual(desk.ask('GET', '/loads/' + name, connection=connection)[0], 200, name)
                 connection.close()
+            kept += len(answered)
+        self.assertGreater(kept, 10)
+
+
+def lacks_clock():
+    """Why the program's clock can't be set; None where it can."""
+    lacks = tracing.lacks()
+    if lacks:
+        return lacks
+    try:
+        slots = tracing.slots_of(DESK, tracing.Clock.NAMES)[1]
+    except (OSError, ValueError) as error:
+        return 'the calls of the clock can not be found: %s' % error
+    return None if slots else 'the program asks no C library that is loaded beside it for the time'
+
+
+@over_sockets
+class Clock(ProgramTest):
+    """The clock is set, by code in the place of the function that the program asks for the time."""
+
+    def setUp(self):
+        super().setUp()
+        lacks = lacks_clock()
+        if lacks:
+            self.skipTest(lacks)
+
+    def serve(self, seconds, request, connections):
+        """How the program ends that is sent this by its first connection, and what it answers there."""
+        from faults import asks, port_of  # which take from this file themselves
+        answers = []
+        words = [DESK, 'serve', '--db', self.db, '--port', '0', '--connections', str(connections)]
+        ended = tracing.run(words, heap=tracing.Clock(DESK, seconds), beside=lambda process: answers.append(asks(port_of(process), request)))
+        self.assertRegex(ended.out, rb'^listening on 127\.0\.0\.1:\d+\n$')
+        self.assertEqual(ended.asked, 1)
+        return ended.status, ended.said, answers[0]
+
+    def test_the_first_and_the_last_moment(self):
+        """They are the moments of the connection, which its order message has."""
+        order = b'GET /uagv/v2/KIT/0001/order HTTP/1.1\r\n\r\n'
+        front = self.transport[:self.transport.index(order)] + order
+        for seconds, moment in ((0, b'1970-01-01T00:00:00.00Z'), (4_102_444_799, b'2099-12-31T23:59:59.00Z')):
+            self.db = os.path.join(self.folder.name, '%d.db' % seconds)
+            status, said, answer = self.serve(seconds, front, 1)
+            self.assertEqual((status, said), (0, b''))
+            self.assertEqual(re.findall(b'"timestamp":"([^"]*)"', answer), [moment])
+
+    def test_moments_out_of_range(self):
+        """From 2100 on, before 1970, and where there is no time to be had: the first connection is closed with no answer, and nobody else
+        is served."""
+        for seconds in (4_102_444_800, (1 << 63) - 1, -1, -1 << 63, None):
+            ended = self.serve(seconds, b'POST /loads HTTP/1.1\r\nContent-Length: 13\r\n\r\n{"load":"L1"}', 2)
+            self.assertEqual(ended, (1, b'fault: Clock\n', b''), seconds)
+        status, out, said = self.replay(b'GET /loads/L1 HTTP/1.1\r\n\r\n')
+        self.assertEqual((status, said), (0, b''))
+        self.assertTrue(out.endswith(b'{"name":"NoLoad","refusal":23}'))
 
 
 def limit_files():
@@ -471,8 +534,27 @@ REFUSED = [
     (('--help',), 'The control desk of one warehouse: its vehicles, loads and orders\n\nUsage: desk <COMMAND>\n\nCommands:\n  replay  '),
     (('replay', '--help'), 'Reads requests from standard input and writes the answers to standard output\n\nUsage: '),
     (('report', '--help'), 'Prints a report of the records: where the loads are, or what the vehicles hold\n\nUsage: '),
+    (('migrate', '--help'), 'Moves a file of the first schema to this one, and prints `migrated`\n\nUsage: '),
+    (('migrate',), LACKING + '\n  --db <FILE>\n'),
     (('serve', '--help'), 'Answers requests over the network, to programs on this machine (127.0.0.1)\n\nUsage: '),
 ]
+
+# The example at the end of the help of the command, and of each subcommand.
+EXAMPLES = {
+    '': 'desk replay --db memory --at 1700000000000 < requests.txt',
+    'replay': 'desk replay --db memory --at 1700000000000 < requests.txt',
+    'serve': 'desk serve --db desk.db --port 8080 --connections 100',
+    'report': 'desk report --db desk.db stock',
+    'migrate': 'cp desk.db copy.db; desk migrate --db desk.db',
+}
+
+
+def write_first(db):
+    """Makes a file of the first schema by another SQLite: KIT/0001 stands at N1 with an order of two edges for L1, from A to B."""
+    from test_migrate import BEGUN, FIRST  # which takes from this file itself
+    base = sqlite3.connect(db)
+    base.executescript(FIRST + BEGUN)
+    base.close()
 
 
 class Exits(ProgramTest):
@@ -483,8 +565,12 @@ class Exits(ProgramTest):
         self.assertEqual((done.returncode, done.stdout or b'', done.stderr), (1, b'', b'fault: %s\n' % name), words)
 
     def each(self, db):
-        """A line of each of the three programs over this file."""
+        """A line of each of the three programs that serve or tell of this file."""
         return [('replay', '--db', db, '--at', AT), ('serve', '--db', db, '--port', '0', '--connections', '0'), ('report', '--db', db, 'stock')]
+
+    def all(self, db):
+        """These, and one of the program that moves a file."""
+        return [*self.each(db), ('migrate', '--db', db)]
 
     def test_words_that_are_refused(self):
         for words, wanted in REFUSED:
@@ -492,6 +578,29 @@ class Exits(ProgramTest):
             self.assertEqual((done.returncode, done.stdout), (2, b''), words[:4])
             self.assertEqual(done.stderr.decode()[:len(wanted)], wanted)
             self.assertEqual(os.listdir(self.folder.name), [], words[:4])
+
+    def test_help_ends_with_an_example(self):
+        for name, example in EXAMPLES.items():
+            words = [name, '--help'] if name else ['--help']
+            done = subprocess.run([DESK, *words], capture_output=True, timeout=60, cwd=self.folder.name)
+            self.assertEqual((done.returncode, done.stdout), (2, b''), words)
+            self.assertEqual(done.stderr.decode().split('\n\n')[-1], 'Example: %s\n' % example, words)
+
+    def test_the_examples_of_the_help(self):
+        """Each is taken as it stands, `serve` with a free port and for no connection."""
+        os.symlink(DESK, os.path.join(self.folder.name, 'desk'))
+        with open(os.path.join(self.folder.name, 'requests.txt'), 'wb') as file:
+            file.write(self.transport)
+        write_first(os.path.join(self.folder.name, 'desk.db'))
+        # the first load of the file that is moved waits at A for its vehicle, on its way to B
+        begun = b'station A at N1: 1 of 1, reserved 0\n  L1\nstation B at N3: 0 of 1, reserved 1\nstation C at N3: 0 of 2, reserved 0\n' \
+            b'checking: 0\nvehicle KIT/0001: 0\nleft: 0\n'
+        for name, wanted in (('migrate', b'migrated\n'), ('report', begun), ('replay', STOCK), ('serve', b'listening on 127.0.0.1:')):
+            line = EXAMPLES[name].replace('--port 8080 --connections 100', '--port 0 --connections 0')
+            done = subprocess.run(['sh', '-c', 'PATH=.:$PATH; ' + line], capture_output=True, timeout=60, cwd=self.folder.name)
+            self.assertEqual((done.returncode, done.stderr), (0, b''), line)
+            found = done.stdout[-len(wanted):] if name == 'replay' else done.stdout[:len(wanted)] if name == 'serve' else done.stdout
+            self.assertEqual(found, wanted, line)
 
     def test_least_and_greatest_values(self):
         for at in ('0', '+0', '4102444799999'):
@@ -512,14 +621,16 @@ class Exits(ProgramTest):
     def test_files_that_cannot_be_opened(self):
         """`memory` by another spelling and an empty name are names of files that can't be had."""
         for db in ('', ':memory:', 'file:a.db', self.folder.name, os.path.join(self.folder.name, 'a', 'b.db'), 'x' * 100_000):
-            for words in self.each(db):
+            for words in self.all(db):
                 self.fault(b'Storage', words, cwd=self.folder.name)
         self.assertEqual(os.listdir(self.folder.name), [])
 
     def test_files_without_rights(self):
-        """Of a file that may not be read or not be written nothing is served, and it is left as it is."""
+        """Of a file that may not be read or not be written nothing is served or moved, and it is left as it is."""
         self.replay(b'POST /loads HTTP/1.1\r\nContent-Length: 13\r\n\r\n{"load":"L1"}')
-        before = self.files()
+        first = os.path.join(self.folder.name, 'first.db')
+        write_first(first)
+        before = self.files(self.db, first)
         os.chmod(self.folder.name, 0o777)
         # who may do everything becomes nobody, who runs a copy of the program
         program = os.path.join(self.folder.name, 'desk')
@@ -528,18 +639,21 @@ class Exits(ProgramTest):
         rights = {'preexec_fn': lambda: os.setuid(65534)} if os.getuid() == 0 else {}
         for mode in (0o000, 0o444):
             os.chmod(self.db, mode)
-            for words in self.each(self.db):
+            os.chmod(first, mode)
+            for words in [*self.each(self.db), ('migrate', '--db', first)]:
                 done = subprocess.run([program, *words], stdin=subprocess.DEVNULL, capture_output=True, timeout=60, **rights)
                 self.assertEqual((done.returncode, done.stdout, done.stderr), (1, b'', b'fault: Storage\n'), (mode, words))
-            self.assertEqual({name: data for name, data in self.files().items() if name in before}, before)
+            after = self.files(self.db, first)
+            self.assertEqual({name: after[name] for name in before}, before)
 
-    def files(self):
-        """The bytes of the file and of the log beside it, where there is one."""
+    def files(self, *dbs):
+        """The bytes of the file, or of these files, and of the log beside each, where there is one."""
         found = {}
-        for name in (self.db, self.db + '-wal'):
-            if os.path.exists(name):
-                with open(name, 'rb') as file:
-                    found[name] = file.read()
+        for db in dbs or (self.db,):
+            for name in (db, db + '-wal'):
+                if os.path.exists(name):
+                    with open(name, 'rb') as file:
+                        found[name] = file.read()
         return found
 
     def test_an_input_that_cannot_be_read(self):
@@ -559,7 +673,7 @@ class Exits(ProgramTest):
         with open(self.db, 'wb') as file:
             file.write(b'this is no database, but a text of some length. ' * 100)
         before = self.files()
-        for words in self.each(self.db):
+        for words in self.all(self.db):
             self.fault(b'Storage', words)
         self.assertEqual(self.files()[self.db], before[self.db])
 
@@ -569,7 +683,7 @@ class Exits(ProgramTest):
         base.commit()
         base.close()
         before = self.files()
-        for words in self.each(self.db):
+        for words in self.all(self.db):
             self.fault(b'Damaged', words)
         self.assertEqual(self.files()[self.db], before[self.db])
 
@@ -601,6 +715,17 @@ class Exits(ProgramTest):
             for words in [MEMORY + ('--at', AT), *self.each(self.db)]:
                 with open(request, 'rb') as stdin:
                     self.fault(b'Write', words, stdin=stdin, stdout=full)
+
+    def test_a_move_whose_word_nobody_takes(self):
+        """The file is moved all the same: a desk starts on it, and it isn't moved once more."""
+        write_first(self.db)
+        with open('/dev/full', 'wb') as full:
+            self.fault(b'Write', ('migrate', '--db', self.db), stdout=full)
+        base = sqlite3.connect(self.db)
+        self.assertEqual(base.execute('SELECT * FROM meta').fetchall(), [(1, 2)])
+        base.close()
+        self.assertEqual(run('report', '--db', self.db, 'holds'), (0, b'node N1 KIT/0001\nnode N2 KIT/0001\nedge E12 KIT/0001\nheld 3 of 7\n', b''))
+        self.fault(b'Damaged', ('migrate', '--db', self.db))
 
     @over_sockets
     def test_a_second_program_is_told(self):

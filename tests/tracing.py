@@ -184,8 +184,40 @@ class Heap:
         return starts, code.ljust(3072, b'\xcc') + tail
 
 
-def slots_of(program):
-    """Where an ELF file of x86-64 begins, and where its table of imports has the functions of the heap."""
+class Clock:
+    """The clock of the day shows so many seconds since 1970 whenever the program asks the C library for it; where they are None it can't
+    be read. It is handed to `run` as a `Heap` is, and its calls are counted as those of the heap are. Other clocks go on."""
+
+    NAMES = ('clock_gettime',)
+    times = 0
+
+    def __init__(self, program, seconds):
+        self.entry, self.slots = slots_of(program, self.NAMES)
+        self.seconds = seconds
+
+    def code(self, originals):
+        """The page that stands in the place of this function."""
+        asked, left = 3072, 3096
+
+        def beside(place, size):
+            return struct.pack('<i', place - (len(code) + size))
+
+        code = b'\xf3\x0f\x1e\xfa'                                       # endbr64
+        code += b'\x85\xff\x74\x06'                                      # test edi, edi; jz, over the next: 0 is the clock of the day
+        code += b'\xff\x25' + beside(left, 6)                            # jmp [original]
+        code += b'\xf0\x48\xff\x05' + beside(asked, 8)                   # lock inc [asked]
+        if self.seconds is None:
+            code += b'\xb8' + struct.pack('<i', -1) + b'\xc3'             # mov eax, -1; ret
+        else:
+            code += b'\x48\xb8' + struct.pack('<q', self.seconds)         # mov rax, seconds
+            code += b'\x48\x89\x06\x48\xc7\x46\x08' + bytes(4)            # mov [rsi], rax; mov qword [rsi + 8], 0
+            code += b'\x31\xc0\xc3'                                      # xor eax, eax; ret
+        tail = struct.pack('<3q', 0, 0, 0) + struct.pack('<Q', originals[0][1])
+        return [0] * len(originals), code.ljust(asked, b'\xcc') + tail
+
+
+def slots_of(program, names=Heap.NAMES):
+    """Where an ELF file of x86-64 begins, and where its table of imports has these functions, or those of the heap."""
     with open(program, 'rb') as file:
         data = file.read()
     if data[:5] != b'\x7fELF\x02':
@@ -216,7 +248,7 @@ def slots_of(program):
                 name, = struct.unpack_from('<I', data, place(dynamic[6]) + 24 * (info >> 32))
                 begin = place(dynamic[5]) + name
                 text = data[begin:data.index(b'\0', begin)].decode()
-                if text in Heap.NAMES:
+                if text in names:
                     slots[where] = text
     return entry, slots
 
