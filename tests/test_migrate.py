@@ -1,13 +1,15 @@
-"""Files of the first schema, whose rows are written here by another SQLite, moved by `migrate`: the rows of the second schema that they
-have then, what is told and goes on unchanged, and the files that are refused and stay as they are."""
+"""Files of the first schema, whose rows are written here by another SQLite, in the file or in the log beside it, moved by `migrate`: the
+rows of the second schema that they have then, what is told and goes on unchanged, and the files that are refused and stay as they are."""
+import contextlib
 import os
+import shutil
 import sqlite3
 import tempfile
 import unittest
 
-from records import COLUMNS, broken, rows_of
+from records import COLUMNS, broken, copied, rows_of
 from test_program import AT, run
-from test_scripts import SCRIPTS, accepted, advance, answers_of, bytes_of, holds, ok, stands, state
+from test_scripts import FIRST_EDGE, SCRIPTS, accepted, advance, answers_of, bytes_of, holds, load, ok, stands, state
 
 # The first schema, as its desk has made it.
 FIRST = '''
@@ -55,12 +57,28 @@ INSERT INTO hold VALUES ('node', 'N1', 'KIT', '0001'), ('edge', 'E12', 'KIT', '0
 INSERT INTO used VALUES ('order', 'O1');
 '''
 NEW = ('capacity', 'journey', 'act')
+BEGUN_MOVED = {
+    'capacity': [('KIT', '0001', 1)],
+    'journey': [('O1', 'KIT', '0001', 'N1', 0, 1, 0, None, 0)],
+    'act': [('O1', 0, 'J1', 'pick', 0, 'WAITING'), ('O1', 1, 'J1', 'drop', 2, 'WAITING')]}
 # The open trips of a file of the second schema as the first has them, where each vehicle has room for one load.
 OLD_TRIPS = '''
 SELECT order_id, j.manufacturer, j.serial, p.job, j.start, j.first, j.base, j.sent, j.confirmed, j.seen, p.place_at, d.place_at, p.status, d.status
 FROM journey j JOIN act p USING (order_id) JOIN act d USING (order_id) WHERE p.kind = 'pick' AND d.kind = 'drop'
 '''
 FILES = ('', '-wal')
+PICKED = [('O1.0', 'FINISHED')]
+# Besides the scripts of others: an update is confirmed, and its order goes on.
+MOVED = {**SCRIPTS, 'an update is confirmed': FIRST_EDGE + [
+    accepted(state(2, 'O1', statuses=PICKED)), ok(*advance('O1', 1, 1), '{"orderUpdateId":1}'),
+    accepted(state(3, 'O1', 1, 'N2', 2, PICKED)), holds('node N2 KIT/0001', 'node N3 KIT/0001', 'edge E23 KIT/0001'),
+    accepted(state(4, 'O1', 1, 'N3', 4, PICKED + [('O1.1', 'RUNNING')])), stands('L1', 'vehicle KIT/0001', 'J1'),
+    accepted(state(5, 'O1', 1, 'N3', 4, PICKED + [('O1.1', 'FINISHED')])), stands('L1', 'station B')]}
+# The log beside a file: its header, and before each page the header of a frame.
+HEADER, FRAME = 32, 24
+# How many statements are in the file, and how many more commits in the log: all is in the log; older frames stand behind those of the last
+# rows; the log is so long that it is copied into the file before more is written.
+LOGS = ((0, 0), (20, 0), (0, 1000))
 MESSAGE = (
     '{"edges":[{"actions":[],"edgeId":"E12","endNodeId":"N2","released":true,"sequenceId":1,"startNodeId":"N1"},'
     '{"actions":[],"edgeId":"E23","endNodeId":"N3","released":false,"sequenceId":3,"startNodeId":"N2"}],"headerId":1,"manufacturer":"KIT",'
@@ -70,6 +88,19 @@ MESSAGE = (
     '"actionParameters":[{"key":"stationType","value":"station"},{"key":"stationName","value":"B"},{"key":"loadType","value":"load"},'
     '{"key":"loadId","value":"L1"}],"actionType":"drop","blockingType":"HARD"}],"nodeId":"N3","released":false,"sequenceId":4}],'
     '"orderId":"O1","orderUpdateId":0,"serialNumber":"0001","timestamp":"2023-11-14T22:13:20.00Z","version":"2.0.0"}')
+
+
+def committed(log):
+    """The front of a log that has its frames, which are those with the salts of its header; nothing where it has none."""
+    end, size = HEADER, FRAME + int.from_bytes(log[8:12], 'big')
+    while len(log) >= end + size and log[end + 8:end + 16] == log[16:24]:
+        end += size
+    return log[:end] if end > HEADER else b''
+
+
+def for_more(lines):
+    """Whether a vehicle gets room for more than one load."""
+    return any(isinstance(body, dict) and body.get('capacity', 1) > 1 and status == 200 for _, body, status, _ in lines)
 
 
 class Migrate(unittest.TestCase):
@@ -84,9 +115,44 @@ class Migrate(unittest.TestCase):
         """Has these statements carried out by another SQLite, in a file of the first schema if there is none yet."""
         first = [] if os.path.exists(self.db) else [FIRST]
         base = sqlite3.connect(self.db)
-        for text in (*first, *texts):
+        for text in ('PRAGMA synchronous = OFF', *first, *texts):
             base.executescript(text)
         base.close()
+
+    @contextlib.contextmanager
+    def other(self, log=True):
+        """Another SQLite over a copy of the file, and of the log beside it: the files stay as they are."""
+        with tempfile.TemporaryDirectory() as folder:
+            copy = copied(self.db, folder)
+            if not log and os.path.exists(copy + '-wal'):
+                os.remove(copy + '-wal')
+            with contextlib.closing(sqlite3.connect(copy)) as base:
+                yield base
+
+    def dump(self, log=True):
+        """All that is in the database, as statements."""
+        with self.other(log) as base:
+            return list(base.iterdump())[1:-1]
+
+    def put_in_log(self, inside=0, commits=0):
+        """Writes the file anew, with all but the first statements `inside` in the log alone, and so many commits more behind them: both files
+        are copied while a connection is open that never copies its log, and so are as a desk leaves them."""
+        statements = self.dump()
+        with tempfile.TemporaryDirectory() as folder:
+            made = os.path.join(folder, 'made.db')
+            with contextlib.closing(sqlite3.connect(made, isolation_level=None)) as base:
+                for pragma in ('journal_mode = WAL', 'wal_autocheckpoint = 0', 'synchronous = OFF'):
+                    base.execute('PRAGMA ' + pragma)
+                for number, statement in enumerate(statements):
+                    if 0 < number == inside:
+                        base.execute('PRAGMA wal_checkpoint')
+                    base.execute(statement)
+                for number in range(commits, 0, -1):
+                    base.execute('UPDATE meta SET schema = %d' % number)
+                for end in FILES:
+                    shutil.copyfile(made + end, self.db + end)
+        self.assertEqual((self.dump(log=False) == [], self.dump()), (inside == 0, statements))
+        self.assertNotEqual(self.dump(log=False), statements)
 
     def bytes(self):
         found = {}
@@ -98,10 +164,8 @@ class Migrate(unittest.TestCase):
 
     def rows(self):
         """The rows of the first schema."""
-        base = sqlite3.connect(self.db)
-        found = {table: sorted(base.execute('SELECT * FROM ' + table), key=repr) for table in COLUMNS if table not in NEW}
-        base.close()
-        return found
+        with self.other() as base:
+            return {table: sorted(base.execute('SELECT * FROM ' + table), key=repr) for table in COLUMNS if table not in NEW}
 
     def moved(self):
         """The file is moved: what the old tables had is there still but for `trip` and `meta`, and breaks no rule."""
@@ -117,10 +181,23 @@ class Migrate(unittest.TestCase):
         return {table: rows[table] for table in NEW}
 
     def refused(self):
-        """The file is damaged to `migrate`, and stays the same to the byte."""
-        before = self.bytes()
+        """The file is damaged to `migrate`, and stays the same to the byte. So does the log beside it, but for one byte behind its frames, which
+        tells that they end there, and what is between; one without frames is made where there is none."""
+        before, statements = self.bytes(), self.dump()
         self.assertEqual(run('migrate', '--db', self.db), (1, b'', b'fault: Damaged\n'))
-        self.assertEqual(self.bytes()[''], before[''])
+        after = self.bytes()
+        self.assertEqual(after[''], before[''])
+        old, new = before.get('-wal', b''), after['-wal']
+        front = committed(old)
+        if front:
+            end = len(front) + 8
+            self.assertEqual(new[:end], old[:end].ljust(end, b'\0'))
+            self.assertNotEqual(new[end], front[16])
+            self.assertEqual(new[end + 1:], old[end + 1:])
+        else:
+            self.assertLess(len(new), HEADER + FRAME)
+        self.assertEqual(self.dump(), statements)
+        self.assertEqual(sorted(os.listdir(self.folder.name)), ['first.db', 'first.db-wal'])
 
     def check(self, *lines):
         """Requests with the answers that are wanted, to a program over the file."""
@@ -132,11 +209,14 @@ class Migrate(unittest.TestCase):
         """It is moved once, its message is the same to the byte, and the vehicle carries it out."""
         self.write(BEGUN)
         self.assertEqual(run('report', '--db', self.db, 'stock'), (1, b'', b'fault: Damaged\n'))
-        self.assertEqual(self.moved(), {
-            'capacity': [('KIT', '0001', 1)],
-            'journey': [('O1', 'KIT', '0001', 'N1', 0, 1, 0, None, 0)],
-            'act': [('O1', 0, 'J1', 'pick', 0, 'WAITING'), ('O1', 1, 'J1', 'drop', 2, 'WAITING')]})
+        self.assertEqual(self.moved(), BEGUN_MOVED)
+        moved = self.bytes()
         self.refused()
+        self.assertEqual(self.bytes(), moved)
+        self.goes_on()
+
+    def goes_on(self):
+        """The order that is begun has its message, and is carried out."""
         self.check(
             ok('GET /uagv/v2/KIT/0001/order', None, MESSAGE), holds('node N1 KIT/0001', 'node N2 KIT/0001', 'edge E12 KIT/0001'),
             accepted(state(2, 'O1', statuses=[('O1.0', 'FINISHED')])), stands('L1', 'vehicle KIT/0001', 'J1'),
@@ -162,14 +242,59 @@ class Migrate(unittest.TestCase):
         self.write(BEGUN, "CREATE TABLE note (a TEXT); INSERT INTO note VALUES ('b'); CREATE INDEX by_a ON note (a);"
                           'CREATE VIEW standing AS SELECT id FROM load')
         self.assertEqual(run('migrate', '--db', self.db), (0, b'migrated\n', b''))
-        base = sqlite3.connect(self.db)
-        self.assertEqual(base.execute('SELECT a, id FROM note, standing').fetchall(), [('b', 'L1')])
-        self.assertEqual(base.execute('PRAGMA integrity_check').fetchall(), [('ok',)])
-        base.close()
+        with self.other() as base:
+            self.assertEqual(base.execute('SELECT a, id FROM note, standing').fetchall(), [('b', 'L1')])
+            self.assertEqual(base.execute('PRAGMA integrity_check').fetchall(), [('ok',)])
         self.check(ok('GET /uagv/v2/KIT/0001/order', None, MESSAGE))
 
+    def test_rows_in_the_log(self):
+        """They are moved as those in the file are."""
+        for inside, commits in LOGS:
+            with self.subTest(inside=inside, commits=commits):
+                self.write_anew(BEGUN)
+                self.put_in_log(inside, commits)
+                before = self.bytes()
+                front = committed(before['-wal'])
+                self.assertGreater(len(front), commits * (FRAME + 4096))
+                self.assertEqual(len(before['-wal']) > len(front), inside > 0)
+                self.assertEqual(self.moved(), BEGUN_MOVED)
+                self.assertEqual(self.bytes()[''] != before[''], commits > 0)
+                self.goes_on()
+
+    def test_a_log_that_is_refused(self):
+        """Both files stay as they are; a second refusal changes no byte."""
+        for inside, commits in LOGS:
+            with self.subTest(inside=inside, commits=commits):
+                self.write_anew(BEGUN, "UPDATE trip SET pick_status = 'DONE'")
+                self.put_in_log(inside, commits)
+                self.refused()
+                once = self.bytes()
+                self.refused()
+                self.assertEqual(self.bytes(), once)
+
+    def test_a_file_that_is_not_there(self):
+        """Nor is an empty one of the first schema. What is left, as by any opening, is a database without a table, in which a desk begins."""
+        for made in (False, True):
+            with self.subTest(made=made):
+                self.remove()
+                if made:
+                    open(self.db, 'wb').close()
+                self.assertEqual(run('migrate', '--db', self.db), (1, b'', b'fault: Damaged\n'))
+                self.assertEqual(self.dump(), [])
+                self.refused()
+                self.check(load('L1'), stands('L1', 'checking'))
+
+    def test_what_cannot_be_opened(self):
+        with open(self.db, 'wb') as file:
+            file.write(b'this is no database, but a text of some length. ' * 100)
+        before = self.bytes()
+        for db in (self.db, self.folder.name, os.path.join(self.folder.name, 'a', 'b.db')):
+            self.assertEqual(run('migrate', '--db', db), (1, b'', b'fault: Storage\n'), db)
+        self.assertEqual(self.bytes()[''], before[''])
+        self.assertLessEqual(set(os.listdir(self.folder.name)), {'first.db', 'first.db-wal'})
+
     def take_back(self, second):
-        """Writes a file of the first schema with the rows of one of the second, in which each vehicle has room for one load."""
+        """Writes a file of the first schema with the rows of one of the second, in which each vehicle has room for one load. It gives its trips."""
         rows, base = {}, sqlite3.connect(second)
         for table in COLUMNS:
             if table not in ('meta', 'trip') + NEW:
@@ -184,27 +309,48 @@ class Migrate(unittest.TestCase):
                 base.execute('INSERT INTO %s VALUES (%s)' % (table, ', '.join('?' * len(row))), row)
         base.commit()
         base.close()
+        return [dict(zip(COLUMNS['trip'].split(), row)) for row in rows['trip']]
+
+    def tells_all(self, lines):
+        """All that can be asked is answered over the file as in memory after these requests."""
+        rows = rows_of(self.db)
+        asked = ['/report/stock', '/report/holds', '/export/loads', *['/loads/' + row[0] for row in rows['load']]]
+        for name in ['%s/%s' % row[:2] for row in rows['vehicle']]:
+            asked += ['/vehicles/' + name, '/uagv/v2/%s/order' % name, '/uagv/v2/%s/instantActions' % name]
+        asked = b''.join(b'GET %s HTTP/1.1\r\n\r\n' % path.encode() for path in asked)
+        of_file = run('replay', '--db', self.db, '--at', AT, stdin=asked)
+        in_memory = run('replay', '--db', 'memory', '--at', AT, stdin=b''.join(map(bytes_of, lines)) + asked)
+        self.assertEqual((of_file[0], of_file[2], in_memory[0], in_memory[2]), (0, b'', 0, b''))
+        told = answers_of(of_file[1])
+        self.assertEqual(told, answers_of(in_memory[1])[len(lines):])
+        self.assertLessEqual({status for status, _ in told}, {200, 204})
 
     def test_each_script(self):
-        """After each of its requests but every second one a script goes on, after the move, as it would have gone on."""
-        moved = 0
-        for title, lines in SCRIPTS.items():
-            for cut in range(1, len(lines), 2):
+        """What a script has come to after its last request, and after every second one before, is moved, each second time out of the log: it
+        tells what it tells in memory, and goes on as it would have gone on."""
+        moved, ended, trips = 0, set(), []
+        for title, lines in MOVED.items():
+            for cut in (*range(1, len(lines), 2), len(lines)):
+                if for_more(lines[:cut]):
+                    break
                 with self.subTest(title, cut=cut), tempfile.TemporaryDirectory() as folder:
-                    self.db = os.path.join(folder, 'second.db')
+                    second = self.db = os.path.join(folder, 'second.db')
                     self.check(*lines[:cut])
-                    base = sqlite3.connect(self.db)
-                    most = base.execute('SELECT max(capacity) FROM capacity').fetchone()[0]
-                    base.close()
-                    if most is not None and most > 1:
-                        continue
-                    second, self.db = self.db, os.path.join(folder, 'first.db')
-                    self.take_back(second)
+                    self.db = os.path.join(folder, 'first.db')
+                    trips += self.take_back(second)
+                    if moved % 2:
+                        self.put_in_log()
                     self.assertEqual(run('migrate', '--db', self.db), (0, b'migrated\n', b''))
                     self.assertEqual(rows_of(self.db), rows_of(second))
+                    self.tells_all(lines[:cut])
                     self.check(*lines[cut:])
                     moved += 1
-        self.assertGreater(moved, len(SCRIPTS))
+                    if cut == len(lines):
+                        ended.add(title)
+        self.assertEqual(ended, {title for title, lines in MOVED.items() if not for_more(lines)})
+        of_messages = {(trip['sent'], trip['first'], trip['confirmed']) for trip in trips}
+        self.assertLessEqual({(0, 0, None), (0, 0, 0), (1, 1, 0), (1, 1, 1)}, of_messages)
+        self.assertLessEqual({0, 1, 2}, {trip['seen'] for trip in trips})
 
     def test_no_rows_of_a_trip(self):
         """Rows of an open order that break a rule, and a vehicle with more loads than one place holds."""
@@ -224,18 +370,22 @@ class Migrate(unittest.TestCase):
                 'CREATE TABLE CAPACITY (a TEXT)', 'CREATE TABLE note (a TEXT REFERENCES load (id))',
                 'CREATE TABLE note (a TEXT REFERENCES journey (order_id))'))
 
+    def remove(self):
+        for end in FILES:
+            if os.path.exists(self.db + end):
+                os.remove(self.db + end)
+
+    def write_anew(self, *texts):
+        self.remove()
+        self.write(*texts)
+
     def refuse_each(self, rows, texts):
-        """With each of these statements besides, a file of these rows isn't moved."""
-        self.write(rows)
-        whole = self.bytes()
+        """With each of these statements besides, a file of these rows isn't moved, nor where they are in the log."""
         for text in texts:
             with self.subTest(text):
-                for end in FILES:
-                    if os.path.exists(self.db + end):
-                        os.remove(self.db + end)
-                with open(self.db, 'wb') as file:
-                    file.write(whole[''])
-                self.write(text)
+                self.write_anew(rows, text)
+                self.refused()
+                self.put_in_log()
                 self.refused()
 
 
