@@ -44,7 +44,7 @@ fn place_of(table: TableName) -> usize
 }
 
 // The list of a table; none where it is missing.
-fn rows_of(lists: &[Vec<Row>], table: TableName) -> &[Row]
+fn list_of(lists: &[Vec<Row>], table: TableName) -> &[Row]
     ensures { result.now ≡ table_at (place_of table) (rows_listed lists.now) }
 {
     match lists.get(place_of(table)) {
@@ -96,15 +96,15 @@ fn has_first_row(rows: &[Row]) -> bool
 fn tables_in_lists(alloc: Global, lists: &[Vec<Row>]) -> Result<World, ReadingFault>
     ensures { Finds result (TellTables (rows_listed lists.now)) }
 {
-    let nodes = nodes_in_rows(alloc, rows_of(lists, TableName::Node))?;
-    let edges = edges_in_rows(alloc, rows_of(lists, TableName::Edge))?;
-    let stations = stations_in_rows(alloc, rows_of(lists, TableName::Station))?;
-    let vehicles = vehicles_in_rows(alloc, rows_of(lists, TableName::Vehicle))?;
-    let jobs = jobs_in_rows(alloc, rows_of(lists, TableName::Job))?;
-    let trips = trips_in_rows(alloc, rows_of(lists, TableName::Trip), &jobs)?;
-    let legs = legs_in_rows(alloc, rows_of(lists, TableName::Leg))?;
-    let loads = places_in_rows(alloc, rows_of(lists, TableName::Load))?;
-    let used = used_in_rows(alloc, rows_of(lists, TableName::Used))?;
+    let nodes = nodes_in_rows(alloc, list_of(lists, TableName::Node))?;
+    let edges = edges_in_rows(alloc, list_of(lists, TableName::Edge))?;
+    let stations = stations_in_rows(alloc, list_of(lists, TableName::Station))?;
+    let vehicles = vehicles_in_rows(alloc, list_of(lists, TableName::Vehicle))?;
+    let jobs = jobs_in_rows(alloc, list_of(lists, TableName::Job))?;
+    let trips = trips_in_rows(alloc, list_of(lists, TableName::Trip), &jobs)?;
+    let legs = legs_in_rows(alloc, list_of(lists, TableName::Leg))?;
+    let loads = places_in_rows(alloc, list_of(lists, TableName::Load))?;
+    let used = used_in_rows(alloc, list_of(lists, TableName::Used))?;
     Ok(World {
         nodes,
         edges,
@@ -125,10 +125,10 @@ pub(crate) fn world_in_lists(
 ) -> Result<(World, HeldThings), ReadingFault>
     ensures { Finds (tables_and_holds result) (λ read. TellFirst (rows_listed lists.now) read.0 read.1) }
 {
-    if !has_first_row(rows_of(lists, TableName::Meta)) {
+    if !has_first_row(list_of(lists, TableName::Meta)) {
         return Err(ReadingFault::Damaged);
     }
     let tables = tables_in_lists(alloc, lists)?;
-    let held = holds_in_rows(alloc, rows_of(lists, TableName::Hold))?;
+    let held = holds_in_rows(alloc, list_of(lists, TableName::Hold))?;
     Ok((tables, held))
 }

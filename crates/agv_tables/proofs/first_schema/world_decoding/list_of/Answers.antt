@@ -2,7 +2,7 @@ use Rattle.std.proofs.Common.{◌≤◌, Vec, Global, length, sym, subst, arith}
 use Rattle.sqlite_value.specs.Order.{Row}
 use Rattle.agv_tables.specs.rows.DeskRows.{place_of}
 use Rattle.agv_tables.proofs.first_schema.NoList.{none_at}
-use Rattle.agv_tables.proofs.first_schema.world_decoding.rows_of.Goals as goal
+use Rattle.agv_tables.proofs.first_schema.world_decoding.list_of.Goals as goal
 
 pub returns-in-None : goal.returns-in-None
 returns-in-None c =
