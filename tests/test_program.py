@@ -534,7 +534,7 @@ REFUSED = [
     (('--help',), 'The control desk of one warehouse: its vehicles, loads and orders\n\nUsage: desk <COMMAND>\n\nCommands:\n  replay  '),
     (('replay', '--help'), 'Reads requests from standard input and writes the answers to standard output\n\nUsage: '),
     (('report', '--help'), 'Prints a report of the records: where the loads are, or what the vehicles hold\n\nUsage: '),
-    (('migrate', '--help'), 'Moves a file of the first schema to this one, and prints `migrated`\n\nUsage: '),
+    (('migrate', '--help'), 'Moves a file of the first schema (one load a vehicle) to the second\n\nUsage: '),
     (('migrate',), LACKING + '\n  --db <FILE>\n'),
     (('serve', '--help'), 'Answers requests over the network, to programs on this machine (127.0.0.1)\n\nUsage: '),
 ]
@@ -545,8 +545,16 @@ EXAMPLES = {
     'replay': 'desk replay --db memory --at 1700000000000 < requests.txt',
     'serve': 'desk serve --db desk.db --port 8080 --connections 100',
     'report': 'desk report --db desk.db stock',
-    'migrate': 'cp desk.db copy.db; desk migrate --db desk.db',
+    'migrate': "sqlite3 desk.db '.backup before.db'; desk migrate --db desk.db",
 }
+
+# What stands for the command `sqlite3`, which not every machine has.
+SQLITE = '''#!%s
+import sqlite3, sys
+command, copy = sys.argv[2].split()
+assert command == '.backup'
+sqlite3.connect(sys.argv[1]).backup(sqlite3.connect(copy))
+''' % sys.executable
 
 
 def write_first(db):
@@ -591,6 +599,10 @@ class Exits(ProgramTest):
         os.symlink(DESK, os.path.join(self.folder.name, 'desk'))
         with open(os.path.join(self.folder.name, 'requests.txt'), 'wb') as file:
             file.write(self.transport)
+        sqlite = os.path.join(self.folder.name, 'sqlite3')
+        with open(sqlite, 'w') as file:
+            file.write(SQLITE)
+        os.chmod(sqlite, 0o755)
         write_first(os.path.join(self.folder.name, 'desk.db'))
         # the first load of the file that is moved waits at A for its vehicle, on its way to B
         begun = b'station A at N1: 1 of 1, reserved 0\n  L1\nstation B at N3: 0 of 1, reserved 1\nstation C at N3: 0 of 2, reserved 0\n' \
@@ -601,6 +613,9 @@ class Exits(ProgramTest):
             self.assertEqual((done.returncode, done.stderr), (0, b''), line)
             found = done.stdout[-len(wanted):] if name == 'replay' else done.stdout[:len(wanted)] if name == 'serve' else done.stdout
             self.assertEqual(found, wanted, line)
+        base = sqlite3.connect(os.path.join(self.folder.name, 'before.db'))
+        self.assertEqual(base.execute('SELECT * FROM meta').fetchall(), [(1, 1)])
+        base.close()
 
     def test_least_and_greatest_values(self):
         for at in ('0', '+0', '4102444799999'):
