@@ -10,38 +10,43 @@ DESK = os.path.join(os.path.dirname(os.path.abspath(__file__)), '..', 'desk')
 TOOLS = ('awk', 'cat', 'cmp', 'cp', 'date', 'dirname', 'find', 'flock', 'head', 'mkdir', 'mktemp', 'mv', 'rm', 'sed', 'sh', 'sleep', 'tail', 'touch', 'wc')
 
 CRATES = """# a comment
+agv_app: agv_middle kit_crate agv_low
 agv_low:
 agv_middle: agv_low
-agv_app: agv_middle kit_crate
 agv_tests: agv_app
 """
 
-# It notes its words and the files it is given, and makes a program that prints its words and exits with 3.
+# It notes the crate that it is in and its words; for `run` it makes a program that prints its words and exits with 3.
 RT = """#!/bin/sh
-echo "$*" >>"$NOTES/calls"
-find . -type f -print | sed 's/^..//' | sort >"$NOTES/files"
-cp crates.txt "$NOTES/crates.txt"
-[ ! -e "$NOTES/slow" ] || sleep 1
-echo 'rt: agv_low proved'
-echo 'rt: agv_middle is kept: an earlier run proved it'
-if [ -e "$NOTES/fails" ]; then
-    echo 'agv_app: this goal is open'
-    echo 'rt: agv_app NOT PROVED'
+crate=${PWD##*/}
+echo "$crate $*" >>"$NOTES/calls"
+if [ -e "$NOTES/slow" ]; then
+    echo 'so far: 0 of 210 functions checked; the verdict comes last'
+    echo 'so far: 15 of 210 functions checked'
+    sleep 2
+fi
+if [ -e "$NOTES/fails" ] && [ "$crate" = "$(cat "$NOTES/fails")" ]; then
+    echo 'fn agv_middle::one: not proved'
+    echo 'logic=not-proved'
     exit 1
 fi
-echo 'rt: agv_app proved'
-mkdir -p crates/agv_app/out
-printf '%s\\n' '#!/bin/sh' 'printf "%s|" "$@"' 'exit 3' >crates/agv_app/out/agv_app
-chmod +x crates/agv_app/out/agv_app
+echo 'logic=proved functions=1'
+[ "$1" = run ] || exit 0
+mkdir -p out
+printf '%s\\n' '#!/bin/sh' 'printf "%s|" "$@"' 'exit 3' >out/agv_app
+chmod +x out/agv_app
 """
+
+# The calls of a build: each library behind those that it uses, and then the program.
+BUILD = ['agv_low lib', 'agv_middle lib', 'agv_app run -- replay --db memory --at 0']
 
 
 class DeskScript(unittest.TestCase):
     def setUp(self):
         folder = tempfile.TemporaryDirectory()
         self.addCleanup(folder.cleanup)
-        self.top, self.bin, self.notes, self.temporary = (os.path.join(folder.name, name) for name in ('top', 'bin', 'notes', 'tmp'))
-        for name in (self.top, self.bin, self.notes, self.temporary):
+        self.top, self.bin, self.notes = (os.path.join(folder.name, name) for name in ('top', 'bin', 'notes'))
+        for name in (self.top, self.bin, self.notes):
             os.mkdir(name)
         for tool in (*TOOLS, 'chmod', 'sort'):
             if shutil.which(tool):
@@ -66,9 +71,9 @@ class DeskScript(unittest.TestCase):
         with open(path) as file:
             return file.read()
 
-    def start(self, *words):
-        env = {'PATH': self.bin, 'NOTES': self.notes, 'TMPDIR': self.temporary}
-        return subprocess.Popen([os.path.join(self.top, 'desk'), *words], env=env, text=True, stdout=subprocess.PIPE, stderr=subprocess.PIPE)
+    def start(self, *words, stderr=subprocess.PIPE):
+        env = {'PATH': self.bin, 'NOTES': self.notes}
+        return subprocess.Popen([os.path.join(self.top, 'desk'), *words], env=env, text=True, stdout=subprocess.PIPE, stderr=stderr)
 
     def run_desk(self, *words):
         process = self.start(*words)
@@ -80,19 +85,29 @@ class DeskScript(unittest.TestCase):
         return self.read(path).splitlines() if os.path.exists(path) else []
 
     def test_it_builds_what_is_missing_and_runs_it(self):
-        """The words and the exit status are handed on; what is built is agv_app and what it uses, without the edits that must fail."""
+        """The words and the exit status are handed on; what is built is what agv_app uses, the lowest first, and agv_app."""
         status, out, said = self.run_desk('report', '--db', 'a b', '')
         self.assertEqual((status, out), (3, 'report|--db|a b||'))
+        for number, crate in enumerate(('agv_low', 'agv_middle', 'agv_app'), 1):
+            self.assertIn('desk: %s, %d of 3 crates, after 0 min ' % (crate, number), said)
         self.assertIn('proved and built', said)
-        self.assertEqual(self.calls(), ['ci'])
-        wanted = ['HANDLES', 'crates.txt', 'crates/agv_app/stdin']
-        for crate in ('agv_app', 'agv_low', 'agv_middle'):
-            wanted += ['crates/%s/%s' % (crate, part) for part in ('proofs/Lib.antt', 'specs/Lib.antt', 'src/lib.rt')]
-        self.assertEqual(sorted(self.read(os.path.join(self.notes, 'files')).splitlines()), sorted(wanted))
-        self.assertEqual(sorted(self.read(os.path.join(self.notes, 'crates.txt')).splitlines()), ['agv_app: agv_middle kit_crate', 'agv_low:', 'agv_middle: agv_low'])
-        self.assertEqual(os.listdir(self.temporary), [])
+        self.assertEqual(self.calls(), BUILD)
+        self.assertEqual(self.read(os.path.join(self.top, 'build', 'log')), 'logic=proved functions=1\n' * 3)
+        self.assertEqual(sorted(os.listdir(os.path.join(self.top, 'build'))), ['crates.txt', 'desk', 'lock', 'log', 'started'])
         self.assertEqual(self.run_desk(), (3, '|', ''))
-        self.assertEqual(self.calls(), ['ci'])
+        self.assertEqual(self.calls(), BUILD)
+
+    def test_a_terminal_shows_how_far_it_is(self):
+        self.write(os.path.join(self.notes, 'slow'), '')
+        ours, theirs = os.openpty()
+        process = self.start('report', stderr=theirs)
+        os.close(theirs)
+        self.assertEqual((process.communicate(timeout=120)[0], process.returncode), ('report|', 3))
+        said = os.read(ours, 65536).decode()
+        os.close(ours)
+        for number, crate in enumerate(('agv_low', 'agv_middle', 'agv_app'), 1):
+            self.assertIn('\r\x1b[Kdesk: %s, %d of 3 crates, 15 of 210 functions, 0 min ' % (crate, number), said)
+        self.assertRegex(said, r'\r\x1b\[Kdesk: proved and built in 0 min \d+ s\r\n$')
 
     def test_it_builds_anew_where_a_source_is_newer(self):
         self.run_desk()
@@ -102,39 +117,40 @@ class DeskScript(unittest.TestCase):
         for path in others:
             os.utime(os.path.join(self.top, path), (later, later))
         self.assertEqual(self.run_desk(), (3, '|', ''))
-        self.assertEqual(self.calls(), ['ci'])
+        self.assertEqual(self.calls(), BUILD)
         for number, path in enumerate(watched, 2):
             path = os.path.join(self.top, path)
             os.utime(path, (later, later))
             self.assertEqual(self.run_desk()[0], 3)
-            self.assertEqual(self.calls(), ['ci'] * number, path)
+            self.assertEqual(self.calls(), BUILD * number, path)
             os.utime(path, (0, 0))
 
     def test_it_builds_anew_where_a_line_of_its_crates_is_another(self):
         self.run_desk()
         self.write('crates.txt', CRATES + 'agv_more: agv_app\n')
         self.assertEqual(self.run_desk(), (3, '|', ''))
-        self.assertEqual(self.calls(), ['ci'])
+        self.assertEqual(self.calls(), BUILD)
         self.write('crates.txt', CRATES.replace('agv_middle: agv_low', 'agv_middle: agv_low kit_crate'))
         self.assertEqual(self.run_desk()[0], 3)
-        self.assertEqual(self.calls(), ['ci', 'ci'])
+        self.assertEqual(self.calls(), BUILD * 2)
 
     def test_a_failed_build_is_told_and_nothing_is_run(self):
-        self.write(os.path.join(self.notes, 'fails'), '')
+        self.write(os.path.join(self.notes, 'fails'), 'agv_middle')
         status, out, said = self.run_desk('report')
         self.assertEqual((status, out), (1, ''))
+        self.assertEqual(self.calls(), BUILD[:2])
         log = os.path.join(self.top, 'build', 'log')
-        self.assertIn('the build failed', said)
+        self.assertIn('the build of agv_middle failed', said)
         self.assertIn(log, said)
-        self.assertTrue(said.endswith('agv_app: this goal is open\nrt: agv_app NOT PROVED\n'), said)
-        self.assertTrue(self.read(log).endswith('rt: agv_app NOT PROVED\n'))
-        self.assertEqual(os.listdir(self.temporary), [])
+        ending = 'logic=proved functions=1\nfn agv_middle::one: not proved\nlogic=not-proved\n'
+        self.assertTrue(said.endswith(ending), said)
+        self.assertEqual(self.read(log), ending)
         os.remove(os.path.join(self.notes, 'fails'))
         self.assertEqual(self.run_desk('report')[:2], (3, 'report|'))
 
     def test_a_program_whose_sources_no_longer_prove_is_not_run(self):
         self.run_desk()
-        self.write(os.path.join(self.notes, 'fails'), '')
+        self.write(os.path.join(self.notes, 'fails'), 'agv_app')
         later = time.time() + 10
         os.utime(os.path.join(self.top, 'crates/agv_low/src/lib.rt'), (later, later))
         self.assertEqual(self.run_desk()[:2], (1, ''))
@@ -152,7 +168,7 @@ class DeskScript(unittest.TestCase):
         told = [process.communicate(timeout=120) for process in both]
         self.assertEqual([process.returncode for process in both], [3, 3])
         self.assertEqual([out for out, _ in told], ['a|', 'b|'])
-        self.assertEqual(self.calls(), ['ci'])
+        self.assertEqual(self.calls(), BUILD)
 
 
 if __name__ == '__main__':
