@@ -731,6 +731,15 @@ class Exits(ProgramTest):
                 with open(request, 'rb') as stdin:
                     self.fault(b'Write', words, stdin=stdin, stdout=full)
 
+    def test_a_move_of_no_file(self):
+        """It leaves an empty database, which isn't moved either, and in which a desk begins anew."""
+        for _ in range(2):
+            self.fault(b'Damaged', ('migrate', '--db', self.db))
+            base = sqlite3.connect(self.db)
+            self.assertEqual(base.execute('SELECT * FROM sqlite_master').fetchall(), [])
+            base.close()
+        self.assertEqual(run('report', '--db', self.db, 'stock'), (0, b'checking: 0\nleft: 0\n', b''))
+
     def test_a_move_whose_word_nobody_takes(self):
         """The file is moved all the same: a desk starts on it, and it isn't moved once more."""
         write_first(self.db)
