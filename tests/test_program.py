@@ -345,13 +345,12 @@ class Serve(ProgramTest):
 @over_sockets
 class Killed(ProgramTest):
     def test_each_answered_call_is_kept(self):
-        """The program is killed under load; what it had answered is in the file."""
-        number, kept = 0, 0
+        """The program is killed under load, a moment after its second answer; what it had answered is in the file."""
+        number = 0
         for turn in range(10):
             answered = []
             with Serving(self.db) as desk:
-                timer = threading.Timer(random.Random(turn).uniform(0.05, 0.5), desk.process.send_signal, [signal.SIGKILL])
-                timer.start()
+                timer = threading.Timer(random.Random(turn).uniform(0, 0.5), desk.process.send_signal, [signal.SIGKILL])
                 connection = desk.connect()
                 try:
                     while True:
@@ -360,8 +359,11 @@ class Killed(ProgramTest):
                         status, _ = desk.ask('POST', '/loads', json.dumps({'load': name}).encode(), connection)
                         self.assertEqual(status, 200)
                         answered.append(name)
+                        if len(answered) == 2:
+                            timer.start()
                 except (ConnectionError, http.client.HTTPException, OSError):
                     pass
+                self.assertGreaterEqual(len(answered), 2)
                 timer.join()
                 connection.close()
             with Serving(self.db) as desk:
@@ -369,8 +371,6 @@ class Killed(ProgramTest):
                 for name in answered:
                     self.assertEqual(desk.ask('GET', '/loads/' + name, connection=connection)[0], 200, name)
                 connection.close()
-            kept += len(answered)
-        self.assertGreater(kept, 10)
 
 
 def lacks_clock():
