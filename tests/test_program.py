@@ -345,13 +345,12 @@ class Serve(ProgramTest):
 @over_sockets
 class Killed(ProgramTest):
     def test_each_answered_call_is_kept(self):
-        """The program is killed under load; what it had answered is in the file."""
-        number, kept = 0, 0
+        """The program is killed under load, a moment after its second answer; what it had answered is in the file."""
+        number = 0
         for turn in range(10):
             answered = []
             with Serving(self.db) as desk:
-                timer = threading.Timer(random.Random(turn).uniform(0.05, 0.5), desk.process.send_signal, [signal.SIGKILL])
-                timer.start()
+                timer = threading.Timer(random.Random(turn).uniform(0, 0.5), desk.process.send_signal, [signal.SIGKILL])
                 connection = desk.connect()
                 try:
                     while True:
@@ -360,8 +359,11 @@ class Killed(ProgramTest):
                         status, _ = desk.ask('POST', '/loads', json.dumps({'load': name}).encode(), connection)
                         self.assertEqual(status, 200)
                         answered.append(name)
+                        if len(answered) == 2:
+                            timer.start()
                 except (ConnectionError, http.client.HTTPException, OSError):
                     pass
+                self.assertGreaterEqual(len(answered), 2)
                 timer.join()
                 connection.close()
             with Serving(self.db) as desk:
@@ -369,8 +371,6 @@ class Killed(ProgramTest):
                 for name in answered:
                     self.assertEqual(desk.ask('GET', '/loads/' + name, connection=connection)[0], 200, name)
                 connection.close()
-            kept += len(answered)
-        self.assertGreater(kept, 10)
 
 
 def lacks_clock():
@@ -730,6 +730,15 @@ class Exits(ProgramTest):
             for words in [MEMORY + ('--at', AT), *self.each(self.db)]:
                 with open(request, 'rb') as stdin:
                     self.fault(b'Write', words, stdin=stdin, stdout=full)
+
+    def test_a_move_of_no_file(self):
+        """It leaves an empty database, which isn't moved either, and in which a desk begins anew."""
+        for _ in range(2):
+            self.fault(b'Damaged', ('migrate', '--db', self.db))
+            base = sqlite3.connect(self.db)
+            self.assertEqual(base.execute('SELECT * FROM sqlite_master').fetchall(), [])
+            base.close()
+        self.assertEqual(run('report', '--db', self.db, 'stock'), (0, b'checking: 0\nleft: 0\n', b''))
 
     def test_a_move_whose_word_nobody_takes(self):
         """The file is moved all the same: a desk starts on it, and it isn't moved once more."""
