@@ -12,7 +12,7 @@ import sqlite3
 
 from records import COLUMNS, rows_of
 from test_program import AT, HERE, read_all, run
-from test_scripts import AT_A, SCRIPTS, accepted, bytes_of, load, ok, order, stands, state
+from test_scripts import AT_A, CUT, SCRIPTS, accepted, bytes_of, load, ok, order, stands, state
 
 ALL = os.environ.get('FAULTS') == 'all'
 # Where files lie in memory, if there is such a folder: a sync costs nothing there.
@@ -55,17 +55,15 @@ FILL = [bytes_of(load('C%04d' % number)) for number in range(183)]
 
 class Script:
     """The requests, and once it is played the answer of each and the rows before and after: `rows[n]` after n calls. It begins on a new
-    file, or on one that has served other requests before."""
+    file, or on one that has served other requests before. Where it is cut, the last of its requests is the front of one, which is refused
+    where the input ends."""
 
-    def __init__(self, requests, before=()):
-        self.requests, self.before, self.files = requests, before, {}
+    def __init__(self, requests, before=(), cut=False):
+        self.requests, self.before, self.cut, self.files = requests, before, cut, {}
 
     def start(self, db):
         """The files are there with which the script begins."""
-        remove(db)
-        for end, data in self.files.items():
-            with open(db + end, 'wb') as file:
-                file.write(data)
+        put(db, self.files)
 
     def play(self, folder):
         if not hasattr(self, 'rows'):
@@ -74,9 +72,7 @@ class Script:
                 status, _, said = run('replay', '--db', db, '--at', AT, stdin=b''.join(self.before))
                 if (status, said) != (0, b''):
                     raise AssertionError((status, said))
-                for end in ('', '-wal'):
-                    with open(db + end, 'rb') as file:
-                        self.files[end] = file.read()
+                self.files = files_of(db)
             self.answers, self.rows = [], []
             for number in range(len(self.requests) + 1):
                 status, out, said = run('replay', '--db', db, '--at', AT, stdin=b''.join(self.requests[number - 1:number]))
@@ -88,6 +84,14 @@ class Script:
             self.out = b''.join(self.answers)
             self.input = b''.join(self.requests)
         return self
+
+    def begun(self, given):
+        """How many requests are whole in so many bytes of the input, and whether there is more."""
+        number = 0
+        while number < len(self.requests) - self.cut and given >= len(self.requests[number]):
+            given -= len(self.requests[number])
+            number += 1
+        return number, given > 0
 
     def whole(self, out):
         """How many answers an output has whole, of which it must be a front."""
@@ -107,6 +111,8 @@ def scripts():
         'a transport': Script(example('transport.http')),
         'a cancelled order': Script(lines(AGAIN)),
         'a stocktake': Script(lines(COUNTED)),
+        'one state for the whole way': Script(lines(SCRIPTS['one state tells of the whole way, and again moves nothing'])),
+        'a request that is cut': Script(CUT, cut=True),
     }
 
 
@@ -124,12 +130,7 @@ def check_kept(test, script, db, answered, more=True):
     """The file has the rows after so many calls, or one more where that is allowed, and the rest of the script goes on from there. It
     gives how many calls are in the file; -1 where it is no desk's yet: it is missing, has no table, or its first page, which the desk
     writes but for a byte and then whole, is not there yet. What has been checked is not checked again over the same bytes."""
-    key = [id(script), answered, more]
-    for end in ('', '-wal'):
-        if os.path.exists(db + end):
-            with open(db + end, 'rb') as file:
-                key.append((end, hashlib.sha1(file.read()).digest()))
-    key = tuple(key)
+    key = id(script), answered, more, digest_of(db)
     if key not in CHECKED:
         CHECKED[key] = check_anew(test, script, db, answered, more)
     return CHECKED[key]
@@ -184,10 +185,32 @@ def without_clock(rows):
         tuple(value > 0 if at in places else value for at, value in enumerate(row)) for row in rows['vehicle']]}
 
 
+def files_of(db):
+    """The bytes of the file, and of the log beside it, as far as they are there."""
+    found = {}
+    for end in ('', '-wal'):
+        if os.path.exists(db + end):
+            with open(db + end, 'rb') as file:
+                found[end] = file.read()
+    return found
+
+
+def digest_of(db):
+    return tuple((end, hashlib.sha1(data).digest()) for end, data in files_of(db).items())
+
+
 def remove(db):
     for end in ('', '-wal', '-shm', '-journal'):
         if os.path.exists(db + end):
             os.remove(db + end)
+
+
+def put(db, files):
+    """These files are there, and no others of this database."""
+    remove(db)
+    for end, data in files.items():
+        with open(db + end, 'wb') as file:
+            file.write(data)
 
 
 def sample(numbers, most):

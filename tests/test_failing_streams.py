@@ -38,14 +38,6 @@ class FailingStreams(FaultTest):
         if ALL:
             print(text % numbers)
 
-    def begun(self, script, given):
-        """How many requests are whole in so many bytes of the input, and whether there is more."""
-        number = 0
-        while number < len(script.requests) and given >= len(script.requests[number]):
-            given -= len(script.requests[number])
-            number += 1
-        return number, given > 0
-
     def test_reads_that_fail(self):
         failed = 0
         for name in scripts():
@@ -60,7 +52,7 @@ class FailingStreams(FaultTest):
                         if error == errno.EINTR and ended.status == 0:
                             self.assertEqual((ended.out, ended.said), (script.out, b''))
                             continue
-                        whole, _ = self.begun(script, (n - 1) * PART)
+                        whole, _ = script.begun((n - 1) * PART)
                         self.assertEqual((ended.status, ended.said), (1, b'fault: Read\n'))
                         self.assertEqual(ended.out, b''.join(script.answers[:whole]))
                         self.assertEqual(check_kept(self, script, self.db, whole, more=False), whole)
@@ -77,7 +69,7 @@ class FailingStreams(FaultTest):
             for n in sample(range(1, reads + 1), 15):
                 with self.subTest(name, n=n):
                     ended, _, _ = self.serve(script, lambda number: tracing.Gives(0) if number >= n else None)
-                    whole, more = self.begun(script, min((n - 1) * PART, len(script.input)))
+                    whole, more = script.begun(min((n - 1) * PART, len(script.input)))
                     self.assertEqual((ended.status, ended.said), (0, b''))
                     self.assertEqual(ended.out, b''.join(script.answers[:whole]) + (BAD_HEAD if more else b''))
                     self.assertEqual(check_kept(self, script, self.db, whole, more=False), whole)

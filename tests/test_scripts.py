@@ -200,6 +200,10 @@ def bytes_of(line):
     return ('%s HTTP/1.1\r\nContent-Length: %d\r\n\r\n%s' % (request, len(data), data)).encode()
 
 
+# Two registrations, and a third of whose body of 13 bytes there are 5.
+CUT = [bytes_of(load('L1')), bytes_of(load('L2')), bytes_of(load('L1'))[:-8]]
+
+
 def answers_of(data):
     """The answers of an output, each its status and its body; none where the last one lacks bytes."""
     found, at = [], 0
@@ -283,11 +287,10 @@ class Scripts(unittest.TestCase):
         self.assertEqual(told[14][1], stock)
 
     def test_fronts_of_an_input(self):
-        """Of two registrations and a cut one each third front is served up to its last whole request, and then refused, or at its end."""
-        first = b'POST /loads HTTP/1.1\r\nContent-Length: 13\r\n\r\n{"load":"L1"}'
-        second = first.replace(b'L1', b'L2')
-        whole = first + second + first[:-8]
-        for length in range(0, len(whole) + 1, 3):
+        """Of two registrations and a cut one each front is served up to its last whole request, and then refused, or at its end."""
+        first, second, _ = CUT
+        whole = b''.join(CUT)
+        for length in range(len(whole) + 1):
             status, out, said = run('replay', '--db', 'memory', '--at', AT, stdin=whole[:length])
             self.assertEqual((status, said), (0, b''))
             served = (length >= len(first)) + (length >= len(first) + len(second))
