@@ -1,11 +1,12 @@
 //! Streams of one or a few requests, byte for byte, and how they end.
 
 use crate::cases::moment;
-use crate::desks::{made, no_tables};
+use crate::desks::{made, no_tables, unreached};
 use crate::memory::MOMENT;
 use crate::streams::{Exchange, Stream, check_stream, check_streams};
 use agv_face::{Ended, StreamSummary};
 use agv_header::Refusal;
+use sqlite::{Alter, Connection};
 use std::alloc::Global;
 use std::process::Abort;
 
@@ -286,9 +287,9 @@ fn cut_at(n: usize) -> (&'static str, StreamSummary) {
     (answers, end)
 }
 
-/// Serves a front of the two requests by a new desk.
-fn check_front(rt: &impl Abort, alloc: Global, n: usize) {
-    let mut desk = made(rt, alloc, no_tables(rt, alloc));
+/// Serves a front of the two requests by a new desk in this database.
+fn check_front<S: Alter + Drop>(rt: &impl Abort, alloc: Global, conn: Connection<S>, n: usize) {
+    let mut desk = made(rt, alloc, conn);
     let front = WHOLE.get(..n).expect(rt, "a front");
     let (answers, end) = cut_at(n);
     let exchange = Exchange {
@@ -305,6 +306,7 @@ fn check_front(rt: &impl Abort, alloc: Global, n: usize) {
 #[test]
 fn fronts(rt: HostRuntime) {
     for n in 0..=WHOLE.len() {
-        check_front(&rt, rt.alloc(), n);
+        check_front(&rt, rt.alloc(), no_tables(&rt, rt.alloc()), n);
+        check_front(&rt, rt.alloc(), unreached(&rt, rt.alloc()), n);
     }
 }

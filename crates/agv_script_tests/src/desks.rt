@@ -44,6 +44,11 @@ pub(crate) fn open<D: Disk + Drop>(
     }
 }
 
+/// An empty database on files in memory, behind fuses that aren't reached.
+pub(crate) fn unreached(rt: &impl Abort, alloc: Global) -> Connection<FileStore<FailingDisk>> {
+    open(rt, alloc, blank(alloc, u64::MAX, u64::MAX))
+}
+
 /// The files of a database that was closed.
 pub(crate) fn close<D: Disk + Drop>(rt: &impl Abort, conn: Connection<FileStore<D>>) -> Files<D> {
     match conn.close_files() {
@@ -52,19 +57,34 @@ pub(crate) fn close<D: Disk + Drop>(rt: &impl Abort, conn: Connection<FileStore<
     }
 }
 
+/// The files of a database, and whether all that the log has was copied into the database file.
+pub(crate) fn copied_out<D: Disk + Drop>(conn: Connection<FileStore<D>>) -> (Files<D>, bool) {
+    match conn.close_files() {
+        Ok(files) => (files, true),
+        Err((_, store)) => (store.close(), false),
+    }
+}
+
 /// The machine stops, and what was not synced is lost. It comes back with files that fail no more.
+pub(crate) fn after_a_stop<D: Crash + Drop>(
+    rt: &impl Abort,
+    alloc: Global,
+    files: Files<D>,
+) -> Connection<FileStore<D>> {
+    let mut files = files;
+    files.log.crash();
+    files.db.crash();
+    open(rt, alloc, files)
+}
+
+/// The database is closed, and then the machine stops.
 pub(crate) fn reopen<D: Crash + Drop>(
     rt: &impl Abort,
     alloc: Global,
     conn: Connection<FileStore<D>>,
 ) -> Connection<FileStore<D>> {
-    let mut files = match conn.close_files() {
-        Ok(files) => files,
-        Err((_, store)) => store.close(),
-    };
-    files.log.crash();
-    files.db.crash();
-    open(rt, alloc, files)
+    let (files, _) = copied_out(conn);
+    after_a_stop(rt, alloc, files)
 }
 
 /// A new desk.

@@ -1,7 +1,7 @@
 //! Scripts are played over a world in memory and by a desk over its tables, whose answers and rows are compared.
 
 use crate::cases::{check, check_bytes};
-use crate::desks::{adopted, blank, made, no_tables, open};
+use crate::desks::{adopted, made, no_tables, unreached};
 use crate::memory::{Asked, InMemory, MOMENT, asked, in_memory, moment_after, play_in_memory};
 use crate::runs::run_script;
 use crate::steps::{Step, steps_of};
@@ -108,8 +108,7 @@ pub(crate) fn play_over<S: Alter + Drop>(
 /// Plays a script by a desk in memory and by one on a disk, as a stream, and as one list of calls.
 fn play_by_desks(rt: &impl Abort, alloc: Global, steps: &[Step]) {
     play_over(rt, alloc, no_tables(rt, alloc), steps);
-    let conn = open(rt, alloc, blank(alloc, u64::MAX, u64::MAX));
-    play_over(rt, alloc, conn, steps);
+    play_over(rt, alloc, unreached(rt, alloc), steps);
     stream(rt, alloc, steps);
     run_script(rt, alloc, steps);
 }

@@ -1,9 +1,12 @@
 //! Lists of calls that a desk serves without a break, and stores that fail on the way.
 
 use crate::cases::{check, check_bytes, moment};
-use crate::desks::{adopted, blank, made, no_tables, open, reopen};
+use crate::desks::{adopted, after_a_stop, blank, copied_out, made, no_tables, reopen, unreached};
 use crate::memory::{InMemory, MOMENT, asked, in_memory, moment_after};
-use crate::scripts::starts::{A_TO_B, LAYOUT, ONE_EDGE, READY};
+use crate::scripts::cancels::{CANCELLED, PLACED, STOPPED};
+use crate::scripts::starts::{A_TO_B, BOTH_EDGES, LAYOUT, ONE_EDGE, READY};
+use crate::scripts::stocktakes::FOUND;
+use crate::scripts::trips::DELIVERED;
 use crate::steps::{Step, steps_of};
 use crate::tables::{told_text, world_text};
 use agv_desk::{Answer, Call};
@@ -137,11 +140,16 @@ fn check_whole<S: Alter + Drop>(
     );
 }
 
-/// Has a new desk serve the calls of a script in one list.
+/// A new desk in this database serves all calls.
+fn run_over<S: Alter + Drop>(rt: &impl Abort, alloc: Global, list: &List, conn: Connection<S>) {
+    check_whole(rt, alloc, list, 0, made(rt, alloc, conn));
+}
+
+/// Has new desks serve the calls of a script in one list: in memory, and on files behind fuses that aren't reached.
 pub(crate) fn run_script(rt: &impl Abort, alloc: Global, steps: &[Step]) {
     let list = list_of(rt, alloc, steps);
-    let desk = made(rt, alloc, no_tables(rt, alloc));
-    check_whole(rt, alloc, &list, 0, desk);
+    run_over(rt, alloc, &list, no_tables(rt, alloc));
+    run_over(rt, alloc, &list, unreached(rt, alloc));
 }
 
 /// A desk is opened there.
@@ -167,6 +175,14 @@ fn created<S: Alter + Drop>(
     }
 }
 
+/// The log is copied into the database file at the first change behind so many pages, so that the files are called for that in the
+/// middle of a script, too.
+fn with_short_log() -> Options {
+    let mut options = Options::new(7);
+    options.checkpoint_frames = 16;
+    options
+}
+
 /// A new desk on files that may fail, unless they fail before: then the files have no desk, or one that knows nothing.
 fn failing_desk<D: Crash + Drop>(
     rt: &impl Abort,
@@ -175,27 +191,30 @@ fn failing_desk<D: Crash + Drop>(
 ) -> Option<Desk<FileStore<D>>> {
     assert!(rt; files.log.may_be_used(), "the log");
     assert!(rt; files.db.may_be_used(), "the database file");
-    let Ok(conn) = Connection::open_files(alloc, files, Options::new(7)) else {
-        return None;
-    };
-    match created(rt, alloc, conn) {
-        Ok(desk) => Some(desk),
-        Err(conn) => {
-            check_opens(rt, alloc, reopen(rt, alloc, conn));
+    match Connection::open_files(alloc, files, with_short_log()) {
+        Ok(conn) => match created(rt, alloc, conn) {
+            Ok(desk) => Some(desk),
+            Err(conn) => {
+                check_opens(rt, alloc, reopen(rt, alloc, conn));
+                None
+            }
+        },
+        Err((_, left)) => {
+            check_opens(rt, alloc, after_a_stop(rt, alloc, left.into_files()));
             None
         }
     }
 }
 
-/// The files have the world before call `n` or after it: the desk that is adopted there goes on to the last call.
-fn check_goes_on<D: Crash + Drop>(
+/// The database has the world before call `n` or after it: the desk that is adopted there goes on to the last call.
+fn check_goes_on<S: Alter + Drop>(
     rt: &impl Abort,
     alloc: Global,
     list: &List,
     n: usize,
-    conn: Connection<FileStore<D>>,
+    conn: Connection<S>,
 ) {
-    let mut conn = adopted(rt, alloc, reopen(rt, alloc, conn)).release_conn();
+    let mut conn = adopted(rt, alloc, conn).release_conn();
     let world = told_text(rt, alloc, &mut conn);
     let next = if list.is_before(n, world.as_str()) {
         n
@@ -206,8 +225,38 @@ fn check_goes_on<D: Crash + Drop>(
     check_whole(rt, alloc, list, next, adopted(rt, alloc, conn));
 }
 
-/// Serves the calls by a desk whose store fails: the call that it serves then is answered `Storage`, and so is each later one. It
-/// gives whether all calls were answered.
+/// Each call is answered `Storage`.
+fn check_stays_failed<S: Alter + Drop>(rt: &impl Abort, list: &List, desk: &mut Desk<S>) {
+    for (at, call) in &list.calls {
+        let ended = desk.serve(*at, call);
+        check(rt, ended.err() == Some(Fault::Storage), "it fails again");
+        check(rt, desk.failed(), "it has failed still");
+    }
+}
+
+/// Serves the calls up to the first fault of the store, if there is one: that call is answered `Storage`, and so is each later one.
+/// It gives how many were answered before.
+fn serve_until_it_fails<S: Alter + Drop>(
+    rt: &impl Abort,
+    alloc: Global,
+    list: &List,
+    desk: &mut Desk<S>,
+) -> usize {
+    let (answers, fault) = desk.run(list.calls_from(rt, 0));
+    check_answers(rt, alloc, &answers, list.answers_from(rt, 0));
+    check(rt, desk.failed() == fault.is_some(), "it has failed");
+    if let Some(why) = fault {
+        check(rt, why == Fault::Storage, "the store fails");
+        check_stays_failed(rt, list, desk);
+    } else {
+        let whole = answers.len() == list.calls.len();
+        check(rt, whole, "an answer to each call");
+    }
+    answers.len()
+}
+
+/// Serves the calls by a desk whose store may fail, closes its database, and goes on by the desk that the files have then. It gives
+/// whether none failed.
 fn check_failing<D: Crash + Drop>(
     rt: &impl Abort,
     alloc: Global,
@@ -217,25 +266,17 @@ fn check_failing<D: Crash + Drop>(
     let Some(mut desk) = failing_desk(rt, alloc, files) else {
         return false;
     };
-    let (answers, fault) = desk.run(list.calls_from(rt, 0));
-    check_answers(rt, alloc, &answers, list.answers_from(rt, 0));
-    check(rt, desk.failed() == fault.is_some(), "it has failed");
-    if fault.is_none() {
-        return true;
-    }
-    check(rt, fault == Some(Fault::Storage), "the store fails");
-    let (none, again) = desk.run(list.calls_from(rt, 0));
-    check(rt, none.is_empty(), "no answer");
-    check(rt, again == Some(Fault::Storage), "it fails again");
-    check(rt, desk.failed(), "it has failed still");
-    check_goes_on(rt, alloc, list, answers.len(), desk.release_conn());
-    false
+    let answered = serve_until_it_fails(rt, alloc, list, &mut desk);
+    let failed = desk.failed();
+    let (files, copied) = copied_out(desk.release_conn());
+    check_goes_on(rt, alloc, list, answered, after_a_stop(rt, alloc, files));
+    copied && !failed
 }
 
 /// The most calls of a file that are tried.
 const MOST: u64 = 1000;
 
-/// The log fails from each of its calls on, or the database file does.
+/// The log fails from each of its calls on, or the database file does, up to the last one of a database that is closed.
 fn check_each(rt: &impl Abort, alloc: Global, list: &List, of_log: bool) {
     for n in 0..MOST {
         let (log, db) = if of_log { (n, u64::MAX) } else { (u64::MAX, n) };
@@ -246,19 +287,61 @@ fn check_each(rt: &impl Abort, alloc: Global, list: &List, of_log: bool) {
     panic!(rt; "it never ends");
 }
 
-/// The log fails, or the database file, from each of its calls on while an order is begun.
-fn check_store(rt: &impl Abort, alloc: Global, of_log: bool) {
-    let steps = steps_of(rt, alloc, &[LAYOUT, READY, A_TO_B, ONE_EDGE]);
+/// The log fails, or the database file, from each of its calls on while the calls of a script are served.
+fn check_store(rt: &impl Abort, alloc: Global, parts: &[&str], of_log: bool) {
+    let steps = steps_of(rt, alloc, parts);
     let list = list_of(rt, alloc, &steps);
     check_each(rt, alloc, &list, of_log);
 }
 
+/// An order is begun.
+const BEGUN: &[&str] = &[LAYOUT, READY, A_TO_B, ONE_EDGE];
+
+/// It is carried out.
+const CARRIED_OUT: &[&str] = &[LAYOUT, READY, A_TO_B, BOTH_EDGES, DELIVERED];
+
+/// It is cancelled, and its vehicle set right.
+const SET_RIGHT: &[&str] = &[LAYOUT, READY, A_TO_B, ONE_EDGE, CANCELLED, STOPPED, PLACED];
+
+/// Stocktakes, of which the first one moves a load.
+const COUNTED: &[&str] = &[LAYOUT, READY, FOUND];
+
 #[test]
 fn logs_fail(rt: HostRuntime) {
-    check_store(&rt, rt.alloc(), true);
+    check_store(&rt, rt.alloc(), BEGUN, true);
+}
+
+#[test]
+fn logs_fail_while_an_order_is_carried_out(rt: HostRuntime) {
+    check_store(&rt, rt.alloc(), CARRIED_OUT, true);
+}
+
+#[test]
+fn logs_fail_while_an_order_is_cancelled(rt: HostRuntime) {
+    check_store(&rt, rt.alloc(), SET_RIGHT, true);
+}
+
+#[test]
+fn logs_fail_while_stock_is_taken(rt: HostRuntime) {
+    check_store(&rt, rt.alloc(), COUNTED, true);
 }
 
 #[test]
 fn database_files_fail(rt: HostRuntime) {
-    check_store(&rt, rt.alloc(), false);
+    check_store(&rt, rt.alloc(), BEGUN, false);
+}
+
+#[test]
+fn database_files_fail_while_an_order_is_carried_out(rt: HostRuntime) {
+    check_store(&rt, rt.alloc(), CARRIED_OUT, false);
+}
+
+#[test]
+fn database_files_fail_while_an_order_is_cancelled(rt: HostRuntime) {
+    check_store(&rt, rt.alloc(), SET_RIGHT, false);
+}
+
+#[test]
+fn database_files_fail_while_stock_is_taken(rt: HostRuntime) {
+    check_store(&rt, rt.alloc(), COUNTED, false);
 }

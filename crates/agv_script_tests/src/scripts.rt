@@ -1,13 +1,13 @@
 //! The scripts, by their subjects: requests and their answers, worked out by hand. `starts` has what they begin with.
 
-mod cancels;
+pub(crate) mod cancels;
 mod instants;
 pub(crate) mod layouts;
 mod loads;
 pub(crate) mod orders;
 mod refusals;
 pub(crate) mod starts;
-mod stocktakes;
-mod trips;
+pub(crate) mod stocktakes;
+pub(crate) mod trips;
 mod two_loads;
 mod ways;

@@ -1,14 +1,14 @@
 //! Streams of requests, as bytes in and bytes out, in pieces: scripts, each as one stream, and streams byte for byte.
 
 use crate::cases::{check, moment};
-use crate::desks::{made, no_tables};
+use crate::desks::{made, no_tables, unreached};
 use crate::fakes::{Drip, Trickle};
 use crate::memory::MOMENT;
 use crate::steps::Step;
 use agv_face::{Ended, StreamSummary, serve_stream};
 use agv_header::Moment;
 use agv_store::Desk;
-use sqlite::MemStore;
+use sqlite::{Alter, Connection};
 use std::alloc::Global;
 use std::process::Abort;
 
@@ -29,10 +29,10 @@ pub(crate) struct Exchange<'s> {
 }
 
 /// Serves a stream, and compares how it ends and what is written.
-pub(crate) fn check_stream(
+pub(crate) fn check_stream<S: Alter + Drop>(
     rt: &impl Abort,
     alloc: Global,
-    desk: &mut Desk<MemStore>,
+    desk: &mut Desk<S>,
     exchange: &Exchange<'_>,
 ) {
     let mut reader = Drip::counting(exchange.input.as_bytes(), exchange.pace.0);
@@ -41,6 +41,7 @@ pub(crate) fn check_stream(
     check(rt, served == Ok(exchange.end), "the end of the stream");
     let taken = writer.inner().taken.as_slice();
     check(rt, taken == exchange.answers.as_bytes(), "the answers");
+    check(rt, !desk.failed(), "the store works");
 }
 
 /// The requests of a script that come at one moment, and their answers.
@@ -64,7 +65,13 @@ fn no_part(alloc: Global, at: Moment) -> Part {
 
 impl Part {
     /// Serves what was put as one stream.
-    fn serve(&self, rt: &impl Abort, alloc: Global, desk: &mut Desk<MemStore>, pace: Pace) {
+    fn serve<S: Alter + Drop>(
+        &self,
+        rt: &impl Abort,
+        alloc: Global,
+        desk: &mut Desk<S>,
+        pace: Pace,
+    ) {
         let exchange = Exchange {
             at: self.at,
             pace,
@@ -79,11 +86,11 @@ impl Part {
     }
 
     /// Puts a request. A stream has one moment: where another one comes, what was put is served.
-    fn put(
+    fn put<S: Alter + Drop>(
         &mut self,
         rt: &impl Abort,
         alloc: Global,
-        desk: &mut Desk<MemStore>,
+        desk: &mut Desk<S>,
         pace: Pace,
         step: &Step,
     ) {
@@ -102,9 +109,15 @@ impl Part {
     }
 }
 
-/// Serves a script as one stream at this pace.
-fn stream_at(rt: &impl Abort, alloc: Global, pace: Pace, steps: &[Step]) {
-    let mut desk = made(rt, alloc, no_tables(rt, alloc));
+/// Serves a script as one stream at this pace, by a new desk in this database.
+fn stream_at<S: Alter + Drop>(
+    rt: &impl Abort,
+    alloc: Global,
+    conn: Connection<S>,
+    pace: Pace,
+    steps: &[Step],
+) {
+    let mut desk = made(rt, alloc, conn);
     let mut part = no_part(alloc, moment(rt, MOMENT));
     for step in steps {
         part.put(rt, alloc, &mut desk, pace, step);
@@ -112,19 +125,26 @@ fn stream_at(rt: &impl Abort, alloc: Global, pace: Pace, steps: &[Step]) {
     part.serve(rt, alloc, &mut desk, pace);
 }
 
-/// Serves a script as one stream at each pace.
+/// Serves a script as one stream at each pace, in memory and on files behind fuses that aren't reached.
 pub(crate) fn stream(rt: &impl Abort, alloc: Global, steps: &[Step]) {
     for pace in PACES {
-        stream_at(rt, alloc, pace, steps);
+        stream_at(rt, alloc, no_tables(rt, alloc), pace, steps);
+        stream_at(rt, alloc, unreached(rt, alloc), pace, steps);
     }
 }
 
 /// An input, what is written, how many answers that is, and how the stream ends.
 pub(crate) type Stream<'s> = (&'s str, &'s str, u64, Ended);
 
-/// Serves these streams one after the other by a new desk at this pace.
-fn streams_at(rt: &impl Abort, alloc: Global, pace: Pace, streams: &[Stream<'_>]) {
-    let mut desk = made(rt, alloc, no_tables(rt, alloc));
+/// Serves these streams one after the other at this pace, by a new desk in this database.
+fn streams_at<S: Alter + Drop>(
+    rt: &impl Abort,
+    alloc: Global,
+    conn: Connection<S>,
+    pace: Pace,
+    streams: &[Stream<'_>],
+) {
+    let mut desk = made(rt, alloc, conn);
     for (input, answers, count, ended) in streams {
         let exchange = Exchange {
             at: moment(rt, MOMENT),
@@ -140,9 +160,10 @@ fn streams_at(rt: &impl Abort, alloc: Global, pace: Pace, streams: &[Stream<'_>]
     }
 }
 
-/// Serves these streams one after the other by a new desk, at each pace.
+/// Serves these streams one after the other by a new desk, at each pace, in memory and on files behind fuses that aren't reached.
 pub(crate) fn check_streams(rt: &impl Abort, alloc: Global, streams: &[Stream<'_>]) {
     for pace in PACES {
-        streams_at(rt, alloc, pace, streams);
+        streams_at(rt, alloc, no_tables(rt, alloc), pace, streams);
+        streams_at(rt, alloc, unreached(rt, alloc), pace, streams);
     }
 }

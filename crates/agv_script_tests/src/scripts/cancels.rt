@@ -4,7 +4,7 @@ use crate::player::play_all;
 use crate::scripts::starts::{A_TO_B, BOTH_EDGES, LAYOUT, ONE_EDGE, READY};
 
 /// The order of KIT/0001 is to be cancelled.
-const CANCELLED: &str = r#"
+pub(crate) const CANCELLED: &str = r#"
 GET /uagv/v2/KIT/0001/instantActions
 204
 POST /vehicles/KIT/0001/cancel
@@ -14,7 +14,7 @@ GET /uagv/v2/KIT/0001/instantActions
 "#;
 
 /// It stops before it has picked its load, and may be on the way to N2: it holds the edge.
-const STOPPED: &str = r#"
+pub(crate) const STOPPED: &str = r#"
 state 0001 2 O1 0 N1 0 instant-1=FINISHED
 200 {"accepted":true}
 GET /uagv/v2/KIT/0001/instantActions
@@ -34,7 +34,7 @@ row vehicle KIT 0001 N1 E12 N2 2 O1 1 0 1 1700000000000 1 1700000000000 NULL
 "#;
 
 /// It gets no order until it is placed.
-const PLACED: &str = r#"
+pub(crate) const PLACED: &str = r#"
 POST /jobs {"job":"J2","load":"L1","to":"B"}
 200 {}
 POST /orders {"order":"O2","job":"J2","manufacturer":"KIT","serialNumber":"0001","edges":1}

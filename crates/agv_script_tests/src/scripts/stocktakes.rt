@@ -4,7 +4,7 @@ use crate::player::play_all;
 use crate::scripts::starts::{A_TO_B, LAYOUT, READY};
 
 /// A load that was at A is found at C.
-const FOUND: &str = r#"
+pub(crate) const FOUND: &str = r#"
 POST /loads {"load":"L1","station":"A"}
 200 {}
 POST /stocktakes/R2

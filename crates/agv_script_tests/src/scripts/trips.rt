@@ -4,7 +4,7 @@ use crate::player::play_all;
 use crate::scripts::starts::{A_TO_B, BOTH_EDGES, LAYOUT, READY};
 
 /// One state says that the load is picked and dropped.
-const DELIVERED: &str = r#"
+pub(crate) const DELIVERED: &str = r#"
 state 0001 2 O1 0 N3 4 O1.0=FINISHED O1.1=FINISHED
 200 {"accepted":true}
 moves L1 vehicle KIT/0001, L1 station B
