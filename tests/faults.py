@@ -1,6 +1,6 @@
 """Scripts of requests with the answers and the rows after each, and what must hold of a file once the program that served a script on it
 has met a fault: what was answered is kept, the call that met it has been carried out or not at all, and the rest of the script goes on from
-there to the same rows.
+there to the same rows. Besides, files that are moved to the second schema, and what must hold of one once a fault was met amid its move.
 
 By default a sample of all faults is tried; all of them where the variable FAULTS is `all`."""
 import functools
@@ -9,10 +9,12 @@ import os
 import re
 import socket
 import sqlite3
+import tempfile
 
-from records import COLUMNS, rows_of
-from test_program import AT, HERE, read_all, run
-from test_scripts import AT_A, CUT, SCRIPTS, accepted, bytes_of, load, ok, order, stands, state
+import test_migrate
+from records import COLUMNS, copied, rows_of
+from test_program import AT, DESK, HERE, read_all, run
+from test_scripts import AT_A, CUT, SCRIPTS, accepted, answers_of, bytes_of, holds, load, ok, order, stands, state
 
 ALL = os.environ.get('FAULTS') == 'all'
 # Where files lie in memory, if there is such a folder: a sync costs nothing there.
@@ -158,6 +160,71 @@ def check_anew(test, script, db, answered, more):
     return -1 if rows is None else at
 
 
+STOCK = ('station A at N1: 1 of 1, reserved 0\n  L1\nstation B at N3: 0 of 1, reserved %d\nstation C at N3: 0 of 2, reserved 0\n'
+         'checking: 0\n%sleft: 0\n')
+
+
+class Move:
+    """A file of the first schema, which another SQLite writes; the rows of its tables before the move, and those that it has after it; and
+    requests that a desk answers then. Its rows stand in the database, or all of them in the log beside it."""
+
+    WORDS = DESK, 'migrate', '--db'
+
+    def __init__(self, rows, logged, moved, *asked):
+        self.moved, self.asked = {'meta': [(1, 2)], 'trip': [], 'capacity': [], 'journey': [], 'act': [], **moved}, asked
+        with tempfile.TemporaryDirectory(dir=FOLDER) as folder:
+            db = os.path.join(folder, 'first.db')
+            base = sqlite3.connect(db)
+            if logged:
+                base.execute('PRAGMA journal_mode = WAL')
+            base.executescript(test_migrate.FIRST + rows)
+            self.files = files_of(db)
+            self.before = tables_of(db)
+            base.close()
+        self.after = {**self.before, **self.moved}
+
+    def start(self, db):
+        put(db, self.files)
+
+    def check(self, test, db, told):
+        """The file has the rows before the move or those after it, and these where it was told that it is moved; then it is moved, or is moved
+        already, and a desk starts on it. It gives which rows they were. What has been checked is not checked again over the same bytes."""
+        key = id(self), told, digest_of(db)
+        if key not in CHECKED:
+            CHECKED[key] = self.check_anew(test, db, told)
+        return CHECKED[key]
+
+    def check_anew(self, test, db, told):
+        rows = tables_of(db)
+        moved = told or rows != self.before
+        test.assertEqual(rows, self.after if moved else self.before)
+        test.assertEqual(run('migrate', '--db', db), (1, b'', b'fault: Damaged\n') if moved else (0, b'migrated\n', b''))
+        test.assertEqual(tables_of(db), self.after)
+        status, out, said = run('replay', '--db', db, '--at', AT, stdin=b''.join(lines(self.asked)))
+        test.assertEqual((status, said), (0, b''))
+        test.assertEqual(answers_of(out), [line[2:] for line in self.asked])
+        test.assertEqual(run('report', '--db', db, 'stock'), (0, self.asked[-1][3].encode(), b''))
+        test.assertEqual(tables_of(db), self.after)
+        return 'after' if moved else 'before'
+
+
+@functools.lru_cache(None)
+def moves():
+    """The files of the first schema that are moved: one with an order under way, and one with no vehicle."""
+    found = {}
+    for logged in (False, True):
+        where = ', in the log' if logged else ''
+        found['an order under way' + where] = Move(
+            test_migrate.BEGUN, logged,
+            {'capacity': [('KIT', '0001', 1)], 'journey': [('O1', 'KIT', '0001', 'N1', 0, 1, 0, None, 0)],
+             'act': [('O1', 0, 'J1', 'pick', 0, 'WAITING'), ('O1', 1, 'J1', 'drop', 2, 'WAITING')]},
+            ok('GET /uagv/v2/KIT/0001/order', None, test_migrate.MESSAGE), holds('node N1 KIT/0001', 'node N2 KIT/0001', 'edge E12 KIT/0001'),
+            stands('L1', 'station A', 'J1'), ok('GET /report/stock', None, STOCK % (1, 'vehicle KIT/0001: 0\n')))
+        found['no vehicle' + where] = Move(
+            test_migrate.LAYOUT, logged, {}, holds(), stands('L1', 'station A'), ok('GET /report/stock', None, STOCK % (0, '')))
+    return found
+
+
 def port_of(process):
     """The port on which the program that is traced listens, once it says so; none where it ends before."""
     while not process.out.endswith(b'\n'):
@@ -197,6 +264,19 @@ def files_of(db):
 
 def digest_of(db):
     return tuple((end, hashlib.sha1(data).digest()) for end, data in files_of(db).items())
+
+
+def tables_of(db):
+    """The rows of each table of a file that is sound, whatever tables it has, as another SQLite reads them; the file is left as it is."""
+    with tempfile.TemporaryDirectory(dir=os.path.dirname(db)) as folder:
+        base = sqlite3.connect(copied(db, folder))
+        try:
+            if base.execute('PRAGMA integrity_check').fetchall() != [('ok',)]:
+                raise AssertionError(base.execute('PRAGMA integrity_check').fetchall())
+            names = [name for name, in base.execute("SELECT name FROM sqlite_master WHERE type = 'table'")]
+            return {name: sorted(base.execute('SELECT * FROM %s NOT INDEXED' % name), key=repr) for name in names}
+        finally:
+            base.close()
 
 
 def remove(db):

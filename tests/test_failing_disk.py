@@ -1,12 +1,13 @@
 """A disk whose calls fail from the n-th on, or at the n-th alone, and one that reads and writes in small parts. Each call is answered as
 it should be or by the fault of the store, which ends the program; and the file, on a disk that works again, has each answered call and the
-failed one whole or not at all."""
+failed one whole or not at all. A move to the second schema leaves it as before or moved whole."""
+import collections
 import errno
 import os
 import unittest
 
 import tracing
-from faults import ALL, STORAGE, check_kept, sample, scripts
+from faults import ALL, STORAGE, Move, check_kept, moves, sample, scripts
 from test_stops import FULL, LACKS, FaultTest
 
 CALLS = [
@@ -20,6 +21,9 @@ class FailingDisk(FaultTest):
     def serve(self, script, kinds, told):
         """The program serves the script; what each of its calls on the file of these kinds is told, by its number."""
         script.start(self.db)
+        return self.run_on(self.words, script.input, kinds, told)
+
+    def run_on(self, words, stdin, kinds, told):
         seen = []
 
         def on_call(call):
@@ -31,7 +35,7 @@ class FailingDisk(FaultTest):
             seen.append(call.name)
             return told(len(seen), call)
 
-        return tracing.run(self.words, CALLS, on_call, script.input), seen
+        return tracing.run(words, CALLS, on_call, stdin), seen
 
     def check(self, kinds, error, once, most):
         """A failure at each call. The program may end with nothing done, amid the script, or pass the failure over."""
@@ -73,6 +77,31 @@ class FailingDisk(FaultTest):
 
     def test_no_room_from_one_write_on(self):
         self.check(ROOM, errno.ENOSPC, False, 10)
+
+    def test_a_call_of_a_move_fails(self):
+        """By itself, or with all behind it, or for want of room: what isn't moved is told so."""
+        faults = [(CALLS, errno.EIO, False), (CALLS, errno.EIO, True), (ROOM, errno.ENOSPC, False)]
+        met = collections.Counter()
+        for name, move in moves().items():
+            words = [*Move.WORDS, self.db]
+            for kinds, error, once in faults:
+                move.start(self.db)
+                ended, seen = self.run_on(words, b'', kinds, lambda number, call: None)
+                self.assertEqual((ended.status, ended.out, ended.said), (0, b'migrated\n', b''))
+                for n in sample(range(1, len(seen) + 1), 6):
+                    with self.subTest(name, n=n, call=seen[n - 1], error=error, once=once):
+                        def told(number, call):
+                            return tracing.Fails(error) if number == n or number > n and not once else None
+
+                        move.start(self.db)
+                        ended, _ = self.run_on(words, b'', kinds, told)
+                        moved = ended.status == 0
+                        self.assertEqual(
+                            (ended.status, ended.out, ended.said), (0, b'migrated\n', b'') if moved else (1, b'', b'fault: Storage\n'))
+                        met['moved' if moved else 'refused', move.check(self, self.db, moved)] += 1
+        if ALL:
+            print('a call of a move that failed: %s' % ', '.join('%s, %s: %d' % (*one, count) for one, count in sorted(met.items())))
+        self.assertGreater(met['refused', 'before'], 20)
 
     def test_small_writes(self):
         """What a write has left is written by the next."""

@@ -1,10 +1,12 @@
 """Each allocation of the program is refused in turn: its calls of the C library's heap are counted, and the k-th gets no memory, or none
 from the k-th on. The calls before are answered, the one that lacks memory by the refusal for want of memory, and it changes nothing; a
-further run, or the next connection, goes on from there. What a program takes by other ways than `malloc` and its like isn't reached."""
+further run, or the next connection, goes on from there. A move to the second schema leaves the file as before. What a program takes by
+other ways than `malloc` and its like isn't reached."""
+import collections
 import unittest
 
 import tracing
-from faults import ALL, MEMORY, STORAGE, asks, check_kept, port_of, remove, sample, scripts, without_clock
+from faults import ALL, MEMORY, STORAGE, Move, asks, check_kept, moves, port_of, remove, sample, scripts, without_clock
 from records import rows_of
 from test_program import AT, DESK, over_sockets, without_moments
 from test_stops import FULL, LACKS, FaultTest
@@ -87,6 +89,31 @@ class RefusedMemory(FaultTest):
     def test_all_from_one_on(self):
         self.check(self.db, None, 10)
         self.check('memory', None, 8)
+
+    def test_a_move(self):
+        """One call of the heap gets no memory, or none does from one on: the file is moved, or the lack is told and the file is as before."""
+        met = collections.Counter()
+        for name, move in moves().items():
+            words = [*Move.WORDS, self.db]
+            move.start(self.db)
+            ended = tracing.run(words, heap=tracing.Heap(DESK))
+            self.assertEqual((ended.status, ended.out, ended.said, ended.refused), (0, b'migrated\n', b'', 0))
+            self.assertGreater(ended.asked, 100)
+            calls = range(1, ended.asked + 1)
+            for times in (1, None):
+                for k in sample(calls if times else calls[::7], 12):
+                    with self.subTest(name, k=k, of=calls[-1], times=times):
+                        move.start(self.db)
+                        ended = tracing.run(words, heap=tracing.Heap(DESK, k, times))
+                        self.assertGreaterEqual(ended.refused, 1)
+                        moved = ended.status == 0
+                        self.assertEqual(
+                            (ended.status, ended.out, ended.said), (0, b'migrated\n', b'') if moved else (1, b'', b'fault: Memory\n'))
+                        self.assertEqual(move.check(self, self.db, moved), 'after' if moved else 'before')
+                        met['moved' if moved else 'refused'] += 1
+            if ALL:
+                print('a move, %s, calls 1 to %d of the heap: %s so far' % (name, calls[-1], dict(met)))
+        self.assertGreater(met['refused'], 20, met)
 
 
 @unittest.skipIf(NO_HEAP, NO_HEAP)

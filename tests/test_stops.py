@@ -1,13 +1,14 @@
 """The program is ended before each of its writes to the file, and the power fails at each moment: what was synced stays, and of what was
 not any part may be lost. Whatever is left, the file has each call that was answered, the call that was being served whole or not at all,
-and the rest of the script leads to the same rows."""
+and the rest of the script leads to the same rows. So it is amid a move to the second schema: the file is as before or moved whole."""
+import collections
 import os
 import random
 import tempfile
 import unittest
 
 import tracing
-from faults import ALL, FOLDER, check_kept, full_log, remove, sample, scripts
+from faults import ALL, FOLDER, Move, check_kept, full_log, moves, put, sample, scripts
 from test_program import AT, DESK
 
 LACKS = tracing.lacks()
@@ -45,9 +46,9 @@ class FaultTest(unittest.TestCase):
 
 @unittest.skipIf(LACKS, LACKS)
 class Stops(FaultTest):
-    def stop(self, script, k):
-        """The program serves the script, and is ended before its k-th write. It gives how it ended, and the writes."""
-        script.start(self.db)
+    def stop(self, start, words, k, stdin=b''):
+        """The program is ended before its k-th write. It gives how it ended, and the writes."""
+        start(self.db)
         at = []
 
         def on_call(call):
@@ -56,12 +57,12 @@ class Stops(FaultTest):
             at.append((call.name, call.path))
             return tracing.STOP if len(at) == k else None
 
-        return tracing.run(self.words, WRITES, on_call, script.input), at
+        return tracing.run(words, WRITES, on_call, stdin), at
 
     def test_a_stop_at_each_write(self):
         for name in [*scripts(), FULL]:
             script = self.played(name)
-            ended, writes = self.stop(script, 0)
+            ended, writes = self.stop(script.start, self.words, 0, script.input)
             self.assertEqual((ended.status, ended.out, ended.said), (0, script.out, b''))
             self.assertGreater(len(writes), len(script.requests), name)
             if name == FULL:
@@ -71,7 +72,7 @@ class Stops(FaultTest):
             tried = sample(range(1, len(writes) + 1), 30)
             for k in tried:
                 with self.subTest(name, k=k, call=writes[k - 1][0]):
-                    ended, told = self.stop(script, k)
+                    ended, told = self.stop(script.start, self.words, k, script.input)
                     self.assertEqual((ended.status, len(told)), (-9, k))
                     answered = script.whole(ended.out)
                     self.assertEqual(ended.out, b''.join(script.answers[:answered]))
@@ -82,11 +83,30 @@ class Stops(FaultTest):
             if ALL:
                 print('%s: ended before each of %d writes: %s' % (name, len(writes), met))
 
+    def test_a_stop_at_each_write_of_a_move(self):
+        for name, move in moves().items():
+            words = [*Move.WORDS, self.db]
+            ended, writes = self.stop(move.start, words, 0)
+            self.assertEqual((ended.status, ended.out, ended.said), (0, b'migrated\n', b''))
+            self.assertEqual(move.check(self, self.db, True), 'after')
+            met = collections.Counter()
+            tried = sample(range(1, len(writes) + 1), 16)
+            for k in tried:
+                with self.subTest(name, k=k, call=writes[k - 1]):
+                    ended, told = self.stop(move.start, words, k)
+                    self.assertEqual((ended.status, len(told), ended.said), (-9, k, b''))
+                    self.assertIn(ended.out, (b'', b'migrated\n'))
+                    met[move.check(self, self.db, ended.out != b'')] += 1
+            self.assertEqual(sum(met.values()), len(tried))
+            self.assertEqual(set(met), {'before', 'after'}, name)
+            if ALL:
+                print('a move, %s: ended before each of %d writes: %s' % (name, len(writes), dict(met)))
+
 
 class Recorded:
     """What a run does to its files and to its output, in order: the name of a file with the change, or how many bytes were answered."""
 
-    def __init__(self, script, words, db):
+    def __init__(self, words, db, stdin=b''):
         self.events = []
         self.db = db
 
@@ -96,7 +116,7 @@ class Recorded:
             elif changes_file(call, db):
                 self.note(call)
 
-        self.ended = tracing.run(words, WRITES, on_call, script.input)
+        self.ended = tracing.run(words, WRITES, on_call, stdin)
 
     def note(self, call):
         path = call.path
@@ -167,44 +187,63 @@ class Disk:
 
 @unittest.skipIf(LACKS, LACKS)
 class PowerCuts(FaultTest):
+    def cut(self, name, recorded, files, check):
+        """The power fails at moments at which something isn't synced; `check` sees what is left, and is told how many bytes were answered. It
+        gives at how many moments something isn't synced, and at how many of them the power failed."""
+        disk, cuts, answered = Disk(self.db, files), [], 0
+        for number, event in enumerate(recorded.events):
+            if disk.doubtful():
+                cuts.append(number)
+            disk.do(event)
+        if disk.doubtful():
+            cuts.append(len(recorded.events))
+        # The record is whole: with all its changes the files are as the program left them.
+        for path, data in disk.left(random.Random(0), 1).items():
+            with open(path, 'rb') as file:
+                self.assertEqual(file.read(), data, path)
+        chosen, lost = set(sample(cuts, CUTS)), 0
+        disk = Disk(self.db, files)
+        for number, event in enumerate(recorded.events + [('end', None, None)]):
+            if number in chosen:
+                for turn in range(VARIANTS):
+                    chance = random.Random('%s %d %d' % (name, number, turn))
+                    with self.subTest(name, cut=number, turn=turn):
+                        left = disk.left(chance, chance.choice((0, 0.3, 0.7, 1)))
+                        put(self.db, {path[len(self.db):]: data for path, data in left.items()})
+                        check(answered)
+                        lost += 1
+            disk.do(event)
+            if event[0] == 'answer':
+                answered += event[2]
+        self.assertEqual(lost, len(chosen) * VARIANTS)
+        return len(cuts), len(chosen)
+
     def test_writes_that_are_lost(self):
         for name in [*scripts(), FULL]:
             script = self.played(name)
             script.start(self.db)
-            recorded = Recorded(script, self.words, self.db)
+            recorded = Recorded(self.words, self.db, script.input)
             self.assertEqual((recorded.ended.status, recorded.ended.out), (0, script.out))
-            disk, cuts, answered = Disk(self.db, script.files), [], 0
-            for number, event in enumerate(recorded.events):
-                if disk.doubtful():
-                    cuts.append(number)
-                disk.do(event)
-            if disk.doubtful():
-                cuts.append(len(recorded.events))
-            # The record is whole: with all its changes the files are as the program left them.
-            for path, data in disk.left(random.Random(0), 1).items():
-                with open(path, 'rb') as file:
-                    self.assertEqual(file.read(), data, path)
-            self.assertGreater(len(cuts), len(script.requests))
-            chosen, lost = set(sample(cuts, CUTS)), 0
-            disk = Disk(self.db, script.files)
-            for number, event in enumerate(recorded.events + [('end', None, None)]):
-                if number in chosen:
-                    whole = script.whole(script.out[:answered])
-                    for turn in range(VARIANTS):
-                        chance = random.Random('%s %d %d' % (name, number, turn))
-                        with self.subTest(name, cut=number, turn=turn):
-                            remove(self.db)
-                            for path, data in disk.left(chance, chance.choice((0, 0.3, 0.7, 1))).items():
-                                with open(path, 'wb') as file:
-                                    file.write(data)
-                            check_kept(self, script, self.db, whole)
-                            lost += 1
-                disk.do(event)
-                if event[0] == 'answer':
-                    answered += event[2]
-            self.assertEqual(lost, len(chosen) * VARIANTS)
+            cuts, chosen = self.cut(
+                name, recorded, script.files, lambda answered: check_kept(self, script, self.db, script.whole(script.out[:answered])))
+            self.assertGreater(cuts, len(script.requests))
             if ALL:
-                print('%s: %d power cuts, each left in %d ways' % (name, len(chosen), VARIANTS))
+                print('%s: %d power cuts, each left in %d ways' % (name, chosen, VARIANTS))
+
+    def test_writes_of_a_move_that_are_lost(self):
+        for name, move in moves().items():
+            move.start(self.db)
+            recorded = Recorded([*Move.WORDS, self.db], self.db)
+            self.assertEqual((recorded.ended.status, recorded.ended.out), (0, b'migrated\n'))
+            met = collections.Counter()
+
+            def check(answered):
+                met[move.check(self, self.db, answered > 0)] += 1
+
+            _, chosen = self.cut(name, recorded, move.files, check)
+            self.assertEqual(set(met), {'before', 'after'}, name)
+            if ALL:
+                print('a move, %s: %d power cuts, each left in %d ways: %s' % (name, chosen, VARIANTS, dict(met)))
 
 
 if __name__ == '__main__':
