@@ -1,6 +1,8 @@
-"""The rows of a desk's file, as another SQLite reads them, and which rules of docs/MODEL.md they break (the joint invariant, with the
-holds)."""
+"""The rows of a desk's file, as another SQLite reads them, which rules of docs/MODEL.md they break (the joint invariant, with the holds),
+and what a desk that has these rows is to answer to each GET, by docs/HTTP.md and docs/FORMATS.md."""
 import collections
+import datetime
+import json
 import os
 import re
 import shutil
@@ -69,6 +71,11 @@ class Row:
         self.__dict__.update(zip(names, values))
 
 
+def named(rows):
+    """The rows by table, with the columns as members."""
+    return {table: [Row(columns.split(), row) for row in rows[table]] for table, columns in COLUMNS.items()}
+
+
 def broken(rows):
     """The rules that these rows break, as texts; an empty list where they are a lawful world's."""
     found = []
@@ -77,7 +84,7 @@ def broken(rows):
         if not holds:
             found.append(' '.join([rule, *map(str, of)]))
 
-    tables = {table: [Row(columns.split(), row) for row in rows[table]] for table, columns in COLUMNS.items()}
+    tables = named(rows)
     must(rows['meta'] == [(1, 2)], 'meta')
     must(rows['trip'] == [], 'trip')
     keys = {'node': ['id'], 'edge': ['id'], 'station': ['id'], 'vehicle': ['manufacturer', 'serial'],
@@ -234,3 +241,125 @@ def check_trip(row, vehicle, acts, jobs, legs, edges, stations, must):
     must(not (row.seen == end and statuses <= OVER), 'trips: open', order)
     must(vehicle.order_header and vehicle.rest_edge is None, 'trips: sent', order)
     must(row.seen <= end and way[row.seen] == vehicle.node, 'trips: stands', order)
+
+
+def place_of(load, of_station, of_vehicle):
+    """Where the load is, in the words of a report or of the export."""
+    if load.kind == 'station':
+        return of_station + load.station
+    return '%s%s/%s' % (of_vehicle, load.manufacturer, load.serial) if load.kind == 'vehicle' else load.kind
+
+
+def is_live(job):
+    return job.phase in ('waiting', 'riding')
+
+
+def by_name(rows):
+    return sorted(rows, key=lambda row: row.id)
+
+
+def stock_report(tables):
+    def part(head, here):
+        return ''.join([head % len(here), *['  %s\n' % load.id for load in by_name(here)]])
+
+    loads = tables['load']
+    told = ''
+    for row in by_name(tables['station']):
+        reserved = sum(is_live(job) and job.target == row.id for job in tables['job'])
+        head = 'station %s at %s: %%d of %d, reserved %d\n' % (row.id, row.node, row.capacity, reserved)
+        told += part(head, [load for load in loads if load.kind == 'station' and load.station == row.id])
+    told += part('checking: %d\n', [load for load in loads if load.kind == 'checking'])
+    for key in sorted((row.manufacturer, row.serial) for row in tables['vehicle']):
+        on_it = [load for load in loads if load.kind == 'vehicle' and (load.manufacturer, load.serial) == key]
+        told += part('vehicle %s/%s: %%d\n' % key, on_it)
+    return told + 'left: %d\n' % sum(load.kind == 'left' for load in loads)
+
+
+def hold_report(tables):
+    holds = sorted(tables['hold'], key=lambda row: (row.kind != 'node', row.id))
+    lines = ['%s %s %s/%s\n' % (row.kind, row.id, row.manufacturer, row.serial) for row in holds]
+    return ''.join(lines) + 'held %d of %d\n' % (len(holds), len(tables['node']) + len(tables['edge']))
+
+
+def loads_export(tables):
+    lines = []
+    for load in by_name(tables['load']):
+        place = place_of(load, 'station,', 'vehicle,')
+        lines.append('%s,%s\n' % (load.id, place if ',' in place else place + ','))
+    return 'load,place,at\n' + ''.join(lines)
+
+
+def stamp(moment):
+    """A moment as it is written, decimals cut off."""
+    at = datetime.datetime(1970, 1, 1) + datetime.timedelta(seconds=moment // 1000)
+    return '%s.%02dZ' % (at.strftime('%Y-%m-%dT%H:%M:%S'), moment % 1000 // 10)
+
+
+def message(vehicle, number, at, **members):
+    return {'headerId': number, 'timestamp': stamp(at), 'version': '2.0.0', 'manufacturer': vehicle.manufacturer,
+            'serialNumber': vehicle.serial, **members}
+
+
+def instant_message(vehicle):
+    number = vehicle.instant_header
+    action = {'actionId': 'instant-%d' % number, 'actionParameters': [], 'actionType': vehicle.pending, 'blockingType': 'HARD'}
+    return message(vehicle, number, vehicle.instant_at, actions=[action])
+
+
+def order_message(tables, vehicle, trip):
+    """The last message of an open trip: its nodes from `first` on."""
+    jobs = {job.id: job for job in tables['job']}
+    ends = {edge.id: (edge.start, edge.finish) for edge in tables['edge']}
+    way = [leg.edge for leg in sorted(tables['leg'], key=lambda leg: leg.k) if leg.order_id == trip.order_id]
+    actions = collections.defaultdict(list)
+    for act in sorted(tables['act'], key=lambda act: act.n):
+        if act.order_id == trip.order_id:
+            job = jobs[act.job]
+            station = job.origin if act.kind == 'pick' else job.target
+            told = ('stationType', 'station'), ('stationName', station), ('loadType', 'load'), ('loadId', job.load)
+            actions[act.place_at].append({
+                'actionId': '%s.%d' % (trip.order_id, act.n), 'actionType': act.kind, 'blockingType': 'HARD',
+                'actionParameters': [{'key': key, 'value': value} for key, value in told]})
+    nodes = [{'nodeId': node, 'sequenceId': 2 * k, 'released': k <= trip.base, 'actions': actions[k]}
+             for k, node in enumerate([trip.start, *[ends[edge][1] for edge in way]])]
+    edges = [{'edgeId': edge, 'sequenceId': 2 * k + 1, 'released': k < trip.base, 'actions': [],
+              'startNodeId': ends[edge][0], 'endNodeId': ends[edge][1]} for k, edge in enumerate(way)]
+    return message(vehicle, vehicle.order_header, vehicle.order_at, orderId=trip.order_id, orderUpdateId=trip.sent,
+                   nodes=nodes[trip.first:], edges=edges[trip.first:])
+
+
+def vehicle_told(tables, vehicle, trip):
+    key = vehicle.manufacturer, vehicle.serial
+    capacity = next(row.capacity for row in tables['capacity'] if (row.manufacturer, row.serial) == key)
+    return {
+        'astray': vehicle.rest_edge is not None, 'capacity': capacity, 'confirmed': trip and trip.confirmed, 'headerId': vehicle.last_header,
+        'manufacturer': vehicle.manufacturer, 'node': vehicle.node, 'order': trip and trip.order_id, 'paused': vehicle.paused == 1,
+        'pending': vehicle.pending, 'ready': vehicle.ready == 1, 'sent': trip and trip.sent, 'serialNumber': vehicle.serial}
+
+
+def answer_of(rows, target):
+    """The status and the body by which a desk that has these rows of a lawful world answers `GET target`."""
+    tables = named(rows)
+    reports = {'/report/stock': stock_report, '/report/holds': hold_report, '/export/loads': loads_export}
+    if target in reports:
+        return 200, reports[target](tables).encode()
+    words, told = target.split('/')[1:], None
+    if words[0] == 'loads':
+        load = next((row for row in tables['load'] if row.id == words[1]), None)
+        if load is None:
+            return 404, b'{"name":"NoLoad","refusal":23}'
+        live = [job.id for job in tables['job'] if job.load == load.id and is_live(job)]
+        told = {'job': live[0] if live else None, 'load': load.id, 'place': place_of(load, 'station ', 'vehicle ')}
+    else:
+        key = tuple(words[1:3] if words[0] == 'vehicles' else words[2:4])
+        vehicle = next((row for row in tables['vehicle'] if (row.manufacturer, row.serial) == key), None)
+        if vehicle is None:
+            return 404, b'{"name":"NoVehicle","refusal":20}'
+        trip = next((row for row in tables['journey'] if (row.manufacturer, row.serial) == key), None)
+        if words[0] == 'vehicles':
+            told = vehicle_told(tables, vehicle, trip)
+        elif words[4] == 'order' and trip:
+            told = order_message(tables, vehicle, trip)
+        elif words[4] == 'instantActions' and vehicle.pending:
+            told = instant_message(vehicle)
+    return (204, b'') if told is None else (200, json.dumps(told, sort_keys=True, separators=(',', ':')).encode())

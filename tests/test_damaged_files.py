@@ -1,19 +1,23 @@
-"""Database files, and the log beside them, that were changed at random: a byte, a run of bytes, a page, or an end that is cut. The program
-tells that the file is damaged or can't be read, or serves rows that break no rule; of a changed log the calls up to some one. It never ends in
-another way, and never takes long. DAMAGES sets how many changes are tried."""
+"""Database files, and the log beside them, that were changed at random: a byte, a run of bytes, a page, or an end that is cut. The files
+are those of a new desk, of each script in `faults.py`, and of one with a row of each kind, each with all in the log, all in the database,
+and some in either. The program tells that the file is damaged or can't be read, or serves rows that break no rule, and tells them as they
+are; of a changed log the calls up to some one. It never ends in another way, and never takes long. DAMAGES sets how many changes of the
+files of each script are tried; the last test tries as many of each of two files of the first schema, which are moved by `migrate`."""
 import os
 import random
 import sqlite3
 import tempfile
 import unittest
 
-from faults import ALL, FOLDER, STORAGE, lines, remove
-from records import COLUMNS, broken, rows_of
-from test_hostile_bytes import answers_of
+from faults import ALL, FOLDER, STORAGE, Script, full_log, lines, remove, scripts
+from records import COLUMNS, answer_of, broken, copied, rows_of
+from test_hostile_bytes import answers_of, request
+from test_migrate import BEGUN, FIRST, NEW
+from test_migrate import LAYOUT as NO_VEHICLE
 from test_program import AT, run
 from test_scripts import accepted, advance, job, load, ok, order, state, vehicle
 
-DAMAGES = int(os.environ.get('DAMAGES', '200'))
+DAMAGES = int(os.environ.get('DAMAGES', '28'))
 SECONDS = 10
 NODES = range(1, 9)
 LAYOUT = 'kind,id,from,to\n' + ''.join('node,N%d,,\n' % n for n in NODES) + ''.join(
@@ -34,10 +38,6 @@ FILLED = [
     accepted(state(2, 'O3', node='N7', statuses=[('instant-1', FINISHED)], serial='0002')),
     ok('POST /vehicles/KIT/0003/pause', '', '{"actionId":"instant-1"}'),
     job('J5', 'L5', 'B'), job('J4', 'L6', 'C'), ok('DELETE /jobs/J4')]
-READS = [
-    ('GET /report/stock', None), ('GET /report/holds', None), ('GET /export/loads', None),
-    *[('GET /vehicles/KIT/000%d' % n, None) for n in (1, 2, 3)], *[('GET /loads/L%d' % n, None) for n in range(1, 8)],
-    ('GET /uagv/v2/KIT/0001/order', None), ('GET /uagv/v2/KIT/0003/instantActions', None)]
 WRITES = [
     load('L8', 'A'), load('L9'), ok('POST /loads/L3/correct', {'ref': 'R2', 'station': 'D'}), job('J8', 'L6', 'C'), advance('O2', 1, 1),
     state(4, 'O2', 1, 'N5', 4, [('O2.0', FINISHED), ('O2.1', FINISHED)]),
@@ -48,6 +48,14 @@ WRITES = [
 
 def asked(script):
     return b''.join(lines([(*line, None, None)[:4] for line in script]))
+
+
+def reads_of(rows):
+    """What is asked of a file: the reports, the export, each vehicle with its messages, loads of which there are some, and one that isn't."""
+    keys = ['%s/%s' % (row[0], row[1]) for row in rows['vehicle']]
+    return ['/report/stock', '/report/holds', '/export/loads', *['/vehicles/' + key for key in keys],
+            *['/uagv/v2/%s/%s' % (key, topic) for key in keys for topic in ('order', 'instantActions')],
+            *['/loads/' + row[0] for row in rows['load'][:8]], '/loads/no']
 
 
 def damaged(data, chance):
@@ -119,7 +127,7 @@ BREAKS = [
     "DELETE FROM used WHERE id = 'O2'", "UPDATE used SET kind = 'name' WHERE id = 'R1'", "INSERT INTO used VALUES ('ref', 'a,b')"]
 
 
-class Damaged(unittest.TestCase):
+class FilesTest(unittest.TestCase):
     def setUp(self):
         self.folder = tempfile.TemporaryDirectory(dir=FOLDER)
         self.db = os.path.join(self.folder.name, 'damaged.db')
@@ -128,7 +136,7 @@ class Damaged(unittest.TestCase):
         self.folder.cleanup()
 
     def replay(self, stdin):
-        """What the program answers, and how it ends; it is one of the ways that docs/HTTP.md has."""
+        """What the program answers, and what it says at its end; it is one of the ends that docs/HTTP.md has."""
         status, out, said = run('replay', '--db', self.db, '--at', AT, stdin=stdin, limit=SECONDS)
         self.assertIn((status, said), ((0, b''), (1, b'fault: Damaged\n'), (1, b'fault: Storage\n')))
         found, left = answers_of(out)
@@ -137,10 +145,11 @@ class Damaged(unittest.TestCase):
         if said == b'fault: Storage\n' and out:
             self.assertTrue(out.endswith(STORAGE))
             self.assertEqual(len(refused), 1)
+            found.pop()
         else:
             self.assertEqual(refused, [])
             self.assertTrue(status == 0 or out == b'')
-        return status, found, said
+        return [(answer.status, answer.body) for answer in found], said.decode().strip()
 
     def files(self):
         found = {}
@@ -165,73 +174,171 @@ class Damaged(unittest.TestCase):
         self.assertEqual(broken(rows), [])
         return rows
 
-    def filled(self):
-        """The files of a desk that has served each front of the calls, with the rows after each: all in the log, all in the database, and
-        some in either."""
-        half = len(FILLED) // 2
-        rows = []
-        for number in range(len(FILLED) + 1):
-            status, found, said = self.replay(asked(FILLED[number - 1:number]))
-            self.assertEqual((status, [answer.status for answer in found]), (0, [200] * (number > 0)))
-            rows.append(rows_of(self.db))
-            self.assertEqual(broken(rows[-1]), [])
-        logged = self.files()
-        self.assertEqual({table for table in COLUMNS if not rows[-1][table]}, {'trip'})
+    def look(self, reads, known):
+        """The program is asked all that it tells of a file. What it answers is what a desk of the rows tells that another SQLite reads
+        there, or, where that reads none, of rows that are known to have been there. It gives what the program says at its end, and the
+        rows that it has told of; none where it has answered nothing."""
+        found, said = self.replay(b''.join(request('GET ' + target) for target in reads))
+        if not said:
+            self.assertEqual(len(found), len(reads))
+        if not found:
+            return said, None
+        rows = self.checked()
+        fit = known if rows is None else [rows]
+        for one in fit:
+            if found == [answer_of(one, target) for target in reads[:len(found)]]:
+                return said, one
+        wanted = [answer_of(fit[-1], target) for target in reads[:len(found)]]
+        self.fail('%s: %s' % ('no rows' if rows is None else 'other rows', [
+            (target, *pair) for target, *pair in zip(reads, found, wanted) if pair[0] != pair[1]]))
+
+
+class Damaged(FilesTest):
+    def into_database(self):
+        """What the log has is put into the database, and the log is gone."""
         base = sqlite3.connect(self.db)
         base.execute('PRAGMA wal_checkpoint(TRUNCATE)')
         base.close()
-        whole = {'': self.files()['']}
-        remove(self.db)
-        self.replay(asked(FILLED[:half]))
-        base = sqlite3.connect(self.db)
-        base.execute('PRAGMA wal_checkpoint(TRUNCATE)')
-        base.close()
-        self.replay(asked(FILLED[half:]))
-        self.assertEqual(rows_of(self.db), rows[-1])
-        self.assertEqual(sorted(self.files()), ['', '-wal'])
-        return rows, {'the database': (whole, ''), 'the database beside a log': (self.files(), ''), 'the log': (self.files(), '-wal'),
-                      'the log of all': (logged, '-wal')}
+        self.assertEqual(list(self.files()), [''])
+
+    def kinds_of(self, script):
+        """The files that a script leaves, each with the end of the name of the one that is changed."""
+        kinds, half = {}, len(script.requests) // 2
+        script.start(self.db)
+        self.replay(script.input)
+        kinds['the log of all'] = self.files(), '-wal'
+        self.into_database()
+        kinds['the database'] = self.files(), ''
+        script.start(self.db)
+        self.replay(b''.join(script.requests[:half]))
+        self.into_database()
+        self.replay(b''.join(script.requests[half:]))
+        kinds['the log'] = self.files(), '-wal'
+        kinds['the database beside a log'] = self.files(), ''
+        for kind, (files, end) in list(kinds.items()):
+            if not files.get('-wal') and kind != 'the database':
+                # a new desk writes nothing but its tables, so in the second way the log stays empty
+                self.assertEqual(script.requests, [], kind)
+                del kinds[kind]
+                continue
+            self.put(files)
+            self.assertEqual(rows_of(self.db), script.rows[-1])
+        return kinds
+
+    def played(self):
+        filled = Script(lines(FILLED)).play(self.folder.name)
+        self.assertEqual({answer.status for answer in answers_of(filled.out)[0]}, {200})
+        self.assertEqual({table for table in COLUMNS if not filled.rows[-1][table]}, {'trip'})
+        found = {'a row of each kind': filled, 'a new desk': Script([]), **scripts(), 'a full log': full_log()}
+        for name, script in found.items():
+            with tempfile.TemporaryDirectory(dir=FOLDER) as folder:
+                script.play(folder)
+            for rows in script.rows:
+                self.assertEqual(broken(rows), [], name)
+        return found
 
     def test_rows_that_break_a_rule(self):
         """Of each the desk tells, and so do the rules as they stand in `records.py`."""
-        _, kinds = self.filled()
+        files, _ = self.kinds_of(self.played()['a row of each kind'])['the database']
         for statement in BREAKS:
             with self.subTest(statement):
-                self.put(kinds['the database'][0])
+                self.put(files)
                 base = sqlite3.connect(self.db)
                 base.execute(statement)
                 base.commit()
                 base.close()
                 self.assertNotEqual(broken(rows_of(self.db)), [])
-                self.assertEqual(self.replay(asked(READS)), (1, [], b'fault: Damaged\n'))
+                self.assertEqual(self.replay(request('GET /report/stock')), ([], 'fault: Damaged'))
+
+    def test_fronts(self):
+        """Each front of each script, with nothing changed: what the desk tells is what `records.py` says of the rows."""
+        looked = 0
+        for name, script in self.played().items():
+            script.start(self.db)
+            for number in range(len(script.requests) + 1):
+                with self.subTest(name, number=number):
+                    self.replay(b''.join(script.requests[number - 1:number] if number else []))
+                    self.assertEqual(self.look(reads_of(script.rows[-1]), []), ('', script.rows[number]))
+                    looked += 1
+        self.assertGreater(looked, 80)
 
     def test_changes_at_random(self):
-        rows, kinds = self.filled()
         told = {}
-        for number in range(DAMAGES):
-            kind = sorted(kinds)[number % len(kinds)]
-            files, end = kinds[kind]
-            with self.subTest(kind, number=number):
-                self.put({**files, end: damaged(files[end], random.Random(number))})
-                status, found, said = self.replay(asked(READS))
-                what = said.decode().strip()
-                if status == 0:
-                    self.assertEqual(len(found), len(READS))
-                    found = self.checked()
-                    what = 'unread by another SQLite' if found is None else 'the same' if found == rows[-1] else 'other rows'
-                    if end == '-wal' and what == 'other rows':
-                        what = 'fewer calls'
+        for name, script in self.played().items():
+            kinds, rows, reads = self.kinds_of(script), script.rows, reads_of(script.rows[-1])
+            self.put(kinds['the database'][0])
+            written, _ = self.replay(asked(WRITES))
+            after = rows_of(self.db)
+            for number in range(DAMAGES):
+                kind = sorted(kinds)[number % len(kinds)]
+                files, end = kinds[kind]
+                with self.subTest(name, kind=kind, number=number):
+                    self.put({**files, end: damaged(files[end], random.Random('%s %d' % (name, number)))})
+                    said, found = self.look(reads, rows if end else rows[-1:])
+                    what = said or ('the same' if found == rows[-1] else 'fewer calls' if end else 'other rows')
+                    if found and end:
                         self.assertTrue(found in rows, 'rows that the desk never had')
-                    self.replay(asked(WRITES))
-                    self.checked()
-                told[kind, what] = told.get((kind, what), 0) + 1
+                    if not said:
+                        # It goes on from these rows, and is asked again.
+                        answers, said = self.replay(asked(WRITES))
+                        self.assertTrue(said or len(answers) == len(WRITES))
+                        if found == rows[-1]:
+                            self.assertEqual(answers, written[:len(answers)])
+                        self.look(reads, [after])
+                        what += ', then ' + said if said else ''
+                    told[name, kind, what] = told.get((name, kind, what), 0) + 1
         if ALL:
-            print(', '.join('%s, %s: %d' % (*met, count) for met, count in sorted(told.items())))
-        self.assertEqual(sum(told.values()), DAMAGES)
+            print('\n'.join('%s, %s: %s: %d' % (*met, count) for met, count in sorted(told.items())))
         # Some changes are told, or end the log, and some touch nothing that is looked at.
         for kind, (_, end) in kinds.items():
+            met = {what: sum(count for of, count in told.items() if of[1:] == (kind, what)) for _, _, what in told}
             for what in ('the same', 'fewer calls' if end else 'fault: Storage'):
-                self.assertGreater(told.get((kind, what), 0), DAMAGES // 40, (kind, what))
+                self.assertGreater(met.get(what, 0), sum(met.values()) // 20, (kind, what))
+
+
+class BeforeAMove(FilesTest):
+    def first_rows(self):
+        """All rows of the file of the first schema, as another SQLite reads them; none where it can't."""
+        with tempfile.TemporaryDirectory(dir=self.folder.name) as folder:
+            base = sqlite3.connect(copied(self.db, folder))
+            try:
+                return {table: sorted(base.execute('SELECT * FROM %s NOT INDEXED' % table), key=repr)
+                        for table in COLUMNS if table not in NEW}
+            except (sqlite3.DatabaseError, UnicodeDecodeError):
+                return None
+            finally:
+                base.close()
+
+    def test_changes_at_random(self):
+        """It is moved, and then it has the rows of a lawful world, or it isn't, and has the rows that it had."""
+        told = {}
+        for name, text in (('an open order', BEGUN), ('no vehicle', NO_VEHICLE)):
+            remove(self.db)
+            base = sqlite3.connect(self.db)
+            base.executescript(FIRST + text)
+            base.close()
+            first = self.files()['']
+            self.assertEqual(run('migrate', '--db', self.db), (0, b'migrated\n', b''))
+            moved = rows_of(self.db)
+            reads = reads_of(moved)
+            for number in range(DAMAGES):
+                with self.subTest(name, number=number):
+                    self.put({'': damaged(first, random.Random('%s %d' % (name, number)))})
+                    before = self.first_rows()
+                    status, out, said = run('migrate', '--db', self.db, limit=SECONDS)
+                    if status == 0:
+                        self.assertEqual((out, said), (b'migrated\n', b''))
+                        said, found = self.look(reads, [moved])
+                        what = 'moved, %s' % (said or ('the same' if found == moved else 'other rows'))
+                    else:
+                        self.assertIn((status, out, said), ((1, b'', b'fault: Damaged\n'), (1, b'', b'fault: Storage\n')))
+                        self.assertEqual(self.first_rows(), before)
+                        what = said.decode().strip()
+                    told[name, what] = told.get((name, what), 0) + 1
+        if ALL:
+            print('\n'.join('a move of %s: %s: %d' % (*met, count) for met, count in sorted(told.items())))
+        for what in ('moved, the same', 'fault: Storage'):
+            self.assertGreater(sum(count for met, count in told.items() if met[1] == what), DAMAGES // 5, what)
 
 
 if __name__ == '__main__':

@@ -1,7 +1,8 @@
 """Requests that mean harm: bodies nested deeply, numbers that are no whole ones or out of range, heads that are too
 long, have too many lines or two lengths, and noise from a seeded generator, through `replay` and `serve`. What must
 be answered is said by the rules of docs/HTTP.md; the program never ends in another way than by its rules, and each
-answer is a whole one of HTTP. 300,000 bytes of noise by default, ten million where NULVRADER_LONG is 1."""
+answer is a whole one of HTTP. Each of the three tests of noise sends 100,000 bytes by default, and ten million where
+NULVRADER_LONG is 1; it then says what it has sent."""
 import json
 import os
 import random
@@ -13,7 +14,8 @@ import unittest
 from test_program import AT, HERE, Serving, over_sockets, run
 from test_scripts import state
 
-NOISE = 10_000_000 if os.environ.get('NULVRADER_LONG') == '1' else 300_000
+LONG = os.environ.get('NULVRADER_LONG') == '1'
+NOISE = 10_000_000 if LONG else 100_000  # bytes that each test of noise sends, at least
 STREAM = 6_000  # bytes of noise in one stream, about
 REASONS = {
     200: 'OK',
@@ -517,49 +519,66 @@ class Noise(Bytes):
             elif answer.status in (411, 413, 501):
                 self.fail('%d goes on, seed %d' % (answer.status, seed))
 
+    def tell(self, what, *counts):
+        if LONG:
+            print(what % tuple('{:,}'.format(count) for count in counts))
+
     def test_replay(self):
-        sent, seed, ended = 0, 0, set()
-        while sent < NOISE / 3:
-            seed += 1
-            data, wanted, closes = Broken(seed).stream()
+        sent, streams, answers, ended = 0, 0, 0, set()
+        while sent < NOISE:
+            streams += 1
+            data, wanted, closes = Broken(streams).stream()
             status, out, said = run('replay', '--db', 'memory', '--at', AT, stdin=data)
-            self.assertEqual((status, said), (0, b''), seed)
-            self.check_stream(out, wanted, closes, seed)
+            self.assertEqual((status, said), (0, b''), streams)
+            self.check_stream(out, wanted, closes, streams)
             ended.add(wanted[-1][0])
             sent += len(data)
+            answers += len(wanted)
+        self.tell('replay: %s bytes of broken requests in %s streams, %s answers as reckoned', sent, streams, answers)
         self.assertGreaterEqual(len(ended), 4)
 
     def test_replay_of_changed_streams(self):
-        sent, seed, answers = 0, 1_000_000, 0
-        while sent < NOISE / 3:
-            seed += 1
-            data = Broken(seed).changed()
+        sent, streams, answers = 0, 0, 0
+        while sent < NOISE:
+            streams += 1
+            data = Broken(1_000_000 + streams).changed()
             found = self.replay(data)
-            self.check_changed(found, seed)
+            self.check_changed(found, streams)
             answers += len(found)
             sent += len(data)
+        self.tell('replay: %s bytes of changed streams, %s of them, %s answers', sent, streams, answers)
         self.assertGreater(answers, sent / 2_000)
 
     @over_sockets
     def test_serve(self):
-        """A connection for each stream, over one desk on a file; where the desk closes with bytes unread the answers
-        may be cut."""
-        sent, seed, whole = 0, 2_000_000, 0
+        """A connection for each stream whose answers are reckoned, and one behind it for a changed stream, over one desk
+        on a file. Where the desk closes with bytes unread the answers may be cut. The bytes of the reckoned streams
+        alone count."""
+        sent, streams, whole, read, reckoned = 0, 0, 0, 0, 0
+        changed, met = 0, 0
         with tempfile.TemporaryDirectory() as folder, Serving(os.path.join(folder, 'noise.db'), 4294967295) as desk:
-            while sent < NOISE / 3:
-                seed += 1
+            while sent < NOISE:
+                streams += 1
+                seed = 2_000_000 + streams
                 data, wanted, closes = Broken(seed).stream()
                 out, is_whole = talk(desk, data)
+                found, _ = answers_of(out)
                 if is_whole:
                     self.check_stream(out, wanted, closes, seed)
                     whole += 1
                 else:
-                    found, _ = answers_of(out)
                     self.assertEqual([(answer.status, answer.body) for answer in found], wanted[: len(found)], seed)
+                sent += len(data)
+                read += len(found)
+                reckoned += len(wanted)
                 data = Broken(-seed).changed()
-                found, left = answers_of(talk(desk, data)[0])
+                found, _ = answers_of(talk(desk, data)[0])
                 self.check_changed(found, seed)
-                sent += 2 * len(data)
+                changed += len(data)
+                met += len(found)
+            self.tell('serve: %s bytes of broken requests over %s connections, %s answered whole', sent, streams, whole)
+            self.tell('serve: of %s answers to them %s were read, as reckoned', reckoned, read)
+            self.tell('serve: %s bytes of changed streams besides, %s answers', changed, met)
             self.assertGreater(whole, 3)
             self.assertIsNone(desk.process.poll())
             self.assertEqual(desk.ask('GET', '/loads/no')[0], 404)
