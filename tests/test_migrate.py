@@ -284,15 +284,6 @@ class Migrate(unittest.TestCase):
                 self.refused()
                 self.check(load('L1'), stands('L1', 'checking'))
 
-    def test_what_cannot_be_opened(self):
-        with open(self.db, 'wb') as file:
-            file.write(b'this is no database, but a text of some length. ' * 100)
-        before = self.bytes()
-        for db in (self.db, self.folder.name, os.path.join(self.folder.name, 'a', 'b.db')):
-            self.assertEqual(run('migrate', '--db', db), (1, b'', b'fault: Storage\n'), db)
-        self.assertEqual(self.bytes()[''], before[''])
-        self.assertLessEqual(set(os.listdir(self.folder.name)), {'first.db', 'first.db-wal'})
-
     def take_back(self, second):
         """Writes a file of the first schema with the rows of one of the second, in which each vehicle has room for one load. It gives its trips."""
         rows, base = {}, sqlite3.connect(second)
