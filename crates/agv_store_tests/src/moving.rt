@@ -2,11 +2,11 @@
 //! are refused and stay as they are, and what a stop leaves at each call of their files.
 
 use crate::cases::check;
-use crate::disks::{close, open, reopen};
+use crate::disks::{after_a_stop, close, copied_files, copied_out, open};
 use crate::table_cases::{adopted, check_rows, rows_text};
 use agv_store::{Desk, OpenFault};
-use sqlite::{Alter, Connection, FileStore, Files, MemStore, Options};
-use sqlite_disk::{Crash, Fuse, Memory};
+use sqlite::{Alter, Connection, Files, MemStore, Options};
+use sqlite_disk::{Crash, Memory};
 use std::alloc::Global;
 use std::process::Abort;
 
@@ -193,15 +193,15 @@ fn not_moved(rt: HostRuntime) {
     }
 }
 
-/// The files, after a stop of a move, have the rows from before it or those after it; then they are moved, or the desk is adopted.
-fn check_left<D: Crash + Drop>(
+/// A database, after a stop of its move, has the rows from before it or those after it; then it is moved, or the desk is adopted.
+fn check_left<S: Alter + Drop>(
     rt: &impl Abort,
     alloc: Global,
-    conn: Connection<FileStore<D>>,
+    conn: Connection<S>,
     before: &str,
     after: &str,
 ) {
-    let mut conn = reopen(rt, alloc, conn);
+    let mut conn = conn;
     let rows = rows_text(rt, alloc, &mut conn);
     if rows.as_str() == before {
         check_moved(rt, alloc, conn, after);
@@ -211,7 +211,23 @@ fn check_left<D: Crash + Drop>(
     }
 }
 
-/// Moves a database on files that fail from some call on. It gives whether it is moved.
+/// Moves a database, and gives it back, whether it is moved, and else that its store has failed.
+fn moved_or_not<S: Alter + Drop>(
+    rt: &impl Abort,
+    alloc: Global,
+    conn: Connection<S>,
+) -> (Connection<S>, bool) {
+    assert!(rt; conn.is_autocommit(), "idle");
+    match Desk::migrate(alloc, conn) {
+        Ok(desk) => (desk.release_conn(), true),
+        Err((conn, why)) => {
+            check(rt, why == OpenFault::Storage, "the store fails");
+            (conn, false)
+        }
+    }
+}
+
+/// Moves a database on files that fail from some call on, and closes it. It gives whether none failed.
 fn check_failing<D: Crash + Drop>(
     rt: &impl Abort,
     alloc: Global,
@@ -221,41 +237,36 @@ fn check_failing<D: Crash + Drop>(
 ) -> bool {
     assert!(rt; files.log.may_be_used(), "the log");
     assert!(rt; files.db.may_be_used(), "the database file");
-    let Ok(conn) = Connection::open_files(alloc, files, Options::new(7)) else {
-        return false;
-    };
-    assert!(rt; conn.is_autocommit(), "idle");
-    match Desk::migrate(alloc, conn) {
-        Ok(desk) => {
-            check_left(rt, alloc, desk.release_conn(), "", after);
-            true
+    match Connection::open_files(alloc, files, Options::new(7)) {
+        Ok(conn) => {
+            let (conn, moved) = moved_or_not(rt, alloc, conn);
+            let (files, copied) = copied_out(conn);
+            let before = if moved { "" } else { before };
+            check_left(rt, alloc, after_a_stop(rt, alloc, files), before, after);
+            moved && copied
         }
-        Err((conn, why)) => {
-            check(rt, why == OpenFault::Storage, "the store fails");
-            check_left(rt, alloc, conn, before, after);
+        Err((_, left)) => {
+            check_moved(rt, alloc, after_a_stop(rt, alloc, left.into_files()), after);
             false
         }
     }
 }
 
-/// The most calls of a file that a move may take.
+/// The most calls of a file until the moved database is closed.
 const MOST: u64 = 1000;
 
-/// The log fails from each of its calls on, or the database file does.
+/// The log fails from each of its calls on, or the database file does, while a database is opened, moved and closed.
 fn check_stops(rt: &impl Abort, alloc: Global, rows: &str, after: &str, of_log: bool) {
     let mut conn = first_in_memory(rt, alloc, rows);
     let before = rows_text(rt, alloc, &mut conn);
+    let first = first_files(rt, alloc, rows);
     for calls in 0..MOST {
         let (log, db) = if of_log {
             (calls, u64::MAX)
         } else {
             (u64::MAX, calls)
         };
-        let files = first_files(rt, alloc, rows);
-        let files = Files {
-            log: Fuse::new(files.log, log),
-            db: Fuse::new(files.db, db),
-        };
+        let files = copied_files(rt, alloc, &first, log, db);
         if check_failing(rt, alloc, files, before.as_str(), after) {
             return;
         }
