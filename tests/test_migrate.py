@@ -7,6 +7,7 @@ import sqlite3
 import tempfile
 import unittest
 
+from faults import FOLDER
 from records import COLUMNS, broken, copied, rows_of
 from test_program import AT, run
 from test_scripts import FIRST_EDGE, SCRIPTS, accepted, advance, answers_of, bytes_of, holds, load, ok, stands, state
@@ -105,7 +106,7 @@ def for_more(lines):
 
 class Migrate(unittest.TestCase):
     def setUp(self):
-        self.folder = tempfile.TemporaryDirectory()
+        self.folder = tempfile.TemporaryDirectory(dir=FOLDER)
         self.db = os.path.join(self.folder.name, 'first.db')
 
     def tearDown(self):
@@ -122,7 +123,7 @@ class Migrate(unittest.TestCase):
     @contextlib.contextmanager
     def other(self, log=True):
         """Another SQLite over a copy of the file, and of the log beside it: the files stay as they are."""
-        with tempfile.TemporaryDirectory() as folder:
+        with tempfile.TemporaryDirectory(dir=FOLDER) as folder:
             copy = copied(self.db, folder)
             if not log and os.path.exists(copy + '-wal'):
                 os.remove(copy + '-wal')
@@ -138,7 +139,7 @@ class Migrate(unittest.TestCase):
         """Writes the file anew, with all but the first statements `inside` in the log alone, and so many commits more behind them: both files
         are copied while a connection is open that never copies its log, and so are as a desk leaves them."""
         statements = self.dump()
-        with tempfile.TemporaryDirectory() as folder:
+        with tempfile.TemporaryDirectory(dir=FOLDER) as folder:
             made = os.path.join(folder, 'made.db')
             with contextlib.closing(sqlite3.connect(made, isolation_level=None)) as base:
                 for pragma in ('journal_mode = WAL', 'wal_autocheckpoint = 0', 'synchronous = OFF'):
@@ -181,8 +182,8 @@ class Migrate(unittest.TestCase):
         return {table: rows[table] for table in NEW}
 
     def refused(self):
-        """The file is damaged to `migrate`, and stays the same to the byte. So does the log beside it, but for one byte behind its frames, which
-        tells that they end there, and what is between; one without frames is made where there is none."""
+        """The file is damaged to `migrate`, and stays the same to the byte. So does the log beside it, but for a byte behind its frames, the ninth,
+        which tells that they end; where there is none, one is made that has no frames and ends with this byte."""
         before, statements = self.bytes(), self.dump()
         self.assertEqual(run('migrate', '--db', self.db), (1, b'', b'fault: Damaged\n'))
         after = self.bytes()
@@ -195,7 +196,7 @@ class Migrate(unittest.TestCase):
             self.assertNotEqual(new[end], front[16])
             self.assertEqual(new[end + 1:], old[end + 1:])
         else:
-            self.assertLess(len(new), HEADER + FRAME)
+            self.assertEqual(len(new), HEADER + 9)
         self.assertEqual(self.dump(), statements)
         self.assertEqual(sorted(os.listdir(self.folder.name)), ['first.db', 'first.db-wal'])
 
@@ -317,14 +318,14 @@ class Migrate(unittest.TestCase):
         self.assertLessEqual({status for status, _ in told}, {200, 204})
 
     def test_each_script(self):
-        """What a script has come to after its last request, and after every second one before, is moved, each second time out of the log: it
-        tells what it tells in memory, and goes on as it would have gone on."""
+        """What a script has come to after its last request, and after every second one before (of a long one eight), is moved, each second time
+        out of the log: it tells what it tells in memory, and goes on as it would have gone on."""
         moved, ended, trips = 0, set(), []
         for title, lines in MOVED.items():
-            for cut in (*range(1, len(lines), 2), len(lines)):
+            for cut in (*range(1, len(lines), max(2, len(lines) // 8)), len(lines)):
                 if for_more(lines[:cut]):
                     break
-                with self.subTest(title, cut=cut), tempfile.TemporaryDirectory() as folder:
+                with self.subTest(title, cut=cut), tempfile.TemporaryDirectory(dir=FOLDER) as folder:
                     second = self.db = os.path.join(folder, 'second.db')
                     self.check(*lines[:cut])
                     self.db = os.path.join(folder, 'first.db')
