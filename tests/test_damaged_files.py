@@ -17,7 +17,7 @@ from test_migrate import LAYOUT as NO_VEHICLE
 from test_program import AT, run
 from test_scripts import accepted, advance, job, load, ok, order, state, vehicle
 
-DAMAGES = int(os.environ.get('DAMAGES', '20'))
+DAMAGES = int(os.environ.get('DAMAGES', '28'))
 SECONDS = 10
 NODES = range(1, 9)
 LAYOUT = 'kind,id,from,to\n' + ''.join('node,N%d,,\n' % n for n in NODES) + ''.join(
