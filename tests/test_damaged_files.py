@@ -176,18 +176,18 @@ class FilesTest(unittest.TestCase):
 
     def look(self, reads, known):
         """The program is asked all that it tells of a file. What it answers is what a desk of the rows tells that another SQLite reads
-        there, or, where that reads none, of rows that are known to have been there. It gives what the program says at its end, and the
-        rows that it has told of; none where it has answered nothing."""
+        there, or, where that reads none, of rows that are known to have been there. It gives what the program says at its end, the rows
+        that it has told of, none where it has answered nothing, and whether the other one reads them."""
         found, said = self.replay(b''.join(request('GET ' + target) for target in reads))
         if not said:
             self.assertEqual(len(found), len(reads))
         if not found:
-            return said, None
+            return said, None, True
         rows = self.checked()
         fit = known if rows is None else [rows]
         for one in fit:
             if found == [answer_of(one, target) for target in reads[:len(found)]]:
-                return said, one
+                return said, one, rows is not None
         wanted = [answer_of(fit[-1], target) for target in reads[:len(found)]]
         self.fail('%s: %s' % ('no rows' if rows is None else 'other rows', [
             (target, *pair) for target, *pair in zip(reads, found, wanted) if pair[0] != pair[1]]))
@@ -258,7 +258,7 @@ class Damaged(FilesTest):
             for number in range(len(script.requests) + 1):
                 with self.subTest(name, number=number):
                     self.replay(b''.join(script.requests[number - 1:number] if number else []))
-                    self.assertEqual(self.look(reads_of(script.rows[-1]), []), ('', script.rows[number]))
+                    self.assertEqual(self.look(reads_of(script.rows[-1]), []), ('', script.rows[number], True))
                     looked += 1
         self.assertGreater(looked, 80)
 
@@ -273,9 +273,15 @@ class Damaged(FilesTest):
                 kind = sorted(kinds)[number % len(kinds)]
                 files, end = kinds[kind]
                 with self.subTest(name, kind=kind, number=number):
-                    self.put({**files, end: damaged(files[end], random.Random('%s %d' % (name, number)))})
-                    said, found = self.look(reads, rows if end else rows[-1:])
+                    changed = damaged(files[end], random.Random('%s %d' % (name, number)))
+                    self.put({**files, end: changed})
+                    said, found, read = self.look(reads, rows if end else rows[-1:])
                     what = said or ('the same' if found == rows[-1] else 'fewer calls' if end else 'other rows')
+                    if what == 'other rows' and not any(found[table] for table in found if table != 'meta'):
+                        # A file of no byte, and one of a byte alone, is taken for one in which no desk was made yet.
+                        self.assertLessEqual(len(changed), 1)
+                        what = 'a new desk'
+                    what += '' if read else ', unread by another SQLite'
                     if found and end:
                         self.assertTrue(found in rows, 'rows that the desk never had')
                     if not said:
@@ -285,10 +291,10 @@ class Damaged(FilesTest):
                         if found == rows[-1]:
                             self.assertEqual(answers, written[:len(answers)])
                         self.look(reads, [after])
-                        what += ', then ' + said if said else ''
+                        what += ', and then ' + said if said else ''
                     told[name, kind, what] = told.get((name, kind, what), 0) + 1
-        if ALL:
-            print('\n'.join('%s, %s: %s: %d' % (*met, count) for met, count in sorted(told.items())))
+            if ALL:
+                print('\n'.join('%s, %s: %s: %d' % (*met, count) for met, count in sorted(told.items()) if met[0] == name))
         # Some changes are told, or end the log, and some touch nothing that is looked at.
         for kind, (_, end) in kinds.items():
             met = {what: sum(count for of, count in told.items() if of[1:] == (kind, what)) for _, _, what in told}
@@ -328,15 +334,16 @@ class BeforeAMove(FilesTest):
                     status, out, said = run('migrate', '--db', self.db, limit=SECONDS)
                     if status == 0:
                         self.assertEqual((out, said), (b'migrated\n', b''))
-                        said, found = self.look(reads, [moved])
-                        what = 'moved, %s' % (said or ('the same' if found == moved else 'other rows'))
+                        said, found, read = self.look(reads, [moved])
+                        what = 'moved, %s%s' % (
+                            said or ('the same' if found == moved else 'other rows'), '' if read else ', unread by another SQLite')
                     else:
                         self.assertIn((status, out, said), ((1, b'', b'fault: Damaged\n'), (1, b'', b'fault: Storage\n')))
                         self.assertEqual(self.first_rows(), before)
                         what = said.decode().strip()
                     told[name, what] = told.get((name, what), 0) + 1
-        if ALL:
-            print('\n'.join('a move of %s: %s: %d' % (*met, count) for met, count in sorted(told.items())))
+            if ALL:
+                print('\n'.join('a move of %s: %s: %d' % (*met, count) for met, count in sorted(told.items()) if met[0] == name))
         for what in ('moved, the same', 'fault: Storage'):
             self.assertGreater(sum(count for met, count in told.items() if met[1] == what), DAMAGES // 5, what)
 

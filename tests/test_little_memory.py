@@ -1,44 +1,182 @@
 """The program in so little memory that it lacks some: a call that lacks it is answered by the refusal for want of memory, which ends
-the stream, and nothing is lost."""
+the stream, and nothing is lost: a stocktake that was answered is kept, and one that wasn't has moved nothing."""
 import os
 import resource
 import subprocess
 import tempfile
 import unittest
 
-from test_program import AT, DESK, run
+from faults import ALL, FOLDER, MEMORY, asks
+from test_hostile_bytes import answers_of, request
+from test_program import AT, DESK, over_sockets, run
 
 LOADS = 20_000
-ASKED = b'GET /loads/L00001 HTTP/1.1\r\n\r\nGET /report/stock HTTP/1.1\r\n\r\nGET /loads/L00002 HTTP/1.1\r\n\r\n'
+REPORT, EXPORT = request('GET /report/stock'), request('GET /export/loads')
+ASKED = request('GET /loads/L00001') + REPORT + request('GET /loads/L00002')
+
+# Ten stations, at which these loads stand by turns: each stocktake moves them all, from the checking place or from station to station.
+STATIONS, COUNTED, TURNS = 10, 6_000, (1, 2, 3)
+MOVED = 200, b'{"moved":%d,"unknown":[]}' % COUNTED
+LIMITS = range(14, 32) if not ALL else [quarters / 4 for quarters in range(4 * 8, 4 * 40)]  # in MiB
+LAYOUT = 'kind,id,from,to\nnode,N1,,\n' + ''.join('station,S%d,N1,999\n' % at for at in range(STATIONS))
+
+
+def station_of(number, turn):
+    return (number + turn) % STATIONS
+
+
+def stocktake(turn):
+    rows = ''.join('S%d,L%05d\n' % (station_of(number, turn), number) for number in range(COUNTED))
+    return request('POST /stocktakes/R%d' % turn, 'station,load\n' + rows)
+
+
+def export(turn):
+    """The export after so many stocktakes."""
+    lines = ('L%05d,%s\n' % (number, 'station,S%d' % station_of(number, turn) if turn else 'checking,') for number in range(COUNTED))
+    return ('load,place,at\n' + ''.join(lines)).encode()
+
+
+def report(turn):
+    """The stock report after so many stocktakes."""
+    loads, told = {at: [] for at in (*range(STATIONS), 'checking')}, ''
+    for number in range(COUNTED):
+        loads[station_of(number, turn) if turn else 'checking'].append('  L%05d\n' % number)
+    for at, here in loads.items():
+        head = 'station S%d at N1: %d of 999, reserved 0\n' % (at, len(here)) if at != 'checking' else 'checking: %d\n' % len(here)
+        told += head + ''.join(here)
+    return (told + 'left: 0\n').encode()
+
+
+def limit(mebibytes):
+    """What gives the program no more than so many MiB of addresses, as `ulimit -v` does."""
+    size = int(mebibytes * (1 << 20))
+    return lambda: resource.setrlimit(resource.RLIMIT_AS, (size, size))
 
 
 class LittleMemory(unittest.TestCase):
+    def setUp(self):
+        self.folder = tempfile.TemporaryDirectory(dir=FOLDER)
+        self.db = os.path.join(self.folder.name, 'many.db')
+
+    def tearDown(self):
+        self.folder.cleanup()
+
+    def whole(self, out):
+        """The answers of an output, which has nothing else."""
+        found, left = answers_of(out)
+        self.assertEqual(left, b'')
+        return [(answer.status, answer.body) for answer in found]
+
+    def asked(self, stdin):
+        """What the program writes with all the memory that it wants."""
+        status, out, said = run('replay', '--db', self.db, '--at', AT, stdin=stdin)
+        self.assertEqual((status, said), (0, b''))
+        return out
+
+    def front(self, mebibytes, stdin):
+        """What the program writes in so little memory before it lacks some, and whether it was opened, and whether it has served all."""
+        done = subprocess.run([DESK, 'replay', '--db', self.db, '--at', AT], input=stdin, capture_output=True, timeout=60,
+                              preexec_fn=limit(mebibytes))
+        status, out, said = done.returncode, done.stdout, done.stderr
+        if status == 0:
+            self.assertEqual(said, b'')
+            return out, True, True
+        self.assertEqual((status, said), (1, b'fault: Memory\n'), mebibytes)
+        if not out:
+            return out, False, False
+        self.assertTrue(out.endswith(MEMORY), (mebibytes, out[-300:]))
+        return out[:-len(MEMORY)], True, False
+
     def test_reports_in_less_and_less_memory(self):
-        with tempfile.TemporaryDirectory() as folder:
-            db = os.path.join(folder, 'many.db')
-            stdin = b''.join(b'POST /loads HTTP/1.1\r\nContent-Length: 17\r\n\r\n{"load":"L%05d"}' % number for number in range(LOADS))
-            self.assertEqual(run('replay', '--db', db, '--at', AT, stdin=stdin)[0], 0)
-            whole = run('replay', '--db', db, '--at', AT, stdin=ASKED)
-            self.assertEqual((whole[0], whole[1].count(b'HTTP/1.1 200 OK')), (0, 3))
-            met = set()
-            for mebibytes in range(8, 40):
-                size = mebibytes << 20
-                done = subprocess.run([DESK, 'replay', '--db', db, '--at', AT], input=ASKED, capture_output=True, timeout=60,
-                                      preexec_fn=lambda: resource.setrlimit(resource.RLIMIT_AS, (size, size)))
-                answers = done.stdout.count(b'HTTP/1.1 ')
-                if done.returncode == 0:
-                    self.assertEqual((done.stdout, done.stderr), (whole[1], b''))
-                    met.add('served')
+        self.asked(b''.join(request('POST /loads', '{"load":"L%05d"}' % number) for number in range(LOADS)))
+        whole = self.asked(ASKED)
+        self.assertEqual([status for status, _ in self.whole(whole)], [200] * 3)
+        met = set()
+        for mebibytes in range(8, 40):
+            out, opened, served = self.front(mebibytes, ASKED)
+            self.assertTrue(out == whole if served else whole.startswith(out))
+            met.add('served' if served else 'refused' if opened else 'not opened')
+        self.assertEqual(met, {'not opened', 'refused', 'served'})
+        self.assertEqual(self.asked(ASKED), whole)
+
+    def counted(self):
+        """The files of a desk with all loads at the checking place, each time they are asked for."""
+        self.asked(request('PUT /layout', LAYOUT) + b''.join(
+            request('POST /loads', '{"load":"L%05d"}' % number) for number in range(COUNTED)))
+        self.check_turn(0)
+        files = {}
+        for end in ('', '-wal'):
+            with open(self.db + end, 'rb') as file:
+                files[end] = file.read()
+
+        def put():
+            for end, data in files.items():
+                with open(self.db + end, 'wb') as file:
+                    file.write(data)
+
+        return put
+
+    def check_turn(self, turn, *of):
+        """The loads are where this stocktake found them."""
+        self.assertTrue(self.whole(self.asked(EXPORT)) == [(200, export(turn))], (turn, *of))
+
+    def test_stocktakes_in_less_and_less_memory(self):
+        """In one stream: as many stocktakes as were answered are kept."""
+        put, met = self.counted(), {}
+        stdin, wanted = REPORT.join(map(stocktake, TURNS)), [MOVED]
+        for turn in TURNS[:-1]:
+            wanted += [(200, report(turn)), MOVED]
+        for mebibytes in LIMITS:
+            put()
+            out, opened, served = self.front(mebibytes, stdin)
+            found = self.whole(out)
+            self.assertTrue(found == wanted[:len(found)], (mebibytes, [(status, body[:100]) for status, body in found]))
+            self.assertEqual(served, len(found) == len(wanted), mebibytes)
+            turn = len(found[::2])
+            self.check_turn(turn, mebibytes)
+            what = turn if opened else 'not opened'
+            met[what] = met.get(what, 0) + 1
+        if ALL:
+            print('limits of memory, by how many of %d stocktakes were answered: %s' % (len(TURNS), met))
+        self.assertTrue({'not opened', 0, TURNS[-1]} <= set(met), met)
+        self.assertTrue(set(TURNS[:-1]) & set(met), 'no limit ends between two stocktakes: %s' % met)
+
+    def by_connections(self, port, met, mebibytes):
+        """Each stocktake, and a report behind it, over a connection of its own. It gives the last stocktake that was answered."""
+        last, refused = 0, False
+        for turn in TURNS:
+            for what, asked, told in (('stocktake', stocktake(turn), MOVED), ('report', REPORT, None)):
+                out = asks(port, asked)
+                if out in (b'', MEMORY):
+                    refused, key = True, what + ' refused'
                 else:
-                    self.assertEqual((done.returncode, done.stderr), (1, b'fault: Memory\n'), mebibytes)
-                    if answers:
-                        self.assertTrue(done.stdout.endswith(b'Connection: close\r\n\r\n{"name":"Memory","refusal":90}'))
-                        self.assertTrue(whole[1].startswith(done.stdout[:done.stdout.rindex(b'HTTP/1.1 503 ')]))
-                        met.add('refused')
-                    else:
-                        met.add('not opened')
-            self.assertEqual(met, {'not opened', 'refused', 'served'})
-            self.assertEqual(run('replay', '--db', db, '--at', AT, stdin=ASKED), whole)
+                    last = turn if what == 'stocktake' else last
+                    self.assertTrue(self.whole(out) == [told or (200, report(last))], (mebibytes, turn, what, out[:300]))
+                    key = what + (' after a refusal' if refused else '')
+                met[key] = met.get(key, 0) + 1
+        return last
+
+    @over_sockets
+    def test_connections_in_less_and_less_memory(self):
+        """The desk goes on after a refusal, which ends its connection alone."""
+        put, met = self.counted(), {}
+        for mebibytes in LIMITS[::2]:
+            put()
+            words = [DESK, 'serve', '--db', self.db, '--port', '0', '--connections', '1000']
+            with subprocess.Popen(words, stdout=subprocess.PIPE, stderr=subprocess.PIPE, preexec_fn=limit(mebibytes)) as process:
+                try:
+                    line = process.stdout.readline()
+                    if not line:
+                        self.assertEqual(process.stderr.read(), b'fault: Memory\n', mebibytes)
+                        continue
+                    last = self.by_connections(int(line.rsplit(b':', 1)[1]), met, mebibytes)
+                    self.assertIsNone(process.poll(), mebibytes)
+                finally:
+                    process.kill()
+            self.check_turn(last, mebibytes)
+        if ALL:
+            print('connections in little memory: %s' % met)
+        self.assertTrue(set(met) >= {'stocktake', 'stocktake refused', 'report', 'report after a refusal'}, met)
 
 
 if __name__ == '__main__':
