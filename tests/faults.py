@@ -12,13 +12,11 @@ import sqlite3
 import tempfile
 
 import test_migrate
-from records import COLUMNS, copied, rows_of
+from records import COLUMNS, FOLDER, copied, rows_of
 from test_program import AT, DESK, HERE, read_all, run
 from test_scripts import AT_A, CUT, SCRIPTS, accepted, answers_of, bytes_of, holds, load, ok, order, stands, state
 
 ALL = os.environ.get('FAULTS') == 'all'
-# Where files lie in memory, if there is such a folder: a sync costs nothing there.
-FOLDER = '/dev/shm' if os.access('/dev/shm', os.W_OK | os.X_OK) else None
 CLOSES = b'HTTP/1.1 503 Service Unavailable\r\nContent-Length: %d\r\nContent-Type: application/json\r\nConnection: close\r\n\r\n%s'
 MEMORY, STORAGE = (CLOSES % (len(body), body) for body in (b'{"name":"Memory","refusal":90}', b'{"name":"Storage","refusal":91}'))
 

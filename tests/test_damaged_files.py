@@ -9,8 +9,8 @@ import sqlite3
 import tempfile
 import unittest
 
-from faults import ALL, FOLDER, STORAGE, Script, full_log, lines, remove, scripts
-from records import COLUMNS, answer_of, broken, copied, rows_of
+from faults import ALL, STORAGE, Script, full_log, lines, remove, scripts
+from records import COLUMNS, FOLDER, answer_of, broken, copied, rows_of
 from test_hostile_bytes import answers_of, request
 from test_migrate import BEGUN, FIRST, NEW
 from test_migrate import LAYOUT as NO_VEHICLE

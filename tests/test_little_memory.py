@@ -6,7 +6,8 @@ import subprocess
 import tempfile
 import unittest
 
-from faults import ALL, FOLDER, MEMORY, asks
+from faults import ALL, MEMORY, asks
+from records import FOLDER
 from test_hostile_bytes import answers_of, request
 from test_program import AT, DESK, over_sockets, run
 

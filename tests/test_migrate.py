@@ -7,8 +7,7 @@ import sqlite3
 import tempfile
 import unittest
 
-from faults import FOLDER
-from records import COLUMNS, broken, copied, rows_of
+from records import COLUMNS, FOLDER, broken, copied, rows_of
 from test_program import AT, run
 from test_scripts import FIRST_EDGE, SCRIPTS, accepted, advance, answers_of, bytes_of, holds, load, ok, stands, state
 

@@ -8,7 +8,8 @@ import tempfile
 import unittest
 
 import tracing
-from faults import ALL, FOLDER, Move, check_kept, full_log, moves, put, sample, scripts
+from faults import ALL, Move, check_kept, full_log, moves, put, sample, scripts
+from records import FOLDER
 from test_program import AT, DESK
 
 LACKS = tracing.lacks()
