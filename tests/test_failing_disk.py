@@ -88,7 +88,7 @@ class FailingDisk(FaultTest):
                 move.start(self.db)
                 ended, seen = self.run_on(words, b'', kinds, lambda number, call: None)
                 self.assertEqual((ended.status, ended.out, ended.said), (0, b'migrated\n', b''))
-                for n in sample(range(1, len(seen) + 1), 6):
+                for n in sample(range(1, len(seen) + 1), 4):
                     with self.subTest(name, n=n, call=seen[n - 1], error=error, once=once):
                         def told(number, call):
                             return tracing.Fails(error) if number == n or number > n and not once else None

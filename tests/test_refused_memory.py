@@ -81,7 +81,7 @@ class RefusedMemory(FaultTest):
         self.assertGreater(min(met['not opened'], met['refused']), most // 2, met)
 
     def test_one_on_a_file(self):
-        self.check(self.db, 1, 30)
+        self.check(self.db, 1, 22)
 
     def test_one_in_memory(self):
         self.check('memory', 1, 20)
@@ -101,7 +101,7 @@ class RefusedMemory(FaultTest):
             self.assertGreater(ended.asked, 100)
             calls = range(1, ended.asked + 1)
             for times in (1, None):
-                for k in sample(calls if times else calls[::7], 12):
+                for k in sample(calls if times else calls[::7], 6):
                     with self.subTest(name, k=k, of=calls[-1], times=times):
                         move.start(self.db)
                         ended = tracing.run(words, heap=tracing.Heap(DESK, k, times))

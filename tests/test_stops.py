@@ -70,7 +70,7 @@ class Stops(FaultTest):
                 # the log goes to the database, page by page
                 self.assertGreater(writes.count(('pwrite64', self.db)), 20)
             met = {'before': 0, 'after': 0, 'new': 0}
-            tried = sample(range(1, len(writes) + 1), 30)
+            tried = sample(range(1, len(writes) + 1), 24)
             for k in tried:
                 with self.subTest(name, k=k, call=writes[k - 1][0]):
                     ended, told = self.stop(script.start, self.words, k, script.input)
@@ -91,7 +91,7 @@ class Stops(FaultTest):
             self.assertEqual((ended.status, ended.out, ended.said), (0, b'migrated\n', b''))
             self.assertEqual(move.check(self, self.db, True), 'after')
             met = collections.Counter()
-            tried = sample(range(1, len(writes) + 1), 16)
+            tried = sample(range(1, len(writes) + 1), 8)
             for k in tried:
                 with self.subTest(name, k=k, call=writes[k - 1]):
                     ended, told = self.stop(move.start, words, k)
