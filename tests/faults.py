@@ -2,7 +2,8 @@
 has met a fault: what was answered is kept, the call that met it has been carried out or not at all, and the rest of the script goes on from
 there to the same rows. Besides, files that are moved to the second schema, and what must hold of one once a fault was met amid its move.
 
-By default a sample of all faults is tried; all of them where the variable FAULTS is `all`."""
+By default a sample of all faults is tried; all of them where the variable FAULTS is `all`, or every n-th from the k-th on (counted from 0)
+where FAULTS_PART is besides `k/n`."""
 import functools
 import hashlib
 import os
@@ -17,6 +18,7 @@ from test_program import AT, DESK, HERE, read_all, run
 from test_scripts import AT_A, CUT, SCRIPTS, accepted, answers_of, bytes_of, holds, load, ok, order, stands, state
 
 ALL = os.environ.get('FAULTS') == 'all'
+PART, PARTS = map(int, os.environ.get('FAULTS_PART', '0/1').split('/'))
 CLOSES = b'HTTP/1.1 503 Service Unavailable\r\nContent-Length: %d\r\nContent-Type: application/json\r\nConnection: close\r\n\r\n%s'
 MEMORY, STORAGE = (CLOSES % (len(body), body) for body in (b'{"name":"Memory","refusal":90}', b'{"name":"Storage","refusal":91}'))
 
@@ -294,6 +296,8 @@ def put(db, files):
 def sample(numbers, most):
     """All of these, or so many spread over them."""
     numbers = list(numbers)
-    if ALL or len(numbers) <= most:
+    if ALL:
+        return numbers[PART::PARTS]
+    if len(numbers) <= most:
         return numbers
     return [numbers[at * (len(numbers) - 1) // (most - 1)] for at in range(most)]
