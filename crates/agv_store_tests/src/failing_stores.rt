@@ -77,6 +77,13 @@ fn check_stays_failed<S: Alter + Drop>(rt: &impl Abort, alloc: Global, desk: &mu
     }
 }
 
+/// The log is copied into the database file behind so few pages that the database file is called in the middle of the example, too.
+fn with_short_log() -> Options {
+    let mut options = Options::new(7);
+    options.checkpoint_frames = 16;
+    options
+}
+
 /// A new desk over empty files that fail from some call on, unless they fail before.
 fn failing_desk<D: Crash + Drop>(
     rt: &impl Abort,
@@ -85,7 +92,7 @@ fn failing_desk<D: Crash + Drop>(
 ) -> Option<Desk<FileStore<D>>> {
     assert!(rt; files.log.may_be_used(), "the log");
     assert!(rt; files.db.may_be_used(), "the database file");
-    let Ok(conn) = Connection::open_files(alloc, files, Options::new(7)) else {
+    let Ok(conn) = Connection::open_files(alloc, files, with_short_log()) else {
         return None;
     };
     assert!(rt; conn.is_autocommit(), "idle");
@@ -108,19 +115,18 @@ fn rows_left<D: Crash + Drop>(rt: &impl Abort, alloc: Global, desk: Desk<FileSto
     rows_text(rt, alloc, &mut conn)
 }
 
-/// Serves the example by a desk over empty files that fail. It gives whether the whole example was answered.
+/// Serves the example by a desk over empty files that fail. It gives how many calls were answered; none where there is no desk.
 fn check_failing<D: Crash + Drop>(
     rt: &impl Abort,
     alloc: Global,
     texts: &[String],
     files: Files<D>,
-) -> bool {
+) -> usize {
     let Some(mut desk) = failing_desk(rt, alloc, files) else {
-        return false;
+        return 0;
     };
     let answered = serve_until_it_fails(rt, alloc, &mut desk);
-    let whole = answered == PICKED.len();
-    if !whole {
+    if answered != PICKED.len() {
         check_stays_failed(rt, alloc, &mut desk);
     }
     let rows = rows_left(rt, alloc, desk);
@@ -128,22 +134,26 @@ fn check_failing<D: Crash + Drop>(
     let then = answered.saturating_add(1);
     let after = texts.get(then).is_some_and(|text| *text == rows);
     check(rt, before || after, rows.as_str());
-    whole
+    answered
 }
 
 /// The most calls of a file that the example may take.
 const MOST: u64 = 1000;
 
-/// The database file fails from each of its calls on.
+/// The database file fails from each of its calls on, some of them amid the example.
 #[test]
 fn the_database_file_fails(rt: HostRuntime) {
     let alloc = rt.alloc();
     let texts = all_rows(&rt, alloc);
+    let mut fails_amid = false;
     for calls in 0..MOST {
         let files = blank(alloc, u64::MAX, calls);
-        if check_failing(&rt, alloc, texts.as_slice(), files) {
+        let answered = check_failing(&rt, alloc, texts.as_slice(), files);
+        if answered == PICKED.len() {
+            check(&rt, fails_amid, "it fails amid the example");
             return;
         }
+        fails_amid = fails_amid || answered > 0;
     }
     panic!(rt; "it never ends");
 }
