@@ -39,28 +39,13 @@ pub enum JoinRefusal {
 
 impl From<Memory> for JoinRefusal {
     ghost use Rattle.std.specs.Prelude.{◌≡◌};
-    ghost use Rattle.agv_order.specs.declared.joining.JoinRefusal.TheVariants as refusal;
+    ghost use Rattle.agv_order.specs.declared.joins.JoinRefusal.TheVariants as refusal;
 
     ghost from_gives = { λ _ made. made ≡ refusal.Memory };
 
     fn from(_memory: Memory) -> JoinRefusal {
         JoinRefusal::Memory
     }
-}
-
-fn update(alloc: Global, held: &OrderMessage, message: &OrderMessage) -> Result<Joined, JoinRefusal>
-    ensures { IsAnswer (update_of held.now message.now) result }
-{
-    if held.update == message.update {
-        return Ok(Joined::Same);
-    }
-    if message.update < held.update {
-        return Err(JoinRefusal::Lower);
-    }
-    if !is_stitched(held.nodes.as_slice(), message.nodes.as_slice()) {
-        return Err(JoinRefusal::NotStitched);
-    }
-    Ok(Joined::Taken(stitched(alloc, held, message)?))
 }
 
 /// What a vehicle that holds an order, or none, does with an order message (VDA 5050 2.0, order updates).
@@ -88,4 +73,19 @@ pub fn join(
         return Err(JoinRefusal::OtherOrder);
     }
     update(alloc, held, message)
+}
+
+fn update(alloc: Global, held: &OrderMessage, message: &OrderMessage) -> Result<Joined, JoinRefusal>
+    ensures { IsAnswer (update_of held.now message.now) result }
+{
+    if held.update == message.update {
+        return Ok(Joined::Same);
+    }
+    if message.update < held.update {
+        return Err(JoinRefusal::Lower);
+    }
+    if !is_stitched(held.nodes.as_slice(), message.nodes.as_slice()) {
+        return Err(JoinRefusal::NotStitched);
+    }
+    Ok(Joined::Taken(stitched(alloc, held, message)?))
 }
