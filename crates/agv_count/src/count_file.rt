@@ -10,44 +10,6 @@ use agv_header::Name;
 use csv::ByteRecord;
 use std::alloc::Global;
 
-/// The fields of a record that has two.
-fn two_fields(raw: &ByteRecord) -> Option<(&[u8], &[u8])>
-    ensures some { IfSome result (λ f. fields_of raw.now ≡ f.0.now ∷ f.1.now ∷ []) }
-    ensures none { IfNone result (length (fields_of raw.now) ≢ 2) }
-{
-    if raw.len() != 2 {
-        return None;
-    }
-    Some((raw.get(0)?, raw.get(1)?))
-}
-
-/// The load that was found; none where the field is empty.
-fn load_found(field: &[u8]) -> Option<Option<Name>>
-    ensures { result ≡ load_found field.now }
-{
-    if field.is_empty() {
-        return Some(None);
-    }
-    Some(Some(Name::of_bytes(field)?))
-}
-
-/// The row that a record says.
-#[tactic(auto, unfolding(crate::specs::CountFile::count_row))]
-fn row(raw: &ByteRecord) -> Option<(Name, Option<Name>)>
-    ensures { result ≡ count_row (fields_of raw.now) }
-{
-    let (station, load) = two_fields(raw)?;
-    Some((Name::of_bytes(station)?, load_found(load)?))
-}
-
-fn is_header(raw: &ByteRecord) -> bool
-    ensures { result ≡ is_record count_columns (fields_of raw.now) }
-{
-    two_fields(raw).is_some_and(|(station, load)| {
-        station == b"station".as_slice() && load == b"load".as_slice()
-    })
-}
-
 impl Row for (Name, Option<Name>) {
     ghost columns = { count_columns };
 
@@ -62,6 +24,44 @@ impl Row for (Name, Option<Name>) {
     fn of_record(raw: &ByteRecord) -> Option<(Name, Option<Name>)> {
         row(raw)
     }
+}
+
+fn is_header(raw: &ByteRecord) -> bool
+    ensures { result ≡ is_record count_columns (fields_of raw.now) }
+{
+    two_fields(raw).is_some_and(|(station, load)| {
+        station == b"station".as_slice() && load == b"load".as_slice()
+    })
+}
+
+/// The fields of a record that has two.
+fn two_fields(raw: &ByteRecord) -> Option<(&[u8], &[u8])>
+    ensures some { IfSome result (λ f. fields_of raw.now ≡ f.0.now ∷ f.1.now ∷ []) }
+    ensures none { IfNone result (length (fields_of raw.now) ≢ 2) }
+{
+    if raw.len() != 2 {
+        return None;
+    }
+    Some((raw.get(0)?, raw.get(1)?))
+}
+
+/// The row that a record says.
+#[tactic(auto, unfolding(crate::specs::CountFile::count_row))]
+fn row(raw: &ByteRecord) -> Option<(Name, Option<Name>)>
+    ensures { result ≡ count_row (fields_of raw.now) }
+{
+    let (station, load) = two_fields(raw)?;
+    Some((Name::of_bytes(station)?, load_found(load)?))
+}
+
+/// The load that was found; none where the field is empty.
+fn load_found(field: &[u8]) -> Option<Option<Name>>
+    ensures { result ≡ load_found field.now }
+{
+    if field.is_empty() {
+        return Some(None);
+    }
+    Some(Some(Name::of_bytes(field)?))
 }
 
 /// The rows of a stocktake file, in the order of the file: a station that was counted, and a load that was

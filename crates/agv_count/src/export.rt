@@ -6,29 +6,6 @@ use agv_header::{Memory, Name};
 use agv_stock::Place;
 use std::alloc::Global;
 
-/// Writes the two fields of a place: its kind, and which station or vehicle it is.
-fn write_place(out: &mut String, place: Place) -> Result<(), Memory>
-    ensures { OnOk result (string_bytes out.new ≡ string_bytes out.old ++ place_text place) }
-{
-    match place {
-        Place::Station(id) => write!(out, "station,{id}")?,
-        Place::Vehicle(key) => write!(out, "vehicle,{}/{}", key.manufacturer, key.serial)?,
-        Place::Checking => write!(out, "checking,")?,
-        Place::Left => write!(out, "left,")?,
-    }
-    Ok(())
-}
-
-/// Writes the record of a load.
-fn write_load(out: &mut String, load: Name, place: Place) -> Result<(), Memory>
-    ensures { OnOk result (string_bytes out.new ≡ string_bytes out.old ++ load_line (load, place)) }
-{
-    write!(out, "{load},")?;
-    write_place(out, place)?;
-    writeln!(out)?;
-    Ok(())
-}
-
 /// Where each load stands, as CSV: the header `load,place,at`, and a record for each load, in the order given. The
 /// desk gives the loads by name. Each record ends in LF alone.
 ///
@@ -43,4 +20,27 @@ pub fn loads_csv(alloc: Global, loads: &[(Name, Place)]) -> Result<Vec<u8>, Memo
         write_load(&mut out, *load, *place)?;
     }
     Ok(out.into_bytes())
+}
+
+/// Writes the record of a load.
+fn write_load(out: &mut String, load: Name, place: Place) -> Result<(), Memory>
+    ensures { OnOk result (string_bytes out.new ≡ string_bytes out.old ++ load_line (load, place)) }
+{
+    write!(out, "{load},")?;
+    write_place(out, place)?;
+    writeln!(out)?;
+    Ok(())
+}
+
+/// Writes the two fields of a place: its kind, and which station or vehicle it is.
+fn write_place(out: &mut String, place: Place) -> Result<(), Memory>
+    ensures { OnOk result (string_bytes out.new ≡ string_bytes out.old ++ place_text place) }
+{
+    match place {
+        Place::Station(id) => write!(out, "station,{id}")?,
+        Place::Vehicle(key) => write!(out, "vehicle,{}/{}", key.manufacturer, key.serial)?,
+        Place::Checking => write!(out, "checking,")?,
+        Place::Left => write!(out, "left,")?,
+    }
+    Ok(())
 }

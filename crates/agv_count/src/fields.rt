@@ -39,12 +39,6 @@ impl<'a> Fields<'a> {
 /// The most digits of a capacity.
 const MAX_CAPACITY_DIGITS: usize = 3;
 
-fn writes_capacity(field: &[u8]) -> bool
-    ensures { result ≡ is_capacity field.now }
-{
-    !field.is_empty() && field.len() <= MAX_CAPACITY_DIGITS && are_digits(field)
-}
-
 /// The capacity that a field writes.
 pub fn capacity(field: &[u8]) -> Option<u32>
     ensures { result ≡ (if is_capacity field.now then Some (digits_value 10 field.now) else None) }
@@ -53,4 +47,10 @@ pub fn capacity(field: &[u8]) -> Option<u32>
         return None;
     }
     str::from_utf8(field).ok()?.parse().ok()
+}
+
+fn writes_capacity(field: &[u8]) -> bool
+    ensures { result ≡ is_capacity field.now }
+{
+    !field.is_empty() && field.len() <= MAX_CAPACITY_DIGITS && are_digits(field)
 }

@@ -5,26 +5,6 @@ ghost use Rattle.agv_count.specs.Reports.{hold_line, hold_text, thing_text};
 use agv_header::{Memory, Thing, VehicleKey};
 use std::alloc::Global;
 
-/// Writes which node or edge it is.
-fn write_thing(out: &mut String, thing: Thing) -> Result<(), Memory>
-    ensures { OnOk result (string_bytes out.new ≡ string_bytes out.old ++ thing_text thing) }
-{
-    match thing {
-        Thing::Node(id) => write!(out, "node {id}")?,
-        Thing::Edge(id) => write!(out, "edge {id}")?,
-    }
-    Ok(())
-}
-
-/// Writes the line of a hold.
-fn write_hold(out: &mut String, thing: Thing, key: VehicleKey) -> Result<(), Memory>
-    ensures { OnOk result (string_bytes out.new ≡ string_bytes out.old ++ hold_line (thing, key)) }
-{
-    write_thing(out, thing)?;
-    writeln!(out, " {}/{}", key.manufacturer, key.serial)?;
-    Ok(())
-}
-
 /// The report of what is held, and by which vehicle: a line for each hold, in the order given, and how many of all
 /// nodes and edges are held. The desk gives the nodes first, then the edges, each by name.
 ///
@@ -42,4 +22,24 @@ pub fn hold_report(
     }
     writeln!(out, "held {} of {things}", holds.len())?;
     Ok(out.into_bytes())
+}
+
+/// Writes the line of a hold.
+fn write_hold(out: &mut String, thing: Thing, key: VehicleKey) -> Result<(), Memory>
+    ensures { OnOk result (string_bytes out.new ≡ string_bytes out.old ++ hold_line (thing, key)) }
+{
+    write_thing(out, thing)?;
+    writeln!(out, " {}/{}", key.manufacturer, key.serial)?;
+    Ok(())
+}
+
+/// Writes which node or edge it is.
+fn write_thing(out: &mut String, thing: Thing) -> Result<(), Memory>
+    ensures { OnOk result (string_bytes out.new ≡ string_bytes out.old ++ thing_text thing) }
+{
+    match thing {
+        Thing::Node(id) => write!(out, "node {id}")?,
+        Thing::Edge(id) => write!(out, "edge {id}")?,
+    }
+    Ok(())
 }

@@ -13,11 +13,54 @@ use agv_layout::LayoutRow;
 use csv::ByteRecord;
 use std::alloc::Global;
 
-/// Whether a record has nothing after its id.
-fn are_empty(from: &[u8], to: &[u8]) -> bool
-    ensures { result ≡ (length from.now == 0 && length to.now == 0) }
+impl Row for LayoutRow {
+    ghost columns = { layout_columns };
+
+    ghost says = { row_in };
+
+    ghost full = { no_layout_row };
+
+    fn is_header(raw: &ByteRecord) -> bool {
+        is_header(raw)
+    }
+
+    fn of_record(raw: &ByteRecord) -> Option<LayoutRow> {
+        row(raw)
+    }
+}
+
+fn is_header(raw: &ByteRecord) -> bool
+    ensures { result ≡ is_record layout_columns (fields_of raw.now) }
 {
-    from.is_empty() && to.is_empty()
+    Fields::of(raw).is_some_and(|fields| {
+        fields.kind == b"kind".as_slice()
+            && fields.id == b"id".as_slice()
+            && fields.from == b"from".as_slice()
+            && fields.to == b"to".as_slice()
+    })
+}
+
+/// The row that a record says.
+#[tactic(auto, unfolding(crate::specs::LayoutFile::row_in))]
+fn row(raw: &ByteRecord) -> Option<LayoutRow>
+    ensures { result ≡ row_in (fields_of raw.now) }
+{
+    let fields = Fields::of(raw)?;
+    if is_node(fields.kind) {
+        node(fields)
+    } else if fields.kind == b"edge".as_slice() {
+        edge(fields)
+    } else if fields.kind == b"station".as_slice() {
+        station(fields)
+    } else {
+        None
+    }
+}
+
+fn is_node(kind: &[u8]) -> bool
+    ensures { result ≡ bytes_eq kind.now (codes "node") }
+{
+    kind == b"node".as_slice()
 }
 
 #[tactic(auto, unfolding(crate::specs::LayoutFile::node_row))]
@@ -30,6 +73,13 @@ fn node(fields: Fields<'_>) -> Option<LayoutRow>
     Some(LayoutRow::Node {
         id: Name::of_bytes(fields.id)?,
     })
+}
+
+/// Whether a record has nothing after its id.
+fn are_empty(from: &[u8], to: &[u8]) -> bool
+    ensures { result ≡ (length from.now == 0 && length to.now == 0) }
+{
+    from.is_empty() && to.is_empty()
 }
 
 #[tactic(auto, unfolding(crate::specs::LayoutFile::edge_row))]
@@ -52,56 +102,6 @@ fn station(fields: Fields<'_>) -> Option<LayoutRow>
         node: Name::of_bytes(fields.from)?,
         capacity: capacity(fields.to)?,
     })
-}
-
-fn is_node(kind: &[u8]) -> bool
-    ensures { result ≡ bytes_eq kind.now (codes "node") }
-{
-    kind == b"node".as_slice()
-}
-
-/// The row that a record says.
-#[tactic(auto, unfolding(crate::specs::LayoutFile::row_in))]
-fn row(raw: &ByteRecord) -> Option<LayoutRow>
-    ensures { result ≡ row_in (fields_of raw.now) }
-{
-    let fields = Fields::of(raw)?;
-    if is_node(fields.kind) {
-        node(fields)
-    } else if fields.kind == b"edge".as_slice() {
-        edge(fields)
-    } else if fields.kind == b"station".as_slice() {
-        station(fields)
-    } else {
-        None
-    }
-}
-
-fn is_header(raw: &ByteRecord) -> bool
-    ensures { result ≡ is_record layout_columns (fields_of raw.now) }
-{
-    Fields::of(raw).is_some_and(|fields| {
-        fields.kind == b"kind".as_slice()
-            && fields.id == b"id".as_slice()
-            && fields.from == b"from".as_slice()
-            && fields.to == b"to".as_slice()
-    })
-}
-
-impl Row for LayoutRow {
-    ghost columns = { layout_columns };
-
-    ghost says = { row_in };
-
-    ghost full = { no_layout_row };
-
-    fn is_header(raw: &ByteRecord) -> bool {
-        is_header(raw)
-    }
-
-    fn of_record(raw: &ByteRecord) -> Option<LayoutRow> {
-        row(raw)
-    }
 }
 
 /// The rows of a layout file, in the order of the file.

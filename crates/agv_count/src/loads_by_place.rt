@@ -16,6 +16,50 @@ use std::collections::BTreeMap;
 /// The loads at each of some places, in the order in which they were put there.
 pub type PlacedLoads<K> = BTreeMap<K, Vec<Name>>;
 
+/// The loads at stations, on vehicles and at the checking place.
+#[derive(Drop)]
+pub struct LoadsByPlace {
+    pub stations: PlacedLoads<Name>,
+    pub vehicles: PlacedLoads<VehicleKey>,
+    pub checking: Vec<Name>,
+}
+
+impl LoadsByPlace {
+    /// The loads of a list. One pass over it, and for each load a look-up among the stations or the vehicles.
+    pub fn of_loads(alloc: Global, loads: &[(Name, Place)]) -> Result<LoadsByPlace, Memory>
+        ensures stations { IfOk result (λ by_place. (id : List ℕ) → loads_at name_cmp by_place.stations id ≡ loads_where (is_at_station id) loads.now) }
+        ensures vehicles { IfOk result (λ by_place. (key : Key) → loads_at key_cmp by_place.vehicles key ≡ loads_where (is_on_vehicle key) loads.now) }
+        ensures checking { IfOk result (λ by_place. by_place.checking.items ≡ loads_where is_checking loads.now) }
+    {
+        let mut by_place = LoadsByPlace {
+            stations: BTreeMap::new(alloc),
+            vehicles: BTreeMap::new(alloc),
+            checking: Vec::new(alloc),
+        };
+        for (load, place) in loads {
+            by_place.add(alloc, *load, *place)?;
+        }
+        Ok(by_place)
+    }
+
+    // Puts a load where it stands, unless it has left.
+    fn add(&mut self, alloc: Global, load: Name, place: Place) -> Result<(), Memory>
+        ensures stations { OnOk result ((id : List ℕ) → loads_at name_cmp self.new.stations id
+            ≡ loads_at name_cmp self.old.stations id ++ one_if (is_at_station id place) load) }
+        ensures vehicles { OnOk result ((key : Key) → loads_at key_cmp self.new.vehicles key
+            ≡ loads_at key_cmp self.old.vehicles key ++ one_if (is_on_vehicle key place) load) }
+        ensures checking { OnOk result (self.new.checking.items ≡ self.old.checking.items ++ one_if (is_checking place) load) }
+    {
+        match place {
+            Place::Station(id) => put(alloc, &mut self.stations, id, load)?,
+            Place::Vehicle(key) => put(alloc, &mut self.vehicles, key, load)?,
+            Place::Checking => self.checking.push(load)?,
+            Place::Left => {}
+        }
+        Ok(())
+    }
+}
+
 /// Puts a load behind those at a place.
 fn put<K: Ord + Copy + Drop>(
     alloc: Global,
@@ -38,49 +82,5 @@ pub fn loads_at<K: Ord + Copy>(placed: &PlacedLoads<K>, at: K) -> &[Name]
     match placed.get(&at) {
         Some(loads) => loads,
         None => &[],
-    }
-}
-
-/// The loads at stations, on vehicles and at the checking place.
-#[derive(Drop)]
-pub struct LoadsByPlace {
-    pub stations: PlacedLoads<Name>,
-    pub vehicles: PlacedLoads<VehicleKey>,
-    pub checking: Vec<Name>,
-}
-
-impl LoadsByPlace {
-    // Puts a load where it stands, unless it has left.
-    fn add(&mut self, alloc: Global, load: Name, place: Place) -> Result<(), Memory>
-        ensures stations { OnOk result ((id : List ℕ) → loads_at name_cmp self.new.stations id
-            ≡ loads_at name_cmp self.old.stations id ++ one_if (is_at_station id place) load) }
-        ensures vehicles { OnOk result ((key : Key) → loads_at key_cmp self.new.vehicles key
-            ≡ loads_at key_cmp self.old.vehicles key ++ one_if (is_on_vehicle key place) load) }
-        ensures checking { OnOk result (self.new.checking.items ≡ self.old.checking.items ++ one_if (is_checking place) load) }
-    {
-        match place {
-            Place::Station(id) => put(alloc, &mut self.stations, id, load)?,
-            Place::Vehicle(key) => put(alloc, &mut self.vehicles, key, load)?,
-            Place::Checking => self.checking.push(load)?,
-            Place::Left => {}
-        }
-        Ok(())
-    }
-
-    /// The loads of a list. One pass over it, and for each load a look-up among the stations or the vehicles.
-    pub fn of_loads(alloc: Global, loads: &[(Name, Place)]) -> Result<LoadsByPlace, Memory>
-        ensures stations { IfOk result (λ by_place. (id : List ℕ) → loads_at name_cmp by_place.stations id ≡ loads_where (is_at_station id) loads.now) }
-        ensures vehicles { IfOk result (λ by_place. (key : Key) → loads_at key_cmp by_place.vehicles key ≡ loads_where (is_on_vehicle key) loads.now) }
-        ensures checking { IfOk result (λ by_place. by_place.checking.items ≡ loads_where is_checking loads.now) }
-    {
-        let mut by_place = LoadsByPlace {
-            stations: BTreeMap::new(alloc),
-            vehicles: BTreeMap::new(alloc),
-            checking: Vec::new(alloc),
-        };
-        for (load, place) in loads {
-            by_place.add(alloc, *load, *place)?;
-        }
-        Ok(by_place)
     }
 }

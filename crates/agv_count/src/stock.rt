@@ -13,93 +13,6 @@ use agv_layout::Station;
 use agv_stock::Place;
 use std::alloc::Global;
 
-/// Writes loads, each on a line of its own.
-fn write_loads(out: &mut String, loads: &[Name]) -> Result<(), Memory>
-    ensures { OnOk result (string_bytes out.new ≡ string_bytes out.old ++ listed loads.now) }
-{
-    for load in loads {
-        writeln!(out, "  {load}")?;
-    }
-    Ok(())
-}
-
-/// Writes a station, and the loads there.
-fn write_station(
-    out: &mut String,
-    station: Station,
-    reserved: u32,
-    here: &[Name],
-) -> Result<(), Memory>
-    ensures { OnOk result (string_bytes out.new ≡ string_bytes out.old ++ station_part here.now station reserved) }
-{
-    write!(out, "station {} at {}: ", station.id, station.node)?;
-    write!(out, "{} of {}", here.len(), station.capacity)?;
-    writeln!(out, ", reserved {reserved}")?;
-    write_loads(out, here)
-}
-
-/// Writes the stations in turn.
-fn write_stations(
-    out: &mut String,
-    stations: &[(Station, u32)],
-    placed: &PlacedLoads<Name>,
-) -> Result<(), Memory>
-    ensures { OnOk result (string_bytes out.new ≡ string_bytes out.old
-        ++ flat_map (λ s. station_part (loads_at name_cmp placed.now s.0.id) s.0 s.1) stations.now) }
-{
-    for (station, reserved) in stations {
-        write_station(out, *station, *reserved, loads_at(placed, station.id))?;
-    }
-    Ok(())
-}
-
-/// Writes the checking place, and the loads there.
-fn write_checking(out: &mut String, here: &[Name]) -> Result<(), Memory>
-    ensures { OnOk result (string_bytes out.new ≡ string_bytes out.old ++ checking_part here.now) }
-{
-    writeln!(out, "checking: {}", here.len())?;
-    write_loads(out, here)
-}
-
-/// Writes a vehicle, and the loads on it.
-fn write_vehicle(out: &mut String, key: VehicleKey, here: &[Name]) -> Result<(), Memory>
-    ensures { OnOk result (string_bytes out.new ≡ string_bytes out.old ++ vehicle_part here.now key) }
-{
-    write!(out, "vehicle {}/{}", key.manufacturer, key.serial)?;
-    writeln!(out, ": {}", here.len())?;
-    write_loads(out, here)
-}
-
-/// Writes the vehicles in turn.
-fn write_vehicles(
-    out: &mut String,
-    vehicles: &[VehicleKey],
-    placed: &PlacedLoads<VehicleKey>,
-) -> Result<(), Memory>
-    ensures { OnOk result (string_bytes out.new ≡ string_bytes out.old
-        ++ flat_map (λ key. vehicle_part (loads_at key_cmp placed.now key) key) vehicles.now) }
-{
-    for key in vehicles {
-        write_vehicle(out, *key, loads_at(placed, *key))?;
-    }
-    Ok(())
-}
-
-/// How many loads have left.
-fn left_count(loads: &[(Name, Place)]) -> usize
-    ensures { result ≡ count_by (λ l. has_left l.1) loads.now }
-{
-    loads.iter().filter(|load| load.1.has_left()).count()
-}
-
-/// Writes how many loads have left.
-fn write_left(out: &mut String, gone: usize) -> Result<(), Memory>
-    ensures { OnOk result (string_bytes out.new ≡ string_bytes out.old ++ left_part gone) }
-{
-    writeln!(out, "left: {gone}")?;
-    Ok(())
-}
-
 /// The report of the stock: each station with the loads that stand there, the loads at the checking place, each
 /// vehicle with the loads on it, and how many loads have left. A station comes with the number of live jobs to it.
 ///
@@ -121,4 +34,91 @@ pub fn stock_report(
     write_vehicles(&mut out, vehicles, &by_place.vehicles)?;
     write_left(&mut out, left_count(loads))?;
     Ok(out.into_bytes())
+}
+
+/// Writes the stations in turn.
+fn write_stations(
+    out: &mut String,
+    stations: &[(Station, u32)],
+    placed: &PlacedLoads<Name>,
+) -> Result<(), Memory>
+    ensures { OnOk result (string_bytes out.new ≡ string_bytes out.old
+        ++ flat_map (λ s. station_part (loads_at name_cmp placed.now s.0.id) s.0 s.1) stations.now) }
+{
+    for (station, reserved) in stations {
+        write_station(out, *station, *reserved, loads_at(placed, station.id))?;
+    }
+    Ok(())
+}
+
+/// Writes a station, and the loads there.
+fn write_station(
+    out: &mut String,
+    station: Station,
+    reserved: u32,
+    here: &[Name],
+) -> Result<(), Memory>
+    ensures { OnOk result (string_bytes out.new ≡ string_bytes out.old ++ station_part here.now station reserved) }
+{
+    write!(out, "station {} at {}: ", station.id, station.node)?;
+    write!(out, "{} of {}", here.len(), station.capacity)?;
+    writeln!(out, ", reserved {reserved}")?;
+    write_loads(out, here)
+}
+
+/// Writes loads, each on a line of its own.
+fn write_loads(out: &mut String, loads: &[Name]) -> Result<(), Memory>
+    ensures { OnOk result (string_bytes out.new ≡ string_bytes out.old ++ listed loads.now) }
+{
+    for load in loads {
+        writeln!(out, "  {load}")?;
+    }
+    Ok(())
+}
+
+/// Writes the checking place, and the loads there.
+fn write_checking(out: &mut String, here: &[Name]) -> Result<(), Memory>
+    ensures { OnOk result (string_bytes out.new ≡ string_bytes out.old ++ checking_part here.now) }
+{
+    writeln!(out, "checking: {}", here.len())?;
+    write_loads(out, here)
+}
+
+/// Writes the vehicles in turn.
+fn write_vehicles(
+    out: &mut String,
+    vehicles: &[VehicleKey],
+    placed: &PlacedLoads<VehicleKey>,
+) -> Result<(), Memory>
+    ensures { OnOk result (string_bytes out.new ≡ string_bytes out.old
+        ++ flat_map (λ key. vehicle_part (loads_at key_cmp placed.now key) key) vehicles.now) }
+{
+    for key in vehicles {
+        write_vehicle(out, *key, loads_at(placed, *key))?;
+    }
+    Ok(())
+}
+
+/// Writes a vehicle, and the loads on it.
+fn write_vehicle(out: &mut String, key: VehicleKey, here: &[Name]) -> Result<(), Memory>
+    ensures { OnOk result (string_bytes out.new ≡ string_bytes out.old ++ vehicle_part here.now key) }
+{
+    write!(out, "vehicle {}/{}", key.manufacturer, key.serial)?;
+    writeln!(out, ": {}", here.len())?;
+    write_loads(out, here)
+}
+
+/// Writes how many loads have left.
+fn write_left(out: &mut String, gone: usize) -> Result<(), Memory>
+    ensures { OnOk result (string_bytes out.new ≡ string_bytes out.old ++ left_part gone) }
+{
+    writeln!(out, "left: {gone}")?;
+    Ok(())
+}
+
+/// How many loads have left.
+fn left_count(loads: &[(Name, Place)]) -> usize
+    ensures { result ≡ count_by (λ l. has_left l.1) loads.now }
+{
+    loads.iter().filter(|load| load.1.has_left()).count()
 }

@@ -28,27 +28,16 @@ pub trait Row: Sized + Drop {
     ghost full: { (fields : List (List ℕ)) → has_fields (length columns) fields ≡ false → says fields ≡ None };
 }
 
-/// Adds the row that a record says.
-fn add_row<R: Row>(rows: &mut Vec<R>, raw: &ByteRecord) -> Result<(), CsvFault>
-    ensures ok { OnOk result (option_map (λ row. rows.old.items ++ row ∷ []) (R.says (fields_of raw.now)) ≡ Some rows.new.items) }
-    ensures bad { result ≡ Err CsvFault.BadCsv → R.says (fields_of raw.now) ≡ None }
+/// The rows of a file, in its order.
+///
+/// `BadCsv` where the file isn't CSV whose records have as many fields each, has no record, doesn't begin
+/// with the header, or has a record that is no row. `Memory` where an allocation was refused.
+pub fn read_table<R: Row>(alloc: Global, bytes: &[u8]) -> Result<Vec<R>, CsvFault>
+    ensures ok { IfOk result (λ rows. rows_under R.columns R.says (records_of bytes.now) ≡ Some rows.items) }
+    ensures bad { result ≡ Err CsvFault.BadCsv → rows_under R.columns R.says (records_of bytes.now) ≡ None }
 {
-    match R::of_record(raw) {
-        Some(found) => Ok(rows.push(found)?),
-        None => Err(CsvFault::BadCsv),
-    }
-}
-
-/// The rows that the records say, in order.
-fn rows<R: Row>(alloc: Global, records: &[ByteRecord]) -> Result<Vec<R>, CsvFault>
-    ensures ok { IfOk result (λ rows. each R.says (map fields_of records.now) ≡ Some rows.items) }
-    ensures bad { result ≡ Err CsvFault.BadCsv → each R.says (map fields_of records.now) ≡ None }
-{
-    let mut rows = Vec::new(alloc);
-    for record in records {
-        add_row(&mut rows, record)?;
-    }
-    Ok(rows)
+    let records = read_records(alloc, bytes)?;
+    rows_under_header(alloc, &records)
 }
 
 fn rows_under_header<R: Row>(alloc: Global, records: &[ByteRecord]) -> Result<Vec<R>, CsvFault>
@@ -64,14 +53,25 @@ fn rows_under_header<R: Row>(alloc: Global, records: &[ByteRecord]) -> Result<Ve
     rows(alloc, rest)
 }
 
-/// The rows of a file, in its order.
-///
-/// `BadCsv` where the file isn't CSV whose records have as many fields each, has no record, doesn't begin
-/// with the header, or has a record that is no row. `Memory` where an allocation was refused.
-pub fn read_table<R: Row>(alloc: Global, bytes: &[u8]) -> Result<Vec<R>, CsvFault>
-    ensures ok { IfOk result (λ rows. rows_under R.columns R.says (records_of bytes.now) ≡ Some rows.items) }
-    ensures bad { result ≡ Err CsvFault.BadCsv → rows_under R.columns R.says (records_of bytes.now) ≡ None }
+/// The rows that the records say, in order.
+fn rows<R: Row>(alloc: Global, records: &[ByteRecord]) -> Result<Vec<R>, CsvFault>
+    ensures ok { IfOk result (λ rows. each R.says (map fields_of records.now) ≡ Some rows.items) }
+    ensures bad { result ≡ Err CsvFault.BadCsv → each R.says (map fields_of records.now) ≡ None }
 {
-    let records = read_records(alloc, bytes)?;
-    rows_under_header(alloc, &records)
+    let mut rows = Vec::new(alloc);
+    for record in records {
+        add_row(&mut rows, record)?;
+    }
+    Ok(rows)
+}
+
+/// Adds the row that a record says.
+fn add_row<R: Row>(rows: &mut Vec<R>, raw: &ByteRecord) -> Result<(), CsvFault>
+    ensures ok { OnOk result (option_map (λ row. rows.old.items ++ row ∷ []) (R.says (fields_of raw.now)) ≡ Some rows.new.items) }
+    ensures bad { result ≡ Err CsvFault.BadCsv → R.says (fields_of raw.now) ≡ None }
+{
+    match R::of_record(raw) {
+        Some(found) => Ok(rows.push(found)?),
+        None => Err(CsvFault::BadCsv),
+    }
 }

@@ -42,24 +42,6 @@ impl Model for Name {
 #[error("the text is no name: 1 to 32 bytes of A-Z a-z 0-9 _ . : -")]
 pub struct NotName;
 
-fn is_allowed(byte: u8) -> bool
-    ensures { result ≡ is_name_byte byte }
-{
-    byte.is_ascii_alphanumeric() || b"_.:-".contains(&byte)
-}
-
-fn are_allowed(bytes: &[u8]) -> bool
-    ensures { result ≡ list_all is_name_byte bytes.now }
-{
-    bytes.iter().all(|byte| is_allowed(*byte))
-}
-
-fn spells_name(bytes: &[u8]) -> bool
-    ensures { result ≡ is_name bytes.now }
-{
-    !bytes.is_empty() && bytes.len() <= LONGEST && are_allowed(bytes)
-}
-
 impl Name {
     /// Reads a name. It takes no memory.
     ///
@@ -159,4 +141,22 @@ impl fmt::Debug for Name {
     fn fmt<W: fmt::Write>(&self, f: &mut fmt::Formatter<W>) -> fmt::Result {
         write!(f, "{}", self.as_str())
     }
+}
+
+fn spells_name(bytes: &[u8]) -> bool
+    ensures { result ≡ is_name bytes.now }
+{
+    !bytes.is_empty() && bytes.len() <= LONGEST && are_allowed(bytes)
+}
+
+fn are_allowed(bytes: &[u8]) -> bool
+    ensures { result ≡ list_all is_name_byte bytes.now }
+{
+    bytes.iter().all(|byte| is_allowed(*byte))
+}
+
+fn is_allowed(byte: u8) -> bool
+    ensures { result ≡ is_name_byte byte }
+{
+    byte.is_ascii_alphanumeric() || b"_.:-".contains(&byte)
 }

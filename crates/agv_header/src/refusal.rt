@@ -166,6 +166,27 @@ pub enum Refusal {
 impl Refusal {
     ghost use Rattle.agv_header.specs.Refusal.{row, row_of, number_of, name_of, status_of};
 
+    /// Its number, from 1 to 91, which the answer's body has as `refusal`.
+    pub fn number(&self) -> u8
+        ensures { result ≡ number_of self.now }
+    {
+        self.row().0
+    }
+
+    /// Its name, which the answer's body has as `name`: the name of the variant.
+    pub fn name(&self) -> &'static str
+        ensures { result.now ≡ name_of self.now }
+    {
+        self.row().1
+    }
+
+    /// The HTTP status of the answer, from 400 to 503.
+    pub fn status(&self) -> u16
+        ensures { result ≡ status_of self.now }
+    {
+        self.row().2
+    }
+
     /// Its number, its name and its HTTP status.
     fn row(&self) -> (u8, &'static str, u16)
         ensures { row result.0 result.1.now result.2 ≡ row_of self.now }
@@ -232,27 +253,6 @@ impl Refusal {
             Refusal::Memory => (90, "Memory", 503),
             Refusal::Storage => (91, "Storage", 503),
         }
-    }
-
-    /// Its number, from 1 to 91, which the answer's body has as `refusal`.
-    pub fn number(&self) -> u8
-        ensures { result ≡ number_of self.now }
-    {
-        self.row().0
-    }
-
-    /// Its name, which the answer's body has as `name`: the name of the variant.
-    pub fn name(&self) -> &'static str
-        ensures { result.now ≡ name_of self.now }
-    {
-        self.row().1
-    }
-
-    /// The HTTP status of the answer, from 400 to 503.
-    pub fn status(&self) -> u16
-        ensures { result ≡ status_of self.now }
-    {
-        self.row().2
     }
 }
 

@@ -16,16 +16,6 @@ pub enum StampFault {
     Bad,
 }
 
-fn moment_of(stamp: Timestamp) -> Option<Moment>
-    ensures { result ≡ moment_of_nanos stamp.nanosecond }
-{
-    // `as_millisecond` rounds toward 1970, so the instants just before it need a test of their own.
-    if stamp.as_nanosecond() < 0 {
-        return None;
-    }
-    Moment::of(stamp.as_millisecond())
-}
-
 /// The moment that a text says, as `jiff` reads a timestamp, rounded down to milliseconds. It takes
 /// no memory.
 ///
@@ -38,6 +28,16 @@ pub fn read_stamp(text: &str) -> Result<Moment, StampFault>
         return Err(StampFault::Bad);
     };
     moment_of(stamp).ok_or(StampFault::Bad)
+}
+
+fn moment_of(stamp: Timestamp) -> Option<Moment>
+    ensures { result ≡ moment_of_nanos stamp.nanosecond }
+{
+    // `as_millisecond` rounds toward 1970, so the instants just before it need a test of their own.
+    if stamp.as_nanosecond() < 0 {
+        return None;
+    }
+    Moment::of(stamp.as_millisecond())
 }
 
 /// The text of a moment, as `1991-03-11T11:40:03.12Z`: its civil date and time in UTC, with what is

@@ -22,26 +22,28 @@ pub enum Topic {
 #[error("the text is no topic of the desk")]
 pub struct NotTopic;
 
-fn name_of(topic: Topic) -> &'static str
-    ensures { result.now ≡ topic_name topic }
+/// The vehicle and the topic that a text names, as `uagv/v2/KIT/0001/order`. It takes no memory.
+///
+/// `NotTopic` where the text is `topic_text` of no vehicle and topic.
+pub fn read_topic(text: &str) -> Result<(VehicleKey, Topic), NotTopic>
+    ensures reads { IfOk result (λ found. IsTopicText text.now found.0 found.1) }
+    ensures all { (key : Key) (topic : Kind) → IsTopicText text.now key topic
+        → result ≡ Ok (key, topic) }
 {
-    match topic {
-        Topic::Order => "order",
-        Topic::InstantActions => "instantActions",
-        Topic::State => "state",
-    }
+    named(text).ok_or(NotTopic)
 }
 
-fn topic_named(name: &str) -> Option<Topic>
-    ensures reads { IfSome result (λ topic. name.now ≡ topic_name topic) }
-    ensures all { (topic : Kind) → name.now ≡ topic_name topic → result ≡ Some topic }
+fn named(text: &str) -> Option<(VehicleKey, Topic)>
+    ensures reads { IfSome result (λ found. IsTopicText text.now found.0 found.1) }
+    ensures all { (key : Key) (topic : Kind) → IsTopicText text.now key topic
+        → result ≡ Some (key, topic) }
 {
-    match name {
-        "order" => Some(Topic::Order),
-        "instantActions" => Some(Topic::InstantActions),
-        "state" => Some(Topic::State),
-        _ => None,
-    }
+    let (manufacturer, serial, name) = levels(text)?;
+    let key = VehicleKey {
+        manufacturer: Name::read(manufacturer).ok()?,
+        serial: Name::read(serial).ok()?,
+    };
+    Some((key, topic_named(name)?))
 }
 
 /// The manufacturer, the serial number and the topic name, as far as the slashes tell.
@@ -59,28 +61,16 @@ fn levels(text: &str) -> Option<(&str, &str, &str)>
     Some((manufacturer, serial, name))
 }
 
-fn named(text: &str) -> Option<(VehicleKey, Topic)>
-    ensures reads { IfSome result (λ found. IsTopicText text.now found.0 found.1) }
-    ensures all { (key : Key) (topic : Kind) → IsTopicText text.now key topic
-        → result ≡ Some (key, topic) }
+fn topic_named(name: &str) -> Option<Topic>
+    ensures reads { IfSome result (λ topic. name.now ≡ topic_name topic) }
+    ensures all { (topic : Kind) → name.now ≡ topic_name topic → result ≡ Some topic }
 {
-    let (manufacturer, serial, name) = levels(text)?;
-    let key = VehicleKey {
-        manufacturer: Name::read(manufacturer).ok()?,
-        serial: Name::read(serial).ok()?,
-    };
-    Some((key, topic_named(name)?))
-}
-
-/// The vehicle and the topic that a text names, as `uagv/v2/KIT/0001/order`. It takes no memory.
-///
-/// `NotTopic` where the text is `topic_text` of no vehicle and topic.
-pub fn read_topic(text: &str) -> Result<(VehicleKey, Topic), NotTopic>
-    ensures reads { IfOk result (λ found. IsTopicText text.now found.0 found.1) }
-    ensures all { (key : Key) (topic : Kind) → IsTopicText text.now key topic
-        → result ≡ Ok (key, topic) }
-{
-    named(text).ok_or(NotTopic)
+    match name {
+        "order" => Some(Topic::Order),
+        "instantActions" => Some(Topic::InstantActions),
+        "state" => Some(Topic::State),
+        _ => None,
+    }
 }
 
 /// The text of a vehicle's topic: `uagv/v2/MANUFACTURER/SERIAL/` and `order`, `instantActions` or
@@ -94,4 +84,14 @@ pub fn topic_text(alloc: Global, key: &VehicleKey, topic: Topic) -> Result<Strin
         key.serial,
         name_of(topic)
     )?)
+}
+
+fn name_of(topic: Topic) -> &'static str
+    ensures { result.now ≡ topic_name topic }
+{
+    match topic {
+        Topic::Order => "order",
+        Topic::InstantActions => "instantActions",
+        Topic::State => "state",
+    }
 }

@@ -23,105 +23,6 @@ pub(crate) type Arrivals = BTreeMap<Name, Vec<Name>>;
 /// How many edges a walk from each node to the goal takes at least.
 pub(crate) type Distances = BTreeMap<Name, u32>;
 
-/// Adds the start of an edge to those of its finish.
-fn add_arrival(alloc: Global, arrivals: &mut Arrivals, ends: EdgeEnds) -> Result<(), Memory>
-    ensures { OnOk result ((start finish : NameOf) → leads arrivals.new start finish
-        ≡ (leads arrivals.old start finish || (tree.is_at (name_cmp ends.finish) finish && tree.is_at (name_cmp ends.start) start))) }
-{
-    let EdgeEnds { start, finish } = ends;
-    let mut starts = arrivals.remove(&finish).unwrap_or(Vec::new(alloc));
-    starts.push(start)?;
-    arrivals.insert(finish, starts)?;
-    Ok(())
-}
-
-/// The nodes where the edges to a node start.
-fn starts_of(arrivals: &Arrivals, finish: Name) -> &[Name]
-    ensures { result.now ≡ starts_of arrivals.now finish }
-{
-    match arrivals.get(&finish) {
-        Some(starts) => starts,
-        None => &[],
-    }
-}
-
-/// Notes this distance of a node that has none yet.
-fn note(
-    distances: &mut Distances,
-    start: Name,
-    hops: u32,
-    found: &mut Vec<Name>,
-) -> Result<(), Memory>
-    ensures distances { OnOk result ((id : NameOf) → tree.get name_cmp distances.new id
-        ≡ option_or (tree.get name_cmp distances.old id) (cond (tree.is_at (name_cmp start) id) (Some hops) None)) }
-    ensures found { OnOk result ((id : NameOf) → is_among found.new.items id
-        ≡ (is_among found.old.items id || (not (is_some (tree.get name_cmp distances.old id)) && tree.is_at (name_cmp start) id))) }
-    ensures count { OnOk result (btree_map_len distances.new + vec_len found.old ≡ btree_map_len distances.old + vec_len found.new) }
-    ensures ordered { OnOk result (tree.IsOrdered name_cmp distances.old → tree.IsOrdered name_cmp distances.new) }
-{
-    if distances.contains_key(&start) {
-        return Ok(());
-    }
-    distances.insert(start, hops)?;
-    found.push(start)?;
-    Ok(())
-}
-
-/// Notes this distance of the nodes among these that have none yet.
-fn note_all(
-    distances: &mut Distances,
-    starts: &[Name],
-    hops: u32,
-    found: &mut Vec<Name>,
-) -> Result<(), Memory>
-    ensures distances { OnOk result ((id : NameOf) → tree.get name_cmp distances.new id
-        ≡ option_or (tree.get name_cmp distances.old id) (cond (is_among starts.now id) (Some hops) None)) }
-    ensures found { OnOk result ((id : NameOf) → is_among found.new.items id
-        ≡ (is_among found.old.items id || (not (is_some (tree.get name_cmp distances.old id)) && is_among starts.now id))) }
-    ensures count { OnOk result (btree_map_len distances.new + vec_len found.old ≡ btree_map_len distances.old + vec_len found.new) }
-    ensures ordered { OnOk result (tree.IsOrdered name_cmp distances.old → tree.IsOrdered name_cmp distances.new) }
-{
-    for start in starts {
-        note(distances, *start, hops, found)?;
-    }
-    Ok(())
-}
-
-/// The nodes that are one edge farther than a level, each noted with its distance.
-fn next_level(
-    alloc: Global,
-    arrivals: &Arrivals,
-    distances: &mut Distances,
-    level: &[Name],
-    hops: u32,
-) -> Result<Vec<Name>, Memory>
-    ensures distances { OnOk result ((id : NameOf) → tree.get name_cmp distances.new id
-        ≡ option_or (tree.get name_cmp distances.old id) (cond (leads_to_one arrivals.now id level.now) (Some hops) None)) }
-    ensures found { IfOk result (λ found. (id : NameOf) → is_among found.items id
-        ≡ (not (is_some (tree.get name_cmp distances.old id)) && leads_to_one arrivals.now id level.now)) }
-    ensures count { IfOk result (λ found. btree_map_len distances.new ≡ btree_map_len distances.old + vec_len found) }
-    ensures ordered { OnOk result (tree.IsOrdered name_cmp distances.old → tree.IsOrdered name_cmp distances.new) }
-{
-    let mut found = Vec::new(alloc);
-    for node in level {
-        note_all(distances, starts_of(arrivals, *node), hops, &mut found)?;
-    }
-    Ok(found)
-}
-
-/// The starts of all edges, by their finishes.
-fn arrivals_of(alloc: Global, edges: &BTreeMap<Name, EdgeEnds>) -> Result<Arrivals, Memory>
-    ensures all { IfOk result (λ arrivals. (start finish : NameOf) → leads arrivals start finish
-        ≡ list_any (is_so start finish) edges.now.entries) }
-    ensures found { All (λ e. tree.get name_cmp edges.now e.0 ≡ Some e.1) edges.now.entries }
-{
-    let mut arrivals = BTreeMap::new(alloc);
-    for (_, ends) in edges {
-        add_arrival(alloc, &mut arrivals, *ends)?;
-    }
-    Ok(arrivals)
-}
-
 /// How far each node is from the goal. A node from which no walk leads there has no distance.
 ///
 /// Each level has the nodes that are one edge farther than the last, and each node is in one level
@@ -148,4 +49,103 @@ pub(crate) fn distances_to(
         level = next_level(alloc, &arrivals, &mut distances, &level, hops)?;
     }
     Ok(distances)
+}
+
+/// The starts of all edges, by their finishes.
+fn arrivals_of(alloc: Global, edges: &BTreeMap<Name, EdgeEnds>) -> Result<Arrivals, Memory>
+    ensures all { IfOk result (λ arrivals. (start finish : NameOf) → leads arrivals start finish
+        ≡ list_any (is_so start finish) edges.now.entries) }
+    ensures found { All (λ e. tree.get name_cmp edges.now e.0 ≡ Some e.1) edges.now.entries }
+{
+    let mut arrivals = BTreeMap::new(alloc);
+    for (_, ends) in edges {
+        add_arrival(alloc, &mut arrivals, *ends)?;
+    }
+    Ok(arrivals)
+}
+
+/// Adds the start of an edge to those of its finish.
+fn add_arrival(alloc: Global, arrivals: &mut Arrivals, ends: EdgeEnds) -> Result<(), Memory>
+    ensures { OnOk result ((start finish : NameOf) → leads arrivals.new start finish
+        ≡ (leads arrivals.old start finish || (tree.is_at (name_cmp ends.finish) finish && tree.is_at (name_cmp ends.start) start))) }
+{
+    let EdgeEnds { start, finish } = ends;
+    let mut starts = arrivals.remove(&finish).unwrap_or(Vec::new(alloc));
+    starts.push(start)?;
+    arrivals.insert(finish, starts)?;
+    Ok(())
+}
+
+/// The nodes that are one edge farther than a level, each noted with its distance.
+fn next_level(
+    alloc: Global,
+    arrivals: &Arrivals,
+    distances: &mut Distances,
+    level: &[Name],
+    hops: u32,
+) -> Result<Vec<Name>, Memory>
+    ensures distances { OnOk result ((id : NameOf) → tree.get name_cmp distances.new id
+        ≡ option_or (tree.get name_cmp distances.old id) (cond (leads_to_one arrivals.now id level.now) (Some hops) None)) }
+    ensures found { IfOk result (λ found. (id : NameOf) → is_among found.items id
+        ≡ (not (is_some (tree.get name_cmp distances.old id)) && leads_to_one arrivals.now id level.now)) }
+    ensures count { IfOk result (λ found. btree_map_len distances.new ≡ btree_map_len distances.old + vec_len found) }
+    ensures ordered { OnOk result (tree.IsOrdered name_cmp distances.old → tree.IsOrdered name_cmp distances.new) }
+{
+    let mut found = Vec::new(alloc);
+    for node in level {
+        note_all(distances, starts_of(arrivals, *node), hops, &mut found)?;
+    }
+    Ok(found)
+}
+
+/// Notes this distance of the nodes among these that have none yet.
+fn note_all(
+    distances: &mut Distances,
+    starts: &[Name],
+    hops: u32,
+    found: &mut Vec<Name>,
+) -> Result<(), Memory>
+    ensures distances { OnOk result ((id : NameOf) → tree.get name_cmp distances.new id
+        ≡ option_or (tree.get name_cmp distances.old id) (cond (is_among starts.now id) (Some hops) None)) }
+    ensures found { OnOk result ((id : NameOf) → is_among found.new.items id
+        ≡ (is_among found.old.items id || (not (is_some (tree.get name_cmp distances.old id)) && is_among starts.now id))) }
+    ensures count { OnOk result (btree_map_len distances.new + vec_len found.old ≡ btree_map_len distances.old + vec_len found.new) }
+    ensures ordered { OnOk result (tree.IsOrdered name_cmp distances.old → tree.IsOrdered name_cmp distances.new) }
+{
+    for start in starts {
+        note(distances, *start, hops, found)?;
+    }
+    Ok(())
+}
+
+/// Notes this distance of a node that has none yet.
+fn note(
+    distances: &mut Distances,
+    start: Name,
+    hops: u32,
+    found: &mut Vec<Name>,
+) -> Result<(), Memory>
+    ensures distances { OnOk result ((id : NameOf) → tree.get name_cmp distances.new id
+        ≡ option_or (tree.get name_cmp distances.old id) (cond (tree.is_at (name_cmp start) id) (Some hops) None)) }
+    ensures found { OnOk result ((id : NameOf) → is_among found.new.items id
+        ≡ (is_among found.old.items id || (not (is_some (tree.get name_cmp distances.old id)) && tree.is_at (name_cmp start) id))) }
+    ensures count { OnOk result (btree_map_len distances.new + vec_len found.old ≡ btree_map_len distances.old + vec_len found.new) }
+    ensures ordered { OnOk result (tree.IsOrdered name_cmp distances.old → tree.IsOrdered name_cmp distances.new) }
+{
+    if distances.contains_key(&start) {
+        return Ok(());
+    }
+    distances.insert(start, hops)?;
+    found.push(start)?;
+    Ok(())
+}
+
+/// The nodes where the edges to a node start.
+fn starts_of(arrivals: &Arrivals, finish: Name) -> &[Name]
+    ensures { result.now ≡ starts_of arrivals.now finish }
+{
+    match arrivals.get(&finish) {
+        Some(starts) => starts,
+        None => &[],
+    }
 }

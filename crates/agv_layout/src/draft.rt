@@ -13,20 +13,6 @@ use agv_header::limits::MAX_STATION_CAPACITY;
 use std::alloc::Global;
 use std::collections::{BTreeMap, BTreeSet};
 
-/// Whether an edge finishes elsewhere than it starts.
-fn is_no_loop(ends: EdgeEnds) -> bool
-    ensures { result ≡ not (pointwise nat_eq ends.start ends.finish) }
-{
-    ends.start != ends.finish
-}
-
-/// Whether a station may have room for so many loads.
-fn is_capacity(capacity: u32) -> bool
-    ensures { result ≡ (nat_le 1 capacity && nat_le capacity 999) }
-{
-    (1..=MAX_STATION_CAPACITY).contains(&capacity)
-}
-
 /// The nodes, edges and stations of rows, each id once in its kind.
 #[derive(Drop)]
 pub(crate) struct Draft {
@@ -36,6 +22,21 @@ pub(crate) struct Draft {
 }
 
 impl Draft {
+    // `Bad` where an id is twice in its kind.
+    pub(crate) fn of_rows(alloc: Global, rows: &[LayoutRow]) -> Result<Draft, LayoutFault>
+        ensures once { OnOk result (IsEachOnce rows.now) }
+        ensures drawn { IfOk result (λ draft. drawn draft ≡ layout_in rows.now) }
+        ensures bad { result ≡ Err fault.Bad → ¬ (IsEachOnce rows.now) }
+        ensures limit { result ≡ Err fault.Limit → ⊥ }
+        ensures named { OnOk result (AreNamed rows.now) }
+    {
+        let mut draft = Draft::new(alloc);
+        for row in rows {
+            draft.add(*row)?;
+        }
+        Ok(draft)
+    }
+
     fn new(alloc: Global) -> Draft
         ensures { drawn result ≡ layout_in [] }
     {
@@ -44,6 +45,22 @@ impl Draft {
             edges: BTreeMap::new(alloc),
             stations: BTreeMap::new(alloc),
         }
+    }
+
+    // Adds the row; `Bad` where its id is in its kind already.
+    fn add(&mut self, row: LayoutRow) -> Result<(), LayoutFault>
+        ensures added { OnOk result (drawn self.new ≡ with_row (drawn self.old) row) }
+        ensures new { OnOk result (has_id (drawn self.old) row ≡ false) }
+        ensures again { result ≡ Err fault.Bad → has_id (drawn self.old) row ≡ true }
+        ensures limit { result ≡ Err fault.Limit → ⊥ }
+        ensures named { IsName (id_in row) }
+    {
+        row.name_law();
+        let is_new = self.put(row)?;
+        if !is_new {
+            return Err(LayoutFault::Bad);
+        }
+        Ok(())
     }
 
     // Whether the id is new to its kind; the row is added then.
@@ -67,35 +84,11 @@ impl Draft {
         }
     }
 
-    // Adds the row; `Bad` where its id is in its kind already.
-    fn add(&mut self, row: LayoutRow) -> Result<(), LayoutFault>
-        ensures added { OnOk result (drawn self.new ≡ with_row (drawn self.old) row) }
-        ensures new { OnOk result (has_id (drawn self.old) row ≡ false) }
-        ensures again { result ≡ Err fault.Bad → has_id (drawn self.old) row ≡ true }
-        ensures limit { result ≡ Err fault.Limit → ⊥ }
-        ensures named { IsName (id_in row) }
+    // Whether these are the parts of a layout, save for their numbers.
+    pub(crate) fn is_whole(&self) -> bool
+        ensures { IsTrue result ↔ IsWhole (drawn self.now) }
     {
-        row.name_law();
-        let is_new = self.put(row)?;
-        if !is_new {
-            return Err(LayoutFault::Bad);
-        }
-        Ok(())
-    }
-
-    // `Bad` where an id is twice in its kind.
-    pub(crate) fn of_rows(alloc: Global, rows: &[LayoutRow]) -> Result<Draft, LayoutFault>
-        ensures once { OnOk result (IsEachOnce rows.now) }
-        ensures drawn { IfOk result (λ draft. drawn draft ≡ layout_in rows.now) }
-        ensures bad { result ≡ Err fault.Bad → ¬ (IsEachOnce rows.now) }
-        ensures limit { result ≡ Err fault.Limit → ⊥ }
-        ensures named { OnOk result (AreNamed rows.now) }
-    {
-        let mut draft = Draft::new(alloc);
-        for row in rows {
-            draft.add(*row)?;
-        }
-        Ok(draft)
+        self.has_node() && self.edges_lead() && self.stations_stand()
     }
 
     fn has_node(&self) -> bool
@@ -104,22 +97,16 @@ impl Draft {
         !self.nodes.is_empty()
     }
 
-    fn leads(&self, ends: EdgeEnds) -> bool
-        ensures { result ≡ leads_in_draft self.now ends }
-    {
-        self.nodes.contains(&ends.start) && self.nodes.contains(&ends.finish) && is_no_loop(ends)
-    }
-
-    fn stands(&self, site: StationSite) -> bool
-        ensures { result ≡ stands_in_draft self.now site }
-    {
-        self.nodes.contains(&site.node) && is_capacity(site.capacity)
-    }
-
     fn edges_lead(&self) -> bool
         ensures { IsTrue result ↔ AllLead (drawn self.now) }
     {
         self.edges.values().all(|ends| self.leads(*ends))
+    }
+
+    fn leads(&self, ends: EdgeEnds) -> bool
+        ensures { result ≡ leads_in_draft self.now ends }
+    {
+        self.nodes.contains(&ends.start) && self.nodes.contains(&ends.finish) && is_no_loop(ends)
     }
 
     fn stations_stand(&self) -> bool
@@ -128,10 +115,23 @@ impl Draft {
         self.stations.values().all(|site| self.stands(*site))
     }
 
-    // Whether these are the parts of a layout, save for their numbers.
-    pub(crate) fn is_whole(&self) -> bool
-        ensures { IsTrue result ↔ IsWhole (drawn self.now) }
+    fn stands(&self, site: StationSite) -> bool
+        ensures { result ≡ stands_in_draft self.now site }
     {
-        self.has_node() && self.edges_lead() && self.stations_stand()
+        self.nodes.contains(&site.node) && is_capacity(site.capacity)
     }
+}
+
+/// Whether an edge finishes elsewhere than it starts.
+fn is_no_loop(ends: EdgeEnds) -> bool
+    ensures { result ≡ not (pointwise nat_eq ends.start ends.finish) }
+{
+    ends.start != ends.finish
+}
+
+/// Whether a station may have room for so many loads.
+fn is_capacity(capacity: u32) -> bool
+    ensures { result ≡ (nat_le 1 capacity && nat_le capacity 999) }
+{
+    (1..=MAX_STATION_CAPACITY).contains(&capacity)
 }

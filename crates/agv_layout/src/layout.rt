@@ -37,14 +37,6 @@ impl Model for Layout {
     ghost invariant = { λ layout. KeepsRules (shown layout) };
 }
 
-/// The edges again.
-fn copy_edges(edges: &BTreeMap<Name, EdgeEnds>) -> Result<BTreeMap<Name, EdgeEnds>, Memory>
-    ensures { IfOk result (λ copy. copy.entries ≡ edges.now.entries) }
-{
-    let copy = edges.clone()?;
-    Ok(copy)
-}
-
 impl Layout {
     /// The layout that the rows give, in whatever order they are.
     ///
@@ -171,4 +163,12 @@ impl Layout {
             capacity: site.capacity,
         })
     }
+}
+
+/// The edges again.
+fn copy_edges(edges: &BTreeMap<Name, EdgeEnds>) -> Result<BTreeMap<Name, EdgeEnds>, Memory>
+    ensures { IfOk result (λ copy. copy.entries ≡ edges.now.entries) }
+{
+    let copy = edges.clone()?;
+    Ok(copy)
 }

@@ -11,6 +11,22 @@ use agv_header::{Memory, Name};
 use std::alloc::Global;
 use std::collections::{BTreeMap, BTreeSet};
 
+impl Layout {
+    /// The rows of this layout: its nodes, its edges and its stations, each in the order of their names. They give
+    /// it again.
+    ///
+    /// `Memory` for want of memory alone.
+    pub fn rows(&self, alloc: Global) -> Result<Vec<LayoutRow>, Memory>
+        ensures rows { IfOk result (λ rows. rows.items ≡ rows_in self.now) }
+    {
+        let mut rows = Vec::new(alloc);
+        push_nodes(&mut rows, &self.nodes)?;
+        push_edges(&mut rows, &self.edges)?;
+        push_stations(&mut rows, &self.stations)?;
+        Ok(rows)
+    }
+}
+
 /// Adds the rows of nodes.
 fn push_nodes(rows: &mut Vec<LayoutRow>, nodes: &BTreeSet<Name>) -> Result<(), Memory>
     ensures items { OnOk result (rows.new.items ≡ rows.old.items ++ map (λ id. row.Node id) nodes.now.keys) }
@@ -53,20 +69,4 @@ fn push_stations(
         })?;
     }
     Ok(())
-}
-
-impl Layout {
-    /// The rows of this layout: its nodes, its edges and its stations, each in the order of their names. They give
-    /// it again.
-    ///
-    /// `Memory` for want of memory alone.
-    pub fn rows(&self, alloc: Global) -> Result<Vec<LayoutRow>, Memory>
-        ensures rows { IfOk result (λ rows. rows.items ≡ rows_in self.now) }
-    {
-        let mut rows = Vec::new(alloc);
-        push_nodes(&mut rows, &self.nodes)?;
-        push_edges(&mut rows, &self.edges)?;
-        push_stations(&mut rows, &self.stations)?;
-        Ok(rows)
-    }
 }

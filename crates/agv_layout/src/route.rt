@@ -17,75 +17,6 @@ use std::collections::BTreeMap;
 /// The edge to take at each node from which the goal can be reached.
 type Ways = BTreeMap<Name, Edge>;
 
-/// Whether an edge leads nearer to the goal.
-fn is_nearer(distances: &Distances, ends: &EdgeEnds) -> bool
-    ensures { result ≡ is_nearer distances.now ends.now }
-{
-    match (distances.get(&ends.start), distances.get(&ends.finish)) {
-        (Some(here), Some(there)) => *there < *here,
-        _ => false,
-    }
-}
-
-/// Takes an edge that leads nearer for the one to take at its start, if there is none yet.
-fn consider(ways: &mut Ways, distances: &Distances, id: Name, ends: EdgeEnds) -> Result<(), Memory>
-    ensures { OnOk result ((at : NameOf) → tree.get name_cmp ways.new at
-        ≡ option_or (tree.get name_cmp ways.old at) (cond (is_way distances.now at ends) (Some (edge_of id ends)) None)) }
-{
-    if !is_nearer(distances, &ends) {
-        return Ok(());
-    }
-    if ways.contains_key(&ends.start) {
-        return Ok(());
-    }
-    let edge = Edge {
-        id,
-        start: ends.start,
-        finish: ends.finish,
-    };
-    ways.insert(ends.start, edge)?;
-    Ok(())
-}
-
-/// For each node the edge of least name that leads nearer. The edges come in the order of their names.
-fn first_ways(
-    alloc: Global,
-    edges: &BTreeMap<Name, EdgeEnds>,
-    distances: &Distances,
-) -> Result<Ways, Memory>
-    ensures first { IfOk result (λ ways. (at : NameOf) → tree.get name_cmp ways at ≡ first_way distances.now at edges.now.entries) }
-    ensures ordered { tree.IsOrdered name_cmp edges.now }
-{
-    let mut ways = BTreeMap::new(alloc);
-    for (id, ends) in edges {
-        consider(&mut ways, distances, *id, *ends)?;
-    }
-    Ok(ways)
-}
-
-/// The walk of so many edges that takes each node's edge.
-fn follow(alloc: Global, ways: &Ways, from: Name, hops: u32) -> Result<Vec<Name>, Memory>
-    ensures { IfOk result (λ ids. ids.items ≡ followed ways.now from hops) }
-{
-    let mut ids = Vec::new(alloc);
-    let mut at = from;
-    for _ in 0..hops {
-        let Some(edge) = ways.get(&at) else {
-            break;
-        };
-        ids.push(edge.id)?;
-        at = edge.finish;
-    }
-    Ok(ids)
-}
-
-/// How many edges it takes from a node.
-fn hops_from(distances: &Distances, from: Name) -> Option<u32>
-    ensures { result ≡ tree.get name_cmp distances.now from }
-{
-    distances.get(&from).copied()
-}
-
 impl Layout {
     /// The least number of edges of a walk from one node to another: none where no walk leads there,
     /// and so where one of the names is unknown; 0 from a node to itself.
@@ -123,4 +54,73 @@ impl Layout {
         let ways = first_ways(alloc, &self.edges, &distances)?;
         Ok(Some(follow(alloc, &ways, from, hops)?))
     }
+}
+
+/// How many edges it takes from a node.
+fn hops_from(distances: &Distances, from: Name) -> Option<u32>
+    ensures { result ≡ tree.get name_cmp distances.now from }
+{
+    distances.get(&from).copied()
+}
+
+/// For each node the edge of least name that leads nearer. The edges come in the order of their names.
+fn first_ways(
+    alloc: Global,
+    edges: &BTreeMap<Name, EdgeEnds>,
+    distances: &Distances,
+) -> Result<Ways, Memory>
+    ensures first { IfOk result (λ ways. (at : NameOf) → tree.get name_cmp ways at ≡ first_way distances.now at edges.now.entries) }
+    ensures ordered { tree.IsOrdered name_cmp edges.now }
+{
+    let mut ways = BTreeMap::new(alloc);
+    for (id, ends) in edges {
+        consider(&mut ways, distances, *id, *ends)?;
+    }
+    Ok(ways)
+}
+
+/// Takes an edge that leads nearer for the one to take at its start, if there is none yet.
+fn consider(ways: &mut Ways, distances: &Distances, id: Name, ends: EdgeEnds) -> Result<(), Memory>
+    ensures { OnOk result ((at : NameOf) → tree.get name_cmp ways.new at
+        ≡ option_or (tree.get name_cmp ways.old at) (cond (is_way distances.now at ends) (Some (edge_of id ends)) None)) }
+{
+    if !is_nearer(distances, &ends) {
+        return Ok(());
+    }
+    if ways.contains_key(&ends.start) {
+        return Ok(());
+    }
+    let edge = Edge {
+        id,
+        start: ends.start,
+        finish: ends.finish,
+    };
+    ways.insert(ends.start, edge)?;
+    Ok(())
+}
+
+/// Whether an edge leads nearer to the goal.
+fn is_nearer(distances: &Distances, ends: &EdgeEnds) -> bool
+    ensures { result ≡ is_nearer distances.now ends.now }
+{
+    match (distances.get(&ends.start), distances.get(&ends.finish)) {
+        (Some(here), Some(there)) => *there < *here,
+        _ => false,
+    }
+}
+
+/// The walk of so many edges that takes each node's edge.
+fn follow(alloc: Global, ways: &Ways, from: Name, hops: u32) -> Result<Vec<Name>, Memory>
+    ensures { IfOk result (λ ids. ids.items ≡ followed ways.now from hops) }
+{
+    let mut ids = Vec::new(alloc);
+    let mut at = from;
+    for _ in 0..hops {
+        let Some(edge) = ways.get(&at) else {
+            break;
+        };
+        ids.push(edge.id)?;
+        at = edge.finish;
+    }
+    Ok(ids)
 }

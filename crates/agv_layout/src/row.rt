@@ -30,12 +30,6 @@ impl LayoutRow {
     }
 }
 
-fn are_too_many(nodes: usize, edges: usize, stations: usize) -> bool
-    ensures { IsTrue result ↔ ((500 < nodes) ⊎ ((1500 < edges) ⊎ (500 < stations))) }
-{
-    nodes > MAX_LAYOUT_NODES || edges > MAX_LAYOUT_EDGES || stations > MAX_LAYOUT_STATIONS
-}
-
 pub(crate) fn are_over_limit(rows: &[LayoutRow]) -> bool
     ensures { IsTrue result ↔ IsOverLimit rows.now }
 {
@@ -50,4 +44,10 @@ pub(crate) fn are_over_limit(rows: &[LayoutRow]) -> bool
         }
     }
     are_too_many(nodes, edges, stations)
+}
+
+fn are_too_many(nodes: usize, edges: usize, stations: usize) -> bool
+    ensures { IsTrue result ↔ ((500 < nodes) ⊎ ((1500 < edges) ⊎ (500 < stations))) }
+{
+    nodes > MAX_LAYOUT_NODES || edges > MAX_LAYOUT_EDGES || stations > MAX_LAYOUT_STATIONS
 }

@@ -33,6 +33,36 @@ impl From<Memory> for BodyFault {
     }
 }
 
+/// The JSON value that the bytes are.
+///
+/// `Refused` with `BadJson` where they are no JSON text (not UTF-8, empty, or nested deeper than
+/// 127), and else with `Fraction` where some number of the value, wherever it stands, is no whole
+/// number of 64 bits as `serde_json` reads it (also `1e0` and `-0`); `Memory` where an allocation
+/// was refused, which bytes that are not UTF-8 don't ask for.
+pub fn read_body(alloc: Global, bytes: &[u8]) -> Result<Value, BodyFault>
+    ensures ok { IfOk result (λ value. body_of bytes.now ≡ Ok (view value)) }
+    ensures err { IfErr result (λ fault. IsFaultOf fault (body_of bytes.now)) }
+    ensures no_text { is_utf8 bytes.now ≡ false → result ≡ Err (fault.Refused refusal.BadJson) }
+{
+    match str::from_utf8(bytes) {
+        Ok(text) => read_text(alloc, text),
+        Err(_) => Err(BodyFault::Refused(Refusal::BadJson)),
+    }
+}
+
+/// The JSON value that the text is.
+fn read_text(alloc: Global, text: &str) -> Result<Value, BodyFault>
+    ensures ok { IfOk result (λ value. whole_only (read text.now) ≡ Ok (view value)) }
+    ensures err { IfErr result (λ fault. IsFaultOf fault (whole_only (read text.now))) }
+{
+    match Value::from_str(alloc, text) {
+        Ok(value) if has_fraction(&value) => Err(BodyFault::Refused(Refusal::Fraction)),
+        Ok(value) => Ok(value),
+        Err(error) if error.is_memory() => Err(BodyFault::Memory),
+        Err(_) => Err(BodyFault::Refused(Refusal::BadJson)),
+    }
+}
+
 #[cycle(fraction)]
 fn has_fraction(value: &Value) -> bool
     ensures { result ≡ has_float (view value.now) }
@@ -67,34 +97,4 @@ fn members_have_fraction(members: &Map<String, Value>) -> bool
         }
     }
     false
-}
-
-/// The JSON value that the text is.
-fn read_text(alloc: Global, text: &str) -> Result<Value, BodyFault>
-    ensures ok { IfOk result (λ value. whole_only (read text.now) ≡ Ok (view value)) }
-    ensures err { IfErr result (λ fault. IsFaultOf fault (whole_only (read text.now))) }
-{
-    match Value::from_str(alloc, text) {
-        Ok(value) if has_fraction(&value) => Err(BodyFault::Refused(Refusal::Fraction)),
-        Ok(value) => Ok(value),
-        Err(error) if error.is_memory() => Err(BodyFault::Memory),
-        Err(_) => Err(BodyFault::Refused(Refusal::BadJson)),
-    }
-}
-
-/// The JSON value that the bytes are.
-///
-/// `Refused` with `BadJson` where they are no JSON text (not UTF-8, empty, or nested deeper than
-/// 127), and else with `Fraction` where some number of the value, wherever it stands, is no whole
-/// number of 64 bits as `serde_json` reads it (also `1e0` and `-0`); `Memory` where an allocation
-/// was refused, which bytes that are not UTF-8 don't ask for.
-pub fn read_body(alloc: Global, bytes: &[u8]) -> Result<Value, BodyFault>
-    ensures ok { IfOk result (λ value. body_of bytes.now ≡ Ok (view value)) }
-    ensures err { IfErr result (λ fault. IsFaultOf fault (body_of bytes.now)) }
-    ensures no_text { is_utf8 bytes.now ≡ false → result ≡ Err (fault.Refused refusal.BadJson) }
-{
-    match str::from_utf8(bytes) {
-        Ok(text) => read_text(alloc, text),
-        Err(_) => Err(BodyFault::Refused(Refusal::BadJson)),
-    }
 }

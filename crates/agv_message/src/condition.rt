@@ -18,53 +18,6 @@ pub struct Condition {
     pub paused: bool,
 }
 
-fn is_automatic(mode: &str) -> bool
-    ensures { result ≡ is_automatic mode.now }
-{
-    mode == "AUTOMATIC" || mode == "SEMIAUTOMATIC"
-}
-
-#[tactic(auto, unfolding(crate::specs::State::stop_at))]
-fn stop(state: &Value) -> Option<&str>
-    ensures { option_map (λ stop. stop.now) result ≡ stop_at (view state.now) }
-{
-    text(member(state, "safetyState")?, "eStop")
-}
-
-fn is_fatal(level: &str) -> bool
-    ensures { result ≡ is_fatal level.now }
-{
-    level == "FATAL"
-}
-
-fn some_is_fatal(errors: &[Value]) -> Option<bool>
-    ensures { result
-        ≡ option_map (list_any is_fatal) (each (text_at (codes "errorLevel")) (map view errors.now)) }
-{
-    let mut fatal = false;
-    for error in errors {
-        let level = text(error, "errorLevel")?;
-        fatal = fatal || is_fatal(level);
-    }
-    Some(fatal)
-}
-
-#[tactic(auto, unfolding(crate::specs::State::levels_at))]
-fn has_fatal(state: &Value) -> Option<bool>
-    ensures { result ≡ option_map (list_any is_fatal) (levels_at (view state.now)) }
-{
-    match items(state, "errors") {
-        Some(errors) => some_is_fatal(errors),
-        None => None,
-    }
-}
-
-fn is_ready(mode: &str, stop: &str, fatal: bool) -> bool
-    ensures { result ≡ is_automatic mode.now && bytes_eq stop.now (codes "NONE") && not fatal }
-{
-    is_automatic(mode) && stop == "NONE" && !fatal
-}
-
 impl Condition {
     /// The condition that a state tells; `None` where a member for it is missing or of the wrong kind.
     #[tactic(auto, unfolding(crate::specs::State::has_condition))]
@@ -90,4 +43,51 @@ impl Condition {
             paused,
         })
     }
+}
+
+#[tactic(auto, unfolding(crate::specs::State::stop_at))]
+fn stop(state: &Value) -> Option<&str>
+    ensures { option_map (λ stop. stop.now) result ≡ stop_at (view state.now) }
+{
+    text(member(state, "safetyState")?, "eStop")
+}
+
+#[tactic(auto, unfolding(crate::specs::State::levels_at))]
+fn has_fatal(state: &Value) -> Option<bool>
+    ensures { result ≡ option_map (list_any is_fatal) (levels_at (view state.now)) }
+{
+    match items(state, "errors") {
+        Some(errors) => some_is_fatal(errors),
+        None => None,
+    }
+}
+
+fn some_is_fatal(errors: &[Value]) -> Option<bool>
+    ensures { result
+        ≡ option_map (list_any is_fatal) (each (text_at (codes "errorLevel")) (map view errors.now)) }
+{
+    let mut fatal = false;
+    for error in errors {
+        let level = text(error, "errorLevel")?;
+        fatal = fatal || is_fatal(level);
+    }
+    Some(fatal)
+}
+
+fn is_fatal(level: &str) -> bool
+    ensures { result ≡ is_fatal level.now }
+{
+    level == "FATAL"
+}
+
+fn is_ready(mode: &str, stop: &str, fatal: bool) -> bool
+    ensures { result ≡ is_automatic mode.now && bytes_eq stop.now (codes "NONE") && not fatal }
+{
+    is_automatic(mode) && stop == "NONE" && !fatal
+}
+
+fn is_automatic(mode: &str) -> bool
+    ensures { result ≡ is_automatic mode.now }
+{
+    mode == "AUTOMATIC" || mode == "SEMIAUTOMATIC"
 }

@@ -11,6 +11,17 @@ use agv_header::Memory;
 use serde_json::Value;
 use std::alloc::Global;
 
+/// The sequence numbers of the nodes still to be traversed, where the state has such a list.
+#[tactic(auto, unfolding(crate::specs::State::node_seqs_at))]
+pub fn node_seqs(alloc: Global, state: &Value) -> Result<Option<Sequence<u32>>, Memory>
+    ensures { IfOk result (λ read. read ≡ node_seqs_at (view state.now)) }
+{
+    match items(state, "nodeStates") {
+        Some(nodes) => sequence_ids(alloc, nodes),
+        None => Ok(None),
+    }
+}
+
 fn sequence_ids(alloc: Global, nodes: &[Value]) -> Result<Option<Sequence<u32>>, Memory>
     ensures { IfOk result
         (λ read. read ≡ each (whole_at (codes "sequenceId")) (map view nodes.now)) }
@@ -25,31 +36,14 @@ fn sequence_ids(alloc: Global, nodes: &[Value]) -> Result<Option<Sequence<u32>>,
     Ok(Some(ids.into()))
 }
 
-/// The sequence numbers of the nodes still to be traversed, where the state has such a list.
-#[tactic(auto, unfolding(crate::specs::State::node_seqs_at))]
-pub fn node_seqs(alloc: Global, state: &Value) -> Result<Option<Sequence<u32>>, Memory>
-    ensures { IfOk result (λ read. read ≡ node_seqs_at (view state.now)) }
+/// The actions that are reported, where the state has such a list.
+#[tactic(auto, unfolding(crate::specs::State::actions_at))]
+pub fn actions(alloc: Global, state: &Value) -> Result<Option<Sequence<(Text, Status)>>, Memory>
+    ensures { IfOk result (λ read. read ≡ actions_at (view state.now)) }
 {
-    match items(state, "nodeStates") {
-        Some(nodes) => sequence_ids(alloc, nodes),
+    match items(state, "actionStates") {
+        Some(actions) => reports(alloc, actions),
         None => Ok(None),
-    }
-}
-
-#[tactic(auto, unfolding(crate::specs::State::status_at))]
-fn status(action: &Value) -> Option<Status>
-    ensures { result ≡ status_at (view action.now) }
-{
-    Status::of(text(action, "actionStatus")?)
-}
-
-#[tactic(auto, unfolding(crate::specs::State::action_at))]
-fn action(alloc: Global, action: &Value) -> Result<Option<(Text, Status)>, Memory>
-    ensures { IfOk result (λ read. read ≡ action_at (view action.now)) }
-{
-    match (text(action, "actionId"), status(action)) {
-        (Some(id), Some(status)) => Ok(Some((Text::copy_of(alloc, id)?, status))),
-        _ => Ok(None),
     }
 }
 
@@ -66,13 +60,19 @@ fn reports(alloc: Global, actions: &[Value]) -> Result<Option<Sequence<(Text, St
     Ok(Some(reports.into()))
 }
 
-/// The actions that are reported, where the state has such a list.
-#[tactic(auto, unfolding(crate::specs::State::actions_at))]
-pub fn actions(alloc: Global, state: &Value) -> Result<Option<Sequence<(Text, Status)>>, Memory>
-    ensures { IfOk result (λ read. read ≡ actions_at (view state.now)) }
+#[tactic(auto, unfolding(crate::specs::State::action_at))]
+fn action(alloc: Global, action: &Value) -> Result<Option<(Text, Status)>, Memory>
+    ensures { IfOk result (λ read. read ≡ action_at (view action.now)) }
 {
-    match items(state, "actionStates") {
-        Some(actions) => reports(alloc, actions),
-        None => Ok(None),
+    match (text(action, "actionId"), status(action)) {
+        (Some(id), Some(status)) => Ok(Some((Text::copy_of(alloc, id)?, status))),
+        _ => Ok(None),
     }
+}
+
+#[tactic(auto, unfolding(crate::specs::State::status_at))]
+fn status(action: &Value) -> Option<Status>
+    ensures { result ≡ status_at (view action.now) }
+{
+    Status::of(text(action, "actionStatus")?)
 }

@@ -6,12 +6,6 @@ ghost use Rattle.agv_message.specs.Members.{unless_null, member_at, has as has_m
 
 use serde_json::Value;
 
-fn is_null(value: &Value) -> bool
-    ensures { (if result then None else Some (view value.now)) ≡ unless_null (view value.now) }
-{
-    matches!(value, Value::Null)
-}
-
 /// The member of that name, unless it is null; none where the value is no object. It takes no memory.
 #[tactic(auto, unfolding(crate::specs::Members::member_at))]
 pub fn member<'a>(object: &'a Value, name: &str) -> Option<&'a Value>
@@ -19,6 +13,12 @@ pub fn member<'a>(object: &'a Value, name: &str) -> Option<&'a Value>
 {
     let found = object.get(name)?;
     if is_null(found) { None } else { Some(found) }
+}
+
+fn is_null(value: &Value) -> bool
+    ensures { (if result then None else Some (view value.now)) ≡ unless_null (view value.now) }
+{
+    matches!(value, Value::Null)
 }
 
 /// Whether there is such a member, and it isn't null.

@@ -27,16 +27,6 @@ pub struct OrderNode {
     pub acts: Sequence<OrderAct>,
 }
 
-fn copy_nodes(nodes: &Sequence<OrderNode>) -> Result<Sequence<OrderNode>, Memory>
-    ensures { IfOk result (λ copy. copy ≡ nodes.now) }
-{
-    let mut copy = Vec::new(nodes.allocator());
-    for node in nodes.as_slice() {
-        copy.push(node.copy()?)?;
-    }
-    Ok(copy.into())
-}
-
 impl OrderMessage {
     /// A message equal to this one.
     ///
@@ -112,4 +102,14 @@ impl ActKind {
             ActKind::Drop => "drop",
         }
     }
+}
+
+fn copy_nodes(nodes: &Sequence<OrderNode>) -> Result<Sequence<OrderNode>, Memory>
+    ensures { IfOk result (λ copy. copy ≡ nodes.now) }
+{
+    let mut copy = Vec::new(nodes.allocator());
+    for node in nodes.as_slice() {
+        copy.push(node.copy()?)?;
+    }
+    Ok(copy.into())
 }

@@ -12,6 +12,21 @@ use crate::piece::{Piece, put_pieces};
 use crate::words::put_bytes;
 use agv_header::{Memory, Name};
 
+/// Appends an array of actions.
+pub fn put_acts(out: &mut Vec<u8>, order: &Name, acts: &[OrderAct]) -> Result<(), Memory>
+    ensures appended { Appended result out.old out.new (compact_text (list (map (act_data order.now) acts.now))) }
+    ensures readable { OnOk result (IsReadable (list (map (act_data order.now) acts.now))) }
+{
+    match acts.split_first() {
+        None => put_bytes(out, b"[]"),
+        Some((first, more)) => {
+            put_act(out, "[", order, first)?;
+            put_more_acts(out, order, more)?;
+            put_bytes(out, b"]")
+        }
+    }
+}
+
 /// Appends an action of an order, with something before it.
 fn put_act<'a>(
     out: &mut Vec<u8>,
@@ -48,19 +63,4 @@ fn put_more_acts(out: &mut Vec<u8>, order: &Name, acts: &[OrderAct]) -> Result<(
         put_act(out, ",", order, act)?;
     }
     Ok(())
-}
-
-/// Appends an array of actions.
-pub fn put_acts(out: &mut Vec<u8>, order: &Name, acts: &[OrderAct]) -> Result<(), Memory>
-    ensures appended { Appended result out.old out.new (compact_text (list (map (act_data order.now) acts.now))) }
-    ensures readable { OnOk result (IsReadable (list (map (act_data order.now) acts.now))) }
-{
-    match acts.split_first() {
-        None => put_bytes(out, b"[]"),
-        Some((first, more)) => {
-            put_act(out, "[", order, first)?;
-            put_more_acts(out, order, more)?;
-            put_bytes(out, b"]")
-        }
-    }
 }

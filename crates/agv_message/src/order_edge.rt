@@ -12,6 +12,21 @@ use crate::piece::{Piece, put_pieces};
 use crate::words::put_bytes;
 use agv_header::Memory;
 
+/// Appends an array of edges.
+pub fn put_edges(out: &mut Vec<u8>, edges: &[OrderEdge]) -> Result<(), Memory>
+    ensures appended { Appended result out.old out.new (compact_text (list (map edge_data edges.now))) }
+    ensures readable { OnOk result (IsReadable (list (map edge_data edges.now))) }
+{
+    match edges.split_first() {
+        None => put_bytes(out, b"[]"),
+        Some((first, more)) => {
+            put_edge(out, "[", first)?;
+            put_more_edges(out, more)?;
+            put_bytes(out, b"]")
+        }
+    }
+}
+
 /// Appends an edge of an order, with something before it.
 fn put_edge<'a>(out: &mut Vec<u8>, before: &'a str, edge: &'a OrderEdge) -> Result<(), Memory>
     ensures appended { Appended result out.old out.new (before.now ++ compact_text (edge_data edge.now)) }
@@ -43,19 +58,4 @@ fn put_more_edges(out: &mut Vec<u8>, edges: &[OrderEdge]) -> Result<(), Memory>
         put_edge(out, ",", edge)?;
     }
     Ok(())
-}
-
-/// Appends an array of edges.
-pub fn put_edges(out: &mut Vec<u8>, edges: &[OrderEdge]) -> Result<(), Memory>
-    ensures appended { Appended result out.old out.new (compact_text (list (map edge_data edges.now))) }
-    ensures readable { OnOk result (IsReadable (list (map edge_data edges.now))) }
-{
-    match edges.split_first() {
-        None => put_bytes(out, b"[]"),
-        Some((first, more)) => {
-            put_edge(out, "[", first)?;
-            put_more_edges(out, more)?;
-            put_bytes(out, b"]")
-        }
-    }
 }

@@ -17,6 +17,20 @@ use crate::{Header, OrderEdge, OrderMessage};
 use agv_header::Memory;
 use std::alloc::Global;
 
+/// Appends an order message: JSON without blanks, members in the order of their names' bytes. It takes no memory where
+/// the message fits.
+///
+/// `Memory` where an allocation was refused; some of the message may have been appended then.
+pub fn put_order(out: &mut Vec<u8>, header: &Header, order: &OrderMessage) -> Result<(), Memory>
+    ensures appended { Appended result out.old out.new (compact_text (order_data header.now order.now)) }
+    ensures reads_back { OnOk result (body_of (compact_text (order_data header.now order.now)) ≡ Ok (order_data header.now order.now)) }
+{
+    put_front(out, order.edges.as_slice())?;
+    put_middle(out, header)?;
+    put_nodes(out, &order.order, order.nodes.as_slice())?;
+    put_rest(out, header, order)
+}
+
 /// Appends what the message begins with, with its edges.
 fn put_front(out: &mut Vec<u8>, edges: &[OrderEdge]) -> Result<(), Memory>
     ensures appended { Appended result out.old out.new (order_front edges.now) }
@@ -62,20 +76,6 @@ fn put_rest<'a>(
         Piece::Text(",\"version\":\"2.0.0\"}"),
     ];
     put_pieces(out, &pieces)
-}
-
-/// Appends an order message: JSON without blanks, members in the order of their names' bytes. It takes no memory where
-/// the message fits.
-///
-/// `Memory` where an allocation was refused; some of the message may have been appended then.
-pub fn put_order(out: &mut Vec<u8>, header: &Header, order: &OrderMessage) -> Result<(), Memory>
-    ensures appended { Appended result out.old out.new (compact_text (order_data header.now order.now)) }
-    ensures reads_back { OnOk result (body_of (compact_text (order_data header.now order.now)) ≡ Ok (order_data header.now order.now)) }
-{
-    put_front(out, order.edges.as_slice())?;
-    put_middle(out, header)?;
-    put_nodes(out, &order.order, order.nodes.as_slice())?;
-    put_rest(out, header, order)
 }
 
 /// The text of an order message: JSON without blanks, members in the order of their names' bytes.

@@ -13,6 +13,31 @@ use crate::piece::{Piece, put_pieces};
 use crate::words::put_bytes;
 use agv_header::{Memory, Name};
 
+/// Appends an array of nodes.
+pub fn put_nodes(out: &mut Vec<u8>, order: &Name, nodes: &[OrderNode]) -> Result<(), Memory>
+    ensures appended { Appended result out.old out.new (compact_text (list (map (node_data order.now) nodes.now))) }
+    ensures readable { OnOk result (IsReadable (list (map (node_data order.now) nodes.now))) }
+{
+    match nodes.split_first() {
+        None => put_bytes(out, b"[]"),
+        Some((first, more)) => {
+            put_node(out, "[", order, first)?;
+            put_more_nodes(out, order, more)?;
+            put_bytes(out, b"]")
+        }
+    }
+}
+
+/// Appends a node of an order, with something before it.
+fn put_node(out: &mut Vec<u8>, before: &str, order: &Name, node: &OrderNode) -> Result<(), Memory>
+    ensures appended { Appended result out.old out.new (before.now ++ compact_text (node_data order.now node.now)) }
+    ensures readable { OnOk result (IsReadable (node_data order.now node.now)) }
+{
+    put_front(out, before)?;
+    put_acts(out, order, node.acts.as_slice())?;
+    put_rest(out, node)
+}
+
 /// Appends what a node begins with, with something before it.
 fn put_front<'a>(out: &mut Vec<u8>, before: &'a str) -> Result<(), Memory>
     ensures { Appended result out.old out.new (node_front before.now) }
@@ -38,16 +63,6 @@ fn put_rest<'a>(out: &mut Vec<u8>, node: &'a OrderNode) -> Result<(), Memory>
     put_pieces(out, &pieces)
 }
 
-/// Appends a node of an order, with something before it.
-fn put_node(out: &mut Vec<u8>, before: &str, order: &Name, node: &OrderNode) -> Result<(), Memory>
-    ensures appended { Appended result out.old out.new (before.now ++ compact_text (node_data order.now node.now)) }
-    ensures readable { OnOk result (IsReadable (node_data order.now node.now)) }
-{
-    put_front(out, before)?;
-    put_acts(out, order, node.acts.as_slice())?;
-    put_rest(out, node)
-}
-
 /// Appends nodes, each after a comma.
 fn put_more_nodes(out: &mut Vec<u8>, order: &Name, nodes: &[OrderNode]) -> Result<(), Memory>
     ensures appended { Appended result out.old out.new (more_values (node_data order.now) nodes.now) }
@@ -57,19 +72,4 @@ fn put_more_nodes(out: &mut Vec<u8>, order: &Name, nodes: &[OrderNode]) -> Resul
         put_node(out, ",", order, node)?;
     }
     Ok(())
-}
-
-/// Appends an array of nodes.
-pub fn put_nodes(out: &mut Vec<u8>, order: &Name, nodes: &[OrderNode]) -> Result<(), Memory>
-    ensures appended { Appended result out.old out.new (compact_text (list (map (node_data order.now) nodes.now))) }
-    ensures readable { OnOk result (IsReadable (list (map (node_data order.now) nodes.now))) }
-{
-    match nodes.split_first() {
-        None => put_bytes(out, b"[]"),
-        Some((first, more)) => {
-            put_node(out, "[", order, first)?;
-            put_more_nodes(out, order, more)?;
-            put_bytes(out, b"]")
-        }
-    }
 }

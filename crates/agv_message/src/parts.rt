@@ -30,14 +30,6 @@ struct Texts {
     last_node: Text,
 }
 
-fn copies(alloc: Global, first: &str, second: &str) -> Result<(Text, Text), Memory>
-    ensures { IfOk result (λ copies. copies ≡ (first.now, second.now)) }
-{
-    let first = Text::copy_of(alloc, first)?;
-    let second = Text::copy_of(alloc, second)?;
-    Ok((first, second))
-}
-
 impl<'a> Parts<'a> {
     /// The parts of the state; `None` where a member is missing or of the wrong kind.
     #[tactic(auto, unfolding(crate::specs::State::is_bad))]
@@ -76,6 +68,14 @@ impl<'a> Parts<'a> {
         }))
     }
 
+    /// The message that they make.
+    pub fn message(self, alloc: Global, at: Moment) -> Result<StateMessage, Memory>
+        ensures { IfOk result (λ message. message ≡ message_from at self.entry) }
+    {
+        let texts = self.texts(alloc)?;
+        Ok(self.with_texts(texts, at))
+    }
+
     fn texts(&self, alloc: Global) -> Result<Texts, Memory>
         ensures { IfOk result (λ texts. texts ≡ texts_of self.now) }
     {
@@ -107,12 +107,12 @@ impl<'a> Parts<'a> {
             paused: self.condition.paused,
         }
     }
+}
 
-    /// The message that they make.
-    pub fn message(self, alloc: Global, at: Moment) -> Result<StateMessage, Memory>
-        ensures { IfOk result (λ message. message ≡ message_from at self.entry) }
-    {
-        let texts = self.texts(alloc)?;
-        Ok(self.with_texts(texts, at))
-    }
+fn copies(alloc: Global, first: &str, second: &str) -> Result<(Text, Text), Memory>
+    ensures { IfOk result (λ copies. copies ≡ (first.now, second.now)) }
+{
+    let first = Text::copy_of(alloc, first)?;
+    let second = Text::copy_of(alloc, second)?;
+    Ok((first, second))
 }

@@ -30,6 +30,17 @@ pub enum Piece<'a> {
     Stamp(Moment),
 }
 
+/// Appends pieces.
+pub fn put_pieces(out: &mut Vec<u8>, pieces: &[Piece<'_>]) -> Result<(), Memory>
+    ensures appended { Appended result out.old out.new (flat_map piece_text pieces.now) }
+    ensures readable { OnOk result (PiecesAreReadable pieces.now) }
+{
+    for piece in pieces {
+        put_piece(out, piece)?;
+    }
+    Ok(())
+}
+
 /// Appends a piece.
 fn put_piece(out: &mut Vec<u8>, piece: &Piece<'_>) -> Result<(), Memory>
     ensures appended { Appended result out.old out.new (piece_text piece.now) }
@@ -45,15 +56,4 @@ fn put_piece(out: &mut Vec<u8>, piece: &Piece<'_>) -> Result<(), Memory>
         Piece::ActId(order, n) => put_act_id(out, order, *n),
         Piece::Stamp(at) => put_stamp(out, *at),
     }
-}
-
-/// Appends pieces.
-pub fn put_pieces(out: &mut Vec<u8>, pieces: &[Piece<'_>]) -> Result<(), Memory>
-    ensures appended { Appended result out.old out.new (flat_map piece_text pieces.now) }
-    ensures readable { OnOk result (PiecesAreReadable pieces.now) }
-{
-    for piece in pieces {
-        put_piece(out, piece)?;
-    }
-    Ok(())
 }

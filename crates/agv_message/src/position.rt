@@ -8,10 +8,15 @@ ghost use Rattle.agv_message.specs.Position.{some_item_has, has_position as hold
 use crate::members::{has, items};
 use serde_json::Value;
 
-fn any_has(items: &[Value], name: &str) -> bool
-    ensures { result ≡ list_any (λ item. has_member name.now (view item)) items.now }
+/// Whether the state has a position, a velocity or a trajectory, whatever else it has.
+#[tactic(auto, unfolding(crate::specs::Position::has_position))]
+pub fn has_position(state: &Value) -> bool
+    ensures { result ≡ holds_position (view state.now) }
 {
-    items.iter().any(|item| has(item, name))
+    has(state, "agvPosition")
+        || has(state, "velocity")
+        || some_item_has(state, "nodeStates", "nodePosition")
+        || some_item_has(state, "edgeStates", "trajectory")
 }
 
 fn some_item_has(state: &Value, list: &str, name: &str) -> bool
@@ -23,13 +28,8 @@ fn some_item_has(state: &Value, list: &str, name: &str) -> bool
     }
 }
 
-/// Whether the state has a position, a velocity or a trajectory, whatever else it has.
-#[tactic(auto, unfolding(crate::specs::Position::has_position))]
-pub fn has_position(state: &Value) -> bool
-    ensures { result ≡ holds_position (view state.now) }
+fn any_has(items: &[Value], name: &str) -> bool
+    ensures { result ≡ list_any (λ item. has_member name.now (view item)) items.now }
 {
-    has(state, "agvPosition")
-        || has(state, "velocity")
-        || some_item_has(state, "nodeStates", "nodePosition")
-        || some_item_has(state, "edgeStates", "trajectory")
+    items.iter().any(|item| has(item, name))
 }

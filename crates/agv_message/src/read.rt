@@ -15,30 +15,6 @@ use agv_header::{Refusal, read_stamp};
 use serde_json::Value;
 use std::alloc::Global;
 
-fn is_served(version: &str) -> bool
-    ensures { result ≡ starts_with nat_eq version.now (codes "2.") }
-{
-    version.as_bytes().starts_with(b"2.")
-}
-
-fn read_located(alloc: Global, state: &Value) -> Result<StateMessage, BodyFault>
-    ensures ok { IfOk result (λ message. state_or_refusal (view state.now) ≡ Ok message) }
-    ensures err { IfErr result (λ fault. IsFaultOf fault (state_or_refusal (view state.now))) }
-    ensures lacking { lacks_members (view state.now) ≡ true
-        → result ≡ Err (fault.Refused refusal.BadBody) }
-{
-    let Some(parts) = Parts::of(alloc, state)? else {
-        return Err(BodyFault::Refused(Refusal::BadBody));
-    };
-    if !is_served(parts.opening.version) {
-        return Err(BodyFault::Refused(Refusal::Version));
-    }
-    let Ok(at) = read_stamp(parts.opening.timestamp) else {
-        return Err(BodyFault::Refused(Refusal::BadTimestamp));
-    };
-    Ok(parts.message(alloc, at)?)
-}
-
 /// What a state message says.
 ///
 /// `Refused`, with the first of these that holds: `Position` where the state has `agvPosition`,
@@ -60,4 +36,28 @@ pub fn read_state(alloc: Global, body: &Value) -> Result<StateMessage, BodyFault
         return Err(BodyFault::Refused(Refusal::Position));
     }
     read_located(alloc, body)
+}
+
+fn read_located(alloc: Global, state: &Value) -> Result<StateMessage, BodyFault>
+    ensures ok { IfOk result (λ message. state_or_refusal (view state.now) ≡ Ok message) }
+    ensures err { IfErr result (λ fault. IsFaultOf fault (state_or_refusal (view state.now))) }
+    ensures lacking { lacks_members (view state.now) ≡ true
+        → result ≡ Err (fault.Refused refusal.BadBody) }
+{
+    let Some(parts) = Parts::of(alloc, state)? else {
+        return Err(BodyFault::Refused(Refusal::BadBody));
+    };
+    if !is_served(parts.opening.version) {
+        return Err(BodyFault::Refused(Refusal::Version));
+    }
+    let Ok(at) = read_stamp(parts.opening.timestamp) else {
+        return Err(BodyFault::Refused(Refusal::BadTimestamp));
+    };
+    Ok(parts.message(alloc, at)?)
+}
+
+fn is_served(version: &str) -> bool
+    ensures { result ≡ starts_with nat_eq version.now (codes "2.") }
+{
+    version.as_bytes().starts_with(b"2.")
 }

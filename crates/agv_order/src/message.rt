@@ -8,59 +8,25 @@ use agv_layout::Edge;
 use agv_message::{OrderAct, OrderEdge, OrderMessage, OrderNode};
 use std::alloc::Global;
 
-fn order_act(n: u32, act: &Act) -> OrderAct
-    ensures { result ≡ order_act (n, act.now) }
-{
-    OrderAct {
-        n,
-        kind: act.kind,
-        station: act.station,
-        load: act.load,
-    }
-}
-
-/// The acts at place `k` of the way, in their order.
-fn acts_at(alloc: Global, acts: &[Act], k: u32) -> Result<Vec<OrderAct>, Memory>
-    requires few { length acts.now ≤ 8 }
-    ensures { IfOk result (λ made. made.items ≡ acts_at acts.now k) }
-{
-    let mut made = Vec::new(alloc);
-    for (n, act) in acts.iter().enumerate() {
-        if act.place_at == k {
-            made.push(order_act(n as u32, act))?;
-        }
-    }
-    Ok(made)
-}
-
 impl Trip {
-    /// The node at place `k` of the way.
-    fn node(&self, alloc: Global, k: u32, id: Name) -> Result<OrderNode, Memory>
-        requires near { k ≤ 200 }
+    /// The last message of the trip: the order itself, or the update that was sent last.
+    ///
+    /// It has the nodes from place `first` on and the edges between them, those of the base released, and
+    /// on each node its acts in their order (VDA 5050 2.0, order). Its time is that of the edges, times
+    /// the acts. `Memory` for want of memory alone.
+    pub fn message(&self, alloc: Global) -> Result<OrderMessage, Memory>
+        requires short { length self.now.edges ≤ 200 }
         requires few { length self.now.acts ≤ 8 }
-        ensures { IfOk result (λ node. node ≡ order_node self.now (k, id)) }
+        ensures { IfOk result (λ message. message ≡ message_of self.now) }
     {
-        let acts = acts_at(alloc, self.acts.as_slice(), k)?;
-        Ok(OrderNode {
-            id,
-            seq: node_seq(k),
-            released: k <= self.base,
-            acts: acts.into(),
+        let nodes = self.sent_nodes(alloc)?;
+        let edges = self.sent_edges(alloc)?;
+        Ok(OrderMessage {
+            order: self.order,
+            update: self.sent,
+            nodes: nodes.into(),
+            edges: edges.into(),
         })
-    }
-
-    /// The edge from the node at place `k` of the way to the next.
-    fn edge(&self, k: u32, edge: &Edge) -> OrderEdge
-        requires near { k ≤ 200 }
-        ensures { result ≡ order_edge self.now (k, edge.now) }
-    {
-        OrderEdge {
-            id: edge.id,
-            start: edge.start,
-            finish: edge.finish,
-            seq: edge_seq(k),
-            released: k < self.base,
-        }
     }
 
     /// The nodes of the last message.
@@ -82,6 +48,21 @@ impl Trip {
         Ok(nodes)
     }
 
+    /// The node at place `k` of the way.
+    fn node(&self, alloc: Global, k: u32, id: Name) -> Result<OrderNode, Memory>
+        requires near { k ≤ 200 }
+        requires few { length self.now.acts ≤ 8 }
+        ensures { IfOk result (λ node. node ≡ order_node self.now (k, id)) }
+    {
+        let acts = acts_at(alloc, self.acts.as_slice(), k)?;
+        Ok(OrderNode {
+            id,
+            seq: node_seq(k),
+            released: k <= self.base,
+            acts: acts.into(),
+        })
+    }
+
     /// The edges of the last message.
     fn sent_edges(&self, alloc: Global) -> Result<Vec<OrderEdge>, Memory>
         requires short { length self.now.edges ≤ 200 }
@@ -97,23 +78,42 @@ impl Trip {
         Ok(edges)
     }
 
-    /// The last message of the trip: the order itself, or the update that was sent last.
-    ///
-    /// It has the nodes from place `first` on and the edges between them, those of the base released, and
-    /// on each node its acts in their order (VDA 5050 2.0, order). Its time is that of the edges, times
-    /// the acts. `Memory` for want of memory alone.
-    pub fn message(&self, alloc: Global) -> Result<OrderMessage, Memory>
-        requires short { length self.now.edges ≤ 200 }
-        requires few { length self.now.acts ≤ 8 }
-        ensures { IfOk result (λ message. message ≡ message_of self.now) }
+    /// The edge from the node at place `k` of the way to the next.
+    fn edge(&self, k: u32, edge: &Edge) -> OrderEdge
+        requires near { k ≤ 200 }
+        ensures { result ≡ order_edge self.now (k, edge.now) }
     {
-        let nodes = self.sent_nodes(alloc)?;
-        let edges = self.sent_edges(alloc)?;
-        Ok(OrderMessage {
-            order: self.order,
-            update: self.sent,
-            nodes: nodes.into(),
-            edges: edges.into(),
-        })
+        OrderEdge {
+            id: edge.id,
+            start: edge.start,
+            finish: edge.finish,
+            seq: edge_seq(k),
+            released: k < self.base,
+        }
+    }
+}
+
+/// The acts at place `k` of the way, in their order.
+fn acts_at(alloc: Global, acts: &[Act], k: u32) -> Result<Vec<OrderAct>, Memory>
+    requires few { length acts.now ≤ 8 }
+    ensures { IfOk result (λ made. made.items ≡ acts_at acts.now k) }
+{
+    let mut made = Vec::new(alloc);
+    for (n, act) in acts.iter().enumerate() {
+        if act.place_at == k {
+            made.push(order_act(n as u32, act))?;
+        }
+    }
+    Ok(made)
+}
+
+fn order_act(n: u32, act: &Act) -> OrderAct
+    ensures { result ≡ order_act (n, act.now) }
+{
+    OrderAct {
+        n,
+        kind: act.kind,
+        station: act.station,
+        load: act.load,
     }
 }

@@ -14,61 +14,6 @@ use agv_message::Sequence;
 use agv_stock::Job;
 use std::alloc::Global;
 
-/// The routes from a node to each stop in turn; `NoWalk` where one of them can't be had.
-fn stop_routes_to(
-    alloc: Global,
-    layout: &Layout,
-    jobs: &[Job],
-    start: Name,
-    stops: &[Stop],
-) -> Result<Vec<StopRoute>, PlanFault>
-    ensures ok { IfOk result (λ stop_routes. stop_routes_to layout.now jobs.now start stops.now ≡ Some stop_routes.items) }
-    ensures no_walk { result ≡ Err fault.NoWalk → stop_routes_to layout.now jobs.now start stops.now ≡ None }
-    ensures err { IfErr result (λ error. (error ≡ fault.NoWalk) ⊎ (error ≡ fault.Memory)) }
-{
-    let mut stop_routes = Vec::new(alloc);
-    let mut at = start;
-    for stop in stops {
-        let stop_route = stop_route_to(alloc, layout, jobs, at, *stop)?;
-        at = stop_route.goal;
-        stop_routes.push(stop_route)?;
-    }
-    Ok(stop_routes)
-}
-
-/// Adds the edges of a route.
-fn add_edges(way: &mut Vec<Edge>, stop_route: &StopRoute) -> Result<(), Memory>
-    ensures { OnOk result (way.new.items ≡ way.old.items ++ stop_route.now.edges) }
-{
-    way.extend_from_slice(stop_route.edges.as_slice())?;
-    Ok(())
-}
-
-/// The edges of all routes.
-fn way_of(alloc: Global, stop_routes: &[StopRoute]) -> Result<Vec<Edge>, Memory>
-    ensures { IfOk result (λ way. way.items ≡ way_of stop_routes.now) }
-{
-    let mut way = Vec::new(alloc);
-    for stop_route in stop_routes {
-        add_edges(&mut way, stop_route)?;
-    }
-    Ok(way)
-}
-
-/// The acts at the ends of the routes.
-fn acts_along(alloc: Global, stop_routes: &[StopRoute]) -> Result<Vec<Act>, Memory>
-    requires { length (way_of stop_routes.now) ≤ 200 }
-    ensures { IfOk result (λ acts. acts.items ≡ acts_along 0 stop_routes.now) }
-{
-    let mut acts = Vec::new(alloc);
-    let mut place = 0;
-    for stop_route in stop_routes {
-        place += stop_route.edges.len() as u32;
-        acts.push(act_at(stop_route, place))?;
-    }
-    Ok(acts)
-}
-
 impl Trip {
     /// Plans the trip of a vehicle that is to make these stops one after the other: from its node to the
     /// node of each stop in turn, each time by the route of the layout. The job of a stop is looked up
@@ -117,4 +62,59 @@ impl Trip {
             acts: Sequence::from(acts_along(alloc, &stop_routes)?),
         })
     }
+}
+
+/// The routes from a node to each stop in turn; `NoWalk` where one of them can't be had.
+fn stop_routes_to(
+    alloc: Global,
+    layout: &Layout,
+    jobs: &[Job],
+    start: Name,
+    stops: &[Stop],
+) -> Result<Vec<StopRoute>, PlanFault>
+    ensures ok { IfOk result (λ stop_routes. stop_routes_to layout.now jobs.now start stops.now ≡ Some stop_routes.items) }
+    ensures no_walk { result ≡ Err fault.NoWalk → stop_routes_to layout.now jobs.now start stops.now ≡ None }
+    ensures err { IfErr result (λ error. (error ≡ fault.NoWalk) ⊎ (error ≡ fault.Memory)) }
+{
+    let mut stop_routes = Vec::new(alloc);
+    let mut at = start;
+    for stop in stops {
+        let stop_route = stop_route_to(alloc, layout, jobs, at, *stop)?;
+        at = stop_route.goal;
+        stop_routes.push(stop_route)?;
+    }
+    Ok(stop_routes)
+}
+
+/// The edges of all routes.
+fn way_of(alloc: Global, stop_routes: &[StopRoute]) -> Result<Vec<Edge>, Memory>
+    ensures { IfOk result (λ way. way.items ≡ way_of stop_routes.now) }
+{
+    let mut way = Vec::new(alloc);
+    for stop_route in stop_routes {
+        add_edges(&mut way, stop_route)?;
+    }
+    Ok(way)
+}
+
+/// Adds the edges of a route.
+fn add_edges(way: &mut Vec<Edge>, stop_route: &StopRoute) -> Result<(), Memory>
+    ensures { OnOk result (way.new.items ≡ way.old.items ++ stop_route.now.edges) }
+{
+    way.extend_from_slice(stop_route.edges.as_slice())?;
+    Ok(())
+}
+
+/// The acts at the ends of the routes.
+fn acts_along(alloc: Global, stop_routes: &[StopRoute]) -> Result<Vec<Act>, Memory>
+    requires { length (way_of stop_routes.now) ≤ 200 }
+    ensures { IfOk result (λ acts. acts.items ≡ acts_along 0 stop_routes.now) }
+{
+    let mut acts = Vec::new(alloc);
+    let mut place = 0;
+    for stop_route in stop_routes {
+        place += stop_route.edges.len() as u32;
+        acts.push(act_at(stop_route, place))?;
+    }
+    Ok(acts)
 }

@@ -11,21 +11,43 @@ use agv_header::Name;
 use agv_header::limits::{MAX_TRIP_ACTS, MAX_TRIP_EDGES};
 use agv_layout::{Edge, Layout};
 
-/// Whether the edge leads as the layout says.
-fn is_edge_of(layout: &Layout, edge: &Edge) -> bool
-    ensures { result ≡ is_edge_of layout.now edge.now }
-{
-    match layout.edge(edge.id) {
-        Some(known) => known.start == edge.start && known.finish == edge.finish,
-        None => false,
+impl Trip {
+    /// Whether the trip is planned on the layout.
+    pub(crate) fn is_planned(&self, layout: &Layout) -> bool
+        ensures { result ≡ is_planned layout.now self.now }
+    {
+        let edges = self.edges.as_slice();
+        let acts = self.acts.as_slice();
+        edges.len() <= MAX_TRIP_EDGES
+            && acts.len() <= MAX_TRIP_ACTS
+            && is_way_of(layout, self.start, edges)
+            && acts_fit(acts)
+            && is_rising(acts, edges.len())
+            && self.are_at_stations(layout)
     }
-}
 
-/// Whether the edge starts at the node, and leads as the layout says.
-fn leads_on(layout: &Layout, at: Name, edge: &Edge) -> bool
-    ensures { result ≡ (pointwise nat_eq edge.now.start at && is_edge_of layout.now edge.now) }
-{
-    edge.start == at && is_edge_of(layout, edge)
+    /// Whether the station of each act is at the node of its place.
+    fn are_at_stations(&self, layout: &Layout) -> bool
+        ensures { result ≡ list_all (is_at_station layout.now self.now) self.now.acts }
+    {
+        self.acts
+            .as_slice()
+            .iter()
+            .all(|act| self.is_at_station(layout, act))
+    }
+
+    /// Whether the station of the act is at the node of its place.
+    fn is_at_station(&self, layout: &Layout, act: &Act) -> bool
+        ensures { result ≡ is_at_station layout.now self.now act.now }
+    {
+        let Some(node) = self.node_at(act.place_at) else {
+            return false;
+        };
+        let Some(station) = layout.station(act.station) else {
+            return false;
+        };
+        station.node == node
+    }
 }
 
 /// Whether the edges lead on from the node, one after the other and as the layout says, to a node of it.
@@ -42,6 +64,37 @@ fn is_way_of(layout: &Layout, start: Name, edges: &[Edge]) -> bool
     layout.node(at)
 }
 
+/// Whether the edge starts at the node, and leads as the layout says.
+fn leads_on(layout: &Layout, at: Name, edge: &Edge) -> bool
+    ensures { result ≡ (pointwise nat_eq edge.now.start at && is_edge_of layout.now edge.now) }
+{
+    edge.start == at && is_edge_of(layout, edge)
+}
+
+/// Whether the edge leads as the layout says.
+fn is_edge_of(layout: &Layout, edge: &Edge) -> bool
+    ensures { result ≡ is_edge_of layout.now edge.now }
+{
+    match layout.edge(edge.id) {
+        Some(known) => known.start == edge.start && known.finish == edge.finish,
+        None => false,
+    }
+}
+
+/// Whether the stops of the acts fit.
+fn acts_fit(acts: &[Act]) -> bool
+    ensures { result ≡ stops_fit (stops_of acts.now) }
+{
+    !acts.is_empty() && are_all_carried(acts)
+}
+
+/// Whether each job that an act names is picked and then dropped.
+fn are_all_carried(acts: &[Act]) -> bool
+    ensures { result ≡ list_all (λ act. is_pick_then_drop (kinds_of (stops_of acts.now) act.job)) acts.now }
+{
+    acts.iter().all(|act| is_carried(acts, act.job))
+}
+
 /// Whether the acts for this job are a pick, and then a drop.
 fn is_carried(acts: &[Act], job: Name) -> bool
     ensures { result ≡ is_pick_then_drop (kinds_of (stops_of acts.now) job) }
@@ -53,20 +106,6 @@ fn is_carried(acts: &[Act], job: Name) -> bool
         }
     }
     served.is_over()
-}
-
-/// Whether each job that an act names is picked and then dropped.
-fn are_all_carried(acts: &[Act]) -> bool
-    ensures { result ≡ list_all (λ act. is_pick_then_drop (kinds_of (stops_of acts.now) act.job)) acts.now }
-{
-    acts.iter().all(|act| is_carried(acts, act.job))
-}
-
-/// Whether the stops of the acts fit.
-fn acts_fit(acts: &[Act]) -> bool
-    ensures { result ≡ stops_fit (stops_of acts.now) }
-{
-    !acts.is_empty() && are_all_carried(acts)
 }
 
 /// Whether the places of the acts don't fall, and the last of them is this one.
@@ -81,43 +120,4 @@ fn is_rising(acts: &[Act], end: usize) -> bool
         place = act.place_at;
     }
     place as usize == end
-}
-
-impl Trip {
-    /// Whether the station of the act is at the node of its place.
-    fn is_at_station(&self, layout: &Layout, act: &Act) -> bool
-        ensures { result ≡ is_at_station layout.now self.now act.now }
-    {
-        let Some(node) = self.node_at(act.place_at) else {
-            return false;
-        };
-        let Some(station) = layout.station(act.station) else {
-            return false;
-        };
-        station.node == node
-    }
-
-    /// Whether the station of each act is at the node of its place.
-    fn are_at_stations(&self, layout: &Layout) -> bool
-        ensures { result ≡ list_all (is_at_station layout.now self.now) self.now.acts }
-    {
-        self.acts
-            .as_slice()
-            .iter()
-            .all(|act| self.is_at_station(layout, act))
-    }
-
-    /// Whether the trip is planned on the layout.
-    pub(crate) fn is_planned(&self, layout: &Layout) -> bool
-        ensures { result ≡ is_planned layout.now self.now }
-    {
-        let edges = self.edges.as_slice();
-        let acts = self.acts.as_slice();
-        edges.len() <= MAX_TRIP_EDGES
-            && acts.len() <= MAX_TRIP_ACTS
-            && is_way_of(layout, self.start, edges)
-            && acts_fit(acts)
-            && is_rising(acts, edges.len())
-            && self.are_at_stations(layout)
-    }
 }

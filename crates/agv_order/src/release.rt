@@ -9,13 +9,6 @@ use crate::Trip;
 use agv_header::Refusal;
 
 impl Trip {
-    /// Whether so many edges more can be released.
-    fn can_release(&self, n: u32) -> bool
-        ensures { IsTrue result ↔ CanRelease self.now n }
-    {
-        n > 0 && self.base as u64 + n as u64 <= self.edges.len() as u64
-    }
-
     /// Releases the next `n` edges, and the nodes where they finish, by an update. The update begins
     /// at the last node of the old base. It takes no memory.
     ///
@@ -38,5 +31,12 @@ impl Trip {
         self.base += n;
         self.sent += 1;
         Ok(())
+    }
+
+    /// Whether so many edges more can be released.
+    fn can_release(&self, n: u32) -> bool
+        ensures { IsTrue result ↔ CanRelease self.now n }
+    {
+        n > 0 && self.base as u64 + n as u64 <= self.edges.len() as u64
     }
 }

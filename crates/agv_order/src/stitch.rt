@@ -16,13 +16,17 @@ struct Mark {
     seq: u32,
 }
 
-fn mark_of(node: &OrderNode) -> Mark
-    ensures { result ≡ mark_of node.now }
+/// Whether an update begins at the last released node.
+pub(crate) fn is_stitched(held: &[OrderNode], update: &[OrderNode]) -> bool
+    ensures { result ≡ is_stitched (filter is_released held.now) update.now }
 {
-    Mark {
-        id: node.id,
-        seq: node.seq,
-    }
+    let Some(last) = last_released(held) else {
+        return false;
+    };
+    let Some(first) = update.first() else {
+        return false;
+    };
+    last == mark_of(first)
 }
 
 /// The last released node.
@@ -38,17 +42,42 @@ fn last_released(nodes: &[OrderNode]) -> Option<Mark>
     last
 }
 
-/// Whether an update begins at the last released node.
-pub(crate) fn is_stitched(held: &[OrderNode], update: &[OrderNode]) -> bool
-    ensures { result ≡ is_stitched (filter is_released held.now) update.now }
+fn mark_of(node: &OrderNode) -> Mark
+    ensures { result ≡ mark_of node.now }
 {
-    let Some(last) = last_released(held) else {
-        return false;
-    };
-    let Some(first) = update.first() else {
-        return false;
-    };
-    last == mark_of(first)
+    Mark {
+        id: node.id,
+        seq: node.seq,
+    }
+}
+
+/// The base without its last node, and then the update.
+pub(crate) fn stitched(
+    alloc: Global,
+    held: &OrderMessage,
+    message: &OrderMessage,
+) -> Result<OrderMessage, Memory>
+    ensures { IfOk result (λ order. order ≡ stitched held.now message.now) }
+{
+    let nodes = stitched_nodes(alloc, held.nodes.as_slice(), message.nodes.as_slice())?;
+    let edges = stitched_edges(alloc, held.edges.as_slice(), message.edges.as_slice())?;
+    Ok(OrderMessage {
+        order: message.order,
+        update: message.update,
+        nodes: nodes.into(),
+        edges: edges.into(),
+    })
+}
+
+fn stitched_nodes(
+    alloc: Global,
+    held: &[OrderNode],
+    update: &[OrderNode],
+) -> Result<Vec<OrderNode>, Memory>
+    ensures { IfOk result (λ nodes. nodes.items ≡ front_of (filter is_released held.now) ++ update.now) }
+{
+    let base = copy_base(alloc, held)?;
+    with_nodes(without_last(base), update)
 }
 
 fn copy_base(alloc: Global, nodes: &[OrderNode]) -> Result<Vec<OrderNode>, Memory>
@@ -63,14 +92,6 @@ fn copy_base(alloc: Global, nodes: &[OrderNode]) -> Result<Vec<OrderNode>, Memor
     Ok(base)
 }
 
-fn without_last(nodes: Vec<OrderNode>) -> Vec<OrderNode>
-    ensures { result.items ≡ front_of nodes.items }
-{
-    let mut front = nodes;
-    front.pop();
-    front
-}
-
 fn with_nodes(base: Vec<OrderNode>, nodes: &[OrderNode]) -> Result<Vec<OrderNode>, Memory>
     ensures { IfOk result (λ all. all.items ≡ base.items ++ nodes.now) }
 {
@@ -81,15 +102,12 @@ fn with_nodes(base: Vec<OrderNode>, nodes: &[OrderNode]) -> Result<Vec<OrderNode
     Ok(all)
 }
 
-fn stitched_nodes(
-    alloc: Global,
-    held: &[OrderNode],
-    update: &[OrderNode],
-) -> Result<Vec<OrderNode>, Memory>
-    ensures { IfOk result (λ nodes. nodes.items ≡ front_of (filter is_released held.now) ++ update.now) }
+fn without_last(nodes: Vec<OrderNode>) -> Vec<OrderNode>
+    ensures { result.items ≡ front_of nodes.items }
 {
-    let base = copy_base(alloc, held)?;
-    with_nodes(without_last(base), update)
+    let mut front = nodes;
+    front.pop();
+    front
 }
 
 fn stitched_edges(
@@ -109,22 +127,4 @@ fn stitched_edges(
         edges.push(*edge)?;
     }
     Ok(edges)
-}
-
-/// The base without its last node, and then the update.
-pub(crate) fn stitched(
-    alloc: Global,
-    held: &OrderMessage,
-    message: &OrderMessage,
-) -> Result<OrderMessage, Memory>
-    ensures { IfOk result (λ order. order ≡ stitched held.now message.now) }
-{
-    let nodes = stitched_nodes(alloc, held.nodes.as_slice(), message.nodes.as_slice())?;
-    let edges = stitched_edges(alloc, held.edges.as_slice(), message.edges.as_slice())?;
-    Ok(OrderMessage {
-        order: message.order,
-        update: message.update,
-        nodes: nodes.into(),
-        edges: edges.into(),
-    })
 }

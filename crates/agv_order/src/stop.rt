@@ -14,15 +14,6 @@ pub struct Stop {
     pub job: Name,
 }
 
-/// Whether each job that a stop names is picked and then dropped.
-fn are_all_served(stops: &[Stop]) -> bool
-    ensures { result ≡ list_all (λ one. is_pick_then_drop (kinds_of stops.now one.job)) stops.now }
-{
-    stops
-        .iter()
-        .all(|stop| is_picked_then_dropped(stops, stop.job))
-}
-
 /// Whether these stops can be carried out: there is at least one, and the load of each job that is named
 /// is picked just once and, later, dropped just once. It takes no memory.
 ///
@@ -32,4 +23,13 @@ pub fn stops_fit(stops: &[Stop]) -> bool
     ensures { result ≡ stops_fit stops.now }
 {
     !stops.is_empty() && are_all_served(stops)
+}
+
+/// Whether each job that a stop names is picked and then dropped.
+fn are_all_served(stops: &[Stop]) -> bool
+    ensures { result ≡ list_all (λ one. is_pick_then_drop (kinds_of stops.now one.job)) stops.now }
+{
+    stops
+        .iter()
+        .all(|stop| is_picked_then_dropped(stops, stop.job))
 }

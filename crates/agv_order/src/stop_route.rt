@@ -36,53 +36,22 @@ pub fn job_named(jobs: &[Job], name: Name) -> Option<Job>
     None
 }
 
-/// Where the load is picked or dropped.
-fn stop_station(kind: ActKind, job: &Job) -> Name
-    ensures { result ≡ stop_station kind job.now }
-{
-    match kind {
-        ActKind::Pick => job.origin,
-        ActKind::Drop => job.target,
-    }
-}
-
-/// The route from one node to another.
-fn route(
+/// The route from a node to a stop; `NoWalk` where there is none.
+pub(crate) fn stop_route_to(
     alloc: Global,
     layout: &Layout,
-    from: Name,
-    to: Name,
-) -> Result<Option<Sequence<Name>>, Memory>
-    ensures { IfOk result (λ route. route ≡ route_of layout.now from to) }
+    jobs: &[Job],
+    at: Name,
+    stop: Stop,
+) -> Result<StopRoute, PlanFault>
+    ensures ok { IfOk result (λ stop_route. stop_route_to layout.now jobs.now at stop ≡ Some stop_route) }
+    ensures no_walk { result ≡ Err fault.NoWalk → stop_route_to layout.now jobs.now at stop ≡ None }
+    ensures err { IfErr result (λ error. (error ≡ fault.NoWalk) ⊎ (error ≡ fault.Memory)) }
 {
-    match layout.route(alloc, from, to)? {
-        Some(ids) => Ok(Some(Sequence::from(ids))),
-        None => Ok(None),
+    match job_named(jobs, stop.job) {
+        Some(job) => stop_route_for(alloc, layout, at, stop, job),
+        None => Err(PlanFault::NoWalk),
     }
-}
-
-/// Adds the edge of this name, if the layout has it.
-fn add_edge(edges: &mut Vec<Edge>, layout: &Layout, id: Name) -> Result<(), Memory>
-    ensures { OnOk result (edges.new.items ≡ edges.old.items ++ edges_named layout.now (id ∷ [])) }
-{
-    match layout.edge(id) {
-        Some(edge) => {
-            edges.push(edge)?;
-            Ok(())
-        }
-        None => Ok(()),
-    }
-}
-
-/// The edges of these names that the layout has.
-fn edges_named(alloc: Global, layout: &Layout, ids: &[Name]) -> Result<Sequence<Edge>, Memory>
-    ensures { IfOk result (λ edges. edges ≡ edges_named layout.now ids.now) }
-{
-    let mut edges = Vec::new(alloc);
-    for id in ids {
-        add_edge(&mut edges, layout, *id)?;
-    }
-    Ok(Sequence::from(edges))
 }
 
 /// The route from a node to a stop.
@@ -111,21 +80,42 @@ fn stop_route_for(
     })
 }
 
-/// The route from a node to a stop; `NoWalk` where there is none.
-pub(crate) fn stop_route_to(
+/// The route from one node to another.
+fn route(
     alloc: Global,
     layout: &Layout,
-    jobs: &[Job],
-    at: Name,
-    stop: Stop,
-) -> Result<StopRoute, PlanFault>
-    ensures ok { IfOk result (λ stop_route. stop_route_to layout.now jobs.now at stop ≡ Some stop_route) }
-    ensures no_walk { result ≡ Err fault.NoWalk → stop_route_to layout.now jobs.now at stop ≡ None }
-    ensures err { IfErr result (λ error. (error ≡ fault.NoWalk) ⊎ (error ≡ fault.Memory)) }
+    from: Name,
+    to: Name,
+) -> Result<Option<Sequence<Name>>, Memory>
+    ensures { IfOk result (λ route. route ≡ route_of layout.now from to) }
 {
-    match job_named(jobs, stop.job) {
-        Some(job) => stop_route_for(alloc, layout, at, stop, job),
-        None => Err(PlanFault::NoWalk),
+    match layout.route(alloc, from, to)? {
+        Some(ids) => Ok(Some(Sequence::from(ids))),
+        None => Ok(None),
+    }
+}
+
+/// The edges of these names that the layout has.
+fn edges_named(alloc: Global, layout: &Layout, ids: &[Name]) -> Result<Sequence<Edge>, Memory>
+    ensures { IfOk result (λ edges. edges ≡ edges_named layout.now ids.now) }
+{
+    let mut edges = Vec::new(alloc);
+    for id in ids {
+        add_edge(&mut edges, layout, *id)?;
+    }
+    Ok(Sequence::from(edges))
+}
+
+/// Adds the edge of this name, if the layout has it.
+fn add_edge(edges: &mut Vec<Edge>, layout: &Layout, id: Name) -> Result<(), Memory>
+    ensures { OnOk result (edges.new.items ≡ edges.old.items ++ edges_named layout.now (id ∷ [])) }
+{
+    match layout.edge(id) {
+        Some(edge) => {
+            edges.push(edge)?;
+            Ok(())
+        }
+        None => Ok(()),
     }
 }
 
@@ -140,5 +130,15 @@ pub(crate) fn act_at(stop_route: &StopRoute, place: u32) -> Act
         station: stop_station(stop_route.stop.kind, &stop_route.job),
         place_at: place,
         status: Status::Waiting,
+    }
+}
+
+/// Where the load is picked or dropped.
+fn stop_station(kind: ActKind, job: &Job) -> Name
+    ensures { result ≡ stop_station kind job.now }
+{
+    match kind {
+        ActKind::Pick => job.origin,
+        ActKind::Drop => job.target,
     }
 }

@@ -9,50 +9,20 @@ use crate::status::is_waiting;
 use crate::{Act, Trip, is_drop, is_final, is_finished};
 use agv_header::Name;
 
-/// Whether the load of this job was picked.
-fn is_picked(acts: &[Act], job: Name) -> bool
-    ensures { result ≡ is_picked acts.now job }
-{
-    acts.iter().any(|act| !is_drop(act.kind) && is_finished(act.status) && act.job == job)
-}
-
-/// Whether the act is a finished drop only where its job's load was picked.
-fn is_in_turn(acts: &[Act], act: &Act) -> bool
-    ensures { result ≡ is_in_turn acts.now act.now }
-{
-    !(is_drop(act.kind) && is_finished(act.status)) || is_picked(acts, act.job)
-}
-
-/// Whether each act is a finished drop only where its job's load was picked.
-fn are_in_turn(acts: &[Act]) -> bool
-    ensures { result ≡ list_all (is_in_turn acts.now) acts.now }
-{
-    acts.iter().all(|act| is_in_turn(acts, act))
-}
-
-/// Whether each act is finished only where the vehicle has reached its node.
-fn are_reached(seen: u32, acts: &[Act]) -> bool
-    ensures { result ≡ list_all (is_reached seen) acts.now }
-{
-    acts.iter()
-        .all(|act| !is_finished(act.status) || act.place_at <= seen)
-}
-
-/// Whether no act has begun.
-fn have_not_begun(acts: &[Act]) -> bool
-    ensures { result ≡ list_all has_not_begun acts.now }
-{
-    acts.iter().all(|act| is_waiting(act.status))
-}
-
-/// Whether each act is over.
-fn are_over(acts: &[Act]) -> bool
-    ensures { result ≡ list_all is_over acts.now }
-{
-    acts.iter().all(|act| is_final(act.status))
-}
-
 impl Trip {
+    /// Whether the trip is under way.
+    pub(crate) fn is_under_way(&self) -> bool
+        ensures { result ≡ is_under_way self.now }
+    {
+        let acts = self.acts.as_slice();
+        self.is_in_base()
+            && self.is_growing()
+            && self.is_confirmed()
+            && are_reached(self.seen, acts)
+            && are_in_turn(acts)
+            && !self.has_ended()
+    }
+
     /// Whether what was seen and sent lies within the base, and the base within the way.
     fn is_in_base(&self) -> bool
         ensures { result ≡ is_in_base self.now }
@@ -98,17 +68,47 @@ impl Trip {
     {
         self.seen as usize == self.edges.len() && are_over(self.acts.as_slice())
     }
+}
 
-    /// Whether the trip is under way.
-    pub(crate) fn is_under_way(&self) -> bool
-        ensures { result ≡ is_under_way self.now }
-    {
-        let acts = self.acts.as_slice();
-        self.is_in_base()
-            && self.is_growing()
-            && self.is_confirmed()
-            && are_reached(self.seen, acts)
-            && are_in_turn(acts)
-            && !self.has_ended()
-    }
+/// Whether each act is finished only where the vehicle has reached its node.
+fn are_reached(seen: u32, acts: &[Act]) -> bool
+    ensures { result ≡ list_all (is_reached seen) acts.now }
+{
+    acts.iter()
+        .all(|act| !is_finished(act.status) || act.place_at <= seen)
+}
+
+/// Whether each act is a finished drop only where its job's load was picked.
+fn are_in_turn(acts: &[Act]) -> bool
+    ensures { result ≡ list_all (is_in_turn acts.now) acts.now }
+{
+    acts.iter().all(|act| is_in_turn(acts, act))
+}
+
+/// Whether the act is a finished drop only where its job's load was picked.
+fn is_in_turn(acts: &[Act], act: &Act) -> bool
+    ensures { result ≡ is_in_turn acts.now act.now }
+{
+    !(is_drop(act.kind) && is_finished(act.status)) || is_picked(acts, act.job)
+}
+
+/// Whether the load of this job was picked.
+fn is_picked(acts: &[Act], job: Name) -> bool
+    ensures { result ≡ is_picked acts.now job }
+{
+    acts.iter().any(|act| !is_drop(act.kind) && is_finished(act.status) && act.job == job)
+}
+
+/// Whether no act has begun.
+fn have_not_begun(acts: &[Act]) -> bool
+    ensures { result ≡ list_all has_not_begun acts.now }
+{
+    acts.iter().all(|act| is_waiting(act.status))
+}
+
+/// Whether each act is over.
+fn are_over(acts: &[Act]) -> bool
+    ensures { result ≡ list_all is_over acts.now }
+{
+    acts.iter().all(|act| is_final(act.status))
 }

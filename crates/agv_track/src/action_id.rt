@@ -14,6 +14,32 @@ pub(crate) enum ActionId {
     Instant { number: u32 },
 }
 
+impl ActionId {
+    // Whether a message that has this text means the action.
+    pub(crate) fn is(self, text: &str) -> bool
+        ensures { result ≡ pointwise nat_eq text.now (id_text self) }
+    {
+        let text = text.as_bytes();
+        match self {
+            ActionId::Act { order, n } => match text.strip_prefix(order.as_bytes()) {
+                Some(rest) => is_numbered(rest, b".", n),
+                None => false,
+            },
+            ActionId::Instant { number } => is_numbered(text, b"instant-", number as usize),
+        }
+    }
+}
+
+// Whether the text is the prefix and then the number.
+fn is_numbered(text: &[u8], prefix: &[u8], number: usize) -> bool
+    ensures { result ≡ pointwise nat_eq text.now (prefix.now ++ decimal number) }
+{
+    match text.strip_prefix(prefix) {
+        Some(digits) => is_decimal(digits, number),
+        None => false,
+    }
+}
+
 // Whether these are the decimal digits of the number.
 fn is_decimal(digits: &[u8], number: usize) -> bool
     ensures { result ≡ pointwise nat_eq digits.now (decimal number) }
@@ -28,31 +54,5 @@ fn is_decimal(digits: &[u8], number: usize) -> bool
         front.is_empty()
     } else {
         is_decimal(front, number / 10)
-    }
-}
-
-// Whether the text is the prefix and then the number.
-fn is_numbered(text: &[u8], prefix: &[u8], number: usize) -> bool
-    ensures { result ≡ pointwise nat_eq text.now (prefix.now ++ decimal number) }
-{
-    match text.strip_prefix(prefix) {
-        Some(digits) => is_decimal(digits, number),
-        None => false,
-    }
-}
-
-impl ActionId {
-    // Whether a message that has this text means the action.
-    pub(crate) fn is(self, text: &str) -> bool
-        ensures { result ≡ pointwise nat_eq text.now (id_text self) }
-    {
-        let text = text.as_bytes();
-        match self {
-            ActionId::Act { order, n } => match text.strip_prefix(order.as_bytes()) {
-                Some(rest) => is_numbered(rest, b".", n),
-                None => false,
-            },
-            ActionId::Instant { number } => is_numbered(text, b"instant-", number as usize),
-        }
     }
 }

@@ -12,27 +12,30 @@ use agv_layout::Edge;
 use agv_order::Trip;
 use std::alloc::Global;
 
-// The edges after node `seen` up to node `base`.
-fn released_edges(trip: &Trip) -> &[Edge]
-    ensures { result.now ≡ released_edges trip.now }
+/// What the vehicle holds, each node and edge once, in the order of its way.
+///
+/// Without an open order that is its node, and the edge and the node of its rest. With one it is the
+/// node that it has reached last, and every node and edge after it up to the last one that is
+/// released; one that the way comes back to stands where it comes first.
+///
+/// `Memory` for want of memory alone. It takes time in proportion to the way, times its logarithm.
+pub fn footprint(alloc: Global, standing: &Standing) -> Result<Vec<Thing>, Memory>
+    ensures { IfOk result (λ things. things.items ≡ footprint_of standing.now) }
 {
-    let edges = trip.edges.as_slice();
-    let from = edges.len().min(trip.seen as usize);
-    let rest = &edges[from..];
-    let count = rest.len().min(trip.base.saturating_sub(trip.seen) as usize);
-    &rest[..count]
+    let mut held = OrderedSet::new(alloc);
+    add_standing(&mut held, standing)?;
+    Ok(held.things)
 }
 
-// Adds the edges, each with the node where it leads.
-fn add_edges(held: &mut OrderedSet, edges: &[Edge]) -> Result<(), Memory>
+// Adds what the vehicle holds.
+fn add_standing(held: &mut OrderedSet, standing: &Standing) -> Result<(), Memory>
     requires { KnowsAll held.old }
-    ensures added { OnOk result (held.new.things.items ≡ with_things held.old.things.items (along edges.now)) }
+    ensures added { OnOk result (held.new.things.items ≡ with_things held.old.things.items (things_by standing.now.node standing.now.rest standing.now.trip)) }
 {
-    for edge in edges {
-        held.add(&Thing::Edge(edge.id))?;
-        held.add(&Thing::Node(edge.finish))?;
+    match &standing.trip {
+        Some(trip) => add_trip(held, trip),
+        None => add_rest(held, standing.node, standing.rest),
     }
-    Ok(())
 }
 
 // Adds what a vehicle on the trip holds.
@@ -47,6 +50,29 @@ fn add_trip(held: &mut OrderedSet, trip: &Trip) -> Result<(), Memory>
     add_edges(held, released_edges(trip))
 }
 
+// Adds the edges, each with the node where it leads.
+fn add_edges(held: &mut OrderedSet, edges: &[Edge]) -> Result<(), Memory>
+    requires { KnowsAll held.old }
+    ensures added { OnOk result (held.new.things.items ≡ with_things held.old.things.items (along edges.now)) }
+{
+    for edge in edges {
+        held.add(&Thing::Edge(edge.id))?;
+        held.add(&Thing::Node(edge.finish))?;
+    }
+    Ok(())
+}
+
+// The edges after node `seen` up to node `base`.
+fn released_edges(trip: &Trip) -> &[Edge]
+    ensures { result.now ≡ released_edges trip.now }
+{
+    let edges = trip.edges.as_slice();
+    let from = edges.len().min(trip.seen as usize);
+    let rest = &edges[from..];
+    let count = rest.len().min(trip.base.saturating_sub(trip.seen) as usize);
+    &rest[..count]
+}
+
 // Adds what a vehicle without a trip holds.
 fn add_rest(held: &mut OrderedSet, node: Name, rest: Option<(Name, Name)>) -> Result<(), Memory>
     requires { KnowsAll held.old }
@@ -58,30 +84,4 @@ fn add_rest(held: &mut OrderedSet, node: Name, rest: Option<(Name, Name)>) -> Re
         held.add(&Thing::Node(finish))?;
     }
     Ok(())
-}
-
-// Adds what the vehicle holds.
-fn add_standing(held: &mut OrderedSet, standing: &Standing) -> Result<(), Memory>
-    requires { KnowsAll held.old }
-    ensures added { OnOk result (held.new.things.items ≡ with_things held.old.things.items (things_by standing.now.node standing.now.rest standing.now.trip)) }
-{
-    match &standing.trip {
-        Some(trip) => add_trip(held, trip),
-        None => add_rest(held, standing.node, standing.rest),
-    }
-}
-
-/// What the vehicle holds, each node and edge once, in the order of its way.
-///
-/// Without an open order that is its node, and the edge and the node of its rest. With one it is the
-/// node that it has reached last, and every node and edge after it up to the last one that is
-/// released; one that the way comes back to stands where it comes first.
-///
-/// `Memory` for want of memory alone. It takes time in proportion to the way, times its logarithm.
-pub fn footprint(alloc: Global, standing: &Standing) -> Result<Vec<Thing>, Memory>
-    ensures { IfOk result (λ things. things.items ≡ footprint_of standing.now) }
-{
-    let mut held = OrderedSet::new(alloc);
-    add_standing(&mut held, standing)?;
-    Ok(held.things)
 }

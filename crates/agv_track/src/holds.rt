@@ -50,88 +50,6 @@ impl HoldTable {
         self.holders.get(thing).copied()
     }
 
-    // The vehicle holds the thing from now on, whoever held it.
-    fn put(&mut self, thing: Thing, key: VehicleKey) -> Result<(), Memory>
-        ensures ok { OnOk result (self.new ≡ map.insert self.old thing key) }
-        ensures err { OnErr result (self.new ≡ self.old) }
-    {
-        self.holders.insert(thing, key)?;
-        Ok(())
-    }
-
-    // Nobody holds the thing from now on.
-    fn free(&mut self, thing: &Thing)
-        ensures { self.new ≡ map.remove self.old thing.now }
-    {
-        self.holders.remove(thing);
-    }
-
-    // The vehicle that holds the thing, where it is another one than this.
-    fn other_holder(&self, key: &VehicleKey, thing: &Thing) -> Option<VehicleKey>
-        ensures { result ≡ other_holder key.now (map.get self.now thing.now) }
-    {
-        let by = self.holder(thing)?;
-        if by == *key { None } else { Some(by) }
-    }
-
-    // The first thing of the list that another vehicle holds, and that vehicle.
-    fn first_held(&self, key: &VehicleKey, things: &[Thing]) -> Option<(Thing, VehicleKey)>
-        ensures { result ≡ first_held self.now key.now things.now }
-    {
-        for thing in things {
-            if let Some(by) = self.other_holder(key, thing) {
-                return Some((*thing, by));
-            }
-        }
-        None
-    }
-
-    // The things of the list that nobody holds.
-    fn unheld(&self, things: &[Thing]) -> Result<Vec<Thing>, Memory>
-        ensures { IfOk result (λ unheld. unheld.items ≡ unheld_of self.now things.now) }
-    {
-        let mut unheld = Vec::new(self.alloc);
-        for thing in things {
-            if self.holder(thing).is_none() {
-                unheld.push(*thing)?;
-            }
-        }
-        Ok(unheld)
-    }
-
-    // Nobody holds any of the things from now on.
-    fn free_all(&mut self, things: &[Thing])
-        ensures { (thing : Held) → map.get self.new thing ≡ cond (is_in thing things.now) None (map.get self.old thing) }
-    {
-        for thing in things {
-            self.free(thing);
-        }
-    }
-
-    // The vehicle holds each of the things; after an error it holds some of them.
-    fn put_all(&mut self, key: &VehicleKey, things: &[Thing]) -> Result<(), Memory>
-        ensures ok { OnOk result (self.new ≡ claimed self.old key.now things.now) }
-        ensures err { OnErr result ((thing : Held) → is_in thing things.now ≡ false → map.get self.new thing ≡ map.get self.old thing) }
-    {
-        for thing in things {
-            self.put(*thing, *key)?;
-        }
-        Ok(())
-    }
-
-    // The vehicle gets the things, which nobody holds, or none of them.
-    fn put_all_or_none(&mut self, key: &VehicleKey, things: &[Thing]) -> Result<(), Memory>
-        requires { (thing : Held) → is_in thing things.now ≡ true → map.get self.old thing ≡ None }
-        ensures ok { OnOk result (self.new ≡ claimed self.old key.now things.now) }
-        ensures err { OnErr result (self.new ≡ self.old) }
-    {
-        let done = self.put_all(key, things);
-        if done.is_err() {
-            self.free_all(things);
-        }
-        done
-    }
-
     /// Gives the things to the vehicle; what it holds already it keeps. A thing may stand twice in the list.
     ///
     /// - `Held` where another vehicle holds one of them: the first one in the list, and that vehicle. This
@@ -155,18 +73,79 @@ impl HoldTable {
         Ok(())
     }
 
-    // Whether the vehicle holds the thing.
-    fn is_own(&self, key: &VehicleKey, thing: &Thing) -> bool
-        ensures { result ≡ is_own key.now (map.get self.now thing.now) }
+    // The first thing of the list that another vehicle holds, and that vehicle.
+    fn first_held(&self, key: &VehicleKey, things: &[Thing]) -> Option<(Thing, VehicleKey)>
+        ensures { result ≡ first_held self.now key.now things.now }
     {
-        self.holder(thing).is_some_and(|by| by == *key)
+        for thing in things {
+            if let Some(by) = self.other_holder(key, thing) {
+                return Some((*thing, by));
+            }
+        }
+        None
     }
 
-    // Whether the vehicle holds the thing, and is not to keep it.
-    fn gives_up(&self, key: &VehicleKey, thing: &Thing, new: &[Thing]) -> bool
-        ensures { result ≡ (is_own key.now (map.get self.now thing.now) && not (is_in thing.now new.now)) }
+    // The vehicle that holds the thing, where it is another one than this.
+    fn other_holder(&self, key: &VehicleKey, thing: &Thing) -> Option<VehicleKey>
+        ensures { result ≡ other_holder key.now (map.get self.now thing.now) }
     {
-        self.is_own(key, thing) && !new.contains(thing)
+        let by = self.holder(thing)?;
+        if by == *key { None } else { Some(by) }
+    }
+
+    // The things of the list that nobody holds.
+    fn unheld(&self, things: &[Thing]) -> Result<Vec<Thing>, Memory>
+        ensures { IfOk result (λ unheld. unheld.items ≡ unheld_of self.now things.now) }
+    {
+        let mut unheld = Vec::new(self.alloc);
+        for thing in things {
+            if self.holder(thing).is_none() {
+                unheld.push(*thing)?;
+            }
+        }
+        Ok(unheld)
+    }
+
+    // The vehicle gets the things, which nobody holds, or none of them.
+    fn put_all_or_none(&mut self, key: &VehicleKey, things: &[Thing]) -> Result<(), Memory>
+        requires { (thing : Held) → is_in thing things.now ≡ true → map.get self.old thing ≡ None }
+        ensures ok { OnOk result (self.new ≡ claimed self.old key.now things.now) }
+        ensures err { OnErr result (self.new ≡ self.old) }
+    {
+        let done = self.put_all(key, things);
+        if done.is_err() {
+            self.free_all(things);
+        }
+        done
+    }
+
+    // The vehicle holds each of the things; after an error it holds some of them.
+    fn put_all(&mut self, key: &VehicleKey, things: &[Thing]) -> Result<(), Memory>
+        ensures ok { OnOk result (self.new ≡ claimed self.old key.now things.now) }
+        ensures err { OnErr result ((thing : Held) → is_in thing things.now ≡ false → map.get self.new thing ≡ map.get self.old thing) }
+    {
+        for thing in things {
+            self.put(*thing, *key)?;
+        }
+        Ok(())
+    }
+
+    // The vehicle holds the thing from now on, whoever held it.
+    fn put(&mut self, thing: Thing, key: VehicleKey) -> Result<(), Memory>
+        ensures ok { OnOk result (self.new ≡ map.insert self.old thing key) }
+        ensures err { OnErr result (self.new ≡ self.old) }
+    {
+        self.holders.insert(thing, key)?;
+        Ok(())
+    }
+
+    // Nobody holds any of the things from now on.
+    fn free_all(&mut self, things: &[Thing])
+        ensures { (thing : Held) → map.get self.new thing ≡ cond (is_in thing things.now) None (map.get self.old thing) }
+    {
+        for thing in things {
+            self.free(thing);
+        }
     }
 
     /// Takes from the vehicle what it holds that is in the old list and not in the new one. All else stays as
@@ -182,5 +161,26 @@ impl HoldTable {
                 self.free(thing);
             }
         }
+    }
+
+    // Whether the vehicle holds the thing, and is not to keep it.
+    fn gives_up(&self, key: &VehicleKey, thing: &Thing, new: &[Thing]) -> bool
+        ensures { result ≡ (is_own key.now (map.get self.now thing.now) && not (is_in thing.now new.now)) }
+    {
+        self.is_own(key, thing) && !new.contains(thing)
+    }
+
+    // Whether the vehicle holds the thing.
+    fn is_own(&self, key: &VehicleKey, thing: &Thing) -> bool
+        ensures { result ≡ is_own key.now (map.get self.now thing.now) }
+    {
+        self.holder(thing).is_some_and(|by| by == *key)
+    }
+
+    // Nobody holds the thing from now on.
+    fn free(&mut self, thing: &Thing)
+        ensures { self.new ≡ map.remove self.old thing.now }
+    {
+        self.holders.remove(thing);
     }
 }

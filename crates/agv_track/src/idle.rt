@@ -7,13 +7,6 @@ use crate::reports::{has_pending_twice, is_pending_over};
 use agv_header::{Name, Refusal};
 use agv_message::StateMessage;
 
-// Whether the last node is the one where the desk has the vehicle, or the vehicle knows none.
-fn may_stand(node: Name, last_node: &str) -> bool
-    ensures { result ≡ may_stand node last_node.now }
-{
-    last_node.is_empty() || node.as_str() == last_node
-}
-
 /// What a state says of a vehicle that has no open order, or has not taken it yet and speaks of an
 /// earlier one: whether the pending action is over, well or not. It takes no memory.
 ///
@@ -36,4 +29,11 @@ pub fn judge_idle(
         return Err(Refusal::NotThere);
     }
     Ok(is_pending_over(pending, state))
+}
+
+// Whether the last node is the one where the desk has the vehicle, or the vehicle knows none.
+fn may_stand(node: Name, last_node: &str) -> bool
+    ensures { result ≡ may_stand node last_node.now }
+{
+    last_node.is_empty() || node.as_str() == last_node
 }

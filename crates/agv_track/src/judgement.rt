@@ -17,149 +17,6 @@ use agv_header::{Name, Refusal};
 use agv_message::{StateMessage, Status};
 use agv_order::Trip;
 
-// Whether the state lists the id of an act, or that of the pending action, twice.
-fn is_twice(trip: &Trip, pending: Option<Pending>, state: &StateMessage) -> bool
-    ensures { result ≡ (has_act_twice state.now.actions trip.now.order trip.now.acts || has_pending_twice state.now.actions pending) }
-{
-    has_act_twice(trip, state) || has_pending_twice(pending, state)
-}
-
-// Whether some act would go back. The statuses are those after the state, as below.
-fn some_go_back(trip: &Trip, state: &StateMessage, statuses: &[Status]) -> bool
-    requires { AreNew trip.now state.now statuses.now }
-    ensures { result ≡ list_any goes_back (zip trip.now.acts (new_statuses trip.now state.now)) }
-{
-    goes_back(trip.acts.as_slice(), statuses)
-}
-
-// Whether some act would be finished before the vehicle has reached its node.
-fn some_are_early(trip: &Trip, state: &StateMessage, statuses: &[Status]) -> bool
-    requires { AreNew trip.now state.now statuses.now }
-    ensures { result ≡ not (list_all (is_reached (reported_node state.now)) (new_acts trip.now state.now)) }
-{
-    !are_reached(reported_node(state), trip.acts.as_slice(), statuses)
-}
-
-// Whether some drop would be finished before its pick.
-fn some_drop_is_first(trip: &Trip, state: &StateMessage, statuses: &[Status]) -> bool
-    requires { AreNew trip.now state.now statuses.now }
-    ensures { result ≡ not (list_all (is_in_turn (new_acts trip.now state.now)) (new_acts trip.now state.now)) }
-{
-    !are_in_turn(trip.acts.as_slice(), statuses)
-}
-
-// Whether some act would run.
-fn some_run(trip: &Trip, state: &StateMessage, statuses: &[Status]) -> bool
-    requires { AreNew trip.now state.now statuses.now }
-    ensures { result ≡ list_any is_running (new_acts trip.now state.now) }
-{
-    is_running(trip.acts.as_slice(), statuses)
-}
-
-// Whether each act would be over.
-fn all_are_over(trip: &Trip, state: &StateMessage, statuses: &[Status]) -> bool
-    requires { AreNew trip.now state.now statuses.now }
-    ensures { result ≡ list_all is_over (new_acts trip.now state.now) }
-{
-    are_over(trip.acts.as_slice(), statuses)
-}
-
-// How the trip would end.
-fn end_of(trip: &Trip, state: &StateMessage, statuses: &[Status]) -> End
-    requires { AreNew trip.now state.now statuses.now }
-    ensures { result ≡ end_by (new_acts trip.now state.now) }
-{
-    if are_carried_out(trip.acts.as_slice(), statuses) {
-        End::Done
-    } else {
-        End::Stopped
-    }
-}
-
-// The first refusal of the actions that the state lists.
-#[tactic(auto, unfolding(crate::specs::Judgements::act_refusals))]
-fn act_refusal(
-    trip: &Trip,
-    pending: Option<Pending>,
-    state: &StateMessage,
-    statuses: &[Status],
-) -> Option<Refusal>
-    requires { AreNew trip.now state.now statuses.now }
-    ensures { result ≡ first_of (act_refusals trip.now pending state.now) }
-{
-    if is_twice(trip, pending, state) {
-        return Some(Refusal::ActionTwice);
-    }
-    if some_go_back(trip, state, statuses) {
-        return Some(Refusal::ActionBackwards);
-    }
-    if some_are_early(trip, state, statuses) {
-        return Some(Refusal::ActionEarly);
-    }
-    if some_drop_is_first(trip, state, statuses) {
-        return Some(Refusal::DropFirst);
-    }
-    if is_cancelled(pending, state) && some_run(trip, state, statuses) {
-        return Some(Refusal::CancelEarly);
-    }
-    None
-}
-
-// Whether the last node would be reached and each act over.
-fn is_through(trip: &Trip, state: &StateMessage, statuses: &[Status]) -> bool
-    requires { AreNew trip.now state.now statuses.now }
-    ensures { result ≡ is_through trip.now state.now }
-{
-    reported_node(state) as usize == trip.edges.len() && all_are_over(trip, state, statuses)
-}
-
-// How the trip ends, where it does.
-fn end_after(
-    trip: &Trip,
-    pending: Option<Pending>,
-    state: &StateMessage,
-    statuses: &[Status],
-) -> Option<End>
-    requires { AreNew trip.now state.now statuses.now }
-    ensures { result ≡ end_after trip.now pending state.now }
-{
-    if is_through(trip, state, statuses) {
-        Some(end_of(trip, state, statuses))
-    } else if is_cancelled(pending, state) {
-        Some(End::Stopped)
-    } else {
-        None
-    }
-}
-
-// The edge after node k and the node where it leads, where they are released.
-fn next_of(trip: &Trip, k: u32) -> Option<(Name, Name)>
-    ensures { result ≡ next_of trip.now k }
-{
-    if k >= trip.base {
-        return None;
-    }
-    let edge = trip.edges.as_slice().get(k as usize)?;
-    Some((edge.id, edge.finish))
-}
-
-// Where a vehicle whose order is cancelled may stand.
-fn rest_after(
-    trip: &Trip,
-    pending: Option<Pending>,
-    state: &StateMessage,
-    statuses: &[Status],
-) -> Option<(Name, Name)>
-    requires { AreNew trip.now state.now statuses.now }
-    ensures { result ≡ rest_after trip.now pending state.now }
-{
-    if !is_through(trip, state, statuses) && is_cancelled(pending, state) {
-        next_of(trip, reported_node(state))
-    } else {
-        None
-    }
-}
-
 /// What a state says of the trip of its vehicle, where it is a state of the trip's order. It takes
 /// no memory.
 ///
@@ -202,4 +59,147 @@ pub fn judge(
         end: end_after(trip, pending, state, &statuses),
         rest: rest_after(trip, pending, state, &statuses),
     })
+}
+
+// The first refusal of the actions that the state lists.
+#[tactic(auto, unfolding(crate::specs::Judgements::act_refusals))]
+fn act_refusal(
+    trip: &Trip,
+    pending: Option<Pending>,
+    state: &StateMessage,
+    statuses: &[Status],
+) -> Option<Refusal>
+    requires { AreNew trip.now state.now statuses.now }
+    ensures { result ≡ first_of (act_refusals trip.now pending state.now) }
+{
+    if is_twice(trip, pending, state) {
+        return Some(Refusal::ActionTwice);
+    }
+    if some_go_back(trip, state, statuses) {
+        return Some(Refusal::ActionBackwards);
+    }
+    if some_are_early(trip, state, statuses) {
+        return Some(Refusal::ActionEarly);
+    }
+    if some_drop_is_first(trip, state, statuses) {
+        return Some(Refusal::DropFirst);
+    }
+    if is_cancelled(pending, state) && some_run(trip, state, statuses) {
+        return Some(Refusal::CancelEarly);
+    }
+    None
+}
+
+// Whether the state lists the id of an act, or that of the pending action, twice.
+fn is_twice(trip: &Trip, pending: Option<Pending>, state: &StateMessage) -> bool
+    ensures { result ≡ (has_act_twice state.now.actions trip.now.order trip.now.acts || has_pending_twice state.now.actions pending) }
+{
+    has_act_twice(trip, state) || has_pending_twice(pending, state)
+}
+
+// Whether some act would go back. The statuses are those after the state, as below.
+fn some_go_back(trip: &Trip, state: &StateMessage, statuses: &[Status]) -> bool
+    requires { AreNew trip.now state.now statuses.now }
+    ensures { result ≡ list_any goes_back (zip trip.now.acts (new_statuses trip.now state.now)) }
+{
+    goes_back(trip.acts.as_slice(), statuses)
+}
+
+// Whether some act would be finished before the vehicle has reached its node.
+fn some_are_early(trip: &Trip, state: &StateMessage, statuses: &[Status]) -> bool
+    requires { AreNew trip.now state.now statuses.now }
+    ensures { result ≡ not (list_all (is_reached (reported_node state.now)) (new_acts trip.now state.now)) }
+{
+    !are_reached(reported_node(state), trip.acts.as_slice(), statuses)
+}
+
+// Whether some drop would be finished before its pick.
+fn some_drop_is_first(trip: &Trip, state: &StateMessage, statuses: &[Status]) -> bool
+    requires { AreNew trip.now state.now statuses.now }
+    ensures { result ≡ not (list_all (is_in_turn (new_acts trip.now state.now)) (new_acts trip.now state.now)) }
+{
+    !are_in_turn(trip.acts.as_slice(), statuses)
+}
+
+// Whether some act would run.
+fn some_run(trip: &Trip, state: &StateMessage, statuses: &[Status]) -> bool
+    requires { AreNew trip.now state.now statuses.now }
+    ensures { result ≡ list_any is_running (new_acts trip.now state.now) }
+{
+    is_running(trip.acts.as_slice(), statuses)
+}
+
+// How the trip ends, where it does.
+fn end_after(
+    trip: &Trip,
+    pending: Option<Pending>,
+    state: &StateMessage,
+    statuses: &[Status],
+) -> Option<End>
+    requires { AreNew trip.now state.now statuses.now }
+    ensures { result ≡ end_after trip.now pending state.now }
+{
+    if is_through(trip, state, statuses) {
+        Some(end_of(trip, state, statuses))
+    } else if is_cancelled(pending, state) {
+        Some(End::Stopped)
+    } else {
+        None
+    }
+}
+
+// Whether the last node would be reached and each act over.
+fn is_through(trip: &Trip, state: &StateMessage, statuses: &[Status]) -> bool
+    requires { AreNew trip.now state.now statuses.now }
+    ensures { result ≡ is_through trip.now state.now }
+{
+    reported_node(state) as usize == trip.edges.len() && all_are_over(trip, state, statuses)
+}
+
+// Whether each act would be over.
+fn all_are_over(trip: &Trip, state: &StateMessage, statuses: &[Status]) -> bool
+    requires { AreNew trip.now state.now statuses.now }
+    ensures { result ≡ list_all is_over (new_acts trip.now state.now) }
+{
+    are_over(trip.acts.as_slice(), statuses)
+}
+
+// How the trip would end.
+fn end_of(trip: &Trip, state: &StateMessage, statuses: &[Status]) -> End
+    requires { AreNew trip.now state.now statuses.now }
+    ensures { result ≡ end_by (new_acts trip.now state.now) }
+{
+    if are_carried_out(trip.acts.as_slice(), statuses) {
+        End::Done
+    } else {
+        End::Stopped
+    }
+}
+
+// Where a vehicle whose order is cancelled may stand.
+fn rest_after(
+    trip: &Trip,
+    pending: Option<Pending>,
+    state: &StateMessage,
+    statuses: &[Status],
+) -> Option<(Name, Name)>
+    requires { AreNew trip.now state.now statuses.now }
+    ensures { result ≡ rest_after trip.now pending state.now }
+{
+    if !is_through(trip, state, statuses) && is_cancelled(pending, state) {
+        next_of(trip, reported_node(state))
+    } else {
+        None
+    }
+}
+
+// The edge after node k and the node where it leads, where they are released.
+fn next_of(trip: &Trip, k: u32) -> Option<(Name, Name)>
+    ensures { result ≡ next_of trip.now k }
+{
+    if k >= trip.base {
+        return None;
+    }
+    let edge = trip.edges.as_slice().get(k as usize)?;
+    Some((edge.id, edge.finish))
 }

@@ -7,13 +7,6 @@ use agv_header::Refusal;
 use agv_message::StateMessage;
 use agv_order::Trip;
 
-// Whether node 0 is still to be traversed.
-fn is_at_start(state: &StateMessage) -> bool
-    ensures { result ≡ is_at_start state.now }
-{
-    state.node_seqs.as_slice().iter().any(|seq| *seq == 0)
-}
-
 // The place on the way that the vehicle has reached.
 pub(crate) fn reported_node(state: &StateMessage) -> u32
     ensures { result ≡ reported_node state.now }
@@ -22,47 +15,6 @@ pub(crate) fn reported_node(state: &StateMessage) -> u32
         0
     } else {
         state.last_seq / 2
-    }
-}
-
-// Whether the number is that of a node of the trip, and the name is the node's.
-fn names_node(trip: &Trip, state: &StateMessage) -> bool
-    ensures { result ≡ names_node trip.now state.now }
-{
-    if state.last_seq % 2 != 0 {
-        return false;
-    }
-    match trip.node_at(state.last_seq / 2) {
-        Some(name) => name.as_str() == state.last_node.as_str(),
-        None => false,
-    }
-}
-
-// Whether the state names a node of the trip.
-fn is_our_node(trip: &Trip, state: &StateMessage) -> bool
-    ensures { result ≡ is_our_node trip.now state.now }
-{
-    is_at_start(state) || names_node(trip, state)
-}
-
-// Whether the update is before the confirmed one.
-fn is_before(update: u32, confirmed: Option<u32>) -> bool
-    ensures { result ≡ is_before update confirmed }
-{
-    match confirmed {
-        Some(confirmed) => update < confirmed,
-        None => false,
-    }
-}
-
-// The place of the last node that is released for a vehicle which has this update.
-fn base_of(trip: &Trip, update: u32) -> u32
-    ensures { result ≡ base_of trip.now update }
-{
-    if update == trip.sent {
-        trip.base
-    } else {
-        trip.first
     }
 }
 
@@ -87,4 +39,52 @@ pub(crate) fn way_refusal(trip: &Trip, state: &StateMessage) -> Option<Refusal>
         return Some(Refusal::BeyondBase);
     }
     None
+}
+
+// Whether the update is before the confirmed one.
+fn is_before(update: u32, confirmed: Option<u32>) -> bool
+    ensures { result ≡ is_before update confirmed }
+{
+    match confirmed {
+        Some(confirmed) => update < confirmed,
+        None => false,
+    }
+}
+
+// Whether the state names a node of the trip.
+fn is_our_node(trip: &Trip, state: &StateMessage) -> bool
+    ensures { result ≡ is_our_node trip.now state.now }
+{
+    is_at_start(state) || names_node(trip, state)
+}
+
+// Whether node 0 is still to be traversed.
+fn is_at_start(state: &StateMessage) -> bool
+    ensures { result ≡ is_at_start state.now }
+{
+    state.node_seqs.as_slice().iter().any(|seq| *seq == 0)
+}
+
+// Whether the number is that of a node of the trip, and the name is the node's.
+fn names_node(trip: &Trip, state: &StateMessage) -> bool
+    ensures { result ≡ names_node trip.now state.now }
+{
+    if state.last_seq % 2 != 0 {
+        return false;
+    }
+    match trip.node_at(state.last_seq / 2) {
+        Some(name) => name.as_str() == state.last_node.as_str(),
+        None => false,
+    }
+}
+
+// The place of the last node that is released for a vehicle which has this update.
+fn base_of(trip: &Trip, update: u32) -> u32
+    ensures { result ≡ base_of trip.now update }
+{
+    if update == trip.sent {
+        trip.base
+    } else {
+        trip.first
+    }
 }

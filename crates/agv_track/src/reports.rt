@@ -9,25 +9,6 @@ use crate::action_id::ActionId;
 use agv_message::{InstantKind, StateMessage, Status, Text};
 use agv_order::Trip;
 
-// Whether the id stands twice or more.
-fn is_twice(reports: &[(Text, Status)], id: ActionId) -> bool
-    ensures { result ≡ is_twice reports.now (id_text id) }
-{
-    reports
-        .iter()
-        .filter(|report| id.is(report.0.as_str()))
-        .count()
-        > 1
-}
-
-// The status that is listed for the id.
-fn told(reports: &[(Text, Status)], id: ActionId) -> Option<Status>
-    ensures { result ≡ told reports.now (id_text id) }
-{
-    let report = reports.iter().find(|report| id.is(report.0.as_str()))?;
-    Some(report.1)
-}
-
 // Whether the id of some act stands twice.
 pub(crate) fn has_act_twice(trip: &Trip, state: &StateMessage) -> bool
     ensures { result ≡ has_act_twice state.now.actions trip.now.order trip.now.acts }
@@ -36,6 +17,17 @@ pub(crate) fn has_act_twice(trip: &Trip, state: &StateMessage) -> bool
     let reports = state.actions.as_slice();
     let mut acts = trip.acts.as_slice().iter().enumerate();
     acts.any(|(n, _)| is_twice(reports, ActionId::Act { order, n }))
+}
+
+// The statuses of the acts after the state, and Waiting up to eight.
+pub(crate) fn statuses_after(trip: &Trip, state: &StateMessage) -> [Status; 8]
+    ensures { result ≡ eight (new_statuses trip.now state.now) }
+{
+    let mut statuses = [Status::Waiting; 8];
+    for n in 0..8 {
+        statuses[n] = status_after(trip, state, n);
+    }
+    statuses
 }
 
 // The status of act n after the state; Waiting where there is no such act.
@@ -51,17 +43,6 @@ fn status_after(trip: &Trip, state: &StateMessage, n: usize) -> Status
     }
 }
 
-// The statuses of the acts after the state, and Waiting up to eight.
-pub(crate) fn statuses_after(trip: &Trip, state: &StateMessage) -> [Status; 8]
-    ensures { result ≡ eight (new_statuses trip.now state.now) }
-{
-    let mut statuses = [Status::Waiting; 8];
-    for n in 0..8 {
-        statuses[n] = status_after(trip, state, n);
-    }
-    statuses
-}
-
 // Whether the id of the pending action stands twice.
 pub(crate) fn has_pending_twice(pending: Option<Pending>, state: &StateMessage) -> bool
     ensures { result ≡ has_pending_twice state.now.actions pending }
@@ -75,12 +56,15 @@ pub(crate) fn has_pending_twice(pending: Option<Pending>, state: &StateMessage) 
     }
 }
 
-// The status of the pending action, if it is listed.
-fn pending_told(pending: Option<Pending>, state: &StateMessage) -> Option<Status>
-    ensures { result ≡ pending_told state.now.actions pending }
+// Whether the id stands twice or more.
+fn is_twice(reports: &[(Text, Status)], id: ActionId) -> bool
+    ensures { result ≡ is_twice reports.now (id_text id) }
 {
-    let number = pending?.number;
-    told(state.actions.as_slice(), ActionId::Instant { number })
+    reports
+        .iter()
+        .filter(|report| id.is(report.0.as_str()))
+        .count()
+        > 1
 }
 
 // Whether the pending action is listed as finished or failed.
@@ -93,6 +77,13 @@ pub(crate) fn is_pending_over(pending: Option<Pending>, state: &StateMessage) ->
     )
 }
 
+// Whether the pending cancelOrder is listed as finished.
+pub(crate) fn is_cancelled(pending: Option<Pending>, state: &StateMessage) -> bool
+    ensures { result ≡ is_cancelled state.now.actions pending }
+{
+    is_cancelling(pending) && matches!(pending_told(pending, state), Some(Status::Finished))
+}
+
 // Whether a cancelOrder is pending.
 fn is_cancelling(pending: Option<Pending>) -> bool
     ensures { result ≡ is_cancelling pending }
@@ -103,9 +94,18 @@ fn is_cancelling(pending: Option<Pending>) -> bool
     }
 }
 
-// Whether the pending cancelOrder is listed as finished.
-pub(crate) fn is_cancelled(pending: Option<Pending>, state: &StateMessage) -> bool
-    ensures { result ≡ is_cancelled state.now.actions pending }
+// The status of the pending action, if it is listed.
+fn pending_told(pending: Option<Pending>, state: &StateMessage) -> Option<Status>
+    ensures { result ≡ pending_told state.now.actions pending }
 {
-    is_cancelling(pending) && matches!(pending_told(pending, state), Some(Status::Finished))
+    let number = pending?.number;
+    told(state.actions.as_slice(), ActionId::Instant { number })
+}
+
+// The status that is listed for the id.
+fn told(reports: &[(Text, Status)], id: ActionId) -> Option<Status>
+    ensures { result ≡ told reports.now (id_text id) }
+{
+    let report = reports.iter().find(|report| id.is(report.0.as_str()))?;
+    Some(report.1)
 }

@@ -14,15 +14,6 @@ use agv_header::Name;
 use agv_message::Status;
 use agv_order::{Act, is_drop, is_final, is_finished, merge};
 
-fn is_active(status: Status) -> bool
-    ensures { result ≡ is_active status }
-{
-    matches!(
-        status,
-        Status::Initializing | Status::Running | Status::Paused
-    )
-}
-
 // Whether some new status can't follow the old one.
 pub(crate) fn goes_back(acts: &[Act], statuses: &[Status]) -> bool
     ensures { result ≡ list_any goes_back (zip acts.now statuses.now) }
@@ -30,13 +21,6 @@ pub(crate) fn goes_back(acts: &[Act], statuses: &[Status]) -> bool
     acts.iter()
         .zip(statuses)
         .any(|(act, status)| merge(act.status, *status).is_none())
-}
-
-// Whether the act is finished only where the vehicle has reached its node.
-fn is_reached(seen: u32, act: &Act, status: Status) -> bool
-    ensures { result ≡ is_reached seen (with_status (act.now, status)) }
-{
-    !is_finished(status) || act.place_at <= seen
 }
 
 // Whether each act is finished only where the vehicle has reached its node.
@@ -48,34 +32,11 @@ pub(crate) fn are_reached(seen: u32, acts: &[Act], statuses: &[Status]) -> bool
         .all(|(act, status)| is_reached(seen, act, *status))
 }
 
-// Whether the act is a finished pick of the job.
-fn is_pick_of(job: Name, act: &Act, status: Status) -> bool
-    ensures { result ≡ is_pick_of job (with_status (act.now, status)) }
+// Whether the act is finished only where the vehicle has reached its node.
+fn is_reached(seen: u32, act: &Act, status: Status) -> bool
+    ensures { result ≡ is_reached seen (with_status (act.now, status)) }
 {
-    !is_drop(act.kind) && is_finished(status) && act.job == job
-}
-
-// Whether the load of the job was picked.
-fn is_picked(job: Name, acts: &[Act], statuses: &[Status]) -> bool
-    ensures { result ≡ list_any (λ pair. is_pick_of job (with_status pair)) (zip acts.now statuses.now) }
-{
-    acts.iter()
-        .zip(statuses)
-        .any(|(act, status)| is_pick_of(job, act, *status))
-}
-
-// Whether the act is a finished drop.
-fn is_done_drop(act: &Act, status: Status) -> bool
-    ensures { result ≡ (is_drop act.now.kind && is_finished status) }
-{
-    is_drop(act.kind) && is_finished(status)
-}
-
-// Whether the act is a finished drop only where its job's load was picked.
-fn is_in_turn(acts: &[Act], statuses: &[Status], act: &Act, status: Status) -> bool
-    ensures { result ≡ is_in_turn (renewed acts.now statuses.now) (with_status (act.now, status)) }
-{
-    !is_done_drop(act, status) || is_picked(act.job, acts, statuses)
+    !is_finished(status) || act.place_at <= seen
 }
 
 // Whether each act is a finished drop only where its job's load was picked.
@@ -87,6 +48,36 @@ pub(crate) fn are_in_turn(acts: &[Act], statuses: &[Status]) -> bool
         .all(|(act, status)| is_in_turn(acts, statuses, act, *status))
 }
 
+// Whether the act is a finished drop only where its job's load was picked.
+fn is_in_turn(acts: &[Act], statuses: &[Status], act: &Act, status: Status) -> bool
+    ensures { result ≡ is_in_turn (renewed acts.now statuses.now) (with_status (act.now, status)) }
+{
+    !is_done_drop(act, status) || is_picked(act.job, acts, statuses)
+}
+
+// Whether the act is a finished drop.
+fn is_done_drop(act: &Act, status: Status) -> bool
+    ensures { result ≡ (is_drop act.now.kind && is_finished status) }
+{
+    is_drop(act.kind) && is_finished(status)
+}
+
+// Whether the load of the job was picked.
+fn is_picked(job: Name, acts: &[Act], statuses: &[Status]) -> bool
+    ensures { result ≡ list_any (λ pair. is_pick_of job (with_status pair)) (zip acts.now statuses.now) }
+{
+    acts.iter()
+        .zip(statuses)
+        .any(|(act, status)| is_pick_of(job, act, *status))
+}
+
+// Whether the act is a finished pick of the job.
+fn is_pick_of(job: Name, act: &Act, status: Status) -> bool
+    ensures { result ≡ is_pick_of job (with_status (act.now, status)) }
+{
+    !is_drop(act.kind) && is_finished(status) && act.job == job
+}
+
 // Whether an act is active: begun, and not over. The statuses are those of the acts.
 pub(crate) fn is_running(acts: &[Act], statuses: &[Status]) -> bool
     ensures { result ≡ list_any (λ pair. is_running (with_status pair)) (zip acts.now statuses.now) }
@@ -94,6 +85,15 @@ pub(crate) fn is_running(acts: &[Act], statuses: &[Status]) -> bool
     acts.iter()
         .zip(statuses)
         .any(|(_, status)| is_active(*status))
+}
+
+fn is_active(status: Status) -> bool
+    ensures { result ≡ is_active status }
+{
+    matches!(
+        status,
+        Status::Initializing | Status::Running | Status::Paused
+    )
 }
 
 // Whether each act is over.
