@@ -10,7 +10,7 @@ use Rattle.agv_layout.specs.declared.edge.Edge.{Edge}
 use Rattle.agv_message.specs.declared.order.OrderEdge.{OrderEdge}
 use Rattle.agv_message.specs.declared.order.OrderNode.{OrderNode}
 use Rattle.agv_order.specs.declared.trip.Trip.{Trip}
-use Rattle.agv_order.specs.declared.joining.Joined.TheVariants.{Taken}
+use Rattle.agv_order.specs.declared.joins.Joined.TheVariants.{Taken}
 use Rattle.agv_order.specs.Joins.{base_nodes, base_edges, front_of, is_same_node, is_stitched, stitched, join_of}
 use Rattle.agv_order.specs.Messages.{acts_at, order_node, order_edge, order_nodes, order_edges, whole_of, message_of}
 use Rattle.agv_order.specs.Releases.{CanRelease, released}

@@ -4,10 +4,10 @@ use Rattle.std.specs.Cmp.Lexicographic.{pointwise}
 use Rattle.agv_message.specs.declared.order.OrderEdge.{OrderEdge}
 use Rattle.agv_message.specs.declared.order.OrderMessage.{OrderMessage}
 use Rattle.agv_message.specs.declared.order.OrderNode.{OrderNode}
-use Rattle.agv_order.specs.declared.joining.Joined.{Joined}
-use Rattle.agv_order.specs.declared.joining.Joined.TheVariants.{Taken, Same}
-use Rattle.agv_order.specs.declared.joining.JoinRefusal.{JoinRefusal}
-use Rattle.agv_order.specs.declared.joining.JoinRefusal.TheVariants as refusal
+use Rattle.agv_order.specs.declared.joins.Joined.{Joined}
+use Rattle.agv_order.specs.declared.joins.Joined.TheVariants.{Taken, Same}
+use Rattle.agv_order.specs.declared.joins.JoinRefusal.{JoinRefusal}
+use Rattle.agv_order.specs.declared.joins.JoinRefusal.TheVariants as refusal
 
 -- the nodes of the base: those that are released
 abbrev pub base_nodes : OrderMessage → List OrderNode

@@ -15,7 +15,7 @@
 mod act;
 mod fault;
 mod job_progress;
-mod joining;
+mod joins;
 pub mod laws;
 mod message;
 mod number;
@@ -32,7 +32,7 @@ mod well_formed;
 
 pub use act::{Act, is_drop};
 pub use fault::PlanFault;
-pub use joining::{JoinRefusal, Joined, join};
+pub use joins::{JoinRefusal, Joined, join};
 pub use number::{edge_seq, node_seq};
 pub use status::{is_final, is_finished, merge};
 pub use stop::{Stop, stops_fit};

@@ -39,7 +39,7 @@ pub enum JoinRefusal {
 
 impl From<Memory> for JoinRefusal {
     ghost use Rattle.std.specs.Prelude.{◌≡◌};
-    ghost use Rattle.agv_order.specs.declared.joining.JoinRefusal.TheVariants as refusal;
+    ghost use Rattle.agv_order.specs.declared.joins.JoinRefusal.TheVariants as refusal;
 
     ghost from_gives = { λ _ made. made ≡ refusal.Memory };
 
