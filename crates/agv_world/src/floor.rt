@@ -1,5 +1,5 @@
 //! Questions to what the desk knows, however it is kept.
-ghost use Rattle.std.specs.Prelude.{◌≡◌, ◌≤◌};
+ghost use Rattle.std.specs.Prelude.{◌≡◌, ◌≤◌, is_some};
 ghost use Rattle.std.specs.FinMap as map;
 ghost use Rattle.std.specs.FinSet as set;
 ghost use Rattle.agv_world.specs.Asks.{Facts, Asks};
@@ -51,6 +51,10 @@ pub trait Floor {
     /// The open trip of a vehicle; none where it has none, or there is no such vehicle.
     fn trip(&mut self, key: VehicleKey) -> Result<Option<Trip>, Fault>
         ensures { Asks facts self.old self.new result (λ world trip. trip ≡ trip_of world key) };
+
+    /// Whether a vehicle has an open trip; it has none where there is no such vehicle.
+    fn has_trip(&mut self, key: VehicleKey) -> Result<bool, Fault>
+        ensures { Asks facts self.old self.new result (λ world has. has ≡ is_some (trip_of world key)) };
 
     /// Where a load is; none where it is unknown.
     fn place(&mut self, load: Name) -> Result<Option<Place>, Fault>

@@ -74,6 +74,10 @@ impl Floor for PlainFloor<'_> {
         Ok(self.world.trip(self.alloc, &key)?)
     }
 
+    fn has_trip(&mut self, key: VehicleKey) -> Result<bool, Fault> {
+        Ok(self.world.has_trip(&key))
+    }
+
     fn place(&mut self, load: Name) -> Result<Option<Place>, Fault> {
         Ok(self.world.place(load))
     }

@@ -1,5 +1,5 @@
 //! Answers of the world in memory to the questions of [`Floor`](crate::Floor).
-ghost use Rattle.std.specs.Prelude.{◌≡◌, [], ◌∷◌, length, None, IfOk};
+ghost use Rattle.std.specs.Prelude.{◌≡◌, [], ◌∷◌, length, is_some, None, IfOk};
 ghost use Rattle.std.specs.FinMap as map;
 ghost use Rattle.std.specs.FinSet as set;
 ghost use Rattle.agv_order.specs.Trips.{node_at};
@@ -226,6 +226,16 @@ impl World {
             return Ok(None);
         }
         self.open_trip(alloc, *key)
+    }
+
+    // Whether a vehicle has an open trip; it has none where there is no such vehicle.
+    pub(crate) fn has_trip(&self, key: &VehicleKey) -> bool
+        ensures { result ≡ is_some (trip_of (world_of self.now) key.now) }
+    {
+        if self.vehicle(*key).is_none() {
+            return false;
+        }
+        self.first_order(*key).is_some()
     }
 
     // The node that the trip of a row has reached last; none past its end.

@@ -51,7 +51,7 @@ fn is_borne_by(row: &VehicleRow, trip: &Trip) -> bool
 
 impl World {
     // The order of the first row that names the vehicle.
-    fn first_order(&self, key: VehicleKey) -> Option<Name>
+    pub(crate) fn first_order(&self, key: VehicleKey) -> Option<Name>
         ensures { result ≡ first_order self.now key }
     {
         for (order, row) in self.trips.iter() {
