@@ -21,6 +21,27 @@ use agv_header::Memory;
 use std::alloc::Global;
 
 impl World {
+    /// Whether these are the tables of a lawful world, where vehicles have at most so many places for
+    /// loads (`specs/Lawful.antt`): it answers `true` just where there is such a world.
+    ///
+    /// `Memory` for want of memory alone. It takes time in proportion to the rows, times the logarithm of
+    /// their number; but the edges of trips and the loads on vehicles are gone over some times for each vehicle,
+    /// of which there are at most 100.
+    pub fn is_lawful(&self, alloc: Global, seats: u32) -> Result<bool, Memory>
+        ensures { IfOk result (λ lawful. IsTrue lawful ↔ ((world : WorldOf) × Keeps self.now world × IsLawful seats world)) }
+    {
+        self.has_values();
+        tests_vehicles();
+        self.passes(alloc, seats)
+    }
+
+    // Whether the tables pass all tests.
+    fn passes(&self, alloc: Global, seats: u32) -> Result<bool, Memory>
+        ensures { IfOk result (λ passes. passes ≡ (are_lawful_vehicles seats self.now && are_lawful_loads self.now)) }
+    {
+        Ok(self.are_lawful_vehicles(alloc, seats)? && self.are_lawful_loads(alloc)?)
+    }
+
     // Whether the tables of the layout, the vehicles and their trips pass their tests.
     fn are_lawful_vehicles(&self, alloc: Global, seats: u32) -> Result<bool, Memory>
         ensures { IfOk result (λ are. are ≡ are_lawful_vehicles seats self.now) }
@@ -45,26 +66,5 @@ impl World {
             return Ok(false);
         }
         Ok(self.have_room(alloc)? && self.are_within_capacity(alloc)?)
-    }
-
-    // Whether the tables pass all tests.
-    fn passes(&self, alloc: Global, seats: u32) -> Result<bool, Memory>
-        ensures { IfOk result (λ passes. passes ≡ (are_lawful_vehicles seats self.now && are_lawful_loads self.now)) }
-    {
-        Ok(self.are_lawful_vehicles(alloc, seats)? && self.are_lawful_loads(alloc)?)
-    }
-
-    /// Whether these are the tables of a lawful world, where vehicles have at most so many places for
-    /// loads (`specs/Lawful.antt`): it answers `true` just where there is such a world.
-    ///
-    /// `Memory` for want of memory alone. It takes time in proportion to the rows, times the logarithm of
-    /// their number; but the edges of trips and the loads on vehicles are gone over some times for each vehicle,
-    /// of which there are at most 100.
-    pub fn is_lawful(&self, alloc: Global, seats: u32) -> Result<bool, Memory>
-        ensures { IfOk result (λ lawful. IsTrue lawful ↔ ((world : WorldOf) × Keeps self.now world × IsLawful seats world)) }
-    {
-        self.has_values();
-        tests_vehicles();
-        self.passes(alloc, seats)
     }
 }

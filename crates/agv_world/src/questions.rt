@@ -15,30 +15,6 @@ use agv_order::Trip;
 use agv_stock::{Place, room_left};
 use std::alloc::Global;
 
-// Whether it is the edge, or the node to which the edge leads.
-fn is_edge_or_finish(thing: &Thing, edge: &Edge) -> bool
-    ensures { result ≡ is_among thing.now (along (edge.now ∷ [])) }
-{
-    Thing::Edge(edge.id) == *thing || Thing::Node(edge.finish) == *thing
-}
-
-// Whether it is the edge or the node of this rest.
-fn is_on_rest(rest: Option<(Name, Name)>, thing: &Thing) -> bool
-    ensures { result ≡ is_among thing.now (rest_things rest) }
-{
-    let Some((edge, node)) = rest else {
-        return false;
-    };
-    Thing::Edge(edge) == *thing || Thing::Node(node) == *thing
-}
-
-// Whether a vehicle without a trip that stands so holds the node or edge.
-fn is_at_rest_on(row: &VehicleRow, thing: &Thing) -> bool
-    ensures { result ≡ is_among thing.now (things_by row.now.node row.now.rest None) }
-{
-    Thing::Node(row.node) == *thing || is_on_rest(row.rest, thing)
-}
-
 impl World {
     // The row of a vehicle; none where there is no such vehicle.
     pub(crate) fn vehicle(&self, key: VehicleKey) -> Option<VehicleRow>
@@ -88,16 +64,6 @@ impl World {
         Ok(Sequence::from(loads))
     }
 
-    // How many loads stand at a station.
-    fn load_count(&self, station: Name) -> usize
-        ensures { result ≡ length (loads_at (world_of self.now) station) }
-    {
-        self.loads
-            .iter()
-            .filter(|(_, place)| place.is_at(station))
-            .count()
-    }
-
     // How many loads a vehicle has.
     pub(crate) fn loads_on(&self, key: VehicleKey) -> usize
         ensures { result ≡ loads_on (world_of self.now) key }
@@ -142,6 +108,16 @@ impl World {
         ))
     }
 
+    // How many loads stand at a station.
+    fn load_count(&self, station: Name) -> usize
+        ensures { result ≡ length (loads_at (world_of self.now) station) }
+    {
+        self.loads
+            .iter()
+            .filter(|(_, place)| place.is_at(station))
+            .count()
+    }
+
     // How many names were used in this kind.
     pub(crate) fn used_count(&self, kind: UseKind) -> usize
         ensures { result ≡ set.len (names_of self.now kind) }
@@ -162,31 +138,6 @@ impl World {
         }
     }
 
-    // The edge of this name, with its ends in the layout; none where the layout has none.
-    fn edge(&self, id: Name) -> Option<Edge>
-        ensures { result ≡ edge_named self.now.edges id }
-    {
-        let ends = self.edges.get(id)?;
-        Some(Edge {
-            id,
-            start: ends.start,
-            finish: ends.finish,
-        })
-    }
-
-    // The edges of an order, by their places on the way.
-    fn edges_of(&self, alloc: Global, order: Name) -> Result<Sequence<Edge>, Memory>
-        ensures { IfOk result (λ edges. edges ≡ edges_of self.now order) }
-    {
-        let edges: Vec<Edge> = self
-            .legs
-            .iter()
-            .filter(|(key, _)| key.order == order)
-            .filter_map(|(_, id)| self.edge(*id))
-            .collect(alloc)?;
-        Ok(Sequence::from(edges))
-    }
-
     // The trip of a row, with its edges.
     pub(crate) fn trip_in(&self, alloc: Global, order: Name, row: &TripRow) -> Result<Trip, Memory>
         ensures { IfOk result (λ trip. trip ≡ trip_in self.now (order, row.now)) }
@@ -203,6 +154,19 @@ impl World {
             seen: row.seen,
             acts: row.acts.copy()?,
         })
+    }
+
+    // The edges of an order, by their places on the way.
+    fn edges_of(&self, alloc: Global, order: Name) -> Result<Sequence<Edge>, Memory>
+        ensures { IfOk result (λ edges. edges ≡ edges_of self.now order) }
+    {
+        let edges: Vec<Edge> = self
+            .legs
+            .iter()
+            .filter(|(key, _)| key.order == order)
+            .filter_map(|(_, id)| self.edge(*id))
+            .collect(alloc)?;
+        Ok(Sequence::from(edges))
     }
 
     // The trip of a vehicle: that of the first row that names it.
@@ -238,6 +202,40 @@ impl World {
         self.first_order(*key).is_some()
     }
 
+    // The vehicle in whose footprint a node or edge is; none where it is free.
+    pub(crate) fn holder(&self, thing: Thing) -> Option<VehicleKey>
+        ensures { result ≡ holder_of (world_of self.now) thing }
+    {
+        for (key, row) in self.vehicles.iter() {
+            if self.is_holder(*key, row, &thing) {
+                return Some(*key);
+            }
+        }
+        None
+    }
+
+    // Whether the node or edge is in the footprint of the vehicle of this row.
+    fn is_holder(&self, key: VehicleKey, row: &VehicleRow, thing: &Thing) -> bool
+        ensures { result ≡ is_held_by self.now thing.now (key, row.now) }
+    {
+        for (order, trip) in self.trips.iter() {
+            if trip.vehicle == key {
+                return self.is_on_trip(*order, trip, thing);
+            }
+        }
+        is_at_rest_on(row, thing)
+    }
+
+    // Whether the vehicle with the trip of this row holds the node or edge.
+    fn is_on_trip(&self, order: Name, row: &TripRow, thing: &Thing) -> bool
+        ensures { result ≡ is_among thing.now (from_node (node_at (trip_in self.now (order, row.now)) row.now.seen) (released_edges (trip_in self.now (order, row.now)))) }
+    {
+        let Some(node) = self.node_reached(order, row) else {
+            return false;
+        };
+        Thing::Node(node) == *thing || self.drives_on(order, row, thing)
+    }
+
     // The node that the trip of a row has reached last; none past its end.
     fn node_reached(&self, order: Name, row: &TripRow) -> Option<Name>
         ensures { result ≡ node_at (trip_in self.now (order, row.now)) row.now.seen }
@@ -254,6 +252,18 @@ impl World {
         Some(edge.finish)
     }
 
+    // The edge of this name, with its ends in the layout; none where the layout has none.
+    fn edge(&self, id: Name) -> Option<Edge>
+        ensures { result ≡ edge_named self.now.edges id }
+    {
+        let ends = self.edges.get(id)?;
+        Some(Edge {
+            id,
+            start: ends.start,
+            finish: ends.finish,
+        })
+    }
+
     // Whether the trip of a row drives the edge, or to the node, after the node that it has reached last and
     // up to the last one that is released.
     fn drives_on(&self, order: Name, row: &TripRow, thing: &Thing) -> bool
@@ -267,38 +277,28 @@ impl World {
             .take(row.base.saturating_sub(row.seen) as usize)
             .any(|edge| is_edge_or_finish(thing, &edge))
     }
+}
 
-    // Whether the vehicle with the trip of this row holds the node or edge.
-    fn is_on_trip(&self, order: Name, row: &TripRow, thing: &Thing) -> bool
-        ensures { result ≡ is_among thing.now (from_node (node_at (trip_in self.now (order, row.now)) row.now.seen) (released_edges (trip_in self.now (order, row.now)))) }
-    {
-        let Some(node) = self.node_reached(order, row) else {
-            return false;
-        };
-        Thing::Node(node) == *thing || self.drives_on(order, row, thing)
-    }
+// Whether a vehicle without a trip that stands so holds the node or edge.
+fn is_at_rest_on(row: &VehicleRow, thing: &Thing) -> bool
+    ensures { result ≡ is_among thing.now (things_by row.now.node row.now.rest None) }
+{
+    Thing::Node(row.node) == *thing || is_on_rest(row.rest, thing)
+}
 
-    // Whether the node or edge is in the footprint of the vehicle of this row.
-    fn is_holder(&self, key: VehicleKey, row: &VehicleRow, thing: &Thing) -> bool
-        ensures { result ≡ is_held_by self.now thing.now (key, row.now) }
-    {
-        for (order, trip) in self.trips.iter() {
-            if trip.vehicle == key {
-                return self.is_on_trip(*order, trip, thing);
-            }
-        }
-        is_at_rest_on(row, thing)
-    }
+// Whether it is the edge or the node of this rest.
+fn is_on_rest(rest: Option<(Name, Name)>, thing: &Thing) -> bool
+    ensures { result ≡ is_among thing.now (rest_things rest) }
+{
+    let Some((edge, node)) = rest else {
+        return false;
+    };
+    Thing::Edge(edge) == *thing || Thing::Node(node) == *thing
+}
 
-    // The vehicle in whose footprint a node or edge is; none where it is free.
-    pub(crate) fn holder(&self, thing: Thing) -> Option<VehicleKey>
-        ensures { result ≡ holder_of (world_of self.now) thing }
-    {
-        for (key, row) in self.vehicles.iter() {
-            if self.is_holder(*key, row, &thing) {
-                return Some(*key);
-            }
-        }
-        None
-    }
+// Whether it is the edge, or the node to which the edge leads.
+fn is_edge_or_finish(thing: &Thing, edge: &Edge) -> bool
+    ensures { result ≡ is_among thing.now (along (edge.now ∷ [])) }
+{
+    Thing::Edge(edge.id) == *thing || Thing::Node(edge.finish) == *thing
 }

@@ -38,26 +38,6 @@ pub struct World {
     pub used: UsedNames,
 }
 
-fn put_trip(trips: &mut ByName<TripRow>, order: Name, row: &Option<TripRow>) -> Result<(), Memory>
-    ensures { OnOk result (trips.new ≡ edit trips.old order row.now) }
-{
-    match row {
-        Some(row) => trips.insert(order, row.clone()?)?,
-        None => trips.remove(order),
-    }
-    Ok(())
-}
-
-fn put_leg(legs: &mut ByLeg, key: LegKey, edge: Option<Name>) -> Result<(), Memory>
-    ensures { OnOk result (legs.new ≡ edit legs.old key edge) }
-{
-    match edge {
-        Some(edge) => legs.insert(key, edge)?,
-        None => legs.remove(key),
-    }
-    Ok(())
-}
-
 impl World {
     /// The world of a desk that knows nothing yet: no layout, vehicle, load or job.
     pub fn empty(alloc: Global) -> World
@@ -95,34 +75,6 @@ impl World {
         })
     }
 
-    // Carries out one change; holds have no table here.
-    fn put(&mut self, written: &Change) -> Result<(), Memory>
-        ensures { OnOk result ((rows : Rows) → Agrees self.old rows → Agrees self.new (change rows written.now)) }
-    {
-        match written {
-            Change::Node(id) => self.nodes.insert(*id),
-            Change::Edge(id, ends) => self.edges.insert(*id, *ends),
-            Change::Station(id, site) => self.stations.insert(*id, *site),
-            Change::Vehicle(key, row) => self.vehicles.insert(*key, *row),
-            Change::Trip(order, row) => put_trip(&mut self.trips, *order, row),
-            Change::Leg(key, edge) => put_leg(&mut self.legs, *key, *edge),
-            Change::Load(id, place) => self.loads.insert(*id, *place),
-            Change::Job(id, row) => self.jobs.insert(*id, *row),
-            Change::Hold(_, _) => Ok(()),
-            Change::Used(key) => self.used.insert(*key),
-        }
-    }
-
-    // Carries out the changes one after the other; after an error it has carried out some of them.
-    fn put_all(&mut self, changes: &[Change]) -> Result<(), Memory>
-        ensures { OnOk result ((rows : Rows) → Agrees self.old rows → Agrees self.new (changed changes.now rows)) }
-    {
-        for written in changes {
-            self.put(written)?;
-        }
-        Ok(())
-    }
-
     /// Carries out the changes. Where they lead from the rows of this world to the rows of some world, it
     /// is that world then.
     ///
@@ -143,4 +95,52 @@ impl World {
         *self = next;
         Ok(())
     }
+
+    // Carries out the changes one after the other; after an error it has carried out some of them.
+    fn put_all(&mut self, changes: &[Change]) -> Result<(), Memory>
+        ensures { OnOk result ((rows : Rows) → Agrees self.old rows → Agrees self.new (changed changes.now rows)) }
+    {
+        for written in changes {
+            self.put(written)?;
+        }
+        Ok(())
+    }
+
+    // Carries out one change; holds have no table here.
+    fn put(&mut self, written: &Change) -> Result<(), Memory>
+        ensures { OnOk result ((rows : Rows) → Agrees self.old rows → Agrees self.new (change rows written.now)) }
+    {
+        match written {
+            Change::Node(id) => self.nodes.insert(*id),
+            Change::Edge(id, ends) => self.edges.insert(*id, *ends),
+            Change::Station(id, site) => self.stations.insert(*id, *site),
+            Change::Vehicle(key, row) => self.vehicles.insert(*key, *row),
+            Change::Trip(order, row) => put_trip(&mut self.trips, *order, row),
+            Change::Leg(key, edge) => put_leg(&mut self.legs, *key, *edge),
+            Change::Load(id, place) => self.loads.insert(*id, *place),
+            Change::Job(id, row) => self.jobs.insert(*id, *row),
+            Change::Hold(_, _) => Ok(()),
+            Change::Used(key) => self.used.insert(*key),
+        }
+    }
+}
+
+fn put_trip(trips: &mut ByName<TripRow>, order: Name, row: &Option<TripRow>) -> Result<(), Memory>
+    ensures { OnOk result (trips.new ≡ edit trips.old order row.now) }
+{
+    match row {
+        Some(row) => trips.insert(order, row.clone()?)?,
+        None => trips.remove(order),
+    }
+    Ok(())
+}
+
+fn put_leg(legs: &mut ByLeg, key: LegKey, edge: Option<Name>) -> Result<(), Memory>
+    ensures { OnOk result (legs.new ≡ edit legs.old key edge) }
+{
+    match edge {
+        Some(edge) => legs.insert(key, edge)?,
+        None => legs.remove(key),
+    }
+    Ok(())
 }

@@ -11,18 +11,18 @@ use agv_header::Memory;
 use agv_layout::{Layout, LayoutFault, LayoutRow};
 use std::alloc::Global;
 
-// The layout of these rows; none where they give none.
-fn layout_given(alloc: Global, rows: &[LayoutRow]) -> Result<Option<Layout>, Memory>
-    ensures { IfOk result (λ layout. layout ≡ given (layout_of rows.now)) }
-{
-    match Layout::of_rows(alloc, rows) {
-        Ok(layout) => Ok(Some(layout)),
-        Err(LayoutFault::Limit | LayoutFault::Bad) => Ok(None),
-        Err(LayoutFault::Memory) => Err(Memory),
-    }
-}
-
 impl World {
+    // The layout; none before it is set.
+    pub(crate) fn layout(&self, alloc: Global) -> Result<Option<Layout>, Memory>
+        ensures { IfOk result (λ layout. layout ≡ layout_set (world_of self.now)) }
+    {
+        let mut rows = Vec::new(alloc);
+        self.push_nodes(&mut rows)?;
+        self.push_edges(&mut rows)?;
+        self.push_stations(&mut rows)?;
+        layout_given(alloc, rows.as_slice())
+    }
+
     // Adds the rows of the nodes.
     fn push_nodes(&self, rows: &mut Vec<LayoutRow>) -> Result<(), Memory>
         ensures { OnOk result (rows.new.items ≡ rows.old.items ++ map (λ id. row.Node id) (nodes_of (layout_of_tables self.now))) }
@@ -60,15 +60,15 @@ impl World {
         }
         Ok(())
     }
+}
 
-    // The layout; none before it is set.
-    pub(crate) fn layout(&self, alloc: Global) -> Result<Option<Layout>, Memory>
-        ensures { IfOk result (λ layout. layout ≡ layout_set (world_of self.now)) }
-    {
-        let mut rows = Vec::new(alloc);
-        self.push_nodes(&mut rows)?;
-        self.push_edges(&mut rows)?;
-        self.push_stations(&mut rows)?;
-        layout_given(alloc, rows.as_slice())
+// The layout of these rows; none where they give none.
+fn layout_given(alloc: Global, rows: &[LayoutRow]) -> Result<Option<Layout>, Memory>
+    ensures { IfOk result (λ layout. layout ≡ given (layout_of rows.now)) }
+{
+    match Layout::of_rows(alloc, rows) {
+        Ok(layout) => Ok(Some(layout)),
+        Err(LayoutFault::Limit | LayoutFault::Bad) => Ok(None),
+        Err(LayoutFault::Memory) => Err(Memory),
     }
 }

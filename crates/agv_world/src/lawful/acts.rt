@@ -12,87 +12,34 @@ use agv_message::ActKind;
 use agv_order::Act;
 use agv_stock::{Phase, Place};
 
-// Whether the load is on this vehicle.
-fn is_placed_on(key: VehicleKey, place: Option<Place>) -> bool
-    ensures { result ≡ is_placed_on key place }
-{
-    match place {
-        Some(place) => place.is_on(&key),
-        None => false,
-    }
-}
-
-// Whether the load is at the job's origin, or on the vehicle where its pick is finished.
-fn is_carried_at(key: VehicleKey, origin: Name, finished: bool, place: Option<Place>) -> bool
-    ensures { result ≡ is_carried_at key origin finished place }
-{
-    if finished {
-        is_placed_on(key, place)
-    } else {
-        is_placed_at(origin, place)
-    }
-}
-
-// Whether the phase is that of a job that rides.
-fn is_riding(phase: Phase) -> bool
-    ensures { result ≡ is_riding phase }
-{
-    match phase {
-        Phase::Riding => true,
-        Phase::Waiting | Phase::Done | Phase::Stopped => false,
-    }
-}
-
-// Whether the phase is that of a job that is done.
-fn is_done(phase: Phase) -> bool
-    ensures { result ≡ is_done phase }
-{
-    match phase {
-        Phase::Done => true,
-        Phase::Waiting | Phase::Riding | Phase::Stopped => false,
-    }
-}
-
-// The station where an act of a job takes place.
-fn station_for(kind: ActKind, row: &JobRow) -> Name
-    ensures { result ≡ station_for kind row.now }
-{
-    match kind {
-        ActKind::Pick => row.origin,
-        ActKind::Drop => row.target,
-    }
-}
-
-// Whether the act names the load and the station of its job.
-fn names_its_job(row: &JobRow, act: &Act) -> bool
-    ensures { result ≡ names_its_job row.now act.now }
-{
-    row.load == act.load && station_for(act.kind, row) == act.station
-}
-
-// Whether some act is of a job of the others.
-fn is_shared_one(act: &Act, others: &[Act]) -> bool
-    ensures { result ≡ list_any (is_same_job act.now) others.now }
-{
-    others.iter().any(|other| act.job == other.job)
-}
-
-// Whether the acts have a job in common.
-fn is_shared(acts: &[Act], others: &[Act]) -> bool
-    ensures { result ≡ is_shared acts.now others.now }
-{
-    acts.iter().any(|act| is_shared_one(act, others))
-}
-
-// Whether the trips are of one vehicle, or have no job in common.
-fn is_apart_from(order: Name, row: &TripRow, other: Name, further: &TripRow) -> bool
-    ensures { result ≡ is_apart_from (order, row.now) (other, further.now) }
-{
-    let _orders = (order, other);
-    row.vehicle == further.vehicle || !is_shared(row.acts.as_slice(), further.acts.as_slice())
-}
-
 impl World {
+    // Whether each act of each open trip does.
+    pub(crate) fn are_acts(&self) -> bool
+        ensures { result ≡ are_acts self.now }
+    {
+        self.trips.iter().all(|(_, row)| self.are_acts_of(row.vehicle, row.acts.as_slice()))
+    }
+
+    // Whether each of the acts does.
+    fn are_acts_of(&self, key: VehicleKey, acts: &[Act]) -> bool
+        ensures { result ≡ list_all (is_act self.now key) acts.now }
+    {
+        acts.iter().all(|act| self.is_act(key, act))
+    }
+
+    // Whether the act fits its job.
+    fn is_act(&self, key: VehicleKey, act: &Act) -> bool
+        ensures { result ≡ is_act self.now key act.now }
+    {
+        match self.jobs.get(act.job) {
+            Some(row) => {
+                names_its_job(row, act)
+                    && self.is_as_acted(key, row, act.kind, is_finished(act.status))
+            }
+            None => false,
+        }
+    }
+
     // Whether the job and its load are where the act has brought them.
     fn is_as_acted(&self, key: VehicleKey, row: &JobRow, kind: ActKind, finished: bool) -> bool
         ensures { result ≡ is_as_acted self.now key row.now kind finished }
@@ -112,40 +59,6 @@ impl World {
         }
     }
 
-    // Whether the act fits its job.
-    fn is_act(&self, key: VehicleKey, act: &Act) -> bool
-        ensures { result ≡ is_act self.now key act.now }
-    {
-        match self.jobs.get(act.job) {
-            Some(row) => {
-                names_its_job(row, act)
-                    && self.is_as_acted(key, row, act.kind, is_finished(act.status))
-            }
-            None => false,
-        }
-    }
-
-    // Whether each of the acts does.
-    fn are_acts_of(&self, key: VehicleKey, acts: &[Act]) -> bool
-        ensures { result ≡ list_all (is_act self.now key) acts.now }
-    {
-        acts.iter().all(|act| self.is_act(key, act))
-    }
-
-    // Whether each act of each open trip does.
-    pub(crate) fn are_acts(&self) -> bool
-        ensures { result ≡ are_acts self.now }
-    {
-        self.trips.iter().all(|(_, row)| self.are_acts_of(row.vehicle, row.acts.as_slice()))
-    }
-
-    // Whether the trip has no job in common with that of another vehicle.
-    fn is_trip_apart(&self, order: Name, row: &TripRow) -> bool
-        ensures { result ≡ list_all (is_apart_from (order, row.now)) (map.entries self.now.trips) }
-    {
-        self.trips.iter().all(|(other, further)| is_apart_from(order, row, *other, further))
-    }
-
     // Whether no job is in the open trips of two vehicles.
     pub(crate) fn are_jobs_apart(&self) -> bool
         ensures { result ≡ are_jobs_apart self.now }
@@ -154,4 +67,91 @@ impl World {
             .iter()
             .all(|(order, row)| self.is_trip_apart(*order, row))
     }
+
+    // Whether the trip has no job in common with that of another vehicle.
+    fn is_trip_apart(&self, order: Name, row: &TripRow) -> bool
+        ensures { result ≡ list_all (is_apart_from (order, row.now)) (map.entries self.now.trips) }
+    {
+        self.trips.iter().all(|(other, further)| is_apart_from(order, row, *other, further))
+    }
+}
+
+// Whether the act names the load and the station of its job.
+fn names_its_job(row: &JobRow, act: &Act) -> bool
+    ensures { result ≡ names_its_job row.now act.now }
+{
+    row.load == act.load && station_for(act.kind, row) == act.station
+}
+
+// The station where an act of a job takes place.
+fn station_for(kind: ActKind, row: &JobRow) -> Name
+    ensures { result ≡ station_for kind row.now }
+{
+    match kind {
+        ActKind::Pick => row.origin,
+        ActKind::Drop => row.target,
+    }
+}
+
+// Whether the load is at the job's origin, or on the vehicle where its pick is finished.
+fn is_carried_at(key: VehicleKey, origin: Name, finished: bool, place: Option<Place>) -> bool
+    ensures { result ≡ is_carried_at key origin finished place }
+{
+    if finished {
+        is_placed_on(key, place)
+    } else {
+        is_placed_at(origin, place)
+    }
+}
+
+// Whether the load is on this vehicle.
+fn is_placed_on(key: VehicleKey, place: Option<Place>) -> bool
+    ensures { result ≡ is_placed_on key place }
+{
+    match place {
+        Some(place) => place.is_on(&key),
+        None => false,
+    }
+}
+
+// Whether the phase is that of a job that is done.
+fn is_done(phase: Phase) -> bool
+    ensures { result ≡ is_done phase }
+{
+    match phase {
+        Phase::Done => true,
+        Phase::Waiting | Phase::Riding | Phase::Stopped => false,
+    }
+}
+
+// Whether the phase is that of a job that rides.
+fn is_riding(phase: Phase) -> bool
+    ensures { result ≡ is_riding phase }
+{
+    match phase {
+        Phase::Riding => true,
+        Phase::Waiting | Phase::Done | Phase::Stopped => false,
+    }
+}
+
+// Whether the trips are of one vehicle, or have no job in common.
+fn is_apart_from(order: Name, row: &TripRow, other: Name, further: &TripRow) -> bool
+    ensures { result ≡ is_apart_from (order, row.now) (other, further.now) }
+{
+    let _orders = (order, other);
+    row.vehicle == further.vehicle || !is_shared(row.acts.as_slice(), further.acts.as_slice())
+}
+
+// Whether the acts have a job in common.
+fn is_shared(acts: &[Act], others: &[Act]) -> bool
+    ensures { result ≡ is_shared acts.now others.now }
+{
+    acts.iter().any(|act| is_shared_one(act, others))
+}
+
+// Whether some act is of a job of the others.
+fn is_shared_one(act: &Act, others: &[Act]) -> bool
+    ensures { result ≡ list_any (is_same_job act.now) others.now }
+{
+    others.iter().any(|other| act.job == other.job)
 }

@@ -9,19 +9,21 @@ use agv_header::{Memory, Thing, VehicleKey};
 use agv_track::{ClaimFault, HoldTable, Standing, footprint};
 use std::alloc::Global;
 
-// Whether the things are given to the vehicle: no other one holds any of them.
-fn is_given(holds: &mut HoldTable, key: VehicleKey, things: &[Thing]) -> Result<bool, Memory>
-    ensures free { IfOk result (λ given. given ≡ is_none (first_held holds.old key things.now)) }
-    ensures claimed { IfOk result (λ given. IsTrue given → holds.new ≡ claimed holds.old key things.now) }
-{
-    match holds.claim(key, things) {
-        Ok(()) => Ok(true),
-        Err(ClaimFault::Held { .. }) => Ok(false),
-        Err(ClaimFault::Memory) => Err(Memory),
-    }
-}
-
 impl World {
+    // Whether no node or edge is in two footprints.
+    pub(crate) fn are_apart(&self, alloc: Global) -> Result<bool, Memory>
+        ensures { IfOk result (λ apart. apart ≡ are_apart self.now) }
+    {
+        let mut holds = HoldTable::new(alloc);
+        for (key, row) in self.vehicles.iter() {
+            let things = self.things_of(alloc, *key, row)?;
+            if !is_given(&mut holds, *key, &things)? {
+                return Ok(false);
+            }
+        }
+        Ok(true)
+    }
+
     // What the vehicle of a row holds.
     fn things_of(
         &self,
@@ -38,18 +40,16 @@ impl World {
         };
         footprint(alloc, &standing)
     }
+}
 
-    // Whether no node or edge is in two footprints.
-    pub(crate) fn are_apart(&self, alloc: Global) -> Result<bool, Memory>
-        ensures { IfOk result (λ apart. apart ≡ are_apart self.now) }
-    {
-        let mut holds = HoldTable::new(alloc);
-        for (key, row) in self.vehicles.iter() {
-            let things = self.things_of(alloc, *key, row)?;
-            if !is_given(&mut holds, *key, &things)? {
-                return Ok(false);
-            }
-        }
-        Ok(true)
+// Whether the things are given to the vehicle: no other one holds any of them.
+fn is_given(holds: &mut HoldTable, key: VehicleKey, things: &[Thing]) -> Result<bool, Memory>
+    ensures free { IfOk result (λ given. given ≡ is_none (first_held holds.old key things.now)) }
+    ensures claimed { IfOk result (λ given. IsTrue given → holds.new ≡ claimed holds.old key things.now) }
+{
+    match holds.claim(key, things) {
+        Ok(()) => Ok(true),
+        Err(ClaimFault::Held { .. }) => Ok(false),
+        Err(ClaimFault::Memory) => Err(Memory),
     }
 }

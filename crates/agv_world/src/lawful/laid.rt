@@ -9,22 +9,18 @@ use agv_header::limits::{
 use agv_layout::{EdgeEnds, StationSite};
 
 impl World {
-    // Whether the edge leads from a node to another node.
-    fn does_lead(&self, ends: EdgeEnds) -> bool
-        ensures { result ≡ does_lead self.now ends }
+    // Whether the layout is not set, or keeps the rules of a layout.
+    pub(crate) fn is_laid(&self) -> bool
+        ensures { result ≡ is_laid self.now }
     {
-        self.nodes.contains(ends.start)
-            && self.nodes.contains(ends.finish)
-            && ends.start != ends.finish
+        self.is_unset() || (self.is_in_limits() && self.all_lead() && self.all_stand())
     }
 
-    // Whether the station is at a node, and has room for 1 to 999 loads.
-    fn does_stand(&self, site: StationSite) -> bool
-        ensures { result ≡ does_stand self.now site }
+    // Whether the layout is not set.
+    fn is_unset(&self) -> bool
+        ensures { result ≡ is_unset self.now }
     {
-        self.nodes.contains(site.node)
-            && 1 <= site.capacity
-            && site.capacity <= MAX_STATION_CAPACITY
+        self.nodes.len() == 0 && self.edges.len() == 0 && self.stations.len() == 0
     }
 
     // Whether there are as many nodes, edges and stations as a layout may have.
@@ -38,18 +34,20 @@ impl World {
             && self.stations.len() <= MAX_LAYOUT_STATIONS
     }
 
-    // Whether the layout is not set.
-    fn is_unset(&self) -> bool
-        ensures { result ≡ is_unset self.now }
-    {
-        self.nodes.len() == 0 && self.edges.len() == 0 && self.stations.len() == 0
-    }
-
     // Whether each edge leads from a node to another.
     fn all_lead(&self) -> bool
         ensures { result ≡ all_lead self.now }
     {
         self.edges.iter().all(|(_, ends)| self.does_lead(*ends))
+    }
+
+    // Whether the edge leads from a node to another node.
+    fn does_lead(&self, ends: EdgeEnds) -> bool
+        ensures { result ≡ does_lead self.now ends }
+    {
+        self.nodes.contains(ends.start)
+            && self.nodes.contains(ends.finish)
+            && ends.start != ends.finish
     }
 
     // Whether each station stands at a node.
@@ -59,10 +57,12 @@ impl World {
         self.stations.iter().all(|(_, site)| self.does_stand(*site))
     }
 
-    // Whether the layout is not set, or keeps the rules of a layout.
-    pub(crate) fn is_laid(&self) -> bool
-        ensures { result ≡ is_laid self.now }
+    // Whether the station is at a node, and has room for 1 to 999 loads.
+    fn does_stand(&self, site: StationSite) -> bool
+        ensures { result ≡ does_stand self.now site }
     {
-        self.is_unset() || (self.is_in_limits() && self.all_lead() && self.all_stand())
+        self.nodes.contains(site.node)
+            && 1 <= site.capacity
+            && site.capacity <= MAX_STATION_CAPACITY
     }
 }

@@ -14,101 +14,27 @@ use std::alloc::Global;
 // More than any station has room for.
 const MORE_THAN_FITS: usize = 1000;
 
-// One more, up to 1000.
-fn one_on(n: usize) -> usize
-    ensures { result ≡ one_on n }
-{
-    if n < MORE_THAN_FITS { n + 1 } else { n }
-}
-
-// How often the name was counted.
-fn tallied(tally: &ByName<usize>, name: Name) -> usize
-    ensures { result ≡ tallied tally.now name }
-{
-    match tally.get(name) {
-        Some(count) => *count,
-        None => 0,
-    }
-}
-
-// Counts the name once more.
-fn add_one(tally: &mut ByName<usize>, name: Name) -> Result<(), Memory>
-    ensures { OnOk result (tally.new ≡ with_one tally.old name) }
-{
-    let count = one_on(tallied(tally, name));
-    tally.insert(name, count)
-}
-
-// Counts the station of a place.
-fn add_place(tally: &mut ByName<usize>, place: Place) -> Result<(), Memory>
-    ensures { OnOk result (tally.new ≡ with_place tally.old place) }
-{
-    match place {
-        Place::Station(id) => add_one(tally, id),
-        Place::Vehicle(_) | Place::Checking | Place::Left => Ok(()),
-    }
-}
-
-// Counts the target of a live job.
-fn add_job(tally: &mut ByName<usize>, row: &JobRow) -> Result<(), Memory>
-    ensures { OnOk result (tally.new ≡ with_job tally.old row.now) }
-{
-    if row.phase.is_live() {
-        add_one(tally, row.target)?;
-    }
-    Ok(())
-}
-
-// Whether the acts are to drop the load.
-fn is_load_by(load: Name, acts: &[Act]) -> bool
-    ensures { result ≡ is_load_by load acts.now }
-{
-    acts.iter().any(|act| is_to_drop(act) && act.load == load)
-}
-
-// How many drops are not finished.
-fn drop_count(acts: &[Act]) -> usize
-    ensures { result ≡ count_by is_to_drop acts.now }
-{
-    acts.iter().filter(|act| is_to_drop(act)).count()
-}
-
-// Whether the place is a vehicle.
-fn is_on_vehicle(place: Place) -> bool
-    ensures { result ≡ is_on_vehicle place }
-{
-    match place {
-        Place::Vehicle(_) => true,
-        Place::Station(_) | Place::Checking | Place::Left => false,
-    }
-}
-
-// How many of the loads are on the vehicle and none of those that the acts are to drop.
-fn loads_of_others(loads: &[(Name, Place)], key: VehicleKey, acts: &[Act]) -> usize
-    ensures { result ≡ loads_of_others_among loads.now key acts.now }
-{
-    loads
-        .iter()
-        .filter(|(load, place)| place.is_on(&key) && !is_load_by(*load, acts))
-        .count()
-}
-
-// Whether a vehicle has places for its other loads, among these, and for the jobs of its trip that are
-// not done.
-fn is_within_capacity(
-    loads: &[(Name, Place)],
-    key: VehicleKey,
-    row: &VehicleRow,
-    acts: &[Act],
-) -> bool
-    ensures { result ≡ is_within_capacity_among loads.now (key, row.now) acts.now }
-{
-    let capacity = row.capacity as usize;
-    let drops = drop_count(acts);
-    drops <= capacity && loads_of_others(loads, key, acts) <= capacity - drops
-}
-
 impl World {
+    // Whether each station has room for the loads there and for those to come.
+    pub(crate) fn have_room(&self, alloc: Global) -> Result<bool, Memory>
+        ensures { IfOk result (λ have. have ≡ have_room self.now) }
+    {
+        let tally = self.tally(alloc)?;
+        let have = self.stations.iter().all(|(id, site)| tallied(&tally, *id)
+            <= site.capacity as usize);
+        Ok(have)
+    }
+
+    // The loads at stations and the live jobs to them, counted.
+    fn tally(&self, alloc: Global) -> Result<ByName<usize>, Memory>
+        ensures { IfOk result (λ tally. tally ≡ tally_of self.now) }
+    {
+        let mut tally = ByName::new(alloc);
+        self.add_loads(&mut tally)?;
+        self.add_jobs(&mut tally)?;
+        Ok(tally)
+    }
+
     // Counts each load at its station.
     fn add_loads(&self, tally: &mut ByName<usize>) -> Result<(), Memory>
         ensures { OnOk result (tally.new ≡ with_loads tally.old (map.entries self.now.loads)) }
@@ -129,24 +55,12 @@ impl World {
         Ok(())
     }
 
-    // The loads at stations and the live jobs to them, counted.
-    fn tally(&self, alloc: Global) -> Result<ByName<usize>, Memory>
-        ensures { IfOk result (λ tally. tally ≡ tally_of self.now) }
+    // Whether each vehicle has places for its other loads and for the jobs of its trip that are not done.
+    pub(crate) fn are_within_capacity(&self, alloc: Global) -> Result<bool, Memory>
+        ensures { IfOk result (λ are. are ≡ are_within_capacity self.now) }
     {
-        let mut tally = ByName::new(alloc);
-        self.add_loads(&mut tally)?;
-        self.add_jobs(&mut tally)?;
-        Ok(tally)
-    }
-
-    // Whether each station has room for the loads there and for those to come.
-    pub(crate) fn have_room(&self, alloc: Global) -> Result<bool, Memory>
-        ensures { IfOk result (λ have. have ≡ have_room self.now) }
-    {
-        let tally = self.tally(alloc)?;
-        let have = self.stations.iter().all(|(id, site)| tallied(&tally, *id)
-            <= site.capacity as usize);
-        Ok(have)
+        let loads = self.loads_on_vehicles(alloc)?;
+        Ok(self.are_within_capacity_among(loads.as_slice()))
     }
 
     // The loads on vehicles.
@@ -162,16 +76,11 @@ impl World {
         Ok(loads)
     }
 
-    // The acts of a vehicle's trip.
-    fn acts_of(&self, key: VehicleKey) -> &[Act]
-        ensures { result.now ≡ acts_of self.now key }
+    // Whether each vehicle has.
+    fn are_within_capacity_among(&self, loads: &[(Name, Place)]) -> bool
+        ensures { result ≡ are_within_capacity_among self.now loads.now }
     {
-        for (_, row) in self.trips.iter() {
-            if row.vehicle == key {
-                return row.acts.as_slice();
-            }
-        }
-        &[]
+        self.vehicles.iter().all(|(key, row)| self.is_vehicle_within_capacity(loads, key, row))
     }
 
     // Whether a vehicle has places for its other loads, among these, and for the jobs of its trip that are
@@ -187,18 +96,109 @@ impl World {
         is_within_capacity(loads, *key, row, self.acts_of(*key))
     }
 
-    // Whether each vehicle has.
-    fn are_within_capacity_among(&self, loads: &[(Name, Place)]) -> bool
-        ensures { result ≡ are_within_capacity_among self.now loads.now }
+    // The acts of a vehicle's trip.
+    fn acts_of(&self, key: VehicleKey) -> &[Act]
+        ensures { result.now ≡ acts_of self.now key }
     {
-        self.vehicles.iter().all(|(key, row)| self.is_vehicle_within_capacity(loads, key, row))
+        for (_, row) in self.trips.iter() {
+            if row.vehicle == key {
+                return row.acts.as_slice();
+            }
+        }
+        &[]
     }
+}
 
-    // Whether each vehicle has places for its other loads and for the jobs of its trip that are not done.
-    pub(crate) fn are_within_capacity(&self, alloc: Global) -> Result<bool, Memory>
-        ensures { IfOk result (λ are. are ≡ are_within_capacity self.now) }
-    {
-        let loads = self.loads_on_vehicles(alloc)?;
-        Ok(self.are_within_capacity_among(loads.as_slice()))
+// How often the name was counted.
+fn tallied(tally: &ByName<usize>, name: Name) -> usize
+    ensures { result ≡ tallied tally.now name }
+{
+    match tally.get(name) {
+        Some(count) => *count,
+        None => 0,
     }
+}
+
+// Counts the station of a place.
+fn add_place(tally: &mut ByName<usize>, place: Place) -> Result<(), Memory>
+    ensures { OnOk result (tally.new ≡ with_place tally.old place) }
+{
+    match place {
+        Place::Station(id) => add_one(tally, id),
+        Place::Vehicle(_) | Place::Checking | Place::Left => Ok(()),
+    }
+}
+
+// Counts the name once more.
+fn add_one(tally: &mut ByName<usize>, name: Name) -> Result<(), Memory>
+    ensures { OnOk result (tally.new ≡ with_one tally.old name) }
+{
+    let count = one_on(tallied(tally, name));
+    tally.insert(name, count)
+}
+
+// One more, up to 1000.
+fn one_on(n: usize) -> usize
+    ensures { result ≡ one_on n }
+{
+    if n < MORE_THAN_FITS { n + 1 } else { n }
+}
+
+// Counts the target of a live job.
+fn add_job(tally: &mut ByName<usize>, row: &JobRow) -> Result<(), Memory>
+    ensures { OnOk result (tally.new ≡ with_job tally.old row.now) }
+{
+    if row.phase.is_live() {
+        add_one(tally, row.target)?;
+    }
+    Ok(())
+}
+
+// Whether the place is a vehicle.
+fn is_on_vehicle(place: Place) -> bool
+    ensures { result ≡ is_on_vehicle place }
+{
+    match place {
+        Place::Vehicle(_) => true,
+        Place::Station(_) | Place::Checking | Place::Left => false,
+    }
+}
+
+// Whether a vehicle has places for its other loads, among these, and for the jobs of its trip that are
+// not done.
+fn is_within_capacity(
+    loads: &[(Name, Place)],
+    key: VehicleKey,
+    row: &VehicleRow,
+    acts: &[Act],
+) -> bool
+    ensures { result ≡ is_within_capacity_among loads.now (key, row.now) acts.now }
+{
+    let capacity = row.capacity as usize;
+    let drops = drop_count(acts);
+    drops <= capacity && loads_of_others(loads, key, acts) <= capacity - drops
+}
+
+// How many drops are not finished.
+fn drop_count(acts: &[Act]) -> usize
+    ensures { result ≡ count_by is_to_drop acts.now }
+{
+    acts.iter().filter(|act| is_to_drop(act)).count()
+}
+
+// How many of the loads are on the vehicle and none of those that the acts are to drop.
+fn loads_of_others(loads: &[(Name, Place)], key: VehicleKey, acts: &[Act]) -> usize
+    ensures { result ≡ loads_of_others_among loads.now key acts.now }
+{
+    loads
+        .iter()
+        .filter(|(load, place)| place.is_on(&key) && !is_load_by(*load, acts))
+        .count()
+}
+
+// Whether the acts are to drop the load.
+fn is_load_by(load: Name, acts: &[Act]) -> bool
+    ensures { result ≡ is_load_by load acts.now }
+{
+    acts.iter().any(|act| is_to_drop(act) && act.load == load)
 }

@@ -11,44 +11,6 @@ use agv_message::ActKind;
 use agv_order::{Act, Trip};
 use std::alloc::Global;
 
-// Whether the name is this one.
-fn is_name_of(other: Option<Name>, name: Name) -> bool
-    ensures { result ≡ is_name_of other name }
-{
-    match other {
-        Some(other) => other == name,
-        None => false,
-    }
-}
-
-// Whether the act picks a load up.
-fn picks(act: &Act) -> bool
-    ensures { result ≡ picks act.now }
-{
-    match act.kind {
-        ActKind::Pick => true,
-        ActKind::Drop => false,
-    }
-}
-
-// How many loads the acts pick up.
-fn pick_count(acts: &[Act]) -> usize
-    ensures { result ≡ count_by picks acts.now }
-{
-    acts.iter().filter(|act| picks(act)).count()
-}
-
-// Whether the trip is one of this vehicle: it has places enough, was sent an order, and stands where the
-// trip has seen it, without a rest.
-fn is_borne_by(row: &VehicleRow, trip: &Trip) -> bool
-    ensures { result ≡ is_borne_by row.now trip.now }
-{
-    pick_count(trip.acts.as_slice()) <= row.capacity as usize
-        && 0 < row.orders.count
-        && is_name_of(trip.node_at(trip.seen), row.node)
-        && row.rest.is_none()
-}
-
 impl World {
     // The order of the first row that names the vehicle.
     pub(crate) fn first_order(&self, key: VehicleKey) -> Option<Name>
@@ -60,6 +22,32 @@ impl World {
             }
         }
         None
+    }
+
+    // Whether each row of a trip is.
+    pub(crate) fn are_trips(&self, alloc: Global) -> Result<bool, Memory>
+        ensures { IfOk result (λ are. are ≡ are_trips self.now) }
+    {
+        for (order, row) in self.trips.iter() {
+            if !self.is_trip_row(alloc, *order, row)? {
+                return Ok(false);
+            }
+        }
+        Ok(true)
+    }
+
+    // Whether the row of a trip is as it should be.
+    fn is_trip_row(&self, alloc: Global, order: Name, row: &TripRow) -> Result<bool, Memory>
+        ensures { IfOk result (λ is. is ≡ is_trip_row self.now (order, row.now)) }
+    {
+        if !self.is_first(row.vehicle, order) {
+            return Ok(false);
+        }
+        if !self.is_used_order(order) || !self.are_in_turn(order) {
+            return Ok(false);
+        }
+        let trip = self.trip_in(alloc, order, row)?;
+        Ok(self.is_borne(row.vehicle, &trip))
     }
 
     // Whether the first row that names the vehicle is that of this order.
@@ -105,26 +93,22 @@ impl World {
         }
     }
 
-    // Whether the row of a trip is as it should be.
-    fn is_trip_row(&self, alloc: Global, order: Name, row: &TripRow) -> Result<bool, Memory>
-        ensures { IfOk result (λ is. is ≡ is_trip_row self.now (order, row.now)) }
+    // Whether each trip is well formed on the layout of the tables.
+    pub(crate) fn are_fit(&self, alloc: Global) -> Result<bool, Memory>
+        ensures { IfOk result (λ are. are ≡ are_fit self.now) }
     {
-        if !self.is_first(row.vehicle, order) {
-            return Ok(false);
+        match self.layout(alloc)? {
+            Some(layout) => self.are_fit_on(alloc, &layout),
+            None => Ok(self.trips.len() == 0),
         }
-        if !self.is_used_order(order) || !self.are_in_turn(order) {
-            return Ok(false);
-        }
-        let trip = self.trip_in(alloc, order, row)?;
-        Ok(self.is_borne(row.vehicle, &trip))
     }
 
-    // Whether each row of a trip is.
-    pub(crate) fn are_trips(&self, alloc: Global) -> Result<bool, Memory>
-        ensures { IfOk result (λ are. are ≡ are_trips self.now) }
+    // Whether each trip is.
+    fn are_fit_on(&self, alloc: Global, layout: &Layout) -> Result<bool, Memory>
+        ensures { IfOk result (λ are. are ≡ are_fit_on self.now (Some layout.now)) }
     {
         for (order, row) in self.trips.iter() {
-            if !self.is_trip_row(alloc, *order, row)? {
+            if !self.is_fit(alloc, layout, *order, row)? {
                 return Ok(false);
             }
         }
@@ -145,26 +129,13 @@ impl World {
         Ok(trip.is_well_formed(layout))
     }
 
-    // Whether each trip is.
-    fn are_fit_on(&self, alloc: Global, layout: &Layout) -> Result<bool, Memory>
-        ensures { IfOk result (λ are. are ≡ are_fit_on self.now (Some layout.now)) }
+    // Whether each edge row is one of an open trip.
+    pub(crate) fn are_legs(&self) -> bool
+        ensures { result ≡ are_legs self.now }
     {
-        for (order, row) in self.trips.iter() {
-            if !self.is_fit(alloc, layout, *order, row)? {
-                return Ok(false);
-            }
-        }
-        Ok(true)
-    }
-
-    // Whether each trip is well formed on the layout of the tables.
-    pub(crate) fn are_fit(&self, alloc: Global) -> Result<bool, Memory>
-        ensures { IfOk result (λ are. are ≡ are_fit self.now) }
-    {
-        match self.layout(alloc)? {
-            Some(layout) => self.are_fit_on(alloc, &layout),
-            None => Ok(self.trips.len() == 0),
-        }
+        self.legs
+            .iter()
+            .all(|(leg, id)| self.has_trip_row(*leg, *id))
     }
 
     // Whether the order of an edge row has an open trip.
@@ -174,13 +145,42 @@ impl World {
         let _id = id;
         self.trips.get(leg.order).is_some()
     }
+}
 
-    // Whether each edge row is one of an open trip.
-    pub(crate) fn are_legs(&self) -> bool
-        ensures { result ≡ are_legs self.now }
-    {
-        self.legs
-            .iter()
-            .all(|(leg, id)| self.has_trip_row(*leg, *id))
+// Whether the name is this one.
+fn is_name_of(other: Option<Name>, name: Name) -> bool
+    ensures { result ≡ is_name_of other name }
+{
+    match other {
+        Some(other) => other == name,
+        None => false,
+    }
+}
+
+// Whether the trip is one of this vehicle: it has places enough, was sent an order, and stands where the
+// trip has seen it, without a rest.
+fn is_borne_by(row: &VehicleRow, trip: &Trip) -> bool
+    ensures { result ≡ is_borne_by row.now trip.now }
+{
+    pick_count(trip.acts.as_slice()) <= row.capacity as usize
+        && 0 < row.orders.count
+        && is_name_of(trip.node_at(trip.seen), row.node)
+        && row.rest.is_none()
+}
+
+// How many loads the acts pick up.
+fn pick_count(acts: &[Act]) -> usize
+    ensures { result ≡ count_by picks acts.now }
+{
+    acts.iter().filter(|act| picks(act)).count()
+}
+
+// Whether the act picks a load up.
+fn picks(act: &Act) -> bool
+    ensures { result ≡ picks act.now }
+{
+    match act.kind {
+        ActKind::Pick => true,
+        ActKind::Drop => false,
     }
 }

@@ -7,20 +7,43 @@ use agv_header::Name;
 use agv_header::limits::{MAX_RECORDS, MAX_VEHICLES};
 use agv_layout::EdgeEnds;
 
-// Whether the moment is 0 where no message was sent.
-fn is_counted(sent: Sent) -> bool
-    ensures { result ≡ is_counted sent }
-{
-    sent.count != 0 || sent.at.ms() == 0
-}
+impl World {
+    // Whether each row of a vehicle is.
+    pub(crate) fn are_vehicles(&self, seats: u32) -> bool
+        ensures { result ≡ are_vehicles seats self.now }
+    {
+        self.vehicles
+            .iter()
+            .all(|(_, row)| self.is_vehicle_row(seats, row))
+    }
 
-// Whether the edge leads from this node to that one.
-fn leads_so(ends: Option<EdgeEnds>, start: Name, finish: Name) -> bool
-    ensures { result ≡ leads_so ends start finish }
-{
-    match ends {
-        Some(ends) => ends.start == start && ends.finish == finish,
-        None => false,
+    // Whether the row of a vehicle is as it should be, by itself.
+    fn is_vehicle_row(&self, seats: u32, row: &VehicleRow) -> bool
+        ensures { result ≡ is_vehicle_row seats self.now row.now }
+    {
+        is_seated(seats, row)
+            && self.nodes.contains(row.node)
+            && self.is_rest(row.node, row.rest)
+            && is_numbered(row)
+    }
+
+    // Whether a rest is an edge from the vehicle's node to the node of the rest.
+    fn is_rest(&self, node: Name, rest: Option<(Name, Name)>) -> bool
+        ensures { result ≡ is_rest self.now node rest }
+    {
+        match rest {
+            None => true,
+            Some((edge, finish)) => leads_so(self.edges.get(edge).copied(), node, finish),
+        }
+    }
+
+    // Whether there are at most 100 vehicles, and 1,000,000 orders and references each.
+    pub(crate) fn are_few(&self) -> bool
+        ensures { result ≡ are_few self.now }
+    {
+        self.vehicles.len() <= MAX_VEHICLES
+            && self.used_count(UseKind::Order) <= MAX_RECORDS
+            && self.used_count(UseKind::Reference) <= MAX_RECORDS
     }
 }
 
@@ -40,42 +63,19 @@ fn is_numbered(row: &VehicleRow) -> bool
         && (row.pending.is_none() || 0 < row.instants.count)
 }
 
-impl World {
-    // Whether a rest is an edge from the vehicle's node to the node of the rest.
-    fn is_rest(&self, node: Name, rest: Option<(Name, Name)>) -> bool
-        ensures { result ≡ is_rest self.now node rest }
-    {
-        match rest {
-            None => true,
-            Some((edge, finish)) => leads_so(self.edges.get(edge).copied(), node, finish),
-        }
-    }
+// Whether the moment is 0 where no message was sent.
+fn is_counted(sent: Sent) -> bool
+    ensures { result ≡ is_counted sent }
+{
+    sent.count != 0 || sent.at.ms() == 0
+}
 
-    // Whether the row of a vehicle is as it should be, by itself.
-    fn is_vehicle_row(&self, seats: u32, row: &VehicleRow) -> bool
-        ensures { result ≡ is_vehicle_row seats self.now row.now }
-    {
-        is_seated(seats, row)
-            && self.nodes.contains(row.node)
-            && self.is_rest(row.node, row.rest)
-            && is_numbered(row)
-    }
-
-    // Whether each row of a vehicle is.
-    pub(crate) fn are_vehicles(&self, seats: u32) -> bool
-        ensures { result ≡ are_vehicles seats self.now }
-    {
-        self.vehicles
-            .iter()
-            .all(|(_, row)| self.is_vehicle_row(seats, row))
-    }
-
-    // Whether there are at most 100 vehicles, and 1,000,000 orders and references each.
-    pub(crate) fn are_few(&self) -> bool
-        ensures { result ≡ are_few self.now }
-    {
-        self.vehicles.len() <= MAX_VEHICLES
-            && self.used_count(UseKind::Order) <= MAX_RECORDS
-            && self.used_count(UseKind::Reference) <= MAX_RECORDS
+// Whether the edge leads from this node to that one.
+fn leads_so(ends: Option<EdgeEnds>, start: Name, finish: Name) -> bool
+    ensures { result ≡ leads_so ends start finish }
+{
+    match ends {
+        Some(ends) => ends.start == start && ends.finish == finish,
+        None => false,
     }
 }
