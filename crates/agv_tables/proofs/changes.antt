@@ -1,2 +1,3 @@
 pub mod ChangesFound
 pub mod ChangesRun
+pub mod RowsStay

@@ -2,6 +2,7 @@
 //! has (`specs/rows/DeskRows.antt`): all texts of SQL on rows, what carries them out, and what they answer.
 
 pub(crate) mod query_texts;
+pub(crate) mod row_finds;
 pub(crate) mod row_reads;
 pub(crate) mod row_texts;
 pub(crate) mod row_writes;

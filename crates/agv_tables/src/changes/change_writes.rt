@@ -2,32 +2,32 @@
 //!
 //! Each clause `made` says of one kind of change what the definition of all of them says, in any database in which
 //! the desk's tables stand. An error changes what the transaction's end undoes.
-ghost use Rattle.std.specs.Prelude.{◌≡◌, IsTrue, None, Some, OnOk};
+ghost use Rattle.std.specs.Prelude.{◌≡◌, None, Some, OnOk};
 ghost use Rattle.sqlite.specs.State.{HasCleanDisk, KeepsCommit, Survives};
 ghost use Rattle.sqlite.specs.Held.{state};
 ghost use Rattle.agv_world.specs.declared.change.Change.TheVariants as row;
-ghost use Rattle.agv_trip_rows.specs.TripRows.{act_key, act_row, act_rows_from};
-ghost use Rattle.agv_tables.specs.rows.Columns.{act_columns, room_columns, journey_columns, vehicle_columns};
-ghost use Rattle.agv_tables.specs.rows.DeskRows.{Makes, with_put, with_row, with_rows, without_key};
+ghost use Rattle.agv_tables.specs.rows.Columns.{journey_columns, vehicle_columns};
+ghost use Rattle.agv_tables.specs.rows.DeskRows.{Makes, with_put, without_key};
 ghost use Rattle.agv_tables.specs.rows.RowKeys.{name_key, vehicle_key};
-ghost use Rattle.agv_tables.specs.rows.RowLists.{listed, rows_of_acts, without_acts};
+ghost use Rattle.agv_tables.specs.rows.RowLists.{listed};
 ghost use Rattle.agv_tables.specs.declared.schema.table_name.TableName.TheVariants as the;
 
+use crate::changes::act_writes::{drop_acts, write_acts};
 use crate::changes::hold_rows::drop_hold;
+use crate::changes::room_writes::write_room;
 use crate::rows::key_values::{
     hold_key_values, leg_key_values, name_key_values, vehicle_key_values,
 };
 use crate::rows::row_values::{
-    act_values, capacity_values, edge_values, hold_values, job_values, journey_values, leg_values,
-    load_values, node_values, station_values, used_values, vehicle_values,
+    edge_values, hold_values, job_values, journey_values, leg_values, load_values, node_values,
+    station_values, used_values, vehicle_values,
 };
 use crate::rows::world_table::WorldTable;
-use crate::statements::row_writes::{delete_row, insert_row, put_row};
+use crate::statements::row_writes::{delete_row, put_row};
 use agv_header::{Name, Thing, VehicleKey};
 use agv_layout::{EdgeEnds, StationSite};
-use agv_order::Act;
 use agv_stock::Place;
-use agv_trip_rows::{ActRow, JourneyRow};
+use agv_trip_rows::JourneyRow;
 use agv_world::{Change, JobRow, LegKey, TripRow, UseKey, VehicleRow};
 use sqlite::{Alter, Error, Transaction};
 
@@ -102,26 +102,6 @@ fn put_vehicle<S: Alter>(
     )
 }
 
-// Its room for loads.
-fn put_capacity<S: Alter>(
-    tx: &mut Transaction<'_, S>,
-    key: &VehicleKey,
-    vehicle: &VehicleRow,
-) -> Result<usize, Error>
-    ensures same_reference { tx.new.conn.ghost_name ≡ tx.old.conn.ghost_name }
-    ensures survives { Survives (state S.Store tx.old.conn.now) (state S.Store tx.new.conn.now) (λ _. ⊥) }
-    ensures kept { HasCleanDisk (state S.Store tx.new.conn.now) → KeepsCommit (state S.Store tx.old.conn.now) (state S.Store tx.new.conn.now) }
-    ensures made { HasCleanDisk (state S.Store tx.new.conn.now)
-        → OnOk result (Makes (with_put the.Capacity (vehicle_key key.now) (room_columns key.now vehicle.now)) (state S.Store tx.old.conn.now) (state S.Store tx.new.conn.now)) }
-{
-    put_row(
-        tx,
-        WorldTable::Capacity,
-        &vehicle_key_values(key),
-        &capacity_values(key, vehicle),
-    )
-}
-
 // The vehicle is this.
 fn write_vehicle<S: Alter>(
     tx: &mut Transaction<'_, S>,
@@ -135,7 +115,7 @@ fn write_vehicle<S: Alter>(
         → OnOk result (Makes (listed (row.Vehicle key.now vehicle.now)) (state S.Store tx.old.conn.now) (state S.Store tx.new.conn.now)) }
 {
     put_vehicle(tx, key, vehicle)?;
-    put_capacity(tx, key, vehicle)
+    write_room(tx, key, vehicle)
 }
 
 // The order has no journey.
@@ -147,17 +127,6 @@ fn drop_journey<S: Alter>(tx: &mut Transaction<'_, S>, order: &Name) -> Result<u
         → OnOk result (Makes (without_key the.Journey (name_key order.now)) (state S.Store tx.old.conn.now) (state S.Store tx.new.conn.now)) }
 {
     delete_row(tx, WorldTable::Journey, &name_key_values(order))
-}
-
-// The order has no acts.
-fn drop_acts<S: Alter>(tx: &mut Transaction<'_, S>, order: &Name) -> Result<usize, Error>
-    ensures same_reference { tx.new.conn.ghost_name ≡ tx.old.conn.ghost_name }
-    ensures survives { Survives (state S.Store tx.old.conn.now) (state S.Store tx.new.conn.now) (λ _. ⊥) }
-    ensures kept { HasCleanDisk (state S.Store tx.new.conn.now) → KeepsCommit (state S.Store tx.old.conn.now) (state S.Store tx.new.conn.now) }
-    ensures made { HasCleanDisk (state S.Store tx.new.conn.now)
-        → OnOk result (Makes (without_acts order.now) (state S.Store tx.old.conn.now) (state S.Store tx.new.conn.now)) }
-{
-    delete_row(tx, WorldTable::Act, &name_key_values(order))
 }
 
 // The order has no open trip.
@@ -192,44 +161,6 @@ fn put_journey<S: Alter>(
     )
 }
 
-// The order has this act besides, at this number. One above 4294967295 has no row.
-fn add_act<S: Alter>(
-    tx: &mut Transaction<'_, S>,
-    order: &Name,
-    n: usize,
-    act: &Act,
-) -> Result<usize, Error>
-    ensures same_reference { tx.new.conn.ghost_name ≡ tx.old.conn.ghost_name }
-    ensures survives { Survives (state S.Store tx.old.conn.now) (state S.Store tx.new.conn.now) (λ _. ⊥) }
-    ensures kept { HasCleanDisk (state S.Store tx.new.conn.now) → KeepsCommit (state S.Store tx.old.conn.now) (state S.Store tx.new.conn.now) }
-    ensures made { HasCleanDisk (state S.Store tx.new.conn.now)
-        → OnOk result (Makes (with_row the.Act (act_columns (act_key order.now n) (act_row act.now))) (state S.Store tx.old.conn.now) (state S.Store tx.new.conn.now)) }
-{
-    let Ok(k) = u32::try_from(n) else {
-        return Err(Error::IntegralValueOutOfRange(1));
-    };
-    let key = LegKey { order: *order, k };
-    insert_row(tx, WorldTable::Act, &act_values(&key, &ActRow::of(act)))
-}
-
-/// The order has these acts besides, which are numbered from 0 on.
-pub(crate) fn add_acts<S: Alter>(
-    tx: &mut Transaction<'_, S>,
-    order: &Name,
-    acts: &[Act],
-) -> Result<(), Error>
-    ensures same_reference { tx.new.conn.ghost_name ≡ tx.old.conn.ghost_name }
-    ensures survives { Survives (state S.Store tx.old.conn.now) (state S.Store tx.new.conn.now) (λ _. ⊥) }
-    ensures kept { HasCleanDisk (state S.Store tx.new.conn.now) → KeepsCommit (state S.Store tx.old.conn.now) (state S.Store tx.new.conn.now) }
-    ensures made { HasCleanDisk (state S.Store tx.new.conn.now) → IsTrue (state S.Store tx.old.conn.now).in_transaction
-        → OnOk result (Makes (with_rows the.Act (rows_of_acts (act_rows_from order.now 0 acts.now))) (state S.Store tx.old.conn.now) (state S.Store tx.new.conn.now)) }
-{
-    for (n, act) in acts.iter().enumerate() {
-        add_act(tx, order, n, act)?;
-    }
-    Ok(())
-}
-
 // The order has this open trip.
 fn write_open_trip<S: Alter>(
     tx: &mut Transaction<'_, S>,
@@ -243,9 +174,7 @@ fn write_open_trip<S: Alter>(
         → OnOk result (Makes (listed (row.Trip order.now (Some trip.now))) (state S.Store tx.old.conn.now) (state S.Store tx.new.conn.now)) }
 {
     put_journey(tx, order, &JourneyRow::of(trip))?;
-    drop_acts(tx, order)?;
-    add_acts(tx, order, trip.acts.as_slice())?;
-    Ok(trip.acts.len())
+    write_acts(tx, order, trip.acts.as_slice())
 }
 
 // The open trip of the order, if it has one.

@@ -12,7 +12,7 @@ ghost use Rattle.agv_tables.specs.rows.Columns.{journey_columns, meta_columns, r
 ghost use Rattle.agv_tables.specs.rows.DeskRows.{Makes, with_row};
 ghost use Rattle.agv_tables.specs.schema.SchemaNumbers.{schema_number};
 
-use crate::changes::change_writes::add_acts;
+use crate::changes::act_writes::add_acts;
 use crate::rows::row_values::{capacity_values, journey_values};
 use crate::rows::world_table::WorldTable;
 use crate::statements::row_writes::insert_row;

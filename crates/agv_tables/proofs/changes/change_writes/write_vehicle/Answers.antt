@@ -14,8 +14,9 @@ returns-clause-made g c clean =
     let key = c.args.key.now in
     let vehicle = c.args.vehicle.now in
     let mid = state g.S.Store c.put_vehicle.new.tx.conn.now in
-    let early : HasCleanDisk mid = omega (arith, c.put_capacity.ensures.survives.clean) in
-    on_ok c.put_capacity.result
+    let early : HasCleanDisk mid = omega (arith, c.write_room.ensures.survives.clean) in
+    let puts = c.in_ok-put_vehicle.ensures.made early in
+    on_ok c.write_room.result
     (makes_then (with_put the.Vehicle (vehicle_key key) (vehicle_columns key vehicle)) (with_put the.Capacity (vehicle_key key) (room_columns key vehicle))
-    (state g.S.Store c.args.tx.now.conn.now) mid (state g.S.Store c.put_capacity.new.tx.conn.now) (c.in_ok-put_vehicle.ensures.made early))
-    (c.put_capacity.ensures.made clean)
+    (state g.S.Store c.args.tx.now.conn.now) mid (state g.S.Store c.write_room.new.tx.conn.now) puts)
+    (c.write_room.ensures.made clean puts.mode)

@@ -4,7 +4,7 @@ use Rattle.sqlite.specs.Held.{state}
 use Rattle.sqlite.proofs.StateLemmas.{survives_then}
 use Rattle.agv_tables.proofs.changes.ChangesRun.{adds_all, adds_next, makes_nothing}
 use Rattle.agv_tables.proofs.schema.StepsRun.{keeps_itself, keeps_then}
-use Rattle.agv_tables.proofs.changes.change_writes.add_acts.Goals as goal
+use Rattle.agv_tables.proofs.changes.act_writes.add_acts.Goals as goal
 
 pub loop-n-init : goal.loop-n-init
 loop-n-init g c = let first = state g.S.Store c.args.tx.now.conn.now in (refl, search rules, λ clean. (keeps_itself first, makes_nothing first))

@@ -5,7 +5,7 @@ use Rattle.agv_trip_rows.specs.TripRows.{act_rows_from}
 use Rattle.agv_tables.specs.rows.DeskRows.{Makes, with_rows}
 use Rattle.agv_tables.specs.rows.RowLists.{rows_of_acts}
 use Rattle.agv_tables.specs.declared.schema.table_name.TableName.TheVariants as the
-use Rattle.agv_tables.proofs.changes.change_writes.add_acts.Given as goal
+use Rattle.agv_tables.proofs.changes.act_writes.add_acts.Given as goal
 
 abbrev pub invariant-loop-n : goal.invariant-loop-n
 invariant-loop-n g l =

@@ -1,0 +1,77 @@
+-- Rows that are shown inside a transaction, and are there already: they are as if they were written.
+use Rattle.std.proofs.Common.{◌≡◌, ◌∙◌, ◌⊎◌, inl, inr, ℕ, zero, suc, List, [], ◌∷◌, not, filter, IsTrue, IsPermutation, Ok, Err, OnOk, IfErr, Result, Vec, Global, refl, sym, subst}
+use Rattle.std.proofs.lemmas.List.Sorted.{IsPermutation-append_left, IsPermutation-filter_both, IsPermutation-refl, IsPermutation-sym, IsPermutation-trans}
+use Rattle.sqlite_value.specs.Order.{Row}
+use Rattle.sqlite.specs.declared.error.Error.{Error}
+use Rattle.sqlite.specs.Effect.{Database, IsDatabase}
+use Rattle.sqlite.specs.State.{State, FailsToQuery, IsRolledBack, IsTooLate, IsUnchanged, KeepsCommit}
+use Rattle.agv_tables.specs.rows.DeskRows.{Answers, Holds, KeepsOthers, Makes, has_columns, on_table, place_of, table_at, with_rows, without_rows}
+use Rattle.agv_tables.specs.rows.RowLists.{AreAlike}
+use Rattle.agv_tables.specs.declared.schema.table_name.TableName.{TableName}
+use Rattle.agv_tables.proofs.rows.KeyedRows.{added, added-permuted, on_table-twice, with_rows-added}
+use Rattle.agv_tables.proofs.rows.ListsHeld.{alike_itself, held_alike}
+use Rattle.agv_tables.proofs.sql.Running.{query_fails}
+use Rattle.agv_tables.proofs.statements.DeskStatements.{keeps_others_as_is, makes_then}
+
+-- ---- what a query leaves
+
+unchanged_keeps : (a b : State) → IsUnchanged a b → KeepsCommit a b
+unchanged_keeps a b same = record { was_open = λ _. same.0.was_open; committed = λ _. same.0.committed_is }
+
+undone_keeps : (a b : State) → IsRolledBack a b → KeepsCommit a b
+undone_keeps a b back = record { was_open = back.was_open; committed = λ still. (back.undone still).1 }
+
+pub query_keeps : (sql : List ℕ) (params : Row) (a b : State) (r : Result (Vec Row Global) Error) → OnOk r (IsUnchanged a b)
+    → IfErr r (λ e. FailsToQuery sql params a b e ⊎ IsTooLate sql params a b e) → KeepsCommit a b
+query_keeps sql params a b (Ok rows) same fails = unchanged_keeps a b same
+query_keeps sql params a b (Err e) same (inl fails) = elim (query_fails sql params a b e fails) [ inl unchanged ↦ unchanged_keeps a b unchanged | inr back ↦ undone_keeps a b back ]
+query_keeps sql params a b (Err e) same (inr late) = unchanged_keeps a b late.5
+
+makes_unchanged : (a b : State) → IsUnchanged a b → IsTrue a.in_transaction → Makes (λ lists. lists) a b
+makes_unchanged a b same inside =
+    let now = sym same.0.now_is in
+    record {
+      made = λ desk is lists h. subst (λ db. Holds desk db lists) now h;
+      others = λ desk is has. subst (KeepsOthers desk a.now) now (keeps_others_as_is desk a.now);
+      listed = λ desk is has whole. subst IsDatabase now whole;
+      kept = same.0.committed_is;
+      mode = subst IsTrue (sym same.0.mode) inside;
+    }
+
+-- what is made after it is made after what was before it
+pub makes_after : (change : List (List Row) → List (List Row)) (a b c : State) → IsUnchanged a b → IsTrue a.in_transaction → Makes change b c → Makes change a c
+makes_after change a b c same inside made = makes_then (λ lists. lists) change a b c (makes_unchanged a b same inside) made
+
+-- ---- rows that are there already
+
+changed-alike : (at : ℕ) (f : List Row → List Row) (lists : List (List Row)) → IsPermutation (table_at at lists) (f (table_at at lists)) → AreAlike lists (on_table at f lists)
+changed-alike at f [] h = tt
+changed-alike zero f (rows ∷ lists) h = (h, alike_itself lists)
+changed-alike (suc at) f (rows ∷ lists) h = (IsPermutation-refl rows, changed-alike at f lists h)
+
+-- where the rows that go are those that come, the tables have the same rows
+stay-alike : (name : TableName) (columns : List ℕ) (key : Row) (more : List Row) (lists : List (List Row))
+    → IsPermutation (filter (has_columns columns key) (table_at (place_of name) lists)) more → AreAlike lists (with_rows name more (without_rows name columns key lists))
+stay-alike name columns key more lists h =
+    let at = place_of name in
+    let passes = has_columns columns key in
+    let fails = λ (row : Row). not (has_columns columns key row) in
+    let all = table_at at lists in
+    let whole : IsPermutation all (added more (filter fails all)) =
+    IsPermutation-trans _ _ _ (IsPermutation-filter_both passes fails (λ row. refl) all)
+    (IsPermutation-trans _ _ _ (IsPermutation-append_left (filter fails all) (filter passes all) more h) (IsPermutation-sym _ _ (added-permuted more (filter fails all)))) in
+    subst (AreAlike lists) (sym (with_rows-added name more (without_rows name columns key lists) ∙ on_table-twice at (added more) (filter fails) lists))
+    (changed-alike at (λ rows. added more (filter fails rows)) lists whole)
+
+-- the rows that are shown are those that would be written in their place
+pub rows_stay : (name : TableName) (columns : List ℕ) (key : Row) (more : List Row) (a b : State) → IsUnchanged a b → IsTrue a.in_transaction
+    → Answers (λ lists. filter (has_columns columns key) (table_at (place_of name) lists)) a more → Makes (λ lists. with_rows name more (without_rows name columns key lists)) a b
+rows_stay name columns key more a b same inside shown =
+    let nothing = makes_unchanged a b same inside in
+    record {
+      made = λ desk is lists h. held_alike desk b.now lists (with_rows name more (without_rows name columns key lists)) (stay-alike name columns key more lists (shown desk is lists h)) (nothing.made desk is lists h);
+      others = nothing.others;
+      listed = nothing.listed;
+      kept = nothing.kept;
+      mode = nothing.mode;
+    }

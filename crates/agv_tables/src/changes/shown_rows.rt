@@ -1,0 +1,65 @@
+//! Whether rows that are shown are those that would be written: then nothing has to be.
+ghost use Rattle.std.specs.Prelude.{◌≡◌, ◌+◌, ◌<◌, ◌^◌, [], ◌∷◌, length, IsTrue};
+ghost use Rattle.agv_trip_rows.specs.TripRows.{act_key, act_row, act_rows_from};
+ghost use Rattle.agv_tables.specs.rows.Columns.{act_columns, room_columns};
+ghost use Rattle.agv_tables.specs.rows.RowLists.{rows_of_acts};
+
+use crate::rows::decode_row::{decode_act, decode_capacity};
+use crate::rows::row_laws::a_row_told_writes_its_columns;
+use agv_header::{Name, VehicleKey};
+use agv_order::Act;
+use agv_world::VehicleRow;
+use sqlite::Row;
+
+// Whether the row is that of this vehicle's room for loads.
+fn is_room(row: &Row, key: &VehicleKey, vehicle: &VehicleRow) -> bool
+    ensures { IsTrue result → row.now ≡ room_columns key.now vehicle.now }
+{
+    a_row_told_writes_its_columns();
+    match decode_capacity(row) {
+        None => false,
+        Some((told, room)) => told == *key && room.capacity == vehicle.capacity,
+    }
+}
+
+/// Whether the only row is that of this vehicle's room for loads.
+pub(crate) fn is_only_room(rows: &[Row], key: &VehicleKey, vehicle: &VehicleRow) -> bool
+    ensures { IsTrue result → rows.now ≡ room_columns key.now vehicle.now ∷ [] }
+{
+    match rows {
+        [row] => is_room(row, key, vehicle),
+        _ => false,
+    }
+}
+
+// Whether the row is that of this act of the order, at this number.
+fn is_act(row: &Row, order: &Name, n: usize, act: &Act) -> bool
+    ensures { IsTrue result → row.now ≡ act_columns (act_key order.now n) (act_row act.now) }
+{
+    a_row_told_writes_its_columns();
+    match decode_act(row) {
+        None => false,
+        Some((key, told)) => {
+            key.order == *order
+                && key.k as usize == n
+                && told.job == act.job
+                && told.kind == act.kind
+                && told.place_at == act.place_at
+                && told.status == act.status
+        }
+    }
+}
+
+/// Whether the rows, in their order, are those of these acts of the order, which are numbered from `n` on.
+pub(crate) fn are_acts(rows: &[Row], order: &Name, n: usize, acts: &[Act]) -> bool
+    requires { n + length acts.now < 2 ^ 64 }
+    ensures { IsTrue result → rows.now ≡ rows_of_acts (act_rows_from order.now n acts.now) }
+{
+    match (rows, acts) {
+        ([], []) => true,
+        ([row, rows @ ..], [act, acts @ ..]) => {
+            is_act(row, order, n, act) && are_acts(rows, order, n + 1, acts)
+        }
+        _ => false,
+    }
+}
