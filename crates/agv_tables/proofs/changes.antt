@@ -1,3 +1,4 @@
 pub mod ChangesFound
 pub mod ChangesRun
 pub mod RowsStay
+pub mod OwnKeys

@@ -3,3 +3,4 @@ pub mod QueryMeanings
 pub mod RowForms
 pub mod RowMeanings
 pub mod RowidMeanings
+pub mod UpdateMeanings

@@ -1,2 +1,3 @@
 pub mod RowQueries
 pub mod RowTexts
+pub mod RowUpdates

@@ -5,4 +5,6 @@ pub(crate) mod query_texts;
 pub(crate) mod row_finds;
 pub(crate) mod row_reads;
 pub(crate) mod row_texts;
+pub(crate) mod row_updates;
 pub(crate) mod row_writes;
+pub(crate) mod updated_table;

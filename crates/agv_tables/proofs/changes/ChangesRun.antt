@@ -13,6 +13,8 @@ use Rattle.agv_tables.specs.rows.Columns.{act_columns}
 use Rattle.agv_tables.specs.rows.DeskRows.{FitsTable, Makes, with_put_by, with_row, with_rows}
 use Rattle.agv_tables.specs.rows.RowLists.{listed, listed_all, rows_of_acts}
 use Rattle.agv_tables.specs.statements.RowTexts.{columns_deleted, table_written}
+use Rattle.agv_tables.specs.statements.RowUpdates.{IsKeyOf, table_updated}
+use Rattle.agv_tables.specs.declared.statements.updated_table.UpdatedTable.{UpdatedTable}
 use Rattle.agv_tables.specs.declared.rows.world_table.WorldTable.{WorldTable}
 use Rattle.agv_tables.specs.declared.schema.table_name.TableName.TheVariants as the
 use Rattle.agv_tables.proofs.statements.DeskStatements.{keeps_others_as_is, makes_then}
@@ -36,6 +38,16 @@ pub puts : (table : WorldTable) (given_key key given row : Row) (a b : State) (r
 puts table given_key key given row a b r keyed valued fit made =
     subst (λ (k : Row). OnOk r (Makes (with_put_by (table_written table) (columns_deleted table) k row) a b)) keyed
     (subst (λ (v : Row). FitsTable (table_written table) v → OnOk r (Makes (with_put_by (table_written table) (columns_deleted table) given_key v) a b)) valued made fit)
+
+-- and so is what is written over the row of its key
+pub puts_over : (table : UpdatedTable) (given_key key given row : Row) (a b : State) (r : Result ℕ Error) → given_key ≡ key → given ≡ row → FitsTable (table_written (table_updated table)) row → IsKeyOf (columns_deleted (table_updated table)) key row
+    → (FitsTable (table_written (table_updated table)) given → IsKeyOf (columns_deleted (table_updated table)) given_key given → OnOk r (Makes (with_put_by (table_written (table_updated table)) (columns_deleted (table_updated table)) given_key given) a b))
+    → OnOk r (Makes (with_put_by (table_written (table_updated table)) (columns_deleted (table_updated table)) key row) a b)
+puts_over table given_key key given row a b r keyed valued fit is_key made =
+    let name = table_written (table_updated table) in
+    let columns = columns_deleted (table_updated table) in
+    subst (λ (k : Row). IsKeyOf columns k row → OnOk r (Makes (with_put_by name columns k row) a b)) keyed
+    (subst (λ (v : Row). FitsTable name v → IsKeyOf columns given_key v → OnOk r (Makes (with_put_by name columns given_key v) a b)) valued made fit) is_key
 
 -- ---- the acts of an order
 

@@ -1,31 +1,17 @@
 -- Rows that are shown inside a transaction, and are there already: they are as if they were written.
-use Rattle.std.proofs.Common.{◌≡◌, ◌∙◌, ◌⊎◌, inl, inr, ℕ, zero, suc, List, [], ◌∷◌, not, filter, IsTrue, IsPermutation, Ok, Err, OnOk, IfErr, Result, Vec, Global, refl, sym, subst}
+use Rattle.std.proofs.Common.{◌∙◌, ℕ, zero, suc, List, [], ◌∷◌, not, filter, IsTrue, IsPermutation, refl, sym, subst}
 use Rattle.std.proofs.lemmas.List.Sorted.{IsPermutation-append_left, IsPermutation-filter_both, IsPermutation-refl, IsPermutation-sym, IsPermutation-trans}
 use Rattle.sqlite_value.specs.Order.{Row}
-use Rattle.sqlite.specs.declared.error.Error.{Error}
-use Rattle.sqlite.specs.Effect.{Database, IsDatabase}
-use Rattle.sqlite.specs.State.{State, FailsToQuery, IsRolledBack, IsTooLate, IsUnchanged, KeepsCommit}
+use Rattle.sqlite.specs.Effect.{IsDatabase}
+use Rattle.sqlite.specs.State.{State, IsUnchanged}
 use Rattle.agv_tables.specs.rows.DeskRows.{Answers, Holds, KeepsOthers, Makes, has_columns, on_table, place_of, table_at, with_rows, without_rows}
 use Rattle.agv_tables.specs.rows.RowLists.{AreAlike}
 use Rattle.agv_tables.specs.declared.schema.table_name.TableName.{TableName}
 use Rattle.agv_tables.proofs.rows.KeyedRows.{added, added-permuted, on_table-twice, with_rows-added}
 use Rattle.agv_tables.proofs.rows.ListsHeld.{alike_itself, held_alike}
-use Rattle.agv_tables.proofs.sql.Running.{query_fails}
 use Rattle.agv_tables.proofs.statements.DeskStatements.{keeps_others_as_is, makes_then}
 
--- ---- what a query leaves
-
-unchanged_keeps : (a b : State) → IsUnchanged a b → KeepsCommit a b
-unchanged_keeps a b same = record { was_open = λ _. same.0.was_open; committed = λ _. same.0.committed_is }
-
-undone_keeps : (a b : State) → IsRolledBack a b → KeepsCommit a b
-undone_keeps a b back = record { was_open = back.was_open; committed = λ still. (back.undone still).1 }
-
-pub query_keeps : (sql : List ℕ) (params : Row) (a b : State) (r : Result (Vec Row Global) Error) → OnOk r (IsUnchanged a b)
-    → IfErr r (λ e. FailsToQuery sql params a b e ⊎ IsTooLate sql params a b e) → KeepsCommit a b
-query_keeps sql params a b (Ok rows) same fails = unchanged_keeps a b same
-query_keeps sql params a b (Err e) same (inl fails) = elim (query_fails sql params a b e fails) [ inl unchanged ↦ unchanged_keeps a b unchanged | inr back ↦ undone_keeps a b back ]
-query_keeps sql params a b (Err e) same (inr late) = unchanged_keeps a b late.5
+-- ---- nothing is done
 
 makes_unchanged : (a b : State) → IsUnchanged a b → IsTrue a.in_transaction → Makes (λ lists. lists) a b
 makes_unchanged a b same inside =

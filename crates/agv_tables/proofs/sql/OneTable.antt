@@ -82,6 +82,10 @@ abbrev pub test_reads_only : Table → Option Expr → Bool
 test_reads_only t None = true
 test_reads_only t (Some e) = reads_only t deepest e
 
+abbrev pub sets_read_only : Table → List (Name × Expr) → Bool
+sets_read_only t [] = true
+sets_read_only t (set ∷ more) = reads_only t deepest set.1 && sets_read_only t more
+
 abbrev pub shown_reads_only_at : Table → ShownLayer → Bool
 shown_reads_only_at t (Shown-F.One e alias text) = reads_only t deepest e
 shown_reads_only_at t _ = false
@@ -116,6 +120,14 @@ pub record Means (s : Schema) (sql : List ℕ) (command : Command) : Type 0 wher
 abbrev pub deletion_test : Statement → Option Expr
 deletion_test (written.Delete name test shown) = test
 deletion_test _ = None
+
+abbrev pub update_sets : Statement → List (Name × Expr)
+update_sets (written.Update name sets test shown) = sets
+update_sets _ = []
+
+abbrev pub update_test : Statement → Option Expr
+update_test (written.Update name sets test shown) = test
+update_test _ = None
 
 abbrev pub insertion_columns : Statement → List Name
 insertion_columns (written.Insert how name columns all clauses shown) = columns

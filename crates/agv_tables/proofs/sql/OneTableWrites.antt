@@ -1,6 +1,7 @@
--- What a DELETE and an INSERT on one table mean, wherever the table stands.
-use Rattle.std.proofs.Common.{◌≡◌, ◌+◌, ◌∙◌, [], ◌∷◌, ◌++◌, ℕ, List, true, false, Option, Some, None, Ok, slice_get, refl, sym, ap, subst}
+-- What a DELETE, an UPDATE and an INSERT on one table mean, wherever the table stands.
+use Rattle.std.proofs.Common.{◌≡◌, ◌+◌, ◌∙◌, [], ◌∷◌, ◌++◌, ℕ, List, if◌then◌else◌, true, false, Option, Some, None, Ok, slice_get, refl, sym, ap, subst}
 use Rattle.sqlite_ast.specs.declared.Expr.{Expr}
+use Rattle.std.proofs.lemmas.Bool.{and_parts}
 use Rattle.sqlite_ast.specs.declared.Rows.{Rows}
 use Rattle.sqlite_ast.specs.declared.Conflict.TheVariants as conflict
 use Rattle.sqlite_ast.specs.declared.Statement.TheVariants as written
@@ -10,23 +11,26 @@ use Rattle.sqlite_sql.specs.Query.{inner, end}
 use Rattle.sqlite_schema.specs.declared.schema.Table.{Table}
 use Rattle.sqlite_schema.specs.declared.schema.Schema.{Schema}
 use Rattle.sqlite_schema.specs.declared.command.Command.{Command}
-use Rattle.sqlite_schema.specs.declared.command.Command.TheVariants.{Insert, Delete}
+use Rattle.sqlite_schema.specs.declared.command.Command.TheVariants.{Insert, Update, Delete}
 use Rattle.sqlite_schema.specs.declared.command.Source.TheVariants.{Values}
 use Rattle.sqlite_draft.specs.declared.join.Step.TheVariants.{Inner}
 use Rattle.sqlite_draft.specs.declared.query.Draft.{Draft}
 use Rattle.sqlite_draft.specs.Query.{query_of}
 use Rattle.sqlite_resolve.specs.declared.compiled.Compiled.{Compiled}
-use Rattle.sqlite_resolve.specs.Lowering.{◌<$>◌, ◌>>=◌, Checked, Lowering, pure, take_steps}
+use Rattle.sqlite_resolve.specs.declared.error.CompileError.TheVariants.{Unsupported}
+use Rattle.sqlite_resolve.specs.Lowering.{◌<$>◌, ◌>>=◌, Checked, Lowering, and_then, fail, fresh, get, max_budget, pure, take_steps}
 use Rattle.sqlite_resolve.specs.Scope.{Name, Context}
 use Rattle.sqlite_resolve.specs.Terms.{conjuncts}
 use Rattle.sqlite_resolve.specs.Expr.{lower}
 use Rattle.sqlite_resolve.specs.Body.{tests}
+use Rattle.sqlite_resolve.specs.Reach.{any_scans}
+use Rattle.sqlite_resolve.specs.Select.{value_of}
 use Rattle.sqlite_resolve.specs.Program.{program}
-use Rattle.sqlite_resolve.specs.Write.{simple, picked, deleted, over}
-use Rattle.sqlite_resolve.specs.Compile.{first, compiled, planned, meaning, timed, returning, command, shows, small, on_table, insert_or_abort, insert, new_rows, delete}
+use Rattle.sqlite_resolve.specs.Write.{simple, picked, deleted, over, row as new_row, with_place, sets, sets_from, assigned, updated, updated_in}
+use Rattle.sqlite_resolve.specs.Compile.{first, compiled, planned, meaning, timed, returning, command, shows, small, on_table, insert_or_abort, insert, new_rows, update, delete}
 use Rattle.sqlite.specs.Listing.{understood, misses_table}
 use Rattle.sqlite.proofs.Callers.{IsPlain, command_of}
-use Rattle.agv_tables.proofs.sql.OneTable.{IsIn, Means, compiled_as, parsed_or, unparsed, sole, deepest, test_reads_only, is_typed, query_by}
+use Rattle.agv_tables.proofs.sql.OneTable.{IsIn, Means, compiled_as, parsed_or, unparsed, sole, deepest, test_reads_only, is_typed, query_by, sets_read_only}
 use Rattle.agv_tables.proofs.sql.OneTableTerms.{lower_same}
 
 -- ---- from a compiled statement to its meaning
@@ -79,6 +83,31 @@ module _ (s s' : Schema) (t : Table) (at at' : ℕ) (there : slice_get s.tables 
   unfolding deleted
   deleted_same test h = rw (picked_same (col 1 0 ∷ []) test h)
 
+  -- the columns that are set, and what they are set to
+  sets_same : (done : List ℕ × List Term) (all : List (Name × Expr)) → sets_read_only t all ≡ true → sets_from (over s at t.name) t done all ≡ sets_from (over s' at' t.name) t done all
+  sets_same done [] h = refl
+  sets_same done (set ∷ more) h =
+      let both = and_parts _ _ h in
+      λ i st. and_then (with_place t done.0 set.0) (λ places. and_then (lower_same t s s' at at' there there' t.name [] false true deepest set.1 both.0 i st) (λ r. sets_same (places, done.1 ++ r.0 ∷ []) more both.1 i r.1))
+
+  abbrev unscanned : Lowering (List ℕ × List Term) → Lowering (List ℕ × List Term)
+  unscanned sets = do
+    found ← sets
+    st ← get
+    if any_scans t.tree st.steps then fail Unsupported else pure found
+
+  assigned_is : (c : Context) (all : List (Name × Expr)) → assigned c t all ≡ unscanned (sets_from c t ([], []) all)
+  unfolding assigned sets
+  assigned_is c all = refl
+
+  assigned_same : (all : List (Name × Expr)) → sets_read_only t all ≡ true → assigned (over s at t.name) t all ≡ assigned (over s' at' t.name) t all
+  assigned_same all h = assigned_is _ all ∙ ap unscanned (sets_same ([], []) all h) ∙ sym (assigned_is _ all)
+
+  updated_same : (all : List (Name × Expr)) (test : Option Expr) → sets_read_only t all ≡ true → test_reads_only t test ≡ true → updated s at t all test ≡ updated s' at' t all test
+  unfolding updated updated_in
+  updated_same all test h g =
+      λ i. and_then (assigned_same all h i (fresh 2 max_budget)) (λ r. and_then (new_row t None r.0.0 (col 1 0 ∷ []) r.0.1) (λ project. value_of (picked_same project test g i r.1)))
+
 -- ---- the statements
 
 module _ (s : Schema) (name : Name) (t : Table) (at : ℕ) (stands : IsIn s name t at) (sql : List ℕ) (p : Parsed) (read : first sql ≡ Ok p) (untimed : p.formats ≡ []) where
@@ -91,6 +120,16 @@ module _ (s : Schema) (name : Name) (t : Table) (at : ℕ) (stands : IsIn s name
       let picks : deleted s at t test ≡ Ok d = deleted_same s (sole t) t at 0 stands.there refl test reads ∙ found in
       let runs = program_is s name t at stands d refl typed in
       means s sql p _ read (rw (is, untimed)) (rw is) (rw is (on_table_is s name t at stands _ ∙ rw (picks, runs)))
+
+  pub update_means : (sets : List (Name × Expr)) (test : Option Expr) (terms project : List Term) → sets_read_only t sets ≡ true → test_reads_only t test ≡ true → p.statement ≡ written.Update name sets test []
+      → updated (sole t) 0 t sets test ≡ Ok (simple (Inner t.tree ∷ []) terms project) → is_typed t (query_by t.tree terms project) ≡ true
+      → Means s sql (Update at (record { lets = []; body = query_by t.tree terms project }))
+  unfolding command returning timed shows update
+  update_means sets test terms project sets_read reads is found typed =
+      let d = simple (Inner t.tree ∷ []) terms project in
+      let changes : updated s at t sets test ≡ Ok d = updated_same s (sole t) t at 0 stands.there refl sets test sets_read reads ∙ found in
+      let runs = program_is s name t at stands d refl typed in
+      means s sql p _ read (rw (is, untimed)) (rw is) (rw is (on_table_is s name t at stands _ ∙ rw (changes, runs)))
 
   pub insert_means : (columns : List Name) (all : Rows) (terms : List Term) (width : ℕ) → p.statement ≡ written.Insert conflict.Abort name columns all [] [] → t.stamps.formats ≡ []
       → new_rows s t (small p.names + 0) columns all ≡ Ok (Values terms width)

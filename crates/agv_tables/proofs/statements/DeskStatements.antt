@@ -63,7 +63,7 @@ within the.Act = refl
 
 -- ---- columns by which rows are taken out
 
-deleted_passes : (table : WorldTable) (key : Row) → passes (deleted_terms table) key ≡ has_columns (columns_deleted table) key
+pub deleted_passes : (table : WorldTable) (key : Row) → passes (deleted_terms table) key ≡ has_columns (columns_deleted table) key
 deleted_passes world.Node key = refl
 deleted_passes world.Edge key = refl
 deleted_passes world.Station key = refl
@@ -77,7 +77,7 @@ deleted_passes world.Job key = refl
 deleted_passes world.Hold key = refl
 deleted_passes world.Used key = refl
 
-deleted_within : (table : WorldTable) → list_all (reads_within (width_of (table_written table))) (deleted_terms table) ≡ true
+pub deleted_within : (table : WorldTable) → list_all (reads_within (width_of (table_written table))) (deleted_terms table) ≡ true
 deleted_within world.Node = refl
 deleted_within world.Edge = refl
 deleted_within world.Station = refl

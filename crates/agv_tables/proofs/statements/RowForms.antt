@@ -1,11 +1,13 @@
--- What an INSERT, a DELETE and a SELECT on one of the desk's tables do to its rows.
-use Rattle.std.proofs.Common.{◌≡◌, ◌≢◌, ℕ, zero, suc, ℤ, Bool, true, false, not, MatchBool, cond, List, [], ◌∷◌, ◌/◌, length, map, drop, filter, slice_get, Option, None, Ok, refl, sym, ap, ap₂, subst, ◌∙◌, append-nil, IsPermutation}
+-- What an INSERT, an UPDATE, a DELETE and a SELECT on one of the desk's tables do to its rows.
+use Rattle.std.proofs.Common.{◌≡◌, ◌≢◌, ◌++◌, ℕ, zero, suc, ℤ, Bool, true, false, not, MatchBool, cond, List, [], ◌∷◌, ◌/◌, length, map, drop, filter, slice_get, unwrap_or, Option, Some, None, Ok, refl, sym, ap, ap₂, subst, ◌∙◌, append-nil, IsPermutation}
 use Rattle.std.specs.List.{AllByRecursion, list_all}
 use Rattle.std.proofs.lemmas.Bool.{and_parts, not-true}
-use Rattle.std.proofs.lemmas.List.Sorted.{IsPermutation-map, IsPermutation-trans}
+use Rattle.std.proofs.lemmas.List.{length-map}
+use Rattle.std.proofs.lemmas.List.Sorted.{IsPermutation-append_left, IsPermutation-map, IsPermutation-sym, IsPermutation-trans, length_permutation}
 use Rattle.sqlite_value.specs.declared.value.Value.TheVariants.{Null, Int}
 use Rattle.sqlite_value.specs.Order.{Row, column}
-use Rattle.sqlite_trees.specs.Tree.{Trees, rowid}
+use Rattle.sqlite_trees.specs.Tree.{Trees, put_row, rowid}
+use Rattle.sqlite_trees.specs.View.{is_int}
 use Rattle.sqlite_trees.proofs.ListLemmas.{IsPermutation-filter}
 use Rattle.sqlite_sql.specs.Term.{Term, col, eval_all}
 use Rattle.sqlite_sql.specs.Ops.{unary}
@@ -14,11 +16,11 @@ use Rattle.sqlite_schema.specs.declared.schema.Keys.TheVariants.{Enforced}
 use Rattle.sqlite_schema.specs.declared.schema.Table.{Table}
 use Rattle.sqlite_schema.specs.declared.schema.Schema.{Schema}
 use Rattle.sqlite_schema.specs.declared.command.Command.{Command}
-use Rattle.sqlite_schema.specs.declared.command.Command.TheVariants.{Insert, Delete, Select}
+use Rattle.sqlite_schema.specs.declared.command.Command.TheVariants.{Insert, Update, Delete, Select}
 use Rattle.sqlite_schema.specs.declared.command.Source.TheVariants.{Values}
-use Rattle.sqlite_rules.specs.Cast.{cast, cast_all}
+use Rattle.sqlite_rules.specs.Cast.{cast, cast_all, cast_row}
 use Rattle.sqlite_rules.proofs.ListLemmas.{all_from, all_has}
-use Rattle.sqlite_rules.specs.Edit.{id_in, next_rowid, taken_by, Edit, edit_of, Applies, put_all, are_fresh, is_taken}
+use Rattle.sqlite_rules.specs.Edit.{id_in, next_rowid, taken_by, Edit, edit_of, Applies, numbered, put_all, are_fresh, is_taken, without_all}
 use Rattle.sqlite_rules.specs.Action.{works}
 use Rattle.sqlite_rules.specs.Calls.{ids_of}
 use Rattle.sqlite_rules.specs.declared.error.Rowids.TheVariants.{Chosen, Above, Given}
@@ -32,9 +34,10 @@ use Rattle.agv_tables.specs.rows.DeskRows.{width_of, table_for, place_of, Placin
 use Rattle.agv_tables.specs.declared.schema.table_name.TableName.{TableName}
 use Rattle.agv_tables.specs.declared.schema.table_name.TableName.TheVariants as the
 use Rattle.agv_tables.proofs.sql.OneTable.{Means, query_by}
-use Rattle.agv_tables.proofs.statements.RowMeanings.{from_slot, row_terms, column_terms}
+use Rattle.agv_tables.proofs.statements.RowMeanings.{from_slot, row_terms, over_terms, column_terms}
 use Rattle.agv_tables.proofs.sql.QueryRows.{entry_passes, passes, reads_within, filter_alike, answered_by}
 use Rattle.agv_tables.proofs.sql.EntryEdits.{filter_of_map, map_of_map, one_more_row, fewer_rows}
+use Rattle.agv_tables.proofs.rows.KeyedRows.{added, added-permuted}
 use Rattle.agv_tables.proofs.rows.ColumnValues.{same_either_way, cast_all_keeps, all_columns}
 use Rattle.agv_tables.proofs.schema.DeskPlaces.{is_among, one_of_a_tree, table_changes, table_has}
 use Rattle.agv_tables.proofs.sql.NoReferences.{sets_off_nothing}
@@ -54,9 +57,9 @@ drop_one_more (suc (suc k)) [] = refl
 drop_one_more (suc k) (v ∷ row) = drop_one_more k row
 
 -- the values of a slot from a place on
-params_in_turn : (k n : ℕ) (params : Row) → eval_all (from_slot 0 k n) (params ∷ []) ≡ first_columns n (drop k params)
-params_in_turn k zero params = refl
-params_in_turn k (suc n) params = ap₂ ◌∷◌ (column_past k params) (params_in_turn (suc k) n params ∙ ap (first_columns n) (sym (drop_one_more k params)))
+params_in_turn : (k n : ℕ) (params : Row) (more : List Row) → eval_all (from_slot 0 k n) (params ∷ more) ≡ first_columns n (drop k params)
+params_in_turn k zero params more = refl
+params_in_turn k (suc n) params more = ap₂ ◌∷◌ (column_past k params) (params_in_turn (suc k) n params more ∙ ap (first_columns n) (sym (drop_one_more k params)))
 
 columns_in_turn : (k n : ℕ) (params entry : Row) → eval_all (from_slot 1 k n) (params ∷ entry ∷ []) ≡ first_columns n (drop k entry)
 columns_in_turn k zero params entry = refl
@@ -120,12 +123,19 @@ settled task s w tally after h =
     let returned = went tested.2 in
     ap (λ (p : Tally × Database). p.1) (same_value returned.2)
 
--- a query that shows the rowid shows those of the entries that pass
-same_ids : (width : ℕ) (terms : List Term) (params : Row) → list_all (reads_within width) terms ≡ true → (entries answer : List Row)
-    → IsPermutation (map (λ e. eval_all (col 1 0 ∷ []) (params ∷ e ∷ [])) (filter (entry_passes terms params) entries)) answer
+-- and so many rows are counted
+tallied : (task : Task) (s : State) (w : Written) (tally : Tally) (after : Database) → Concludes task (mode_of s) None w (Ok (tally, after)) → tally.rows ≡ Some (length w.rows)
+tallied task s w tally after h =
+    let tested = went h in
+    let returned = went tested.2 in
+    ap (λ (p : Tally × Database). p.0.rows) (same_value returned.2)
+
+-- a query that shows the rowid first shows those of the entries that pass
+same_ids : (width : ℕ) (terms more : List Term) (params : Row) → list_all (reads_within width) terms ≡ true → (entries answer : List Row)
+    → IsPermutation (map (λ e. eval_all (col 1 0 ∷ more) (params ∷ e ∷ [])) (filter (entry_passes terms params) entries)) answer
     → IsPermutation (ids_of (filter (λ e. passes terms params (columns_in width e)) entries)) (ids_of answer)
-same_ids width terms params within entries answer h =
-    subst (λ xs. IsPermutation xs (ids_of answer)) (map_of_map (λ e. id_in (rowid e)) (λ e. eval_all (col 1 0 ∷ []) (params ∷ e ∷ [])) (filter (entry_passes terms params) entries) ∙ ap ids_of (filter_alike width terms params within entries))
+same_ids width terms more params within entries answer h =
+    subst (λ xs. IsPermutation xs (ids_of answer)) (map_of_map (λ e. id_in (rowid e)) (λ e. eval_all (col 1 0 ∷ more) (params ∷ e ∷ [])) (filter (entry_passes terms params) entries) ∙ ap ids_of (filter_alike width terms params within entries))
     (IsPermutation-map (λ e. id_in (rowid e)) _ _ h)
 
 cast_null : cast Integer Null ≡ Null
@@ -142,6 +152,45 @@ fresh_one entries entry h = not-true _ (and_parts _ _ h).0
 second : (P Q : Type 0) (b c : Bool) → b ≡ false → MatchBool (cond b c false) P Q → Q
 second P Q true c h x = absurd (cc)
 second P Q false c h x = x
+
+-- rows whose rowids are given keep them
+numbered_given : (entries rows : List Row) → numbered Given entries rows ≡ rows
+numbered_given entries [] = refl
+numbered_given entries (r ∷ rows) = ap (λ (more : List Row). r ∷ more) (numbered_given (put_row r entries) rows)
+
+-- entries are added one after the other
+more_rows : (width : ℕ) (news entries rows : List Row) → are_fresh entries news ≡ true → list_all (λ r. is_int (rowid r)) news ≡ true → HaveRows width entries rows → HaveRows width (put_all entries news) (added (map (columns_in width) news) rows)
+more_rows width [] entries rows fresh whole h = h
+more_rows width (r ∷ news) entries rows fresh whole h =
+    let free = and_parts _ _ fresh in
+    let int = and_parts _ _ whole in
+    more_rows width news (put_row r entries) (columns_in width r ∷ rows) free.1 int.1 (one_more_row width r entries rows (not-true _ free.0) int.0 h)
+
+-- what is written over an entry, as a query shows it
+abbrev written_in : TableName → ℕ → Row → Row
+written_in name tree s = cast_row (record (table_for name) { tree = tree }) (drop 1 s)
+
+-- what is written over the entries that pass is the row, each time
+copied : (name : TableName) (tree : ℕ) (row : Row) → FitsTable name row → (terms : List Term) → list_all (reads_within (width_of name)) terms ≡ true → (entries rows answer : List Row)
+    → IsPermutation rows (map (columns_in (width_of name)) entries)
+    → IsPermutation (map (λ e. eval_all (over_terms name) (row ∷ e ∷ [])) (filter (entry_passes terms row) entries)) answer
+    → IsPermutation (map (λ _. row) (filter (passes terms row) rows)) (map (λ s. columns_in (width_of name) (written_in name tree s)) answer)
+copied name tree row fit terms within entries rows answer was found =
+    let width = width_of name in
+    let p = passes terms row in
+    let shown : Row → Row = λ e. eval_all (over_terms name) (row ∷ e ∷ []) in
+    let g : Row → Row = λ s. columns_in width (written_in name tree s) in
+    let whole : first_columns width row ≡ row = all_columns (table_for name).columns row fit in
+    let fits : cast_all (table_for name).columns row ≡ row = cast_all_keeps (table_for name).columns row fit in
+    let each : (e : Row) → g (shown e) ≡ row =
+    λ e. ap (λ (cells : Row). first_columns width (cast_all (table_for name).columns cells)) (params_in_turn 0 width row (e ∷ []) ∙ whole) ∙ ap (first_columns width) fits ∙ whole in
+    let same : map (λ _. row) (filter p (map (columns_in width) entries)) ≡ map g (map shown (filter (entry_passes terms row) entries)) =
+    ap (map (λ _. row)) (filter_of_map p (columns_in width) entries)
+    ∙ map_of_map (λ _. row) (columns_in width) (filter (λ e. p (columns_in width e)) entries)
+    ∙ (λ i. map (λ e. sym (each e) i) (filter (λ e. p (columns_in width e)) entries))
+    ∙ ap (map (λ e. g (shown e))) (sym (filter_alike width terms row within entries))
+    ∙ sym (map_of_map g shown (filter (entry_passes terms row) entries)) in
+    IsPermutation-trans _ _ _ (IsPermutation-map (λ _. row) _ _ (IsPermutation-filter p _ _ was)) (subst (λ xs. IsPermutation xs (map g answer)) (sym same) (IsPermutation-map g _ _ found))
 
 -- what holds of each table but one of the desk's holds of each that is none of them
 of_fewer : (tree : TableName → ℕ) (name : TableName) (P : Table → Type 0) (tables : List Table) → AllByRecursion (λ (t : Table). t.tree ≢ tree name → P t) tables
@@ -216,7 +265,50 @@ module _ (desk : Placing) (is : IsDesk desk) (name : TableName) (old new : State
       let now : new.now ≡ record { schema = old.now.schema; trees = next } = settled (task_for params) old done.0 w.tally new.now done.2 ∙ ap (λ (t : Trees). record { schema = old.now.schema; trees = t }) trees in
       let found = answered_by table.tree terms (col 1 0 ∷ []) db params queried.0 (queried.1.answer Null) in
       lands edit next (filter (λ row. not (passes terms params row))) refl a (λ rows was.
-      rw a.rows (fewer_rows width (passes terms params) (db table.tree) rows was gone (same_ids width terms params within (db table.tree) queried.0 found))) now w.sound
+      rw a.rows (fewer_rows width (passes terms params) (db table.tree) rows was gone (same_ids width terms [] params within (db table.tree) queried.0 found))) now w.sound
+
+  pub rows_updated : (sql : List ℕ) (row : Row) → FitsTable name row → (terms : List Term) → list_all (reads_within width) terms ≡ true
+      → Means desk.schema sql (Update at (record { lets = []; body = query_by table.tree terms (over_terms name) }))
+      → (count : ℕ) → Executes sql row old new (Ok count)
+      → Lands desk old.now new.now (on_table (place_of name) (λ rows. map (λ _. row) (filter (passes terms row) rows) ++ filter (λ other. not (passes terms row other)) rows))
+      × ((lists : List (List Row)) → Holds desk old.now lists → count ≡ length (filter (passes terms row) (table_at (place_of name) lists)))
+  rows_updated sql row fit terms within means count ran =
+      let command = Update at (record { lets = []; body = query_by table.tree terms (over_terms name) }) in
+      let db = old.now.trees in
+      let entries = db table.tree in
+      let p = passes terms row in
+      let w = runs_as sql row old new desk.schema has command means.is means.plain count ran in
+      let done = went (on_table_here row command (w.tally, new.now) w.changed) in
+      let queried = went done.1 in
+      let answer = queried.0 in
+      let gone = ids_of answer in
+      let edit = edit_of db table gone Given 1 answer in
+      let edited = went queried.2 in
+      let next = edited.0 in
+      let a = applied edit next refl edited.1 in
+      let written : done.0 ≡ record { trees = next; rows = edit.news; last = None } = same_value edited.2 in
+      let now : new.now ≡ record { schema = old.now.schema; trees = next } =
+      settled (task_for row) old done.0 w.tally new.now done.2 ∙ ap (λ (it : Written). record { schema = old.now.schema; trees = it.trees }) written in
+      let found = answered_by table.tree terms (over_terms name) db row answer (queried.1.answer Null) in
+      let news : map (columns_in width) edit.news ≡ map (λ s. columns_in width (written_in name (desk.tree name) s)) answer =
+      ap (map (columns_in width)) (numbered_given (without_all entries gone) (map (written_in name (desk.tree name)) answer)) ∙ map_of_map (columns_in width) (written_in name (desk.tree name)) answer in
+      let copies : (rows : List Row) → HaveRows width entries rows → IsPermutation (map (λ _. row) (filter p rows)) (map (columns_in width) edit.news) =
+      λ rows was. subst (IsPermutation (map (λ _. row) (filter p rows))) (sym news) (copied name (desk.tree name) row fit terms within entries rows answer was.1 found) in (
+        lands edit next (λ rows. map (λ _. row) (filter p rows) ++ filter (λ other. not (p other)) rows) refl a (λ rows was.
+            let rest = filter (λ other. not (p other)) rows in
+            let fewer = fewer_rows width p entries rows was gone (same_ids width terms (col 1 0 ∷ from_slot 0 0 width) row within entries answer found) in
+            let more = more_rows width edit.news (without_all entries gone) rest a.fresh a.keyed fewer in
+            subst (λ es. HaveRows width es (map (λ _. row) (filter p rows) ++ rest)) (sym a.rows) (
+              more.0,
+              IsPermutation-trans _ _ _
+                  (IsPermutation-trans _ _ _ (IsPermutation-append_left rest (map (λ _. row) (filter p rows)) (map (columns_in width) edit.news) (copies rows was)) (IsPermutation-sym _ _ (added-permuted (map (columns_in width) edit.news) rest)))
+                  more.1,
+            )) now w.sound,
+        λ lists h.
+            let rows = table_at (place_of name) lists in
+            w.counted ∙ ap (λ (o : Option ℕ). unwrap_or o 0) (tallied (task_for row) old done.0 w.tally new.now done.2) ∙ ap (λ (it : Written). length it.rows) written
+            ∙ sym (length-map edit.news (columns_in width)) ∙ length_permutation _ _ (copies rows (table_has desk name db lists h.rows)) ∙ length-map (filter p rows) (λ _. row),
+      )
 
   pub row_inserted : (sql : List ℕ) (row : Row) → FitsTable name row
       → Means desk.schema sql (Insert at (Values (row_terms name) (suc width)))
@@ -236,7 +328,7 @@ module _ (desk : Placing) (is : IsDesk desk) (name : TableName) (old new : State
       let edit = edit_of db table [] Chosen 0 ((Null ∷ row) ∷ []) in
       let one : given.0 ≡ (Null ∷ row) ∷ [] =
       given.1.1 ∙ ap (λ ps. value_rows ps (suc width) (length (row_terms name) / suc width) (row_terms name)) (unstamped name (desk.tree name) row) ∙ one_row name row
-      ∙ ap (λ (r : Row). (Null ∷ r) ∷ []) (params_in_turn 0 width row ∙ whole) in
+      ∙ ap (λ (r : Row). (Null ∷ r) ∷ []) (params_in_turn 0 width row [] ∙ whole) in
       let same : first ≡ edit = ap (λ (how : Rowids). edit_of db table [] how 0 given.0) (chosen table.is_counted (count_of counter.0) (uncounted name)) ∙ ap (edit_of db table [] Chosen 0) one in
       let a = applied edit mid refl (subst (λ (e : Edit). Edited old.now.schema Enforced db e (Ok mid)) same edited.1) in
       let quiet = second _ _ table.is_counted _ (uncounted name) counted.1 in

@@ -32,6 +32,10 @@ from_slot slot at (suc n) = col slot at ∷ from_slot slot (suc at) n
 abbrev pub row_terms : TableName → List Term
 row_terms name = lit Null ∷ from_slot 0 0 (width_of name)
 
+-- a row that is written over one: the rowid of that, and the parameters under the same
+abbrev pub over_terms : TableName → List Term
+over_terms name = col 1 0 ∷ col 1 0 ∷ from_slot 0 0 (width_of name)
+
 -- the columns of the row
 abbrev pub column_terms : TableName → List Term
 column_terms name = from_slot 1 1 (width_of name)

@@ -23,7 +23,9 @@ use crate::rows::row_values::{
     station_values, used_values, vehicle_values,
 };
 use crate::rows::world_table::WorldTable;
+use crate::statements::row_updates::put_over;
 use crate::statements::row_writes::{delete_row, put_row};
+use crate::statements::updated_table::UpdatedTable;
 use agv_header::{Name, Thing, VehicleKey};
 use agv_layout::{EdgeEnds, StationSite};
 use agv_stock::Place;
@@ -94,9 +96,9 @@ fn put_vehicle<S: Alter>(
     ensures made { HasCleanDisk (state S.Store tx.new.conn.now)
         → OnOk result (Makes (with_put the.Vehicle (vehicle_key key.now) (vehicle_columns key.now vehicle.now)) (state S.Store tx.old.conn.now) (state S.Store tx.new.conn.now)) }
 {
-    put_row(
+    put_over(
         tx,
-        WorldTable::Vehicle,
+        UpdatedTable::Vehicle,
         &vehicle_key_values(key),
         &vehicle_values(key, vehicle),
     )
@@ -153,9 +155,9 @@ fn put_journey<S: Alter>(
     ensures made { HasCleanDisk (state S.Store tx.new.conn.now)
         → OnOk result (Makes (with_put the.Journey (name_key order.now) (journey_columns order.now journey.now)) (state S.Store tx.old.conn.now) (state S.Store tx.new.conn.now)) }
 {
-    put_row(
+    put_over(
         tx,
-        WorldTable::Journey,
+        UpdatedTable::Journey,
         &name_key_values(order),
         &journey_values(order, journey),
     )
@@ -241,9 +243,9 @@ fn write_load<S: Alter>(
     ensures made { HasCleanDisk (state S.Store tx.new.conn.now)
         → OnOk result (Makes (listed (row.Load id.now place.now)) (state S.Store tx.old.conn.now) (state S.Store tx.new.conn.now)) }
 {
-    put_row(
+    put_over(
         tx,
-        WorldTable::Load,
+        UpdatedTable::Load,
         &name_key_values(id),
         &load_values(id, place),
     )
@@ -257,9 +259,9 @@ fn write_job<S: Alter>(tx: &mut Transaction<'_, S>, id: &Name, job: &JobRow) -> 
     ensures made { HasCleanDisk (state S.Store tx.new.conn.now)
         → OnOk result (Makes (listed (row.Job id.now job.now)) (state S.Store tx.old.conn.now) (state S.Store tx.new.conn.now)) }
 {
-    put_row(
+    put_over(
         tx,
-        WorldTable::Job,
+        UpdatedTable::Job,
         &name_key_values(id),
         &job_values(id, job),
     )

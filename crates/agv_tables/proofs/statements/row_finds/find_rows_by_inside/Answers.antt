@@ -1,7 +1,7 @@
 use Rattle.sqlite.specs.Held.{state}
 use Rattle.sqlite.specs.Values.{bound}
 use Rattle.agv_tables.proofs.statements.DeskStatements.{query_shown}
-use Rattle.agv_tables.proofs.changes.RowsStay.{query_keeps}
+use Rattle.agv_tables.proofs.sql.Running.{query_keeps}
 use Rattle.agv_tables.proofs.sql.Selecting.{query_selects, select_keeps}
 use Rattle.agv_tables.proofs.statements.row_finds.find_rows_by_inside.Goals as goal
 
