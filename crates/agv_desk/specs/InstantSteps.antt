@@ -1,5 +1,5 @@
 -- The calls that give a vehicle an instant action: it is told to cancel, to pause or to go on (VDA 5050 2.0, instantActions; this project's profile).
-use Rattle.std.specs.Prelude.{ℕ, is_none, Some}
+use Rattle.std.specs.Prelude.{ℕ, is_none, is_some, Some}
 use Rattle.agv_header.specs.declared.key.VehicleKey.{VehicleKey}
 use Rattle.agv_header.specs.declared.refusal.Refusal.TheVariants as refusal
 use Rattle.agv_message.specs.declared.instant.InstantKind.{InstantKind}
@@ -22,8 +22,8 @@ instruct at key row kind =
 abbrev pub cancel : World → ℕ → VehicleKey → Outcome
 cancel world at key =
     refuse_if_none (row_of world key) refusal.NoVehicle (λ row.
-    refuse_if_none (trip_of world key) refusal.NoOrder (λ trip.
-    instruct at key row instant.CancelOrder))
+    refuse_unless (is_some (trip_of world key)) refusal.NoOrder
+    (instruct at key row instant.CancelOrder))
 
 -- POST .../pause: NoVehicle, InstantPending, Spent
 abbrev pub pause : World → ℕ → VehicleKey → Outcome

@@ -67,7 +67,7 @@ pub(crate) fn cancel<F: Floor>(
     let Some(row) = floor.vehicle(*key)? else {
         return Ok(refused(alloc, Refusal::NoVehicle));
     };
-    if floor.trip(*key)?.is_none() {
+    if !floor.has_trip(*key)? {
         return Ok(refused(alloc, Refusal::NoOrder));
     }
     Ok(instruct(alloc, at, key, &row, InstantKind::CancelOrder)?)

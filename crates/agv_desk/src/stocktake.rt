@@ -16,6 +16,7 @@ mod room;
 mod stations;
 
 use crate::decisions::{accepted_with, refused};
+use crate::shared::{is_new, reference_used};
 use crate::stocktake::counted_load::CountedLoad;
 use crate::stocktake::counted_load_list::{look_up, some_on_vehicle, unknown};
 use crate::stocktake::found::found_loads;
@@ -27,7 +28,7 @@ use agv_header::limits::MAX_RECORDS;
 use agv_header::{Memory, Name, Refusal};
 use agv_message::Sequence;
 use agv_stock::Place;
-use agv_world::{Change, Counted, Fault, Floor, UseKey, UseKind};
+use agv_world::{Change, Counted, Fault, Floor};
 use std::alloc::Global;
 
 // The loads are at their new places, and the reference is used.
@@ -38,10 +39,7 @@ fn changes(alloc: Global, reference: Name, moves: &[(Name, Place)]) -> Result<Ve
     for (load, place) in moves {
         changes.push(Change::Load(*load, *place))?;
     }
-    changes.push(Change::Used(UseKey {
-        kind: UseKind::Reference,
-        name: reference,
-    }))?;
+    changes.push(reference_used(reference))?;
     Ok(changes)
 }
 
@@ -102,7 +100,7 @@ pub(crate) fn take_stock<F: Floor>(
 ) -> Result<Decision, Fault>
     ensures { Asks F.facts floor.old floor.new result (λ world decision. decision ≡ decided (take_stock world reference rows.now)) }
 {
-    if floor.used(UseKind::Reference, reference)? {
+    if !is_new(floor, reference)? {
         return Ok(refused(alloc, Refusal::RefUsed));
     }
     let Some(stations) = counted_stations(alloc, floor, rows)? else {

@@ -145,7 +145,7 @@ module _ (world : World) (forgets : VehicleKey → Type 0) where
       })))
 
   pub cancels : (at : ℕ) (key : VehicleKey) → IfMade P (cancel world at key)
-  cancels at key = made_found P _ _ _ (λ row there. made_found P _ _ _ (λ trip is. instructs at key row _ there))
+  cancels at key = made_found P _ _ _ (λ row there. made_require P _ _ _ (λ has. instructs at key row _ there))
 
   pub pauses : (at : ℕ) (key : VehicleKey) → IfMade P (pause world at key)
   pauses at key = made_found P _ _ _ (λ row there. instructs at key row _ there)

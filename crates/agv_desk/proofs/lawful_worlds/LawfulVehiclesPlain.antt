@@ -120,7 +120,7 @@ module _ (given : Given) (more : GivenMore) (seats : ℕ) (world : World) (lawfu
       record { vehicles = notes key row _ there refl refl refl refl (λ vehicle. instructed_row seats world.layout row vehicle number at kind next moment) }))
 
   pub cancels : (at : ℕ) (key : VehicleKey) → IsMoment at → IfMade P (cancel world at key)
-  cancels at key moment = made_found P _ _ _ (λ row there. made_found P _ _ _ (λ trip is. instructs at key row _ moment there))
+  cancels at key moment = made_found P _ _ _ (λ row there. made_require P _ _ _ (λ has. instructs at key row _ moment there))
 
   pub pauses : (at : ℕ) (key : VehicleKey) → IsMoment at → IfMade P (pause world at key)
   pauses at key moment = made_found P _ _ _ (λ row there. instructs at key row _ moment there)

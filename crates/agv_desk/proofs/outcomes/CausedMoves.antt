@@ -132,7 +132,7 @@ module _ (world : World) where
   each seats at (call.StopJob job) = made_found (IsCaused _) _ _ _ (λ row a. made_require (IsCaused _) _ _ _ (λ b. record { answered = refl; caused = refl }))
   each seats at (call.StartOrder order key stops edges) = starts world _ at order key stops edges
   each seats at (call.Advance key order update edges) = advances world _ at key order update edges
-  each seats at (call.Cancel key) = made_found (IsCaused _) _ _ _ (λ row a. made_found (IsCaused _) _ _ _ (λ trip b. instructs world _ at key row _))
+  each seats at (call.Cancel key) = made_found (IsCaused _) _ _ _ (λ row a. made_require (IsCaused _) _ _ _ (λ b. instructs world _ at key row _))
   each seats at (call.Pause key) = made_found (IsCaused _) _ _ _ (λ row a. instructs world _ at key row _)
   each seats at (call.Resume key) = made_found (IsCaused _) _ _ _ (λ row a. instructs world _ at key row _)
   each seats at (call.PlaceVehicle key reference node) = places world _ key reference node

@@ -102,7 +102,7 @@ module _ (world : World) where
   instructs at key row kind there = made_require P _ _ _ (λ free. made_found P _ _ _ (λ number is. notes (answer.Instructed number) key row _ there))
 
   cancels : (at : ℕ) (key : VehicleKey) → IfMade P (cancel world at key)
-  cancels at key = made_found P _ _ _ (λ row there. made_found P _ _ _ (λ trip is. instructs at key row _ there))
+  cancels at key = made_found P _ _ _ (λ row there. made_require P _ _ _ (λ has. instructs at key row _ there))
 
   pauses : (at : ℕ) (key : VehicleKey) → IfMade P (pause world at key)
   pauses at key = made_found P _ _ _ (λ row there. instructs at key row _ there)

@@ -263,7 +263,7 @@ module _ (world : World) where
   each seats at (call.StopJob job) = by_found _ refusal.NoJob _ refl (λ row. by_require _ refusal.JobState _ refl (by_made _ tt))
   each seats at (call.StartOrder order key stops edges) = starts at order key stops edges
   each seats at (call.Advance key order update edges) = advances at key order update edges
-  each seats at (call.Cancel key) = by_found _ refusal.NoVehicle _ refl (λ row. by_found _ refusal.NoOrder _ refl (λ trip. instructs at key row _))
+  each seats at (call.Cancel key) = by_found _ refusal.NoVehicle _ refl (λ row. by_require _ refusal.NoOrder _ refl (instructs at key row _))
   each seats at (call.Pause key) = by_found _ refusal.NoVehicle _ refl (λ row. instructs at key row _)
   each seats at (call.Resume key) = by_found _ refusal.NoVehicle _ refl (λ row. instructs at key row _)
   each seats at (call.PlaceVehicle key reference node) = places key reference node

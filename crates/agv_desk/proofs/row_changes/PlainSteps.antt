@@ -71,7 +71,7 @@ module _ (given : Given) (world : World) (in_order : IsInOrder world) where
       made_require P _ _ _ (λ free. made_found P _ _ _ (λ number is. leads given world in_order _ (lays_none world) (notes given world in_order key row _ there refl refl)))
 
   pub cancels : (at : ℕ) (key : VehicleKey) → IfMade P (cancel world at key)
-  cancels at key = made_found P _ _ _ (λ row there. made_found P _ _ _ (λ trip is. instructs at key row _ there))
+  cancels at key = made_found P _ _ _ (λ row there. made_require P _ _ _ (λ has. instructs at key row _ there))
 
   pub pauses : (at : ℕ) (key : VehicleKey) → IfMade P (pause world at key)
   pauses at key = made_found P _ _ _ (λ row there. instructs at key row _ there)

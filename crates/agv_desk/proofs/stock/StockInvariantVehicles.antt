@@ -91,7 +91,7 @@ module _ (world : World) (stock : HasStockInvariant world) where
   instruct_keeps at key row kind there = made_require P _ _ _ (λ free. made_found P _ _ _ (λ number is. record { stock = noted key row _ there refl }))
 
   pub cancel_keeps : (at : ℕ) (key : VehicleKey) → IfMade P (cancel world at key)
-  cancel_keeps at key = made_found P _ _ _ (λ row there. made_found P _ _ _ (λ trip is. instruct_keeps at key row _ there))
+  cancel_keeps at key = made_found P _ _ _ (λ row there. made_require P _ _ _ (λ has. instruct_keeps at key row _ there))
 
   pub pause_keeps : (at : ℕ) (key : VehicleKey) → IfMade P (pause world at key)
   pause_keeps at key = made_found P _ _ _ (λ row there. instruct_keeps at key row _ there)

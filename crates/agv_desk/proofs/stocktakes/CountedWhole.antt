@@ -150,6 +150,6 @@ unfolding refuse_unless
 passed aboard in_job room few rest a b c d =
     λ i. refuse_unless (not (sym a i)) refusal.OnVehicle (refuse_unless (not (sym b i)) refusal.InJob (refuse_unless (sym c i) refusal.Full (refuse_unless (sym d i) refusal.Limit rest)))
 
-pub opened : (used known twice : Bool) (rest : Outcome) → used ≡ false → known ≡ true → twice ≡ false → rest ≡ refuse_unless (not used) refusal.RefUsed (refuse_unless known refusal.NoStation (refuse_unless (not twice) refusal.CountTwice rest))
+pub opened : (new known twice : Bool) (rest : Outcome) → new ≡ true → known ≡ true → twice ≡ false → rest ≡ refuse_unless new refusal.RefUsed (refuse_unless known refusal.NoStation (refuse_unless (not twice) refusal.CountTwice rest))
 unfolding refuse_unless
-opened used known twice rest a b c = λ i. refuse_unless (not (sym a i)) refusal.RefUsed (refuse_unless (sym b i) refusal.NoStation (refuse_unless (not (sym c i)) refusal.CountTwice rest))
+opened new known twice rest a b c = λ i. refuse_unless (sym a i) refusal.RefUsed (refuse_unless (sym b i) refusal.NoStation (refuse_unless (not (sym c i)) refusal.CountTwice rest))

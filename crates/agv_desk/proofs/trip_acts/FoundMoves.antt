@@ -111,7 +111,7 @@ module _ (world : World) where
   instructs at key row kind = made_require P _ _ _ (λ free. made_found P _ _ _ (λ number is. plain _ tt))
 
   cancels : (at : ℕ) (key : VehicleKey) → IfMade P (cancel world at key)
-  cancels at key = made_found P _ _ _ (λ row there. made_found P _ _ _ (λ trip is. instructs at key row _))
+  cancels at key = made_found P _ _ _ (λ row there. made_require P _ _ _ (λ has. instructs at key row _))
 
   pauses : (at : ℕ) (key : VehicleKey) → IfMade P (pause world at key)
   pauses at key = made_found P _ _ _ (λ row there. instructs at key row _)

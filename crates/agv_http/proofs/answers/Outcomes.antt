@@ -91,7 +91,7 @@ module _ (P : Answer → Type 0) (is : IsOfOutcomes P) (world : World) where
   outcome_of seats at (call.StopJob job) more h = of_found P is.refused _ _ _ (λ row. of_require P is.refused _ _ _ (of_made P is.refused _ is.done))
   outcome_of seats at (call.StartOrder order key stops edges) more h = starts at order key stops edges
   outcome_of seats at (call.Advance key order update edges) more h = advances at key order update edges
-  outcome_of seats at (call.Cancel key) more h = of_found P is.refused _ _ _ (λ row. of_found P is.refused _ _ _ (λ trip. instructs at key row _))
+  outcome_of seats at (call.Cancel key) more h = of_found P is.refused _ _ _ (λ row. of_require P is.refused _ _ _ (instructs at key row _))
   outcome_of seats at (call.Pause key) more h = of_found P is.refused _ _ _ (λ row. instructs at key row _)
   outcome_of seats at (call.Resume key) more h = of_found P is.refused _ _ _ (λ row. instructs at key row _)
   outcome_of seats at (call.PlaceVehicle key reference node) more h = places key reference node

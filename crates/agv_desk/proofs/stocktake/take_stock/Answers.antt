@@ -14,16 +14,16 @@ returns g c =
     let start = g.F.Floor.facts.world c.args.floor.now in
     let rows = c.args.rows.now in
     let reference = c.args.reference in
-    let used = c.in_ok-used.ensures in
-    let counted = asked_next used c.in_ok-stations.ensures in
+    let new = c.in_ok-is_new.ensures in
+    let counted = asked_next new c.in_ok-stations.ensures in
     let looked = asked_next counted c.in_ok-counted_list.ensures in
     answers_last g.F.Floor.facts c.args.floor.now c.look_up.new.floor c.count_loads.new.floor c.count_loads.result _ _ looked (λ decision list_clean told.
     let counted_clean = c.in_ok-counted_list.ensures.was_clean list_clean in
-    let used_clean = c.in_ok-stations.ensures.was_clean counted_clean in
-    let stations = subst (λ (o : Option Sites). AreCounted start rows o) c.in-Some.is (subst (λ (w : World). AreCounted w rows c.in_ok-stations.field-0) (used.world used_clean) (counted.told counted_clean)) in
+    let new_clean = c.in_ok-stations.ensures.was_clean counted_clean in
+    let stations = subst (λ (o : Option Sites). AreCounted start rows o) c.in-Some.is (subst (λ (w : World). AreCounted w rows c.in_ok-stations.field-0) (new.world new_clean) (counted.told counted_clean)) in
     let found = subst (λ (o : Option Found). AreFound rows o) c.in-Some-2.is c.in_ok-found.ensures in
     let counted_list : c.deref.result.now ≡ counted_loads start rows = c.deref.ensures.value ∙ looked.told list_clean ∙ ap (λ (w : World). counted_loads w rows) (counted.world counted_clean) in
     let outcome = (λ i. count_by_parts (looked.world list_clean i) reference (stations.1 i) (found.1 i) (counted_list i)) ∙ by_parts start reference rows stations.0
-    ∙ opened _ (are_known start rows) (has_twice rows) (count_loads start reference rows) (sym (used.told used_clean) ∙ c.if-branch.false) stations.0 found.0 in
+    ∙ opened _ (are_known start rows) (has_twice rows) (count_loads start reference rows) (sym (new.told new_clean) ∙ c.if-not-branch.false) stations.0 found.0 in
     subst (λ (outcome : Outcome). decision ≡ decided outcome) outcome told)
     c.count_loads.ensures
