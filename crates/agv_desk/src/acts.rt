@@ -14,21 +14,19 @@ use agv_order::{Act, Trip};
 use agv_stock::{Phase, Place};
 use agv_world::{Change, Fault, Floor, JobRow};
 
-// Whether the act becomes finished.
-fn becomes_finished(act: &Act, status: Status) -> bool
-    ensures { result ≡ becomes_finished (act.now, status) }
+/// Moves the loads of the acts that become finished, in their order.
+pub(crate) fn move_loads(
+    key: &VehicleKey,
+    acts: &[Act],
+    statuses: &[Status],
+    changes: &mut Vec<Change>,
+) -> Result<(), Memory>
+    ensures { (order : List ℕ) → OnOk result (changes.new.items ≡ changes.old.items ++ map (λ (move : Move). row.Load move.load move.place) (act_moves key.now order (zip acts.now statuses.now))) }
 {
-    matches!(status, Status::Finished) && !matches!(act.status, Status::Finished)
-}
-
-// Where the act takes its load: a pick to the vehicle, and a drop to the station.
-fn taken_to(key: &VehicleKey, act: &Act) -> Place
-    ensures { result ≡ taken_to key.now act.now.kind act.now.station }
-{
-    match act.kind {
-        ActKind::Pick => Place::Vehicle(*key),
-        ActKind::Drop => Place::Station(act.station),
+    for (act, status) in acts.iter().zip(statuses) {
+        move_load(key, act, *status, changes)?;
     }
+    Ok(())
 }
 
 // Moves the load of an act that becomes finished.
@@ -46,63 +44,14 @@ fn move_load(
     Ok(())
 }
 
-/// Moves the loads of the acts that become finished, in their order.
-pub(crate) fn move_loads(
-    key: &VehicleKey,
-    acts: &[Act],
-    statuses: &[Status],
-    changes: &mut Vec<Change>,
-) -> Result<(), Memory>
-    ensures { (order : List ℕ) → OnOk result (changes.new.items ≡ changes.old.items ++ map (λ (move : Move). row.Load move.load move.place) (act_moves key.now order (zip acts.now statuses.now))) }
+// Where the act takes its load: a pick to the vehicle, and a drop to the station.
+fn taken_to(key: &VehicleKey, act: &Act) -> Place
+    ensures { result ≡ taken_to key.now act.now.kind act.now.station }
 {
-    for (act, status) in acts.iter().zip(statuses) {
-        move_load(key, act, *status, changes)?;
+    match act.kind {
+        ActKind::Pick => Place::Vehicle(*key),
+        ActKind::Drop => Place::Station(act.station),
     }
-    Ok(())
-}
-
-// The phase that a job gets by its drop, if it changes; `ended` says whether the trip has.
-fn phase_by(ended: bool, act: &Act, status: Status) -> Option<Phase>
-    ensures { result ≡ phase_by ended (act.now, status) }
-{
-    if matches!(act.kind, ActKind::Pick) {
-        None
-    } else if becomes_finished(act, status) {
-        Some(Phase::Done)
-    } else if ended && !matches!(status, Status::Finished) {
-        Some(Phase::Stopped)
-    } else {
-        None
-    }
-}
-
-// The row of a job in this phase, if there is a phase and the job is there.
-fn job_in<F: Floor>(floor: &mut F, act: &Act, phase: Option<Phase>) -> Result<Option<JobRow>, Fault>
-    ensures { Asks F.facts floor.old floor.new result (λ world row. option_map (λ (job : JobRowOf). (act.now.job, job)) row ≡ job_in world act.now.job phase) }
-{
-    let Some(phase) = phase else {
-        return Ok(None);
-    };
-    match floor.job(act.job)? {
-        Some(row) => Ok(Some(JobRow { phase, ..row })),
-        None => Ok(None),
-    }
-}
-
-// Writes the job of an act, where its phase changes; `ended` says whether the trip has.
-fn write_job<F: Floor>(
-    floor: &mut F,
-    ended: bool,
-    act: &Act,
-    status: Status,
-    changes: &mut Vec<Change>,
-) -> Result<(), Fault>
-    ensures { Asks F.facts floor.old floor.new result (λ world done. changes.new.items ≡ changes.old.items ++ map (λ (job : List ℕ × JobRowOf). row.Job job.0 job.1) (act_jobs world ended ((act.now, status) ∷ []))) }
-{
-    if let Some(row) = job_in(floor, act, phase_by(ended, act, status))? {
-        changes.push(Change::Job(act.job, row))?;
-    }
-    Ok(())
 }
 
 /// Writes the jobs whose phase changes, in the order of the acts; `ended` says whether the trip has.
@@ -121,16 +70,6 @@ pub(crate) fn write_jobs<F: Floor>(
     Ok(())
 }
 
-// Writes the jobs of acts that stay as they are, where a trip ends with them.
-fn stop_acts<F: Floor>(floor: &mut F, acts: &[Act], changes: &mut Vec<Change>) -> Result<(), Fault>
-    ensures { Asks F.facts floor.old floor.new result (λ world done. changes.new.items ≡ changes.old.items ++ map (λ (job : List ℕ × JobRowOf). row.Job job.0 job.1) (act_jobs world true (map as_it_is acts.now))) }
-{
-    for act in acts {
-        write_job(floor, true, act, act.status, changes)?;
-    }
-    Ok(())
-}
-
 /// Writes the jobs that stop where a trip, if there is one, ends as it stands.
 pub(crate) fn stop_jobs<F: Floor>(
     floor: &mut F,
@@ -143,4 +82,65 @@ pub(crate) fn stop_jobs<F: Floor>(
         Some(trip) => stop_acts(floor, trip.acts.as_slice(), changes),
         None => Ok(()),
     }
+}
+
+// Writes the jobs of acts that stay as they are, where a trip ends with them.
+fn stop_acts<F: Floor>(floor: &mut F, acts: &[Act], changes: &mut Vec<Change>) -> Result<(), Fault>
+    ensures { Asks F.facts floor.old floor.new result (λ world done. changes.new.items ≡ changes.old.items ++ map (λ (job : List ℕ × JobRowOf). row.Job job.0 job.1) (act_jobs world true (map as_it_is acts.now))) }
+{
+    for act in acts {
+        write_job(floor, true, act, act.status, changes)?;
+    }
+    Ok(())
+}
+
+// Writes the job of an act, where its phase changes; `ended` says whether the trip has.
+fn write_job<F: Floor>(
+    floor: &mut F,
+    ended: bool,
+    act: &Act,
+    status: Status,
+    changes: &mut Vec<Change>,
+) -> Result<(), Fault>
+    ensures { Asks F.facts floor.old floor.new result (λ world done. changes.new.items ≡ changes.old.items ++ map (λ (job : List ℕ × JobRowOf). row.Job job.0 job.1) (act_jobs world ended ((act.now, status) ∷ []))) }
+{
+    if let Some(row) = job_in(floor, act, phase_by(ended, act, status))? {
+        changes.push(Change::Job(act.job, row))?;
+    }
+    Ok(())
+}
+
+// The row of a job in this phase, if there is a phase and the job is there.
+fn job_in<F: Floor>(floor: &mut F, act: &Act, phase: Option<Phase>) -> Result<Option<JobRow>, Fault>
+    ensures { Asks F.facts floor.old floor.new result (λ world row. option_map (λ (job : JobRowOf). (act.now.job, job)) row ≡ job_in world act.now.job phase) }
+{
+    let Some(phase) = phase else {
+        return Ok(None);
+    };
+    match floor.job(act.job)? {
+        Some(row) => Ok(Some(JobRow { phase, ..row })),
+        None => Ok(None),
+    }
+}
+
+// The phase that a job gets by its drop, if it changes; `ended` says whether the trip has.
+fn phase_by(ended: bool, act: &Act, status: Status) -> Option<Phase>
+    ensures { result ≡ phase_by ended (act.now, status) }
+{
+    if matches!(act.kind, ActKind::Pick) {
+        None
+    } else if becomes_finished(act, status) {
+        Some(Phase::Done)
+    } else if ended && !matches!(status, Status::Finished) {
+        Some(Phase::Stopped)
+    } else {
+        None
+    }
+}
+
+// Whether the act becomes finished.
+fn becomes_finished(act: &Act, status: Status) -> bool
+    ensures { result ≡ becomes_finished (act.now, status) }
+{
+    matches!(status, Status::Finished) && !matches!(act.status, Status::Finished)
 }

@@ -119,33 +119,6 @@ pub enum Call {
     LoadsExport,
 }
 
-// Each of these functions does nothing: a proof calls it for its clause.
-
-fn name_law(name: &Name)
-    ensures { IsName name.now }
-{
-    let _bytes = name.as_bytes();
-}
-
-fn key_law(key: &VehicleKey)
-    ensures { IsKey key.now }
-{
-    name_law(&key.manufacturer);
-    name_law(&key.serial);
-}
-
-fn names_law(rows: &[LayoutRow])
-    ensures { AreNamed rows.now }
-{
-    for row in rows {
-        row.name_law();
-    }
-}
-
-fn number_law(number: u32)
-    ensures { number ≤ 4294967295 }
-{}
-
 impl Call {
     /// The names that a call makes known are names, and the number of a state is in its range, since the parts of a
     /// call are of their types. It does nothing: a proof calls it for its clause.
@@ -179,3 +152,30 @@ impl Call {
         }
     }
 }
+
+fn names_law(rows: &[LayoutRow])
+    ensures { AreNamed rows.now }
+{
+    for row in rows {
+        row.name_law();
+    }
+}
+
+fn key_law(key: &VehicleKey)
+    ensures { IsKey key.now }
+{
+    name_law(&key.manufacturer);
+    name_law(&key.serial);
+}
+
+// Each of these functions does nothing: a proof calls it for its clause.
+
+fn name_law(name: &Name)
+    ensures { IsName name.now }
+{
+    let _bytes = name.as_bytes();
+}
+
+fn number_law(number: u32)
+    ensures { number ≤ 4294967295 }
+{}

@@ -24,6 +24,33 @@ use agv_header::Moment;
 use agv_world::{Fault, Floor};
 use std::alloc::Global;
 
+/// What a call is answered at a moment in the world of a floor, and the rows that it changes.
+///
+/// The answer is that of the table of calls (`specs/Step.antt`), and from a world in order the changes take the rows of
+/// the world to the rows of the world after the call; a call that is refused or only tells changes nothing. An update, a
+/// place, a state and the question for the last order message are answered so where the vehicle's trip has at most 200
+/// edges and eight acts, and no more updates than released edges, as every trip of a lawful world.
+///
+/// The floor is only asked (`Asks`). So after an answer its world is the same, and after a fault too where the floor is
+/// still open; that holds, and the answer is so, where the floor's store has given back what was written to it.
+///
+/// `Memory` where an allocation was refused, `Storage` where the floor has failed.
+#[tactic(auto, using(crate::proofs::outcomes::Deciding::of_size))]
+pub fn decide<F: Floor>(
+    alloc: Global,
+    floor: &mut F,
+    at: Moment,
+    call: &Call,
+) -> Result<Decision, Fault>
+    ensures decides { Asks F.facts floor.old floor.new result (λ world decision.
+        IsWithinTripLimits world call.now → decision ≡ decided (step (F.facts.seats floor.old) world at call.now)) }
+    ensures changes { Asks F.facts floor.old floor.new result (λ world decision.
+        IsInOrder world → changed decision.changes (rows_of world) ≡ rows_of (after world (step (F.facts.seats floor.old) world at call.now))) }
+{
+    leads_to_the_rows();
+    decide_each(alloc, floor, at, call)
+}
+
 // The function of each call.
 fn decide_each<F: Floor>(
     alloc: Global,
@@ -82,31 +109,4 @@ fn decide_each<F: Floor>(
         Call::HoldReport => Ok(answer_only(alloc, Answer::HoldReport)),
         Call::LoadsExport => Ok(answer_only(alloc, Answer::LoadsExport)),
     }
-}
-
-/// What a call is answered at a moment in the world of a floor, and the rows that it changes.
-///
-/// The answer is that of the table of calls (`specs/Step.antt`), and from a world in order the changes take the rows of
-/// the world to the rows of the world after the call; a call that is refused or only tells changes nothing. An update, a
-/// place, a state and the question for the last order message are answered so where the vehicle's trip has at most 200
-/// edges and eight acts, and no more updates than released edges, as every trip of a lawful world.
-///
-/// The floor is only asked (`Asks`). So after an answer its world is the same, and after a fault too where the floor is
-/// still open; that holds, and the answer is so, where the floor's store has given back what was written to it.
-///
-/// `Memory` where an allocation was refused, `Storage` where the floor has failed.
-#[tactic(auto, using(crate::proofs::outcomes::Deciding::of_size))]
-pub fn decide<F: Floor>(
-    alloc: Global,
-    floor: &mut F,
-    at: Moment,
-    call: &Call,
-) -> Result<Decision, Fault>
-    ensures decides { Asks F.facts floor.old floor.new result (λ world decision.
-        IsWithinTripLimits world call.now → decision ≡ decided (step (F.facts.seats floor.old) world at call.now)) }
-    ensures changes { Asks F.facts floor.old floor.new result (λ world decision.
-        IsInOrder world → changed decision.changes (rows_of world) ≡ rows_of (after world (step (F.facts.seats floor.old) world at call.now))) }
-{
-    leads_to_the_rows();
-    decide_each(alloc, floor, at, call)
 }

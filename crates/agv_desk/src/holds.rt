@@ -12,21 +12,6 @@ ghost use Rattle.agv_world.specs.declared.change.Change.TheVariants as row;
 use agv_header::{Memory, Thing, VehicleKey};
 use agv_world::{Change, Fault, Floor};
 
-// The vehicle that holds the node or edge, where it is another one than this.
-#[tactic(auto, unfolding(agv_world::specs::Questions::holder_of))]
-fn other_holder<F: Floor>(
-    floor: &mut F,
-    key: &VehicleKey,
-    thing: &Thing,
-) -> Result<Option<VehicleKey>, Fault>
-    ensures { Asks F.facts floor.old floor.new result (λ world by. by ≡ other_holder key.now (finite.get (rows_of world).holds thing.now)) }
-{
-    match floor.holder(*thing)? {
-        Some(by) if by != *key => Ok(Some(by)),
-        _ => Ok(None),
-    }
-}
-
 /// The first node or edge of the list that another vehicle holds, and that vehicle.
 pub(crate) fn first_held<F: Floor>(
     floor: &mut F,
@@ -43,11 +28,32 @@ pub(crate) fn first_held<F: Floor>(
     Ok(None)
 }
 
-// Whether the node or edge is in the list.
-fn is_in(thing: &Thing, things: &[Thing]) -> bool
-    ensures { result ≡ is_in thing.now things.now }
+// The vehicle that holds the node or edge, where it is another one than this.
+#[tactic(auto, unfolding(agv_world::specs::Questions::holder_of))]
+fn other_holder<F: Floor>(
+    floor: &mut F,
+    key: &VehicleKey,
+    thing: &Thing,
+) -> Result<Option<VehicleKey>, Fault>
+    ensures { Asks F.facts floor.old floor.new result (λ world by. by ≡ other_holder key.now (finite.get (rows_of world).holds thing.now)) }
 {
-    things.iter().any(|other| thing == other)
+    match floor.holder(*thing)? {
+        Some(by) if by != *key => Ok(Some(by)),
+        _ => Ok(None),
+    }
+}
+
+/// Writes what a vehicle holds from now on that it did not hold, and what it does not hold any more.
+pub(crate) fn write_holds(
+    key: &VehicleKey,
+    old: &[Thing],
+    new: &[Thing],
+    changes: &mut Vec<Change>,
+) -> Result<(), Memory>
+    ensures { OnOk result (changes.new.items ≡ changes.old.items ++ hold_changes key.now old.now new.now) }
+{
+    write_gained(old, new, &Some(*key), changes)?;
+    write_gained(new, old, &None, changes)
 }
 
 // Writes the holder of what is in the new list and not in the old one.
@@ -67,15 +73,9 @@ fn write_gained(
     Ok(())
 }
 
-/// Writes what a vehicle holds from now on that it did not hold, and what it does not hold any more.
-pub(crate) fn write_holds(
-    key: &VehicleKey,
-    old: &[Thing],
-    new: &[Thing],
-    changes: &mut Vec<Change>,
-) -> Result<(), Memory>
-    ensures { OnOk result (changes.new.items ≡ changes.old.items ++ hold_changes key.now old.now new.now) }
+// Whether the node or edge is in the list.
+fn is_in(thing: &Thing, things: &[Thing]) -> bool
+    ensures { result ≡ is_in thing.now things.now }
 {
-    write_gained(old, new, &Some(*key), changes)?;
-    write_gained(new, old, &None, changes)
+    things.iter().any(|other| thing == other)
 }

@@ -12,49 +12,6 @@ use agv_message::InstantKind;
 use agv_world::{Fault, Floor, Sent, VehicleRow};
 use std::alloc::Global;
 
-// The number of the next message of the topic; none where the numbers are used up.
-fn next_sent(sent: Sent) -> Option<u32>
-    ensures { result ≡ next_sent sent }
-{
-    next_number(sent.count)
-}
-
-// The row of a vehicle that was sent this action.
-fn instructed(row: &VehicleRow, at: Moment, number: u32, kind: InstantKind) -> VehicleRow
-    ensures { result ≡ record row.now { instants = record { count = number; at = at }; pending = Some kind } }
-{
-    VehicleRow {
-        instants: Sent { count: number, at },
-        pending: Some(kind),
-        ..*row
-    }
-}
-
-// An instant action for the vehicle, where none is pending.
-fn instruct(
-    alloc: Global,
-    at: Moment,
-    key: &VehicleKey,
-    row: &VehicleRow,
-    kind: InstantKind,
-) -> Result<Decision, Memory>
-    ensures { IfOk result (λ decision. decision ≡ decided (instruct at key.now row.now kind)) }
-{
-    if row.pending.is_some() {
-        return Ok(refused(alloc, Refusal::InstantPending));
-    }
-    let Some(number) = next_sent(row.instants) else {
-        return Ok(refused(alloc, Refusal::Spent));
-    };
-    row_update(
-        alloc,
-        Answer::Instructed(number),
-        key,
-        row,
-        instructed(row, at, number, kind),
-    )
-}
-
 /// The open order of a vehicle is to be cancelled.
 pub(crate) fn cancel<F: Floor>(
     alloc: Global,
@@ -101,4 +58,47 @@ pub(crate) fn resume<F: Floor>(
         return Ok(refused(alloc, Refusal::NoVehicle));
     };
     Ok(instruct(alloc, at, key, &row, InstantKind::StopPause)?)
+}
+
+// An instant action for the vehicle, where none is pending.
+fn instruct(
+    alloc: Global,
+    at: Moment,
+    key: &VehicleKey,
+    row: &VehicleRow,
+    kind: InstantKind,
+) -> Result<Decision, Memory>
+    ensures { IfOk result (λ decision. decision ≡ decided (instruct at key.now row.now kind)) }
+{
+    if row.pending.is_some() {
+        return Ok(refused(alloc, Refusal::InstantPending));
+    }
+    let Some(number) = next_sent(row.instants) else {
+        return Ok(refused(alloc, Refusal::Spent));
+    };
+    row_update(
+        alloc,
+        Answer::Instructed(number),
+        key,
+        row,
+        instructed(row, at, number, kind),
+    )
+}
+
+// The number of the next message of the topic; none where the numbers are used up.
+fn next_sent(sent: Sent) -> Option<u32>
+    ensures { result ≡ next_sent sent }
+{
+    next_number(sent.count)
+}
+
+// The row of a vehicle that was sent this action.
+fn instructed(row: &VehicleRow, at: Moment, number: u32, kind: InstantKind) -> VehicleRow
+    ensures { result ≡ record row.now { instants = record { count = number; at = at }; pending = Some kind } }
+{
+    VehicleRow {
+        instants: Sent { count: number, at },
+        pending: Some(kind),
+        ..*row
+    }
 }

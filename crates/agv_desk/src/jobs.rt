@@ -14,17 +14,6 @@ use agv_stock::{Phase, Place, can_job};
 use agv_world::{Change, Counted, Fault, Floor, JobRow};
 use std::alloc::Global;
 
-// The station where a load stands.
-fn station_in(place: Place) -> Option<Name>
-    ensures is { result ≡ station_in (Some place) }
-    ensures stored { is_some result ≡ is_stored place }
-{
-    match place {
-        Place::Station(id) => Some(id),
-        Place::Vehicle(_) | Place::Checking | Place::Left => None,
-    }
-}
-
 // Whether a job waits for a vehicle.
 pub(crate) fn is_waiting(phase: Phase) -> bool
     ensures { result ≡ is_waiting phase }
@@ -33,15 +22,6 @@ pub(crate) fn is_waiting(phase: Phase) -> bool
         Phase::Waiting => true,
         Phase::Riding | Phase::Done | Phase::Stopped => false,
     }
-}
-
-// A job is written.
-fn job_written(alloc: Global, job: Name, row: JobRow) -> Result<Decision, Memory>
-    ensures { IfOk result (λ decision. decision ≡ decided (Made (job_written job row))) }
-{
-    let mut changes = Vec::new(alloc);
-    changes.push(Change::Job(job, row))?;
-    Ok(accepted_with(Answer::Done, changes))
 }
 
 /// A load is to be carried to a station.
@@ -83,6 +63,17 @@ pub(crate) fn add_job<F: Floor>(
     Ok(job_written(alloc, job, row)?)
 }
 
+// The station where a load stands.
+fn station_in(place: Place) -> Option<Name>
+    ensures is { result ≡ station_in (Some place) }
+    ensures stored { is_some result ≡ is_stored place }
+{
+    match place {
+        Place::Station(id) => Some(id),
+        Place::Vehicle(_) | Place::Checking | Place::Left => None,
+    }
+}
+
 /// A job that waits is taken back.
 pub(crate) fn stop_job<F: Floor>(alloc: Global, floor: &mut F, job: Name) -> Result<Decision, Fault>
     ensures { Asks F.facts floor.old floor.new result (λ world decision. decision ≡ decided (stop_job world job)) }
@@ -98,4 +89,13 @@ pub(crate) fn stop_job<F: Floor>(alloc: Global, floor: &mut F, job: Name) -> Res
         ..row
     };
     Ok(job_written(alloc, job, stopped)?)
+}
+
+// A job is written.
+fn job_written(alloc: Global, job: Name, row: JobRow) -> Result<Decision, Memory>
+    ensures { IfOk result (λ decision. decision ≡ decided (Made (job_written job row))) }
+{
+    let mut changes = Vec::new(alloc);
+    changes.push(Change::Job(job, row))?;
+    Ok(accepted_with(Answer::Done, changes))
 }

@@ -43,46 +43,6 @@ impl From<Memory> for NotSet {
     }
 }
 
-// The row of a node, an edge or a station.
-fn row_written(row: &LayoutRow) -> Change
-    ensures { result ≡ row_written row.now }
-{
-    match row {
-        LayoutRow::Node { id } => Change::Node(*id),
-        LayoutRow::Edge { id, start, finish } => {
-            let (start, finish) = (*start, *finish);
-            Change::Edge(*id, EdgeEnds { start, finish })
-        }
-        LayoutRow::Station { id, node, capacity } => {
-            let (node, capacity) = (*node, *capacity);
-            Change::Station(*id, StationSite { node, capacity })
-        }
-    }
-}
-
-// The rows of a layout.
-fn layout_changes(alloc: Global, layout: &Layout) -> Result<Vec<Change>, Memory>
-    ensures { IfOk result (λ changes. changes.items ≡ layout_changes layout.now) }
-{
-    let rows = layout.rows(alloc)?;
-    let mut changes = Vec::new(alloc);
-    for row in rows.as_slice() {
-        changes.push(row_written(row))?;
-    }
-    Ok(changes)
-}
-
-// The layout that the rows give is set.
-#[tactic(auto, using(crate::proofs::row_changes::Laying::is_why))]
-fn lay(alloc: Global, rows: &[LayoutRow]) -> Result<Decision, NotSet>
-    ensures laid { IfOk result (λ decision. decision ≡ decided (lay rows.now)) }
-    ensures why { IfErr result (λ why. IsWhy (lay rows.now) why) }
-{
-    let layout = Layout::of_rows(alloc, rows)?;
-    let changes = layout_changes(alloc, &layout)?;
-    Ok(accepted_with(Answer::Done, changes))
-}
-
 /// Sets the layout, once for good.
 pub(crate) fn set_layout<F: Floor>(
     alloc: Global,
@@ -98,5 +58,45 @@ pub(crate) fn set_layout<F: Floor>(
         Ok(decision) => Ok(decision),
         Err(NotSet::Refused(why)) => Ok(refused(alloc, why)),
         Err(NotSet::Failed(memory)) => Err(memory.into()),
+    }
+}
+
+// The layout that the rows give is set.
+#[tactic(auto, using(crate::proofs::row_changes::Laying::is_why))]
+fn lay(alloc: Global, rows: &[LayoutRow]) -> Result<Decision, NotSet>
+    ensures laid { IfOk result (λ decision. decision ≡ decided (lay rows.now)) }
+    ensures why { IfErr result (λ why. IsWhy (lay rows.now) why) }
+{
+    let layout = Layout::of_rows(alloc, rows)?;
+    let changes = layout_changes(alloc, &layout)?;
+    Ok(accepted_with(Answer::Done, changes))
+}
+
+// The rows of a layout.
+fn layout_changes(alloc: Global, layout: &Layout) -> Result<Vec<Change>, Memory>
+    ensures { IfOk result (λ changes. changes.items ≡ layout_changes layout.now) }
+{
+    let rows = layout.rows(alloc)?;
+    let mut changes = Vec::new(alloc);
+    for row in rows.as_slice() {
+        changes.push(row_written(row))?;
+    }
+    Ok(changes)
+}
+
+// The row of a node, an edge or a station.
+fn row_written(row: &LayoutRow) -> Change
+    ensures { result ≡ row_written row.now }
+{
+    match row {
+        LayoutRow::Node { id } => Change::Node(*id),
+        LayoutRow::Edge { id, start, finish } => {
+            let (start, finish) = (*start, *finish);
+            Change::Edge(*id, EdgeEnds { start, finish })
+        }
+        LayoutRow::Station { id, node, capacity } => {
+            let (node, capacity) = (*node, *capacity);
+            Change::Station(*id, StationSite { node, capacity })
+        }
     }
 }

@@ -14,45 +14,6 @@ use agv_stock::{Goal, Place, can_correct, can_leave, can_register};
 use agv_world::{Change, Counted, Fault, Floor};
 use std::alloc::Global;
 
-// Where a load is to go, with what is known of the place.
-fn goal_of<F: Floor>(floor: &mut F, station: Option<Name>) -> Result<Goal, Fault>
-    ensures { Asks F.facts floor.old floor.new result (λ world goal. goal ≡ goal_of world station) }
-{
-    let Some(station) = station else {
-        return Ok(Goal::Checking);
-    };
-    Ok(goal_at(station, floor.room(station)?))
-}
-
-// Where it is then.
-fn place_of(station: Option<Name>) -> Place
-    ensures { result ≡ place_of station }
-{
-    match station {
-        Some(station) => Place::Station(station),
-        None => Place::Checking,
-    }
-}
-
-// A load is registered there.
-fn registered(alloc: Global, load: Name, to: Place) -> Result<Decision, Memory>
-    ensures { IfOk result (λ decision. decision ≡ decided (Made (registered load to))) }
-{
-    let mut changes = Vec::new(alloc);
-    changes.push(Change::Load(load, to))?;
-    Ok(accepted_with(Answer::Done, changes))
-}
-
-// A load is recorded there, and the reference is used.
-fn recorded(alloc: Global, load: Name, to: Place, reference: Name) -> Result<Decision, Memory>
-    ensures { IfOk result (λ decision. decision ≡ decided (Made (recorded load to reference))) }
-{
-    let mut changes = Vec::new(alloc);
-    changes.push(Change::Load(load, to))?;
-    changes.push(reference_used(reference))?;
-    Ok(accepted_with(Answer::Done, changes))
-}
-
 /// Registers a load.
 pub(crate) fn register_load<F: Floor>(
     alloc: Global,
@@ -74,6 +35,15 @@ pub(crate) fn register_load<F: Floor>(
         return Ok(refused(alloc, Refusal::Limit));
     }
     Ok(registered(alloc, load, place_of(station))?)
+}
+
+// A load is registered there.
+fn registered(alloc: Global, load: Name, to: Place) -> Result<Decision, Memory>
+    ensures { IfOk result (λ decision. decision ≡ decided (Made (registered load to))) }
+{
+    let mut changes = Vec::new(alloc);
+    changes.push(Change::Load(load, to))?;
+    Ok(accepted_with(Answer::Done, changes))
 }
 
 /// Corrects where a load is recorded.
@@ -109,6 +79,26 @@ pub(crate) fn correct_load<F: Floor>(
     Ok(recorded(alloc, load, place_of(station), reference)?)
 }
 
+// Where a load is to go, with what is known of the place.
+fn goal_of<F: Floor>(floor: &mut F, station: Option<Name>) -> Result<Goal, Fault>
+    ensures { Asks F.facts floor.old floor.new result (λ world goal. goal ≡ goal_of world station) }
+{
+    let Some(station) = station else {
+        return Ok(Goal::Checking);
+    };
+    Ok(goal_at(station, floor.room(station)?))
+}
+
+// Where it is then.
+fn place_of(station: Option<Name>) -> Place
+    ensures { result ≡ place_of station }
+{
+    match station {
+        Some(station) => Place::Station(station),
+        None => Place::Checking,
+    }
+}
+
 /// A load leaves the warehouse.
 pub(crate) fn leave_load<F: Floor>(
     alloc: Global,
@@ -135,4 +125,14 @@ pub(crate) fn leave_load<F: Floor>(
         return Ok(refused(alloc, Refusal::Limit));
     }
     Ok(recorded(alloc, load, Place::Left, reference)?)
+}
+
+// A load is recorded there, and the reference is used.
+fn recorded(alloc: Global, load: Name, to: Place, reference: Name) -> Result<Decision, Memory>
+    ensures { IfOk result (λ decision. decision ≡ decided (Made (recorded load to reference))) }
+{
+    let mut changes = Vec::new(alloc);
+    changes.push(Change::Load(load, to))?;
+    changes.push(reference_used(reference))?;
+    Ok(accepted_with(Answer::Done, changes))
 }

@@ -14,32 +14,6 @@ use agv_stock::{Job, Phase};
 use agv_world::{Change, Fault, Floor, JobRow};
 use std::alloc::Global;
 
-// A job with its name.
-fn named(name: &Name, row: &JobRow) -> Job
-    ensures { result ≡ named name.now row.now }
-{
-    Job {
-        name: *name,
-        load: row.load,
-        origin: row.origin,
-        target: row.target,
-        phase: row.phase,
-    }
-}
-
-// The job of a stop. It is one of those that were found, if it was asked for before.
-fn job_for<F: Floor>(floor: &mut F, jobs: &[Job], stop: &Stop) -> Result<Option<Job>, Fault>
-    ensures { Asks F.facts floor.old floor.new result (λ world job. AreFound world jobs.now → job ≡ job_for world stop.now) }
-{
-    if let Some(job) = job_named(jobs, stop.job) {
-        return Ok(Some(job));
-    }
-    match floor.job(stop.job)? {
-        Some(row) => Ok(Some(named(&stop.job, &row))),
-        None => Ok(None),
-    }
-}
-
 /// The jobs of the stops, in their order, each asked for once; none where one of them is unknown.
 pub(crate) fn jobs_for<F: Floor>(
     alloc: Global,
@@ -58,6 +32,32 @@ pub(crate) fn jobs_for<F: Floor>(
     Ok(Some(Sequence::from(jobs)))
 }
 
+// The job of a stop. It is one of those that were found, if it was asked for before.
+fn job_for<F: Floor>(floor: &mut F, jobs: &[Job], stop: &Stop) -> Result<Option<Job>, Fault>
+    ensures { Asks F.facts floor.old floor.new result (λ world job. AreFound world jobs.now → job ≡ job_for world stop.now) }
+{
+    if let Some(job) = job_named(jobs, stop.job) {
+        return Ok(Some(job));
+    }
+    match floor.job(stop.job)? {
+        Some(row) => Ok(Some(named(&stop.job, &row))),
+        None => Ok(None),
+    }
+}
+
+// A job with its name.
+fn named(name: &Name, row: &JobRow) -> Job
+    ensures { result ≡ named name.now row.now }
+{
+    Job {
+        name: *name,
+        load: row.load,
+        origin: row.origin,
+        target: row.target,
+        phase: row.phase,
+    }
+}
+
 /// Whether the job waits for a vehicle.
 pub(crate) fn waits(job: &Job) -> bool
     ensures { result ≡ waits job.now }
@@ -65,18 +65,27 @@ pub(crate) fn waits(job: &Job) -> bool
     matches!(job.phase, Phase::Waiting)
 }
 
-// Whether the load is picked at the stop.
-fn is_pick(stop: &Stop) -> bool
-    ensures { result ≡ is_pick stop.now }
-{
-    matches!(stop.kind, ActKind::Pick)
-}
-
 /// How many loads are picked.
 pub(crate) fn picks(stops: &[Stop]) -> usize
     ensures { result ≡ count_by is_pick stops.now }
 {
     stops.iter().filter(|stop| is_pick(stop)).count()
+}
+
+/// The jobs of an order, which ride.
+pub(crate) fn riding(
+    alloc: Global,
+    stops: &[Stop],
+    jobs: &[Job],
+) -> Result<Vec<(Name, JobRow)>, Memory>
+    ensures { IfOk result (λ rides. rides.items ≡ riding stops.now jobs.now) }
+{
+    let rides = stops
+        .iter()
+        .zip(jobs)
+        .filter_map(|(stop, job)| riding_by(stop, job))
+        .collect(alloc)?;
+    Ok(rides)
 }
 
 // The job of a stop rides; each job is picked once.
@@ -95,20 +104,11 @@ fn riding_by(stop: &Stop, job: &Job) -> Option<(Name, JobRow)>
     Some((job.name, row))
 }
 
-/// The jobs of an order, which ride.
-pub(crate) fn riding(
-    alloc: Global,
-    stops: &[Stop],
-    jobs: &[Job],
-) -> Result<Vec<(Name, JobRow)>, Memory>
-    ensures { IfOk result (λ rides. rides.items ≡ riding stops.now jobs.now) }
+// Whether the load is picked at the stop.
+fn is_pick(stop: &Stop) -> bool
+    ensures { result ≡ is_pick stop.now }
 {
-    let rides = stops
-        .iter()
-        .zip(jobs)
-        .filter_map(|(stop, job)| riding_by(stop, job))
-        .collect(alloc)?;
-    Ok(rides)
+    matches!(stop.kind, ActKind::Pick)
 }
 
 /// Writes the jobs.

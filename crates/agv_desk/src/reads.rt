@@ -22,28 +22,19 @@ pub(crate) fn answer_only(alloc: Global, answer: Answer) -> Decision
     accepted_with(answer, Vec::new(alloc))
 }
 
-// What the last message of a topic begins with.
-fn last_header(key: &VehicleKey, sent: &Sent) -> Header
-    ensures { result ≡ last_header key.now sent.now }
+/// The last order message of the vehicle's open order.
+pub(crate) fn get_order<F: Floor>(
+    alloc: Global,
+    floor: &mut F,
+    key: VehicleKey,
+) -> Result<Decision, Fault>
+    ensures { Asks F.facts floor.old floor.new result (λ world decision. IsOfSize (trip_of world key) → decision ≡ decided (get_order world key)) }
 {
-    Header {
-        number: sent.count,
-        at: sent.at,
-        key: *key,
-    }
-}
-
-// The last instantActions message, while its action is pending.
-fn instant_told(key: &VehicleKey, row: &VehicleRow) -> Answer
-    ensures { result ≡ instant_told key.now row.now row.now.pending }
-{
-    match row.pending {
-        Some(kind) => Answer::Instant {
-            header: last_header(key, &row.instants),
-            instant: InstantMessage { kind },
-        },
-        None => Answer::NoMessage,
-    }
+    let Some(row) = floor.vehicle(key)? else {
+        return Ok(refused(alloc, Refusal::NoVehicle));
+    };
+    let trip = floor.trip(key)?;
+    Ok(answer_only(alloc, order_told(alloc, &key, &row, &trip)?))
 }
 
 // The last order message of an open trip. A trip that is too long for a message is open in no lawful world.
@@ -67,32 +58,6 @@ fn order_told(
     })
 }
 
-// The open order of a trip.
-fn open_order(trip: &Trip) -> OpenOrder
-    ensures { result ≡ open_order trip.now }
-{
-    OpenOrder {
-        order: trip.order,
-        sent: trip.sent,
-        confirmed: trip.confirmed,
-    }
-}
-
-/// The last order message of the vehicle's open order.
-pub(crate) fn get_order<F: Floor>(
-    alloc: Global,
-    floor: &mut F,
-    key: VehicleKey,
-) -> Result<Decision, Fault>
-    ensures { Asks F.facts floor.old floor.new result (λ world decision. IsOfSize (trip_of world key) → decision ≡ decided (get_order world key)) }
-{
-    let Some(row) = floor.vehicle(key)? else {
-        return Ok(refused(alloc, Refusal::NoVehicle));
-    };
-    let trip = floor.trip(key)?;
-    Ok(answer_only(alloc, order_told(alloc, &key, &row, &trip)?))
-}
-
 /// The last instantActions message of a vehicle, while its action is pending.
 pub(crate) fn get_instant<F: Floor>(
     alloc: Global,
@@ -105,6 +70,30 @@ pub(crate) fn get_instant<F: Floor>(
         return Ok(refused(alloc, Refusal::NoVehicle));
     };
     Ok(answer_only(alloc, instant_told(&key, &row)))
+}
+
+// The last instantActions message, while its action is pending.
+fn instant_told(key: &VehicleKey, row: &VehicleRow) -> Answer
+    ensures { result ≡ instant_told key.now row.now row.now.pending }
+{
+    match row.pending {
+        Some(kind) => Answer::Instant {
+            header: last_header(key, &row.instants),
+            instant: InstantMessage { kind },
+        },
+        None => Answer::NoMessage,
+    }
+}
+
+// What the last message of a topic begins with.
+fn last_header(key: &VehicleKey, sent: &Sent) -> Header
+    ensures { result ≡ last_header key.now sent.now }
+{
+    Header {
+        number: sent.count,
+        at: sent.at,
+        key: *key,
+    }
 }
 
 /// Where a load is, and its live job.
@@ -138,4 +127,15 @@ pub(crate) fn get_vehicle<F: Floor>(
         None => None,
     };
     Ok(answer_only(alloc, Answer::Vehicle { key, row, order }))
+}
+
+// The open order of a trip.
+fn open_order(trip: &Trip) -> OpenOrder
+    ensures { result ≡ open_order trip.now }
+{
+    OpenOrder {
+        order: trip.order,
+        sent: trip.sent,
+        confirmed: trip.confirmed,
+    }
 }

@@ -13,6 +13,15 @@ use agv_stock::Goal;
 use agv_track::Standing;
 use agv_world::{Change, Fault, Floor, Sent, UseKey, UseKind, VehicleRow};
 
+/// A vehicle that is to get an order message, and the moment of the call that sends it.
+#[derive(Clone, Copy)]
+pub(crate) struct Addressee<'a> {
+    pub(crate) at: Moment,
+    pub(crate) key: &'a VehicleKey,
+    /// Its row before the call.
+    pub(crate) row: &'a VehicleRow,
+}
+
 /// Whether a reference was not used yet.
 pub(crate) fn is_new<F: Floor>(floor: &mut F, reference: Name) -> Result<bool, Fault>
     ensures { Asks F.facts floor.old floor.new result (λ world new. new ≡ is_new world reference) }
@@ -46,15 +55,6 @@ pub(crate) fn is_in_job<F: Floor>(floor: &mut F, load: Name) -> Result<bool, Fau
     ensures { Asks F.facts floor.old floor.new result (λ world live. live ≡ is_in_job world load) }
 {
     Ok(floor.job_of(load)?.is_some())
-}
-
-/// A vehicle that is to get an order message, and the moment of the call that sends it.
-#[derive(Clone, Copy)]
-pub(crate) struct Addressee<'a> {
-    pub(crate) at: Moment,
-    pub(crate) key: &'a VehicleKey,
-    /// Its row before the call.
-    pub(crate) row: &'a VehicleRow,
 }
 
 /// Whether the desk is not in control of the vehicle, or the vehicle can't drive.

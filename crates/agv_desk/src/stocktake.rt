@@ -31,34 +31,31 @@ use agv_stock::Place;
 use agv_world::{Change, Counted, Fault, Floor};
 use std::alloc::Global;
 
-// The loads are at their new places, and the reference is used.
-fn changes(alloc: Global, reference: Name, moves: &[(Name, Place)]) -> Result<Vec<Change>, Memory>
-    ensures { IfOk result (λ changes. changes.items ≡ map (λ move. row.Load move.0 move.1) moves.now ++ (row.Used (reference_key reference) ∷ [])) }
-{
-    let mut changes = Vec::new(alloc);
-    for (load, place) in moves {
-        changes.push(Change::Load(*load, *place))?;
-    }
-    changes.push(reference_used(reference))?;
-    Ok(changes)
-}
-
-// What is done with these moves.
-fn counted_decision(
+/// Takes stock: each known load that was found at a counted station is there from now on, and each one that
+/// stood there and was not found is at the checking place.
+///
+/// The floor is asked once for each counted station, each found load and each load that moves. All else takes time
+/// in proportion to the rows and to the loads at the counted stations, times the logarithm of their number.
+pub(crate) fn take_stock<F: Floor>(
     alloc: Global,
+    floor: &mut F,
     reference: Name,
-    moves: &[(Name, Place)],
-    counted_list: &[CountedLoad],
-) -> Result<Decision, Memory>
-    ensures { IfOk result (λ decision. decision ≡ decided (Made (counted_effect reference moves.now counted_list.now))) }
+    rows: &[(Name, Option<Name>)],
+) -> Result<Decision, Fault>
+    ensures { Asks F.facts floor.old floor.new result (λ world decision. decision ≡ decided (take_stock world reference rows.now)) }
 {
-    let unknown = unknown(alloc, counted_list)?;
-    let changes = changes(alloc, reference, moves)?;
-    let answer = Answer::Counted {
-        moved: moves.len(),
-        unknown: Sequence::from(unknown),
+    if !is_new(floor, reference)? {
+        return Ok(refused(alloc, Refusal::RefUsed));
+    }
+    let Some(stations) = counted_stations(alloc, floor, rows)? else {
+        return Ok(refused(alloc, Refusal::NoStation));
     };
-    Ok(accepted_with(answer, changes))
+    let Some(found) = found_loads(alloc, rows)? else {
+        return Ok(refused(alloc, Refusal::CountTwice));
+    };
+    let counted_list = look_up(alloc, floor, rows)?;
+    let count = Count { stations, found };
+    count_loads(alloc, floor, reference, &count, &counted_list)
 }
 
 // What is answered once the stations and the found loads are known.
@@ -87,29 +84,32 @@ fn count_loads<F: Floor>(
     Ok(counted_decision(alloc, reference, &moves, counted_list)?)
 }
 
-/// Takes stock: each known load that was found at a counted station is there from now on, and each one that
-/// stood there and was not found is at the checking place.
-///
-/// The floor is asked once for each counted station, each found load and each load that moves. All else takes time
-/// in proportion to the rows and to the loads at the counted stations, times the logarithm of their number.
-pub(crate) fn take_stock<F: Floor>(
+// What is done with these moves.
+fn counted_decision(
     alloc: Global,
-    floor: &mut F,
     reference: Name,
-    rows: &[(Name, Option<Name>)],
-) -> Result<Decision, Fault>
-    ensures { Asks F.facts floor.old floor.new result (λ world decision. decision ≡ decided (take_stock world reference rows.now)) }
+    moves: &[(Name, Place)],
+    counted_list: &[CountedLoad],
+) -> Result<Decision, Memory>
+    ensures { IfOk result (λ decision. decision ≡ decided (Made (counted_effect reference moves.now counted_list.now))) }
 {
-    if !is_new(floor, reference)? {
-        return Ok(refused(alloc, Refusal::RefUsed));
+    let unknown = unknown(alloc, counted_list)?;
+    let changes = changes(alloc, reference, moves)?;
+    let answer = Answer::Counted {
+        moved: moves.len(),
+        unknown: Sequence::from(unknown),
+    };
+    Ok(accepted_with(answer, changes))
+}
+
+// The loads are at their new places, and the reference is used.
+fn changes(alloc: Global, reference: Name, moves: &[(Name, Place)]) -> Result<Vec<Change>, Memory>
+    ensures { IfOk result (λ changes. changes.items ≡ map (λ move. row.Load move.0 move.1) moves.now ++ (row.Used (reference_key reference) ∷ [])) }
+{
+    let mut changes = Vec::new(alloc);
+    for (load, place) in moves {
+        changes.push(Change::Load(*load, *place))?;
     }
-    let Some(stations) = counted_stations(alloc, floor, rows)? else {
-        return Ok(refused(alloc, Refusal::NoStation));
-    };
-    let Some(found) = found_loads(alloc, rows)? else {
-        return Ok(refused(alloc, Refusal::CountTwice));
-    };
-    let counted_list = look_up(alloc, floor, rows)?;
-    let count = Count { stations, found };
-    count_loads(alloc, floor, reference, &count, &counted_list)
+    changes.push(reference_used(reference))?;
+    Ok(changes)
 }

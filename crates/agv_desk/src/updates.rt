@@ -19,6 +19,32 @@ use agv_track::{Standing, footprint};
 use agv_world::{Fault, Floor};
 use std::alloc::Global;
 
+/// Releases so many edges more of an open order.
+pub(crate) fn advance<F: Floor>(
+    alloc: Global,
+    floor: &mut F,
+    at: Moment,
+    key: &VehicleKey,
+    order: &Name,
+    update: u32,
+    edges: u32,
+) -> Result<Decision, Fault>
+    ensures { Asks F.facts floor.old floor.new result (λ world decision. IsOfSize (trip_of world key.now) → decision ≡ decided (advance world at key.now order.now update edges)) }
+{
+    let Some(row) = floor.vehicle(*key)? else {
+        return Ok(refused(alloc, Refusal::NoVehicle));
+    };
+    let found = floor.trip(*key)?;
+    if !is_of_size(&found) {
+        return Ok(refused(alloc, Refusal::Limit));
+    }
+    let Some(trip) = trip_for(found, order) else {
+        return Ok(refused(alloc, Refusal::NoOrder));
+    };
+    let to = Addressee { at, key, row: &row };
+    take_update(alloc, floor, &to, trip, update, edges)
+}
+
 // The open trip, where it is that of this order.
 fn trip_for(found: Option<Trip>, order: &Name) -> Option<Trip>
     ensures trip { result ≡ trip_for found order.now }
@@ -28,80 +54,6 @@ fn trip_for(found: Option<Trip>, order: &Name) -> Option<Trip>
         Some(trip) if trip.order == *order => Some(trip),
         _ => None,
     }
-}
-
-// The trip with more of it released; none where so much can't be.
-fn release(trip: &Trip, edges: u32) -> Result<Option<Trip>, Memory>
-    requires { IsOfSize (Some trip.now) }
-    ensures { IfOk result (λ next. next ≡ (if can_release trip.now edges then Some (released trip.now edges) else None)) }
-{
-    let mut next = trip.copy()?;
-    match next.release(edges) {
-        Ok(()) => Ok(Some(next)),
-        Err(_) => Ok(None),
-    }
-}
-
-// Whether the vehicle has confirmed the last update that was sent.
-fn is_confirmed(confirmed: Option<u32>, sent: u32) -> bool
-    ensures { result ≡ is_confirmed confirmed sent }
-{
-    confirmed == Some(sent)
-}
-
-// This update is sent: the trip has this much released.
-fn update_sent(
-    alloc: Global,
-    to: &Addressee<'_>,
-    old: Option<Trip>,
-    new: Option<Trip>,
-    update: u32,
-    number: u32,
-) -> Result<Decision, Memory>
-    requires old_short { IsShort old }
-    requires new_short { IsShort new }
-    ensures { IfOk result (λ decision. decision ≡ decided (Made (update_sent to.now.at to.now.key.now to.now.row.now old new update number))) }
-{
-    let before = standing(to.row, old);
-    let after = standing(to.row, new);
-    let mut changes = Vec::new(alloc);
-    let sent = sent_row(to.row, to.at, number);
-    write_vehicle(alloc, to.key, to.row, &before, sent, &after, &mut changes)?;
-    Ok(accepted_with(Answer::Update(update), changes))
-}
-
-// It is sent, where what the vehicle is to hold is free.
-fn send_update<F: Floor>(
-    alloc: Global,
-    floor: &mut F,
-    to: &Addressee<'_>,
-    trip: Trip,
-    update: u32,
-    edges: u32,
-) -> Result<Decision, Fault>
-    requires { IsOfSize (Some trip) }
-    ensures { Asks F.facts floor.old floor.new result (λ world decision. decision ≡ decided (send_update world to.now.at to.now.key.now to.now.row.now trip update edges)) }
-{
-    let Some(next) = release(&trip, edges)? else {
-        return Ok(refused(alloc, Refusal::Beyond));
-    };
-    let new = standing(to.row, Some(next));
-    let things = footprint(alloc, &new)?;
-    if let Some((what, by)) = first_held(floor, to.key, &things)? {
-        return Ok(refused(alloc, Refusal::Held { what, by }));
-    }
-    let Some(number) = next_number(to.row.orders.count) else {
-        return Ok(refused(alloc, Refusal::Spent));
-    };
-    let Standing { trip: next, .. } = new;
-    Ok(update_sent(alloc, to, Some(trip), next, update, number)?)
-}
-
-// Whether the update is the one after the last that was sent.
-fn is_next(update: u32, sent: u32) -> bool
-    ensures { result ≡ (update == sent + 1) }
-{
-    sent.checked_add(1) == Some(update)
 }
 
 // It is sent, where the vehicle can take it.
@@ -131,28 +83,76 @@ fn take_update<F: Floor>(
     send_update(alloc, floor, to, trip, update, edges)
 }
 
-/// Releases so many edges more of an open order.
-pub(crate) fn advance<F: Floor>(
+// Whether the update is the one after the last that was sent.
+fn is_next(update: u32, sent: u32) -> bool
+    ensures { result ≡ (update == sent + 1) }
+{
+    sent.checked_add(1) == Some(update)
+}
+
+// Whether the vehicle has confirmed the last update that was sent.
+fn is_confirmed(confirmed: Option<u32>, sent: u32) -> bool
+    ensures { result ≡ is_confirmed confirmed sent }
+{
+    confirmed == Some(sent)
+}
+
+// It is sent, where what the vehicle is to hold is free.
+fn send_update<F: Floor>(
     alloc: Global,
     floor: &mut F,
-    at: Moment,
-    key: &VehicleKey,
-    order: &Name,
+    to: &Addressee<'_>,
+    trip: Trip,
     update: u32,
     edges: u32,
 ) -> Result<Decision, Fault>
-    ensures { Asks F.facts floor.old floor.new result (λ world decision. IsOfSize (trip_of world key.now) → decision ≡ decided (advance world at key.now order.now update edges)) }
+    requires { IsOfSize (Some trip) }
+    ensures { Asks F.facts floor.old floor.new result (λ world decision. decision ≡ decided (send_update world to.now.at to.now.key.now to.now.row.now trip update edges)) }
 {
-    let Some(row) = floor.vehicle(*key)? else {
-        return Ok(refused(alloc, Refusal::NoVehicle));
+    let Some(next) = release(&trip, edges)? else {
+        return Ok(refused(alloc, Refusal::Beyond));
     };
-    let found = floor.trip(*key)?;
-    if !is_of_size(&found) {
-        return Ok(refused(alloc, Refusal::Limit));
+    let new = standing(to.row, Some(next));
+    let things = footprint(alloc, &new)?;
+    if let Some((what, by)) = first_held(floor, to.key, &things)? {
+        return Ok(refused(alloc, Refusal::Held { what, by }));
     }
-    let Some(trip) = trip_for(found, order) else {
-        return Ok(refused(alloc, Refusal::NoOrder));
+    let Some(number) = next_number(to.row.orders.count) else {
+        return Ok(refused(alloc, Refusal::Spent));
     };
-    let to = Addressee { at, key, row: &row };
-    take_update(alloc, floor, &to, trip, update, edges)
+    let Standing { trip: next, .. } = new;
+    Ok(update_sent(alloc, to, Some(trip), next, update, number)?)
+}
+
+// The trip with more of it released; none where so much can't be.
+fn release(trip: &Trip, edges: u32) -> Result<Option<Trip>, Memory>
+    requires { IsOfSize (Some trip.now) }
+    ensures { IfOk result (λ next. next ≡ (if can_release trip.now edges then Some (released trip.now edges) else None)) }
+{
+    let mut next = trip.copy()?;
+    match next.release(edges) {
+        Ok(()) => Ok(Some(next)),
+        Err(_) => Ok(None),
+    }
+}
+
+// This update is sent: the trip has this much released.
+fn update_sent(
+    alloc: Global,
+    to: &Addressee<'_>,
+    old: Option<Trip>,
+    new: Option<Trip>,
+    update: u32,
+    number: u32,
+) -> Result<Decision, Memory>
+    requires old_short { IsShort old }
+    requires new_short { IsShort new }
+    ensures { IfOk result (λ decision. decision ≡ decided (Made (update_sent to.now.at to.now.key.now to.now.row.now old new update number))) }
+{
+    let before = standing(to.row, old);
+    let after = standing(to.row, new);
+    let mut changes = Vec::new(alloc);
+    let sent = sent_row(to.row, to.at, number);
+    write_vehicle(alloc, to.key, to.row, &before, sent, &after, &mut changes)?;
+    Ok(accepted_with(Answer::Update(update), changes))
 }

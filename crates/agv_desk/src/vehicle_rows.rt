@@ -14,13 +14,6 @@ use agv_track::{Standing, footprint};
 use agv_world::{Change, LegKey, TripRow, VehicleRow};
 use std::alloc::Global;
 
-// Whether the row of a vehicle stays as it was.
-fn same_row(old: &VehicleRow, new: &VehicleRow) -> bool
-    ensures { result ≡ same_row old.now new.now }
-{
-    *old == *new
-}
-
 /// Writes the row of a vehicle in place of the old one, where it changes.
 pub(crate) fn write_row(
     key: &VehicleKey,
@@ -34,6 +27,79 @@ pub(crate) fn write_row(
         changes.push(Change::Vehicle(*key, new))?;
     }
     Ok(())
+}
+
+// Whether the row of a vehicle stays as it was.
+fn same_row(old: &VehicleRow, new: &VehicleRow) -> bool
+    ensures { result ≡ same_row old.now new.now }
+{
+    *old == *new
+}
+
+/// Writes a vehicle in place of the old one: its row, its trip with the edges, and what it holds, each where it changes.
+pub(crate) fn write_vehicle(
+    alloc: Global,
+    key: &VehicleKey,
+    before: &VehicleRow,
+    old: &Standing,
+    vehicle: VehicleRow,
+    new: &Standing,
+    changes: &mut Vec<Change>,
+) -> Result<(), Memory>
+    requires old_short { IsShort old.now.trip }
+    requires new_short { IsShort new.now.trip }
+    ensures { OnOk result (changes.new.items ≡ changes.old.items ++ (own_changes key.now (Some before.now) vehicle ++ (trip_changes key.now old.now.trip new.now.trip ++ hold_changes key.now (footprint_of old.now) (footprint_of new.now)))) }
+{
+    let held = footprint(alloc, old)?;
+    let holds = footprint(alloc, new)?;
+    write_row(key, before, vehicle, changes)?;
+    write_trip(key, &old.trip, &new.trip, changes)?;
+    write_holds(key, &held, &holds, changes)
+}
+
+// Writes a trip that begins, ends or goes on.
+fn write_trip(
+    key: &VehicleKey,
+    old: &Option<Trip>,
+    new: &Option<Trip>,
+    changes: &mut Vec<Change>,
+) -> Result<(), Memory>
+    requires old_short { IsShort old.now }
+    requires new_short { IsShort new.now }
+    ensures { OnOk result (changes.new.items ≡ changes.old.items ++ trip_changes key.now old.now new.now) }
+{
+    match (old, new) {
+        (None, None) => Ok(()),
+        (None, Some(begun)) => {
+            changes.push(Change::Trip(begun.order, Some(trip_row(key, begun)?)))?;
+            write_legs(&begun.order, begun.edges.as_slice(), changes)
+        }
+        (Some(ended), None) => {
+            changes.push(Change::Trip(ended.order, None))?;
+            remove_legs(&ended.order, ended.edges.as_slice(), changes)
+        }
+        (Some(was), Some(on)) if same_trip_row(was, on) => Ok(()),
+        (Some(_), Some(on)) => {
+            changes.push(Change::Trip(on.order, Some(trip_row(key, on)?)))?;
+            Ok(())
+        }
+    }
+}
+
+// The row of a trip.
+fn trip_row(key: &VehicleKey, trip: &Trip) -> Result<TripRow, Memory>
+    ensures { IfOk result (λ made. made ≡ trip_row key.now trip.now) }
+{
+    Ok(TripRow {
+        vehicle: *key,
+        start: trip.start,
+        first: trip.first,
+        base: trip.base,
+        sent: trip.sent,
+        confirmed: trip.confirmed,
+        seen: trip.seen,
+        acts: trip.acts.copy()?,
+    })
 }
 
 // Writes a row for each edge of a trip.
@@ -66,22 +132,6 @@ fn remove_legs(order: &Name, edges: &[Edge], changes: &mut Vec<Change>) -> Resul
     Ok(())
 }
 
-// The row of a trip.
-fn trip_row(key: &VehicleKey, trip: &Trip) -> Result<TripRow, Memory>
-    ensures { IfOk result (λ made. made ≡ trip_row key.now trip.now) }
-{
-    Ok(TripRow {
-        vehicle: *key,
-        start: trip.start,
-        first: trip.first,
-        base: trip.base,
-        sent: trip.sent,
-        confirmed: trip.confirmed,
-        seen: trip.seen,
-        acts: trip.acts.copy()?,
-    })
-}
-
 // Whether the row of a trip stays as it was.
 fn same_trip_row(old: &Trip, new: &Trip) -> bool
     ensures { result ≡ same_trip_row old.now new.now }
@@ -93,54 +143,4 @@ fn same_trip_row(old: &Trip, new: &Trip) -> bool
         && old.confirmed == new.confirmed
         && old.seen == new.seen
         && old.acts == new.acts
-}
-
-// Writes a trip that begins, ends or goes on.
-fn write_trip(
-    key: &VehicleKey,
-    old: &Option<Trip>,
-    new: &Option<Trip>,
-    changes: &mut Vec<Change>,
-) -> Result<(), Memory>
-    requires old_short { IsShort old.now }
-    requires new_short { IsShort new.now }
-    ensures { OnOk result (changes.new.items ≡ changes.old.items ++ trip_changes key.now old.now new.now) }
-{
-    match (old, new) {
-        (None, None) => Ok(()),
-        (None, Some(begun)) => {
-            changes.push(Change::Trip(begun.order, Some(trip_row(key, begun)?)))?;
-            write_legs(&begun.order, begun.edges.as_slice(), changes)
-        }
-        (Some(ended), None) => {
-            changes.push(Change::Trip(ended.order, None))?;
-            remove_legs(&ended.order, ended.edges.as_slice(), changes)
-        }
-        (Some(was), Some(on)) if same_trip_row(was, on) => Ok(()),
-        (Some(_), Some(on)) => {
-            changes.push(Change::Trip(on.order, Some(trip_row(key, on)?)))?;
-            Ok(())
-        }
-    }
-}
-
-/// Writes a vehicle in place of the old one: its row, its trip with the edges, and what it holds, each where it changes.
-pub(crate) fn write_vehicle(
-    alloc: Global,
-    key: &VehicleKey,
-    before: &VehicleRow,
-    old: &Standing,
-    vehicle: VehicleRow,
-    new: &Standing,
-    changes: &mut Vec<Change>,
-) -> Result<(), Memory>
-    requires old_short { IsShort old.now.trip }
-    requires new_short { IsShort new.now.trip }
-    ensures { OnOk result (changes.new.items ≡ changes.old.items ++ (own_changes key.now (Some before.now) vehicle ++ (trip_changes key.now old.now.trip new.now.trip ++ hold_changes key.now (footprint_of old.now) (footprint_of new.now)))) }
-{
-    let held = footprint(alloc, old)?;
-    let holds = footprint(alloc, new)?;
-    write_row(key, before, vehicle, changes)?;
-    write_trip(key, &old.trip, &new.trip, changes)?;
-    write_holds(key, &held, &holds, changes)
 }

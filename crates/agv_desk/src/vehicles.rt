@@ -19,57 +19,6 @@ use agv_order::Trip;
 use agv_world::{Change, Counted, Fault, Floor, Sent, VehicleRow};
 use std::alloc::Global;
 
-// No message of a topic was sent.
-fn none_sent() -> Sent
-    ensures { result ≡ none_sent }
-{
-    match Moment::of(0) {
-        Some(at) => Sent { count: 0, at },
-        None => unreachable!(),
-    }
-}
-
-// The row of a vehicle that was not heard of yet.
-fn new_vehicle(capacity: u32, node: Name) -> VehicleRow
-    ensures { result ≡ (new_vehicle capacity node).row }
-{
-    VehicleRow {
-        capacity,
-        node,
-        rest: None,
-        last_header: None,
-        reported: None,
-        ready: false,
-        paused: false,
-        orders: none_sent(),
-        instants: none_sent(),
-        pending: None,
-    }
-}
-
-// A vehicle is registered that was not heard of yet: its row, and that it holds its node.
-#[tactic(auto, unfolding(agv_track::specs::Footprints::footprint_of, crate::specs::Outcomes::decided))]
-fn registered(
-    alloc: Global,
-    key: &VehicleKey,
-    node: Name,
-    capacity: u32,
-) -> Result<Decision, Memory>
-    ensures { IfOk result (λ decision. decision ≡ decided (Made (registered key.now node capacity))) }
-{
-    let mut changes = Vec::new(alloc);
-    changes.push(Change::Vehicle(*key, new_vehicle(capacity, node)))?;
-    changes.push(Change::Hold(Thing::Node(node), Some(*key)))?;
-    Ok(accepted_with(Answer::Done, changes))
-}
-
-// Whether a vehicle may be built for so many loads.
-fn may_carry(capacity: u32, seats: u32) -> bool
-    ensures { result ≡ (nat_lt 0 capacity && nat_le capacity seats) }
-{
-    0 < capacity && capacity <= seats
-}
-
 /// Registers a vehicle that stands at a node.
 pub(crate) fn register_vehicle<F: Floor>(
     alloc: Global,
@@ -97,39 +46,55 @@ pub(crate) fn register_vehicle<F: Floor>(
     Ok(registered(alloc, key, node, capacity)?)
 }
 
-// The row of a vehicle that a person has put on a node.
-fn placed(row: &VehicleRow, node: Name) -> VehicleRow
-    ensures { result ≡ (placed row.now node).row }
+// Whether a vehicle may be built for so many loads.
+fn may_carry(capacity: u32, seats: u32) -> bool
+    ensures { result ≡ (nat_lt 0 capacity && nat_le capacity seats) }
+{
+    0 < capacity && capacity <= seats
+}
+
+// A vehicle is registered that was not heard of yet: its row, and that it holds its node.
+#[tactic(auto, unfolding(agv_track::specs::Footprints::footprint_of, crate::specs::Outcomes::decided))]
+fn registered(
+    alloc: Global,
+    key: &VehicleKey,
+    node: Name,
+    capacity: u32,
+) -> Result<Decision, Memory>
+    ensures { IfOk result (λ decision. decision ≡ decided (Made (registered key.now node capacity))) }
+{
+    let mut changes = Vec::new(alloc);
+    changes.push(Change::Vehicle(*key, new_vehicle(capacity, node)))?;
+    changes.push(Change::Hold(Thing::Node(node), Some(*key)))?;
+    Ok(accepted_with(Answer::Done, changes))
+}
+
+// The row of a vehicle that was not heard of yet.
+fn new_vehicle(capacity: u32, node: Name) -> VehicleRow
+    ensures { result ≡ (new_vehicle capacity node).row }
 {
     VehicleRow {
+        capacity,
         node,
         rest: None,
+        last_header: None,
+        reported: None,
+        ready: false,
+        paused: false,
+        orders: none_sent(),
+        instants: none_sent(),
         pending: None,
-        ..*row
     }
 }
 
-// The vehicle stands where it was put, and its trip, if it has one, ends.
-fn put_down<F: Floor>(
-    alloc: Global,
-    floor: &mut F,
-    key: &VehicleKey,
-    row: &VehicleRow,
-    trip: Option<Trip>,
-    reference: Name,
-    node: Name,
-) -> Result<Decision, Fault>
-    requires { IsOfSize trip }
-    ensures { Asks F.facts floor.old floor.new result (λ world decision. decision ≡ decided (put_down world key.now row.now trip reference node)) }
+// No message of a topic was sent.
+fn none_sent() -> Sent
+    ensures { result ≡ none_sent }
 {
-    let next = placed(row, node);
-    let old = standing(row, trip);
-    let new = standing(&next, None);
-    let mut changes = Vec::new(alloc);
-    write_vehicle(alloc, key, row, &old, next, &new, &mut changes)?;
-    stop_jobs(floor, &old.trip, &mut changes)?;
-    changes.push(reference_used(reference))?;
-    Ok(accepted_with(Answer::Done, changes))
+    match Moment::of(0) {
+        Some(at) => Sent { count: 0, at },
+        None => unreachable!(),
+    }
 }
 
 /// A person has put the vehicle on this node.
@@ -164,12 +129,37 @@ pub(crate) fn place_vehicle<F: Floor>(
     put_down(alloc, floor, key, &row, trip, reference, node)
 }
 
-// The row of a vehicle whose last state is forgotten.
-fn unheard(row: &VehicleRow) -> VehicleRow
-    ensures { result ≡ record row.now { last_header = None } }
+// The vehicle stands where it was put, and its trip, if it has one, ends.
+fn put_down<F: Floor>(
+    alloc: Global,
+    floor: &mut F,
+    key: &VehicleKey,
+    row: &VehicleRow,
+    trip: Option<Trip>,
+    reference: Name,
+    node: Name,
+) -> Result<Decision, Fault>
+    requires { IsOfSize trip }
+    ensures { Asks F.facts floor.old floor.new result (λ world decision. decision ≡ decided (put_down world key.now row.now trip reference node)) }
+{
+    let next = placed(row, node);
+    let old = standing(row, trip);
+    let new = standing(&next, None);
+    let mut changes = Vec::new(alloc);
+    write_vehicle(alloc, key, row, &old, next, &new, &mut changes)?;
+    stop_jobs(floor, &old.trip, &mut changes)?;
+    changes.push(reference_used(reference))?;
+    Ok(accepted_with(Answer::Done, changes))
+}
+
+// The row of a vehicle that a person has put on a node.
+fn placed(row: &VehicleRow, node: Name) -> VehicleRow
+    ensures { result ≡ (placed row.now node).row }
 {
     VehicleRow {
-        last_header: None,
+        node,
+        rest: None,
+        pending: None,
         ..*row
     }
 }
@@ -186,4 +176,14 @@ pub(crate) fn resync<F: Floor>(
         return Ok(refused(alloc, Refusal::NoVehicle));
     };
     Ok(row_update(alloc, Answer::Done, key, &row, unheard(&row))?)
+}
+
+// The row of a vehicle whose last state is forgotten.
+fn unheard(row: &VehicleRow) -> VehicleRow
+    ensures { result ≡ record row.now { last_header = None } }
+{
+    VehicleRow {
+        last_header: None,
+        ..*row
+    }
 }

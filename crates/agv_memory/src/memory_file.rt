@@ -114,6 +114,27 @@ impl Disk for MemoryFile {
     }
 }
 
+/// Puts these bytes at an offset; what lies between the old end and the offset is zeros.
+fn put(bytes: &mut Vec<u8>, at: usize, new: &[u8]) -> Result<(), AllocError>
+    ensures written { OnOk result (Holds bytes.new.items at new.now) }
+    ensures others { Torn at (length new.now) bytes.old.items bytes.new.items }
+{
+    let end = at.checked_add(new.len()).ok_or(AllocError)?;
+    if end > bytes.len() {
+        resize(bytes, end)?;
+    }
+    bytes[at..end].copy_from_slice(new);
+    Ok(())
+}
+
+/// Sets the length, with zeros behind the old end.
+fn resize(bytes: &mut Vec<u8>, len: usize) -> Result<(), AllocError>
+    ensures len { OnOk result (length bytes.new.items ≡ len) }
+    ensures others { Cut len bytes.old.items bytes.new.items }
+{
+    bytes.resize(len, 0)
+}
+
 /// Gives want of memory as an error of the file, and counts it.
 fn note_fault(outcome: Result<(), AllocError>, faults: &mut u64) -> io::Result<()>
     ensures variant { is_ok result ≡ is_ok outcome }
@@ -127,25 +148,4 @@ fn note_fault(outcome: Result<(), AllocError>, faults: &mut u64) -> io::Result<(
             Err(io::ErrorKind::OutOfMemory.into())
         }
     }
-}
-
-/// Sets the length, with zeros behind the old end.
-fn resize(bytes: &mut Vec<u8>, len: usize) -> Result<(), AllocError>
-    ensures len { OnOk result (length bytes.new.items ≡ len) }
-    ensures others { Cut len bytes.old.items bytes.new.items }
-{
-    bytes.resize(len, 0)
-}
-
-/// Puts these bytes at an offset; what lies between the old end and the offset is zeros.
-fn put(bytes: &mut Vec<u8>, at: usize, new: &[u8]) -> Result<(), AllocError>
-    ensures written { OnOk result (Holds bytes.new.items at new.now) }
-    ensures others { Torn at (length new.now) bytes.old.items bytes.new.items }
-{
-    let end = at.checked_add(new.len()).ok_or(AllocError)?;
-    if end > bytes.len() {
-        resize(bytes, end)?;
-    }
-    bytes[at..end].copy_from_slice(new);
-    Ok(())
 }

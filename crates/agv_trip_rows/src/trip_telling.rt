@@ -38,13 +38,6 @@ pub fn acts_told(
     Ok(Some(Sequence::from(acts)))
 }
 
-// How many of the first rows are of the order.
-fn count_first(order: Name, rows: &[(LegKey, ActRow)]) -> usize
-    ensures { result ≡ prefix_len (is_of order) rows.now }
-{
-    rows.iter().take_while(|row| row.0.order == order).count()
-}
-
 /// The trips that have just these journeys and these acts. None where there are no such trips: where the acts of a
 /// journey are not numbered from 0 without a gap, an act has no journey, or the job of an act is unknown.
 ///
@@ -75,4 +68,11 @@ pub fn trips_told(
     } else {
         Ok(None)
     }
+}
+
+// How many of the first rows are of the order.
+fn count_first(order: Name, rows: &[(LegKey, ActRow)]) -> usize
+    ensures { result ≡ prefix_len (is_of order) rows.now }
+{
+    rows.iter().take_while(|row| row.0.order == order).count()
 }

@@ -12,6 +12,21 @@ use agv_header::{Memory, Name};
 use agv_world::{ByName, Fault, Floor};
 use std::alloc::Global;
 
+/// Looks up the loads of the rows, in their order.
+pub(crate) fn look_up<F: Floor>(
+    alloc: Global,
+    floor: &mut F,
+    rows: &[(Name, Option<Name>)],
+) -> Result<Vec<CountedLoad>, Fault>
+    ensures { Asks F.facts floor.old floor.new result (λ world counted_list. counted_list.items ≡ counted_loads world rows.now) }
+{
+    let mut counted_list = Vec::new(alloc);
+    for (station, load) in rows {
+        note_counted_load(floor, &mut counted_list, *station, *load)?;
+    }
+    Ok(counted_list)
+}
+
 // Looks up the load of a row, if one was found.
 fn note_counted_load<F: Floor>(
     floor: &mut F,
@@ -30,21 +45,6 @@ fn note_counted_load<F: Floor>(
         })?;
     }
     Ok(())
-}
-
-/// Looks up the loads of the rows, in their order.
-pub(crate) fn look_up<F: Floor>(
-    alloc: Global,
-    floor: &mut F,
-    rows: &[(Name, Option<Name>)],
-) -> Result<Vec<CountedLoad>, Fault>
-    ensures { Asks F.facts floor.old floor.new result (λ world counted_list. counted_list.items ≡ counted_loads world rows.now) }
-{
-    let mut counted_list = Vec::new(alloc);
-    for (station, load) in rows {
-        note_counted_load(floor, &mut counted_list, *station, *load)?;
-    }
-    Ok(counted_list)
 }
 
 /// Whether one of the loads is recorded on a vehicle.
@@ -67,6 +67,17 @@ pub(crate) fn unknown(alloc: Global, counted_list: &[CountedLoad]) -> Result<Vec
     Ok(unknown)
 }
 
+/// How many known loads were found at each station.
+pub(crate) fn counts(alloc: Global, counted_list: &[CountedLoad]) -> Result<ByName<usize>, Memory>
+    ensures { IfOk result (λ counts. (station : List ℕ) → unwrap_or (map.get counts station) 0 ≡ count_at counted_list.now station) }
+{
+    let mut counts = ByName::new(alloc);
+    for one in counted_list {
+        count_up(&mut counts, one)?;
+    }
+    Ok(counts)
+}
+
 // Counts a load at the station where it was found, if it is known.
 fn count_up(counts: &mut ByName<usize>, one: &CountedLoad) -> Result<(), Memory>
     requires { unwrap_or (map.get counts.old one.now.station) 0 < usize.MAX }
@@ -77,15 +88,4 @@ fn count_up(counts: &mut ByName<usize>, one: &CountedLoad) -> Result<(), Memory>
         counts.insert(one.station, count + 1)?;
     }
     Ok(())
-}
-
-/// How many known loads were found at each station.
-pub(crate) fn counts(alloc: Global, counted_list: &[CountedLoad]) -> Result<ByName<usize>, Memory>
-    ensures { IfOk result (λ counts. (station : List ℕ) → unwrap_or (map.get counts station) 0 ≡ count_at counted_list.now station) }
-{
-    let mut counts = ByName::new(alloc);
-    for one in counted_list {
-        count_up(&mut counts, one)?;
-    }
-    Ok(counts)
 }

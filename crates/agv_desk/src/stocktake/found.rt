@@ -6,20 +6,6 @@ use agv_header::{Memory, Name};
 use agv_world::ByName;
 use std::alloc::Global;
 
-// Whether the load of a row is on no row before it; it is noted then.
-fn note_load(found: &mut ByName<Name>, station: Name, load: Option<Name>) -> Result<bool, Memory>
-    ensures { IfOk result (λ new. (new, found.new) ≡ noted_load found.old station load) }
-{
-    let Some(load) = load else {
-        return Ok(true);
-    };
-    if found.get(load).is_some() {
-        return Ok(false);
-    }
-    found.insert(load, station)?;
-    Ok(true)
-}
-
 /// The loads on the rows, each with the station where it was found; none where a load stands on two rows.
 pub(crate) fn found_loads(
     alloc: Global,
@@ -34,4 +20,18 @@ pub(crate) fn found_loads(
         }
     }
     Ok(Some(found))
+}
+
+// Whether the load of a row is on no row before it; it is noted then.
+fn note_load(found: &mut ByName<Name>, station: Name, load: Option<Name>) -> Result<bool, Memory>
+    ensures { IfOk result (λ new. (new, found.new) ≡ noted_load found.old station load) }
+{
+    let Some(load) = load else {
+        return Ok(true);
+    };
+    if found.get(load).is_some() {
+        return Ok(false);
+    }
+    found.insert(load, station)?;
+    Ok(true)
 }

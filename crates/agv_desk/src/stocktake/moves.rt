@@ -24,37 +24,21 @@ pub(crate) struct Count {
 }
 
 impl Count {
-    // Where a load goes that is recorded at this station, if it moves.
-    fn from_station(&self, load: Name, id: Name) -> Option<Place>
-        ensures { result ≡ from_station (map.contains_key self.now.stations id) id (map.get self.now.found load) }
+    /// The loads that move, and their new places, in the order of the loads' names.
+    #[tactic(auto, unfolding(crate::specs::CountParts::moves_in))]
+    pub(crate) fn moves<F: Floor>(
+        &self,
+        alloc: Global,
+        floor: &mut F,
+        counted_list: &[CountedLoad],
+    ) -> Result<Vec<(Name, Place)>, Fault>
+        ensures { Asks F.facts floor.old floor.new result (λ world moves. moves.items ≡ map.entries (moves_in world self.now.stations self.now.found counted_list.now)) }
     {
-        match self.found.get(load).copied() {
-            Some(found) if found == id => None,
-            Some(found) => Some(Place::Station(found)),
-            None if self.stations.get(id).is_some() => Some(Place::Checking),
-            None => None,
-        }
-    }
-
-    // Where a load goes that is recorded at this place, if it moves.
-    fn new_place(&self, load: Name, place: Place) -> Option<Place>
-        ensures { result ≡ new_place (map.contains_key self.now.stations) (map.get self.now.found load) place }
-    {
-        match place {
-            Place::Station(id) => self.from_station(load, id),
-            Place::Checking => self.found.get(load).copied().map(Place::Station),
-            Place::Vehicle(_) | Place::Left => None,
-        }
-    }
-
-    // Notes where a load goes that is recorded at this place, if it moves.
-    fn settle(&self, moves: &mut ByName<Place>, load: Name, place: Place) -> Result<(), Memory>
-        ensures { OnOk result (moves.new ≡ with_new_place moves.old load (new_place (map.contains_key self.now.stations) (map.get self.now.found load) place)) }
-    {
-        if let Some(to) = self.new_place(load, place) {
-            moves.insert(load, to)?;
-        }
-        Ok(())
+        let mut moves = ByName::new(alloc);
+        self.settle_found(&mut moves, counted_list)?;
+        let stations = self.stations.list(alloc)?;
+        self.settle_standing(floor, &mut moves, &stations)?;
+        Ok(moves.list(alloc)?)
     }
 
     // Notes where the found loads go.
@@ -74,20 +58,37 @@ impl Count {
         Ok(())
     }
 
-    // Notes where loads go that stand at this station.
-    #[tactic(auto, unfolding(crate::specs::CountParts::settled))]
-    fn settle_station(
-        &self,
-        moves: &mut ByName<Place>,
-        station: Name,
-        loads: &[Name],
-    ) -> Result<(), Memory>
-        ensures { OnOk result (moves.new ≡ settled (map.contains_key self.now.stations) self.now.found moves.old (standing_at station loads.now)) }
+    // Notes where a load goes that is recorded at this place, if it moves.
+    fn settle(&self, moves: &mut ByName<Place>, load: Name, place: Place) -> Result<(), Memory>
+        ensures { OnOk result (moves.new ≡ with_new_place moves.old load (new_place (map.contains_key self.now.stations) (map.get self.now.found load) place)) }
     {
-        for load in loads {
-            self.settle(moves, *load, Place::Station(station))?;
+        if let Some(to) = self.new_place(load, place) {
+            moves.insert(load, to)?;
         }
         Ok(())
+    }
+
+    // Where a load goes that is recorded at this place, if it moves.
+    fn new_place(&self, load: Name, place: Place) -> Option<Place>
+        ensures { result ≡ new_place (map.contains_key self.now.stations) (map.get self.now.found load) place }
+    {
+        match place {
+            Place::Station(id) => self.from_station(load, id),
+            Place::Checking => self.found.get(load).copied().map(Place::Station),
+            Place::Vehicle(_) | Place::Left => None,
+        }
+    }
+
+    // Where a load goes that is recorded at this station, if it moves.
+    fn from_station(&self, load: Name, id: Name) -> Option<Place>
+        ensures { result ≡ from_station (map.contains_key self.now.stations id) id (map.get self.now.found load) }
+    {
+        match self.found.get(load).copied() {
+            Some(found) if found == id => None,
+            Some(found) => Some(Place::Station(found)),
+            None if self.stations.get(id).is_some() => Some(Place::Checking),
+            None => None,
+        }
     }
 
     // Notes where the loads go that stand at these stations.
@@ -106,21 +107,20 @@ impl Count {
         Ok(())
     }
 
-    /// The loads that move, and their new places, in the order of the loads' names.
-    #[tactic(auto, unfolding(crate::specs::CountParts::moves_in))]
-    pub(crate) fn moves<F: Floor>(
+    // Notes where loads go that stand at this station.
+    #[tactic(auto, unfolding(crate::specs::CountParts::settled))]
+    fn settle_station(
         &self,
-        alloc: Global,
-        floor: &mut F,
-        counted_list: &[CountedLoad],
-    ) -> Result<Vec<(Name, Place)>, Fault>
-        ensures { Asks F.facts floor.old floor.new result (λ world moves. moves.items ≡ map.entries (moves_in world self.now.stations self.now.found counted_list.now)) }
+        moves: &mut ByName<Place>,
+        station: Name,
+        loads: &[Name],
+    ) -> Result<(), Memory>
+        ensures { OnOk result (moves.new ≡ settled (map.contains_key self.now.stations) self.now.found moves.old (standing_at station loads.now)) }
     {
-        let mut moves = ByName::new(alloc);
-        self.settle_found(&mut moves, counted_list)?;
-        let stations = self.stations.list(alloc)?;
-        self.settle_standing(floor, &mut moves, &stations)?;
-        Ok(moves.list(alloc)?)
+        for load in loads {
+            self.settle(moves, *load, Place::Station(station))?;
+        }
+        Ok(())
     }
 }
 

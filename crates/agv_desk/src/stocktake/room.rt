@@ -14,25 +14,18 @@ use agv_layout::StationSite;
 use agv_world::{ByName, Fault, Floor};
 use std::alloc::Global;
 
-// Whether so many loads and so many jobs fit there.
-fn has_room_for(found: usize, reserved: usize, site: StationSite) -> bool
-    ensures { result ≡ has_room_for found reserved site }
-{
-    found.saturating_add(reserved) <= site.capacity as usize
-}
-
-// Whether the loads that were found at a station fit there, with the live jobs to it.
-fn fits<F: Floor>(
+/// Whether the known loads that were found at each of the stations fit there, with the live jobs to it.
+pub(crate) fn all_fit<F: Floor>(
+    alloc: Global,
     floor: &mut F,
-    counts: &ByName<usize>,
-    station: Name,
-    site: StationSite,
+    stations: &ByName<StationSite>,
+    counted_list: &[CountedLoad],
 ) -> Result<bool, Fault>
-    ensures { Asks F.facts floor.old floor.new result (λ world fits. fits ≡ has_room_for (unwrap_or (map.get counts.now station) 0) (reserved world station) site) }
+    ensures { Asks F.facts floor.old floor.new result (λ world fit. fit ≡ all_have_room world counted_list.now (map.entries stations.now)) }
 {
-    let found = counts.get(station).copied().unwrap_or(0);
-    let reserved = floor.reserved(station)?;
-    Ok(has_room_for(found, reserved, site))
+    let counts = counts(alloc, counted_list)?;
+    let stations = stations.list(alloc)?;
+    each_fits(floor, &counts, &stations)
 }
 
 // Whether they fit at each of the stations.
@@ -51,16 +44,23 @@ fn each_fits<F: Floor>(
     Ok(true)
 }
 
-/// Whether the known loads that were found at each of the stations fit there, with the live jobs to it.
-pub(crate) fn all_fit<F: Floor>(
-    alloc: Global,
+// Whether the loads that were found at a station fit there, with the live jobs to it.
+fn fits<F: Floor>(
     floor: &mut F,
-    stations: &ByName<StationSite>,
-    counted_list: &[CountedLoad],
+    counts: &ByName<usize>,
+    station: Name,
+    site: StationSite,
 ) -> Result<bool, Fault>
-    ensures { Asks F.facts floor.old floor.new result (λ world fit. fit ≡ all_have_room world counted_list.now (map.entries stations.now)) }
+    ensures { Asks F.facts floor.old floor.new result (λ world fits. fits ≡ has_room_for (unwrap_or (map.get counts.now station) 0) (reserved world station) site) }
 {
-    let counts = counts(alloc, counted_list)?;
-    let stations = stations.list(alloc)?;
-    each_fits(floor, &counts, &stations)
+    let found = counts.get(station).copied().unwrap_or(0);
+    let reserved = floor.reserved(station)?;
+    Ok(has_room_for(found, reserved, site))
+}
+
+// Whether so many loads and so many jobs fit there.
+fn has_room_for(found: usize, reserved: usize, site: StationSite) -> bool
+    ensures { result ≡ has_room_for found reserved site }
+{
+    found.saturating_add(reserved) <= site.capacity as usize
 }

@@ -9,6 +9,23 @@ use agv_layout::StationSite;
 use agv_world::{ByName, Fault, Floor};
 use std::alloc::Global;
 
+/// The stations of the rows; none where one of them is not known.
+pub(crate) fn counted_stations<F: Floor>(
+    alloc: Global,
+    floor: &mut F,
+    rows: &[(Name, Option<Name>)],
+) -> Result<Option<ByName<StationSite>>, Fault>
+    ensures { Asks F.facts floor.old floor.new result (λ world stations. AreCounted world rows.now stations) }
+{
+    let mut stations = ByName::new(alloc);
+    for (station, _) in rows {
+        if !note_station(floor, &mut stations, *station)? {
+            return Ok(None);
+        }
+    }
+    Ok(Some(stations))
+}
+
 // Whether the station is known; it is noted then. The floor is asked for a station that is not noted yet.
 fn note_station<F: Floor>(
     floor: &mut F,
@@ -25,21 +42,4 @@ fn note_station<F: Floor>(
     };
     stations.insert(id, site)?;
     Ok(true)
-}
-
-/// The stations of the rows; none where one of them is not known.
-pub(crate) fn counted_stations<F: Floor>(
-    alloc: Global,
-    floor: &mut F,
-    rows: &[(Name, Option<Name>)],
-) -> Result<Option<ByName<StationSite>>, Fault>
-    ensures { Asks F.facts floor.old floor.new result (λ world stations. AreCounted world rows.now stations) }
-{
-    let mut stations = ByName::new(alloc);
-    for (station, _) in rows {
-        if !note_station(floor, &mut stations, *station)? {
-            return Ok(None);
-        }
-    }
-    Ok(Some(stations))
 }
