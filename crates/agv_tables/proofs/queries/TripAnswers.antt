@@ -1,5 +1,5 @@
 -- What the rows of a journey, of acts and of edges answer, in a lawful world.
-use Rattle.std.proofs.Common.{◌≡◌, ◌+◌, ◌++◌, ℕ, nat_eq, Bool, true, false, cond, List, [], ◌∷◌, filter, length, Option, None, Some, Ok, Err, Result, IsPermutation, refl, sym, ap, ap₂, subst, ◌∙◌, append-nil, append_assoc}
+use Rattle.std.proofs.Common.{◌≡◌, ◌+◌, ◌++◌, ◌==◌, ℕ, nat_eq, Bool, true, false, not, cond, is_some, List, [], ◌∷◌, filter, length, Option, None, Some, Ok, Err, Result, IsPermutation, refl, sym, ap, ap₂, subst, ◌∙◌, append-nil, append_assoc}
 use Rattle.std.proofs.lemmas.Bool.{eqb-true}
 use Rattle.std.proofs.lemmas.List.{length-append}
 use Rattle.std.proofs.lemmas.Option.{same_Some}
@@ -64,6 +64,10 @@ one_shown : (o : Option Entry) → journeys_shown (listed o) ≡ row_if entry_co
 one_shown None = refl
 one_shown (Some e) = refl
 
+row_there : (o : Option Entry) → not (length (row_if entry_columns o) == 0) ≡ is_some o
+row_there None = refl
+row_there (Some e) = refl
+
 first_journey : (o : Option Entry) → ((e : Entry) → o ≡ Some e → journey_in (entry_columns e) ≡ Some e) → first_whole_in journey_in (row_if entry_columns o) ≡ Ok o
 first_journey None back = refl
 first_journey (Some e) back = ap whole_of (back e refl)
@@ -84,18 +88,29 @@ module _ (world : World) where
   its_own : TellRows lists (rows_of world)
   its_own = alike_itself lists
 
+  -- the rows that are shown are that of the journey, where there is one
+  alone : OneDrives world → (key : VehicleKey) (values : Row) → values ≡ vehicle_key key → (rows : List Row) → IsPermutation (rows_asked by.VehicleJourney values lists) rows → rows ≡ row_if entry_columns (journey_for (rows_of world) key)
+  alone one key values is rows shown =
+      let journeys = journeys_of (rows_of world).trips in
+      let perm = again ((shown_asked lists (rows_of world) its_own).journey key) (subst (λ v. IsPermutation (rows_asked by.VehicleJourney v lists) rows) is shown) in
+      let few = ap journeys_shown (one_passes nat_list_cmp_total journeys (is_driven_by key) (one key)) ∙ one_shown (journey_for (rows_of world) key) in
+      only entry_columns (journey_for (rows_of world) key) rows (subst (λ l. IsPermutation l rows) few perm)
+
   pub tells_journey : OneDrives world → JourneysAreTyped world → (key : VehicleKey) (values : Row) → values ≡ vehicle_key key → (rows : List Row) → IsPermutation (rows_asked by.VehicleJourney values lists) rows
       → (r : Result (Option Entry) ReadingFault) → r ≡ first_whole_in journey_in rows → Follows r (λ journey. journey ≡ journey_for (rows_of world) key)
   tells_journey one typed key values is rows shown r given =
       let journeys = journeys_of (rows_of world).trips in
       let found = journey_for (rows_of world) key in
-      let perm = again ((shown_asked lists (rows_of world) its_own).journey key) (subst (λ v. IsPermutation (rows_asked by.VehicleJourney v lists) rows) is shown) in
-      let few = ap journeys_shown (one_passes nat_list_cmp_total journeys (is_driven_by key) (one key)) ∙ one_shown found in
-      let alone = only entry_columns found rows (subst (λ l. IsPermutation l rows) few perm) in
       let so : r ≡ Ok found =
-      given ∙ ap (first_whole_in journey_in) alone
+      given ∙ ap (first_whole_in journey_in) (alone one key values is rows shown)
       ∙ first_journey found (λ e at. let its = typed e.0 e.1 (found_entry nat_list_cmp_total journeys (is_driven_by key) e at).0 in journey_kept e.0 e.1 its.0 its.1) in
       subst (λ q. Follows q (λ journey. journey ≡ found)) (sym so) refl
+
+  -- there is a row just where there is a journey
+  pub tells_driven : OneDrives world → (key : VehicleKey) (values : Row) → values ≡ vehicle_key key → (rows : List Row) → IsPermutation (rows_asked by.VehicleJourney values lists) rows
+      → not (length rows == 0) ≡ is_some (journey_for (rows_of world) key)
+  tells_driven one key values is rows shown =
+      ap (λ (l : List Row). not (length l == 0)) (alone one key values is rows shown) ∙ row_there (journey_for (rows_of world) key)
 
 -- ---- the acts of an order
 
@@ -300,3 +315,8 @@ told_journey world journey acts edges told way =
       seen = journey.1.seen;
       acts = acts;
     }))
+
+-- a trip is told just where there is a journey, since the acts of each order are told
+pub trip_there : (world : World) → ((order : List ℕ) → (acts : List Act) × (acts_for world order ≡ Some acts)) → (journey : Option Entry) → is_some (option_and_then (told_by_journey (rows_of world)) journey) ≡ is_some journey
+trip_there world told None = refl
+trip_there world told (Some e) = ap is_some (told_journey world e (told e.0).0 (edges_of (tables_of (rows_of world)) e.0) (told e.0).1 refl)

@@ -1,7 +1,7 @@
 //! The open trip of a vehicle, asked of the tables: its journey, its acts with the rows of their jobs, and its edges.
 //!
 //! Each query answers what the lawful world says whose rows the tables have (`specs/queries/WorldAnswers.antt`).
-ghost use Rattle.std.specs.Prelude.{◌≡◌, Some, filter};
+ghost use Rattle.std.specs.Prelude.{◌≡◌, is_some, Some, filter};
 ghost use Rattle.std.specs.FinMap as map;
 ghost use Rattle.agv_trip_rows.specs.TripRows.{acts_of, is_of};
 ghost use Rattle.agv_trip_rows.specs.TripsTold.{acts_told};
@@ -151,4 +151,18 @@ pub fn query_trip<S: Alter>(
             Ok(Some(trip))
         }
     }
+}
+
+/// Whether a vehicle has an open trip; it has none where there is no such vehicle.
+///
+/// It fails as [`ReadingFault`] says.
+pub fn query_has_trip<S: Alter>(
+    conn: &mut Connection<S>,
+    key: &VehicleKey,
+) -> Result<bool, ReadingFault>
+    ensures { AnswersQuery S.Store conn.old conn.new result (λ world has. has ≡ is_some (trip_of world key.now)) }
+{
+    rows_tell_trips();
+    let rows = query_rows_by(conn, RowsBy::VehicleJourney, &vehicle_key_values(key))?;
+    Ok(!rows.is_empty())
 }
