@@ -35,6 +35,24 @@ pub(crate) fn drop_acts<S: Alter>(tx: &mut Transaction<'_, S>, order: &Name) -> 
     delete_row(tx, WorldTable::Act, &name_key_values(order))
 }
 
+/// The order has these acts besides, which are numbered from 0 on.
+pub(crate) fn add_acts<S: Alter>(
+    tx: &mut Transaction<'_, S>,
+    order: &Name,
+    acts: &[Act],
+) -> Result<(), Error>
+    ensures same_reference { tx.new.conn.ghost_name ≡ tx.old.conn.ghost_name }
+    ensures survives { Survives (state S.Store tx.old.conn.now) (state S.Store tx.new.conn.now) (λ _. ⊥) }
+    ensures kept { HasCleanDisk (state S.Store tx.new.conn.now) → KeepsCommit (state S.Store tx.old.conn.now) (state S.Store tx.new.conn.now) }
+    ensures made { HasCleanDisk (state S.Store tx.new.conn.now) → IsTrue (state S.Store tx.old.conn.now).in_transaction
+        → OnOk result (Makes (with_rows the.Act (rows_of_acts (act_rows_from order.now 0 acts.now))) (state S.Store tx.old.conn.now) (state S.Store tx.new.conn.now)) }
+{
+    for (n, act) in acts.iter().enumerate() {
+        add_act(tx, order, n, act)?;
+    }
+    Ok(())
+}
+
 // The order has this act besides, at this number. One above 4294967295 has no row.
 fn add_act<S: Alter>(
     tx: &mut Transaction<'_, S>,
@@ -55,41 +73,6 @@ fn add_act<S: Alter>(
     insert_row(tx, WorldTable::Act, &act_values(&key, &ActRow::of(act)))
 }
 
-/// The order has these acts besides, which are numbered from 0 on.
-pub(crate) fn add_acts<S: Alter>(
-    tx: &mut Transaction<'_, S>,
-    order: &Name,
-    acts: &[Act],
-) -> Result<(), Error>
-    ensures same_reference { tx.new.conn.ghost_name ≡ tx.old.conn.ghost_name }
-    ensures survives { Survives (state S.Store tx.old.conn.now) (state S.Store tx.new.conn.now) (λ _. ⊥) }
-    ensures kept { HasCleanDisk (state S.Store tx.new.conn.now) → KeepsCommit (state S.Store tx.old.conn.now) (state S.Store tx.new.conn.now) }
-    ensures made { HasCleanDisk (state S.Store tx.new.conn.now) → IsTrue (state S.Store tx.old.conn.now).in_transaction
-        → OnOk result (Makes (with_rows the.Act (rows_of_acts (act_rows_from order.now 0 acts.now))) (state S.Store tx.old.conn.now) (state S.Store tx.new.conn.now)) }
-{
-    for (n, act) in acts.iter().enumerate() {
-        add_act(tx, order, n, act)?;
-    }
-    Ok(())
-}
-
-// The order has these acts in place of those that it has.
-fn renew_acts<S: Alter>(
-    tx: &mut Transaction<'_, S>,
-    order: &Name,
-    acts: &[Act],
-) -> Result<usize, Error>
-    ensures same_reference { tx.new.conn.ghost_name ≡ tx.old.conn.ghost_name }
-    ensures survives { Survives (state S.Store tx.old.conn.now) (state S.Store tx.new.conn.now) (λ _. ⊥) }
-    ensures kept { HasCleanDisk (state S.Store tx.new.conn.now) → KeepsCommit (state S.Store tx.old.conn.now) (state S.Store tx.new.conn.now) }
-    ensures made { HasCleanDisk (state S.Store tx.new.conn.now)
-        → OnOk result (Makes (λ lists. with_rows the.Act (rows_of_acts (act_rows_from order.now 0 acts.now)) (without_acts order.now lists)) (state S.Store tx.old.conn.now) (state S.Store tx.new.conn.now)) }
-{
-    drop_acts(tx, order)?;
-    add_acts(tx, order, acts)?;
-    Ok(acts.len())
-}
-
 /// The order has these acts, which are numbered from 0 on. Where the rows of the order are theirs already, nothing is
 /// written: a vehicle says of its acts in each state how far they are, and that seldom changes.
 pub(crate) fn write_acts<S: Alter>(
@@ -108,4 +91,21 @@ pub(crate) fn write_acts<S: Alter>(
         return Ok(0);
     }
     renew_acts(tx, order, acts)
+}
+
+// The order has these acts in place of those that it has.
+fn renew_acts<S: Alter>(
+    tx: &mut Transaction<'_, S>,
+    order: &Name,
+    acts: &[Act],
+) -> Result<usize, Error>
+    ensures same_reference { tx.new.conn.ghost_name ≡ tx.old.conn.ghost_name }
+    ensures survives { Survives (state S.Store tx.old.conn.now) (state S.Store tx.new.conn.now) (λ _. ⊥) }
+    ensures kept { HasCleanDisk (state S.Store tx.new.conn.now) → KeepsCommit (state S.Store tx.old.conn.now) (state S.Store tx.new.conn.now) }
+    ensures made { HasCleanDisk (state S.Store tx.new.conn.now)
+        → OnOk result (Makes (λ lists. with_rows the.Act (rows_of_acts (act_rows_from order.now 0 acts.now)) (without_acts order.now lists)) (state S.Store tx.old.conn.now) (state S.Store tx.new.conn.now)) }
+{
+    drop_acts(tx, order)?;
+    add_acts(tx, order, acts)?;
+    Ok(acts.len())
 }

@@ -10,27 +10,6 @@ use crate::changes::change_writes::write_change;
 use agv_world::Change;
 use sqlite::{Alter, Connection, Error};
 
-// Makes the changes in turn, and commits them.
-fn run_changes<S: Alter>(conn: &mut Connection<S>, changes: &[Change]) -> Result<(), Error>
-    requires { conn.old.in_transaction ≡ false }
-    ensures made { HasCleanDisk (state S.Store conn.new) → OnOk result (MakesChanges changes.now (state S.Store conn.old).now (state S.Store conn.new).committed) }
-    ensures worlds { HasCleanDisk (state S.Store conn.new) → OnOk result (ChangesWorlds changes.now (state S.Store conn.old).now (state S.Store conn.new).committed) }
-    ensures all_committed { HasCleanDisk (state S.Store conn.new) → OnOk result ((state S.Store conn.new).now ≡ (state S.Store conn.new).committed) }
-    ensures open { HasCleanDisk (state S.Store conn.new) → OnOk result (IsTrue (state S.Store conn.old).is_open × IsTrue (state S.Store conn.new).is_open) }
-    ensures was_open { HasCleanDisk (state S.Store conn.new) → IsTrue (state S.Store conn.new).is_open → IsTrue (state S.Store conn.old).is_open }
-    ensures undone { HasCleanDisk (state S.Store conn.new) → IsTrue (state S.Store conn.new).is_open
-        → OnErr result (((state S.Store conn.new).now ≡ (state S.Store conn.old).committed) × ((state S.Store conn.new).committed ≡ (state S.Store conn.old).committed)) }
-    ensures crash { Survives (state S.Store conn.old) (state S.Store conn.new) (LeavesChanges changes.now (state S.Store conn.old).now) }
-    ensures idle { conn.new.in_transaction ≡ false }
-{
-    changes_make_the_next_world();
-    let mut tx = conn.transaction();
-    for change in changes {
-        write_change(&mut tx, change)?;
-    }
-    tx.commit()
-}
-
 /// Makes the changes in turn, in one transaction, in the tables of a desk, whatever else the database has.
 /// Where it succeeds all of them are committed, every other table has the rows that it had, the schema is as it was,
 /// and the store is open; after an error that leaves the store open none is made. A store that was shut stays shut. A crash leaves the rows before them or
@@ -58,4 +37,25 @@ pub fn write_changes<S: Alter>(
     let done = run_changes(conn, changes);
     done?;
     Ok(())
+}
+
+// Makes the changes in turn, and commits them.
+fn run_changes<S: Alter>(conn: &mut Connection<S>, changes: &[Change]) -> Result<(), Error>
+    requires { conn.old.in_transaction ≡ false }
+    ensures made { HasCleanDisk (state S.Store conn.new) → OnOk result (MakesChanges changes.now (state S.Store conn.old).now (state S.Store conn.new).committed) }
+    ensures worlds { HasCleanDisk (state S.Store conn.new) → OnOk result (ChangesWorlds changes.now (state S.Store conn.old).now (state S.Store conn.new).committed) }
+    ensures all_committed { HasCleanDisk (state S.Store conn.new) → OnOk result ((state S.Store conn.new).now ≡ (state S.Store conn.new).committed) }
+    ensures open { HasCleanDisk (state S.Store conn.new) → OnOk result (IsTrue (state S.Store conn.old).is_open × IsTrue (state S.Store conn.new).is_open) }
+    ensures was_open { HasCleanDisk (state S.Store conn.new) → IsTrue (state S.Store conn.new).is_open → IsTrue (state S.Store conn.old).is_open }
+    ensures undone { HasCleanDisk (state S.Store conn.new) → IsTrue (state S.Store conn.new).is_open
+        → OnErr result (((state S.Store conn.new).now ≡ (state S.Store conn.old).committed) × ((state S.Store conn.new).committed ≡ (state S.Store conn.old).committed)) }
+    ensures crash { Survives (state S.Store conn.old) (state S.Store conn.new) (LeavesChanges changes.now (state S.Store conn.old).now) }
+    ensures idle { conn.new.in_transaction ≡ false }
+{
+    changes_make_the_next_world();
+    let mut tx = conn.transaction();
+    for change in changes {
+        write_change(&mut tx, change)?;
+    }
+    tx.commit()
 }

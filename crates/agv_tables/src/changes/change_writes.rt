@@ -33,6 +33,31 @@ use agv_trip_rows::JourneyRow;
 use agv_world::{Change, JobRow, LegKey, TripRow, UseKey, VehicleRow};
 use sqlite::{Alter, Error, Transaction};
 
+/// Makes the change: its row is written in place of that of its key, or that row is removed.
+pub(crate) fn write_change<S: Alter>(
+    tx: &mut Transaction<'_, S>,
+    change: &Change,
+) -> Result<usize, Error>
+    ensures same_reference { tx.new.conn.ghost_name ≡ tx.old.conn.ghost_name }
+    ensures survives { Survives (state S.Store tx.old.conn.now) (state S.Store tx.new.conn.now) (λ _. ⊥) }
+    ensures kept { HasCleanDisk (state S.Store tx.new.conn.now) → KeepsCommit (state S.Store tx.old.conn.now) (state S.Store tx.new.conn.now) }
+    ensures made { HasCleanDisk (state S.Store tx.new.conn.now)
+        → OnOk result (Makes (listed change.now) (state S.Store tx.old.conn.now) (state S.Store tx.new.conn.now)) }
+{
+    match change {
+        Change::Node(id) => write_node(tx, id),
+        Change::Edge(id, ends) => write_edge(tx, id, ends),
+        Change::Station(id, site) => write_station(tx, id, site),
+        Change::Vehicle(key, vehicle) => write_vehicle(tx, key, vehicle),
+        Change::Trip(order, trip) => write_trip(tx, order, trip),
+        Change::Leg(key, edge) => write_leg(tx, key, edge),
+        Change::Load(id, place) => write_load(tx, id, place),
+        Change::Job(id, job) => write_job(tx, id, job),
+        Change::Hold(thing, key) => write_hold(tx, thing, key),
+        Change::Used(key) => write_used(tx, key),
+    }
+}
+
 // The node is there.
 fn write_node<S: Alter>(tx: &mut Transaction<'_, S>, id: &Name) -> Result<usize, Error>
     ensures same_reference { tx.new.conn.ghost_name ≡ tx.old.conn.ghost_name }
@@ -84,6 +109,22 @@ fn write_station<S: Alter>(
     )
 }
 
+// The vehicle is this.
+fn write_vehicle<S: Alter>(
+    tx: &mut Transaction<'_, S>,
+    key: &VehicleKey,
+    vehicle: &VehicleRow,
+) -> Result<usize, Error>
+    ensures same_reference { tx.new.conn.ghost_name ≡ tx.old.conn.ghost_name }
+    ensures survives { Survives (state S.Store tx.old.conn.now) (state S.Store tx.new.conn.now) (λ _. ⊥) }
+    ensures kept { HasCleanDisk (state S.Store tx.new.conn.now) → KeepsCommit (state S.Store tx.old.conn.now) (state S.Store tx.new.conn.now) }
+    ensures made { HasCleanDisk (state S.Store tx.new.conn.now)
+        → OnOk result (Makes (listed (row.Vehicle key.now vehicle.now)) (state S.Store tx.old.conn.now) (state S.Store tx.new.conn.now)) }
+{
+    put_vehicle(tx, key, vehicle)?;
+    write_room(tx, key, vehicle)
+}
+
 // The row of the vehicle, but for its room for loads.
 fn put_vehicle<S: Alter>(
     tx: &mut Transaction<'_, S>,
@@ -104,20 +145,34 @@ fn put_vehicle<S: Alter>(
     )
 }
 
-// The vehicle is this.
-fn write_vehicle<S: Alter>(
+// The open trip of the order, if it has one.
+fn write_trip<S: Alter>(
     tx: &mut Transaction<'_, S>,
-    key: &VehicleKey,
-    vehicle: &VehicleRow,
+    order: &Name,
+    trip: &Option<TripRow>,
 ) -> Result<usize, Error>
     ensures same_reference { tx.new.conn.ghost_name ≡ tx.old.conn.ghost_name }
     ensures survives { Survives (state S.Store tx.old.conn.now) (state S.Store tx.new.conn.now) (λ _. ⊥) }
     ensures kept { HasCleanDisk (state S.Store tx.new.conn.now) → KeepsCommit (state S.Store tx.old.conn.now) (state S.Store tx.new.conn.now) }
     ensures made { HasCleanDisk (state S.Store tx.new.conn.now)
-        → OnOk result (Makes (listed (row.Vehicle key.now vehicle.now)) (state S.Store tx.old.conn.now) (state S.Store tx.new.conn.now)) }
+        → OnOk result (Makes (listed (row.Trip order.now trip.now)) (state S.Store tx.old.conn.now) (state S.Store tx.new.conn.now)) }
 {
-    put_vehicle(tx, key, vehicle)?;
-    write_room(tx, key, vehicle)
+    match trip {
+        None => drop_trip(tx, order),
+        Some(trip) => write_open_trip(tx, order, trip),
+    }
+}
+
+// The order has no open trip.
+fn drop_trip<S: Alter>(tx: &mut Transaction<'_, S>, order: &Name) -> Result<usize, Error>
+    ensures same_reference { tx.new.conn.ghost_name ≡ tx.old.conn.ghost_name }
+    ensures survives { Survives (state S.Store tx.old.conn.now) (state S.Store tx.new.conn.now) (λ _. ⊥) }
+    ensures kept { HasCleanDisk (state S.Store tx.new.conn.now) → KeepsCommit (state S.Store tx.old.conn.now) (state S.Store tx.new.conn.now) }
+    ensures made { HasCleanDisk (state S.Store tx.new.conn.now)
+        → OnOk result (Makes (listed (row.Trip order.now None)) (state S.Store tx.old.conn.now) (state S.Store tx.new.conn.now)) }
+{
+    drop_journey(tx, order)?;
+    drop_acts(tx, order)
 }
 
 // The order has no journey.
@@ -131,16 +186,20 @@ fn drop_journey<S: Alter>(tx: &mut Transaction<'_, S>, order: &Name) -> Result<u
     delete_row(tx, WorldTable::Journey, &name_key_values(order))
 }
 
-// The order has no open trip.
-fn drop_trip<S: Alter>(tx: &mut Transaction<'_, S>, order: &Name) -> Result<usize, Error>
+// The order has this open trip.
+fn write_open_trip<S: Alter>(
+    tx: &mut Transaction<'_, S>,
+    order: &Name,
+    trip: &TripRow,
+) -> Result<usize, Error>
     ensures same_reference { tx.new.conn.ghost_name ≡ tx.old.conn.ghost_name }
     ensures survives { Survives (state S.Store tx.old.conn.now) (state S.Store tx.new.conn.now) (λ _. ⊥) }
     ensures kept { HasCleanDisk (state S.Store tx.new.conn.now) → KeepsCommit (state S.Store tx.old.conn.now) (state S.Store tx.new.conn.now) }
     ensures made { HasCleanDisk (state S.Store tx.new.conn.now)
-        → OnOk result (Makes (listed (row.Trip order.now None)) (state S.Store tx.old.conn.now) (state S.Store tx.new.conn.now)) }
+        → OnOk result (Makes (listed (row.Trip order.now (Some trip.now))) (state S.Store tx.old.conn.now) (state S.Store tx.new.conn.now)) }
 {
-    drop_journey(tx, order)?;
-    drop_acts(tx, order)
+    put_journey(tx, order, &JourneyRow::of(trip))?;
+    write_acts(tx, order, trip.acts.as_slice())
 }
 
 // The order has this journey.
@@ -161,51 +220,6 @@ fn put_journey<S: Alter>(
         &name_key_values(order),
         &journey_values(order, journey),
     )
-}
-
-// The order has this open trip.
-fn write_open_trip<S: Alter>(
-    tx: &mut Transaction<'_, S>,
-    order: &Name,
-    trip: &TripRow,
-) -> Result<usize, Error>
-    ensures same_reference { tx.new.conn.ghost_name ≡ tx.old.conn.ghost_name }
-    ensures survives { Survives (state S.Store tx.old.conn.now) (state S.Store tx.new.conn.now) (λ _. ⊥) }
-    ensures kept { HasCleanDisk (state S.Store tx.new.conn.now) → KeepsCommit (state S.Store tx.old.conn.now) (state S.Store tx.new.conn.now) }
-    ensures made { HasCleanDisk (state S.Store tx.new.conn.now)
-        → OnOk result (Makes (listed (row.Trip order.now (Some trip.now))) (state S.Store tx.old.conn.now) (state S.Store tx.new.conn.now)) }
-{
-    put_journey(tx, order, &JourneyRow::of(trip))?;
-    write_acts(tx, order, trip.acts.as_slice())
-}
-
-// The open trip of the order, if it has one.
-fn write_trip<S: Alter>(
-    tx: &mut Transaction<'_, S>,
-    order: &Name,
-    trip: &Option<TripRow>,
-) -> Result<usize, Error>
-    ensures same_reference { tx.new.conn.ghost_name ≡ tx.old.conn.ghost_name }
-    ensures survives { Survives (state S.Store tx.old.conn.now) (state S.Store tx.new.conn.now) (λ _. ⊥) }
-    ensures kept { HasCleanDisk (state S.Store tx.new.conn.now) → KeepsCommit (state S.Store tx.old.conn.now) (state S.Store tx.new.conn.now) }
-    ensures made { HasCleanDisk (state S.Store tx.new.conn.now)
-        → OnOk result (Makes (listed (row.Trip order.now trip.now)) (state S.Store tx.old.conn.now) (state S.Store tx.new.conn.now)) }
-{
-    match trip {
-        None => drop_trip(tx, order),
-        Some(trip) => write_open_trip(tx, order, trip),
-    }
-}
-
-// That edge is not on the way of an open trip.
-fn drop_leg<S: Alter>(tx: &mut Transaction<'_, S>, key: &LegKey) -> Result<usize, Error>
-    ensures same_reference { tx.new.conn.ghost_name ≡ tx.old.conn.ghost_name }
-    ensures survives { Survives (state S.Store tx.old.conn.now) (state S.Store tx.new.conn.now) (λ _. ⊥) }
-    ensures kept { HasCleanDisk (state S.Store tx.new.conn.now) → KeepsCommit (state S.Store tx.old.conn.now) (state S.Store tx.new.conn.now) }
-    ensures made { HasCleanDisk (state S.Store tx.new.conn.now)
-        → OnOk result (Makes (listed (row.Leg key.now None)) (state S.Store tx.old.conn.now) (state S.Store tx.new.conn.now)) }
-{
-    delete_row(tx, WorldTable::Leg, &leg_key_values(key))
 }
 
 // The edge on the way of an open trip, if it has one there.
@@ -229,6 +243,17 @@ fn write_leg<S: Alter>(
             &leg_values(key, edge),
         ),
     }
+}
+
+// That edge is not on the way of an open trip.
+fn drop_leg<S: Alter>(tx: &mut Transaction<'_, S>, key: &LegKey) -> Result<usize, Error>
+    ensures same_reference { tx.new.conn.ghost_name ≡ tx.old.conn.ghost_name }
+    ensures survives { Survives (state S.Store tx.old.conn.now) (state S.Store tx.new.conn.now) (λ _. ⊥) }
+    ensures kept { HasCleanDisk (state S.Store tx.new.conn.now) → KeepsCommit (state S.Store tx.old.conn.now) (state S.Store tx.new.conn.now) }
+    ensures made { HasCleanDisk (state S.Store tx.new.conn.now)
+        → OnOk result (Makes (listed (row.Leg key.now None)) (state S.Store tx.old.conn.now) (state S.Store tx.new.conn.now)) }
+{
+    delete_row(tx, WorldTable::Leg, &leg_key_values(key))
 }
 
 // The load is there.
@@ -299,29 +324,4 @@ fn write_used<S: Alter>(tx: &mut Transaction<'_, S>, key: &UseKey) -> Result<usi
         → OnOk result (Makes (listed (row.Used key.now)) (state S.Store tx.old.conn.now) (state S.Store tx.new.conn.now)) }
 {
     put_row(tx, WorldTable::Used, &used_values(key), &used_values(key))
-}
-
-/// Makes the change: its row is written in place of that of its key, or that row is removed.
-pub(crate) fn write_change<S: Alter>(
-    tx: &mut Transaction<'_, S>,
-    change: &Change,
-) -> Result<usize, Error>
-    ensures same_reference { tx.new.conn.ghost_name ≡ tx.old.conn.ghost_name }
-    ensures survives { Survives (state S.Store tx.old.conn.now) (state S.Store tx.new.conn.now) (λ _. ⊥) }
-    ensures kept { HasCleanDisk (state S.Store tx.new.conn.now) → KeepsCommit (state S.Store tx.old.conn.now) (state S.Store tx.new.conn.now) }
-    ensures made { HasCleanDisk (state S.Store tx.new.conn.now)
-        → OnOk result (Makes (listed change.now) (state S.Store tx.old.conn.now) (state S.Store tx.new.conn.now)) }
-{
-    match change {
-        Change::Node(id) => write_node(tx, id),
-        Change::Edge(id, ends) => write_edge(tx, id, ends),
-        Change::Station(id, site) => write_station(tx, id, site),
-        Change::Vehicle(key, vehicle) => write_vehicle(tx, key, vehicle),
-        Change::Trip(order, trip) => write_trip(tx, order, trip),
-        Change::Leg(key, edge) => write_leg(tx, key, edge),
-        Change::Load(id, place) => write_load(tx, id, place),
-        Change::Job(id, job) => write_job(tx, id, job),
-        Change::Hold(thing, key) => write_hold(tx, thing, key),
-        Change::Used(key) => write_used(tx, key),
-    }
 }

@@ -18,26 +18,6 @@ use agv_header::VehicleKey;
 use agv_world::VehicleRow;
 use sqlite::{Alter, Error, Transaction};
 
-// The room is put in place of the one that is there.
-fn put_room<S: Alter>(
-    tx: &mut Transaction<'_, S>,
-    key: &VehicleKey,
-    vehicle: &VehicleRow,
-) -> Result<usize, Error>
-    ensures same_reference { tx.new.conn.ghost_name ≡ tx.old.conn.ghost_name }
-    ensures survives { Survives (state S.Store tx.old.conn.now) (state S.Store tx.new.conn.now) (λ _. ⊥) }
-    ensures kept { HasCleanDisk (state S.Store tx.new.conn.now) → KeepsCommit (state S.Store tx.old.conn.now) (state S.Store tx.new.conn.now) }
-    ensures made { HasCleanDisk (state S.Store tx.new.conn.now)
-        → OnOk result (Makes (with_put the.Capacity (vehicle_key key.now) (room_columns key.now vehicle.now)) (state S.Store tx.old.conn.now) (state S.Store tx.new.conn.now)) }
-{
-    put_row(
-        tx,
-        WorldTable::Capacity,
-        &vehicle_key_values(key),
-        &capacity_values(key, vehicle),
-    )
-}
-
 /// The vehicle has this room. It has the same as long as it is registered, so its row is looked up first, and written
 /// only where it is not there.
 pub(crate) fn write_room<S: Alter>(
@@ -56,4 +36,24 @@ pub(crate) fn write_room<S: Alter>(
         return Ok(0);
     }
     put_room(tx, key, vehicle)
+}
+
+// The room is put in place of the one that is there.
+fn put_room<S: Alter>(
+    tx: &mut Transaction<'_, S>,
+    key: &VehicleKey,
+    vehicle: &VehicleRow,
+) -> Result<usize, Error>
+    ensures same_reference { tx.new.conn.ghost_name ≡ tx.old.conn.ghost_name }
+    ensures survives { Survives (state S.Store tx.old.conn.now) (state S.Store tx.new.conn.now) (λ _. ⊥) }
+    ensures kept { HasCleanDisk (state S.Store tx.new.conn.now) → KeepsCommit (state S.Store tx.old.conn.now) (state S.Store tx.new.conn.now) }
+    ensures made { HasCleanDisk (state S.Store tx.new.conn.now)
+        → OnOk result (Makes (with_put the.Capacity (vehicle_key key.now) (room_columns key.now vehicle.now)) (state S.Store tx.old.conn.now) (state S.Store tx.new.conn.now)) }
+{
+    put_row(
+        tx,
+        WorldTable::Capacity,
+        &vehicle_key_values(key),
+        &capacity_values(key, vehicle),
+    )
 }

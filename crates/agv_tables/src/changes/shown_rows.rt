@@ -11,6 +11,16 @@ use agv_order::Act;
 use agv_world::VehicleRow;
 use sqlite::Row;
 
+/// Whether the only row is that of this vehicle's room for loads.
+pub(crate) fn is_only_room(rows: &[Row], key: &VehicleKey, vehicle: &VehicleRow) -> bool
+    ensures { IsTrue result → rows.now ≡ room_columns key.now vehicle.now ∷ [] }
+{
+    match rows {
+        [row] => is_room(row, key, vehicle),
+        _ => false,
+    }
+}
+
 // Whether the row is that of this vehicle's room for loads.
 fn is_room(row: &Row, key: &VehicleKey, vehicle: &VehicleRow) -> bool
     ensures { IsTrue result → row.now ≡ room_columns key.now vehicle.now }
@@ -22,12 +32,16 @@ fn is_room(row: &Row, key: &VehicleKey, vehicle: &VehicleRow) -> bool
     }
 }
 
-/// Whether the only row is that of this vehicle's room for loads.
-pub(crate) fn is_only_room(rows: &[Row], key: &VehicleKey, vehicle: &VehicleRow) -> bool
-    ensures { IsTrue result → rows.now ≡ room_columns key.now vehicle.now ∷ [] }
+/// Whether the rows, in their order, are those of these acts of the order, which are numbered from `n` on.
+pub(crate) fn are_acts(rows: &[Row], order: &Name, n: usize, acts: &[Act]) -> bool
+    requires { n + length acts.now < 2 ^ 64 }
+    ensures { IsTrue result → rows.now ≡ rows_of_acts (act_rows_from order.now n acts.now) }
 {
-    match rows {
-        [row] => is_room(row, key, vehicle),
+    match (rows, acts) {
+        ([], []) => true,
+        ([row, rows @ ..], [act, acts @ ..]) => {
+            is_act(row, order, n, act) && are_acts(rows, order, n + 1, acts)
+        }
         _ => false,
     }
 }
@@ -47,19 +61,5 @@ fn is_act(row: &Row, order: &Name, n: usize, act: &Act) -> bool
                 && told.place_at == act.place_at
                 && told.status == act.status
         }
-    }
-}
-
-/// Whether the rows, in their order, are those of these acts of the order, which are numbered from `n` on.
-pub(crate) fn are_acts(rows: &[Row], order: &Name, n: usize, acts: &[Act]) -> bool
-    requires { n + length acts.now < 2 ^ 64 }
-    ensures { IsTrue result → rows.now ≡ rows_of_acts (act_rows_from order.now n acts.now) }
-{
-    match (rows, acts) {
-        ([], []) => true,
-        ([row, rows @ ..], [act, acts @ ..]) => {
-            is_act(row, order, n, act) && are_acts(rows, order, n + 1, acts)
-        }
-        _ => false,
     }
 }

@@ -22,6 +22,20 @@ use agv_world::{ByName, ByVehicle, TripRow, VehicleRow, World};
 use sqlite::types::{ToSql, ValueRef};
 use sqlite::{Alter, Error, Transaction};
 
+/// The open trips stand as journeys and acts, each vehicle has a row of its room, and `meta` has the number of the second schema.
+pub(crate) fn move_rows<S: Alter>(tx: &mut Transaction<'_, S>, tables: &World) -> Result<(), Error>
+    ensures same_reference { tx.new.conn.ghost_name ≡ tx.old.conn.ghost_name }
+    ensures survives { Survives (state S.Store tx.old.conn.now) (state S.Store tx.new.conn.now) (λ _. ⊥) }
+    ensures kept { HasCleanDisk (state S.Store tx.new.conn.now) → KeepsCommit (state S.Store tx.old.conn.now) (state S.Store tx.new.conn.now) }
+    ensures made { HasCleanDisk (state S.Store tx.new.conn.now)
+        → OnOk result (Makes (moved_lists tables.now) (state S.Store tx.old.conn.now) (state S.Store tx.new.conn.now)) }
+{
+    empty_trips(tx)?;
+    number_anew(tx)?;
+    add_rooms(tx, &tables.vehicles)?;
+    add_trips(tx, &tables.trips)
+}
+
 // Takes out all rows of `trip`.
 fn empty_trips<S: Alter>(tx: &mut Transaction<'_, S>) -> Result<usize, Error>
     ensures same_reference { tx.new.conn.ghost_name ≡ tx.old.conn.ghost_name }
@@ -33,6 +47,18 @@ fn empty_trips<S: Alter>(tx: &mut Transaction<'_, S>) -> Result<usize, Error>
     tx.execute("DELETE FROM trip", &[])
 }
 
+// The number of the second schema stands in `meta`.
+fn number_anew<S: Alter>(tx: &mut Transaction<'_, S>) -> Result<usize, Error>
+    ensures same_reference { tx.new.conn.ghost_name ≡ tx.old.conn.ghost_name }
+    ensures survives { Survives (state S.Store tx.old.conn.now) (state S.Store tx.new.conn.now) (λ _. ⊥) }
+    ensures kept { HasCleanDisk (state S.Store tx.new.conn.now) → KeepsCommit (state S.Store tx.old.conn.now) (state S.Store tx.new.conn.now) }
+    ensures made { HasCleanDisk (state S.Store tx.new.conn.now)
+        → OnOk result (Makes numbered_anew (state S.Store tx.old.conn.now) (state S.Store tx.new.conn.now)) }
+{
+    clear_number(tx)?;
+    write_number(tx)
+}
+
 // Takes out the row of `meta`.
 fn clear_number<S: Alter>(tx: &mut Transaction<'_, S>) -> Result<usize, Error>
     ensures same_reference { tx.new.conn.ghost_name ≡ tx.old.conn.ghost_name }
@@ -42,13 +68,6 @@ fn clear_number<S: Alter>(tx: &mut Transaction<'_, S>) -> Result<usize, Error>
         → OnOk result (Makes (without_all the.Meta) (state S.Store tx.old.conn.now) (state S.Store tx.new.conn.now)) }
 {
     tx.execute("DELETE FROM meta", &[])
-}
-
-// The row of `meta` of the second schema.
-fn number_values() -> [ValueRef<'static>; 2]
-    ensures { bound result ≡ meta_columns 1 schema_number }
-{
-    [1u32.to_sql(), 2u32.to_sql()]
 }
 
 // Adds it.
@@ -65,31 +84,11 @@ fn write_number<S: Alter>(tx: &mut Transaction<'_, S>) -> Result<usize, Error>
     )
 }
 
-// The number of the second schema stands in `meta`.
-fn number_anew<S: Alter>(tx: &mut Transaction<'_, S>) -> Result<usize, Error>
-    ensures same_reference { tx.new.conn.ghost_name ≡ tx.old.conn.ghost_name }
-    ensures survives { Survives (state S.Store tx.old.conn.now) (state S.Store tx.new.conn.now) (λ _. ⊥) }
-    ensures kept { HasCleanDisk (state S.Store tx.new.conn.now) → KeepsCommit (state S.Store tx.old.conn.now) (state S.Store tx.new.conn.now) }
-    ensures made { HasCleanDisk (state S.Store tx.new.conn.now)
-        → OnOk result (Makes numbered_anew (state S.Store tx.old.conn.now) (state S.Store tx.new.conn.now)) }
+// The row of `meta` of the second schema.
+fn number_values() -> [ValueRef<'static>; 2]
+    ensures { bound result ≡ meta_columns 1 schema_number }
 {
-    clear_number(tx)?;
-    write_number(tx)
-}
-
-// Adds the room of a vehicle.
-fn add_room<S: Alter>(
-    tx: &mut Transaction<'_, S>,
-    key: &VehicleKey,
-    vehicle: &VehicleRow,
-) -> Result<usize, Error>
-    ensures same_reference { tx.new.conn.ghost_name ≡ tx.old.conn.ghost_name }
-    ensures survives { Survives (state S.Store tx.old.conn.now) (state S.Store tx.new.conn.now) (λ _. ⊥) }
-    ensures kept { HasCleanDisk (state S.Store tx.new.conn.now) → KeepsCommit (state S.Store tx.old.conn.now) (state S.Store tx.new.conn.now) }
-    ensures made { HasCleanDisk (state S.Store tx.new.conn.now)
-        → OnOk result (Makes (with_row the.Capacity (room_columns key.now vehicle.now)) (state S.Store tx.old.conn.now) (state S.Store tx.new.conn.now)) }
-{
-    insert_row(tx, WorldTable::Capacity, &capacity_values(key, vehicle))
+    [1u32.to_sql(), 2u32.to_sql()]
 }
 
 // Adds the room of each vehicle.
@@ -109,19 +108,33 @@ fn add_rooms<S: Alter>(
     Ok(())
 }
 
-// Adds the journey of an open trip.
-fn add_journey<S: Alter>(
+// Adds the room of a vehicle.
+fn add_room<S: Alter>(
     tx: &mut Transaction<'_, S>,
-    order: &Name,
-    journey: &JourneyRow,
+    key: &VehicleKey,
+    vehicle: &VehicleRow,
 ) -> Result<usize, Error>
     ensures same_reference { tx.new.conn.ghost_name ≡ tx.old.conn.ghost_name }
     ensures survives { Survives (state S.Store tx.old.conn.now) (state S.Store tx.new.conn.now) (λ _. ⊥) }
     ensures kept { HasCleanDisk (state S.Store tx.new.conn.now) → KeepsCommit (state S.Store tx.old.conn.now) (state S.Store tx.new.conn.now) }
     ensures made { HasCleanDisk (state S.Store tx.new.conn.now)
-        → OnOk result (Makes (with_row the.Journey (journey_columns order.now journey.now)) (state S.Store tx.old.conn.now) (state S.Store tx.new.conn.now)) }
+        → OnOk result (Makes (with_row the.Capacity (room_columns key.now vehicle.now)) (state S.Store tx.old.conn.now) (state S.Store tx.new.conn.now)) }
 {
-    insert_row(tx, WorldTable::Journey, &journey_values(order, journey))
+    insert_row(tx, WorldTable::Capacity, &capacity_values(key, vehicle))
+}
+
+// Adds the journey and the acts of each open trip.
+fn add_trips<S: Alter>(tx: &mut Transaction<'_, S>, trips: &ByName<TripRow>) -> Result<(), Error>
+    ensures same_reference { tx.new.conn.ghost_name ≡ tx.old.conn.ghost_name }
+    ensures survives { Survives (state S.Store tx.old.conn.now) (state S.Store tx.new.conn.now) (λ _. ⊥) }
+    ensures kept { HasCleanDisk (state S.Store tx.new.conn.now) → KeepsCommit (state S.Store tx.old.conn.now) (state S.Store tx.new.conn.now) }
+    ensures made { HasCleanDisk (state S.Store tx.new.conn.now) → IsTrue (state S.Store tx.old.conn.now).in_transaction
+        → OnOk result (Makes (for_each with_journey (finite.entries trips.now)) (state S.Store tx.old.conn.now) (state S.Store tx.new.conn.now)) }
+{
+    for (order, trip) in trips.iter() {
+        add_trip(tx, order, trip)?;
+    }
+    Ok(())
 }
 
 // Adds the journey and the acts of an open trip.
@@ -140,30 +153,17 @@ fn add_trip<S: Alter>(
     add_acts(tx, order, trip.acts.as_slice())
 }
 
-// Adds the journey and the acts of each open trip.
-fn add_trips<S: Alter>(tx: &mut Transaction<'_, S>, trips: &ByName<TripRow>) -> Result<(), Error>
-    ensures same_reference { tx.new.conn.ghost_name ≡ tx.old.conn.ghost_name }
-    ensures survives { Survives (state S.Store tx.old.conn.now) (state S.Store tx.new.conn.now) (λ _. ⊥) }
-    ensures kept { HasCleanDisk (state S.Store tx.new.conn.now) → KeepsCommit (state S.Store tx.old.conn.now) (state S.Store tx.new.conn.now) }
-    ensures made { HasCleanDisk (state S.Store tx.new.conn.now) → IsTrue (state S.Store tx.old.conn.now).in_transaction
-        → OnOk result (Makes (for_each with_journey (finite.entries trips.now)) (state S.Store tx.old.conn.now) (state S.Store tx.new.conn.now)) }
-{
-    for (order, trip) in trips.iter() {
-        add_trip(tx, order, trip)?;
-    }
-    Ok(())
-}
-
-/// The open trips stand as journeys and acts, each vehicle has a row of its room, and `meta` has the number of the second schema.
-pub(crate) fn move_rows<S: Alter>(tx: &mut Transaction<'_, S>, tables: &World) -> Result<(), Error>
+// Adds the journey of an open trip.
+fn add_journey<S: Alter>(
+    tx: &mut Transaction<'_, S>,
+    order: &Name,
+    journey: &JourneyRow,
+) -> Result<usize, Error>
     ensures same_reference { tx.new.conn.ghost_name ≡ tx.old.conn.ghost_name }
     ensures survives { Survives (state S.Store tx.old.conn.now) (state S.Store tx.new.conn.now) (λ _. ⊥) }
     ensures kept { HasCleanDisk (state S.Store tx.new.conn.now) → KeepsCommit (state S.Store tx.old.conn.now) (state S.Store tx.new.conn.now) }
     ensures made { HasCleanDisk (state S.Store tx.new.conn.now)
-        → OnOk result (Makes (moved_lists tables.now) (state S.Store tx.old.conn.now) (state S.Store tx.new.conn.now)) }
+        → OnOk result (Makes (with_row the.Journey (journey_columns order.now journey.now)) (state S.Store tx.old.conn.now) (state S.Store tx.new.conn.now)) }
 {
-    empty_trips(tx)?;
-    number_anew(tx)?;
-    add_rooms(tx, &tables.vehicles)?;
-    add_trips(tx, &tables.trips)
+    insert_row(tx, WorldTable::Journey, &journey_values(order, journey))
 }

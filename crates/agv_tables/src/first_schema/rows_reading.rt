@@ -9,38 +9,6 @@ use crate::{ReadingFault, TableName};
 use sqlite::{Alter, Connection, Row};
 use std::alloc::Global;
 
-// All rows of a table, each of which has a number of its own.
-fn read_table<S: Alter>(
-    alloc: Global,
-    conn: &mut Connection<S>,
-    table: TableName,
-) -> Result<Vec<Row>, ReadingFault>
-    ensures { ReadsLists S.Store conn.old conn.new (table ∷ []) (one_list result) }
-{
-    if !query_keyed(alloc, conn, table)? {
-        return Err(ReadingFault::Damaged);
-    }
-    let rows = find_all_rows(conn, table)?;
-    Ok(rows)
-}
-
-// The same of each of these tables.
-fn read_each<S: Alter>(
-    alloc: Global,
-    conn: &mut Connection<S>,
-    tables: &[TableName],
-) -> Result<Vec<Vec<Row>>, ReadingFault>
-    ensures { ReadsLists S.Store conn.old conn.new tables.now (all_lists result) }
-{
-    let [table, others @ ..] = tables else {
-        return Ok(Vec::new(alloc));
-    };
-    let rows = read_table(alloc, conn, *table)?;
-    let mut lists = read_each(alloc, conn, others)?;
-    lists.insert(0, rows)?;
-    Ok(lists)
-}
-
 /// All rows of the eleven tables, a list for each: they are all in memory at once.
 ///
 /// # Errors
@@ -68,4 +36,36 @@ pub(crate) fn read_first_tables<S: Alter>(
             TableName::Used,
         ],
     )
+}
+
+// The same of each of these tables.
+fn read_each<S: Alter>(
+    alloc: Global,
+    conn: &mut Connection<S>,
+    tables: &[TableName],
+) -> Result<Vec<Vec<Row>>, ReadingFault>
+    ensures { ReadsLists S.Store conn.old conn.new tables.now (all_lists result) }
+{
+    let [table, others @ ..] = tables else {
+        return Ok(Vec::new(alloc));
+    };
+    let rows = read_table(alloc, conn, *table)?;
+    let mut lists = read_each(alloc, conn, others)?;
+    lists.insert(0, rows)?;
+    Ok(lists)
+}
+
+// All rows of a table, each of which has a number of its own.
+fn read_table<S: Alter>(
+    alloc: Global,
+    conn: &mut Connection<S>,
+    table: TableName,
+) -> Result<Vec<Row>, ReadingFault>
+    ensures { ReadsLists S.Store conn.old conn.new (table ∷ []) (one_list result) }
+{
+    if !query_keyed(alloc, conn, table)? {
+        return Err(ReadingFault::Damaged);
+    }
+    let rows = find_all_rows(conn, table)?;
+    Ok(rows)
 }

@@ -29,39 +29,6 @@ pub fn can_be_added(schema: &Schema) -> bool
     !is_any_used(schema, &ADDED) && are_unreferred(schema.tables.as_slice(), &ADDED)
 }
 
-// Makes the three tables.
-fn add_tables<S: Alter>(tx: &mut Transaction<'_, S>) -> Result<usize, Error>
-    ensures same_reference { tx.new.conn.ghost_name ≡ tx.old.conn.ghost_name }
-    ensures survives { Survives (state S.Store tx.old.conn.now) (state S.Store tx.new.conn.now) (λ _. ⊥) }
-    ensures kept { HasCleanDisk (state S.Store tx.new.conn.now) → KeepsCommit (state S.Store tx.old.conn.now) (state S.Store tx.new.conn.now) }
-    ensures ran { HasCleanDisk (state S.Store tx.new.conn.now)
-        → OnOk result (RunsSteps (map (λ text. (true, text)) added_texts) (state S.Store tx.old.conn.now) (state S.Store tx.new.conn.now)) }
-{
-    run_text(tx, CAPACITY)?;
-    run_text(tx, JOURNEY)?;
-    run_text(tx, ACT)
-}
-
-// Makes the three tables, and moves the rows, where that is possible.
-fn run_move<S: Alter>(conn: &mut Connection<S>, tables: &World) -> Result<(), Error>
-    requires idle { conn.old.in_transaction ≡ false }
-    requires possible { CanBeAdded (state S.Store conn.old).now.schema }
-    ensures made { HasCleanDisk (state S.Store conn.new) → OnOk result (MovesTables tables.now (state S.Store conn.old).now (state S.Store conn.new).committed) }
-    ensures all_committed { HasCleanDisk (state S.Store conn.new) → OnOk result ((state S.Store conn.new).now ≡ (state S.Store conn.new).committed) }
-    ensures open { HasCleanDisk (state S.Store conn.new) → OnOk result (IsTrue (state S.Store conn.old).is_open × IsTrue (state S.Store conn.new).is_open) }
-    ensures was_open { HasCleanDisk (state S.Store conn.new) → IsTrue (state S.Store conn.new).is_open → IsTrue (state S.Store conn.old).is_open }
-    ensures undone { HasCleanDisk (state S.Store conn.new) → IsTrue (state S.Store conn.new).is_open
-        → OnErr result (((state S.Store conn.new).now ≡ (state S.Store conn.old).committed) × ((state S.Store conn.new).committed ≡ (state S.Store conn.old).committed)) }
-    ensures crash { Survives (state S.Store conn.old) (state S.Store conn.new) (LeavesMoved tables.now (state S.Store conn.old).now) }
-    ensures idle { conn.new.in_transaction ≡ false }
-{
-    rows_have_keys();
-    let mut tx = conn.transaction();
-    add_tables(&mut tx)?;
-    move_rows(&mut tx, tables)?;
-    tx.commit()
-}
-
 /// Moves a database of the first schema to the second in one transaction, where it has the rows of a world, of which these
 /// are the tables in memory: it makes the tables `capacity`, `journey` and `act`, gives each vehicle a row of its room for
 /// loads, writes each open trip as a journey with its acts, empties `trip`, and sets the number of the schema. Where it
@@ -91,4 +58,37 @@ pub fn move_tables<S: Alter>(conn: &mut Connection<S>, tables: &World) -> Result
     }
     run_move(conn, tables)?;
     Ok(())
+}
+
+// Makes the three tables, and moves the rows, where that is possible.
+fn run_move<S: Alter>(conn: &mut Connection<S>, tables: &World) -> Result<(), Error>
+    requires idle { conn.old.in_transaction ≡ false }
+    requires possible { CanBeAdded (state S.Store conn.old).now.schema }
+    ensures made { HasCleanDisk (state S.Store conn.new) → OnOk result (MovesTables tables.now (state S.Store conn.old).now (state S.Store conn.new).committed) }
+    ensures all_committed { HasCleanDisk (state S.Store conn.new) → OnOk result ((state S.Store conn.new).now ≡ (state S.Store conn.new).committed) }
+    ensures open { HasCleanDisk (state S.Store conn.new) → OnOk result (IsTrue (state S.Store conn.old).is_open × IsTrue (state S.Store conn.new).is_open) }
+    ensures was_open { HasCleanDisk (state S.Store conn.new) → IsTrue (state S.Store conn.new).is_open → IsTrue (state S.Store conn.old).is_open }
+    ensures undone { HasCleanDisk (state S.Store conn.new) → IsTrue (state S.Store conn.new).is_open
+        → OnErr result (((state S.Store conn.new).now ≡ (state S.Store conn.old).committed) × ((state S.Store conn.new).committed ≡ (state S.Store conn.old).committed)) }
+    ensures crash { Survives (state S.Store conn.old) (state S.Store conn.new) (LeavesMoved tables.now (state S.Store conn.old).now) }
+    ensures idle { conn.new.in_transaction ≡ false }
+{
+    rows_have_keys();
+    let mut tx = conn.transaction();
+    add_tables(&mut tx)?;
+    move_rows(&mut tx, tables)?;
+    tx.commit()
+}
+
+// Makes the three tables.
+fn add_tables<S: Alter>(tx: &mut Transaction<'_, S>) -> Result<usize, Error>
+    ensures same_reference { tx.new.conn.ghost_name ≡ tx.old.conn.ghost_name }
+    ensures survives { Survives (state S.Store tx.old.conn.now) (state S.Store tx.new.conn.now) (λ _. ⊥) }
+    ensures kept { HasCleanDisk (state S.Store tx.new.conn.now) → KeepsCommit (state S.Store tx.old.conn.now) (state S.Store tx.new.conn.now) }
+    ensures ran { HasCleanDisk (state S.Store tx.new.conn.now)
+        → OnOk result (RunsSteps (map (λ text. (true, text)) added_texts) (state S.Store tx.old.conn.now) (state S.Store tx.new.conn.now)) }
+{
+    run_text(tx, CAPACITY)?;
+    run_text(tx, JOURNEY)?;
+    run_text(tx, ACT)
 }

@@ -13,6 +13,50 @@ use agv_world::{ByName, JobRow, TripRow};
 use sqlite::Row;
 use std::alloc::Global;
 
+/// The table that these rows tell.
+pub(crate) fn trips_in_rows(
+    alloc: Global,
+    rows: &[Row],
+    jobs: &ByName<JobRow>,
+) -> Result<ByName<TripRow>, ReadingFault>
+    ensures { Reads result (read_rows (trip_with jobs.now) map.empty rows.now) }
+{
+    let mut table = ByName::new(alloc);
+    for row in rows {
+        let entry = trip_in_row(alloc, row, jobs)?;
+        match entry {
+            None => return Err(ReadingFault::Damaged),
+            Some((order, trip)) => {
+                if table.get(order).is_some() {
+                    return Err(ReadingFault::Damaged);
+                }
+                table.insert(order, trip)?;
+            }
+        }
+    }
+    Ok(table)
+}
+
+// The order and the trip that a row tells, where its job is one of these.
+fn trip_in_row(
+    alloc: Global,
+    row: &Row,
+    jobs: &ByName<JobRow>,
+) -> Result<Option<(Name, TripRow)>, Memory>
+    ensures { IfOk result (λ entry. entry ≡ trip_with jobs.now row.now) }
+{
+    match decode_trip(row) {
+        None => Ok(None),
+        Some(line) => match jobs.get(line.job) {
+            None => Ok(None),
+            Some(job) => {
+                let trip = line.trip(alloc, job)?;
+                Ok(Some((line.order, trip)))
+            }
+        },
+    }
+}
+
 // An open trip of one job.
 #[tactic(auto, unfolding(crate::specs::first_schema::FirstColumns::trip_in))]
 fn decode_trip(row: &Row) -> Option<TripLine>
@@ -49,48 +93,4 @@ fn decode_trip(row: &Row) -> Option<TripLine>
         pick_status,
         drop_status,
     })
-}
-
-// The order and the trip that a row tells, where its job is one of these.
-fn trip_in_row(
-    alloc: Global,
-    row: &Row,
-    jobs: &ByName<JobRow>,
-) -> Result<Option<(Name, TripRow)>, Memory>
-    ensures { IfOk result (λ entry. entry ≡ trip_with jobs.now row.now) }
-{
-    match decode_trip(row) {
-        None => Ok(None),
-        Some(line) => match jobs.get(line.job) {
-            None => Ok(None),
-            Some(job) => {
-                let trip = line.trip(alloc, job)?;
-                Ok(Some((line.order, trip)))
-            }
-        },
-    }
-}
-
-/// The table that these rows tell.
-pub(crate) fn trips_in_rows(
-    alloc: Global,
-    rows: &[Row],
-    jobs: &ByName<JobRow>,
-) -> Result<ByName<TripRow>, ReadingFault>
-    ensures { Reads result (read_rows (trip_with jobs.now) map.empty rows.now) }
-{
-    let mut table = ByName::new(alloc);
-    for row in rows {
-        let entry = trip_in_row(alloc, row, jobs)?;
-        match entry {
-            None => return Err(ReadingFault::Damaged),
-            Some((order, trip)) => {
-                if table.get(order).is_some() {
-                    return Err(ReadingFault::Damaged);
-                }
-                table.insert(order, trip)?;
-            }
-        }
-    }
-    Ok(table)
 }

@@ -21,6 +21,51 @@ use std::alloc::Global;
 // The number of the first schema, as `meta` has it.
 const SCHEMA_NUMBER: u32 = 1;
 
+/// The tables of the world that the lists tell, and what is held.
+pub(crate) fn world_in_lists(
+    alloc: Global,
+    lists: &[Vec<Row>],
+) -> Result<(World, HeldThings), ReadingFault>
+    ensures { Finds (tables_and_holds result) (λ read. TellFirst (rows_listed lists.now) read.0 read.1) }
+{
+    if !has_first_row(list_of(lists, TableName::Meta)) {
+        return Err(ReadingFault::Damaged);
+    }
+    let tables = tables_in_lists(alloc, lists)?;
+    let held = holds_in_rows(alloc, list_of(lists, TableName::Hold))?;
+    Ok((tables, held))
+}
+
+// Whether these are just that row.
+fn has_first_row(rows: &[Row]) -> bool
+    ensures { result ≡ has_first_row rows.now }
+{
+    match rows {
+        [row] => is_first_row(row),
+        _ => false,
+    }
+}
+
+// Whether it is the row of `meta` of the first schema.
+fn is_first_row(row: &Row) -> bool
+    ensures { result ≡ is_first_row (meta_in row.now) }
+{
+    match decode_meta(row) {
+        None => false,
+        Some((id, schema)) => id == 1 && schema == SCHEMA_NUMBER,
+    }
+}
+
+// The list of a table; none where it is missing.
+fn list_of(lists: &[Vec<Row>], table: TableName) -> &[Row]
+    ensures { result.now ≡ table_at (place_of table) (rows_listed lists.now) }
+{
+    match lists.get(place_of(table)) {
+        Some(rows) => rows.as_slice(),
+        None => &[],
+    }
+}
+
 // The place of the list of a table.
 fn place_of(table: TableName) -> usize
     ensures { result ≡ place_of table }
@@ -40,55 +85,6 @@ fn place_of(table: TableName) -> usize
         TableName::Capacity => 11,
         TableName::Journey => 12,
         TableName::Act => 13,
-    }
-}
-
-// The list of a table; none where it is missing.
-fn list_of(lists: &[Vec<Row>], table: TableName) -> &[Row]
-    ensures { result.now ≡ table_at (place_of table) (rows_listed lists.now) }
-{
-    match lists.get(place_of(table)) {
-        Some(rows) => rows.as_slice(),
-        None => &[],
-    }
-}
-
-// The vehicles that these rows tell, each with room for one load.
-fn vehicles_in_rows(alloc: Global, rows: &[Row]) -> Result<ByVehicle<VehicleRow>, ReadingFault>
-    ensures { Reads result (read_rows vehicle_in finite.empty rows.now) }
-{
-    let mut table = ByVehicle::new(alloc);
-    for row in rows {
-        match decode_vehicle(row) {
-            None => return Err(ReadingFault::Damaged),
-            Some((key, value)) => {
-                if has_vehicle(&table, &key) {
-                    return Err(ReadingFault::Damaged);
-                }
-                table.insert(key, value)?;
-            }
-        }
-    }
-    Ok(table)
-}
-
-// Whether it is the row of `meta` of the first schema.
-fn is_first_row(row: &Row) -> bool
-    ensures { result ≡ is_first_row (meta_in row.now) }
-{
-    match decode_meta(row) {
-        None => false,
-        Some((id, schema)) => id == 1 && schema == SCHEMA_NUMBER,
-    }
-}
-
-// Whether these are just that row.
-fn has_first_row(rows: &[Row]) -> bool
-    ensures { result ≡ has_first_row rows.now }
-{
-    match rows {
-        [row] => is_first_row(row),
-        _ => false,
     }
 }
 
@@ -118,17 +114,21 @@ fn tables_in_lists(alloc: Global, lists: &[Vec<Row>]) -> Result<World, ReadingFa
     })
 }
 
-/// The tables of the world that the lists tell, and what is held.
-pub(crate) fn world_in_lists(
-    alloc: Global,
-    lists: &[Vec<Row>],
-) -> Result<(World, HeldThings), ReadingFault>
-    ensures { Finds (tables_and_holds result) (λ read. TellFirst (rows_listed lists.now) read.0 read.1) }
+// The vehicles that these rows tell, each with room for one load.
+fn vehicles_in_rows(alloc: Global, rows: &[Row]) -> Result<ByVehicle<VehicleRow>, ReadingFault>
+    ensures { Reads result (read_rows vehicle_in finite.empty rows.now) }
 {
-    if !has_first_row(list_of(lists, TableName::Meta)) {
-        return Err(ReadingFault::Damaged);
+    let mut table = ByVehicle::new(alloc);
+    for row in rows {
+        match decode_vehicle(row) {
+            None => return Err(ReadingFault::Damaged),
+            Some((key, value)) => {
+                if has_vehicle(&table, &key) {
+                    return Err(ReadingFault::Damaged);
+                }
+                table.insert(key, value)?;
+            }
+        }
     }
-    let tables = tables_in_lists(alloc, lists)?;
-    let held = holds_in_rows(alloc, list_of(lists, TableName::Hold))?;
-    Ok((tables, held))
+    Ok(table)
 }

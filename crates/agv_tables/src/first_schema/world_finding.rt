@@ -16,13 +16,6 @@ use agv_world::World;
 use sqlite::{Alter, Connection};
 use std::alloc::Global;
 
-// Whether these are the tables of a lawful world with one place on each vehicle, and what is held is what its vehicles hold.
-fn are_of_a_first_world(alloc: Global, tables: &World, held: &HeldThings) -> Result<bool, Memory>
-    ensures { IfOk result (λ are. IsTrue are ↔ ((world : WorldOf) × Keeps tables.now world × IsLawful 1 world × (held.now.table ≡ (rows_of world).holds))) }
-{
-    Ok(tables.is_lawful(alloc, 1)? && held.are_footprints(alloc, tables)?)
-}
-
 /// The tables of the lawful world, with one place on each vehicle, whose rows the eleven tables of the first schema have in a
 /// database, whoever wrote them: the tables, every row and what is held are looked at, and nothing is changed.
 ///
@@ -46,4 +39,11 @@ pub fn find_first_world<S: Alter>(
         return Err(ReadingFault::Damaged);
     }
     Ok(tables)
+}
+
+// Whether these are the tables of a lawful world with one place on each vehicle, and what is held is what its vehicles hold.
+fn are_of_a_first_world(alloc: Global, tables: &World, held: &HeldThings) -> Result<bool, Memory>
+    ensures { IfOk result (λ are. IsTrue are ↔ ((world : WorldOf) × Keeps tables.now world × IsLawful 1 world × (held.now.table ≡ (rows_of world).holds))) }
+{
+    Ok(tables.is_lawful(alloc, 1)? && held.are_footprints(alloc, tables)?)
 }

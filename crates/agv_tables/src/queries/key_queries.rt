@@ -27,54 +27,6 @@ use agv_stock::Place;
 use agv_world::{JobRow, UseKey, VehicleRow};
 use sqlite::{Alter, Connection, Row};
 
-// The row of a vehicle that the rows of its key tell, as if it had room for one load.
-fn vehicle_in_rows(rows: &[Row]) -> Result<Option<VehicleRow>, ReadingFault>
-    ensures { result ≡ first_in vehicle_in rows.now }
-{
-    match rows.first() {
-        None => Ok(None),
-        Some(row) => match decode_vehicle(row) {
-            None => Err(ReadingFault::Damaged),
-            Some((_, vehicle)) => Ok(Some(vehicle)),
-        },
-    }
-}
-
-// The room of a vehicle that the rows of its key tell.
-fn capacity_in_rows(rows: &[Row]) -> Result<Option<CapacityRow>, ReadingFault>
-    ensures { result ≡ first_in capacity_in rows.now }
-{
-    match rows.first() {
-        None => Ok(None),
-        Some(row) => match decode_capacity(row) {
-            None => Err(ReadingFault::Damaged),
-            Some((_, capacity)) => Ok(Some(capacity)),
-        },
-    }
-}
-
-// The row of a vehicle, as if it had room for one load; none where there is no such vehicle.
-fn query_vehicle_row<S: Alter>(
-    conn: &mut Connection<S>,
-    key: &VehicleKey,
-) -> Result<Option<VehicleRow>, ReadingFault>
-    ensures { AnswersQuery S.Store conn.old conn.new result (λ world row. row ≡ option_map (λ (vehicle : RowOfVehicle). record vehicle { capacity = 1 }) (row_of world key.now)) }
-{
-    let rows = query_rows(conn, RowOf::Vehicle, &vehicle_key_values(key))?;
-    vehicle_in_rows(rows.as_slice())
-}
-
-// The room of a vehicle; none where there is no such vehicle.
-fn query_capacity<S: Alter>(
-    conn: &mut Connection<S>,
-    key: &VehicleKey,
-) -> Result<Option<CapacityRow>, ReadingFault>
-    ensures { AnswersQuery S.Store conn.old conn.new result (λ world room. room ≡ option_map (λ (vehicle : RowOfVehicle). record { capacity = vehicle.capacity }) (row_of world key.now)) }
-{
-    let rows = query_rows(conn, RowOf::Capacity, &vehicle_key_values(key))?;
-    capacity_in_rows(rows.as_slice())
-}
-
 /// The row of a vehicle, with its room for loads; none where there is no such vehicle.
 ///
 /// It fails as [`ReadingFault`] says.
@@ -100,15 +52,50 @@ pub fn query_vehicle<S: Alter>(
     }
 }
 
-// The place that the rows of a load tell.
-fn place_in_rows(rows: &[Row]) -> Result<Option<Place>, ReadingFault>
-    ensures { result ≡ first_in load_in rows.now }
+// The row of a vehicle, as if it had room for one load; none where there is no such vehicle.
+fn query_vehicle_row<S: Alter>(
+    conn: &mut Connection<S>,
+    key: &VehicleKey,
+) -> Result<Option<VehicleRow>, ReadingFault>
+    ensures { AnswersQuery S.Store conn.old conn.new result (λ world row. row ≡ option_map (λ (vehicle : RowOfVehicle). record vehicle { capacity = 1 }) (row_of world key.now)) }
+{
+    let rows = query_rows(conn, RowOf::Vehicle, &vehicle_key_values(key))?;
+    vehicle_in_rows(rows.as_slice())
+}
+
+// The row of a vehicle that the rows of its key tell, as if it had room for one load.
+fn vehicle_in_rows(rows: &[Row]) -> Result<Option<VehicleRow>, ReadingFault>
+    ensures { result ≡ first_in vehicle_in rows.now }
 {
     match rows.first() {
         None => Ok(None),
-        Some(row) => match decode_load(row) {
+        Some(row) => match decode_vehicle(row) {
             None => Err(ReadingFault::Damaged),
-            Some((_, place)) => Ok(Some(place)),
+            Some((_, vehicle)) => Ok(Some(vehicle)),
+        },
+    }
+}
+
+// The room of a vehicle; none where there is no such vehicle.
+fn query_capacity<S: Alter>(
+    conn: &mut Connection<S>,
+    key: &VehicleKey,
+) -> Result<Option<CapacityRow>, ReadingFault>
+    ensures { AnswersQuery S.Store conn.old conn.new result (λ world room. room ≡ option_map (λ (vehicle : RowOfVehicle). record { capacity = vehicle.capacity }) (row_of world key.now)) }
+{
+    let rows = query_rows(conn, RowOf::Capacity, &vehicle_key_values(key))?;
+    capacity_in_rows(rows.as_slice())
+}
+
+// The room of a vehicle that the rows of its key tell.
+fn capacity_in_rows(rows: &[Row]) -> Result<Option<CapacityRow>, ReadingFault>
+    ensures { result ≡ first_in capacity_in rows.now }
+{
+    match rows.first() {
+        None => Ok(None),
+        Some(row) => match decode_capacity(row) {
+            None => Err(ReadingFault::Damaged),
+            Some((_, capacity)) => Ok(Some(capacity)),
         },
     }
 }
@@ -126,15 +113,15 @@ pub fn query_place<S: Alter>(
     place_in_rows(rows.as_slice())
 }
 
-// The row of a job that the rows of its name tell.
-fn job_in_rows(rows: &[Row]) -> Result<Option<JobRow>, ReadingFault>
-    ensures { result ≡ first_in job_in rows.now }
+// The place that the rows of a load tell.
+fn place_in_rows(rows: &[Row]) -> Result<Option<Place>, ReadingFault>
+    ensures { result ≡ first_in load_in rows.now }
 {
     match rows.first() {
         None => Ok(None),
-        Some(row) => match decode_job(row) {
+        Some(row) => match decode_load(row) {
             None => Err(ReadingFault::Damaged),
-            Some((_, job)) => Ok(Some(job)),
+            Some((_, place)) => Ok(Some(place)),
         },
     }
 }
@@ -152,15 +139,15 @@ pub fn query_job<S: Alter>(
     job_in_rows(rows.as_slice())
 }
 
-// The site of a station that the rows of its name tell.
-fn station_in_rows(rows: &[Row]) -> Result<Option<StationSite>, ReadingFault>
-    ensures { result ≡ first_in station_in rows.now }
+// The row of a job that the rows of its name tell.
+fn job_in_rows(rows: &[Row]) -> Result<Option<JobRow>, ReadingFault>
+    ensures { result ≡ first_in job_in rows.now }
 {
     match rows.first() {
         None => Ok(None),
-        Some(row) => match decode_station(row) {
+        Some(row) => match decode_job(row) {
             None => Err(ReadingFault::Damaged),
-            Some((_, site)) => Ok(Some(site)),
+            Some((_, job)) => Ok(Some(job)),
         },
     }
 }
@@ -178,15 +165,15 @@ pub fn query_station<S: Alter>(
     station_in_rows(rows.as_slice())
 }
 
-// The ends of an edge that the rows of its name tell.
-fn ends_in_rows(rows: &[Row]) -> Result<Option<EdgeEnds>, ReadingFault>
-    ensures { result ≡ first_in edge_in rows.now }
+// The site of a station that the rows of its name tell.
+fn station_in_rows(rows: &[Row]) -> Result<Option<StationSite>, ReadingFault>
+    ensures { result ≡ first_in station_in rows.now }
 {
     match rows.first() {
         None => Ok(None),
-        Some(row) => match decode_edge(row) {
+        Some(row) => match decode_station(row) {
             None => Err(ReadingFault::Damaged),
-            Some((_, ends)) => Ok(Some(ends)),
+            Some((_, site)) => Ok(Some(site)),
         },
     }
 }
@@ -204,17 +191,31 @@ pub fn query_edge<S: Alter>(
     ends_in_rows(rows.as_slice())
 }
 
-// The holder that the rows of a node or an edge tell.
-fn holder_in_rows(rows: &[Row]) -> Result<Option<VehicleKey>, ReadingFault>
-    ensures { result ≡ first_in hold_in rows.now }
+// The ends of an edge that the rows of its name tell.
+fn ends_in_rows(rows: &[Row]) -> Result<Option<EdgeEnds>, ReadingFault>
+    ensures { result ≡ first_in edge_in rows.now }
 {
     match rows.first() {
         None => Ok(None),
-        Some(row) => match decode_hold(row) {
+        Some(row) => match decode_edge(row) {
             None => Err(ReadingFault::Damaged),
-            Some((_, key)) => Ok(Some(key)),
+            Some((_, ends)) => Ok(Some(ends)),
         },
     }
+}
+
+/// The vehicle that holds a node or an edge; none where it is free.
+///
+/// It fails as [`ReadingFault`] says.
+pub fn query_holder<S: Alter>(
+    conn: &mut Connection<S>,
+    thing: &Thing,
+) -> Result<Option<VehicleKey>, ReadingFault>
+    ensures { AnswersQuery S.Store conn.old conn.new result (λ world key. key ≡ holder_of world thing.now) }
+{
+    thing_is_named(thing);
+    let rows = query_rows(conn, RowOf::Hold, &hold_key_values(thing))?;
+    holder_in_rows(rows.as_slice())
 }
 
 // What is held has a name that is one.
@@ -231,18 +232,17 @@ fn thing_is_named(thing: &Thing)
     }
 }
 
-/// The vehicle that holds a node or an edge; none where it is free.
-///
-/// It fails as [`ReadingFault`] says.
-pub fn query_holder<S: Alter>(
-    conn: &mut Connection<S>,
-    thing: &Thing,
-) -> Result<Option<VehicleKey>, ReadingFault>
-    ensures { AnswersQuery S.Store conn.old conn.new result (λ world key. key ≡ holder_of world thing.now) }
+// The holder that the rows of a node or an edge tell.
+fn holder_in_rows(rows: &[Row]) -> Result<Option<VehicleKey>, ReadingFault>
+    ensures { result ≡ first_in hold_in rows.now }
 {
-    thing_is_named(thing);
-    let rows = query_rows(conn, RowOf::Hold, &hold_key_values(thing))?;
-    holder_in_rows(rows.as_slice())
+    match rows.first() {
+        None => Ok(None),
+        Some(row) => match decode_hold(row) {
+            None => Err(ReadingFault::Damaged),
+            Some((_, key)) => Ok(Some(key)),
+        },
+    }
 }
 
 /// Whether it is a node of the layout.

@@ -17,6 +17,31 @@ use agv_world::{ByLeg, ByName, ByVehicle, Fault, Floor, Names, PlainFloor, UsedN
 use sqlite::{Alter, Connection};
 use std::alloc::Global;
 
+/// A copy of the layout; none before it is set.
+///
+/// It fails as [`ReadingFault`] says.
+pub fn query_layout<S: Alter>(
+    alloc: Global,
+    conn: &mut Connection<S>,
+) -> Result<Option<Layout>, ReadingFault>
+    ensures { AnswersQuery S.Store conn.old conn.new result (λ world layout. layout ≡ layout_set world) }
+{
+    let tables = query_layout_tables(alloc, conn)?;
+    let (nodes, edges, stations) = tables;
+    let world = World {
+        nodes,
+        edges,
+        stations,
+        vehicles: ByVehicle::new(alloc),
+        trips: ByName::new(alloc),
+        legs: ByLeg::new(alloc),
+        loads: ByName::new(alloc),
+        jobs: ByName::new(alloc),
+        used: UsedNames::new(alloc),
+    };
+    layout_in_tables(alloc, &world)
+}
+
 /// The nodes, the edges and the stations of the layout.
 pub(crate) fn query_layout_tables<S: Alter>(
     alloc: Global,
@@ -44,29 +69,4 @@ fn layout_in_tables(alloc: Global, tables: &World) -> Result<Option<Layout>, Rea
         Err(Fault::Memory) => Err(ReadingFault::Memory),
         Err(Fault::Storage) => Err(ReadingFault::Storage),
     }
-}
-
-/// A copy of the layout; none before it is set.
-///
-/// It fails as [`ReadingFault`] says.
-pub fn query_layout<S: Alter>(
-    alloc: Global,
-    conn: &mut Connection<S>,
-) -> Result<Option<Layout>, ReadingFault>
-    ensures { AnswersQuery S.Store conn.old conn.new result (λ world layout. layout ≡ layout_set world) }
-{
-    let tables = query_layout_tables(alloc, conn)?;
-    let (nodes, edges, stations) = tables;
-    let world = World {
-        nodes,
-        edges,
-        stations,
-        vehicles: ByVehicle::new(alloc),
-        trips: ByName::new(alloc),
-        legs: ByLeg::new(alloc),
-        loads: ByName::new(alloc),
-        jobs: ByName::new(alloc),
-        used: UsedNames::new(alloc),
-    };
-    layout_in_tables(alloc, &world)
 }

@@ -30,13 +30,6 @@ use agv_stock::{Phase, room_left};
 use sqlite::types::{ToSql, ValueRef};
 use sqlite::{Alter, Connection, Row};
 
-// A name and a phase, by which jobs are asked for.
-fn name_and_phase_values(name: &Name, phase: Phase) -> [ValueRef<'_>; 2]
-    ensures { bound result ≡ name_and_phase name.now phase }
-{
-    [name_value(name), phase_text(phase).to_sql()]
-}
-
 /// How many loads a vehicle has.
 ///
 /// It fails as [`ReadingFault`] says.
@@ -50,15 +43,18 @@ pub fn query_loads_on<S: Alter>(
     Ok(rows.len())
 }
 
-// How many loads are at a station.
-fn query_load_count<S: Alter>(
+/// How many live jobs go to a station, each of which keeps a place there.
+///
+/// It fails as [`ReadingFault`] says.
+pub fn query_reserved<S: Alter>(
     conn: &mut Connection<S>,
     station: &Name,
 ) -> Result<usize, ReadingFault>
-    ensures { AnswersQuery S.Store conn.old conn.new result (λ world count. count ≡ length (loads_at world station.now)) }
+    ensures { AnswersQuery S.Store conn.old conn.new result (λ world count. count ≡ reserved world station.now) }
 {
-    let rows = query_rows_by(conn, RowsBy::StationLoads, &name_key_values(station))?;
-    Ok(rows.len())
+    let waiting = query_jobs_to(conn, station, Phase::Waiting)?;
+    let riding = query_jobs_to(conn, station, Phase::Riding)?;
+    Ok(waiting.saturating_add(riding))
 }
 
 // How many jobs to a station are in a phase.
@@ -78,31 +74,18 @@ fn query_jobs_to<S: Alter>(
     Ok(rows.len())
 }
 
-/// How many live jobs go to a station, each of which keeps a place there.
+/// The live job of a load; none where it is in none.
 ///
 /// It fails as [`ReadingFault`] says.
-pub fn query_reserved<S: Alter>(
+pub fn query_job_of<S: Alter>(
     conn: &mut Connection<S>,
-    station: &Name,
-) -> Result<usize, ReadingFault>
-    ensures { AnswersQuery S.Store conn.old conn.new result (λ world count. count ≡ reserved world station.now) }
+    load: &Name,
+) -> Result<Option<Name>, ReadingFault>
+    ensures { AnswersQuery S.Store conn.old conn.new result (λ world job. job ≡ job_of world load.now) }
 {
-    let waiting = query_jobs_to(conn, station, Phase::Waiting)?;
-    let riding = query_jobs_to(conn, station, Phase::Riding)?;
-    Ok(waiting.saturating_add(riding))
-}
-
-// The name of the job that the first of the rows tells.
-fn job_in_rows(rows: &[Row]) -> Result<Option<Name>, ReadingFault>
-    ensures { result ≡ first_key_in job_in rows.now }
-{
-    match rows.first() {
-        None => Ok(None),
-        Some(row) => match decode_job(row) {
-            None => Err(ReadingFault::Damaged),
-            Some((id, _)) => Ok(Some(id)),
-        },
-    }
+    let waiting = query_job_in(conn, load, Phase::Waiting)?;
+    let riding = query_job_in(conn, load, Phase::Riding)?;
+    Ok(waiting.or(riding))
 }
 
 // The job of a load that is in this phase, which is a live one.
@@ -119,31 +102,24 @@ fn query_job_in<S: Alter>(
     job_in_rows(rows.as_slice())
 }
 
-/// The live job of a load; none where it is in none.
-///
-/// It fails as [`ReadingFault`] says.
-pub fn query_job_of<S: Alter>(
-    conn: &mut Connection<S>,
-    load: &Name,
-) -> Result<Option<Name>, ReadingFault>
-    ensures { AnswersQuery S.Store conn.old conn.new result (λ world job. job ≡ job_of world load.now) }
+// A name and a phase, by which jobs are asked for.
+fn name_and_phase_values(name: &Name, phase: Phase) -> [ValueRef<'_>; 2]
+    ensures { bound result ≡ name_and_phase name.now phase }
 {
-    let waiting = query_job_in(conn, load, Phase::Waiting)?;
-    let riding = query_job_in(conn, load, Phase::Riding)?;
-    Ok(waiting.or(riding))
+    [name_value(name), phase_text(phase).to_sql()]
 }
 
-// The room of a station of this capacity.
-fn query_room_left<S: Alter>(
-    conn: &mut Connection<S>,
-    station: &Name,
-    capacity: u32,
-) -> Result<u32, ReadingFault>
-    ensures { AnswersQuery S.Store conn.old conn.new result (λ world room. room ≡ room_left capacity (length (loads_at world station.now)) (reserved world station.now)) }
+// The name of the job that the first of the rows tells.
+fn job_in_rows(rows: &[Row]) -> Result<Option<Name>, ReadingFault>
+    ensures { result ≡ first_key_in job_in rows.now }
 {
-    let loads = query_load_count(conn, station)?;
-    let jobs = query_reserved(conn, station)?;
-    Ok(room_left(capacity, loads, jobs))
+    match rows.first() {
+        None => Ok(None),
+        Some(row) => match decode_job(row) {
+            None => Err(ReadingFault::Damaged),
+            Some((id, _)) => Ok(Some(id)),
+        },
+    }
 }
 
 /// How many loads more fit at a station; none where it is unknown. Where a layout is given that is the world's, it says how
@@ -169,4 +145,28 @@ pub fn query_room<S: Alter>(
             Ok(Some(room))
         }
     }
+}
+
+// The room of a station of this capacity.
+fn query_room_left<S: Alter>(
+    conn: &mut Connection<S>,
+    station: &Name,
+    capacity: u32,
+) -> Result<u32, ReadingFault>
+    ensures { AnswersQuery S.Store conn.old conn.new result (λ world room. room ≡ room_left capacity (length (loads_at world station.now)) (reserved world station.now)) }
+{
+    let loads = query_load_count(conn, station)?;
+    let jobs = query_reserved(conn, station)?;
+    Ok(room_left(capacity, loads, jobs))
+}
+
+// How many loads are at a station.
+fn query_load_count<S: Alter>(
+    conn: &mut Connection<S>,
+    station: &Name,
+) -> Result<usize, ReadingFault>
+    ensures { AnswersQuery S.Store conn.old conn.new result (λ world count. count ≡ length (loads_at world station.now)) }
+{
+    let rows = query_rows_by(conn, RowsBy::StationLoads, &name_key_values(station))?;
+    Ok(rows.len())
 }

@@ -17,17 +17,6 @@ use agv_world::ByName;
 use sqlite::{Alter, Connection};
 use std::alloc::Global;
 
-// The names of a table, in their order.
-fn names_of(alloc: Global, table: &ByName<Place>) -> Result<Sequence<Name>, Memory>
-    ensures { IfOk result (λ names. names ≡ keys_of (map.entries table.now)) }
-{
-    let mut names = Vec::new(alloc);
-    for (id, _) in table.iter() {
-        names.push(*id)?;
-    }
-    Ok(Sequence::from(names))
-}
-
 /// The loads at a station, in the order of their names.
 ///
 /// It fails as [`ReadingFault`] says.
@@ -42,4 +31,15 @@ pub fn query_loads_at<S: Alter>(
     let table = places_in_rows(alloc, rows.as_slice())?;
     let names = names_of(alloc, &table)?;
     Ok(names)
+}
+
+// The names of a table, in their order.
+fn names_of(alloc: Global, table: &ByName<Place>) -> Result<Sequence<Name>, Memory>
+    ensures { IfOk result (λ names. names ≡ keys_of (map.entries table.now)) }
+{
+    let mut names = Vec::new(alloc);
+    for (id, _) in table.iter() {
+        names.push(*id)?;
+    }
+    Ok(Sequence::from(names))
 }

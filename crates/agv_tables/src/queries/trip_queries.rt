@@ -33,16 +33,26 @@ use agv_world::lawful_laws::is_in_good_order;
 use sqlite::{Alter, Connection, Row};
 use std::alloc::Global;
 
-// The journey that the first of the rows tells.
-fn journey_in_rows(rows: &[Row]) -> Result<Option<(Name, JourneyRow)>, ReadingFault>
-    ensures { result ≡ first_whole_in journey_in rows.now }
+/// The open trip of a vehicle, with its edges and its acts; none where it has none, or there is no such vehicle. Where a
+/// layout is given that is the world's, it says where the edges lead, and they aren't asked for.
+///
+/// It fails as [`ReadingFault`] says.
+pub fn query_trip<S: Alter>(
+    alloc: Global,
+    conn: &mut Connection<S>,
+    known: &Option<Layout>,
+    key: &VehicleKey,
+) -> Result<Option<Trip>, ReadingFault>
+    ensures { AnswersQuery S.Store conn.old conn.new result (λ world trip. AgreesWith known.now world → trip ≡ trip_of world key.now) }
 {
-    match rows.first() {
+    rows_tell_trips();
+    let journey = query_journey(conn, key)?;
+    match journey {
         None => Ok(None),
-        Some(row) => match decode_journey(row) {
-            None => Err(ReadingFault::Damaged),
-            Some(journey) => Ok(Some(journey)),
-        },
+        Some(journey) => {
+            let trip = query_told_trip(alloc, conn, known, &journey)?;
+            Ok(Some(trip))
+        }
     }
 }
 
@@ -56,6 +66,45 @@ fn query_journey<S: Alter>(
     rows_tell_trips();
     let rows = query_rows_by(conn, RowsBy::VehicleJourney, &vehicle_key_values(key))?;
     journey_in_rows(rows.as_slice())
+}
+
+// The journey that the first of the rows tells.
+fn journey_in_rows(rows: &[Row]) -> Result<Option<(Name, JourneyRow)>, ReadingFault>
+    ensures { result ≡ first_whole_in journey_in rows.now }
+{
+    match rows.first() {
+        None => Ok(None),
+        Some(row) => match decode_journey(row) {
+            None => Err(ReadingFault::Damaged),
+            Some(journey) => Ok(Some(journey)),
+        },
+    }
+}
+
+// The trip of a journey with its order, with its acts and its edges.
+fn query_told_trip<S: Alter>(
+    alloc: Global,
+    conn: &mut Connection<S>,
+    known: &Option<Layout>,
+    journey: &(Name, JourneyRow),
+) -> Result<Trip, ReadingFault>
+    ensures { AnswersQuery S.Store conn.old conn.new result (λ world trip. AgreesWith known.now world → told_by_journey (rows_of world) journey.now ≡ Some trip) }
+{
+    let (order, journey) = journey;
+    let acts = query_acts(alloc, conn, order)?;
+    let edges = query_way(alloc, conn, known, order)?;
+    Ok(Trip {
+        order: *order,
+        vehicle: journey.vehicle,
+        start: journey.start,
+        edges,
+        first: journey.first,
+        base: journey.base,
+        sent: journey.sent,
+        confirmed: journey.confirmed,
+        seen: journey.seen,
+        acts,
+    })
 }
 
 // The acts of an order, in the order of their numbers, each with the load and the station of its job, which is looked up.
@@ -113,55 +162,6 @@ fn query_way<S: Alter>(
         }
     }
     Ok(Sequence::from(edges))
-}
-
-// The trip of a journey with its order, with its acts and its edges.
-fn query_told_trip<S: Alter>(
-    alloc: Global,
-    conn: &mut Connection<S>,
-    known: &Option<Layout>,
-    journey: &(Name, JourneyRow),
-) -> Result<Trip, ReadingFault>
-    ensures { AnswersQuery S.Store conn.old conn.new result (λ world trip. AgreesWith known.now world → told_by_journey (rows_of world) journey.now ≡ Some trip) }
-{
-    let (order, journey) = journey;
-    let acts = query_acts(alloc, conn, order)?;
-    let edges = query_way(alloc, conn, known, order)?;
-    Ok(Trip {
-        order: *order,
-        vehicle: journey.vehicle,
-        start: journey.start,
-        edges,
-        first: journey.first,
-        base: journey.base,
-        sent: journey.sent,
-        confirmed: journey.confirmed,
-        seen: journey.seen,
-        acts,
-    })
-}
-
-/// The open trip of a vehicle, with its edges and its acts; none where it has none, or there is no such vehicle. Where a
-/// layout is given that is the world's, it says where the edges lead, and they aren't asked for.
-///
-/// It fails as [`ReadingFault`] says.
-pub fn query_trip<S: Alter>(
-    alloc: Global,
-    conn: &mut Connection<S>,
-    known: &Option<Layout>,
-    key: &VehicleKey,
-) -> Result<Option<Trip>, ReadingFault>
-    ensures { AnswersQuery S.Store conn.old conn.new result (λ world trip. AgreesWith known.now world → trip ≡ trip_of world key.now) }
-{
-    rows_tell_trips();
-    let journey = query_journey(conn, key)?;
-    match journey {
-        None => Ok(None),
-        Some(journey) => {
-            let trip = query_told_trip(alloc, conn, known, &journey)?;
-            Ok(Some(trip))
-        }
-    }
 }
 
 /// Whether a vehicle has an open trip; it has none where there is no such vehicle.

@@ -26,6 +26,53 @@ pub struct HeldThings {
     ghost whole: { HasEach table pairs.items },
 }
 
+impl HeldThings {
+    /// Whether what is held is what the vehicles of these tables hold: each its footprint, and nothing else. It answers so
+    /// where they are the tables of a lawful world with at most four places on each vehicle.
+    ///
+    /// `Memory` for want of memory alone. It takes time in proportion to the vehicles times what is held and what is open, and
+    /// for each thing that is held it looks over the footprint of its vehicle.
+    pub fn are_footprints(&self, alloc: Global, tables: &World) -> Result<bool, Memory>
+        ensures { IfOk result (λ are. (world : WorldOf) → Keeps tables.now world → IsLawful desk_seats world → IsTrue are ↔ (self.now.table ≡ (rows_of world).holds)) }
+    {
+        is_in_good_order();
+        holds_are_footprints();
+        tables_tell_the_world();
+        tests_membership();
+        if !are_holders(&tables.vehicles, &self.pairs) {
+            return Ok(false);
+        }
+        self.hold_their_own(alloc, tables)
+    }
+
+    // Whether each vehicle holds its footprint, and nothing else.
+    fn hold_their_own(&self, alloc: Global, tables: &World) -> Result<bool, Memory>
+        ensures { IfOk result (λ own. own ≡ hold_their_own self.now.table self.now.pairs.items (world_of tables.now) (map.entries tables.now.vehicles)) }
+    {
+        for (key, row) in tables.vehicles.iter() {
+            let things = things_of(alloc, tables, *key, row)?;
+            if !self.holds_its_own(key, &things) {
+                return Ok(false);
+            }
+        }
+        Ok(true)
+    }
+
+    // Whether the vehicle holds each of the things, and nothing else.
+    fn holds_its_own(&self, key: &VehicleKey, things: &[Thing]) -> bool
+        ensures { result ≡ (holds_each self.now.table key.now things.now && holds_only self.now.pairs.items key.now things.now) }
+    {
+        holds_each(&self.table, key, things) && holds_only(&self.pairs, key, things)
+    }
+}
+
+// Whether each holder is a vehicle.
+fn are_holders(vehicles: &ByVehicle<VehicleRow>, pairs: &[(Thing, VehicleKey)]) -> bool
+    ensures { result ≡ are_holders vehicles.now pairs.now }
+{
+    pairs.iter().all(|(_, by)| vehicles.get(*by).is_some())
+}
+
 // The footprint of the vehicle of this row, in the world that the tables tell.
 fn things_of(
     alloc: Global,
@@ -56,6 +103,13 @@ fn holds_each(table: &HoldTable, key: &VehicleKey, things: &[Thing]) -> bool
         .all(|thing| table.holder(thing).is_some_and(|by| by == *key))
 }
 
+// Whether what the vehicle holds is among the things.
+fn holds_only(pairs: &[(Thing, VehicleKey)], key: &VehicleKey, things: &[Thing]) -> bool
+    ensures { result ≡ holds_only pairs.now key.now things.now }
+{
+    pairs.iter().all(|pair| is_kept(key, things, pair))
+}
+
 // Whether the thing of the pair is among the things, where the vehicle holds it.
 fn is_kept(key: &VehicleKey, things: &[Thing], pair: &(Thing, VehicleKey)) -> bool
     ensures { result ≡ is_kept key.now things.now pair.now }
@@ -65,59 +119,5 @@ fn is_kept(key: &VehicleKey, things: &[Thing], pair: &(Thing, VehicleKey)) -> bo
         things.contains(thing)
     } else {
         true
-    }
-}
-
-// Whether what the vehicle holds is among the things.
-fn holds_only(pairs: &[(Thing, VehicleKey)], key: &VehicleKey, things: &[Thing]) -> bool
-    ensures { result ≡ holds_only pairs.now key.now things.now }
-{
-    pairs.iter().all(|pair| is_kept(key, things, pair))
-}
-
-// Whether each holder is a vehicle.
-fn are_holders(vehicles: &ByVehicle<VehicleRow>, pairs: &[(Thing, VehicleKey)]) -> bool
-    ensures { result ≡ are_holders vehicles.now pairs.now }
-{
-    pairs.iter().all(|(_, by)| vehicles.get(*by).is_some())
-}
-
-impl HeldThings {
-    // Whether the vehicle holds each of the things, and nothing else.
-    fn holds_its_own(&self, key: &VehicleKey, things: &[Thing]) -> bool
-        ensures { result ≡ (holds_each self.now.table key.now things.now && holds_only self.now.pairs.items key.now things.now) }
-    {
-        holds_each(&self.table, key, things) && holds_only(&self.pairs, key, things)
-    }
-
-    // Whether each vehicle holds its footprint, and nothing else.
-    fn hold_their_own(&self, alloc: Global, tables: &World) -> Result<bool, Memory>
-        ensures { IfOk result (λ own. own ≡ hold_their_own self.now.table self.now.pairs.items (world_of tables.now) (map.entries tables.now.vehicles)) }
-    {
-        for (key, row) in tables.vehicles.iter() {
-            let things = things_of(alloc, tables, *key, row)?;
-            if !self.holds_its_own(key, &things) {
-                return Ok(false);
-            }
-        }
-        Ok(true)
-    }
-
-    /// Whether what is held is what the vehicles of these tables hold: each its footprint, and nothing else. It answers so
-    /// where they are the tables of a lawful world with at most four places on each vehicle.
-    ///
-    /// `Memory` for want of memory alone. It takes time in proportion to the vehicles times what is held and what is open, and
-    /// for each thing that is held it looks over the footprint of its vehicle.
-    pub fn are_footprints(&self, alloc: Global, tables: &World) -> Result<bool, Memory>
-        ensures { IfOk result (λ are. (world : WorldOf) → Keeps tables.now world → IsLawful desk_seats world → IsTrue are ↔ (self.now.table ≡ (rows_of world).holds)) }
-    {
-        is_in_good_order();
-        holds_are_footprints();
-        tables_tell_the_world();
-        tests_membership();
-        if !are_holders(&tables.vehicles, &self.pairs) {
-            return Ok(false);
-        }
-        self.hold_their_own(alloc, tables)
     }
 }

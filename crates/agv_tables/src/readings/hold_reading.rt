@@ -26,17 +26,18 @@ use std::alloc::Global;
 // The number of the schema, as `meta` has it.
 const SCHEMA_NUMBER: u32 = 2;
 
-// Notes that the vehicle holds the thing, which nobody holds so far.
-fn note_hold(holds: &mut HoldTable, thing: &Thing, key: &VehicleKey) -> Result<(), ReadingFault>
-    requires { map.get holds.old thing.now ≡ None }
-    ensures noted { OnOk result (holds.new ≡ map.insert holds.old thing.now key.now) }
-    ensures memory { IfErr result (λ why. why ≡ fault.Memory) }
+/// The vehicle that holds a node or an edge, for each that is held.
+///
+/// It fails as [`ReadingFault`] says.
+pub fn query_holds<S: Alter>(
+    alloc: Global,
+    conn: &mut Connection<S>,
+) -> Result<HeldThings, ReadingFault>
+    ensures { TellsAll S.Store conn.old conn.new result (λ world held. held.table ≡ (rows_of world).holds) (λ lists held. IsPermutation (table_at (place_of the.Hold) lists) (rows_in hold_columns held.table)) }
 {
-    match holds.claim(*key, &[*thing]) {
-        Ok(()) => Ok(()),
-        Err(ClaimFault::Held { .. }) => Err(ReadingFault::Damaged),
-        Err(ClaimFault::Memory) => Err(ReadingFault::Memory),
-    }
+    is_in_good_order();
+    let rows = query_all_rows(conn, TableName::Hold)?;
+    holds_in_rows(alloc, rows.as_slice())
 }
 
 // What these rows tell, as a table and as a list.
@@ -60,37 +61,16 @@ pub(crate) fn holds_in_rows(alloc: Global, rows: &[Row]) -> Result<HeldThings, R
     Ok(HeldThings { table, pairs })
 }
 
-/// The vehicle that holds a node or an edge, for each that is held.
-///
-/// It fails as [`ReadingFault`] says.
-pub fn query_holds<S: Alter>(
-    alloc: Global,
-    conn: &mut Connection<S>,
-) -> Result<HeldThings, ReadingFault>
-    ensures { TellsAll S.Store conn.old conn.new result (λ world held. held.table ≡ (rows_of world).holds) (λ lists held. IsPermutation (table_at (place_of the.Hold) lists) (rows_in hold_columns held.table)) }
+// Notes that the vehicle holds the thing, which nobody holds so far.
+fn note_hold(holds: &mut HoldTable, thing: &Thing, key: &VehicleKey) -> Result<(), ReadingFault>
+    requires { map.get holds.old thing.now ≡ None }
+    ensures noted { OnOk result (holds.new ≡ map.insert holds.old thing.now key.now) }
+    ensures memory { IfErr result (λ why. why ≡ fault.Memory) }
 {
-    is_in_good_order();
-    let rows = query_all_rows(conn, TableName::Hold)?;
-    holds_in_rows(alloc, rows.as_slice())
-}
-
-// Whether it is the row of `meta` of the second schema.
-fn is_meta(row: &Row) -> bool
-    ensures { result ≡ is_first_meta (meta_in row.now) }
-{
-    match decode_meta(row) {
-        None => false,
-        Some((id, schema)) => id == 1 && schema == SCHEMA_NUMBER,
-    }
-}
-
-// That these are just the row of `meta` of the second schema.
-fn meta_in_rows(rows: &[Row]) -> Result<(), ReadingFault>
-    ensures { result ≡ meta_read rows.now }
-{
-    match rows {
-        [row] if is_meta(row) => Ok(()),
-        _ => Err(ReadingFault::Damaged),
+    match holds.claim(*key, &[*thing]) {
+        Ok(()) => Ok(()),
+        Err(ClaimFault::Held { .. }) => Err(ReadingFault::Damaged),
+        Err(ClaimFault::Memory) => Err(ReadingFault::Memory),
     }
 }
 
@@ -103,4 +83,24 @@ pub fn query_meta<S: Alter>(conn: &mut Connection<S>) -> Result<(), ReadingFault
 {
     let rows = query_all_rows(conn, TableName::Meta)?;
     meta_in_rows(rows.as_slice())
+}
+
+// That these are just the row of `meta` of the second schema.
+fn meta_in_rows(rows: &[Row]) -> Result<(), ReadingFault>
+    ensures { result ≡ meta_read rows.now }
+{
+    match rows {
+        [row] if is_meta(row) => Ok(()),
+        _ => Err(ReadingFault::Damaged),
+    }
+}
+
+// Whether it is the row of `meta` of the second schema.
+fn is_meta(row: &Row) -> bool
+    ensures { result ≡ is_first_meta (meta_in row.now) }
+{
+    match decode_meta(row) {
+        None => false,
+        Some((id, schema)) => id == 1 && schema == SCHEMA_NUMBER,
+    }
 }

@@ -89,18 +89,6 @@ pub(crate) fn has_vehicle(table: &ByVehicle<VehicleRow>, key: &VehicleKey) -> bo
     table.get(*key).is_some()
 }
 
-// The vehicle that a row tells, with its room, if that is known.
-fn vehicle_in_row(
-    row: &Row,
-    capacities: &ByVehicle<CapacityRow>,
-) -> Option<(VehicleKey, VehicleRow)>
-    ensures { result ≡ vehicle_with capacities.now row.now }
-{
-    let (key, mut vehicle) = decode_vehicle(row)?;
-    vehicle.capacity = capacities.get(key)?.capacity;
-    Some((key, vehicle))
-}
-
 /// The table that these rows tell, where these are the rooms of vehicles.
 pub(crate) fn vehicles_in_rows(
     alloc: Global,
@@ -124,11 +112,16 @@ pub(crate) fn vehicles_in_rows(
     Ok(table)
 }
 
-// Whether the table has a row of this key.
-fn has_capacity(table: &ByVehicle<CapacityRow>, key: &VehicleKey) -> bool
-    ensures { result ≡ is_some (map.get table.now key.now) }
+// The vehicle that a row tells, with its room, if that is known.
+fn vehicle_in_row(
+    row: &Row,
+    capacities: &ByVehicle<CapacityRow>,
+) -> Option<(VehicleKey, VehicleRow)>
+    ensures { result ≡ vehicle_with capacities.now row.now }
 {
-    table.get(*key).is_some()
+    let (key, mut vehicle) = decode_vehicle(row)?;
+    vehicle.capacity = capacities.get(key)?.capacity;
+    Some((key, vehicle))
 }
 
 /// The table that these rows tell.
@@ -153,6 +146,13 @@ pub(crate) fn capacities_in_rows(
     Ok(table)
 }
 
+// Whether the table has a row of this key.
+fn has_capacity(table: &ByVehicle<CapacityRow>, key: &VehicleKey) -> bool
+    ensures { result ≡ is_some (map.get table.now key.now) }
+{
+    table.get(*key).is_some()
+}
+
 /// The table that these rows tell.
 pub(crate) fn journeys_in_rows(
     alloc: Global,
@@ -175,13 +175,6 @@ pub(crate) fn journeys_in_rows(
     Ok(table)
 }
 
-// Whether the table has a row of this key.
-fn has_act(table: &ByAct, key: &LegKey) -> bool
-    ensures { result ≡ is_some (map.get table.now key.now) }
-{
-    table.get(*key).is_some()
-}
-
 /// The table that these rows tell.
 pub(crate) fn acts_in_rows(alloc: Global, rows: &[Row]) -> Result<ByAct, ReadingFault>
     ensures { Reads result (read_rows act_in map.empty rows.now) }
@@ -202,7 +195,7 @@ pub(crate) fn acts_in_rows(alloc: Global, rows: &[Row]) -> Result<ByAct, Reading
 }
 
 // Whether the table has a row of this key.
-fn has_leg(table: &ByLeg, key: &LegKey) -> bool
+fn has_act(table: &ByAct, key: &LegKey) -> bool
     ensures { result ≡ is_some (map.get table.now key.now) }
 {
     table.get(*key).is_some()
@@ -225,6 +218,13 @@ pub(crate) fn legs_in_rows(alloc: Global, rows: &[Row]) -> Result<ByLeg, Reading
         }
     }
     Ok(table)
+}
+
+// Whether the table has a row of this key.
+fn has_leg(table: &ByLeg, key: &LegKey) -> bool
+    ensures { result ≡ is_some (map.get table.now key.now) }
+{
+    table.get(*key).is_some()
 }
 
 /// The table takes in what one more row tells.
@@ -274,13 +274,6 @@ pub(crate) fn jobs_in_rows(alloc: Global, rows: &[Row]) -> Result<ByName<JobRow>
     Ok(table)
 }
 
-// Whether the table has this key.
-fn has_used(table: &UsedNames, key: &UseKey) -> bool
-    ensures { result ≡ set.contains table.now key.now }
-{
-    table.contains(*key)
-}
-
 /// The table that these rows tell.
 pub(crate) fn used_in_rows(alloc: Global, rows: &[Row]) -> Result<UsedNames, ReadingFault>
     ensures { Reads result (read_members used_in set.empty rows.now) }
@@ -298,4 +291,11 @@ pub(crate) fn used_in_rows(alloc: Global, rows: &[Row]) -> Result<UsedNames, Rea
         }
     }
     Ok(table)
+}
+
+// Whether the table has this key.
+fn has_used(table: &UsedNames, key: &UseKey) -> bool
+    ensures { result ≡ set.contains table.now key.now }
+{
+    table.contains(*key)
 }

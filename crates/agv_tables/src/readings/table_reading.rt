@@ -64,26 +64,6 @@ pub fn query_stations<S: Alter>(
     stations_in_rows(alloc, rows.as_slice())
 }
 
-// The room of each vehicle for loads.
-fn query_capacities<S: Alter>(
-    alloc: Global,
-    conn: &mut Connection<S>,
-) -> Result<ByVehicle<CapacityRow>, ReadingFault>
-    ensures { TellsAll S.Store conn.old conn.new result
-        (λ world table. table ≡ capacities_of (rows_of world).vehicles)
-        (λ lists table. IsPermutation (table_at (place_of the.Capacity) lists) (rows_in capacity_columns table)) }
-{
-    let rows = query_all_rows(conn, TableName::Capacity)?;
-    capacities_in_rows(alloc, rows.as_slice())
-}
-
-// Whether each of the rooms is that of a vehicle.
-fn are_of_vehicles(vehicles: &ByVehicle<VehicleRow>, rooms: &ByVehicle<CapacityRow>) -> bool
-    ensures { result ≡ are_of_vehicles vehicles.now rooms.now }
-{
-    rooms.iter().all(|(key, _)| vehicles.get(*key).is_some())
-}
-
 /// The vehicles, each by its maker and its serial number, with its room for loads, but for their open trips. Each has a row of
 /// its room, and no other vehicle has one.
 ///
@@ -106,16 +86,24 @@ pub fn query_vehicles<S: Alter>(
     }
 }
 
-/// The edges of all open trips.
-pub(crate) fn query_legs<S: Alter>(
+// The room of each vehicle for loads.
+fn query_capacities<S: Alter>(
     alloc: Global,
     conn: &mut Connection<S>,
-) -> Result<ByLeg, ReadingFault>
-    ensures { TellsAll S.Store conn.old conn.new result (λ world table. table ≡ (rows_of world).legs) (λ lists table. IsPermutation (table_at (place_of the.Leg) lists) (rows_in leg_columns table)) }
+) -> Result<ByVehicle<CapacityRow>, ReadingFault>
+    ensures { TellsAll S.Store conn.old conn.new result
+        (λ world table. table ≡ capacities_of (rows_of world).vehicles)
+        (λ lists table. IsPermutation (table_at (place_of the.Capacity) lists) (rows_in capacity_columns table)) }
 {
-    is_in_good_order();
-    let rows = query_all_rows(conn, TableName::Leg)?;
-    legs_in_rows(alloc, rows.as_slice())
+    let rows = query_all_rows(conn, TableName::Capacity)?;
+    capacities_in_rows(alloc, rows.as_slice())
+}
+
+// Whether each of the rooms is that of a vehicle.
+fn are_of_vehicles(vehicles: &ByVehicle<VehicleRow>, rooms: &ByVehicle<CapacityRow>) -> bool
+    ensures { result ≡ are_of_vehicles vehicles.now rooms.now }
+{
+    rooms.iter().all(|(key, _)| vehicles.get(*key).is_some())
 }
 
 /// The place of each load, by the name of the load. There may be a million of them: so each row is taken into the table
@@ -140,6 +128,18 @@ pub fn query_places<S: Alter>(
         let _count = table.len();
         take_place(&mut table, row)?;
     }
+}
+
+/// The edges of all open trips.
+pub(crate) fn query_legs<S: Alter>(
+    alloc: Global,
+    conn: &mut Connection<S>,
+) -> Result<ByLeg, ReadingFault>
+    ensures { TellsAll S.Store conn.old conn.new result (λ world table. table ≡ (rows_of world).legs) (λ lists table. IsPermutation (table_at (place_of the.Leg) lists) (rows_in leg_columns table)) }
+{
+    is_in_good_order();
+    let rows = query_all_rows(conn, TableName::Leg)?;
+    legs_in_rows(alloc, rows.as_slice())
 }
 
 /// The jobs.

@@ -22,6 +22,30 @@ use agv_world::{ByName, JobRow, TripRow};
 use sqlite::{Alter, Connection};
 use std::alloc::Global;
 
+/// The jobs, and the open trips by their orders, but for their edges.
+pub(crate) fn query_trips<S: Alter>(
+    alloc: Global,
+    conn: &mut Connection<S>,
+) -> Result<(ByName<JobRow>, ByName<TripRow>), ReadingFault>
+    ensures { TellsAll S.Store conn.old conn.new result
+        (λ world tables. (tables.0 ≡ world.jobs) × (tables.1 ≡ (rows_of world).trips))
+        (λ lists tables. IsPermutation (table_at (place_of the.Job) lists) (rows_in job_columns tables.0)
+        × IsPermutation (table_at (place_of the.Journey) lists) (rows_in journey_columns (journeys_of tables.1))
+        × IsPermutation (table_at (place_of the.Act) lists) (rows_in act_columns (acts_of tables.1))
+        × (table_at (place_of the.Trip) lists ≡ [])) }
+{
+    lawful_rows_tell_trips();
+    query_no_trips(conn)?;
+    let jobs = query_jobs(alloc, conn)?;
+    let journeys = query_journeys(alloc, conn)?;
+    let acts = query_acts(alloc, conn)?;
+    let told = trips_told(alloc, &journeys, &acts, &jobs)?;
+    match told {
+        None => Err(ReadingFault::Damaged),
+        Some(trips) => Ok((jobs, trips)),
+    }
+}
+
 // That the table of the first schema's trips is empty.
 fn query_no_trips<S: Alter>(conn: &mut Connection<S>) -> Result<(), ReadingFault>
     ensures { TellsAll S.Store conn.old conn.new result (λ world nothing. Unit {0}) (λ lists nothing. table_at (place_of the.Trip) lists ≡ []) }
@@ -57,28 +81,4 @@ fn query_acts<S: Alter>(alloc: Global, conn: &mut Connection<S>) -> Result<ByAct
     rows_tell_trips();
     let rows = query_all_rows(conn, TableName::Act)?;
     acts_in_rows(alloc, rows.as_slice())
-}
-
-/// The jobs, and the open trips by their orders, but for their edges.
-pub(crate) fn query_trips<S: Alter>(
-    alloc: Global,
-    conn: &mut Connection<S>,
-) -> Result<(ByName<JobRow>, ByName<TripRow>), ReadingFault>
-    ensures { TellsAll S.Store conn.old conn.new result
-        (λ world tables. (tables.0 ≡ world.jobs) × (tables.1 ≡ (rows_of world).trips))
-        (λ lists tables. IsPermutation (table_at (place_of the.Job) lists) (rows_in job_columns tables.0)
-        × IsPermutation (table_at (place_of the.Journey) lists) (rows_in journey_columns (journeys_of tables.1))
-        × IsPermutation (table_at (place_of the.Act) lists) (rows_in act_columns (acts_of tables.1))
-        × (table_at (place_of the.Trip) lists ≡ [])) }
-{
-    lawful_rows_tell_trips();
-    query_no_trips(conn)?;
-    let jobs = query_jobs(alloc, conn)?;
-    let journeys = query_journeys(alloc, conn)?;
-    let acts = query_acts(alloc, conn)?;
-    let told = trips_told(alloc, &journeys, &acts, &jobs)?;
-    match told {
-        None => Err(ReadingFault::Damaged),
-        Some(trips) => Ok((jobs, trips)),
-    }
 }

@@ -21,6 +21,31 @@ use agv_world::{ByLeg, ByName, ByVehicle, UsedNames, VehicleRow, World};
 use sqlite::{Alter, Connection};
 use std::alloc::Global;
 
+/// All tables but those of the schema's number and of what is held.
+pub fn read_tables<S: Alter>(alloc: Global, conn: &mut Connection<S>) -> Result<World, ReadingFault>
+    ensures { TellsAll S.Store conn.old conn.new result (λ world tables. Keeps tables world) (λ lists tables. HaveTables lists tables) }
+{
+    let layout = query_layout_tables(alloc, conn)?;
+    let traffic = query_traffic_tables(alloc, conn)?;
+    let work = query_trips(alloc, conn)?;
+    let stock = query_stock_tables(alloc, conn)?;
+    let (nodes, edges, stations) = layout;
+    let (vehicles, legs) = traffic;
+    let (jobs, trips) = work;
+    let (loads, used) = stock;
+    Ok(World {
+        nodes,
+        edges,
+        stations,
+        vehicles,
+        trips,
+        legs,
+        loads,
+        jobs,
+        used,
+    })
+}
+
 // The vehicles, and the edges of all open trips.
 fn query_traffic_tables<S: Alter>(
     alloc: Global,
@@ -50,31 +75,6 @@ fn query_stock_tables<S: Alter>(
     let places = query_places(alloc, conn)?;
     let used = query_used(alloc, conn)?;
     Ok((places, used))
-}
-
-/// All tables but those of the schema's number and of what is held.
-pub fn read_tables<S: Alter>(alloc: Global, conn: &mut Connection<S>) -> Result<World, ReadingFault>
-    ensures { TellsAll S.Store conn.old conn.new result (λ world tables. Keeps tables world) (λ lists tables. HaveTables lists tables) }
-{
-    let layout = query_layout_tables(alloc, conn)?;
-    let traffic = query_traffic_tables(alloc, conn)?;
-    let work = query_trips(alloc, conn)?;
-    let stock = query_stock_tables(alloc, conn)?;
-    let (nodes, edges, stations) = layout;
-    let (vehicles, legs) = traffic;
-    let (jobs, trips) = work;
-    let (loads, used) = stock;
-    Ok(World {
-        nodes,
-        edges,
-        stations,
-        vehicles,
-        trips,
-        legs,
-        loads,
-        jobs,
-        used,
-    })
 }
 
 /// All tables: those of the world in memory, and who holds what. The row of `meta` is that of the second schema.

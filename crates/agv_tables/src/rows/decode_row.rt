@@ -75,37 +75,6 @@ pub(crate) fn key_at(row: &Row, first: usize, second: usize) -> Option<VehicleKe
     })
 }
 
-// The rest whose edge and node these are.
-fn rest(edge: Option<Name>, node: Option<Name>) -> Option<Option<(Name, Name)>>
-    ensures { result ≡ rest_of edge node }
-{
-    match (edge, node) {
-        (None, None) => Some(None),
-        (Some(edge), Some(node)) => Some(Some((edge, node))),
-        _ => None,
-    }
-}
-
-// The rest in two columns.
-#[tactic(auto, unfolding(crate::specs::rows::Columns::rest_in))]
-fn rest_at(row: &Row, first: usize, second: usize) -> Option<Option<(Name, Name)>>
-    ensures { result ≡ rest_in (column row.now first) (column row.now second) }
-{
-    let edge = maybe_name_at(row, first)?;
-    let node = maybe_name_at(row, second)?;
-    rest(edge, node)
-}
-
-// The last message of a topic, in two columns.
-#[tactic(auto, unfolding(crate::specs::rows::Columns::sent_in))]
-fn sent_at(row: &Row, first: usize, second: usize) -> Option<Sent>
-    ensures { result ≡ sent_in (column row.now first) (column row.now second) }
-{
-    let count = number_at(row, first)?;
-    let at = moment_at(row, second)?;
-    Some(Sent { count, at })
-}
-
 /// A vehicle, as if it had room for one load, but for its open trip.
 #[tactic(auto, unfolding(crate::specs::rows::Columns::vehicle_in))]
 pub(crate) fn decode_vehicle(row: &Row) -> Option<(VehicleKey, VehicleRow)>
@@ -139,6 +108,37 @@ pub(crate) fn decode_vehicle(row: &Row) -> Option<(VehicleKey, VehicleRow)>
             pending,
         },
     ))
+}
+
+// The rest in two columns.
+#[tactic(auto, unfolding(crate::specs::rows::Columns::rest_in))]
+fn rest_at(row: &Row, first: usize, second: usize) -> Option<Option<(Name, Name)>>
+    ensures { result ≡ rest_in (column row.now first) (column row.now second) }
+{
+    let edge = maybe_name_at(row, first)?;
+    let node = maybe_name_at(row, second)?;
+    rest(edge, node)
+}
+
+// The rest whose edge and node these are.
+fn rest(edge: Option<Name>, node: Option<Name>) -> Option<Option<(Name, Name)>>
+    ensures { result ≡ rest_of edge node }
+{
+    match (edge, node) {
+        (None, None) => Some(None),
+        (Some(edge), Some(node)) => Some(Some((edge, node))),
+        _ => None,
+    }
+}
+
+// The last message of a topic, in two columns.
+#[tactic(auto, unfolding(crate::specs::rows::Columns::sent_in))]
+fn sent_at(row: &Row, first: usize, second: usize) -> Option<Sent>
+    ensures { result ≡ sent_in (column row.now first) (column row.now second) }
+{
+    let count = number_at(row, first)?;
+    let at = moment_at(row, second)?;
+    Some(Sent { count, at })
 }
 
 /// How many loads a vehicle has room for.
@@ -218,6 +218,23 @@ pub(crate) fn decode_leg(row: &Row) -> Option<(LegKey, Name)>
     Some((LegKey { order, k }, edge))
 }
 
+/// A load, and where it is.
+#[tactic(auto, unfolding(crate::specs::rows::Columns::load_in))]
+pub(crate) fn decode_load(row: &Row) -> Option<(Name, Place)>
+    ensures { result ≡ load_in row.now }
+{
+    if row.column_count() != 5 {
+        return None;
+    }
+    let id = name_at(row, 0)?;
+    let kind = place_kind_at(row, 1)?;
+    let station = maybe_name_at(row, 2)?;
+    let manufacturer = maybe_name_at(row, 3)?;
+    let serial = maybe_name_at(row, 4)?;
+    let place = place(kind, station, manufacturer, serial)?;
+    Some((id, place))
+}
+
 // The place of that kind.
 fn place(
     kind: PlaceKind,
@@ -239,23 +256,6 @@ fn place(
         (PlaceKind::Left, None, None, None) => Some(Place::Left),
         _ => None,
     }
-}
-
-/// A load, and where it is.
-#[tactic(auto, unfolding(crate::specs::rows::Columns::load_in))]
-pub(crate) fn decode_load(row: &Row) -> Option<(Name, Place)>
-    ensures { result ≡ load_in row.now }
-{
-    if row.column_count() != 5 {
-        return None;
-    }
-    let id = name_at(row, 0)?;
-    let kind = place_kind_at(row, 1)?;
-    let station = maybe_name_at(row, 2)?;
-    let manufacturer = maybe_name_at(row, 3)?;
-    let serial = maybe_name_at(row, 4)?;
-    let place = place(kind, station, manufacturer, serial)?;
-    Some((id, place))
 }
 
 /// A job.
@@ -282,16 +282,6 @@ pub(crate) fn decode_job(row: &Row) -> Option<(Name, JobRow)>
     ))
 }
 
-// What is held, of that kind and that name.
-fn thing(kind: ThingKind, id: Name) -> Thing
-    ensures { result ≡ thing_of kind id }
-{
-    match kind {
-        ThingKind::Node => Thing::Node(id),
-        ThingKind::Edge => Thing::Edge(id),
-    }
-}
-
 /// What is held, and by which vehicle.
 #[tactic(auto, unfolding(crate::specs::rows::Columns::hold_in))]
 pub(crate) fn decode_hold(row: &Row) -> Option<(Thing, VehicleKey)>
@@ -304,6 +294,16 @@ pub(crate) fn decode_hold(row: &Row) -> Option<(Thing, VehicleKey)>
     let id = name_at(row, 1)?;
     let key = key_at(row, 2, 3)?;
     Some((thing(kind, id), key))
+}
+
+// What is held, of that kind and that name.
+fn thing(kind: ThingKind, id: Name) -> Thing
+    ensures { result ≡ thing_of kind id }
+{
+    match kind {
+        ThingKind::Node => Thing::Node(id),
+        ThingKind::Edge => Thing::Edge(id),
+    }
 }
 
 /// A used name.

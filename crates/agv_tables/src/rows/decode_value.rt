@@ -207,13 +207,6 @@ pub(crate) fn thing_kind_at(row: &Row, at: usize) -> Option<ThingKind>
     }
 }
 
-// Whether a column is NULL.
-fn is_null(row: &Row, at: usize) -> bool
-    ensures { result ≡ is_absent (column row.now at) }
-{
-    matches!(value_at(row, at), ValueRef::Null)
-}
-
 /// The name in a column that may be NULL.
 pub(crate) fn maybe_name_at(row: &Row, at: usize) -> Option<Option<Name>>
     ensures { result ≡ maybe_in name_in (column row.now at) }
@@ -242,4 +235,11 @@ pub(crate) fn maybe_instant_at(row: &Row, at: usize) -> Option<Option<InstantKin
         return Some(None);
     }
     Some(Some(instant_at(row, at)?))
+}
+
+// Whether a column is NULL.
+fn is_null(row: &Row, at: usize) -> bool
+    ensures { result ≡ is_absent (column row.now at) }
+{
+    matches!(value_at(row, at), ValueRef::Null)
 }

@@ -23,47 +23,6 @@ pub(crate) fn name_value(name: &Name) -> ValueRef<'_>
     ValueRef::Text(name.as_bytes())
 }
 
-// A name, or NULL.
-fn maybe_name_value(name: &Option<Name>) -> ValueRef<'_>
-    ensures { bound_value (owned result) ≡ or_null Text name.now }
-{
-    match name {
-        Some(name) => name_value(name),
-        None => ValueRef::Null,
-    }
-}
-
-// The edge and the node of a rest, or NULL twice.
-fn rest_values(rest: &Option<(Name, Name)>) -> (ValueRef<'_>, ValueRef<'_>)
-    ensures edge { bound_value (owned result.0) ≡ or_null (λ rest. Text rest.0) rest.now }
-    ensures node { bound_value (owned result.1) ≡ or_null (λ rest. Text rest.1) rest.now }
-{
-    match rest {
-        Some((edge, node)) => (name_value(edge), name_value(node)),
-        None => (ValueRef::Null, ValueRef::Null),
-    }
-}
-
-// A number, or NULL.
-fn maybe_number_value(n: Option<u32>) -> ValueRef<'static>
-    ensures { bound_value (owned result) ≡ or_null number_cell n }
-{
-    match n {
-        Some(n) => n.to_sql(),
-        None => ValueRef::Null,
-    }
-}
-
-// A pending action, or NULL.
-fn instant_value(kind: Option<InstantKind>) -> ValueRef<'static>
-    ensures { bound_value (owned result) ≡ or_null (λ kind. Text (instant_name kind)) kind }
-{
-    match kind {
-        Some(kind) => kind.name().to_sql(),
-        None => ValueRef::Null,
-    }
-}
-
 /// The row of a node.
 pub(crate) fn node_values(id: &Name) -> [ValueRef<'_>; 1]
     ensures { bound result ≡ node_columns id.now }
@@ -116,6 +75,37 @@ pub(crate) fn vehicle_values<'a>(key: &'a VehicleKey, row: &'a VehicleRow) -> [V
     ]
 }
 
+// The edge and the node of a rest, or NULL twice.
+fn rest_values(rest: &Option<(Name, Name)>) -> (ValueRef<'_>, ValueRef<'_>)
+    ensures edge { bound_value (owned result.0) ≡ or_null (λ rest. Text rest.0) rest.now }
+    ensures node { bound_value (owned result.1) ≡ or_null (λ rest. Text rest.1) rest.now }
+{
+    match rest {
+        Some((edge, node)) => (name_value(edge), name_value(node)),
+        None => (ValueRef::Null, ValueRef::Null),
+    }
+}
+
+// A name, or NULL.
+fn maybe_name_value(name: &Option<Name>) -> ValueRef<'_>
+    ensures { bound_value (owned result) ≡ or_null Text name.now }
+{
+    match name {
+        Some(name) => name_value(name),
+        None => ValueRef::Null,
+    }
+}
+
+// A pending action, or NULL.
+fn instant_value(kind: Option<InstantKind>) -> ValueRef<'static>
+    ensures { bound_value (owned result) ≡ or_null (λ kind. Text (instant_name kind)) kind }
+{
+    match kind {
+        Some(kind) => kind.name().to_sql(),
+        None => ValueRef::Null,
+    }
+}
+
 /// The row of a vehicle's room for loads.
 pub(crate) fn capacity_values<'a>(key: &'a VehicleKey, row: &'a VehicleRow) -> [ValueRef<'a>; 3]
     ensures { bound result ≡ room_columns key.now row.now }
@@ -142,6 +132,16 @@ pub(crate) fn journey_values<'a>(order: &'a Name, journey: &'a JourneyRow) -> [V
         maybe_number_value(journey.confirmed),
         journey.seen.to_sql(),
     ]
+}
+
+// A number, or NULL.
+fn maybe_number_value(n: Option<u32>) -> ValueRef<'static>
+    ensures { bound_value (owned result) ≡ or_null number_cell n }
+{
+    match n {
+        Some(n) => n.to_sql(),
+        None => ValueRef::Null,
+    }
 }
 
 /// The row of an act of an open trip.

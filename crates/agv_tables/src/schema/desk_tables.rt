@@ -20,37 +20,6 @@ pub(crate) const NAMES: [&str; 14] = [
     "capacity", "journey", "act",
 ];
 
-/// Whether a table, a view or an index has one of the names.
-pub(crate) fn is_any_used(schema: &Schema, names: &[&str]) -> bool
-    ensures { result ≡ list_any (λ name. is_used schema.now name.now) names.now }
-{
-    names.iter().any(|name| is_used(schema, name.as_bytes()))
-}
-
-// Whether one has the name of one of the desk's tables.
-fn is_name_taken(schema: &Schema) -> bool
-    ensures { result ≡ is_name_taken schema.now }
-{
-    is_any_used(schema, &NAMES)
-}
-
-// Makes the tables where their names are free.
-fn make_tables<S: Alter>(conn: &mut Connection<S>) -> Result<(), Error>
-    requires idle { conn.old.in_transaction ≡ false }
-    requires free { is_name_taken (state S.Store conn.old).now.schema ≡ false }
-    ensures made { HasCleanDisk (state S.Store conn.new) → OnOk result (MakesDesk (state S.Store conn.old).now (state S.Store conn.new).committed) }
-    ensures all_committed { HasCleanDisk (state S.Store conn.new) → OnOk result ((state S.Store conn.new).now ≡ (state S.Store conn.new).committed) }
-    ensures open { HasCleanDisk (state S.Store conn.new) → OnOk result (IsTrue (state S.Store conn.old).is_open × IsTrue (state S.Store conn.new).is_open) }
-    ensures was_open { HasCleanDisk (state S.Store conn.new) → IsTrue (state S.Store conn.new).is_open → IsTrue (state S.Store conn.old).is_open }
-    ensures undone { HasCleanDisk (state S.Store conn.new) → IsTrue (state S.Store conn.new).is_open
-        → OnErr result (((state S.Store conn.new).now ≡ (state S.Store conn.old).committed) × ((state S.Store conn.new).committed ≡ (state S.Store conn.old).committed)) }
-    ensures crash { Survives (state S.Store conn.old) (state S.Store conn.new) (LeavesDesk (state S.Store conn.old).now) }
-    ensures idle { conn.new.in_transaction ≡ false }
-{
-    let steps = making_steps(conn.schema());
-    run_steps(conn, &steps)
-}
-
 /// Makes the fourteen tables, the row of `meta` and the indexes in one transaction, beside whatever the
 /// database has; an index whose name is taken is left out. Where it succeeds all of it is committed, and the
 /// store was open and is; after an error that leaves the store open nothing is; a store that was shut stays shut; and a
@@ -78,4 +47,35 @@ pub fn make_desk_tables<S: Alter>(conn: &mut Connection<S>) -> Result<(), Making
     }
     make_tables(conn)?;
     Ok(())
+}
+
+// Whether one has the name of one of the desk's tables.
+fn is_name_taken(schema: &Schema) -> bool
+    ensures { result ≡ is_name_taken schema.now }
+{
+    is_any_used(schema, &NAMES)
+}
+
+/// Whether a table, a view or an index has one of the names.
+pub(crate) fn is_any_used(schema: &Schema, names: &[&str]) -> bool
+    ensures { result ≡ list_any (λ name. is_used schema.now name.now) names.now }
+{
+    names.iter().any(|name| is_used(schema, name.as_bytes()))
+}
+
+// Makes the tables where their names are free.
+fn make_tables<S: Alter>(conn: &mut Connection<S>) -> Result<(), Error>
+    requires idle { conn.old.in_transaction ≡ false }
+    requires free { is_name_taken (state S.Store conn.old).now.schema ≡ false }
+    ensures made { HasCleanDisk (state S.Store conn.new) → OnOk result (MakesDesk (state S.Store conn.old).now (state S.Store conn.new).committed) }
+    ensures all_committed { HasCleanDisk (state S.Store conn.new) → OnOk result ((state S.Store conn.new).now ≡ (state S.Store conn.new).committed) }
+    ensures open { HasCleanDisk (state S.Store conn.new) → OnOk result (IsTrue (state S.Store conn.old).is_open × IsTrue (state S.Store conn.new).is_open) }
+    ensures was_open { HasCleanDisk (state S.Store conn.new) → IsTrue (state S.Store conn.new).is_open → IsTrue (state S.Store conn.old).is_open }
+    ensures undone { HasCleanDisk (state S.Store conn.new) → IsTrue (state S.Store conn.new).is_open
+        → OnErr result (((state S.Store conn.new).now ≡ (state S.Store conn.old).committed) × ((state S.Store conn.new).committed ≡ (state S.Store conn.old).committed)) }
+    ensures crash { Survives (state S.Store conn.old) (state S.Store conn.new) (LeavesDesk (state S.Store conn.old).now) }
+    ensures idle { conn.new.in_transaction ≡ false }
+{
+    let steps = making_steps(conn.schema());
+    run_steps(conn, &steps)
 }

@@ -17,28 +17,19 @@ use std::alloc::Global;
 // A table has a tree below this number.
 const MAX_TREES: u32 = 1 << 31;
 
-// Whether under its name stands just this table.
-fn stands_alike(schema: &Schema, wanted: &Table) -> bool
-    ensures { IsPlain wanted.now → (IsTrue result ↔ StandsAlike schema.now wanted.now) }
+/// Whether the desk's fourteen tables stand in a database, in whatever trees: each with just its columns and keys and no rule
+/// more, no foreign key referring to one of them, and no two tables of the database in one tree. Tables of other names, views and
+/// plain indexes may stand beside them.
+///
+/// # Errors
+/// [`Memory`] for want of memory.
+pub fn tables_stand(alloc: Global, schema: &Schema) -> Result<bool, Memory>
+    ensures { IfOk result (λ stand. IsTrue stand ↔ TablesStand schema.now) }
 {
-    let Some(at) = schema.table_named(wanted.name.as_slice()) else {
-        return false;
-    };
-    let Some(found) = schema.tables.get(at) else {
-        return false;
-    };
-    found.tree < MAX_TREES && same_table(found, wanted)
-}
-
-// The same of the table that the text defines.
-fn stands_by(alloc: Global, schema: &Schema, text: &str) -> Result<bool, Memory>
-    ensures { (table : Table) → table_defined_by text.now ≡ Ok table → IsPlain table → IfOk result (λ stand. IsTrue stand ↔ StandsAlike schema.now table) }
-{
-    match define_table(alloc, text.as_bytes()) {
-        Ok(wanted) => Ok(stands_alike(schema, &wanted)),
-        Err(CompileError::OutOfMemory) => Err(Memory),
-        Err(_) => Ok(false),
+    if !leaves_room(schema) {
+        return Ok(false);
     }
+    stand_by(alloc, schema, &creation_texts())
 }
 
 // The same of each of the tables that the texts define.
@@ -55,17 +46,26 @@ pub(crate) fn stand_by(alloc: Global, schema: &Schema, texts: &[&str]) -> Result
     stand_by(alloc, schema, others)
 }
 
-/// Whether the desk's fourteen tables stand in a database, in whatever trees: each with just its columns and keys and no rule
-/// more, no foreign key referring to one of them, and no two tables of the database in one tree. Tables of other names, views and
-/// plain indexes may stand beside them.
-///
-/// # Errors
-/// [`Memory`] for want of memory.
-pub fn tables_stand(alloc: Global, schema: &Schema) -> Result<bool, Memory>
-    ensures { IfOk result (λ stand. IsTrue stand ↔ TablesStand schema.now) }
+// The same of the table that the text defines.
+fn stands_by(alloc: Global, schema: &Schema, text: &str) -> Result<bool, Memory>
+    ensures { (table : Table) → table_defined_by text.now ≡ Ok table → IsPlain table → IfOk result (λ stand. IsTrue stand ↔ StandsAlike schema.now table) }
 {
-    if !leaves_room(schema) {
-        return Ok(false);
+    match define_table(alloc, text.as_bytes()) {
+        Ok(wanted) => Ok(stands_alike(schema, &wanted)),
+        Err(CompileError::OutOfMemory) => Err(Memory),
+        Err(_) => Ok(false),
     }
-    stand_by(alloc, schema, &creation_texts())
+}
+
+// Whether under its name stands just this table.
+fn stands_alike(schema: &Schema, wanted: &Table) -> bool
+    ensures { IsPlain wanted.now → (IsTrue result ↔ StandsAlike schema.now wanted.now) }
+{
+    let Some(at) = schema.table_named(wanted.name.as_slice()) else {
+        return false;
+    };
+    let Some(found) = schema.tables.get(at) else {
+        return false;
+    };
+    found.tree < MAX_TREES && same_table(found, wanted)
 }

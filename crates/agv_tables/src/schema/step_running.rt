@@ -16,21 +16,6 @@ pub(crate) fn run_text<S: Alter>(tx: &mut Transaction<'_, S>, sql: &str) -> Resu
     tx.execute(sql, &[])
 }
 
-// Carries out the text, unless it is left out.
-fn run_step<S: Alter>(
-    tx: &mut Transaction<'_, S>,
-    is_wanted: bool,
-    sql: &str,
-) -> Result<usize, Error>
-    ensures same_reference { tx.new.conn.ghost_name ≡ tx.old.conn.ghost_name }
-    ensures survives { Survives (state S.Store tx.old.conn.now) (state S.Store tx.new.conn.now) (λ _. ⊥) }
-    ensures kept { HasCleanDisk (state S.Store tx.new.conn.now) → KeepsCommit (state S.Store tx.old.conn.now) (state S.Store tx.new.conn.now) }
-    ensures ran { HasCleanDisk (state S.Store tx.new.conn.now) → IsTrue (state S.Store tx.old.conn.now).in_transaction
-        → OnOk result (RunsSteps ((is_wanted, sql.now) ∷ []) (state S.Store tx.old.conn.now) (state S.Store tx.new.conn.now)) }
-{
-    if is_wanted { run_text(tx, sql) } else { Ok(0) }
-}
-
 /// Carries out those of the steps that are not left out, in one transaction. Where it succeeds what they
 /// do is committed; after an error that leaves the store open nothing is; a store that was shut stays shut; and a crash
 /// leaves none of it or all.
@@ -53,4 +38,19 @@ pub(crate) fn run_steps<S: Alter>(
         run_step(&mut tx, step.0, step.1)?;
     }
     tx.commit()
+}
+
+// Carries out the text, unless it is left out.
+fn run_step<S: Alter>(
+    tx: &mut Transaction<'_, S>,
+    is_wanted: bool,
+    sql: &str,
+) -> Result<usize, Error>
+    ensures same_reference { tx.new.conn.ghost_name ≡ tx.old.conn.ghost_name }
+    ensures survives { Survives (state S.Store tx.old.conn.now) (state S.Store tx.new.conn.now) (λ _. ⊥) }
+    ensures kept { HasCleanDisk (state S.Store tx.new.conn.now) → KeepsCommit (state S.Store tx.old.conn.now) (state S.Store tx.new.conn.now) }
+    ensures ran { HasCleanDisk (state S.Store tx.new.conn.now) → IsTrue (state S.Store tx.old.conn.now).in_transaction
+        → OnOk result (RunsSteps ((is_wanted, sql.now) ∷ []) (state S.Store tx.old.conn.now) (state S.Store tx.new.conn.now)) }
+{
+    if is_wanted { run_text(tx, sql) } else { Ok(0) }
 }

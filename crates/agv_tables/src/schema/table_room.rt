@@ -12,22 +12,13 @@ use crate::schema::desk_tables::NAMES;
 use sqlite_schema::names::same_name;
 use sqlite_schema::schema::{Schema, Table};
 
-// Whether no key of the table refers to a table of that name.
-fn refers_elsewhere(table: &Table, name: &[u8]) -> bool
-    ensures { result ≡ list_all (λ (r : Reference). not (same_name name.now r.parent)) table.now.references }
+/// Whether the desk's tables can be made beside those of a database, as far as these are concerned: no foreign key refers
+/// to one of the desk's names, and no two tables lie in one tree. That the names are free is another question.
+pub fn leaves_room(schema: &Schema) -> bool
+    ensures { IsTrue result ↔ LeavesRoom schema.now }
 {
-    table
-        .references
-        .as_slice()
-        .iter()
-        .all(|reference| !same_name(name, reference.parent.as_slice()))
-}
-
-// Whether none of these tables has such a key.
-fn is_unreferred(tables: &[Table], name: &[u8]) -> bool
-    ensures { result ≡ is_unreferred name.now tables.now }
-{
-    tables.iter().all(|table| refers_elsewhere(table, name))
+    let tables = schema.tables.as_slice();
+    are_unreferred(tables, &NAMES) && are_apart(tables)
 }
 
 /// The same of each of these names.
@@ -39,11 +30,22 @@ pub(crate) fn are_unreferred(tables: &[Table], names: &[&str]) -> bool
         .all(|name| is_unreferred(tables, name.as_bytes()))
 }
 
-// Whether none of these tables lies in that tree.
-fn is_free(tables: &[Table], tree: u32) -> bool
-    ensures { IsTrue result ↔ AllByRecursion (λ (table : Table). tree ≢ table.tree) tables.now }
+// Whether none of these tables has such a key.
+fn is_unreferred(tables: &[Table], name: &[u8]) -> bool
+    ensures { result ≡ is_unreferred name.now tables.now }
 {
-    tables.iter().all(|table| table.tree != tree)
+    tables.iter().all(|table| refers_elsewhere(table, name))
+}
+
+// Whether no key of the table refers to a table of that name.
+fn refers_elsewhere(table: &Table, name: &[u8]) -> bool
+    ensures { result ≡ list_all (λ (r : Reference). not (same_name name.now r.parent)) table.now.references }
+{
+    table
+        .references
+        .as_slice()
+        .iter()
+        .all(|reference| !same_name(name, reference.parent.as_slice()))
 }
 
 // Whether no two of these tables lie in one tree.
@@ -60,11 +62,9 @@ pub(crate) fn are_apart(tables: &[Table]) -> bool
     true
 }
 
-/// Whether the desk's tables can be made beside those of a database, as far as these are concerned: no foreign key refers
-/// to one of the desk's names, and no two tables lie in one tree. That the names are free is another question.
-pub fn leaves_room(schema: &Schema) -> bool
-    ensures { IsTrue result ↔ LeavesRoom schema.now }
+// Whether none of these tables lies in that tree.
+fn is_free(tables: &[Table], tree: u32) -> bool
+    ensures { IsTrue result ↔ AllByRecursion (λ (table : Table). tree ≢ table.tree) tables.now }
 {
-    let tables = schema.tables.as_slice();
-    are_unreferred(tables, &NAMES) && are_apart(tables)
+    tables.iter().all(|table| table.tree != tree)
 }

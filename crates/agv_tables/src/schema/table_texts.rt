@@ -55,12 +55,10 @@ pub fn creation_texts() -> [&'static str; 14]
     ]
 }
 
-// Whether nothing has the name.
-fn is_free(schema: &Schema, name: &str) -> bool
-    ensures { result ≡ not (is_used schema.now name.now) }
-{
-    !is_used(schema, name.as_bytes())
-}
+/// Each text defines its table.
+pub fn texts_define_the_tables()
+    ensures { DefineTables }
+{}
 
 /// The texts of the making in the order in which they are carried out, each with whether it is: the index
 /// whose name is taken is left out.
@@ -102,7 +100,9 @@ pub(crate) fn making_steps(schema: &Schema) -> [(bool, &'static str); 19]
     ]
 }
 
-/// Each text defines its table.
-pub fn texts_define_the_tables()
-    ensures { DefineTables }
-{}
+// Whether nothing has the name.
+fn is_free(schema: &Schema, name: &str) -> bool
+    ensures { result ≡ not (is_used schema.now name.now) }
+{
+    !is_used(schema, name.as_bytes())
+}

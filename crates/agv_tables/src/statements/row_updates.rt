@@ -16,32 +16,25 @@ use crate::statements::updated_table::UpdatedTable;
 use sqlite::types::ValueRef;
 use sqlite::{Alter, Error, Transaction};
 
-// The table whose rows are written over.
-fn world_table(table: UpdatedTable) -> WorldTable
-    ensures { result ≡ table_updated table }
+/// Puts the row in the place of that of its key, if there is one: it is written over that.
+pub(crate) fn put_over<S: Alter>(
+    tx: &mut Transaction<'_, S>,
+    table: UpdatedTable,
+    key: &[ValueRef<'_>],
+    row: &[ValueRef<'_>],
+) -> Result<usize, Error>
+    ensures same_reference { tx.new.conn.ghost_name ≡ tx.old.conn.ghost_name }
+    ensures survives { Survives (state S.Store tx.old.conn.now) (state S.Store tx.new.conn.now) (λ _. ⊥) }
+    ensures kept { HasCleanDisk (state S.Store tx.new.conn.now) → KeepsCommit (state S.Store tx.old.conn.now) (state S.Store tx.new.conn.now) }
+    ensures made { HasCleanDisk (state S.Store tx.new.conn.now) → FitsTable (table_written (table_updated table)) (bound row.now)
+        → IsKeyOf (columns_deleted (table_updated table)) (bound key.now) (bound row.now)
+        → OnOk result (Makes (with_put_by (table_written (table_updated table)) (columns_deleted (table_updated table)) (bound key.now) (bound row.now)) (state S.Store tx.old.conn.now) (state S.Store tx.new.conn.now)) }
 {
-    match table {
-        UpdatedTable::Vehicle => WorldTable::Vehicle,
-        UpdatedTable::Journey => WorldTable::Journey,
-        UpdatedTable::Load => WorldTable::Load,
-        UpdatedTable::Job => WorldTable::Job,
-    }
-}
-
-// Writes a row over those of its key: the parameters are its columns. The columns of the key are written too, since SQL
-// calls values equal that are not the same.
-fn update(table: UpdatedTable) -> &'static str
-    ensures { result.now ≡ update_text table }
-{
-    match table {
-        UpdatedTable::Vehicle =>
-            "UPDATE vehicle SET manufacturer = ?1, serial = ?2, node = ?3, rest_edge = ?4, rest_node = ?5, last_header = ?6, reported = ?7, ready = ?8, paused = ?9, order_header = ?10, order_at = ?11, instant_header = ?12, instant_at = ?13, pending = ?14 WHERE manufacturer = ?1 AND serial = ?2",
-        UpdatedTable::Journey =>
-            "UPDATE journey SET order_id = ?1, manufacturer = ?2, serial = ?3, start = ?4, first = ?5, base = ?6, sent = ?7, confirmed = ?8, seen = ?9 WHERE order_id = ?1",
-        UpdatedTable::Load =>
-            "UPDATE load SET id = ?1, kind = ?2, station = ?3, manufacturer = ?4, serial = ?5 WHERE id = ?1",
-        UpdatedTable::Job =>
-            "UPDATE job SET id = ?1, load = ?2, origin = ?3, target = ?4, phase = ?5 WHERE id = ?1",
+    let count = update_row(tx, table, row)?;
+    match count {
+        0 => insert_row(tx, world_table(table), row),
+        1 => Ok(1),
+        _ => put_row(tx, world_table(table), key, row),
     }
 }
 
@@ -62,24 +55,31 @@ fn update_row<S: Alter>(
     tx.execute(update(table), row)
 }
 
-/// Puts the row in the place of that of its key, if there is one: it is written over that.
-pub(crate) fn put_over<S: Alter>(
-    tx: &mut Transaction<'_, S>,
-    table: UpdatedTable,
-    key: &[ValueRef<'_>],
-    row: &[ValueRef<'_>],
-) -> Result<usize, Error>
-    ensures same_reference { tx.new.conn.ghost_name ≡ tx.old.conn.ghost_name }
-    ensures survives { Survives (state S.Store tx.old.conn.now) (state S.Store tx.new.conn.now) (λ _. ⊥) }
-    ensures kept { HasCleanDisk (state S.Store tx.new.conn.now) → KeepsCommit (state S.Store tx.old.conn.now) (state S.Store tx.new.conn.now) }
-    ensures made { HasCleanDisk (state S.Store tx.new.conn.now) → FitsTable (table_written (table_updated table)) (bound row.now)
-        → IsKeyOf (columns_deleted (table_updated table)) (bound key.now) (bound row.now)
-        → OnOk result (Makes (with_put_by (table_written (table_updated table)) (columns_deleted (table_updated table)) (bound key.now) (bound row.now)) (state S.Store tx.old.conn.now) (state S.Store tx.new.conn.now)) }
+// Writes a row over those of its key: the parameters are its columns. The columns of the key are written too, since SQL
+// calls values equal that are not the same.
+fn update(table: UpdatedTable) -> &'static str
+    ensures { result.now ≡ update_text table }
 {
-    let count = update_row(tx, table, row)?;
-    match count {
-        0 => insert_row(tx, world_table(table), row),
-        1 => Ok(1),
-        _ => put_row(tx, world_table(table), key, row),
+    match table {
+        UpdatedTable::Vehicle =>
+            "UPDATE vehicle SET manufacturer = ?1, serial = ?2, node = ?3, rest_edge = ?4, rest_node = ?5, last_header = ?6, reported = ?7, ready = ?8, paused = ?9, order_header = ?10, order_at = ?11, instant_header = ?12, instant_at = ?13, pending = ?14 WHERE manufacturer = ?1 AND serial = ?2",
+        UpdatedTable::Journey =>
+            "UPDATE journey SET order_id = ?1, manufacturer = ?2, serial = ?3, start = ?4, first = ?5, base = ?6, sent = ?7, confirmed = ?8, seen = ?9 WHERE order_id = ?1",
+        UpdatedTable::Load =>
+            "UPDATE load SET id = ?1, kind = ?2, station = ?3, manufacturer = ?4, serial = ?5 WHERE id = ?1",
+        UpdatedTable::Job =>
+            "UPDATE job SET id = ?1, load = ?2, origin = ?3, target = ?4, phase = ?5 WHERE id = ?1",
+    }
+}
+
+// The table whose rows are written over.
+fn world_table(table: UpdatedTable) -> WorldTable
+    ensures { result ≡ table_updated table }
+{
+    match table {
+        UpdatedTable::Vehicle => WorldTable::Vehicle,
+        UpdatedTable::Journey => WorldTable::Journey,
+        UpdatedTable::Load => WorldTable::Load,
+        UpdatedTable::Job => WorldTable::Job,
     }
 }
