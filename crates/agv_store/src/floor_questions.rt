@@ -13,7 +13,7 @@ use agv_tables::queries::key_queries::{
 use agv_tables::queries::layout_reading::query_layout;
 use agv_tables::queries::load_queries::{query_job_of, query_loads_on, query_reserved, query_room};
 use agv_tables::queries::station_loads::query_loads_at;
-use agv_tables::queries::trip_queries::query_trip;
+use agv_tables::queries::trip_queries::{query_has_trip, query_trip};
 use agv_world::{Counted, Fault, Floor, JobRow, UseKey, UseKind, VehicleRow};
 use sqlite::Alter;
 
@@ -47,6 +47,11 @@ impl<S: Alter + Drop> Floor for KeyedFloor<S> {
 
     fn trip(&mut self, key: VehicleKey) -> Result<Option<Trip>, Fault> {
         let asked = query_trip(self.alloc, &mut self.conn, &key);
+        note(&mut self.failed, &mut self.in_doubt, asked)
+    }
+
+    fn has_trip(&mut self, key: VehicleKey) -> Result<bool, Fault> {
+        let asked = query_has_trip(&mut self.conn, &key);
         note(&mut self.failed, &mut self.in_doubt, asked)
     }
 
