@@ -11,7 +11,7 @@ use Rattle.std.specs.Result.{IsErrAnd}
 use Rattle.sqlite_value.specs.Order.{Row}
 use Rattle.agv_header.specs.Name.{IsName, name_cmp}
 use Rattle.agv_header.specs.declared.key.VehicleKey.{VehicleKey}
-use Rattle.agv_layout.specs.Layout.{edge_of}
+use Rattle.agv_layout.specs.Layout.{Layout}
 use Rattle.agv_layout.specs.declared.edge.Edge.{Edge}
 use Rattle.agv_layout.specs.declared.edge.EdgeEnds.{EdgeEnds}
 use Rattle.agv_order.specs.declared.act.Act.{Act}
@@ -28,6 +28,7 @@ use Rattle.agv_world.specs.Told.{edge_named, edges_of, is_of_order, trip_in}
 use Rattle.agv_world.specs.Worlds.{World}
 use Rattle.agv_world.specs.declared.key.LegKey.{LegKey}
 use Rattle.agv_world.specs.declared.row.JobRow.{JobRow}
+use Rattle.agv_tables.specs.queries.WorldAnswers.{AgreesWith}
 use Rattle.agv_tables.specs.queries.QueriedRows.{journeys_shown, legs_shown}
 use Rattle.agv_tables.specs.rows.Columns.{act_columns, act_in, journey_columns, journey_in, leg_columns, leg_in}
 use Rattle.agv_tables.specs.queries.FirstRow.{first_whole_in, whole_of}
@@ -208,9 +209,10 @@ IsKnown world leg = (ends : EdgeEnds) × (finite.get world.layout.edges leg.1 �
 abbrev pub edge_at : World → LegKey × List ℕ → Option Edge
 edge_at world leg = edge_named world.layout.edges leg.1
 
--- the edges so far, and those of what is left, are those of the order; the layout has what is left
-abbrev pub Goes : List Edge → List (LegKey × List ℕ) → List ℕ → World → Unit {0} → Type 0
-Goes edges rest order world nothing = (edges ++ filter_map (edge_at world) rest ≡ edges_of (tables_of (rows_of world)) order) × AllByRecursion (IsKnown world) rest
+-- the layout has what is left; and the edges so far, with those of what is left, are those of the order, where a known layout is the world's
+abbrev pub Goes : Option Layout → List Edge → List (LegKey × List ℕ) → List ℕ → World → Unit {0} → Type 0
+Goes known edges rest order world nothing =
+    (AgreesWith known world → edges ++ filter_map (edge_at world) rest ≡ edges_of (tables_of (rows_of world)) order) × AllByRecursion (IsKnown world) rest
 
 pub all_of : {A : Type 0} (P Q : A → Type 0) → ((a : A) → P a → Q a) → (xs : List A) → AllByRecursion P xs → AllByRecursion Q xs
 all_of P Q so [] h = tt
@@ -235,12 +237,12 @@ module _ (world : World) (lawful : IsLawful desk_seats world) (good : InGoodOrde
 
     -- and with the table the way begins
     pub begins : (table : finite.FinMap leg_cmp (List ℕ)) → Reads {A = finite.FinMap leg_cmp (List ℕ)} (Ok table) (read_rows leg_in finite.empty rows)
-        → (edges : List Edge) (rest : List (LegKey × List ℕ)) → edges ≡ [] → rest ≡ finite.entries table → Goes edges rest order world tt
+        → (known : Option Layout) (edges : List Edge) (rest : List (LegKey × List ℕ)) → edges ≡ [] → rest ≡ finite.entries table → Goes known edges rest order world tt
     unfolding edges_of
-    begins table read edges rest none all =
+    begins table read known edges rest none all =
         let same : table ≡ legs_there = same_Some table legs_there (sym read ∙ given) in
         let listed_there : rest ≡ filter (is_of_order order) (finite.entries (rows_of world).legs) = all ∙ ap finite.entries same ∙ entries-passing (is_of_order order) (rows_of world).legs in (
-          ap₂ (λ (es : List Edge) l. es ++ filter_map (edge_at world) l) none listed_there,
+          λ _. ap₂ (λ (es : List Edge) l. es ++ filter_map (edge_at world) l) none listed_there,
           subst (AllByRecursion (IsKnown world)) (sym listed_there)
               (all-filter (IsKnown world) (is_of_order order) (finite.entries (rows_of world).legs)
               (all_of _ (IsKnown world) (λ e at. let its = leg_value world lawful good e.0 e.1 at in (its.2, its.3)) (finite.entries (rows_of world).legs) (entries_found leg_cmp-total (rows_of world).legs))),
@@ -248,28 +250,31 @@ module _ (world : World) (lawful : IsLawful desk_seats world) (good : InGoodOrde
 
 -- ---- one edge after the other
 
--- the edge of the next row
-pub goes_on : (world : World) (order : List ℕ) (edges : List Edge) (rest : List (LegKey × List ℕ)) (leg : LegKey × List ℕ) (more : List (LegKey × List ℕ)) (ends : EdgeEnds) (now : List Edge)
-    → Goes edges rest order world tt → rest ≡ leg ∷ more → Some ends ≡ finite.get world.layout.edges leg.1 → now ≡ edges ++ edge_of leg.1 ends ∷ [] → Goes now more order world tt
-goes_on world order edges rest leg more ends now goes next there pushed =
-    let all = subst (λ l. Goes edges l order world tt) next goes in (
-      ap (λ es. es ++ filter_map (edge_at world) more) pushed
-          ∙ append_assoc edges (edge_of leg.1 ends ∷ []) (filter_map (edge_at world) more)
-          ∙ ap (λ (o : Option Edge). edges ++ cons_option o (filter_map (edge_at world) more)) (ap (option_map (edge_of leg.1)) there)
-          ∙ all.0,
-      all.1.1,
+module _ (known : Option Layout) (world : World) (order : List ℕ) (edges : List Edge) (rest : List (LegKey × List ℕ)) (goes : Goes known edges rest order world tt) where
+  module _ (leg : LegKey × List ℕ) (more : List (LegKey × List ℕ)) (next : rest ≡ leg ∷ more) where
+    goes_next : Goes known edges (leg ∷ more) order world tt
+    goes_next = subst (λ l. Goes known edges l order world tt) next goes
+
+    -- the edge of the next row
+    pub goes_on : (edge : Edge) (now : List Edge) → (AgreesWith known world → Some edge ≡ edge_at world leg) → now ≡ edges ++ edge ∷ [] → Goes known now more order world tt
+    goes_on edge now there pushed = (
+      λ agrees.
+          ap (λ es. es ++ filter_map (edge_at world) more) pushed
+          ∙ append_assoc edges (edge ∷ []) (filter_map (edge_at world) more)
+          ∙ ap (λ (o : Option Edge). edges ++ cons_option o (filter_map (edge_at world) more)) (there agrees)
+          ∙ goes_next.0 agrees,
+      goes_next.1.1,
     )
 
--- the layout has it
-pub goes_known : (world : World) (order : List ℕ) (edges : List Edge) (rest : List (LegKey × List ℕ)) (leg : LegKey × List ℕ) (more : List (LegKey × List ℕ)) → Goes edges rest order world tt → rest ≡ leg ∷ more → ¬ (None ≡ finite.get world.layout.edges leg.1)
-goes_known world order edges rest leg more goes next none =
-    let all = subst (λ l. Goes edges l order world tt) next goes in
-    let wrong : ◌≡◌ {A = Option EdgeEnds} None (Some all.1.0.0) = none ∙ all.1.0.1 in
-    cc wrong
+    -- the layout has it
+    pub goes_known : ¬ (None ≡ finite.get world.layout.edges leg.1)
+    goes_known none =
+        let wrong : ◌≡◌ {A = Option EdgeEnds} None (Some goes_next.1.0.0) = none ∙ goes_next.1.0.1 in
+        cc wrong
 
--- the way is at its end
-pub goes_all : (world : World) (order : List ℕ) (edges : List Edge) (rest : List (LegKey × List ℕ)) → Goes edges rest order world tt → rest ≡ [] → edges ≡ edges_of (tables_of (rows_of world)) order
-goes_all world order edges rest goes none = sym (append-nil edges) ∙ (subst (λ l. Goes edges l order world tt) none goes).0
+  -- the way is at its end
+  pub goes_all : rest ≡ [] → AgreesWith known world → edges ≡ edges_of (tables_of (rows_of world)) order
+  goes_all none agrees = sym (append-nil edges) ∙ (subst (λ l. Goes known edges l order world tt) none goes).0 agrees
 
 -- ---- what is told of the journey
 

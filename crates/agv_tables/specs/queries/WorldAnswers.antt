@@ -1,9 +1,10 @@
 -- What a query of the desk's tables gives: what a lawful world says, where the tables have its rows; and what it leaves, whatever the database has.
-use Rattle.std.specs.Prelude.{◌≡◌, ◌⊎◌, false, Result, IfOk, IfErr, OnOk, OnErr, IsTrue}
+use Rattle.std.specs.Prelude.{◌≡◌, ◌⊎◌, false, Option, None, Some, Result, IfOk, IfErr, OnOk, OnErr, IsTrue}
 use Rattle.sqlite_trees.specs.declared.store.Store.{Ghosts}
 use Rattle.sqlite.specs.Effect.{Database}
 use Rattle.sqlite.specs.Held.{Held, state}
 use Rattle.sqlite.specs.State.{HasCleanDisk, IsUnchanged, IsRolledBack, Survives}
+use Rattle.agv_layout.specs.Layout.{Layout}
 use Rattle.agv_world.specs.Lawful.{IsLawful}
 use Rattle.agv_world.specs.Worlds.{World}
 use Rattle.agv_tables.specs.rows.DeskRows.{Placing, IsDesk}
@@ -22,6 +23,11 @@ pub record HasWorld (desk : Placing) (db : Database) (world : World) : Type 0 wh
 -- the database has the rows of no lawful world
 abbrev pub HasNoWorld : Database → Type 0
 HasNoWorld db = (desk : Placing) (world : World) → ¬ HasWorld desk db world
+
+-- a layout that is given is the world's
+abbrev pub AgreesWith : Option Layout → World → Type 0
+AgreesWith None world = Unit {0}
+AgreesWith (Some layout) world = layout ≡ world.layout
 
 module _ {S A : Type 0} (g : Ghosts S) (old new : Held S) (result : Result A ReadingFault) (says : World → A → Type 0) where
   -- how a query of the tables ends: it answers what the world says, or fails

@@ -1,6 +1,7 @@
 //! Queries of the tables about loads and live jobs: how many there are, the live job of a load, and the room of a station.
 //!
-//! Each answers what the lawful world says whose rows the tables have (`specs/queries/WorldAnswers.antt`).
+//! Each answers what the lawful world says whose rows the tables have (`specs/queries/WorldAnswers.antt`), where a layout that
+//! is given is that of this world.
 ghost use Rattle.std.specs.Prelude.{◌≡◌, ◌&&◌, true, length, nat_eq, count_by, find};
 ghost use Rattle.std.specs.Cmp.Lexicographic.{pointwise};
 ghost use Rattle.std.specs.FinMap as map;
@@ -12,10 +13,11 @@ ghost use Rattle.agv_world.specs.Questions.{job_of, loads_at, loads_on, reserved
 ghost use Rattle.agv_tables.specs.queries.QueriedRows.{is_in_phase, name_and_phase};
 ghost use Rattle.agv_tables.specs.rows.Columns.{job_in};
 ghost use Rattle.agv_tables.specs.queries.FirstRow.{first_key_in};
-ghost use Rattle.agv_tables.specs.queries.WorldAnswers.{AnswersQuery};
+ghost use Rattle.agv_tables.specs.queries.WorldAnswers.{AgreesWith, AnswersQuery};
 
 use crate::ReadingFault;
 use crate::queries::key_queries::query_station;
+use crate::queries::known_layout::known_station;
 use crate::queries::queried_rows::query_rows_by;
 use crate::rows::decode_row::decode_job;
 use crate::rows::key_values::{name_key_values, vehicle_key_values};
@@ -23,6 +25,7 @@ use crate::rows::row_values::name_value;
 use crate::rows::rows_by::RowsBy;
 use crate::rows::words::phase_text;
 use agv_header::{Name, VehicleKey};
+use agv_layout::Layout;
 use agv_stock::{Phase, room_left};
 use sqlite::types::{ToSql, ValueRef};
 use sqlite::{Alter, Connection, Row};
@@ -143,15 +146,21 @@ fn query_room_left<S: Alter>(
     Ok(room_left(capacity, loads, jobs))
 }
 
-/// How many loads more fit at a station; none where it is unknown.
+/// How many loads more fit at a station; none where it is unknown. Where a layout is given that is the world's, it says how
+/// many fit in all, and the station isn't asked for.
 ///
 /// It fails as [`ReadingFault`] says.
 pub fn query_room<S: Alter>(
     conn: &mut Connection<S>,
+    known: &Option<Layout>,
     station: &Name,
 ) -> Result<Option<u32>, ReadingFault>
-    ensures { AnswersQuery S.Store conn.old conn.new result (λ world room. room ≡ room_at world station.now) }
+    ensures { AnswersQuery S.Store conn.old conn.new result (λ world room. AgreesWith known.now world → room ≡ room_at world station.now) }
 {
+    if let Some(site) = known_station(known, *station) {
+        let room = query_room_left(conn, station, site.capacity)?;
+        return Ok(Some(room));
+    }
     let site = query_station(conn, station)?;
     match site {
         None => Ok(None),

@@ -1,6 +1,8 @@
 //! The open trip of a vehicle, asked of the tables: its journey, its acts with the rows of their jobs, and its edges.
+//! Where the layout is known, it says where an edge leads, and the table of edges is asked only for one that it lacks.
 //!
-//! Each query answers what the lawful world says whose rows the tables have (`specs/queries/WorldAnswers.antt`).
+//! Each query answers what the lawful world says whose rows the tables have (`specs/queries/WorldAnswers.antt`), where a
+//! layout that is given is that of this world.
 ghost use Rattle.std.specs.Prelude.{◌≡◌, Some, filter};
 ghost use Rattle.std.specs.FinMap as map;
 ghost use Rattle.agv_trip_rows.specs.TripRows.{acts_of, is_of};
@@ -11,10 +13,11 @@ ghost use Rattle.agv_world.specs.Told.{edges_of};
 ghost use Rattle.agv_tables.specs.rows.Columns.{journey_in};
 ghost use Rattle.agv_tables.specs.queries.FirstRow.{first_whole_in};
 ghost use Rattle.agv_tables.specs.rows.DecodedTrips.{journey_for, tables_of, told_by_journey};
-ghost use Rattle.agv_tables.specs.queries.WorldAnswers.{AnswersQuery};
+ghost use Rattle.agv_tables.specs.queries.WorldAnswers.{AgreesWith, AnswersQuery};
 
 use crate::ReadingFault;
 use crate::queries::key_queries::{query_edge, query_job};
+use crate::queries::known_layout::known_edge;
 use crate::queries::queried_rows::query_rows_by;
 use crate::readings::row_tables::{acts_in_rows, legs_in_rows};
 use crate::rows::decode_row::decode_journey;
@@ -22,7 +25,7 @@ use crate::rows::key_values::{name_key_values, vehicle_key_values};
 use crate::rows::rows_by::RowsBy;
 use crate::rows::trip_laws::rows_tell_trips;
 use agv_header::{Name, VehicleKey};
-use agv_layout::Edge;
+use agv_layout::{Edge, Layout};
 use agv_message::Sequence;
 use agv_order::{Act, Trip};
 use agv_trip_rows::JourneyRow;
@@ -85,17 +88,22 @@ fn query_acts<S: Alter>(
 fn query_way<S: Alter>(
     alloc: Global,
     conn: &mut Connection<S>,
+    known: &Option<Layout>,
     order: &Name,
 ) -> Result<Sequence<Edge>, ReadingFault>
-    ensures { AnswersQuery S.Store conn.old conn.new result (λ world edges. edges ≡ edges_of (tables_of (rows_of world)) order.now) }
+    ensures { AnswersQuery S.Store conn.old conn.new result (λ world edges. AgreesWith known.now world → edges ≡ edges_of (tables_of (rows_of world)) order.now) }
 {
     is_in_good_order();
     let rows = query_rows_by(conn, RowsBy::OrderLegs, &name_key_values(order))?;
     let legs = legs_in_rows(alloc, rows.as_slice())?;
     let mut edges = Vec::new(alloc);
     for (_, id) in legs.iter() {
-        let known = query_edge(conn, id)?;
-        match known {
+        if let Some(edge) = known_edge(known, *id) {
+            edges.push(edge)?;
+            continue;
+        }
+        let found = query_edge(conn, id)?;
+        match found {
             None => return Err(ReadingFault::Damaged),
             Some(ends) => edges.push(Edge {
                 id: *id,
@@ -111,13 +119,14 @@ fn query_way<S: Alter>(
 fn query_told_trip<S: Alter>(
     alloc: Global,
     conn: &mut Connection<S>,
+    known: &Option<Layout>,
     journey: &(Name, JourneyRow),
 ) -> Result<Trip, ReadingFault>
-    ensures { AnswersQuery S.Store conn.old conn.new result (λ world trip. told_by_journey (rows_of world) journey.now ≡ Some trip) }
+    ensures { AnswersQuery S.Store conn.old conn.new result (λ world trip. AgreesWith known.now world → told_by_journey (rows_of world) journey.now ≡ Some trip) }
 {
     let (order, journey) = journey;
     let acts = query_acts(alloc, conn, order)?;
-    let edges = query_way(alloc, conn, order)?;
+    let edges = query_way(alloc, conn, known, order)?;
     Ok(Trip {
         order: *order,
         vehicle: journey.vehicle,
@@ -132,22 +141,24 @@ fn query_told_trip<S: Alter>(
     })
 }
 
-/// The open trip of a vehicle, with its edges and its acts; none where it has none, or there is no such vehicle.
+/// The open trip of a vehicle, with its edges and its acts; none where it has none, or there is no such vehicle. Where a
+/// layout is given that is the world's, it says where the edges lead, and they aren't asked for.
 ///
 /// It fails as [`ReadingFault`] says.
 pub fn query_trip<S: Alter>(
     alloc: Global,
     conn: &mut Connection<S>,
+    known: &Option<Layout>,
     key: &VehicleKey,
 ) -> Result<Option<Trip>, ReadingFault>
-    ensures { AnswersQuery S.Store conn.old conn.new result (λ world trip. trip ≡ trip_of world key.now) }
+    ensures { AnswersQuery S.Store conn.old conn.new result (λ world trip. AgreesWith known.now world → trip ≡ trip_of world key.now) }
 {
     rows_tell_trips();
     let journey = query_journey(conn, key)?;
     match journey {
         None => Ok(None),
         Some(journey) => {
-            let trip = query_told_trip(alloc, conn, &journey)?;
+            let trip = query_told_trip(alloc, conn, known, &journey)?;
             Ok(Some(trip))
         }
     }

@@ -1,8 +1,17 @@
-use Rattle.agv_store.proofs.Asked.{asked_asks, asked_kept}
+use Rattle.std.proofs.Common.{◌≡◌, Some, ap, sym, ◌∙◌}
+use Rattle.agv_layout.specs.Layout.{Layout}
+use Rattle.agv_world.specs.Questions.{layout_set}
+use Rattle.agv_tables.specs.sql.Connections.{IsClean, IsOpen}
+use Rattle.agv_store.specs.Floors.{world_at}
+use Rattle.agv_store.proofs.Asked.{answered_open}
+use Rattle.agv_store.proofs.KeptLayout.{if_some}
 use Rattle.agv_store.proofs.floor_questions.KeyedFloorFloor.layout.Goals as goal
 
-pub invariant_of-self : goal.invariant_of-self
-invariant_of-self g c = asked_kept g.S.Store c.self.inside.conn c.query_layout-asked.new.conn c.self.inside.counts c.self.inside.failed c.self.inside.in_doubt c.self.invariant c.query_layout-asked.result _ c.query_layout-asked.ensures c.note.new.failed c.note.new.in_doubt c.note.ensures.failed c.note.ensures.in_doubt
+pub returns-in-Some : goal.returns-in-Some
+returns-in-Some g c =
+    answered_open g.S.Store c.args.self.now c.settle.new.self c.in_ok-settle.ensures.asks c.in_ok-settle.ensures.knows
+    (if_some (λ (layout : Layout). IsClean g.S.Store c.args.self.now.held → IsOpen g.S.Store c.args.self.now.held → Some layout ≡ layout_set (world_at g.S.Store c.args.self.now.held))
+    c.in_ok-kept.kept c.in-Some.kept c.in-Some.is c.in_ok-kept.ensures)
 
-pub returns : goal.returns
-returns g c = asked_asks g.S.Store c.self.inside.conn c.query_layout-asked.new.conn c.self.inside.counts c.self.inside.failed c.self.inside.in_doubt c.self.invariant c.query_layout-asked.result _ c.query_layout-asked.ensures c.note.new.failed c.args.self.now c.self.view_is c.note.result c.note.ensures.is c.note.ensures.failed
+pub keep_layout-requires : goal.keep_layout-requires
+keep_layout-requires g c clean _ = c.in_ok-layout.ensures.told clean ∙ ap layout_set (sym (c.in_ok-layout.ensures.world clean))

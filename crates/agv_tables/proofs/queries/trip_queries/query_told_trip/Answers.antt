@@ -15,4 +15,4 @@ pub returns : goal.returns
 returns g c =
     then_follows g.S.Store c.args.conn.now c.query_acts.new.conn c.query_way.new.conn c.in_ok-acts.acts _ c.in_ok-acts.ensures
     c.in_ok-edges.edges _ _ (Ok _)
-    (λ world lawful one two. told_journey world c.args.journey.now c.in_ok-acts.acts c.in_ok-edges.edges one two) c.in_ok-edges.ensures
+    (λ world lawful one two agrees. told_journey world c.args.journey.now c.in_ok-acts.acts c.in_ok-edges.edges one (two agrees)) c.in_ok-edges.ensures

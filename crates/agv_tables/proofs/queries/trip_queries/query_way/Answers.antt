@@ -1,5 +1,7 @@
-use Rattle.std.proofs.Common.{Err, Ok, refl, sym, subst, ◌∙◌, ℕ, List}
+use Rattle.std.proofs.Common.{Err, Ok, ap, refl, sym, subst, ◌∙◌, ℕ, List}
 use Rattle.std.specs.FinMap as map
+use Rattle.std.specs.Option.{option_map}
+use Rattle.agv_layout.specs.Layout.{edge_of}
 use Rattle.agv_world.specs.Keys.{leg_cmp}
 use Rattle.agv_tables.specs.rows.Columns.{leg_in}
 use Rattle.agv_tables.specs.readings.ReadTables.{Reads, read_rows}
@@ -29,30 +31,42 @@ loop-id-init g c =
     follows g.S.Store c.args.conn.now c.query_rows_by.new.conn c.in_ok-rows.rows _ _ (Ok tt)
     (λ world lawful shown. begins world lawful (c.is_in_good_order.ensures desk_seats world lawful) c.args.order.now _ c.name_key_values.ensures c.in_ok-rows.rows.items shown c.in_ok-legs.legs
     (subst (λ rows. Reads {A = map.FinMap leg_cmp (List ℕ)} (Ok c.in_ok-legs.legs) (read_rows leg_in map.empty rows)) c.as_slice.ensures.value c.in_ok-legs.ensures)
-    _ _ c.new-edges.ensures.items (c.into_iter-id-iterator.ensures.into_iter_gives ∙ c.iter-id-items.ensures))
+    c.args.known.now _ _ c.new-edges.ensures.items (c.into_iter-id-iterator.ensures.into_iter_gives ∙ c.iter-id-items.ensures))
     c.in_ok-rows.ensures
+
+pub loop-id-preserved-in-Some-known_edge : goal.loop-id-preserved-in-Some-known_edge
+loop-id-preserved-in-Some-known_edge g c =
+    follows g.S.Store c.args.conn.now c.loop-id.conn tt _ _ (Ok tt)
+    (λ world lawful goes. goes_on c.args.known.now world c.args.order.now c.loop-id.edges.items c.loop-id.id-iterator goes _ _ c.in-Some.ensures.steps _ _
+    (c.in-Some-known_edge.ensures.agrees world) c.in_ok-push.ensures.items) c.loop-id.invariant
 
 pub loop-id-preserved : goal.loop-id-preserved
 loop-id-preserved g c =
-    then_follows g.S.Store c.args.conn.now c.loop-id.conn c.query_edge.new.conn tt _ c.loop-id.invariant c.in_ok-known.known _ _ (Ok tt)
-    (λ world lawful goes is. goes_on world c.args.order.now c.loop-id.edges.items c.loop-id.id-iterator _ _ c.in-Some-known.ends _ goes c.in-Some.ensures.steps (sym c.in-Some-known.is ∙ is) c.in_ok-push-in-Some-known.ensures.items) c.in_ok-known.ensures
+    then_follows g.S.Store c.args.conn.now c.loop-id.conn c.query_edge.new.conn tt _ c.loop-id.invariant c.in_ok-found.found _ _ (Ok tt)
+    (λ world lawful goes is. goes_on c.args.known.now world c.args.order.now c.loop-id.edges.items c.loop-id.id-iterator goes _ _ c.in-Some.ensures.steps (edge_of _ c.in-Some-found.ends) _
+    (λ _. ap (option_map (edge_of _)) (sym c.in-Some-found.is ∙ is)) c.in_ok-push-in-Some-found.ensures.items) c.in_ok-found.ensures
 
-pub returns-in_err-known : goal.returns-in_err-known
-returns-in_err-known g c =
+pub returns-in_err-push : goal.returns-in_err-push
+returns-in_err-push g c =
+    follows g.S.Store c.args.conn.now c.loop-id.conn tt _ _ c.from_residual-in_err-push.result
+    (λ world lawful goes. runs_short c.from_residual-in_err-push.result c.from_residual-in_err-push.ensures.1 _) c.loop-id.invariant
+
+pub returns-in_err-found : goal.returns-in_err-found
+returns-in_err-found g c =
     then_passes g.S.Store c.args.conn.now c.loop-id.conn c.query_edge.new.conn tt _ c.loop-id.invariant
-    c.in_err-known.field-0.0 _ _ c.from_residual-in_err-known.result c.from_residual-in_err-known.ensures.1 c.in_err-known.ensures
+    c.in_err-found.field-0.0 _ _ c.from_residual-in_err-found.result c.from_residual-in_err-found.ensures.1 c.in_err-found.ensures
 
-pub returns-in-None-known : goal.returns-in-None-known
-returns-in-None-known g c =
-    then_follows g.S.Store c.args.conn.now c.loop-id.conn c.query_edge.new.conn tt _ c.loop-id.invariant c.in_ok-known.known _ _ (Err _)
-    (λ world lawful goes is. absurd (goes_known world c.args.order.now c.loop-id.edges.items c.loop-id.id-iterator _ _ goes c.in-Some.ensures.steps (sym c.in-None-known.is ∙ is))) c.in_ok-known.ensures
+pub returns-in-None-found : goal.returns-in-None-found
+returns-in-None-found g c =
+    then_follows g.S.Store c.args.conn.now c.loop-id.conn c.query_edge.new.conn tt _ c.loop-id.invariant c.in_ok-found.found _ _ (Err _)
+    (λ world lawful goes is. absurd (goes_known c.args.known.now world c.args.order.now c.loop-id.edges.items c.loop-id.id-iterator goes _ _ c.in-Some.ensures.steps (sym c.in-None-found.is ∙ is))) c.in_ok-found.ensures
 
-pub returns-in_err-push-in-Some-known : goal.returns-in_err-push-in-Some-known
-returns-in_err-push-in-Some-known g c =
-    then_follows g.S.Store c.args.conn.now c.loop-id.conn c.query_edge.new.conn tt _ c.loop-id.invariant c.in_ok-known.known _ _ c.from_residual-in_err-push-in-Some-known.result
-    (λ world lawful goes is. runs_short c.from_residual-in_err-push-in-Some-known.result c.from_residual-in_err-push-in-Some-known.ensures.1 _) c.in_ok-known.ensures
+pub returns-in_err-push-in-Some-found : goal.returns-in_err-push-in-Some-found
+returns-in_err-push-in-Some-found g c =
+    then_follows g.S.Store c.args.conn.now c.loop-id.conn c.query_edge.new.conn tt _ c.loop-id.invariant c.in_ok-found.found _ _ c.from_residual-in_err-push-in-Some-found.result
+    (λ world lawful goes is. runs_short c.from_residual-in_err-push-in-Some-found.result c.from_residual-in_err-push-in-Some-found.ensures.1 _) c.in_ok-found.ensures
 
 pub returns : goal.returns
 returns g c =
     follows g.S.Store c.args.conn.now c.loop-id.conn tt _ _ (Ok c.from.result)
-    (λ world lawful goes. c.from.ensures ∙ goes_all world c.args.order.now c.loop-id.edges.items c.loop-id.id-iterator goes c.in-None.ensures.steps.0) c.loop-id.invariant
+    (λ world lawful goes agrees. c.from.ensures ∙ goes_all c.args.known.now world c.args.order.now c.loop-id.edges.items c.loop-id.id-iterator goes c.in-None.ensures.steps.0 agrees) c.loop-id.invariant

@@ -5,4 +5,4 @@ use Rattle.agv_tables.proofs.queries.trip_queries.query_way.Given as goal
 
 -- the edges so far, and those of what is left, are all
 abbrev pub invariant-loop-id : goal.invariant-loop-id
-invariant-loop-id g l = AnswersQuery g.S.Store l.fn.conn l.conn (Ok tt) (Goes l.edges.items l.id-iterator l.order)
+invariant-loop-id g l = AnswersQuery g.S.Store l.fn.conn l.conn (Ok tt) (Goes l.known l.edges.items l.id-iterator l.order)
