@@ -1,5 +1,5 @@
 -- What is found in a database where a desk is looked for: the rows of a lawful world, or those of none.
-use Rattle.std.proofs.Common.{◌≡◌, ◌↔◌, ◌∙◌, Bool, true, false, List, [], ◌∷◌, map, Ok, Err, Result, refl, sym, ap, subst}
+use Rattle.std.proofs.Common.{◌≡◌, ◌↔◌, ◌∙◌, Bool, true, false, List, [], ◌∷◌, map, Option, Ok, Err, Result, refl, sym, ap, subst}
 use Rattle.std.specs.List.{AllByRecursion, AllZip}
 use Rattle.std.specs.Result.{IsErrAnd}
 use Rattle.std.proofs.lemmas.Bool.{both_ways}
@@ -8,16 +8,17 @@ use Rattle.sqlite_value.specs.Order.{Row}
 use Rattle.sqlite_trees.specs.declared.store.Store.{Ghosts}
 use Rattle.sqlite.specs.Effect.{Database, IsDatabase}
 use Rattle.sqlite.specs.Held.{Held, state}
+use Rattle.agv_layout.specs.Layout.{Layout}
 use Rattle.agv_track.specs.Holds.{Holds as Holders}
 use Rattle.agv_world.specs.Kept.{Keeps}
 use Rattle.agv_world.specs.Lawful.{IsLawful}
-use Rattle.agv_world.specs.Questions.{count_of}
+use Rattle.agv_world.specs.Questions.{count_of, layout_set}
 use Rattle.agv_world.specs.Rows.{rows_of}
 use Rattle.agv_world.specs.Told.{world_of}
 use Rattle.agv_world.specs.Worlds.{World}
 use Rattle.agv_world.specs.declared.floor.Counted.{Counted}
 use Rattle.agv_world.specs.declared.world.World.{World as Tables}
-use Rattle.agv_tables.specs.queries.WorldAnswers.{HasNoWorld, HasWorld, AnswersQuery}
+use Rattle.agv_tables.specs.queries.WorldAnswers.{AgreesWith, HasNoWorld, HasWorld, AnswersQuery}
 use Rattle.agv_tables.specs.readings.Rowids.{AreTablesKeyed, TellsKeyed}
 use Rattle.agv_tables.specs.readings.TablesRead.{HaveAll, TellsAll}
 use Rattle.agv_tables.specs.readings.WorldIn.{world_in}
@@ -38,6 +39,7 @@ use Rattle.agv_store.specs.declared.counts.Counts.{Counts}
 use Rattle.agv_store.specs.declared.open_fault.OpenFault.{OpenFault}
 use Rattle.agv_store.specs.declared.open_fault.OpenFault.TheVariants as fault
 use Rattle.agv_store.proofs.Asked.{asked_by, asked_then, clean_before, knows_still}
+use Rattle.agv_store.proofs.KeptLayout.{GivesItself, NeedsANode, agrees_set}
 
 -- ---- the laws of tables, as the readings say them
 
@@ -79,8 +81,8 @@ AreLawful tables holds = (world : World) × Keeps tables world × IsLawful desk_
 module _ {S : Type 0} (g : Ghosts S) where
   -- ---- a look that ends without a desk
 
-  finds_none : (old new : Held S) (r : Result Counts OpenFault) (why : OpenFault) → IsErrAnd r (λ made. made ≡ why) → (IsClean g new → why ≡ fault.Damaged → HasNoWorld (state g old).now) → IsAsked g old new → Finds g old new r
-  finds_none old new (Ok counts) why is none asked = absurd is
+  finds_none : (old new : Held S) (r : Result (Counts × Option Layout) OpenFault) (why : OpenFault) → IsErrAnd r (λ made. made ≡ why) → (IsClean g new → why ≡ fault.Damaged → HasNoWorld (state g old).now) → IsAsked g old new → Finds g old new r
+  finds_none old new (Ok found) why is none asked = absurd is
   finds_none old new (Err made) why is none asked = record { found = λ _. tt; damaged = λ clean damaged. none clean (sym is ∙ damaged); asked = asked }
 
   -- ---- each row has a key of its own
@@ -97,7 +99,7 @@ module _ {S : Type 0} (g : Ghosts S) where
     asked_keys = asked_by g old mid (Ok yes) (λ world keyed. keyed ≡ true) asked
 
     -- the reading failed
-    pub finds_fault_then : {A : Type 0} (r : Result Counts OpenFault) (why : ReadingFault) (says : World → A → Type 0) → IsErrAnd r (λ made. made ≡ of_reading why) → AnswersQuery g mid new (Err why) says → Finds g old new r
+    pub finds_fault_then : {A : Type 0} (r : Result (Counts × Option Layout) OpenFault) (why : ReadingFault) (says : World → A → Type 0) → IsErrAnd r (λ made. made ≡ of_reading why) → AnswersQuery g mid new (Err why) says → Finds g old new r
     finds_fault_then r why says made tells =
         let later = asked_by g mid new (Err why) says tells in
         finds_none old new r (of_reading why) made
@@ -116,7 +118,7 @@ module _ {S : Type 0} (g : Ghosts S) where
       clean_mid = clean_before g mid new later
 
       -- memory ran out after the reading
-      pub finds_no_memory : (r : Result Counts OpenFault) → IsErrAnd r (λ made. made ≡ fault.Memory) → Finds g old new r
+      pub finds_no_memory : (r : Result (Counts × Option Layout) OpenFault) → IsErrAnd r (λ made. made ≡ fault.Memory) → Finds g old new r
       finds_no_memory r made = finds_none old new r fault.Memory made (λ clean damaged. absurd (cc damaged)) asked_both
 
       none_lawful : (AreLawful tables holds → ⊥) → IsClean g new → HasNoWorld (state g old).now
@@ -154,12 +156,14 @@ module _ {S : Type 0} (g : Ghosts S) where
               let knew : Knows g old world = record { is_open = was_open; idle = idle; settled = rested; listed = live was_open; at = stand.0; has = has_world clean } in
               subst (λ (w : World). Knows g new w) (sym (world_is clean rested)) (knows_still g old new asked_both clean (opens clean).1 world knew)
 
-          pub finds_desk : world_of tables ≡ world → (counts : Counts) → ((what : Counted) → count_in counts what ≡ count_of (world_of tables) what) → Finds g old new (Ok counts)
-          finds_desk told counts counted = record {
+          pub finds_desk : world_of tables ≡ world → (counts : Counts) → ((what : Counted) → count_in counts what ≡ count_of (world_of tables) what)
+              → GivesItself → NeedsANode → (layout : Option Layout) → layout ≡ layout_set (world_of tables) → Finds g old new (Ok (counts, layout))
+          finds_desk told counts counted gives needs layout is_set = record {
             found = λ clean. (
               (opens clean).0,
               knows clean,
               λ what. counted what ∙ ap (λ (w : World). count_of w what) (told ∙ sym (world_is clean (sym (settled (opens clean).0)))),
+              subst (AgreesWith layout) (sym (world_is clean (sym (settled (opens clean).0)))) (agrees_set gives needs world lawful.vehicles.laid layout (is_set ∙ ap layout_set told)),
             );
             damaged = λ _. tt;
             asked = asked_both;

@@ -5,6 +5,7 @@ mod Crashes
 mod Deciding
 mod Found
 mod InTurn
+mod KeptLayout
 mod Moving
 mod ReportLists
 mod Reporting

@@ -1,15 +1,16 @@
 -- The move of a database from the first schema: what is found there, and what the desk knows after it.
-use Rattle.std.proofs.Common.{◌≡◌, ◌⊎◌, ◌↔◌, ◌∙◌, ℕ, inl, inr, IsTrue, Ok, Err, Result, Bool, true, false, true≢false, refl, sym, ap, subst}
+use Rattle.std.proofs.Common.{◌≡◌, ◌⊎◌, ◌↔◌, ◌∙◌, ℕ, inl, inr, IsTrue, Option, Ok, Err, Result, Bool, true, false, true≢false, refl, sym, ap, subst}
 use Rattle.std.specs.Result.{IsErrAnd}
 use Rattle.sqlite.proofs.StateLemmas.{survives_then}
 use Rattle.sqlite_trees.specs.declared.store.Store.{Ghosts}
 use Rattle.sqlite.specs.Effect.{Database}
 use Rattle.sqlite.specs.Held.{Held, state}
 use Rattle.sqlite.specs.State.{IsUnchanged, IsRolledBack, Survives}
+use Rattle.agv_layout.specs.Layout.{Layout}
 use Rattle.agv_world.specs.GoodOrder.{InGoodOrder}
 use Rattle.agv_world.specs.Kept.{Keeps}
 use Rattle.agv_world.specs.Lawful.{IsLawful}
-use Rattle.agv_world.specs.Questions.{count_of}
+use Rattle.agv_world.specs.Questions.{count_of, layout_set}
 use Rattle.agv_world.specs.Told.{world_of}
 use Rattle.agv_world.specs.Worlds.{World}
 use Rattle.agv_world.specs.declared.floor.Counted.{Counted}
@@ -17,6 +18,7 @@ use Rattle.agv_world.specs.declared.world.World.{World as Tables}
 use Rattle.agv_tables.specs.first_schema.FirstFound.{FindsFirst}
 use Rattle.agv_tables.specs.first_schema.Moved.{CanBeAdded, LeavesMoved, MovesTables, MovesWorld}
 use Rattle.agv_tables.proofs.sql.Later.{later_by}
+use Rattle.agv_tables.specs.queries.WorldAnswers.{AgreesWith}
 use Rattle.agv_tables.specs.sql.Connections.{IsClean, IsOpen}
 use Rattle.agv_tables.specs.declared.queries.reading_fault.ReadingFault.{ReadingFault}
 use Rattle.agv_tables.specs.declared.schema.making_fault.MakingFault.{MakingFault}
@@ -30,6 +32,7 @@ use Rattle.agv_store.specs.declared.counts.Counts.{Counts}
 use Rattle.agv_store.specs.declared.open_fault.OpenFault.{OpenFault}
 use Rattle.agv_store.specs.declared.open_fault.OpenFault.TheVariants as fault
 use Rattle.agv_store.proofs.Found.{TellsItsWorld, read_damaged}
+use Rattle.agv_store.proofs.KeptLayout.{GivesItself, NeedsANode, agrees_set}
 
 -- ---- a refusal
 
@@ -103,7 +106,7 @@ module _ {S : Type 0} (g : Ghosts S) where
   }
 
   -- the reading failed
-  pub finds_fault : (old new : Held S) (r : Result (Tables × Counts) OpenFault) (why : ReadingFault) → IsErrAnd r (λ made. made ≡ of_reading why) → FindsFirst g old new (Err why) → FindsFirstDesk g old new r
+  pub finds_fault : (old new : Held S) (r : Result (Tables × Counts × Option Layout) OpenFault) (why : ReadingFault) → IsErrAnd r (λ made. made ≡ of_reading why) → FindsFirst g old new (Err why) → FindsFirstDesk g old new r
   finds_fault old new (Ok found) why made finds = absurd made
   finds_fault old new (Err told) why made finds = record {
     found = λ _. tt;
@@ -112,7 +115,7 @@ module _ {S : Type 0} (g : Ghosts S) where
   }
 
   -- memory ran out after it
-  pub finds_no_memory : (old new : Held S) (tables : Tables) (r : Result (Tables × Counts) OpenFault) → IsErrAnd r (λ made. made ≡ fault.Memory) → FindsFirst g old new (Ok tables) → FindsFirstDesk g old new r
+  pub finds_no_memory : (old new : Held S) (tables : Tables) (r : Result (Tables × Counts × Option Layout) OpenFault) → IsErrAnd r (λ made. made ≡ fault.Memory) → FindsFirst g old new (Ok tables) → FindsFirstDesk g old new r
   finds_no_memory old new tables (Ok found) made finds = absurd made
   finds_no_memory old new tables (Err told) made finds = record {
     found = λ _. tt;
@@ -125,13 +128,13 @@ module _ {S : Type 0} (g : Ghosts S) where
 
   -- the tables are those of a world
   pub finds_first : (old new : Held S) (tables : Tables) (counts : Counts) → FindsFirst g old new (Ok tables) → ((what : Counted) → count_in counts what ≡ count_of (world_of tables) what)
-      → TablesTell → LawfulIsInOrder → FindsFirstDesk g old new (Ok (tables, counts))
-  finds_first old new tables counts finds counted tell ordered = record {
+      → (layout : Option Layout) → layout ≡ layout_set (world_of tables) → GivesItself → NeedsANode → TablesTell → LawfulIsInOrder → FindsFirstDesk g old new (Ok (tables, counts, layout))
+  finds_first old new tables counts finds counted layout is_set gives needs tell ordered = record {
     found = λ clean.
         let told = finds.told clean in
         let same = tell tables told.1 told.3 (ordered 1 told.1 told.2.lawful) in
         let kept = (finds.kept clean).0 in
-        (kept.was_open, kept.is_open, (record { first = told.0; world = told.1; has = told.2 }, told.3, λ what. counted what ∙ ap (λ (w : World). count_of w what) same));
+        (kept.was_open, kept.is_open, (record { first = told.0; world = told.1; has = told.2 }, told.3, λ what. counted what ∙ ap (λ (w : World). count_of w what) same, agrees_set gives needs told.1 told.2.lawful.vehicles.laid layout (is_set ∙ ap layout_set same)));
     damaged = λ _. tt;
     asked = asked_first old new (Ok tables) finds;
   }
@@ -139,7 +142,7 @@ module _ {S : Type 0} (g : Ghosts S) where
   -- ---- the move
 
   -- the moments before, between the search and the move, and after; the search gave these tables and counts
-  module _ (old mid new : Held S) (tables : Tables) (counts : Counts) (finds : FindsFirstDesk g old mid (Ok (tables, counts)))
+  module _ (old mid new : Held S) (tables : Tables) (counts : Counts) (layout : Option Layout) (finds : FindsFirstDesk g old mid (Ok (tables, counts, layout)))
       (settled : IsOpen g old → (state g old).now ≡ (state g old).committed)
       (crash : Survives (state g mid) (state g new) (LeavesMoved tables (state g mid).now)) where
     clean_mid : IsClean g new → IsClean g mid
@@ -155,6 +158,9 @@ module _ {S : Type 0} (g : Ghosts S) where
 
     counted : (clean : IsClean g mid) (what : Counted) → count_in counts what ≡ count_of (had clean).world what
     counted clean = (finds.found clean).2.2
+
+    agreed : (clean : IsClean g mid) → AgreesWith layout (had clean).world
+    agreed clean = (finds.found clean).2.3
 
     moves_by : (clean : IsClean g mid) (then : Database) → MovesTables tables (state g mid).now then → MovesWorld (had clean).first (had clean).world (state g old).now then
     moves_by clean then moved =
@@ -189,22 +195,23 @@ module _ {S : Type 0} (g : Ghosts S) where
         told : (clean : IsClean g new) → world_at g new ≡ (had (clean_mid clean)).world
         told clean = let it = knows clean in tells_its_world it.at (state g new).now (had (clean_mid clean)).world it.has
 
-        pub moved_kept : IsKept g new counts false false
+        pub moved_kept : IsKept g new counts layout false false
         moved_kept = record {
           idle = idle;
           opens = λ clean _ _. (opens clean).1;
           knows = λ clean _. subst (λ (world : World). Knows g new world) (sym (told clean)) (knows clean);
           counted = λ clean _ what. counted (clean_mid clean) what ∙ ap (λ (w : World). count_of w what) (sym (told clean));
+          agrees = λ clean _. subst (AgreesWith layout) (sym (told clean)) (agreed (clean_mid clean));
         }
 
   -- the names of the three tables are not free, or a key refers to one of them
   abbrev Refused : MakingFault → Result (Unit {0}) MakingFault
   Refused why = Err why
 
-  pub none_added : (old mid new : Held S) (tables : Tables) (counts : Counts) → FindsFirstDesk g old mid (Ok (tables, counts)) → (IsOpen g old → (state g old).now ≡ (state g old).committed)
+  pub none_added : (old mid new : Held S) (tables : Tables) (counts : Counts) (layout : Option Layout) → FindsFirstDesk g old mid (Ok (tables, counts, layout)) → (IsOpen g old → (state g old).now ≡ (state g old).committed)
       → (why : MakingFault) (told : OpenFault) → told ≡ of_making why → (Refused why ≡ Refused making.Taken) ↔ (¬ CanBeAdded (state g mid).now.schema) → (Refused why ≡ Refused making.Taken → new ≡ mid)
       → IsClean g new → IsDamaged (refused new told) → CannotBeMigrated (state g old).now
-  none_added old mid new tables counts finds settled why told told_is taken unchanged clean is =
+  none_added old mid new tables counts layout finds settled why told told_is taken unchanged clean is =
       let named : Refused why ≡ Refused making.Taken = ap Refused (taken_only why (sym told_is ∙ damaged_only new told is)) in
       let early : IsClean g mid = subst (IsClean g) (unchanged named) clean in
       let found = finds.found early in
@@ -218,10 +225,10 @@ module _ {S : Type 0} (g : Ghosts S) where
   not_taken : (it : Unit {0}) (why : MakingFault) → Moved it ≡ Refused why → ⊥
   not_taken it why is = cc is
 
-  pub could_be_added : (old mid new : Held S) (tables : Tables) (counts : Counts) → FindsFirstDesk g old mid (Ok (tables, counts)) → (IsOpen g old → (state g old).now ≡ (state g old).committed)
+  pub could_be_added : (old mid new : Held S) (tables : Tables) (counts : Counts) (layout : Option Layout) → FindsFirstDesk g old mid (Ok (tables, counts, layout)) → (IsOpen g old → (state g old).now ≡ (state g old).committed)
       → Survives (state g mid) (state g new) (LeavesMoved tables (state g mid).now) → (it : Unit {0}) → (Moved it ≡ Refused making.Taken) ↔ (¬ CanBeAdded (state g mid).now.schema)
       → IsClean g new → CanBeAdded (state g old).now.schema
-  could_be_added old mid new tables counts finds settled crash it taken clean =
+  could_be_added old mid new tables counts layout finds settled crash it taken clean =
       let early : IsClean g mid = (later_by g mid new crash).clean clean in
       let found = finds.found early in
       let same = finds.asked.same early found.1 (sym (settled found.0)) in

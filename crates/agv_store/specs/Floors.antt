@@ -1,15 +1,16 @@
 -- What a desk is to its callers, and what it keeps true of its connection.
-use Rattle.std.specs.Prelude.{◌≡◌, Bool, false, refl}
+use Rattle.std.specs.Prelude.{◌≡◌, Bool, false, Option, refl}
 use Rattle.std.specs.Coded.{Coded, code_by, coded×, coded_bool}
 use Rattle.sqlite_trees.specs.declared.store.Store.{Ghosts}
 use Rattle.sqlite.specs.Effect.{IsDatabase}
 use Rattle.sqlite.specs.Held.{Held, held_code, state}
 use Rattle.sqlite.specs.State.{Survives}
+use Rattle.agv_layout.specs.Layout.{Layout}
 use Rattle.agv_world.specs.Asks.{Facts}
 use Rattle.agv_world.specs.Questions.{count_of}
 use Rattle.agv_world.specs.Worlds.{World}
 use Rattle.agv_world.specs.declared.floor.Counted.{Counted}
-use Rattle.agv_tables.specs.queries.WorldAnswers.{HasWorld}
+use Rattle.agv_tables.specs.queries.WorldAnswers.{AgreesWith, HasWorld}
 use Rattle.agv_tables.specs.readings.WorldIn.{world_in}
 use Rattle.agv_tables.specs.rows.DeskRows.{Placing}
 use Rattle.agv_tables.specs.schema.SchemaNumbers.{desk_seats}
@@ -47,7 +48,7 @@ module _ {S : Type 0} (g : Ghosts S) where
 
   -- ---- what it keeps true
 
-  pub record IsKept (held : Held S) (counts : Counts) (failed in_doubt : Bool) : Type 0 where
+  pub record IsKept (held : Held S) (counts : Counts) (layout : Option Layout) (failed in_doubt : Bool) : Type 0 where
     pub idle : held.in_transaction ≡ false
     -- it is open, unless a fault was noted that may have shut it
     pub opens : IsClean g held → failed ≡ false → in_doubt ≡ false → IsOpen g held
@@ -55,6 +56,8 @@ module _ {S : Type 0} (g : Ghosts S) where
     pub knows : IsClean g held → IsOpen g held → Knows held (world_at held)
     -- and the counts are those of this world
     pub counted : IsClean g held → IsOpen g held → (what : Counted) → count_in counts what ≡ count_of (world_at held) what
+    -- and a layout that is kept is this world's
+    pub agrees : IsClean g held → IsOpen g held → AgreesWith layout (world_at held)
 
   -- ---- it as a floor
 

@@ -1,6 +1,7 @@
 pub mod Counts
 pub mod Flags
 pub mod Floors
+pub mod KeptLayouts
 pub mod Migration
 pub mod OpenFaults
 pub mod Opening

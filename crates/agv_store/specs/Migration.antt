@@ -1,9 +1,10 @@
 -- What the move of a database from the first schema to the second gives.
-use Rattle.std.specs.Prelude.{◌≡◌, ◌⊎◌, Result, IfErr, IfOk}
+use Rattle.std.specs.Prelude.{◌≡◌, ◌⊎◌, Option, Result, IfErr, IfOk}
 use Rattle.sqlite_trees.specs.Tree.{Trees}
 use Rattle.sqlite_trees.specs.declared.store.Store.{Ghosts}
 use Rattle.sqlite.specs.Effect.{Database}
 use Rattle.sqlite.specs.Held.{Held, state}
+use Rattle.agv_layout.specs.Layout.{Layout}
 use Rattle.agv_world.specs.Kept.{Keeps}
 use Rattle.agv_world.specs.Questions.{count_of}
 use Rattle.agv_world.specs.Worlds.{World}
@@ -11,6 +12,7 @@ use Rattle.agv_world.specs.declared.floor.Counted.{Counted}
 use Rattle.agv_world.specs.declared.world.World.{World as Tables}
 use Rattle.agv_tables.specs.first_schema.FirstRows.{HasFirstWorld, HasNoFirstWorld}
 use Rattle.agv_tables.specs.first_schema.Moved.{CanBeAdded, MovesWorld}
+use Rattle.agv_tables.specs.queries.WorldAnswers.{AgreesWith}
 use Rattle.agv_tables.specs.rows.DeskRows.{Placing}
 use Rattle.agv_tables.specs.sql.Connections.{IsClean, IsOpen}
 use Rattle.agv_store.specs.Counts.{count_in}
@@ -44,9 +46,9 @@ module _ {S : Type 0} (g : Ghosts S) where
     pub moves : MovesWorld had.first had.world (state g old).now (state g desk.held).now
     pub knows : Knows g desk.held had.world
 
-  -- how it ends that the first schema's world is looked for in a database: with its tables and its counts; as damaged only where there is none
-  pub record FindsFirstDesk (old new : Held S) (result : Result (Tables × Counts) OpenFault) : Type 0 where
+  -- how it ends that the first schema's world is looked for in a database: with its tables, its counts and its layout; as damaged only where there is none
+  pub record FindsFirstDesk (old new : Held S) (result : Result (Tables × Counts × Option Layout) OpenFault) : Type 0 where
     pub found : IsClean g new
-        → IfOk result (λ desk. IsOpen g old × IsOpen g new × ((at : FirstFound (state g old).now) × Keeps desk.0 at.world × ((what : Counted) → count_in desk.1 what ≡ count_of at.world what)))
+        → IfOk result (λ desk. IsOpen g old × IsOpen g new × ((at : FirstFound (state g old).now) × Keeps desk.0 at.world × ((what : Counted) → count_in desk.1 what ≡ count_of at.world what) × AgreesWith desk.2 at.world))
     pub damaged : IsClean g new → IfErr result (λ why. why ≡ fault.Damaged → HasNoFirstWorld (state g old).now)
     pub asked : IsAsked g old new

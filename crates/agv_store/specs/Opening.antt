@@ -1,12 +1,13 @@
 -- What a desk is opened by: made in a database, or adopted from one.
-use Rattle.std.specs.Prelude.{◌≡◌, false, Result, Ok, Err, IfErr, IfOk}
+use Rattle.std.specs.Prelude.{◌≡◌, false, Option, Result, Ok, Err, IfErr, IfOk}
 use Rattle.sqlite_trees.specs.declared.store.Store.{Ghosts}
 use Rattle.sqlite_schema.specs.declared.schema.Schema.{Schema}
 use Rattle.sqlite.specs.Held.{Held, state}
+use Rattle.agv_layout.specs.Layout.{Layout}
 use Rattle.agv_world.specs.Questions.{count_of}
 use Rattle.agv_world.specs.Worlds.{empty_world}
 use Rattle.agv_world.specs.declared.floor.Counted.{Counted}
-use Rattle.agv_tables.specs.queries.WorldAnswers.{HasNoWorld}
+use Rattle.agv_tables.specs.queries.WorldAnswers.{AgreesWith, HasNoWorld}
 use Rattle.agv_tables.specs.schema.DeskSchema.{is_name_taken}
 use Rattle.agv_tables.specs.schema.DeskTables.{MakesDesk}
 use Rattle.agv_tables.specs.schema.NewDesk.{LeavesRoom}
@@ -50,8 +51,8 @@ module _ {S : Type 0} (g : Ghosts S) where
     pub same : (state g desk.held).now ≡ (state g old).now
     pub knows : Knows g desk.held (world_at g desk.held)
 
-  -- how it ends that a desk is looked for in a database: with the counts of the lawful world whose rows its tables have; as damaged only where they have those of none
-  pub record Finds (old new : Held S) (result : Result Counts OpenFault) : Type 0 where
-    pub found : IsClean g new → IfOk result (λ counts. IsOpen g old × Knows g new (world_at g new) × ((what : Counted) → count_in counts what ≡ count_of (world_at g new) what))
+  -- how it ends that a desk is looked for in a database: with the counts and the layout of the lawful world whose rows its tables have; as damaged only where they have those of none
+  pub record Finds (old new : Held S) (result : Result (Counts × Option Layout) OpenFault) : Type 0 where
+    pub found : IsClean g new → IfOk result (λ desk. IsOpen g old × Knows g new (world_at g new) × ((what : Counted) → count_in desk.0 what ≡ count_of (world_at g new) what) × AgreesWith desk.1 (world_at g new))
     pub damaged : IsClean g new → IfErr result (λ why. why ≡ fault.Damaged → HasNoWorld (state g old).now)
     pub asked : IsAsked g old new

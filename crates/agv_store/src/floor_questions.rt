@@ -1,4 +1,6 @@
-//! The questions of a floor, each by one look-up of a key or an index in the desk's tables; the layout alone is read whole.
+//! The questions of a floor, each by look-ups of a key or an index in the desk's tables; the layout alone is read whole, and
+//! kept then. A node, a station, the edges of a trip and the layout itself are looked up in the kept one, and asked of the
+//! tables only where none is kept or it lacks the name.
 
 use crate::flags::note;
 use crate::keyed_floor::KeyedFloor;
@@ -10,7 +12,6 @@ use agv_stock::Place;
 use agv_tables::queries::key_queries::{
     query_holder, query_job, query_node, query_place, query_station, query_used, query_vehicle,
 };
-use agv_tables::queries::layout_reading::query_layout;
 use agv_tables::queries::load_queries::{query_job_of, query_loads_on, query_reserved, query_room};
 use agv_tables::queries::station_loads::query_loads_at;
 use agv_tables::queries::trip_queries::{query_has_trip, query_trip};
@@ -46,7 +47,7 @@ impl<S: Alter + Drop> Floor for KeyedFloor<S> {
     }
 
     fn trip(&mut self, key: VehicleKey) -> Result<Option<Trip>, Fault> {
-        let asked = query_trip(self.alloc, &mut self.conn, &key);
+        let asked = query_trip(self.alloc, &mut self.conn, &self.layout, &key);
         note(&mut self.failed, &mut self.in_doubt, asked)
     }
 
@@ -66,7 +67,7 @@ impl<S: Alter + Drop> Floor for KeyedFloor<S> {
     }
 
     fn room(&mut self, station: Name) -> Result<Option<u32>, Fault> {
-        let asked = query_room(&mut self.conn, &station);
+        let asked = query_room(&mut self.conn, &self.layout, &station);
         note(&mut self.failed, &mut self.in_doubt, asked)
     }
 
@@ -76,11 +77,19 @@ impl<S: Alter + Drop> Floor for KeyedFloor<S> {
     }
 
     fn node(&mut self, id: Name) -> Result<bool, Fault> {
+        if self.keeps_node(id) {
+            self.settle()?;
+            return Ok(true);
+        }
         let asked = query_node(&mut self.conn, &id);
         note(&mut self.failed, &mut self.in_doubt, asked)
     }
 
     fn station(&mut self, id: Name) -> Result<Option<StationSite>, Fault> {
+        if let Some(site) = self.kept_station(id) {
+            self.settle()?;
+            return Ok(Some(site));
+        }
         let asked = query_station(&mut self.conn, &id);
         note(&mut self.failed, &mut self.in_doubt, asked)
     }
@@ -91,8 +100,14 @@ impl<S: Alter + Drop> Floor for KeyedFloor<S> {
     }
 
     fn layout(&mut self) -> Result<Option<Layout>, Fault> {
-        let asked = query_layout(self.alloc, &mut self.conn);
-        note(&mut self.failed, &mut self.in_doubt, asked)
+        let kept = self.kept_layout()?;
+        if let Some(kept) = kept {
+            self.settle()?;
+            return Ok(Some(kept));
+        }
+        let layout = self.layout_asked()?;
+        self.keep_layout(&layout)?;
+        Ok(layout)
     }
 
     fn loads_at(&mut self, station: Name) -> Result<Sequence<Name>, Fault> {

@@ -8,6 +8,7 @@ ghost use Rattle.agv_store.specs.Floors.{Knows, facts_of, world_at};
 
 use crate::counts::Counts;
 use crate::flags::note;
+use agv_layout::Layout;
 use agv_tables::readings::hold_reading::query_meta;
 use agv_world::Fault;
 use sqlite::{Alter, Connection};
@@ -23,6 +24,8 @@ use std::marker::Model;
 pub struct KeyedFloor<S: Alter> {
     pub(crate) conn: Connection<S>,
     pub(crate) counts: Counts,
+    // The layout, once it was read; none where it is not set, or was not read since then.
+    pub(crate) layout: Option<Layout>,
     pub(crate) failed: bool,
     // Memory was refused since the connection was last known to be open.
     pub(crate) in_doubt: bool,
@@ -38,7 +41,7 @@ impl<S: Alter> Model for KeyedFloor<S> {
 
     ghost view = { λ floor. record { held = floor.conn; failed = floor.failed } };
 
-    ghost invariant = { λ floor. IsKept S.Store floor.conn floor.counts floor.failed floor.in_doubt };
+    ghost invariant = { λ floor. IsKept S.Store floor.conn floor.counts floor.layout floor.failed floor.in_doubt };
 }
 
 impl<S: Alter + Drop> KeyedFloor<S> {

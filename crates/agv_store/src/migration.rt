@@ -9,8 +9,11 @@ ghost use Rattle.agv_store.specs.Opening.{IsDamaged, left_by};
 
 use crate::counts::Counts;
 use crate::desk::Desk;
+use crate::kept_layout::layout_told;
 use crate::keyed_floor::KeyedFloor;
 use crate::open_fault::OpenFault;
+use agv_layout::Layout;
+use agv_layout::laws::{gives_itself, needs_a_node};
 use agv_tables::first_schema::table_moving::move_tables;
 use agv_tables::first_schema::world_finding::find_first_world;
 use agv_tables::readings::world_laws::a_database_tells_its_world;
@@ -20,19 +23,22 @@ use agv_world::laws::tables_tell_the_world;
 use sqlite::{Alter, Connection};
 use std::alloc::Global;
 
-// The tables in memory of the world whose rows a database of the first schema has, and their counts.
+// The tables in memory of the world whose rows a database of the first schema has, with its counts and its layout.
 fn find_first_desk<S: Alter>(
     alloc: Global,
     conn: &mut Connection<S>,
-) -> Result<(World, Counts), OpenFault>
+) -> Result<(World, Counts, Option<Layout>), OpenFault>
     requires { conn.old.in_transaction ≡ false }
     ensures { FindsFirstDesk S.Store conn.old conn.new result }
 {
     is_in_good_order();
     tables_tell_the_world();
+    gives_itself();
+    needs_a_node();
     let tables = find_first_world(alloc, conn)?;
     let counts = Counts::of(alloc, &tables)?;
-    Ok((tables, counts))
+    let layout = layout_told(alloc, &tables)?;
+    Ok((tables, counts, layout))
 }
 
 impl<S: Alter + Drop> Desk<S> {
@@ -66,7 +72,7 @@ impl<S: Alter + Drop> Desk<S> {
         a_database_tells_its_world();
         let mut conn = conn;
         let _settled = conn.is_autocommit();
-        let (tables, counts) = match find_first_desk(alloc, &mut conn) {
+        let (tables, counts, layout) = match find_first_desk(alloc, &mut conn) {
             Ok(found) => found,
             Err(why) => return Err((conn, why)),
         };
@@ -75,6 +81,7 @@ impl<S: Alter + Drop> Desk<S> {
                 floor: KeyedFloor {
                     conn,
                     counts,
+                    layout,
                     failed: false,
                     in_doubt: false,
                     alloc,

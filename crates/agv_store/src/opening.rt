@@ -14,9 +14,12 @@ ghost use Rattle.agv_store.specs.Opening.{Adopts, CanBeMade, Finds, IsDamaged, M
 
 use crate::counts::Counts;
 use crate::desk::Desk;
+use crate::kept_layout::layout_told;
 use crate::keyed_floor::KeyedFloor;
 use crate::open_fault::OpenFault;
 use agv_header::Memory;
+use agv_layout::Layout;
+use agv_layout::laws::{gives_itself, needs_a_node};
 use agv_tables::HeldThings;
 use agv_tables::readings::reading_laws::tables_read_tell_the_world;
 use agv_tables::readings::rowid_reading::query_rowids;
@@ -39,8 +42,11 @@ fn are_of_a_lawful_world(alloc: Global, tables: &World, holds: &HeldThings) -> R
     Ok(tables.is_lawful(alloc, 4)? && holds.are_footprints(alloc, tables)?)
 }
 
-// The counts of the world whose rows the desk's tables have, where they have the rows of a lawful one.
-fn find_desk<S: Alter>(alloc: Global, conn: &mut Connection<S>) -> Result<Counts, OpenFault>
+// The counts and the layout of the world whose rows the desk's tables have, where they have the rows of a lawful one.
+fn find_desk<S: Alter>(
+    alloc: Global,
+    conn: &mut Connection<S>,
+) -> Result<(Counts, Option<Layout>), OpenFault>
     requires { conn.old.in_transaction ≡ false }
     ensures { Finds S.Store conn.old conn.new result }
 {
@@ -48,6 +54,8 @@ fn find_desk<S: Alter>(alloc: Global, conn: &mut Connection<S>) -> Result<Counts
     a_database_tells_its_world();
     is_in_good_order();
     tables_tell_the_world();
+    gives_itself();
+    needs_a_node();
     let _settled = conn.is_autocommit();
     if !tables_stand(alloc, conn.schema())? {
         return Err(OpenFault::Damaged);
@@ -60,7 +68,8 @@ fn find_desk<S: Alter>(alloc: Global, conn: &mut Connection<S>) -> Result<Counts
         return Err(OpenFault::Damaged);
     }
     let counts = Counts::of(alloc, &tables)?;
-    Ok(counts)
+    let layout = layout_told(alloc, &tables)?;
+    Ok((counts, layout))
 }
 
 impl<S: Alter + Drop> Desk<S> {
@@ -96,6 +105,7 @@ impl<S: Alter + Drop> Desk<S> {
                 floor: KeyedFloor {
                     conn,
                     counts: Counts::none(),
+                    layout: None,
                     failed: false,
                     in_doubt: false,
                     alloc,
@@ -126,10 +136,11 @@ impl<S: Alter + Drop> Desk<S> {
         let mut conn = conn;
         let _settled = conn.is_autocommit();
         match find_desk(alloc, &mut conn) {
-            Ok(counts) => Ok(Desk {
+            Ok((counts, layout)) => Ok(Desk {
                 floor: KeyedFloor {
                     conn,
                     counts,
+                    layout,
                     failed: false,
                     in_doubt: false,
                     alloc,

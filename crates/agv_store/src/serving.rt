@@ -14,6 +14,7 @@ ghost use Rattle.agv_store.specs.Floors.{Knows, facts_of, world_at};
 ghost use Rattle.agv_store.specs.Serving.{Decides, IsServedBy, LeavesAll, LeavesCall};
 
 use crate::flags::{note, read_as};
+use crate::kept_layout::keep_through;
 use crate::keyed_floor::KeyedFloor;
 use agv_desk::laws::counts::{adds_below_the_limit, counts_follow};
 use agv_desk::laws::lawful::{keeps_lawful, serves_lawful_worlds};
@@ -46,7 +47,8 @@ impl<S: Alter + Drop> KeyedFloor<S> {
         Ok(decision)
     }
 
-    // The changes of the decision are made in one transaction, and the counts follow the answer.
+    // The changes of the decision are made in one transaction, the counts follow the answer, and a layout that was written
+    // is kept no more.
     fn write(&mut self, decision: Decision, at: Moment, call: &Call) -> Result<Answer, Fault>
         requires knows { IsClean S.Store self.old.held → Knows S.Store self.old.held (world_at S.Store self.old.held) }
         requires decides { IsClean S.Store self.old.held → Decides (world_at S.Store self.old.held) at call.now decision }
@@ -64,6 +66,7 @@ impl<S: Alter + Drop> KeyedFloor<S> {
         let written = write_changes(&mut self.conn, decision.changes.as_slice());
         note(&mut self.failed, &mut self.in_doubt, read_as(written))?;
         self.counts.add(counted_by(call, &decision.answer));
+        keep_through(&mut self.layout, decision.changes.as_slice());
         Ok(decision.answer)
     }
 

@@ -223,7 +223,7 @@ fn ask_known<S: Alter>(rt: &impl Abort, alloc: Global, conn: &mut Connection<S>,
 
 /// Asks for the trip of the vehicle, and for the layout.
 fn ask_whole<S: Alter>(rt: &impl Abort, alloc: Global, conn: &mut Connection<S>) {
-    let trip = query_trip(alloc, conn, &vehicle(rt)).expect(rt, "the trip");
+    let trip = query_trip(alloc, conn, &None, &vehicle(rt)).expect(rt, "the trip");
     let trip = trip.expect(rt, "a trip");
     check(rt, trip.order == name(rt, "O1"), "its order");
     check(rt, trip.edges.as_slice().len() == 10, "its edges");
@@ -250,7 +250,7 @@ fn ask_unknown<S: Alter>(rt: &impl Abort, alloc: Global, conn: &mut Connection<S
     let used = query_used(conn, &order_key(rt, "J1"));
     check(rt, used == Ok(false), "an order");
     check(rt, query_edge(conn, &node) == Ok(None), "an edge");
-    let trip = query_trip(alloc, conn, &other).expect(rt, "no trip");
+    let trip = query_trip(alloc, conn, &None, &other).expect(rt, "no trip");
     check(rt, trip.is_none(), "no trip");
 }
 
@@ -262,7 +262,7 @@ fn ask_some<S: Alter>(rt: &impl Abort, alloc: Global, conn: &mut Connection<S>) 
     check(rt, coming == Ok(1), "the live jobs to B");
     let live = query_job_of(conn, &name(rt, "A1"));
     check(rt, live == Ok(Some(name(rt, "J1"))), "the live job of A1");
-    let room = query_room(conn, &name(rt, "A"));
+    let room = query_room(conn, &None, &name(rt, "A"));
     check(rt, room == Ok(Some(2)), "the room of A");
     let loads = query_loads_at(alloc, conn, &name(rt, "A")).expect(rt, "the loads at A");
     let wanted = [name(rt, "A1"), name(rt, "A2")];
@@ -280,7 +280,7 @@ fn ask_none<S: Alter>(rt: &impl Abort, alloc: Global, conn: &mut Connection<S>, 
     check(rt, coming == Ok(0), "no live jobs to A");
     let live = query_job_of(conn, &numbered(rt, alloc, 'L', number));
     check(rt, live == Ok(None), "no live job");
-    let room = query_room(conn, &name(rt, "C"));
+    let room = query_room(conn, &None, &name(rt, "C"));
     check(rt, room == Ok(None), "no station C");
     let loads = query_loads_at(alloc, conn, &name(rt, "B")).expect(rt, "the loads at B");
     check(rt, loads.as_slice().is_empty(), "no loads at B");

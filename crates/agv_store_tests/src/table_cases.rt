@@ -6,6 +6,7 @@ use crate::cases::check;
 use agv_desk::{Answer, Call, Decision, decide};
 use agv_header::{Moment, Name, Thing, VehicleKey};
 use agv_http::{Routes, call_of};
+use agv_layout::Layout;
 use agv_store::Desk;
 use agv_tables::queries::layout_reading::query_layout;
 use agv_tables::queries::trip_queries::query_trip;
@@ -318,16 +319,19 @@ fn check_holds(rt: &impl Abort, floor: &mut PlainFloor<'_>, holds: &HoldTable) {
     }
 }
 
-/// Compares the open trip of a vehicle.
+/// Compares the open trip of a vehicle, asked with the layout and without it.
 fn check_trip<S: Alter>(
     rt: &impl Abort,
     alloc: Global,
     floor: &mut PlainFloor<'_>,
     conn: &mut Connection<S>,
+    layout: &Option<Layout>,
     serial: &str,
 ) {
-    let trip = query_trip(alloc, conn, &vehicle(rt, serial)).expect(rt, "the trip");
     let wanted = floor.trip(vehicle(rt, serial)).expect(rt, "memory");
+    let trip = query_trip(alloc, conn, layout, &vehicle(rt, serial)).expect(rt, "the trip");
+    check(rt, trip == wanted, serial);
+    let trip = query_trip(alloc, conn, &None, &vehicle(rt, serial)).expect(rt, "the trip");
     check(rt, trip == wanted, serial);
 }
 
@@ -348,8 +352,8 @@ pub(crate) fn check_read<S: Alter>(
     check_holds(rt, &mut floor, &holds.table);
     let layout = query_layout(alloc, conn).expect(rt, "the layout");
     check_same(rt, alloc, &layout, &floor.layout().expect(rt, "memory"));
-    check_trip(rt, alloc, &mut floor, conn, "0001");
-    check_trip(rt, alloc, &mut floor, conn, "0002");
+    check_trip(rt, alloc, &mut floor, conn, &layout, "0001");
+    check_trip(rt, alloc, &mut floor, conn, &layout, "0002");
 }
 
 /// Makes the desk's tables.

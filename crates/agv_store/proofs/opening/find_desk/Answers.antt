@@ -28,6 +28,12 @@ returns-in_err-counts g c =
     finds_no_memory g.S.Store c.args.conn.now c.query_rowids.new.conn c.read_world.new.conn c.in_ok-query_rowids.field-0 c.if-not-branch-2.false keyed.exact keyed.tells
     c.in_ok-tables.tables c.in_ok-tables.holds c.in_ok-tables.ensures c.from_residual-in_err-counts.result c.from_residual-in_err-counts.ensures.1
 
+pub returns-in_err-layout : goal.returns-in_err-layout
+returns-in_err-layout g c =
+    let keyed = c.in_ok-query_rowids.ensures in
+    finds_no_memory g.S.Store c.args.conn.now c.query_rowids.new.conn c.read_world.new.conn c.in_ok-query_rowids.field-0 c.if-not-branch-2.false keyed.exact keyed.tells
+    c.in_ok-tables.tables c.in_ok-tables.holds c.in_ok-tables.ensures c.from_residual-in_err-layout.result c.from_residual-in_err-layout.ensures.1
+
 pub returns : goal.returns
 returns g c =
     let keyed = c.in_ok-query_rowids.ensures in
@@ -35,4 +41,4 @@ returns g c =
     finds_desk g.S.Store c.args.conn.now c.query_rowids.new.conn c.read_world.new.conn c.in_ok-query_rowids.field-0 c.if-not-branch-2.false keyed.exact keyed.tells
     c.in_ok-tables.tables c.in_ok-tables.holds c.in_ok-tables.ensures c.tables_read_tell_the_world.ensures.world c.a_database_tells_its_world.ensures (subst TablesStand c.schema.ensures.value (c.in_ok-tables_stand.ensures.0 c.if-not-branch.false))
     its.0 its.1 its.2 its.3 c.requires (c.is_autocommit-settled.ensures.settled (c.is_autocommit-settled.ensures.value ∙ ap not c.requires)) (λ still. (c.schema.ensures.live still).0)
-    (c.tables_tell_the_world.ensures c.in_ok-tables.tables its.0 its.1 (c.is_in_good_order.ensures desk_seats its.0 its.2)) c.in_ok-counts.counts c.in_ok-counts.ensures
+    (c.tables_tell_the_world.ensures c.in_ok-tables.tables its.0 its.1 (c.is_in_good_order.ensures desk_seats its.0 its.2)) c.in_ok-counts.counts c.in_ok-counts.ensures c.gives_itself.ensures c.needs_a_node.ensures c.in_ok-layout.layout c.in_ok-layout.ensures

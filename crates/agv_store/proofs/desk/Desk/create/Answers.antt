@@ -1,4 +1,4 @@
-use Rattle.std.proofs.Common.{◌≡◌, ◌∙◌, false, refl, sym, ap, subst}
+use Rattle.std.proofs.Common.{◌≡◌, ◌∙◌, false, None, refl, sym, ap, subst}
 use Rattle.sqlite_trees.specs.declared.store.Store.{Ghosts}
 use Rattle.sqlite.specs.Effect.{Database}
 use Rattle.sqlite.specs.Held.{Held, state}
@@ -36,12 +36,13 @@ module _ {S : Type 0} (g : Ghosts S) (made_stand : MadeDesksStand) (knows_nothin
     nothing_told : IsClean g new → world_at g new ≡ empty_world
     nothing_told clean = let it = knows clean in tells_its_world it.at (state g new).now empty_world it.has
 
-    new_kept : (counts : Counts) → ((what : Counted) → count_in counts what ≡ count_of empty_world what) → IsKept g new counts false false
+    new_kept : (counts : Counts) → ((what : Counted) → count_in counts what ≡ count_of empty_world what) → IsKept g new counts None false false
     new_kept counts none = record {
       idle = idle;
       opens = λ clean _ _. (opens clean).1;
       knows = λ clean _. subst (λ (world : World). Knows g new world) (sym (nothing_told clean)) (knows clean);
       counted = λ clean _ what. none what ∙ ap (λ (world : World). count_of world what) (sym (nothing_told clean));
+      agrees = λ clean still. tt;
     }
 
 pub invariant_of-result : goal.invariant_of-result
