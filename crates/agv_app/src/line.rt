@@ -75,38 +75,40 @@ impl From<AllocError> for LineFault {
 /// The names of the reports.
 static KINDS: [&str; 2] = ["stock", "holds"];
 
-/// A required option with one value; `value` stands for it in the help.
-fn required_arg<'a>(alloc: Global, name: &'a str, value: &'a str, help: &'a str) -> Arg<'a>
-    ensures rule { rule_of result ≡ required_option name.now }
-    ensures local { result.global ≡ false }
+/// Reads the words after the program's name.
+pub fn line_of<'a>(alloc: Global, words: &'a [String]) -> Result<Line<'a>, LineFault>
+    ensures line { IfOk result (IsLine (map string_bytes words.now)) }
+    ensures fault { IfErr result (IsLineFault (map string_bytes words.now)) }
 {
-    Arg::new(alloc, name)
-        .long(name)
-        .required(true)
-        .action(ArgAction::Set)
-        .value_name(value)
-        .help(help)
+    let matches = match desk_command(alloc)?.try_get_matches_from(words) {
+        Ok(matches) => matches,
+        Err(error) if error.kind() == ErrorKind::OutOfMemory => return Err(LineFault::Memory),
+        Err(error) => return Err(LineFault::Refused(error)),
+    };
+    // Words in which `clap` finds no fault name a subcommand, with a value of each argument.
+    let Some((name, found)) = matches.subcommand() else {
+        unreachable!()
+    };
+    Ok(named_line(name, found))
 }
 
-/// A required option whose value is a number from 0 to `most`.
-fn number_arg<'a>(alloc: Global, name: &'a str, value: &'a str, most: i64, help: &'a str) -> Arg<'a>
-    ensures rule { rule_of result ≡ number name.now most }
-    ensures local { result.global ≡ false }
+/// The command, with its four subcommands.
+fn desk_command<'a>(alloc: Global) -> Result<Command<'a>, AllocError>
+    ensures { IfOk result (λ command. (kinds : Choice) × AreKinds kinds × IsApp (desk kinds) command) }
 {
-    required_arg(alloc, name, value, help).value_parser(value_parser!(u64).range(..=most))
-}
-
-/// The name of a report, which stands by itself.
-fn kind_arg<'a>(alloc: Global) -> Arg<'a>
-    ensures rule { (kinds : Choice) × AreKinds kinds × (rule_of result ≡ report_kind kinds) }
-    ensures local { result.global ≡ false }
-{
-    Arg::new(alloc, "kind")
-        .required(true)
-        .action(ArgAction::Set)
-        .value_name("REPORT")
-        .value_parser(KINDS.as_slice())
-        .help("`stock`: each load and its place; `holds`: what each vehicle holds of the floor")
+    let replay = replay_command(alloc)?;
+    let serve = serve_command(alloc)?;
+    let report = report_command(alloc)?;
+    let migrate = migrate_command(alloc)?;
+    Command::new(alloc, "desk")
+        .about("The control desk of one warehouse: its vehicles, loads and orders")
+        .after_help("Example: desk replay --db memory --at 1700000000000 < requests.txt")
+        .no_binary_name(true)
+        .subcommand_required(true)
+        .subcommand(replay)?
+        .subcommand(serve)?
+        .subcommand(report)?
+        .subcommand(migrate)
 }
 
 /// The subcommand `replay`.
@@ -131,6 +133,27 @@ fn replay_command<'a>(alloc: Global) -> Result<Command<'a>, AllocError>
         .after_help("Example: desk replay --db memory --at 1700000000000 < requests.txt")
         .arg(db)?
         .arg(at)
+}
+
+/// A required option with one value; `value` stands for it in the help.
+fn required_arg<'a>(alloc: Global, name: &'a str, value: &'a str, help: &'a str) -> Arg<'a>
+    ensures rule { rule_of result ≡ required_option name.now }
+    ensures local { result.global ≡ false }
+{
+    Arg::new(alloc, name)
+        .long(name)
+        .required(true)
+        .action(ArgAction::Set)
+        .value_name(value)
+        .help(help)
+}
+
+/// A required option whose value is a number from 0 to `most`.
+fn number_arg<'a>(alloc: Global, name: &'a str, value: &'a str, most: i64, help: &'a str) -> Arg<'a>
+    ensures rule { rule_of result ≡ number name.now most }
+    ensures local { result.global ≡ false }
+{
+    required_arg(alloc, name, value, help).value_parser(value_parser!(u64).range(..=most))
 }
 
 /// The subcommand `serve`.
@@ -172,6 +195,19 @@ fn report_command<'a>(alloc: Global) -> Result<Command<'a>, AllocError>
         .arg(kind_arg(alloc))
 }
 
+/// The name of a report, which stands by itself.
+fn kind_arg<'a>(alloc: Global) -> Arg<'a>
+    ensures rule { (kinds : Choice) × AreKinds kinds × (rule_of result ≡ report_kind kinds) }
+    ensures local { result.global ≡ false }
+{
+    Arg::new(alloc, "kind")
+        .required(true)
+        .action(ArgAction::Set)
+        .value_name("REPORT")
+        .value_parser(KINDS.as_slice())
+        .help("`stock`: each load and its place; `holds`: what each vehicle holds of the floor")
+}
+
 /// The subcommand `migrate`.
 fn migrate_command<'a>(alloc: Global) -> Result<Command<'a>, AllocError>
     ensures { IfOk result (IsApp migrate) }
@@ -183,23 +219,19 @@ fn migrate_command<'a>(alloc: Global) -> Result<Command<'a>, AllocError>
         .arg(db)
 }
 
-/// The command, with its four subcommands.
-fn desk_command<'a>(alloc: Global) -> Result<Command<'a>, AllocError>
-    ensures { IfOk result (λ command. (kinds : Choice) × AreKinds kinds × IsApp (desk kinds) command) }
+/// The line of the subcommand `name`.
+fn named_line<'a>(name: &str, found: &ArgMatches<'a>) -> Line<'a>
+    requires named { (kinds : Choice) × AreKinds kinds × IsOneOf (desk kinds).subs name.now (rows_of (found_of found.now)) }
+    ensures name { name_of result ≡ name.now }
+    ensures values { Gives (rows_of (found_of found.now)) result }
 {
-    let replay = replay_command(alloc)?;
-    let serve = serve_command(alloc)?;
-    let report = report_command(alloc)?;
-    let migrate = migrate_command(alloc)?;
-    Command::new(alloc, "desk")
-        .about("The control desk of one warehouse: its vehicles, loads and orders")
-        .after_help("Example: desk replay --db memory --at 1700000000000 < requests.txt")
-        .no_binary_name(true)
-        .subcommand_required(true)
-        .subcommand(replay)?
-        .subcommand(serve)?
-        .subcommand(report)?
-        .subcommand(migrate)
+    match name {
+        "replay" => replay_line(found),
+        "serve" => serve_line(found),
+        "report" => report_line(found),
+        "migrate" => migrate_line(found),
+        _ => unreachable!(),
+    }
 }
 
 /// The line of `replay`.
@@ -239,18 +271,6 @@ fn serve_line<'a>(found: &ArgMatches<'a>) -> Line<'a>
     }
 }
 
-/// The report of this name.
-fn kind_named(word: &str) -> Option<ReportKind>
-    ensures named { IfSome result (λ kind. word.now ≡ kind_word kind) }
-    ensures known { (kind : ReportKind) → (word.now ≡ kind_word kind) → IsSome result }
-{
-    match word {
-        "stock" => Some(ReportKind::Stock),
-        "holds" => Some(ReportKind::Holds),
-        _ => None,
-    }
-}
-
 /// The line of `report`.
 fn report_line<'a>(found: &ArgMatches<'a>) -> Line<'a>
     requires values { (kinds : Choice) × AreKinds kinds × HasValues (rows_of (found_of found.now)) (report kinds).top.rules }
@@ -269,6 +289,18 @@ fn report_line<'a>(found: &ArgMatches<'a>) -> Line<'a>
     Line::Report { db, kind }
 }
 
+/// The report of this name.
+fn kind_named(word: &str) -> Option<ReportKind>
+    ensures named { IfSome result (λ kind. word.now ≡ kind_word kind) }
+    ensures known { (kind : ReportKind) → (word.now ≡ kind_word kind) → IsSome result }
+{
+    match word {
+        "stock" => Some(ReportKind::Stock),
+        "holds" => Some(ReportKind::Holds),
+        _ => None,
+    }
+}
+
 /// The line of `migrate`.
 fn migrate_line<'a>(found: &ArgMatches<'a>) -> Line<'a>
     requires values { HasValues (rows_of (found_of found.now)) migrate.top.rules }
@@ -279,36 +311,4 @@ fn migrate_line<'a>(found: &ArgMatches<'a>) -> Line<'a>
         unreachable!()
     };
     Line::Migrate { db }
-}
-
-/// The line of the subcommand `name`.
-fn named_line<'a>(name: &str, found: &ArgMatches<'a>) -> Line<'a>
-    requires named { (kinds : Choice) × AreKinds kinds × IsOneOf (desk kinds).subs name.now (rows_of (found_of found.now)) }
-    ensures name { name_of result ≡ name.now }
-    ensures values { Gives (rows_of (found_of found.now)) result }
-{
-    match name {
-        "replay" => replay_line(found),
-        "serve" => serve_line(found),
-        "report" => report_line(found),
-        "migrate" => migrate_line(found),
-        _ => unreachable!(),
-    }
-}
-
-/// Reads the words after the program's name.
-pub fn line_of<'a>(alloc: Global, words: &'a [String]) -> Result<Line<'a>, LineFault>
-    ensures line { IfOk result (IsLine (map string_bytes words.now)) }
-    ensures fault { IfErr result (IsLineFault (map string_bytes words.now)) }
-{
-    let matches = match desk_command(alloc)?.try_get_matches_from(words) {
-        Ok(matches) => matches,
-        Err(error) if error.kind() == ErrorKind::OutOfMemory => return Err(LineFault::Memory),
-        Err(error) => return Err(LineFault::Refused(error)),
-    };
-    // Words in which `clap` finds no fault name a subcommand, with a value of each argument.
-    let Some((name, found)) = matches.subcommand() else {
-        unreachable!()
-    };
-    Ok(named_line(name, found))
 }

@@ -22,12 +22,17 @@ use std::env::{self, Env};
 use std::io::{self, ErrorKind};
 use std::process::ExitCode;
 
-/// Drops the first word, which is the program's name.
-fn drop_first(words: &mut Vec<String>)
-    ensures { words.new.items ≡ drop 1 words.old.items }
-{
-    if !words.is_empty() {
-        words.remove(0);
+fn main(rt: HostRuntime) -> ExitCode {
+    let ended = match words_of(&rt) {
+        Ok(words) => run_words(&rt, &words),
+        Err(why) => Err(why),
+    };
+    match ended {
+        Ok(status) => ExitCode::from(status),
+        Err(why) => {
+            let _ = rt.eprint(&why);
+            ExitCode::from(why.status())
+        }
     }
 }
 
@@ -47,6 +52,15 @@ fn words_of(rt: &(impl Env + Alloc<A = Global>)) -> Result<Vec<String>, NoLine>
     Ok(words)
 }
 
+/// Drops the first word, which is the program's name.
+fn drop_first(words: &mut Vec<String>)
+    ensures { words.new.items ≡ drop 1 words.old.items }
+{
+    if !words.is_empty() {
+        words.remove(0);
+    }
+}
+
 /// Reads the line, carries it out over the standard streams, and gives the exit status.
 fn run_words(rt: &HostRuntime, words: &[String]) -> Result<u8, NoLine> {
     let line = line_of(rt.alloc(), words)?;
@@ -54,18 +68,4 @@ fn run_words(rt: &HostRuntime, words: &[String]) -> Result<u8, NoLine> {
     let mut writer = CountingIo::new(io::writer(rt));
     let mut errors = CountingIo::new(rt.stderr());
     Ok(run_line(rt, rt.alloc(), &line, &mut reader, &mut writer, &mut errors))
-}
-
-fn main(rt: HostRuntime) -> ExitCode {
-    let ended = match words_of(&rt) {
-        Ok(words) => run_words(&rt, &words),
-        Err(why) => Err(why),
-    };
-    match ended {
-        Ok(status) => ExitCode::from(status),
-        Err(why) => {
-            let _ = rt.eprint(&why);
-            ExitCode::from(why.status())
-        }
-    }
 }

@@ -69,29 +69,6 @@ impl From<OpenFault> for RunFault {
     }
 }
 
-/// How a run ends whose stream has ended so: its last answer was the refusal for a fault of the machine, or it was served
-/// or refused as its requests had it.
-pub fn end_of(ended: Result<StreamSummary, StreamFault>) -> Result<(), RunFault>
-    ensures { result ≡ end_of ended }
-{
-    match ended {
-        Ok(served) => end_by(served.ended),
-        Err(StreamFault::Read { .. }) => Err(RunFault::Read),
-        Err(StreamFault::Write { .. }) => Err(RunFault::Write),
-    }
-}
-
-/// How a run ends whose stream was served to this end.
-fn end_by(ended: Ended) -> Result<(), RunFault>
-    ensures { result ≡ end_by ended }
-{
-    match ended {
-        Ended::Refused(Refusal::Memory) => Err(RunFault::Memory),
-        Ended::Refused(Refusal::Storage) => Err(RunFault::Storage),
-        _ => Ok(()),
-    }
-}
-
 /// Why there is no line to carry out. It is shown as the text that goes to standard error.
 #[derive(Drop)]
 pub enum NoLine {
@@ -137,5 +114,28 @@ impl fmt::Display for NoLine {
             NoLine::NotText => write!(f, "error: a word of the line is not UTF-8\n"),
             NoLine::Memory => write!(f, "{}", RunFault::Memory.line()),
         }
+    }
+}
+
+/// How a run ends whose stream has ended so: its last answer was the refusal for a fault of the machine, or it was served
+/// or refused as its requests had it.
+pub fn end_of(ended: Result<StreamSummary, StreamFault>) -> Result<(), RunFault>
+    ensures { result ≡ end_of ended }
+{
+    match ended {
+        Ok(served) => end_by(served.ended),
+        Err(StreamFault::Read { .. }) => Err(RunFault::Read),
+        Err(StreamFault::Write { .. }) => Err(RunFault::Write),
+    }
+}
+
+/// How a run ends whose stream was served to this end.
+fn end_by(ended: Ended) -> Result<(), RunFault>
+    ensures { result ≡ end_by ended }
+{
+    match ended {
+        Ended::Refused(Refusal::Memory) => Err(RunFault::Memory),
+        Ended::Refused(Refusal::Storage) => Err(RunFault::Storage),
+        _ => Ok(()),
     }
 }

@@ -36,92 +36,77 @@ pub enum NextFault {
     Clock,
 }
 
-/// Why a database couldn't be opened.
-fn fault_of(error: Error) -> RunFault
-    ensures { (result ≡ fault.Memory) ⊎ (result ≡ fault.Storage) }
-{
-    match error {
-        Error::SqliteFailure(ErrorCode::OutOfMemory) => RunFault::Memory,
-        _ => RunFault::Storage,
-    }
-}
-
-/// A desk in a new database in memory, which knows nothing yet.
-fn open_in_memory(alloc: Global) -> Result<Desk<FileStore<MemoryFile>>, RunFault>
-    ensures new { IfOk result (λ desk. world_at over_memory_files desk.held ≡ empty_world) }
-    ensures fault { IfErr result (λ why. (why ≡ fault.Memory) ⊎ (why ≡ fault.Storage)) }
-{
-    stores_in_memory_are_clean();
-    a_database_tells_its_world();
-    let conn = match agv_memory::open_in_memory(alloc) {
-        Ok(conn) => conn,
-        Err(error) => return Err(fault_of(error)),
-    };
-    match Desk::open(alloc, conn) {
-        Ok(desk) => Ok(desk),
-        Err((_, why)) => Err(RunFault::from(why)),
-    }
-}
-
-/// The database in the file.
-fn connect(rt: &HostRuntime, file: &str) -> Result<Connection<FileStore<File>>, RunFault>
-    ensures idle { IfOk result (λ conn. conn.in_transaction ≡ false) }
-{
-    match Connection::open(rt, file) {
-        Ok(conn) => Ok(conn),
-        Err(error) => Err(fault_of(error)),
-    }
-}
-
-/// The desk in the file; a new one where the file has none of its tables.
-fn open_in_file(rt: &HostRuntime, file: &str) -> Result<Desk<FileStore<File>>, RunFault> {
-    let conn = connect(rt, file)?;
-    match Desk::open(rt.alloc(), conn) {
-        Ok(desk) => Ok(desk),
-        Err((_, why)) => Err(RunFault::from(why)),
-    }
-}
-
-/// The moment at so many milliseconds since 1970, up to 2099.
-fn moment_of(ms: u64) -> Result<Moment, RunFault>
-    ensures moment { IfOk result (λ at. (at ≡ ms) × (ms ≤ last_moment)) }
-    ensures none { IfErr result (λ why. (why ≡ fault.Clock) × (last_moment < ms)) }
-{
-    let Ok(ms) = i64::try_from(ms) else {
-        return Err(RunFault::Clock);
-    };
-    match Moment::of(ms) {
-        Some(at) => Ok(at),
-        None => Err(RunFault::Clock),
-    }
-}
-
-/// Serves the reader's requests by this desk, all at this moment.
-fn replay_on<S: Alter + Drop, R: Read, W: Write>(
+/// Accepts one connection, and serves its requests at the moment at which it is accepted.
+pub fn serve_next<S: Alter + Drop>(
+    rt: &HostRuntime,
     alloc: Global,
-    desk: Desk<S>,
-    at: u64,
+    desk: &mut Desk<S>,
+    listener: &mut TcpListener,
+) -> Result<Result<StreamSummary, StreamFault>, NextFault> {
+    let Ok((stream, _)) = listener.accept() else {
+        return Err(NextFault::Net);
+    };
+    let Some(at) = moment_now(rt) else {
+        return Err(NextFault::Clock);
+    };
+    let mut reader = CountingIo::new(&stream);
+    let mut writer = CountingIo::new(&stream);
+    Ok(serve_stream(alloc, desk, at, &mut reader, &mut writer))
+}
+
+/// The moment that the clock shows.
+fn moment_now(rt: &HostRuntime) -> Option<Moment> {
+    let Ok(now) = SystemTime::now(rt) else {
+        return None;
+    };
+    let Ok(since) = now.duration_since(UNIX_EPOCH) else {
+        return None;
+    };
+    match i64::try_from(since.as_millis()) {
+        Ok(ms) => Moment::of(ms),
+        Err(_) => None,
+    }
+}
+
+/// Carries a line out over a reader of its input, a writer of its output and one of its faults, and gives the exit
+/// status: 0 where all was done; 1 after a fault, which is one line on the writer of faults (`IsRun`, `specs/Runs.antt`).
+///
+/// Of a `replay` in memory it is said besides what was written: the output of its input, from the world of a desk that
+/// knows nothing yet.
+pub fn run_line<R: Read, W: Write, E: Write>(
+    rt: &HostRuntime,
+    alloc: Global,
+    line: &Line<'_>,
+    reader: &mut CountingIo<R>,
+    writer: &mut CountingIo<W>,
+    errors: &mut CountingIo<E>,
+) -> u8
+    ensures { IsRun R.remaining W.contents E.contents line.now reader.old reader.new writer.old writer.new errors.old errors.new result }
+{
+    let end = carry_out(rt, alloc, line, reader, writer);
+    tell(end, errors)
+}
+
+/// Does what the line says.
+fn carry_out<R: Read, W: Write>(
+    rt: &HostRuntime,
+    alloc: Global,
+    line: &Line<'_>,
     reader: &mut CountingIo<R>,
     writer: &mut CountingIo<W>,
 ) -> Result<(), RunFault>
-    ensures { IsReplayed R.remaining W.contents reader.old reader.new writer.old writer.new S.Store at desk result }
+    ensures { IsCarriedOut R.remaining W.contents reader.old reader.new writer.old writer.new line.now result }
 {
-    let at = moment_of(at)?;
-    let mut desk = desk;
-    end_of(serve_stream(alloc, &mut desk, at, reader, writer))
-}
-
-/// Serves the reader's requests by a new desk in memory.
-fn replay_in_memory<R: Read, W: Write>(
-    alloc: Global,
-    at: u64,
-    reader: &mut CountingIo<R>,
-    writer: &mut CountingIo<W>,
-) -> Result<(), RunFault>
-    ensures { IsReplayedInMemory R.remaining W.contents reader.old reader.new writer.old writer.new at result }
-{
-    let desk = open_in_memory(alloc)?;
-    replay_on(alloc, desk, at, reader, writer)
+    match *line {
+        Line::Replay { db, at } => replay(rt, alloc, db, at, reader, writer),
+        Line::Serve {
+            db,
+            port,
+            connections,
+        } => serve(rt, alloc, open_in_file(rt, db)?, port, connections, writer),
+        Line::Report { db, kind } => report(open_in_file(rt, db)?, kind, writer),
+        Line::Migrate { db } => migrate(rt, db, writer),
+    }
 }
 
 /// Serves the reader's requests by the desk in the file, or in memory where it is named `memory`.
@@ -142,58 +127,92 @@ fn replay<R: Read, W: Write>(
     replay_on(alloc, desk, at, reader, writer)
 }
 
-/// The moment that the clock shows.
-fn moment_now(rt: &HostRuntime) -> Option<Moment> {
-    let Ok(now) = SystemTime::now(rt) else {
-        return None;
+/// Serves the reader's requests by a new desk in memory.
+fn replay_in_memory<R: Read, W: Write>(
+    alloc: Global,
+    at: u64,
+    reader: &mut CountingIo<R>,
+    writer: &mut CountingIo<W>,
+) -> Result<(), RunFault>
+    ensures { IsReplayedInMemory R.remaining W.contents reader.old reader.new writer.old writer.new at result }
+{
+    let desk = open_in_memory(alloc)?;
+    replay_on(alloc, desk, at, reader, writer)
+}
+
+/// A desk in a new database in memory, which knows nothing yet.
+fn open_in_memory(alloc: Global) -> Result<Desk<FileStore<MemoryFile>>, RunFault>
+    ensures new { IfOk result (λ desk. world_at over_memory_files desk.held ≡ empty_world) }
+    ensures fault { IfErr result (λ why. (why ≡ fault.Memory) ⊎ (why ≡ fault.Storage)) }
+{
+    stores_in_memory_are_clean();
+    a_database_tells_its_world();
+    let conn = match agv_memory::open_in_memory(alloc) {
+        Ok(conn) => conn,
+        Err(error) => return Err(fault_of(error)),
     };
-    let Ok(since) = now.duration_since(UNIX_EPOCH) else {
-        return None;
-    };
-    match i64::try_from(since.as_millis()) {
-        Ok(ms) => Moment::of(ms),
-        Err(_) => None,
+    match Desk::open(alloc, conn) {
+        Ok(desk) => Ok(desk),
+        Err((_, why)) => Err(RunFault::from(why)),
     }
 }
 
-/// Accepts one connection, and serves its requests at the moment at which it is accepted.
-pub fn serve_next<S: Alter + Drop>(
-    rt: &HostRuntime,
-    alloc: Global,
-    desk: &mut Desk<S>,
-    listener: &mut TcpListener,
-) -> Result<Result<StreamSummary, StreamFault>, NextFault> {
-    let Ok((stream, _)) = listener.accept() else {
-        return Err(NextFault::Net);
-    };
-    let Some(at) = moment_now(rt) else {
-        return Err(NextFault::Clock);
-    };
-    let mut reader = CountingIo::new(&stream);
-    let mut writer = CountingIo::new(&stream);
-    Ok(serve_stream(alloc, desk, at, &mut reader, &mut writer))
+/// Why a database couldn't be opened.
+fn fault_of(error: Error) -> RunFault
+    ensures { (result ≡ fault.Memory) ⊎ (result ≡ fault.Storage) }
+{
+    match error {
+        Error::SqliteFailure(ErrorCode::OutOfMemory) => RunFault::Memory,
+        _ => RunFault::Storage,
+    }
 }
 
-/// Serves so many connections, one after another. A fault of a connection ends that connection; one of the store ends the
-/// program.
-fn serve_connections<S: Alter + Drop>(
-    rt: &HostRuntime,
+/// Serves the reader's requests by this desk, all at this moment.
+fn replay_on<S: Alter + Drop, R: Read, W: Write>(
     alloc: Global,
-    desk: &mut Desk<S>,
-    listener: &mut TcpListener,
-    connections: u32,
-) -> Result<(), RunFault> {
-    for _ in 0..connections {
-        match serve_next(rt, alloc, desk, listener) {
-            Ok(_) => {}
-            Err(NextFault::Net) => return Err(RunFault::Net),
-            Err(NextFault::Clock) => return Err(RunFault::Clock),
-        }
-        if desk.failed() {
-            return Err(RunFault::Storage);
-        }
+    desk: Desk<S>,
+    at: u64,
+    reader: &mut CountingIo<R>,
+    writer: &mut CountingIo<W>,
+) -> Result<(), RunFault>
+    ensures { IsReplayed R.remaining W.contents reader.old reader.new writer.old writer.new S.Store at desk result }
+{
+    let at = moment_of(at)?;
+    let mut desk = desk;
+    end_of(serve_stream(alloc, &mut desk, at, reader, writer))
+}
+
+/// The moment at so many milliseconds since 1970, up to 2099.
+fn moment_of(ms: u64) -> Result<Moment, RunFault>
+    ensures moment { IfOk result (λ at. (at ≡ ms) × (ms ≤ last_moment)) }
+    ensures none { IfErr result (λ why. (why ≡ fault.Clock) × (last_moment < ms)) }
+{
+    let Ok(ms) = i64::try_from(ms) else {
+        return Err(RunFault::Clock);
+    };
+    match Moment::of(ms) {
+        Some(at) => Ok(at),
+        None => Err(RunFault::Clock),
     }
-    Ok(())
+}
+
+/// The desk in the file; a new one where the file has none of its tables.
+fn open_in_file(rt: &HostRuntime, file: &str) -> Result<Desk<FileStore<File>>, RunFault> {
+    let conn = connect(rt, file)?;
+    match Desk::open(rt.alloc(), conn) {
+        Ok(desk) => Ok(desk),
+        Err((_, why)) => Err(RunFault::from(why)),
+    }
+}
+
+/// The database in the file.
+fn connect(rt: &HostRuntime, file: &str) -> Result<Connection<FileStore<File>>, RunFault>
+    ensures idle { IfOk result (λ conn. conn.in_transaction ≡ false) }
+{
+    match Connection::open(rt, file) {
+        Ok(conn) => Ok(conn),
+        Err(error) => Err(fault_of(error)),
+    }
 }
 
 /// Listens on the port of this machine, says on which, and serves connections.
@@ -218,6 +237,28 @@ fn serve<S: Alter + Drop, W: Write>(
     }
     let mut desk = desk;
     serve_connections(rt, alloc, &mut desk, &mut listener, connections)
+}
+
+/// Serves so many connections, one after another. A fault of a connection ends that connection; one of the store ends the
+/// program.
+fn serve_connections<S: Alter + Drop>(
+    rt: &HostRuntime,
+    alloc: Global,
+    desk: &mut Desk<S>,
+    listener: &mut TcpListener,
+    connections: u32,
+) -> Result<(), RunFault> {
+    for _ in 0..connections {
+        match serve_next(rt, alloc, desk, listener) {
+            Ok(_) => {}
+            Err(NextFault::Net) => return Err(RunFault::Net),
+            Err(NextFault::Clock) => return Err(RunFault::Clock),
+        }
+        if desk.failed() {
+            return Err(RunFault::Storage);
+        }
+    }
+    Ok(())
 }
 
 /// Prints a report.
@@ -257,28 +298,6 @@ fn migrate<W: Write>(
     }
 }
 
-/// Does what the line says.
-fn carry_out<R: Read, W: Write>(
-    rt: &HostRuntime,
-    alloc: Global,
-    line: &Line<'_>,
-    reader: &mut CountingIo<R>,
-    writer: &mut CountingIo<W>,
-) -> Result<(), RunFault>
-    ensures { IsCarriedOut R.remaining W.contents reader.old reader.new writer.old writer.new line.now result }
-{
-    match *line {
-        Line::Replay { db, at } => replay(rt, alloc, db, at, reader, writer),
-        Line::Serve {
-            db,
-            port,
-            connections,
-        } => serve(rt, alloc, open_in_file(rt, db)?, port, connections, writer),
-        Line::Report { db, kind } => report(open_in_file(rt, db)?, kind, writer),
-        Line::Migrate { db } => migrate(rt, db, writer),
-    }
-}
-
 /// Says a fault in its line, and gives the exit status. A write that fails here changes nothing about it.
 fn tell<E: Write>(end: Result<(), RunFault>, errors: &mut CountingIo<E>) -> u8
     ensures told { IsTold E.contents errors.old errors.new end }
@@ -291,23 +310,4 @@ fn tell<E: Write>(end: Result<(), RunFault>, errors: &mut CountingIo<E>) -> u8
             1
         }
     }
-}
-
-/// Carries a line out over a reader of its input, a writer of its output and one of its faults, and gives the exit
-/// status: 0 where all was done; 1 after a fault, which is one line on the writer of faults (`IsRun`, `specs/Runs.antt`).
-///
-/// Of a `replay` in memory it is said besides what was written: the output of its input, from the world of a desk that
-/// knows nothing yet.
-pub fn run_line<R: Read, W: Write, E: Write>(
-    rt: &HostRuntime,
-    alloc: Global,
-    line: &Line<'_>,
-    reader: &mut CountingIo<R>,
-    writer: &mut CountingIo<W>,
-    errors: &mut CountingIo<E>,
-) -> u8
-    ensures { IsRun R.remaining W.contents E.contents line.now reader.old reader.new writer.old writer.new errors.old errors.new result }
-{
-    let end = carry_out(rt, alloc, line, reader, writer);
-    tell(end, errors)
 }

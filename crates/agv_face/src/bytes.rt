@@ -13,6 +13,25 @@ pub(crate) const LONGEST_REQUEST: usize = 73_728;
 /// The bytes that one read asks for at most.
 const ONE_READ: usize = 4096;
 
+/// The reader failed.
+#[derive(Clone, Copy)]
+pub(crate) struct NotRead;
+
+/// Writes all the bytes, and tells whether they were written. A write that takes none is a fault, and so is any error.
+pub fn write_whole<W: Write>(writer: &mut CountingIo<W>, bytes: &[u8]) -> bool
+    ensures { IsPutWhole W.contents writer.old writer.new bytes.now result }
+{
+    let mut done = 0;
+    while done < bytes.len() {
+        match writer.write(&bytes[done..]) {
+            Ok(0) => return false,
+            Ok(n) => done += n,
+            Err(_) => return false,
+        }
+    }
+    true
+}
+
 /// Drops the first bytes.
 pub(crate) fn drop_front(buf: &mut Vec<u8>, n: usize)
     requires { n ≤ vec_len buf.old }
@@ -22,21 +41,6 @@ pub(crate) fn drop_front(buf: &mut Vec<u8>, n: usize)
     buf.rotate_left(n);
     buf.truncate(buf.len() - n);
 }
-
-/// Puts bytes to the end of a buffer that has room for them.
-fn put_reserved(buf: &mut Vec<u8>, bytes: &[u8])
-    requires { vec_len buf.old + length bytes.now ≤ vec_capacity buf.old }
-    ensures items { buf.new.items ≡ buf.old.items ++ bytes.now }
-    ensures room { vec_capacity buf.new ≡ vec_capacity buf.old }
-{
-    for byte in bytes {
-        buf.push_reserved(*byte);
-    }
-}
-
-/// The reader failed.
-#[derive(Clone, Copy)]
-pub(crate) struct NotRead;
 
 /// One read, whose bytes go to the end of a buffer that has room for some more of a request: `false` at the end of the
 /// input.
@@ -63,17 +67,13 @@ pub(crate) fn read_some<R: Read>(
     }
 }
 
-/// Writes all the bytes, and tells whether they were written. A write that takes none is a fault, and so is any error.
-pub fn write_whole<W: Write>(writer: &mut CountingIo<W>, bytes: &[u8]) -> bool
-    ensures { IsPutWhole W.contents writer.old writer.new bytes.now result }
+/// Puts bytes to the end of a buffer that has room for them.
+fn put_reserved(buf: &mut Vec<u8>, bytes: &[u8])
+    requires { vec_len buf.old + length bytes.now ≤ vec_capacity buf.old }
+    ensures items { buf.new.items ≡ buf.old.items ++ bytes.now }
+    ensures room { vec_capacity buf.new ≡ vec_capacity buf.old }
 {
-    let mut done = 0;
-    while done < bytes.len() {
-        match writer.write(&bytes[done..]) {
-            Ok(0) => return false,
-            Ok(n) => done += n,
-            Err(_) => return false,
-        }
+    for byte in bytes {
+        buf.push_reserved(*byte);
     }
-    true
 }

@@ -68,20 +68,6 @@ impl<T> CountingIo<T> {
     }
 }
 
-/// One more, where there is room for it.
-fn add_one(number: &mut u64)
-    ensures { number.new ≡ counted number.old 1 }
-{
-    *number = number.saturating_add(1);
-}
-
-/// Whether a write that took so many of the bytes took none, where there were some.
-fn took_none(n: usize, bytes: &[u8]) -> bool
-    ensures { result ≡ (n == 0 && not (length bytes.now == 0)) }
-{
-    n == 0 && !bytes.is_empty()
-}
-
 impl<R: Read> Read for CountingIo<R> {
     ghost use Rattle.agv_face.specs.CountingIo.{inner_of, HadCall, FailedOnce, FailedNever};
 
@@ -132,4 +118,18 @@ impl<W: Write> Write for CountingIo<W> {
         self.count(flushed.is_err());
         flushed
     }
+}
+
+/// One more, where there is room for it.
+fn add_one(number: &mut u64)
+    ensures { number.new ≡ counted number.old 1 }
+{
+    *number = number.saturating_add(1);
+}
+
+/// Whether a write that took so many of the bytes took none, where there were some.
+fn took_none(n: usize, bytes: &[u8]) -> bool
+    ensures { result ≡ (n == 0 && not (length bytes.now == 0)) }
+{
+    n == 0 && !bytes.is_empty()
 }

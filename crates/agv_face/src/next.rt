@@ -30,15 +30,6 @@ pub(crate) enum Next {
     Fault(Refusal),
 }
 
-/// Puts the bytes of the refusal after which the stream ends into `out`.
-fn refuse(why: &Refusal, out: &mut Vec<u8>) -> Result<(), Memory>
-    requires { out.old.items ≡ [] }
-    ensures text { OnOk result (out.new.items ≡ refusal_text why.now) }
-    ensures grown { vec_capacity out.old ≤ vec_capacity out.new }
-{
-    put_answer(&Answer::Refused(*why), &[], true, out)
-}
-
 /// Serves the next request of the buffer, where it has come whole, and puts the bytes of its answer into `out`; those of
 /// the refusal where there is a fault of HTTP. `ended` says that no byte follows.
 pub(crate) fn serve_next<S: Alter + Drop>(
@@ -73,4 +64,13 @@ pub(crate) fn serve_next<S: Alter + Drop>(
             Ok(Next::Request { len, close })
         }
     }
+}
+
+/// Puts the bytes of the refusal after which the stream ends into `out`.
+fn refuse(why: &Refusal, out: &mut Vec<u8>) -> Result<(), Memory>
+    requires { out.old.items ≡ [] }
+    ensures text { OnOk result (out.new.items ≡ refusal_text why.now) }
+    ensures grown { vec_capacity out.old ≤ vec_capacity out.new }
+{
+    put_answer(&Answer::Refused(*why), &[], true, out)
 }

@@ -28,21 +28,32 @@ pub(crate) struct Reply {
     pub(crate) report: Vec<u8>,
 }
 
-/// Serves the call. What it changes is committed before its report is asked for.
-fn serve_call<S: Alter + Drop>(desk: &mut Desk<S>, at: Moment, call: &Call) -> Result<Reply, Fault>
+/// Serves the request, and puts the bytes of its answer into `out`, which has room for each answer to a call that changes
+/// something: after a commit no memory is taken.
+pub(crate) fn answer_request<S: Alter + Drop>(
+    alloc: Global,
+    routes: &Routes,
+    desk: &mut Desk<S>,
+    at: Moment,
+    request: &RequestRef<'_>,
+    out: &mut Vec<u8>,
+) -> Result<(), Fault>
+    requires empty { out.old.items ≡ [] }
+    requires room { most_answer ≤ vec_capacity out.old }
+    requires short { length request.now.body.now ≤ most_body }
     ensures later { IsLaterDesk S.Store desk.old desk.new }
-    ensures serves { IsClean S.Store desk.new.held → IfOk result (IsCallAnswered (world_at S.Store desk.old.held) (world_at S.Store desk.new.held) at (Ok call.now)) }
+    ensures answers { IsClean S.Store desk.new.held → OnOk result (IsAnswered (world_at S.Store desk.old.held) (world_at S.Store desk.new.held) at request.now out.new.items) }
     ensures unchanged_on_err { IsClean S.Store desk.new.held → IsOpen S.Store desk.new.held → OnErr result (world_at S.Store desk.new.held ≡ world_at S.Store desk.old.held) }
     ensures failed { desk.new.failed ≡ failed_after result desk.old.failed }
-    ensures stopped { desk.old.failed ≡ true → result ≡ Err fault.Storage }
+    ensures stopped { desk.old.failed ≡ true → OnOk result (IsErr (call_of request.now)) }
+    ensures fault { IfErr result (ComesOfCall (call_of request.now)) }
+    ensures grown { vec_capacity out.old ≤ vec_capacity out.new }
 {
-    tells_outcomes();
     tells_without_change();
-    gives_only_what_is_named();
-    a_database_tells_its_world();
-    let answer = desk.serve(at, call)?;
-    let report = desk.report(&answer)?;
-    Ok(Reply { answer, report })
+    let reply = reply_to(alloc, routes, desk, at, request)?;
+    outcomes_fit(&reply.answer);
+    put_answer(&reply.answer, &reply.report, request.close, out)?;
+    Ok(())
 }
 
 /// Serves the request: its call, if it is one, or its refusal.
@@ -70,30 +81,19 @@ fn reply_to<S: Alter + Drop>(
     }
 }
 
-/// Serves the request, and puts the bytes of its answer into `out`, which has room for each answer to a call that changes
-/// something: after a commit no memory is taken.
-pub(crate) fn answer_request<S: Alter + Drop>(
-    alloc: Global,
-    routes: &Routes,
-    desk: &mut Desk<S>,
-    at: Moment,
-    request: &RequestRef<'_>,
-    out: &mut Vec<u8>,
-) -> Result<(), Fault>
-    requires empty { out.old.items ≡ [] }
-    requires room { most_answer ≤ vec_capacity out.old }
-    requires short { length request.now.body.now ≤ most_body }
+/// Serves the call. What it changes is committed before its report is asked for.
+fn serve_call<S: Alter + Drop>(desk: &mut Desk<S>, at: Moment, call: &Call) -> Result<Reply, Fault>
     ensures later { IsLaterDesk S.Store desk.old desk.new }
-    ensures answers { IsClean S.Store desk.new.held → OnOk result (IsAnswered (world_at S.Store desk.old.held) (world_at S.Store desk.new.held) at request.now out.new.items) }
+    ensures serves { IsClean S.Store desk.new.held → IfOk result (IsCallAnswered (world_at S.Store desk.old.held) (world_at S.Store desk.new.held) at (Ok call.now)) }
     ensures unchanged_on_err { IsClean S.Store desk.new.held → IsOpen S.Store desk.new.held → OnErr result (world_at S.Store desk.new.held ≡ world_at S.Store desk.old.held) }
     ensures failed { desk.new.failed ≡ failed_after result desk.old.failed }
-    ensures stopped { desk.old.failed ≡ true → OnOk result (IsErr (call_of request.now)) }
-    ensures fault { IfErr result (ComesOfCall (call_of request.now)) }
-    ensures grown { vec_capacity out.old ≤ vec_capacity out.new }
+    ensures stopped { desk.old.failed ≡ true → result ≡ Err fault.Storage }
 {
+    tells_outcomes();
     tells_without_change();
-    let reply = reply_to(alloc, routes, desk, at, request)?;
-    outcomes_fit(&reply.answer);
-    put_answer(&reply.answer, &reply.report, request.close, out)?;
-    Ok(())
+    gives_only_what_is_named();
+    a_database_tells_its_world();
+    let answer = desk.serve(at, call)?;
+    let report = desk.report(&answer)?;
+    Ok(Reply { answer, report })
 }

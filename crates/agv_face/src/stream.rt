@@ -37,6 +37,51 @@ struct Room {
     output: Vec<u8>,
 }
 
+/// Serves a stream of requests, each at this moment, with at most so many reads: a number above 4,503,599,627,370,495
+/// counts as that.
+///
+/// Room for the longest request and for the answer to each call that changes something is reserved before the first call.
+/// Each request is served once it has come whole, and its answer is written before the next one is looked at. A call is
+/// committed before it is answered.
+///
+/// `IsStreamEnd` (`specs/StreamEnd.antt`) says of each end what has come of the input, what was written, and which world the
+/// desk then knows: the output of `agv_http`, whole, or a front of it, or a front of it and the refusal for a fault of the
+/// machine. Where the store has failed as the stream ends, `failed` says by which end. No clause says that an answer is
+/// written before more is read; a test does.
+///
+/// Which requests were answered, and how many, holds whatever the disk answers (`counts`). Where the store is open as the
+/// stream ends it was open before, so another stream goes on from the world that is known (`later`). A desk that had failed
+/// before stays as it is and serves no call: the first one is answered `Storage`, and the stream ends.
+///
+/// # Errors
+/// `Read` where a read failed, or the most reads were made and one more is needed. `Write` where a write failed or took no
+/// byte. The desk can go on after both.
+pub fn serve_stream_within<S: Alter + Drop, R: Read, W: Write>(
+    alloc: Global,
+    desk: &mut Desk<S>,
+    at: Moment,
+    reader: &mut CountingIo<R>,
+    writer: &mut CountingIo<W>,
+    max_reads: u64,
+) -> Result<StreamSummary, StreamFault>
+    ensures ends { IsStreamEnd S.Store R.remaining W.contents at max_reads desk.old desk.new reader.old reader.new writer.old writer.new result }
+    ensures counts { IsCounted R.remaining W.contents at desk.old desk.new reader.old reader.new writer.old writer.new result }
+    ensures later { IsLaterDesk S.Store desk.old desk.new }
+    ensures failed { EndsFailed desk.old.failed desk.new.failed result }
+    ensures reads { HadCallsAtMost (most_reads max_reads) reader.old reader.new }
+{
+    hears_how_it_goes_on();
+    desk.knows();
+    let _calls = reader.calls();
+    match reserve(alloc) {
+        Ok(room) => {
+            let mut room = room;
+            serve_requests(alloc, &mut room, desk, at, reader, writer, max_reads)
+        }
+        Err(_) => refuse(writer, Fault::Memory, 0),
+    }
+}
+
 /// Reserves all that a stream needs before its first call.
 fn reserve(alloc: Global) -> Result<Room, Memory>
     ensures none { IfOk result (λ room. room.input.items ≡ []) }
@@ -48,29 +93,6 @@ fn reserve(alloc: Global) -> Result<Room, Memory>
         input: Vec::with_capacity(alloc, LONGEST_REQUEST)?,
         output: Vec::with_capacity(alloc, LONGEST_ANSWER)?,
     })
-}
-
-/// Ends a stream, behind so many answers, with the refusal for a fault of the machine. It takes no memory.
-fn refuse<W: Write>(
-    writer: &mut CountingIo<W>,
-    fault: Fault,
-    answers: u64,
-) -> Result<StreamSummary, StreamFault>
-    requires { answers < 18446744073709551615 }
-    ensures { IsRefused W.contents writer.old writer.new fault answers result }
-{
-    let (bytes, why) = match fault {
-        Fault::Memory => (memory_answer(), Refusal::Memory),
-        Fault::Storage => (storage_answer(), Refusal::Storage),
-    };
-    if write_whole(writer, bytes) {
-        Ok(StreamSummary {
-            answers: answers + 1,
-            ended: Ended::Refused(why),
-        })
-    } else {
-        Err(StreamFault::Write { answers })
-    }
 }
 
 /// Serves requests, one after another, to the end of the stream.
@@ -153,48 +175,26 @@ fn serve_requests<S: Alter + Drop, R: Read, W: Write>(
     }
 }
 
-/// Serves a stream of requests, each at this moment, with at most so many reads: a number above 4,503,599,627,370,495
-/// counts as that.
-///
-/// Room for the longest request and for the answer to each call that changes something is reserved before the first call.
-/// Each request is served once it has come whole, and its answer is written before the next one is looked at. A call is
-/// committed before it is answered.
-///
-/// `IsStreamEnd` (`specs/StreamEnd.antt`) says of each end what has come of the input, what was written, and which world the
-/// desk then knows: the output of `agv_http`, whole, or a front of it, or a front of it and the refusal for a fault of the
-/// machine. Where the store has failed as the stream ends, `failed` says by which end. No clause says that an answer is
-/// written before more is read; a test does.
-///
-/// Which requests were answered, and how many, holds whatever the disk answers (`counts`). Where the store is open as the
-/// stream ends it was open before, so another stream goes on from the world that is known (`later`). A desk that had failed
-/// before stays as it is and serves no call: the first one is answered `Storage`, and the stream ends.
-///
-/// # Errors
-/// `Read` where a read failed, or the most reads were made and one more is needed. `Write` where a write failed or took no
-/// byte. The desk can go on after both.
-pub fn serve_stream_within<S: Alter + Drop, R: Read, W: Write>(
-    alloc: Global,
-    desk: &mut Desk<S>,
-    at: Moment,
-    reader: &mut CountingIo<R>,
+/// Ends a stream, behind so many answers, with the refusal for a fault of the machine. It takes no memory.
+fn refuse<W: Write>(
     writer: &mut CountingIo<W>,
-    max_reads: u64,
+    fault: Fault,
+    answers: u64,
 ) -> Result<StreamSummary, StreamFault>
-    ensures ends { IsStreamEnd S.Store R.remaining W.contents at max_reads desk.old desk.new reader.old reader.new writer.old writer.new result }
-    ensures counts { IsCounted R.remaining W.contents at desk.old desk.new reader.old reader.new writer.old writer.new result }
-    ensures later { IsLaterDesk S.Store desk.old desk.new }
-    ensures failed { EndsFailed desk.old.failed desk.new.failed result }
-    ensures reads { HadCallsAtMost (most_reads max_reads) reader.old reader.new }
+    requires { answers < 18446744073709551615 }
+    ensures { IsRefused W.contents writer.old writer.new fault answers result }
 {
-    hears_how_it_goes_on();
-    desk.knows();
-    let _calls = reader.calls();
-    match reserve(alloc) {
-        Ok(room) => {
-            let mut room = room;
-            serve_requests(alloc, &mut room, desk, at, reader, writer, max_reads)
-        }
-        Err(_) => refuse(writer, Fault::Memory, 0),
+    let (bytes, why) = match fault {
+        Fault::Memory => (memory_answer(), Refusal::Memory),
+        Fault::Storage => (storage_answer(), Refusal::Storage),
+    };
+    if write_whole(writer, bytes) {
+        Ok(StreamSummary {
+            answers: answers + 1,
+            ended: Ended::Refused(why),
+        })
+    } else {
+        Err(StreamFault::Write { answers })
     }
 }
 

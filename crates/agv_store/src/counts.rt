@@ -22,17 +22,6 @@ pub(crate) struct Counts {
     pub references: usize,
 }
 
-// How many there are of a kind in the world that these tables tell.
-fn count(alloc: Global, tables: &World, what: Counted) -> Result<usize, Memory>
-    ensures { IfOk result (λ count. count ≡ count_of (world_of tables.now) what) }
-{
-    let mut floor = PlainFloor::new(alloc, tables, 1);
-    let Ok(count) = floor.count(what) else {
-        return Err(Memory);
-    };
-    Ok(count)
-}
-
 impl Counts {
     // None of any kind: what a new desk has.
     pub(crate) fn none() -> Counts
@@ -86,4 +75,15 @@ impl Counts {
             Some(Counted::References) => self.references = self.references.saturating_add(1),
         }
     }
+}
+
+// How many there are of a kind in the world that these tables tell.
+fn count(alloc: Global, tables: &World, what: Counted) -> Result<usize, Memory>
+    ensures { IfOk result (λ count. count ≡ count_of (world_of tables.now) what) }
+{
+    let mut floor = PlainFloor::new(alloc, tables, 1);
+    let Ok(count) = floor.count(what) else {
+        return Err(Memory);
+    };
+    Ok(count)
 }

@@ -22,62 +22,6 @@ use agv_world::{Change, Fault, Floor, PlainFloor, World};
 use sqlite::Alter;
 use std::alloc::Global;
 
-// The layout of the world that these tables tell; none before it is set.
-pub(crate) fn layout_told(alloc: Global, tables: &World) -> Result<Option<Layout>, Memory>
-    ensures { IfOk result (λ layout. layout ≡ layout_set (world_of tables.now)) }
-{
-    let mut floor = PlainFloor::new(alloc, tables, 1);
-    let Ok(layout) = floor.layout() else {
-        return Err(Memory);
-    };
-    Ok(layout)
-}
-
-// A copy of a layout, where there is one.
-fn copy_of(layout: &Option<Layout>) -> Result<Option<Layout>, Memory>
-    ensures { IfOk result (λ copy. copy ≡ layout.now) }
-{
-    match layout {
-        None => Ok(None),
-        Some(layout) => {
-            let copy = layout.copy()?;
-            Ok(Some(copy))
-        }
-    }
-}
-
-// Whether the change writes a row of the layout.
-fn is_of_layout(change: &Change) -> bool
-    ensures { result ≡ is_of_layout change.now }
-{
-    match change {
-        Change::Node(_) | Change::Edge(_, _) | Change::Station(_, _) => true,
-        Change::Vehicle(_, _)
-        | Change::Trip(_, _)
-        | Change::Leg(_, _)
-        | Change::Load(_, _)
-        | Change::Job(_, _)
-        | Change::Hold(_, _)
-        | Change::Used(_) => false,
-    }
-}
-
-// Whether one of the changes writes a row of the layout.
-fn have_layout(changes: &[Change]) -> bool
-    ensures { result ≡ list_any is_of_layout changes.now }
-{
-    changes.iter().any(|change| is_of_layout(change))
-}
-
-// A layout is kept no more where one of the changes writes a row of it.
-pub(crate) fn keep_through(layout: &mut Option<Layout>, changes: &[Change])
-    ensures { layout.new ≡ kept_through changes.now layout.old }
-{
-    if have_layout(changes) {
-        *layout = None;
-    }
-}
-
 impl<S: Alter + Drop> KeyedFloor<S> {
     // Whether a layout is kept that has this node.
     pub(crate) fn keeps_node(&self, id: Name) -> bool
@@ -126,5 +70,61 @@ impl<S: Alter + Drop> KeyedFloor<S> {
         let copy = copy_of(layout)?;
         self.layout = copy;
         Ok(())
+    }
+}
+
+// The layout of the world that these tables tell; none before it is set.
+pub(crate) fn layout_told(alloc: Global, tables: &World) -> Result<Option<Layout>, Memory>
+    ensures { IfOk result (λ layout. layout ≡ layout_set (world_of tables.now)) }
+{
+    let mut floor = PlainFloor::new(alloc, tables, 1);
+    let Ok(layout) = floor.layout() else {
+        return Err(Memory);
+    };
+    Ok(layout)
+}
+
+// A layout is kept no more where one of the changes writes a row of it.
+pub(crate) fn keep_through(layout: &mut Option<Layout>, changes: &[Change])
+    ensures { layout.new ≡ kept_through changes.now layout.old }
+{
+    if have_layout(changes) {
+        *layout = None;
+    }
+}
+
+// Whether one of the changes writes a row of the layout.
+fn have_layout(changes: &[Change]) -> bool
+    ensures { result ≡ list_any is_of_layout changes.now }
+{
+    changes.iter().any(|change| is_of_layout(change))
+}
+
+// Whether the change writes a row of the layout.
+fn is_of_layout(change: &Change) -> bool
+    ensures { result ≡ is_of_layout change.now }
+{
+    match change {
+        Change::Node(_) | Change::Edge(_, _) | Change::Station(_, _) => true,
+        Change::Vehicle(_, _)
+        | Change::Trip(_, _)
+        | Change::Leg(_, _)
+        | Change::Load(_, _)
+        | Change::Job(_, _)
+        | Change::Hold(_, _)
+        | Change::Used(_) => false,
+    }
+}
+
+// A copy of a layout, where there is one.
+fn copy_of(layout: &Option<Layout>) -> Result<Option<Layout>, Memory>
+    ensures { IfOk result (λ copy. copy ≡ layout.now) }
+{
+    match layout {
+        None => Ok(None),
+        Some(layout) => {
+            let copy = layout.copy()?;
+            Ok(Some(copy))
+        }
     }
 }

@@ -23,24 +23,6 @@ use agv_world::laws::tables_tell_the_world;
 use sqlite::{Alter, Connection};
 use std::alloc::Global;
 
-// The tables in memory of the world whose rows a database of the first schema has, with its counts and its layout.
-fn find_first_desk<S: Alter>(
-    alloc: Global,
-    conn: &mut Connection<S>,
-) -> Result<(World, Counts, Option<Layout>), OpenFault>
-    requires { conn.old.in_transaction ≡ false }
-    ensures { FindsFirstDesk S.Store conn.old conn.new result }
-{
-    is_in_good_order();
-    tables_tell_the_world();
-    gives_itself();
-    needs_a_node();
-    let tables = find_first_world(alloc, conn)?;
-    let counts = Counts::of(alloc, &tables)?;
-    let layout = layout_told(alloc, &tables)?;
-    Ok((tables, counts, layout))
-}
-
 impl<S: Alter + Drop> Desk<S> {
     /// Moves a database of the first schema, in which each vehicle has room for one load, to the second, and takes the desk
     /// over. All is done in one transaction: the tables `capacity`, `journey` and `act` are made and have their rows, `trip`
@@ -90,4 +72,22 @@ impl<S: Alter + Drop> Desk<S> {
             Err(why) => Err((conn, OpenFault::from(why))),
         }
     }
+}
+
+// The tables in memory of the world whose rows a database of the first schema has, with its counts and its layout.
+fn find_first_desk<S: Alter>(
+    alloc: Global,
+    conn: &mut Connection<S>,
+) -> Result<(World, Counts, Option<Layout>), OpenFault>
+    requires { conn.old.in_transaction ≡ false }
+    ensures { FindsFirstDesk S.Store conn.old conn.new result }
+{
+    is_in_good_order();
+    tables_tell_the_world();
+    gives_itself();
+    needs_a_node();
+    let tables = find_first_world(alloc, conn)?;
+    let counts = Counts::of(alloc, &tables)?;
+    let layout = layout_told(alloc, &tables)?;
+    Ok((tables, counts, layout))
 }

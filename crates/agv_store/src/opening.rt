@@ -35,43 +35,6 @@ use agv_world::laws::tables_tell_the_world;
 use sqlite::{Alter, Connection};
 use std::alloc::Global;
 
-// Whether these are the tables of a lawful world, and what is held is what its vehicles hold.
-fn are_of_a_lawful_world(alloc: Global, tables: &World, holds: &HeldThings) -> Result<bool, Memory>
-    ensures { IfOk result (λ are. IsTrue are ↔ ((world : WorldOf) × Keeps tables.now world × IsLawful desk_seats world × (holds.now.table ≡ (rows_of world).holds))) }
-{
-    Ok(tables.is_lawful(alloc, 4)? && holds.are_footprints(alloc, tables)?)
-}
-
-// The counts and the layout of the world whose rows the desk's tables have, where they have the rows of a lawful one.
-fn find_desk<S: Alter>(
-    alloc: Global,
-    conn: &mut Connection<S>,
-) -> Result<(Counts, Option<Layout>), OpenFault>
-    requires { conn.old.in_transaction ≡ false }
-    ensures { Finds S.Store conn.old conn.new result }
-{
-    tables_read_tell_the_world();
-    a_database_tells_its_world();
-    is_in_good_order();
-    tables_tell_the_world();
-    gives_itself();
-    needs_a_node();
-    let _settled = conn.is_autocommit();
-    if !tables_stand(alloc, conn.schema())? {
-        return Err(OpenFault::Damaged);
-    }
-    if !query_rowids(alloc, conn)? {
-        return Err(OpenFault::Damaged);
-    }
-    let (tables, holds) = read_world(alloc, conn)?;
-    if !are_of_a_lawful_world(alloc, &tables, &holds)? {
-        return Err(OpenFault::Damaged);
-    }
-    let counts = Counts::of(alloc, &tables)?;
-    let layout = layout_told(alloc, &tables)?;
-    Ok((counts, layout))
-}
-
 impl<S: Alter + Drop> Desk<S> {
     /// Makes a desk that knows nothing yet: its tables are made in one transaction, beside whatever the database has.
     ///
@@ -173,4 +136,41 @@ impl<S: Alter + Drop> Desk<S> {
             },
         }
     }
+}
+
+// The counts and the layout of the world whose rows the desk's tables have, where they have the rows of a lawful one.
+fn find_desk<S: Alter>(
+    alloc: Global,
+    conn: &mut Connection<S>,
+) -> Result<(Counts, Option<Layout>), OpenFault>
+    requires { conn.old.in_transaction ≡ false }
+    ensures { Finds S.Store conn.old conn.new result }
+{
+    tables_read_tell_the_world();
+    a_database_tells_its_world();
+    is_in_good_order();
+    tables_tell_the_world();
+    gives_itself();
+    needs_a_node();
+    let _settled = conn.is_autocommit();
+    if !tables_stand(alloc, conn.schema())? {
+        return Err(OpenFault::Damaged);
+    }
+    if !query_rowids(alloc, conn)? {
+        return Err(OpenFault::Damaged);
+    }
+    let (tables, holds) = read_world(alloc, conn)?;
+    if !are_of_a_lawful_world(alloc, &tables, &holds)? {
+        return Err(OpenFault::Damaged);
+    }
+    let counts = Counts::of(alloc, &tables)?;
+    let layout = layout_told(alloc, &tables)?;
+    Ok((counts, layout))
+}
+
+// Whether these are the tables of a lawful world, and what is held is what its vehicles hold.
+fn are_of_a_lawful_world(alloc: Global, tables: &World, holds: &HeldThings) -> Result<bool, Memory>
+    ensures { IfOk result (λ are. IsTrue are ↔ ((world : WorldOf) × Keeps tables.now world × IsLawful desk_seats world × (holds.now.table ≡ (rows_of world).holds))) }
+{
+    Ok(tables.is_lawful(alloc, 4)? && holds.are_footprints(alloc, tables)?)
 }

@@ -23,68 +23,14 @@ use sqlite::Alter;
 use std::alloc::Global;
 use std::collections::BTreeMap;
 
-// A number as reports have it: no world has so many of anything that it doesn't fit.
-fn told_number(number: usize) -> u32
-    ensures { number < 2 ^ 32 → result ≡ number }
-{
-    u32::try_from(number).unwrap_or(u32::MAX)
-}
-
-// A station with its name.
-fn station_named(id: Name, site: &StationSite) -> Station
-    ensures { result ≡ station_named (id, site.now) }
-{
-    Station {
-        id,
-        node: site.node,
-        capacity: site.capacity,
-    }
-}
-
-// The vehicles of a table, in its order.
-fn keys_of(alloc: Global, table: &ByVehicle<VehicleRow>) -> Result<Vec<VehicleKey>, Memory>
-    ensures { IfOk result (λ keys. keys.items ≡ keys_of (finite.entries table.now)) }
-{
-    let mut keys = Vec::new(alloc);
-    for (key, _) in table.iter() {
-        keys.push(*key)?;
-    }
-    Ok(keys)
-}
-
-// These pairs in the order of their things, each thing once.
-fn in_order(
-    alloc: Global,
-    pairs: &[(Thing, VehicleKey)],
-) -> Result<BTreeMap<Thing, VehicleKey>, Memory>
-    ensures { IfOk result (λ holders. finite.from_entries holders.entries ≡ entered finite.empty pairs.now) }
-{
-    let mut holders = BTreeMap::new(alloc);
-    for (thing, key) in pairs {
-        holders.insert(*thing, *key)?;
-    }
-    Ok(holders)
-}
-
-// What is held, and by which vehicle: the nodes first, then the edges, each by name.
-fn holds_of(alloc: Global, held: &HeldThings) -> Result<Vec<(Thing, VehicleKey)>, Memory>
-    ensures { IfOk result (λ holds. holds.items ≡ finite.entries held.now.table) }
-{
-    let holders = in_order(alloc, &held.pairs)?;
-    let mut holds = Vec::new(alloc);
-    for (thing, key) in holders.iter() {
-        holds.push((*thing, *key))?;
-    }
-    Ok(holds)
-}
-
 impl<S: Alter + Drop> KeyedFloor<S> {
-    // The number of live jobs to a station.
-    fn jobs_to(&mut self, station: Name) -> Result<u32, Fault>
-        ensures { Asks (facts_of S.Store) self.old self.new result (λ world jobs. IsLawful desk_seats world → jobs ≡ reserved world station) }
+    // The stations by name, each with the number of live jobs to it.
+    pub(crate) fn stations_told(&mut self) -> Result<Vec<(Station, u32)>, Fault>
+        ensures { Asks (facts_of S.Store) self.old self.new result (λ world stations. IsLawful desk_seats world → stations.items ≡ stations_told world) }
     {
-        let jobs = self.reserved(station)?;
-        Ok(told_number(jobs))
+        let table = self.all_stations()?;
+        let sites = table.list(self.alloc)?;
+        self.with_jobs(&sites)
     }
 
     // These stations, each with the number of live jobs to it.
@@ -99,13 +45,12 @@ impl<S: Alter + Drop> KeyedFloor<S> {
         Ok(stations)
     }
 
-    // The stations by name, each with the number of live jobs to it.
-    pub(crate) fn stations_told(&mut self) -> Result<Vec<(Station, u32)>, Fault>
-        ensures { Asks (facts_of S.Store) self.old self.new result (λ world stations. IsLawful desk_seats world → stations.items ≡ stations_told world) }
+    // The number of live jobs to a station.
+    fn jobs_to(&mut self, station: Name) -> Result<u32, Fault>
+        ensures { Asks (facts_of S.Store) self.old self.new result (λ world jobs. IsLawful desk_seats world → jobs ≡ reserved world station) }
     {
-        let table = self.all_stations()?;
-        let sites = table.list(self.alloc)?;
-        self.with_jobs(&sites)
+        let jobs = self.reserved(station)?;
+        Ok(told_number(jobs))
     }
 
     // The loads by name, each with its place.
@@ -143,4 +88,59 @@ impl<S: Alter + Drop> KeyedFloor<S> {
         let edges = self.all_edges()?;
         Ok(told_number(nodes.len().saturating_add(edges.len())))
     }
+}
+
+// A station with its name.
+fn station_named(id: Name, site: &StationSite) -> Station
+    ensures { result ≡ station_named (id, site.now) }
+{
+    Station {
+        id,
+        node: site.node,
+        capacity: site.capacity,
+    }
+}
+
+// A number as reports have it: no world has so many of anything that it doesn't fit.
+fn told_number(number: usize) -> u32
+    ensures { number < 2 ^ 32 → result ≡ number }
+{
+    u32::try_from(number).unwrap_or(u32::MAX)
+}
+
+// The vehicles of a table, in its order.
+fn keys_of(alloc: Global, table: &ByVehicle<VehicleRow>) -> Result<Vec<VehicleKey>, Memory>
+    ensures { IfOk result (λ keys. keys.items ≡ keys_of (finite.entries table.now)) }
+{
+    let mut keys = Vec::new(alloc);
+    for (key, _) in table.iter() {
+        keys.push(*key)?;
+    }
+    Ok(keys)
+}
+
+// What is held, and by which vehicle: the nodes first, then the edges, each by name.
+fn holds_of(alloc: Global, held: &HeldThings) -> Result<Vec<(Thing, VehicleKey)>, Memory>
+    ensures { IfOk result (λ holds. holds.items ≡ finite.entries held.now.table) }
+{
+    let holders = in_order(alloc, &held.pairs)?;
+    let mut holds = Vec::new(alloc);
+    for (thing, key) in holders.iter() {
+        holds.push((*thing, *key))?;
+    }
+    Ok(holds)
+}
+
+// These pairs in the order of their things, each thing once.
+fn in_order(
+    alloc: Global,
+    pairs: &[(Thing, VehicleKey)],
+) -> Result<BTreeMap<Thing, VehicleKey>, Memory>
+    ensures { IfOk result (λ holders. finite.from_entries holders.entries ≡ entered finite.empty pairs.now) }
+{
+    let mut holders = BTreeMap::new(alloc);
+    for (thing, key) in pairs {
+        holders.insert(*thing, *key)?;
+    }
+    Ok(holders)
 }

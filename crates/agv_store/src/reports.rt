@@ -23,6 +23,52 @@ use agv_world::Fault;
 use sqlite::Alter;
 
 impl<S: Alter + Drop> KeyedFloor<S> {
+    // The report that the answer names; none where it names none.
+    pub(crate) fn report(&mut self, told: &Answer) -> Result<Vec<u8>, Fault>
+        ensures tells { IsClean S.Store self.new.held → IfOk result (λ bytes. bytes.items ≡ report_of (world_at S.Store self.old.held) told.now) }
+        ensures knew { IsClean S.Store self.new.held → OnOk result (names_report told.now ≡ true → Knows S.Store self.old.held (world_at S.Store self.old.held)) }
+        ensures knows { IsClean S.Store self.new.held → OnOk result (names_report told.now ≡ true → Knows S.Store self.new.held (world_at S.Store self.old.held)) }
+        ensures left { IsClean S.Store self.new.held → IsOpen S.Store self.new.held → LeavesAll S.Store self.old.held self.new.held }
+        ensures was_open { IsClean S.Store self.new.held → IsOpen S.Store self.new.held → IsOpen S.Store self.old.held }
+        ensures crash { Survives (state S.Store self.old.held) (state S.Store self.new.held) (λ _. ⊥) }
+        ensures silent { names_report told.now ≡ false → IsOkAnd result (λ bytes. bytes.items ≡ []) × (self.new ≡ self.old) }
+        ensures ends { names_report told.now ≡ true → EndsAs result self.new.failed }
+        ensures fails { self.old.failed ≡ true → self.new.failed ≡ true }
+        ensures stopped { names_report told.now ≡ true → self.old.failed ≡ true → (result ≡ Err fault.Storage) × (self.new ≡ self.old) }
+    {
+        gives_only_what_is_named();
+        self.knows();
+        if !names_report(told) {
+            return Ok(Vec::new(self.alloc));
+        }
+        self.reported(told)
+    }
+
+    // The report that the answer names, by a store that was open before it and is after it.
+    fn reported(&mut self, told: &Answer) -> Result<Vec<u8>, Fault>
+        ensures tells { Asks (facts_of S.Store) self.old self.new result (λ world bytes. IsLawful desk_seats world → bytes.items ≡ report_of world told.now) }
+        ensures knows { IsClean S.Store self.new.held → OnOk result (Knows S.Store self.new.held (world_at S.Store self.new.held)) }
+        ensures ends { EndsAs result self.new.failed }
+        ensures stopped { self.old.failed ≡ true → (result ≡ Err fault.Storage) × (self.new ≡ self.old) }
+    {
+        self.settle()?;
+        let bytes = self.bytes_of(told)?;
+        self.settle()?;
+        Ok(bytes)
+    }
+
+    // The report that the answer names.
+    fn bytes_of(&mut self, told: &Answer) -> Result<Vec<u8>, Fault>
+        ensures { Asks (facts_of S.Store) self.old self.new result (λ world bytes. IsLawful desk_seats world → bytes.items ≡ report_of world told.now) }
+    {
+        match told {
+            Answer::StockReport => self.stock(),
+            Answer::HoldReport => self.holds(),
+            Answer::LoadsExport => self.export(),
+            _ => Ok(Vec::new(self.alloc)),
+        }
+    }
+
     // The stations with their loads and the live jobs to them, the vehicles with their loads, and how many have left.
     fn stock(&mut self) -> Result<Vec<u8>, Fault>
         ensures { Asks (facts_of S.Store) self.old self.new result (λ world bytes. IsLawful desk_seats world → bytes.items ≡ report_of world answer.StockReport) }
@@ -51,52 +97,6 @@ impl<S: Alter + Drop> KeyedFloor<S> {
         let alloc = self.alloc;
         let loads = self.loads_told()?;
         Ok(loads_csv(alloc, &loads)?)
-    }
-
-    // The report that the answer names.
-    fn bytes_of(&mut self, told: &Answer) -> Result<Vec<u8>, Fault>
-        ensures { Asks (facts_of S.Store) self.old self.new result (λ world bytes. IsLawful desk_seats world → bytes.items ≡ report_of world told.now) }
-    {
-        match told {
-            Answer::StockReport => self.stock(),
-            Answer::HoldReport => self.holds(),
-            Answer::LoadsExport => self.export(),
-            _ => Ok(Vec::new(self.alloc)),
-        }
-    }
-
-    // The report that the answer names, by a store that was open before it and is after it.
-    fn reported(&mut self, told: &Answer) -> Result<Vec<u8>, Fault>
-        ensures tells { Asks (facts_of S.Store) self.old self.new result (λ world bytes. IsLawful desk_seats world → bytes.items ≡ report_of world told.now) }
-        ensures knows { IsClean S.Store self.new.held → OnOk result (Knows S.Store self.new.held (world_at S.Store self.new.held)) }
-        ensures ends { EndsAs result self.new.failed }
-        ensures stopped { self.old.failed ≡ true → (result ≡ Err fault.Storage) × (self.new ≡ self.old) }
-    {
-        self.settle()?;
-        let bytes = self.bytes_of(told)?;
-        self.settle()?;
-        Ok(bytes)
-    }
-
-    // The report that the answer names; none where it names none.
-    pub(crate) fn report(&mut self, told: &Answer) -> Result<Vec<u8>, Fault>
-        ensures tells { IsClean S.Store self.new.held → IfOk result (λ bytes. bytes.items ≡ report_of (world_at S.Store self.old.held) told.now) }
-        ensures knew { IsClean S.Store self.new.held → OnOk result (names_report told.now ≡ true → Knows S.Store self.old.held (world_at S.Store self.old.held)) }
-        ensures knows { IsClean S.Store self.new.held → OnOk result (names_report told.now ≡ true → Knows S.Store self.new.held (world_at S.Store self.old.held)) }
-        ensures left { IsClean S.Store self.new.held → IsOpen S.Store self.new.held → LeavesAll S.Store self.old.held self.new.held }
-        ensures was_open { IsClean S.Store self.new.held → IsOpen S.Store self.new.held → IsOpen S.Store self.old.held }
-        ensures crash { Survives (state S.Store self.old.held) (state S.Store self.new.held) (λ _. ⊥) }
-        ensures silent { names_report told.now ≡ false → IsOkAnd result (λ bytes. bytes.items ≡ []) × (self.new ≡ self.old) }
-        ensures ends { names_report told.now ≡ true → EndsAs result self.new.failed }
-        ensures fails { self.old.failed ≡ true → self.new.failed ≡ true }
-        ensures stopped { names_report told.now ≡ true → self.old.failed ≡ true → (result ≡ Err fault.Storage) × (self.new ≡ self.old) }
-    {
-        gives_only_what_is_named();
-        self.knows();
-        if !names_report(told) {
-            return Ok(Vec::new(self.alloc));
-        }
-        self.reported(told)
     }
 }
 

@@ -29,6 +29,27 @@ use agv_world::laws::rows_tell_the_world;
 use sqlite::Alter;
 
 impl<S: Alter + Drop> KeyedFloor<S> {
+    // The call is served.
+    pub(crate) fn serve(&mut self, at: Moment, call: &Call) -> Result<Answer, Fault>
+        ensures knew { IsClean S.Store self.new.held → OnOk result (Knows S.Store self.old.held (world_at S.Store self.old.held)) }
+        ensures serves { IsClean S.Store self.new.held → IfOk result (IsServedBy S.Store self.old.held self.new.held at call.now) }
+        ensures unchanged_on_err { IsClean S.Store self.new.held → IsOpen S.Store self.new.held → OnErr result (LeavesAll S.Store self.old.held self.new.held) }
+        ensures was_open { IsClean S.Store self.new.held → IsOpen S.Store self.new.held → IsOpen S.Store self.old.held }
+        ensures crash { Survives (state S.Store self.old.held) (state S.Store self.new.held) (LeavesCall S.Store self.old.held at call.now) }
+        ensures ends { EndsAs result self.new.failed }
+        ensures fails { self.old.failed ≡ true → self.new.failed ≡ true }
+        ensures stopped { self.old.failed ≡ true → (result ≡ Err fault.Storage) × (self.new ≡ self.old) }
+    {
+        self.knows();
+        is_in_good_order();
+        rows_tell_the_world();
+        let decision = self.decided(at, call)?;
+        if decision.changes.is_empty() {
+            return Ok(decision.answer);
+        }
+        self.write(decision, at, call)
+    }
+
     // What the call is decided to be, by a store that was open before it and is after it.
     fn decided(&mut self, at: Moment, call: &Call) -> Result<Decision, Fault>
         ensures decides { Asks (facts_of S.Store) self.old self.new result (λ world decision. IsLawful desk_seats world → Decides world at call.now decision) }
@@ -68,26 +89,5 @@ impl<S: Alter + Drop> KeyedFloor<S> {
         self.counts.add(counted_by(call, &decision.answer));
         keep_through(&mut self.layout, decision.changes.as_slice());
         Ok(decision.answer)
-    }
-
-    // The call is served.
-    pub(crate) fn serve(&mut self, at: Moment, call: &Call) -> Result<Answer, Fault>
-        ensures knew { IsClean S.Store self.new.held → OnOk result (Knows S.Store self.old.held (world_at S.Store self.old.held)) }
-        ensures serves { IsClean S.Store self.new.held → IfOk result (IsServedBy S.Store self.old.held self.new.held at call.now) }
-        ensures unchanged_on_err { IsClean S.Store self.new.held → IsOpen S.Store self.new.held → OnErr result (LeavesAll S.Store self.old.held self.new.held) }
-        ensures was_open { IsClean S.Store self.new.held → IsOpen S.Store self.new.held → IsOpen S.Store self.old.held }
-        ensures crash { Survives (state S.Store self.old.held) (state S.Store self.new.held) (LeavesCall S.Store self.old.held at call.now) }
-        ensures ends { EndsAs result self.new.failed }
-        ensures fails { self.old.failed ≡ true → self.new.failed ≡ true }
-        ensures stopped { self.old.failed ≡ true → (result ≡ Err fault.Storage) × (self.new ≡ self.old) }
-    {
-        self.knows();
-        is_in_good_order();
-        rows_tell_the_world();
-        let decision = self.decided(at, call)?;
-        if decision.changes.is_empty() {
-            return Ok(decision.answer);
-        }
-        self.write(decision, at, call)
     }
 }
