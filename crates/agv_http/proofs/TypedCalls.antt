@@ -1,9 +1,8 @@
 -- The calls that requests ask are well typed: the names in their paths are names, and what their bodies say is well typed.
-use Rattle.std.proofs.Common.{◌≡◌, ℕ, Bool, true, false, cond, List, [], ◌∷◌, All, Option, None, Some, Result, Ok, Err, IfOk, IfSome, option_map, option_and_then, bytes_eq, refl}
+use Rattle.std.proofs.Common.{◌≡◌, ℕ, Bool, true, false, cond, List, [], ◌∷◌, map, All, Option, None, Some, Result, Ok, Err, IfOk, IfSome, option_map, option_and_then, bytes_eq, refl}
 use Rattle.std.specs.List.{cons_option}
 use Rattle.std.proofs.lemmas.List.Elements.{All-cons, All-head, All-nil}
 use Rattle.agv_header.specs.Name.{IsName, is_name}
-use Rattle.agv_header.specs.declared.key.VehicleKey.{VehicleKey}
 use Rattle.agv_header.specs.declared.refusal.Refusal.{Refusal}
 use Rattle.agv_header.specs.declared.refusal.Refusal.TheVariants as refusal
 use Rattle.agv_desk.specs.WellTyped.{AreWellTyped, IsMoment}
@@ -13,9 +12,14 @@ use Rattle.agv_header.specs.Refusal.{verb_text}
 use Rattle.agv_http.specs.Output.{timed_call, call_of_routed, call_of_request, calls_of}
 use Rattle.agv_http.specs.routing.Paths.{Part, Word, AName, names_in, path_of, segments_of}
 use Rattle.agv_http.specs.request.Requests.{Request}
-use Rattle.agv_http.specs.routing.Table.{Row, MethodRoute, at_path, fixed, if_method, of_name, of_vehicle, or_next, route_at, method_route_at, method_route_by, table, with_route}
+use Rattle.agv_http.specs.routing.Table.{Entry, Row, MethodRoute, at_path, entries, if_method, or_next, route_with, row_of, route_at, method_route_at, method_route_by, table, with_route}
+use Rattle.agv_http.specs.declared.routing.line.RouteKind.{RouteKind}
+use Rattle.agv_http.specs.declared.routing.line.RouteKind.TheVariants.{Fixed, OfName, OfVehicle}
+use Rattle.agv_http.specs.declared.routing.route.FixedRoute.TheVariants as fixed
+use Rattle.agv_http.specs.declared.routing.route.NamedRoute.TheVariants as named
 use Rattle.agv_http.specs.declared.routing.route.Route.{Route}
 use Rattle.agv_http.specs.declared.routing.route.Route.TheVariants as route
+use Rattle.agv_http.specs.declared.routing.route.VehicleRoute.TheVariants as vehicle
 use Rattle.agv_http.proofs.bodies.TypedBodies.{IsTypedIfSaid, reads_advance, reads_correction, reads_count, reads_job, reads_layout, reads_leave, reads_load, reads_order, reads_place, reads_state, reads_vehicle}
 
 -- ---- the names in paths
@@ -41,108 +45,34 @@ names_named (AName ∷ parts) (s ∷ segments) = by (is_name s) refl (names_in p
 
 -- ---- routes
 
--- where a route's path has the name that its call makes known, it is one
+-- where a route has one name, it is one
 abbrev IsNamedRoute : Route → Type 0
-IsNamedRoute (route.Stocktake reference) = IsName reference
-IsNamedRoute _ = Unit {0}
+IsNamedRoute (route.Fixed call) = Unit {0}
+IsNamedRoute (route.OfName call name) = IsName name
+IsNamedRoute (route.OfVehicle call key) = Unit {0}
 
 -- a line makes such routes of names
 abbrev IsNamedLine : (List (List ℕ) → Option Route) → Type 0
 IsNamedLine line = (names : List (List ℕ)) → All IsName names → IfSome (line names) IsNamedRoute
 
-of_none : (r : Route) → IsNamedRoute r → IsNamedLine (fixed r)
-of_none r is [] are = is
-of_none r is (name ∷ names) are = tt
-
-of_one : (f : List ℕ → Route) → ((name : List ℕ) → IsName name → IsNamedRoute (f name)) → IsNamedLine (of_name f)
-of_one f is [] are = tt
-of_one f is (name ∷ []) are = is name (All-head IsName name [] are)
-of_one f is (name ∷ other ∷ names) are = tt
-
-of_two : (f : VehicleKey → Route) → ((key : VehicleKey) → IsNamedRoute (f key)) → IsNamedLine (of_vehicle f)
-of_two f is [] are = tt
-of_two f is (name ∷ []) are = tt
-of_two f is (manufacturer ∷ serial ∷ []) are = is (record { manufacturer = manufacturer; serial = serial })
-of_two f is (manufacturer ∷ serial ∷ name ∷ names) are = tt
+kind_named : (kind : RouteKind) → IsNamedLine (route_with kind)
+kind_named (Fixed call) [] are = tt
+kind_named (Fixed call) (name ∷ names) are = tt
+kind_named (OfName call) [] are = tt
+kind_named (OfName call) (name ∷ []) are = All-head IsName name [] are
+kind_named (OfName call) (name ∷ other ∷ names) are = tt
+kind_named (OfVehicle call) [] are = tt
+kind_named (OfVehicle call) (name ∷ []) are = tt
+kind_named (OfVehicle call) (manufacturer ∷ serial ∷ []) are = tt
+kind_named (OfVehicle call) (manufacturer ∷ serial ∷ name ∷ names) are = tt
 
 abbrev AreNamedLines : List Row → Type 0
 AreNamedLines [] = Unit {0}
 AreNamedLines (r ∷ rows) = IsNamedLine r.route × AreNamedLines rows
 
-no_name_made : (f : List ℕ → Route) → ((name : List ℕ) → IsNamedRoute (f name)) → IsNamedLine (of_name f)
-no_name_made f is = of_one f (λ name _. is name)
-
-lines_named : AreNamedLines table
-lines_named = (
-  of_none route.SetLayout tt,
-  (
-    of_none route.RegisterVehicle tt,
-    (
-      of_none route.RegisterLoad tt,
-      (
-        no_name_made route.CorrectLoad (λ _. tt),
-        (
-          no_name_made route.LeaveLoad (λ _. tt),
-          (
-            of_none route.AddJob tt,
-            (
-              no_name_made route.StopJob (λ _. tt),
-              (
-                of_none route.StartOrder tt,
-                (
-                  of_two route.Advance (λ _. tt),
-                  (
-                    of_two route.Cancel (λ _. tt),
-                    (
-                      of_two route.Pause (λ _. tt),
-                      (
-                        of_two route.Resume (λ _. tt),
-                        (
-                          of_two route.PlaceVehicle (λ _. tt),
-                          (
-                            of_two route.Resync (λ _. tt),
-                            (
-                              of_two route.State (λ _. tt),
-                              (
-                                of_two route.GetOrder (λ _. tt),
-                                (
-                                  of_two route.GetInstant (λ _. tt),
-                                  (
-                                    of_one route.Stocktake (λ reference is. is),
-                                    (
-                                      no_name_made route.GetLoad (λ _. tt),
-                                      (
-                                        of_two route.GetVehicle (λ _. tt),
-                                        (
-                                          of_none route.StockReport tt,
-                                          (
-                                            of_none route.HoldReport tt,
-                                            (
-                                              of_none route.LoadsExport tt,
-                                              tt,
-                                            ),
-                                          ),
-                                        ),
-                                      ),
-                                    ),
-                                  ),
-                                ),
-                              ),
-                            ),
-                          ),
-                        ),
-                      ),
-                    ),
-                  ),
-                ),
-              ),
-            ),
-          ),
-        ),
-      ),
-    ),
-  ),
-)
+entries_named : (es : List Entry) → AreNamedLines (map row_of es)
+entries_named [] = tt
+entries_named (e ∷ es) = (kind_named e.1.kind, entries_named es)
 
 -- what is served has such a route
 abbrev IsNamedMethodRoute : Option MethodRoute → Type 0
@@ -167,7 +97,7 @@ served_named (r ∷ rows) are segments =
 
 path_named : (segments : Option (List (List ℕ))) → IsNamedMethodRoute (option_and_then (method_route_at table) segments)
 path_named None = tt
-path_named (Some segments) = served_named table lines_named segments
+path_named (Some segments) = served_named table (entries_named entries) segments
 
 by_method : (method : List ℕ) (served : Option MethodRoute) → IsNamedMethodRoute served → IfOk (if_method method served) IsNamedRoute
 by_method method None is = tt
@@ -184,29 +114,29 @@ route_named method target = by_method method (at_path (path_of target)) (path_na
 
 reads_call : (line : Route) → IsNamedRoute line → (body : List ℕ) → IsTypedIfSaid (call_of_body line body)
 unfolding call_of_body
-reads_call route.SetLayout is body = reads_layout body
-reads_call route.RegisterVehicle is body = reads_vehicle body
-reads_call route.RegisterLoad is body = reads_load body
-reads_call (route.CorrectLoad load) is body = reads_correction load body
-reads_call (route.LeaveLoad load) is body = reads_leave load body
-reads_call route.AddJob is body = reads_job body
-reads_call (route.StopJob job) is body = tt
-reads_call route.StartOrder is body = reads_order body
-reads_call (route.Advance key) is body = reads_advance key body
-reads_call (route.Cancel key) is body = tt
-reads_call (route.Pause key) is body = tt
-reads_call (route.Resume key) is body = tt
-reads_call (route.PlaceVehicle key) is body = reads_place key body
-reads_call (route.Resync key) is body = tt
-reads_call (route.State key) is body = reads_state key body
-reads_call (route.GetOrder key) is body = tt
-reads_call (route.GetInstant key) is body = tt
-reads_call (route.Stocktake reference) is body = reads_count reference body is
-reads_call (route.GetLoad load) is body = tt
-reads_call (route.GetVehicle key) is body = tt
-reads_call route.StockReport is body = tt
-reads_call route.HoldReport is body = tt
-reads_call route.LoadsExport is body = tt
+reads_call (route.Fixed fixed.SetLayout) is body = reads_layout body
+reads_call (route.Fixed fixed.RegisterVehicle) is body = reads_vehicle body
+reads_call (route.Fixed fixed.RegisterLoad) is body = reads_load body
+reads_call (route.OfName named.CorrectLoad load) is body = reads_correction load body
+reads_call (route.OfName named.LeaveLoad load) is body = reads_leave load body
+reads_call (route.Fixed fixed.AddJob) is body = reads_job body
+reads_call (route.OfName named.StopJob job) is body = tt
+reads_call (route.Fixed fixed.StartOrder) is body = reads_order body
+reads_call (route.OfVehicle vehicle.Advance key) is body = reads_advance key body
+reads_call (route.OfVehicle vehicle.Cancel key) is body = tt
+reads_call (route.OfVehicle vehicle.Pause key) is body = tt
+reads_call (route.OfVehicle vehicle.Resume key) is body = tt
+reads_call (route.OfVehicle vehicle.PlaceVehicle key) is body = reads_place key body
+reads_call (route.OfVehicle vehicle.Resync key) is body = tt
+reads_call (route.OfVehicle vehicle.State key) is body = reads_state key body
+reads_call (route.OfVehicle vehicle.GetOrder key) is body = tt
+reads_call (route.OfVehicle vehicle.GetInstant key) is body = tt
+reads_call (route.OfName named.Stocktake reference) is body = reads_count reference body is
+reads_call (route.OfName named.GetLoad load) is body = tt
+reads_call (route.OfVehicle vehicle.GetVehicle key) is body = tt
+reads_call (route.Fixed fixed.StockReport) is body = tt
+reads_call (route.Fixed fixed.HoldReport) is body = tt
+reads_call (route.Fixed fixed.LoadsExport) is body = tt
 
 call_typed : (body : List ℕ) (line : Result Route Refusal) → IfOk line IsNamedRoute → IsTypedIfSaid (call_of_routed body line)
 call_typed body (Err why) is = tt

@@ -1,5 +1,4 @@
 pub mod Kept
 pub mod Paths
 pub mod Table
-pub mod TableLines
 pub mod Taken

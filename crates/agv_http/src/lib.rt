@@ -29,5 +29,5 @@ pub use answers::answer::{answer_bytes, put_answer};
 pub use answers::last_words::{memory_answer, storage_answer};
 pub use bodies::body_calls::call_of;
 pub use request::heard::{Heard, RequestRef, read_request};
-pub use routing::route::Route;
+pub use routing::route::{FixedRoute, NamedRoute, Route, VehicleRoute};
 pub use routing::routes::Routes;

@@ -9,7 +9,8 @@ mod order;
 mod said;
 
 use crate::cases::{name, vehicle};
-use agv_http::{Route, call_of};
+use agv_http::Route::{self, Fixed, OfName, OfVehicle};
+use agv_http::{FixedRoute, NamedRoute, VehicleRoute, call_of};
 use agv_message::BodyFault;
 use std::alloc::Global;
 use std::process::Abort;
@@ -18,22 +19,18 @@ use std::process::Abort;
 fn bodiless(rt: &impl Abort, word: &str) -> Route {
     let key = vehicle(rt, "KIT", "0001");
     match word {
-        "stop" => Route::StopJob {
-            job: name(rt, "J1"),
-        },
-        "cancel" => Route::Cancel { key },
-        "pause" => Route::Pause { key },
-        "resume" => Route::Resume { key },
-        "resync" => Route::Resync { key },
-        "order" => Route::GetOrder { key },
-        "instant" => Route::GetInstant { key },
-        "load" => Route::GetLoad {
-            load: name(rt, "L1"),
-        },
-        "vehicle" => Route::GetVehicle { key },
-        "stock" => Route::StockReport,
-        "holds" => Route::HoldReport,
-        _ => Route::LoadsExport,
+        "stop" => OfName(NamedRoute::StopJob, name(rt, "J1")),
+        "cancel" => OfVehicle(VehicleRoute::Cancel, key),
+        "pause" => OfVehicle(VehicleRoute::Pause, key),
+        "resume" => OfVehicle(VehicleRoute::Resume, key),
+        "resync" => OfVehicle(VehicleRoute::Resync, key),
+        "order" => OfVehicle(VehicleRoute::GetOrder, key),
+        "instant" => OfVehicle(VehicleRoute::GetInstant, key),
+        "load" => OfName(NamedRoute::GetLoad, name(rt, "L1")),
+        "vehicle" => OfVehicle(VehicleRoute::GetVehicle, key),
+        "stock" => Fixed(FixedRoute::StockReport),
+        "holds" => Fixed(FixedRoute::HoldReport),
+        _ => Fixed(FixedRoute::LoadsExport),
     }
 }
 
@@ -42,19 +39,17 @@ fn route(rt: &impl Abort, word: &str) -> Route {
     let key = vehicle(rt, "KIT", "0001");
     let load = name(rt, "L1");
     match word {
-        "layout" => Route::SetLayout,
-        "vehicles" => Route::RegisterVehicle,
-        "loads" => Route::RegisterLoad,
-        "correct" => Route::CorrectLoad { load },
-        "leave" => Route::LeaveLoad { load },
-        "jobs" => Route::AddJob,
-        "orders" => Route::StartOrder,
-        "advance" => Route::Advance { key },
-        "place" => Route::PlaceVehicle { key },
-        "state" => Route::State { key },
-        "stocktake" => Route::Stocktake {
-            reference: name(rt, "R1"),
-        },
+        "layout" => Fixed(FixedRoute::SetLayout),
+        "vehicles" => Fixed(FixedRoute::RegisterVehicle),
+        "loads" => Fixed(FixedRoute::RegisterLoad),
+        "correct" => OfName(NamedRoute::CorrectLoad, load),
+        "leave" => OfName(NamedRoute::LeaveLoad, load),
+        "jobs" => Fixed(FixedRoute::AddJob),
+        "orders" => Fixed(FixedRoute::StartOrder),
+        "advance" => OfVehicle(VehicleRoute::Advance, key),
+        "place" => OfVehicle(VehicleRoute::PlaceVehicle, key),
+        "state" => OfVehicle(VehicleRoute::State, key),
+        "stocktake" => OfName(NamedRoute::Stocktake, name(rt, "R1")),
         _ => bodiless(rt, word),
     }
 }

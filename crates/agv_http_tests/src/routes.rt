@@ -16,94 +16,94 @@ const METHODS: [&str; 8] = [
 
 /// The table of calls.
 const TABLE: [Line; 23] = [
-    ("PUT", "/layout", "Ok(SetLayout)", "Put"),
-    ("POST", "/vehicles", "Ok(RegisterVehicle)", "Post"),
-    ("POST", "/loads", "Ok(RegisterLoad)", "Post"),
+    ("PUT", "/layout", "Ok(Fixed(SetLayout))", "Put"),
+    ("POST", "/vehicles", "Ok(Fixed(RegisterVehicle))", "Post"),
+    ("POST", "/loads", "Ok(Fixed(RegisterLoad))", "Post"),
     (
         "POST",
         "/loads/L1/correct",
-        "Ok(CorrectLoad { load: L1 })",
+        "Ok(OfName(CorrectLoad, L1))",
         "Post",
     ),
     (
         "POST",
         "/loads/L1/leave",
-        "Ok(LeaveLoad { load: L1 })",
+        "Ok(OfName(LeaveLoad, L1))",
         "Post",
     ),
-    ("POST", "/jobs", "Ok(AddJob)", "Post"),
-    ("DELETE", "/jobs/J1", "Ok(StopJob { job: J1 })", "Delete"),
-    ("POST", "/orders", "Ok(StartOrder)", "Post"),
+    ("POST", "/jobs", "Ok(Fixed(AddJob))", "Post"),
+    ("DELETE", "/jobs/J1", "Ok(OfName(StopJob, J1))", "Delete"),
+    ("POST", "/orders", "Ok(Fixed(StartOrder))", "Post"),
     (
         "POST",
         "/vehicles/KIT/0001/advance",
-        "Ok(Advance { key: VehicleKey { manufacturer: KIT, serial: 0001 } })",
+        "Ok(OfVehicle(Advance, VehicleKey { manufacturer: KIT, serial: 0001 }))",
         "Post",
     ),
     (
         "POST",
         "/vehicles/KIT/0001/cancel",
-        "Ok(Cancel { key: VehicleKey { manufacturer: KIT, serial: 0001 } })",
+        "Ok(OfVehicle(Cancel, VehicleKey { manufacturer: KIT, serial: 0001 }))",
         "Post",
     ),
     (
         "POST",
         "/vehicles/KIT/0001/pause",
-        "Ok(Pause { key: VehicleKey { manufacturer: KIT, serial: 0001 } })",
+        "Ok(OfVehicle(Pause, VehicleKey { manufacturer: KIT, serial: 0001 }))",
         "Post",
     ),
     (
         "POST",
         "/vehicles/KIT/0001/resume",
-        "Ok(Resume { key: VehicleKey { manufacturer: KIT, serial: 0001 } })",
+        "Ok(OfVehicle(Resume, VehicleKey { manufacturer: KIT, serial: 0001 }))",
         "Post",
     ),
     (
         "POST",
         "/vehicles/KIT/0001/place",
-        "Ok(PlaceVehicle { key: VehicleKey { manufacturer: KIT, serial: 0001 } })",
+        "Ok(OfVehicle(PlaceVehicle, VehicleKey { manufacturer: KIT, serial: 0001 }))",
         "Post",
     ),
     (
         "POST",
         "/vehicles/KIT/0001/resync",
-        "Ok(Resync { key: VehicleKey { manufacturer: KIT, serial: 0001 } })",
+        "Ok(OfVehicle(Resync, VehicleKey { manufacturer: KIT, serial: 0001 }))",
         "Post",
     ),
     (
         "POST",
         "/uagv/v2/KIT/0001/state",
-        "Ok(State { key: VehicleKey { manufacturer: KIT, serial: 0001 } })",
+        "Ok(OfVehicle(State, VehicleKey { manufacturer: KIT, serial: 0001 }))",
         "Post",
     ),
     (
         "GET",
         "/uagv/v2/KIT/0001/order",
-        "Ok(GetOrder { key: VehicleKey { manufacturer: KIT, serial: 0001 } })",
+        "Ok(OfVehicle(GetOrder, VehicleKey { manufacturer: KIT, serial: 0001 }))",
         "Get",
     ),
     (
         "GET",
         "/uagv/v2/KIT/0001/instantActions",
-        "Ok(GetInstant { key: VehicleKey { manufacturer: KIT, serial: 0001 } })",
+        "Ok(OfVehicle(GetInstant, VehicleKey { manufacturer: KIT, serial: 0001 }))",
         "Get",
     ),
     (
         "POST",
         "/stocktakes/R1",
-        "Ok(Stocktake { reference: R1 })",
+        "Ok(OfName(Stocktake, R1))",
         "Post",
     ),
-    ("GET", "/loads/L1", "Ok(GetLoad { load: L1 })", "Get"),
+    ("GET", "/loads/L1", "Ok(OfName(GetLoad, L1))", "Get"),
     (
         "GET",
         "/vehicles/KIT/0001",
-        "Ok(GetVehicle { key: VehicleKey { manufacturer: KIT, serial: 0001 } })",
+        "Ok(OfVehicle(GetVehicle, VehicleKey { manufacturer: KIT, serial: 0001 }))",
         "Get",
     ),
-    ("GET", "/report/stock", "Ok(StockReport)", "Get"),
-    ("GET", "/report/holds", "Ok(HoldReport)", "Get"),
-    ("GET", "/export/loads", "Ok(LoadsExport)", "Get"),
+    ("GET", "/report/stock", "Ok(Fixed(StockReport))", "Get"),
+    ("GET", "/report/holds", "Ok(Fixed(HoldReport))", "Get"),
+    ("GET", "/export/loads", "Ok(Fixed(LoadsExport))", "Get"),
 ];
 
 /// What the method and the target are, as it is printed.
@@ -235,17 +235,13 @@ fn other_paths_are_none(rt: HostRuntime) {
 
 /// A name stands where a word of another path might.
 const WORDS: [(&str, &str, &str); 6] = [
-    ("GET", "/loads/correct", "Ok(GetLoad { load: correct })"),
-    (
-        "POST",
-        "/loads/leave/leave",
-        "Ok(LeaveLoad { load: leave })",
-    ),
-    ("DELETE", "/jobs/jobs", "Ok(StopJob { job: jobs })"),
+    ("GET", "/loads/correct", "Ok(OfName(GetLoad, correct))"),
+    ("POST", "/loads/leave/leave", "Ok(OfName(LeaveLoad, leave))"),
+    ("DELETE", "/jobs/jobs", "Ok(OfName(StopJob, jobs))"),
     (
         "GET",
         "/vehicles/KIT/advance",
-        "Ok(GetVehicle { key: VehicleKey { manufacturer: KIT, serial: advance } })",
+        "Ok(OfVehicle(GetVehicle, VehicleKey { manufacturer: KIT, serial: advance }))",
     ),
     (
         "POST",
@@ -255,7 +251,7 @@ const WORDS: [(&str, &str, &str); 6] = [
     (
         "POST",
         "/vehicles/cancel/pause/resume",
-        "Ok(Resume { key: VehicleKey { manufacturer: cancel, serial: pause } })",
+        "Ok(OfVehicle(Resume, VehicleKey { manufacturer: cancel, serial: pause }))",
     ),
 ];
 

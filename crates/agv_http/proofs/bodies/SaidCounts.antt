@@ -19,8 +19,11 @@ use Rattle.agv_http.specs.bodies.OrderBody.{order_in, order_from_json, stops_fro
 use Rattle.agv_http.specs.bodies.Members.{given, json_in, key_at, name_at, of_value, optional_name_at, or_bad_body}
 use Rattle.agv_http.specs.bodies.StateBody.{from_vehicle, is_sent_by, message_in, state_in, unless_refused}
 use Rattle.agv_http.specs.bodies.CsvBodies.{call_of_rows, stocktake_call, layout_call}
+use Rattle.agv_http.specs.declared.routing.route.FixedRoute.TheVariants as fixed
+use Rattle.agv_http.specs.declared.routing.route.NamedRoute.TheVariants as named
 use Rattle.agv_http.specs.declared.routing.route.Route.{Route}
 use Rattle.agv_http.specs.declared.routing.route.Route.TheVariants as route
+use Rattle.agv_http.specs.declared.routing.route.VehicleRoute.TheVariants as vehicle
 use Rattle.agv_http.proofs.bodies.CountNames.{NameLoads, rows_named}
 use Rattle.agv_http.proofs.bodies.CountSizes.{rows_size, rows_within}
 
@@ -126,29 +129,29 @@ reads_count reference body = by_count (length body + 1) reference (stocktake.cou
 
 reads_call : (line : Route) (body : List ℕ) → IsRead (length body + 1) (call_of_body line body)
 unfolding call_of_body
-reads_call route.SetLayout body = reads_layout _ body
-reads_call route.RegisterVehicle body = of_json _ vehicle_from_json (says_vehicle _) body
-reads_call route.RegisterLoad body = of_json _ load_from_json (says_load _) body
-reads_call (route.CorrectLoad load) body = of_json _ (correction_from_json load) (says_correction _ load) body
-reads_call (route.LeaveLoad load) body = of_json _ (leave_from_json load) (says_leave _ load) body
-reads_call route.AddJob body = of_json _ job_from_json (says_job _) body
-reads_call (route.StopJob job) body = tt
-reads_call route.StartOrder body = reads_order _ body
-reads_call (route.Advance key) body = of_json _ (advance_from_json key) (says_advance _ key) body
-reads_call (route.Cancel key) body = tt
-reads_call (route.Pause key) body = tt
-reads_call (route.Resume key) body = tt
-reads_call (route.PlaceVehicle key) body = of_json _ (place_from_json key) (says_place _ key) body
-reads_call (route.Resync key) body = tt
-reads_call (route.State key) body = reads_state _ key body
-reads_call (route.GetOrder key) body = tt
-reads_call (route.GetInstant key) body = tt
-reads_call (route.Stocktake reference) body = reads_count reference body
-reads_call (route.GetLoad load) body = tt
-reads_call (route.GetVehicle key) body = tt
-reads_call route.StockReport body = tt
-reads_call route.HoldReport body = tt
-reads_call route.LoadsExport body = tt
+reads_call (route.Fixed fixed.SetLayout) body = reads_layout _ body
+reads_call (route.Fixed fixed.RegisterVehicle) body = of_json _ vehicle_from_json (says_vehicle _) body
+reads_call (route.Fixed fixed.RegisterLoad) body = of_json _ load_from_json (says_load _) body
+reads_call (route.OfName named.CorrectLoad load) body = of_json _ (correction_from_json load) (says_correction _ load) body
+reads_call (route.OfName named.LeaveLoad load) body = of_json _ (leave_from_json load) (says_leave _ load) body
+reads_call (route.Fixed fixed.AddJob) body = of_json _ job_from_json (says_job _) body
+reads_call (route.OfName named.StopJob job) body = tt
+reads_call (route.Fixed fixed.StartOrder) body = reads_order _ body
+reads_call (route.OfVehicle vehicle.Advance key) body = of_json _ (advance_from_json key) (says_advance _ key) body
+reads_call (route.OfVehicle vehicle.Cancel key) body = tt
+reads_call (route.OfVehicle vehicle.Pause key) body = tt
+reads_call (route.OfVehicle vehicle.Resume key) body = tt
+reads_call (route.OfVehicle vehicle.PlaceVehicle key) body = of_json _ (place_from_json key) (says_place _ key) body
+reads_call (route.OfVehicle vehicle.Resync key) body = tt
+reads_call (route.OfVehicle vehicle.State key) body = reads_state _ key body
+reads_call (route.OfVehicle vehicle.GetOrder key) body = tt
+reads_call (route.OfVehicle vehicle.GetInstant key) body = tt
+reads_call (route.OfName named.Stocktake reference) body = reads_count reference body
+reads_call (route.OfName named.GetLoad load) body = tt
+reads_call (route.OfVehicle vehicle.GetVehicle key) body = tt
+reads_call (route.Fixed fixed.StockReport) body = tt
+reads_call (route.Fixed fixed.HoldReport) body = tt
+reads_call (route.Fixed fixed.LoadsExport) body = tt
 
 pub counts_within : (line : Route) (body : List ℕ) (made : Call) → call_of_body line body ≡ Ok made → CountsWithin (length body + 1) made
 counts_within line body made is = subst (IsRead (length body + 1)) is (reads_call line body)

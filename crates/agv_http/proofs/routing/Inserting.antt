@@ -7,7 +7,8 @@ use Rattle.matchit.specs.declared.error.InsertError.{InsertError}
 use Rattle.matchit.specs.declared.error.InsertError.TheVariants.{Conflict, InvalidCatchAll, InvalidParam, InvalidParamSegment, OutOfMemory}
 use Rattle.matchit.proofs.OnLiterals.{matchit_on_literals}
 use Rattle.agv_http.specs.declared.routing.line.Line.{Line}
-use Rattle.agv_http.specs.routing.Kept.{Kept, Entry, are_apart, entries, inserted, is_apart, is_apart_from, with_scan}
+use Rattle.agv_http.specs.routing.Kept.{Kept, are_apart, inserted, is_apart, is_apart_from, with_scan}
+use Rattle.agv_http.specs.routing.Table.{Entry, entries}
 
 scanned : (x : Result Scan InsertError) (line : Line) (old new : Kept) (r : Result (Unit {0}) InsertError) → InsertsRead x line old new r → OnOk r (new ≡ with_scan x line old)
 scanned (Ok s) line old new (Ok u) h = h.1

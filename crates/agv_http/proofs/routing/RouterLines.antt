@@ -1,5 +1,5 @@
 -- The router's lines are those of the table, and what it answers is what the table says.
-use Rattle.std.proofs.Common.{◌≡◌, inl, inr, ℕ, suc, ◌<◌, List, [], ◌∷◌, ◌++◌, append_assoc, append-nil, length, Option, Some, None, Result, Ok, Err, Bool, true, false, cond, not, ◌&&◌, refl, sym, subst, ap, ◌∙◌, arith, ◌==◌, ltb, leb}
+use Rattle.std.proofs.Common.{◌≡◌, inl, inr, ℕ, suc, ◌<◌, List, [], ◌∷◌, ◌++◌, map, append_assoc, append-nil, length, Option, Some, None, Result, Ok, Err, Bool, true, false, cond, not, ◌&&◌, refl, sym, subst, ap, ◌∙◌, arith, ◌==◌, ltb, leb}
 use Rattle.std.proofs.lemmas.Bool.{and_parts}
 use Rattle.std.proofs.lemmas.Bool.Decides.{nat_tests}
 use Rattle.std.specs.Prelude.{bytes_eq, option_and_then}
@@ -11,10 +11,9 @@ use Rattle.matchit.specs.Route.{Scan, parse_route}
 use Rattle.matchit.specs.Router.{RouteOf, route_from}
 use Rattle.matchit.specs.declared.error.InsertError.{InsertError}
 use Rattle.matchit.proofs.OnLiterals.{matchit_on_literals}
-use Rattle.agv_http.specs.routing.Paths.{Part, Word, AName, names_in}
-use Rattle.agv_http.specs.routing.Table.{Row, MethodRoute, with_route, method_route_by, method_route_at, or_next, table}
-use Rattle.agv_http.specs.routing.TableLines.{route_with}
-use Rattle.agv_http.specs.routing.Kept.{Kept, Entry, with_scan, inserted, with_entries, entries}
+use Rattle.agv_http.specs.routing.Paths.{Part, Word, AName, names_in, pattern_of}
+use Rattle.agv_http.specs.routing.Table.{Row, MethodRoute, with_route, method_route_by, method_route_at, or_next, Entry, entries, route_with, row_of, table}
+use Rattle.agv_http.specs.routing.Kept.{Kept, with_scan, inserted, with_entries}
 use Rattle.agv_http.specs.declared.routing.line.Line.{Line}
 use Rattle.agv_http.specs.routing.Taken.{all_names}
 use Rattle.agv_http.proofs.routing.Seeking.{after_segment, fits, IsGood, AllGood, SomeFits, NoneFits, Answers}
@@ -339,6 +338,32 @@ one-served (r ∷ rs) ((t, k) ∷ l) p e m h a (inr f) = later (one-served rs l 
 pub table-apart : are_apart table ≡ true
 table-apart = refl
 
-pub kin : AllKin table entries
+-- the tests of a route's text
+abbrev is_read : Result Scan InsertError → List Part → Bool
+is_read (Ok s) parts = bytes_eq s.pattern (tokens parts) && (length s.names == params (tokens parts))
+is_read (Err e) parts = false
+
+read_so : (x : Result Scan InsertError) (parts : List Part) → is_read x parts ≡ true → Reads x parts
+read_so (Ok s) parts h =
+    let a = and_parts (bytes_eq s.pattern (tokens parts)) (length s.names == params (tokens parts)) h in
+    (bytes_same _ _ a.0, eqb-true _ _ a.1)
+read_so (Err e) parts h = absurd (true≢false (sym h))
+
+-- the texts of the entries read as their patterns, which pass their tests
+abbrev are_read : List Entry → Bool
+are_read [] = true
+are_read (e ∷ es) = is_read (parse_route e.0) (pattern_of e.0) && is_fit (pattern_of e.0) && are_read es
+
+kin_of : (es : List Entry) → are_read es ≡ true → AllKin (map row_of es) es
+kin_of [] h = tt
+kin_of (e ∷ es) h =
+    let a = and_parts (is_read (parse_route e.0) (pattern_of e.0) && is_fit (pattern_of e.0)) (are_read es) h in
+    let b = and_parts (is_read (parse_route e.0) (pattern_of e.0)) (is_fit (pattern_of e.0)) a.0 in
+    (record { reads = read_so (parse_route e.0) (pattern_of e.0) b.0; fit = b.1; method = refl; route = refl }, kin_of es a.1)
+
+entries_read : are_read entries ≡ true
 unfolding matchit_on_literals
-kin = (record { reads = (refl, refl); fit = refl; method = refl; route = refl }, (record { reads = (refl, refl); fit = refl; method = refl; route = refl }, (record { reads = (refl, refl); fit = refl; method = refl; route = refl }, (record { reads = (refl, refl); fit = refl; method = refl; route = refl }, (record { reads = (refl, refl); fit = refl; method = refl; route = refl }, (record { reads = (refl, refl); fit = refl; method = refl; route = refl }, (record { reads = (refl, refl); fit = refl; method = refl; route = refl }, (record { reads = (refl, refl); fit = refl; method = refl; route = refl }, (record { reads = (refl, refl); fit = refl; method = refl; route = refl }, (record { reads = (refl, refl); fit = refl; method = refl; route = refl }, (record { reads = (refl, refl); fit = refl; method = refl; route = refl }, (record { reads = (refl, refl); fit = refl; method = refl; route = refl }, (record { reads = (refl, refl); fit = refl; method = refl; route = refl }, (record { reads = (refl, refl); fit = refl; method = refl; route = refl }, (record { reads = (refl, refl); fit = refl; method = refl; route = refl }, (record { reads = (refl, refl); fit = refl; method = refl; route = refl }, (record { reads = (refl, refl); fit = refl; method = refl; route = refl }, (record { reads = (refl, refl); fit = refl; method = refl; route = refl }, (record { reads = (refl, refl); fit = refl; method = refl; route = refl }, (record { reads = (refl, refl); fit = refl; method = refl; route = refl }, (record { reads = (refl, refl); fit = refl; method = refl; route = refl }, (record { reads = (refl, refl); fit = refl; method = refl; route = refl }, (record { reads = (refl, refl); fit = refl; method = refl; route = refl }, tt)))))))))))))))))))))))
+entries_read = refl
+
+pub kin : AllKin table entries
+kin = kin_of entries entries_read

@@ -14,9 +14,8 @@ use Rattle.matchit.specs.Router.{RouteOf}
 use Rattle.matchit.specs.Seek.{first}
 use Rattle.agv_header.specs.Name.{is_name, is_name_byte}
 use Rattle.agv_http.specs.routing.Paths.{Part, Word, AName, names_in}
-use Rattle.agv_http.specs.routing.Table.{Row, MethodRoute, with_route, method_route_by, method_route_at, or_next, at_path, table}
-use Rattle.agv_http.specs.routing.TableLines.{route_with}
-use Rattle.agv_http.specs.routing.Kept.{Kept, entries, kept_table}
+use Rattle.agv_http.specs.routing.Table.{Row, MethodRoute, with_route, method_route_by, method_route_at, or_next, at_path, entries, route_with, table}
+use Rattle.agv_http.specs.routing.Kept.{Kept, kept_table}
 use Rattle.agv_http.specs.routing.Taken.{all_names, AreTexts, IsTaken}
 use Rattle.agv_http.specs.declared.routing.line.Line.{Line}
 use Rattle.agv_http.proofs.routing.Seeking.{after_segment, fits, tail, SomeFits, NoneFits, Answers, AreBytes, answers}

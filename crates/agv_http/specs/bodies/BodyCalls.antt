@@ -8,8 +8,11 @@ use Rattle.agv_http.specs.bodies.OrderBody.{order_in}
 use Rattle.agv_http.specs.bodies.Members.{json_in}
 use Rattle.agv_http.specs.bodies.StateBody.{state_in}
 use Rattle.agv_http.specs.bodies.CsvBodies.{layout_call, stocktake_call}
+use Rattle.agv_http.specs.declared.routing.route.FixedRoute.TheVariants as fixed
+use Rattle.agv_http.specs.declared.routing.route.NamedRoute.TheVariants as named
 use Rattle.agv_http.specs.declared.routing.route.Route.{Route}
 use Rattle.agv_http.specs.declared.routing.route.Route.TheVariants as route
+use Rattle.agv_http.specs.declared.routing.route.VehicleRoute.TheVariants as vehicle
 
 -- how the body of a line is read: as JSON or as CSV, which says a call or is refused; or not at all, since the path says the call
 pub data Reading : Type 0 where
@@ -19,29 +22,29 @@ pub data Reading : Type 0 where
 
 -- each line of the table of calls
 abbrev pub reading_of : Route → Reading
-reading_of route.SetLayout = Csv layout_call
-reading_of route.RegisterVehicle = Json (json_in vehicle_from_json)
-reading_of route.RegisterLoad = Json (json_in load_from_json)
-reading_of (route.CorrectLoad load) = Json (json_in (correction_from_json load))
-reading_of (route.LeaveLoad load) = Json (json_in (leave_from_json load))
-reading_of route.AddJob = Json (json_in job_from_json)
-reading_of (route.StopJob job) = Unread (call.StopJob job)
-reading_of route.StartOrder = Json order_in
-reading_of (route.Advance key) = Json (json_in (advance_from_json key))
-reading_of (route.Cancel key) = Unread (call.Cancel key)
-reading_of (route.Pause key) = Unread (call.Pause key)
-reading_of (route.Resume key) = Unread (call.Resume key)
-reading_of (route.PlaceVehicle key) = Json (json_in (place_from_json key))
-reading_of (route.Resync key) = Unread (call.Resync key)
-reading_of (route.State key) = Json (state_in key)
-reading_of (route.GetOrder key) = Unread (call.GetOrder key)
-reading_of (route.GetInstant key) = Unread (call.GetInstant key)
-reading_of (route.Stocktake reference) = Csv (stocktake_call reference)
-reading_of (route.GetLoad load) = Unread (call.GetLoad load)
-reading_of (route.GetVehicle key) = Unread (call.GetVehicle key)
-reading_of route.StockReport = Unread call.StockReport
-reading_of route.HoldReport = Unread call.HoldReport
-reading_of route.LoadsExport = Unread call.LoadsExport
+reading_of (route.Fixed fixed.SetLayout) = Csv layout_call
+reading_of (route.Fixed fixed.RegisterVehicle) = Json (json_in vehicle_from_json)
+reading_of (route.Fixed fixed.RegisterLoad) = Json (json_in load_from_json)
+reading_of (route.OfName named.CorrectLoad load) = Json (json_in (correction_from_json load))
+reading_of (route.OfName named.LeaveLoad load) = Json (json_in (leave_from_json load))
+reading_of (route.Fixed fixed.AddJob) = Json (json_in job_from_json)
+reading_of (route.OfName named.StopJob job) = Unread (call.StopJob job)
+reading_of (route.Fixed fixed.StartOrder) = Json order_in
+reading_of (route.OfVehicle vehicle.Advance key) = Json (json_in (advance_from_json key))
+reading_of (route.OfVehicle vehicle.Cancel key) = Unread (call.Cancel key)
+reading_of (route.OfVehicle vehicle.Pause key) = Unread (call.Pause key)
+reading_of (route.OfVehicle vehicle.Resume key) = Unread (call.Resume key)
+reading_of (route.OfVehicle vehicle.PlaceVehicle key) = Json (json_in (place_from_json key))
+reading_of (route.OfVehicle vehicle.Resync key) = Unread (call.Resync key)
+reading_of (route.OfVehicle vehicle.State key) = Json (state_in key)
+reading_of (route.OfVehicle vehicle.GetOrder key) = Unread (call.GetOrder key)
+reading_of (route.OfVehicle vehicle.GetInstant key) = Unread (call.GetInstant key)
+reading_of (route.OfName named.Stocktake reference) = Csv (stocktake_call reference)
+reading_of (route.OfName named.GetLoad load) = Unread (call.GetLoad load)
+reading_of (route.OfVehicle vehicle.GetVehicle key) = Unread (call.GetVehicle key)
+reading_of (route.Fixed fixed.StockReport) = Unread call.StockReport
+reading_of (route.Fixed fixed.HoldReport) = Unread call.HoldReport
+reading_of (route.Fixed fixed.LoadsExport) = Unread call.LoadsExport
 
 -- the call that a body says, read so
 abbrev pub said_by : Reading → List ℕ → Result Call Refusal

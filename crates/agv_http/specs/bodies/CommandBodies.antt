@@ -11,7 +11,7 @@ use Rattle.agv_http.specs.bodies.Members.{given, key_at, name_at, optional_name_
 unfoldable pub capacity_at : Data → Option ℕ
 capacity_at d = whole_or_at 1 (codes "capacity") d
 
--- POST /vehicles {manufacturer, serialNumber, node, capacity?}
+-- RegisterVehicle {manufacturer, serialNumber, node, capacity?}
 unfoldable pub vehicle_from_json : Data → Option Call
 vehicle_from_json d =
     given (key_at d) (λ key.
@@ -19,27 +19,27 @@ vehicle_from_json d =
     given (capacity_at d) (λ capacity.
     Some (call.RegisterVehicle key node capacity))))
 
--- POST /loads {load, station?}: without a station the load stands at the checking place
+-- RegisterLoad {load, station?}: without a station the load stands at the checking place
 unfoldable pub load_from_json : Data → Option Call
 load_from_json d =
     given (name_at (codes "load") d) (λ load.
     given (optional_name_at (codes "station") d) (λ station.
     Some (call.RegisterLoad load station)))
 
--- POST /loads/{load}/correct {ref, station?}: without a station the load is at the checking place
+-- CorrectLoad {ref, station?}: without a station the load is at the checking place
 unfoldable pub correction_from_json : List ℕ → Data → Option Call
 correction_from_json load d =
     given (name_at (codes "ref") d) (λ reference.
     given (optional_name_at (codes "station") d) (λ station.
     Some (call.CorrectLoad load reference station)))
 
--- POST /loads/{load}/leave {ref}
+-- LeaveLoad {ref}
 unfoldable pub leave_from_json : List ℕ → Data → Option Call
 leave_from_json load d =
     given (name_at (codes "ref") d) (λ reference.
     Some (call.LeaveLoad load reference))
 
--- POST /jobs {job, load, to}
+-- AddJob {job, load, to}
 unfoldable pub job_from_json : Data → Option Call
 job_from_json d =
     given (name_at (codes "job") d) (λ job.
@@ -47,7 +47,7 @@ job_from_json d =
     given (name_at (codes "to") d) (λ to.
     Some (call.AddJob job load to))))
 
--- POST /vehicles/{manufacturer}/{serial}/advance {order, orderUpdateId, edges}
+-- Advance {order, orderUpdateId, edges}
 unfoldable pub advance_from_json : VehicleKey → Data → Option Call
 advance_from_json key d =
     given (name_at (codes "order") d) (λ order.
@@ -55,7 +55,7 @@ advance_from_json key d =
     given (whole_at (codes "edges") d) (λ edges.
     Some (call.Advance key order update edges))))
 
--- POST /vehicles/{manufacturer}/{serial}/place {ref, node}
+-- PlaceVehicle {ref, node}
 unfoldable pub place_from_json : VehicleKey → Data → Option Call
 place_from_json key d =
     given (name_at (codes "ref") d) (λ reference.

@@ -12,10 +12,10 @@ abbrev pub call_of_rows : {Row : Type 0} → (List Row → Call) → Option (Lis
 call_of_rows make None = Err refusal.BadCsv
 call_of_rows make (Some rows) = Ok (make rows)
 
--- `PUT /layout` with the rows of a layout file
+-- `SetLayout` with the rows of a layout file
 unfoldable pub layout_call : List ℕ → Result Call Refusal
 layout_call body = call_of_rows call.SetLayout (layout.layout_rows_in body)
 
--- `POST /stocktakes/{reference}` with the rows of a stocktake file
+-- `Stocktake` with the rows of a stocktake file
 unfoldable pub stocktake_call : List ℕ → List ℕ → Result Call Refusal
 stocktake_call reference body = call_of_rows (call.Stocktake reference) (stocktake.count_in body)

@@ -1,4 +1,4 @@
--- The body of `POST /orders`, and the call that it makes (this project's profile).
+-- The body of `StartOrder`, and the call that it makes (this project's profile).
 use Rattle.std.specs.Prelude.{ℕ, List, [], ◌∷◌, Option, None, Some, Result, option_and_then, option_map, not, codes, if◌then◌else◌}
 use Rattle.std.specs.Str.{bytes_eq}
 use Rattle.serde_json.specs.Data.{Data}
@@ -50,6 +50,6 @@ order_from_json d =
     given (stops_from_json d) (λ stops.
     Some (call.StartOrder order key stops edges)))))
 
--- `POST /orders`; which stops an order can make is for the desk to say
+-- `StartOrder`; which stops an order can make is for the desk to say
 unfoldable pub order_in : List ℕ → Result Call Refusal
 order_in body = json_in order_from_json body

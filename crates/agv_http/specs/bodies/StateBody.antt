@@ -27,6 +27,6 @@ from_vehicle key state = if is_sent_by key state then Ok (call.State key state) 
 unfoldable pub message_in : List ℕ → Result StateMessage Refusal
 message_in body = unless_refused state_of (body_of body)
 
--- `POST /uagv/v2/{manufacturer}/{serial}/state`: what the message earns comes first, and then whether it is of the path's vehicle
+-- `State`: what the message earns comes first, and then whether it is of the path's vehicle
 unfoldable pub state_in : VehicleKey → List ℕ → Result Call Refusal
 state_in key body = unless_refused (from_vehicle key) (message_in body)

@@ -1,5 +1,5 @@
 -- Paths by their segments, and the patterns that they fit (RFC 3986, section 3.3). Nothing is decoded.
-use Rattle.std.specs.Prelude.{ℕ, ◌==◌, List, [], ◌∷◌, Bool, Option, Some, None, option_map, bytes_eq, if◌then◌else◌}
+use Rattle.std.specs.Prelude.{ℕ, ◌==◌, List, [], ◌∷◌, Bool, Option, Some, None, map, option_map, bytes_eq, if◌then◌else◌}
 use Rattle.std.specs.List.{before_first, slice_split}
 use Rattle.agv_header.specs.Name.{is_name}
 
@@ -24,6 +24,16 @@ segments_of (b ∷ rest) = if is_slash b then Some (slice_split is_slash rest) e
 pub data Part : Type 0 where
   Word : List ℕ → Part
   AName : Part
+
+-- a part as it is written: a place for a name begins with a brace, as in `{load}`
+abbrev pub part_of : List ℕ → Part
+part_of [] = Word []
+part_of (b ∷ rest) = if b == 123 then AName else Word (b ∷ rest)
+
+-- the parts of a pattern as it is written: it begins with a slash, and they are what stands between slashes after it
+abbrev pub pattern_of : List ℕ → List Part
+pattern_of [] = []
+pattern_of (_ ∷ rest) = map part_of (slice_split is_slash rest)
 
 -- the names that the segments of a path have at a pattern's places, or none where they don't fit it
 abbrev pub names_in : List Part → List (List ℕ) → Option (List (List ℕ))

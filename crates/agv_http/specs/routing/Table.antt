@@ -1,82 +1,77 @@
 -- The table of calls: which methods and paths the desk serves.
-use Rattle.std.specs.Prelude.{ℕ, List, [], ◌∷◌, Option, Some, None, IsSome, Result, Ok, Err, option_and_then, codes, bytes_eq, if◌then◌else◌}
-use Rattle.agv_header.specs.declared.key.VehicleKey.{VehicleKey}
+use Rattle.std.specs.Prelude.{ℕ, List, [], ◌∷◌, Option, Some, None, IsSome, Result, Ok, Err, map, option_and_then, codes, bytes_eq, if◌then◌else◌}
 use Rattle.agv_header.specs.declared.refusal.Refusal.{Refusal}
 use Rattle.agv_header.specs.declared.refusal.Refusal.TheVariants as refusal
 use Rattle.agv_header.specs.declared.refusal.Verb.{Verb}
 use Rattle.agv_header.specs.declared.refusal.Verb.TheVariants.{Get, Post, Put, Delete}
 use Rattle.agv_header.specs.Refusal.{verb_text}
-use Rattle.agv_http.specs.routing.Paths.{Part, Word, AName, names_in, path_of, segments_of}
+use Rattle.agv_http.specs.routing.Paths.{Part, names_in, path_of, pattern_of, segments_of}
+use Rattle.agv_http.specs.declared.routing.line.Line.{Line}
+use Rattle.agv_http.specs.declared.routing.line.RouteKind.{RouteKind}
+use Rattle.agv_http.specs.declared.routing.line.RouteKind.TheVariants.{Fixed, OfName, OfVehicle}
+use Rattle.agv_http.specs.declared.routing.route.FixedRoute.TheVariants as fixed
+use Rattle.agv_http.specs.declared.routing.route.NamedRoute.TheVariants as named
 use Rattle.agv_http.specs.declared.routing.route.Route.{Route}
 use Rattle.agv_http.specs.declared.routing.route.Route.TheVariants as route
+use Rattle.agv_http.specs.declared.routing.route.VehicleRoute.TheVariants as vehicle
 
--- a line of the table: a method, the pattern of a path, and the route that the names in the path give
+-- a line of the table as it is written: the text of its path, and then its method and its call
+abbrev pub Entry : Type 0
+Entry = List ℕ × Line
+
+-- such a line
+abbrev pub entry : Verb → List ℕ → RouteKind → Entry
+entry method path kind = (path, record { method = method; kind = kind })
+
+-- the table of calls: the method, the path with a name's place in braces, and the call
+abbrev pub entries : List Entry
+entries =
+    entry Put (codes "/layout") (Fixed fixed.SetLayout)
+    ∷ entry Post (codes "/vehicles") (Fixed fixed.RegisterVehicle)
+    ∷ entry Post (codes "/loads") (Fixed fixed.RegisterLoad)
+    ∷ entry Post (codes "/loads/{load}/correct") (OfName named.CorrectLoad)
+    ∷ entry Post (codes "/loads/{load}/leave") (OfName named.LeaveLoad)
+    ∷ entry Post (codes "/jobs") (Fixed fixed.AddJob)
+    ∷ entry Delete (codes "/jobs/{job}") (OfName named.StopJob)
+    ∷ entry Post (codes "/orders") (Fixed fixed.StartOrder)
+    ∷ entry Post (codes "/vehicles/{manufacturer}/{serial}/advance") (OfVehicle vehicle.Advance)
+    ∷ entry Post (codes "/vehicles/{manufacturer}/{serial}/cancel") (OfVehicle vehicle.Cancel)
+    ∷ entry Post (codes "/vehicles/{manufacturer}/{serial}/pause") (OfVehicle vehicle.Pause)
+    ∷ entry Post (codes "/vehicles/{manufacturer}/{serial}/resume") (OfVehicle vehicle.Resume)
+    ∷ entry Post (codes "/vehicles/{manufacturer}/{serial}/place") (OfVehicle vehicle.PlaceVehicle)
+    ∷ entry Post (codes "/vehicles/{manufacturer}/{serial}/resync") (OfVehicle vehicle.Resync)
+    ∷ entry Post (codes "/uagv/v2/{manufacturer}/{serial}/state") (OfVehicle vehicle.State)
+    ∷ entry Get (codes "/uagv/v2/{manufacturer}/{serial}/order") (OfVehicle vehicle.GetOrder)
+    ∷ entry Get (codes "/uagv/v2/{manufacturer}/{serial}/instantActions") (OfVehicle vehicle.GetInstant)
+    ∷ entry Post (codes "/stocktakes/{reference}") (OfName named.Stocktake)
+    ∷ entry Get (codes "/loads/{load}") (OfName named.GetLoad)
+    ∷ entry Get (codes "/vehicles/{manufacturer}/{serial}") (OfVehicle vehicle.GetVehicle)
+    ∷ entry Get (codes "/report/stock") (Fixed fixed.StockReport)
+    ∷ entry Get (codes "/report/holds") (Fixed fixed.HoldReport)
+    ∷ entry Get (codes "/export/loads") (Fixed fixed.LoadsExport)
+    ∷ []
+
+-- the call of a line with the names in a path: none, one, or a manufacturer and then a serial number
+abbrev pub route_with : RouteKind → List (List ℕ) → Option Route
+route_with (Fixed call) [] = Some (route.Fixed call)
+route_with (OfName call) (name ∷ []) = Some (route.OfName call name)
+route_with (OfVehicle call) (manufacturer ∷ serial ∷ []) =
+    Some (route.OfVehicle call (record { manufacturer = manufacturer; serial = serial }))
+route_with _ _ = None
+
+-- what a line says: a method, the pattern of a path, and the route that the names in the path give
 pub record Row : Type 0 where
   pub method : Verb
   pub pattern : List Part
   pub route : List (List ℕ) → Option Route
 
--- a line
-abbrev pub row : Verb → List Part → (List (List ℕ) → Option Route) → Row
-row method pattern route = record { method = method; pattern = pattern; route = route }
+-- what an entry says
+abbrev pub row_of : Entry → Row
+row_of e = record { method = e.1.method; pattern = pattern_of e.0; route = route_with e.1.kind }
 
--- a segment that stands for itself
-abbrev pub word : List ℕ → Part
-word = Word
-
--- the route of a path with no names
-abbrev pub fixed : Route → List (List ℕ) → Option Route
-fixed r [] = Some r
-fixed r (_ ∷ _) = None
-
--- the route of a path with one name
-abbrev pub of_name : (List ℕ → Route) → List (List ℕ) → Option Route
-of_name f [] = None
-of_name f (name ∷ []) = Some (f name)
-of_name f (name ∷ _ ∷ _) = None
-
--- the route of a path with a manufacturer and then a serial number
-abbrev pub of_vehicle : (VehicleKey → Route) → List (List ℕ) → Option Route
-of_vehicle f [] = None
-of_vehicle f (manufacturer ∷ []) = None
-of_vehicle f (manufacturer ∷ serial ∷ []) = Some (f (record { manufacturer = manufacturer; serial = serial }))
-of_vehicle f (manufacturer ∷ serial ∷ _ ∷ _) = None
-
--- the path /vehicles/{manufacturer}/{serial} and what follows
-abbrev pub vehicle : List Part → List Part
-vehicle after = word (codes "vehicles") ∷ AName ∷ AName ∷ after
-
--- the path /uagv/v2/{manufacturer}/{serial}/ and a word
-abbrev pub topic : List ℕ → List Part
-topic name = word (codes "uagv") ∷ word (codes "v2") ∷ AName ∷ AName ∷ word name ∷ []
-
--- the table of calls
+-- what the entries of the table say
 abbrev pub table : List Row
-table =
-    row Put (word (codes "layout") ∷ []) (fixed route.SetLayout)
-    ∷ row Post (word (codes "vehicles") ∷ []) (fixed route.RegisterVehicle)
-    ∷ row Post (word (codes "loads") ∷ []) (fixed route.RegisterLoad)
-    ∷ row Post (word (codes "loads") ∷ AName ∷ word (codes "correct") ∷ []) (of_name route.CorrectLoad)
-    ∷ row Post (word (codes "loads") ∷ AName ∷ word (codes "leave") ∷ []) (of_name route.LeaveLoad)
-    ∷ row Post (word (codes "jobs") ∷ []) (fixed route.AddJob)
-    ∷ row Delete (word (codes "jobs") ∷ AName ∷ []) (of_name route.StopJob)
-    ∷ row Post (word (codes "orders") ∷ []) (fixed route.StartOrder)
-    ∷ row Post (vehicle (word (codes "advance") ∷ [])) (of_vehicle route.Advance)
-    ∷ row Post (vehicle (word (codes "cancel") ∷ [])) (of_vehicle route.Cancel)
-    ∷ row Post (vehicle (word (codes "pause") ∷ [])) (of_vehicle route.Pause)
-    ∷ row Post (vehicle (word (codes "resume") ∷ [])) (of_vehicle route.Resume)
-    ∷ row Post (vehicle (word (codes "place") ∷ [])) (of_vehicle route.PlaceVehicle)
-    ∷ row Post (vehicle (word (codes "resync") ∷ [])) (of_vehicle route.Resync)
-    ∷ row Post (topic (codes "state")) (of_vehicle route.State)
-    ∷ row Get (topic (codes "order")) (of_vehicle route.GetOrder)
-    ∷ row Get (topic (codes "instantActions")) (of_vehicle route.GetInstant)
-    ∷ row Post (word (codes "stocktakes") ∷ AName ∷ []) (of_name route.Stocktake)
-    ∷ row Get (word (codes "loads") ∷ AName ∷ []) (of_name route.GetLoad)
-    ∷ row Get (vehicle []) (of_vehicle route.GetVehicle)
-    ∷ row Get (word (codes "report") ∷ word (codes "stock") ∷ []) (fixed route.StockReport)
-    ∷ row Get (word (codes "report") ∷ word (codes "holds") ∷ []) (fixed route.HoldReport)
-    ∷ row Get (word (codes "export") ∷ word (codes "loads") ∷ []) (fixed route.LoadsExport)
-    ∷ []
+table = map row_of entries
 
 -- the method of a call and the call itself
 abbrev pub MethodRoute : Type 0

@@ -1,6 +1,8 @@
 -- What a match took from a path, and the names that it spells.
 use Rattle.std.specs.Prelude.{◌≡◌, ◌≤◌, ℕ, List, [], ◌∷◌, length, Option, Some, None, option_map, IsUtf8, if◌then◌else◌}
 use Rattle.agv_header.specs.Name.{is_name}
+use Rattle.agv_http.specs.declared.routing.line.Names.{Names}
+use Rattle.agv_http.specs.declared.routing.line.Names.TheVariants as in_path
 
 -- the second parts of the pairs are these texts
 abbrev pub Spells : List (List ℕ × List ℕ) → List (List ℕ) → Type 0
@@ -30,3 +32,9 @@ abbrev pub both : Option (List ℕ) → Option (List ℕ) → Option (List (List
 both None second = None
 both (Some a) None = None
 both (Some a) (Some b) = Some (a ∷ b ∷ [])
+
+-- the names as a list
+abbrev pub listed : Names → List (List ℕ)
+listed in_path.Zero = []
+listed (in_path.One name) = name ∷ []
+listed (in_path.Two first second) = first ∷ second ∷ []

@@ -6,7 +6,7 @@ ghost use Rattle.agv_message.specs.Body.{IsFaultOf};
 ghost use Rattle.agv_message.specs.declared.body.BodyFault.TheVariants as fault;
 ghost use Rattle.agv_http.specs.bodies.BodyCalls.{call_of_body, is_json, is_unread};
 
-use crate::Route;
+use crate::Route::{self, Fixed, OfName, OfVehicle};
 use crate::bodies::commands::{
     advance_from_json, correction_from_json, job_from_json, leave_from_json, load_from_json,
     or_bad_body, place_from_json, vehicle_from_json,
@@ -14,6 +14,7 @@ use crate::bodies::commands::{
 use crate::bodies::csv_bodies::{layout_call, stocktake_call};
 use crate::bodies::order_body::order_in;
 use crate::bodies::state_body::state_in;
+use crate::{FixedRoute, NamedRoute, VehicleRoute};
 use agv_desk::Call;
 use agv_message::{BodyFault, read_body};
 use std::alloc::Global;
@@ -34,31 +35,42 @@ pub fn call_of(alloc: Global, route: &Route, body: &[u8]) -> Result<Call, BodyFa
     ensures unread { is_unread route.now ≡ true → IsOk result }
 {
     match route {
-        Route::SetLayout => layout_call(alloc, body),
-        Route::RegisterVehicle => or_bad_body(vehicle_from_json(&read_body(alloc, body)?)),
-        Route::RegisterLoad => or_bad_body(load_from_json(&read_body(alloc, body)?)),
-        Route::CorrectLoad { load } => or_bad_body(correction_from_json(
+        Fixed(FixedRoute::SetLayout) => layout_call(alloc, body),
+        Fixed(FixedRoute::RegisterVehicle) => or_bad_body(vehicle_from_json(&read_body(
+            alloc, body,
+        )?)),
+        Fixed(FixedRoute::RegisterLoad) => or_bad_body(load_from_json(&read_body(alloc, body)?)),
+        OfName(NamedRoute::CorrectLoad, load) => or_bad_body(correction_from_json(
             load,
             &read_body(alloc, body)?,
         )),
-        Route::LeaveLoad { load } => or_bad_body(leave_from_json(load, &read_body(alloc, body)?)),
-        Route::AddJob => or_bad_body(job_from_json(&read_body(alloc, body)?)),
-        Route::StopJob { job } => Ok(Call::StopJob { job: *job }),
-        Route::StartOrder => order_in(alloc, body),
-        Route::Advance { key } => or_bad_body(advance_from_json(key, &read_body(alloc, body)?)),
-        Route::Cancel { key } => Ok(Call::Cancel { key: *key }),
-        Route::Pause { key } => Ok(Call::Pause { key: *key }),
-        Route::Resume { key } => Ok(Call::Resume { key: *key }),
-        Route::PlaceVehicle { key } => or_bad_body(place_from_json(key, &read_body(alloc, body)?)),
-        Route::Resync { key } => Ok(Call::Resync { key: *key }),
-        Route::State { key } => state_in(alloc, key, body),
-        Route::GetOrder { key } => Ok(Call::GetOrder { key: *key }),
-        Route::GetInstant { key } => Ok(Call::GetInstant { key: *key }),
-        Route::Stocktake { reference } => stocktake_call(alloc, reference, body),
-        Route::GetLoad { load } => Ok(Call::GetLoad { load: *load }),
-        Route::GetVehicle { key } => Ok(Call::GetVehicle { key: *key }),
-        Route::StockReport => Ok(Call::StockReport),
-        Route::HoldReport => Ok(Call::HoldReport),
-        Route::LoadsExport => Ok(Call::LoadsExport),
+        OfName(NamedRoute::LeaveLoad, load) => or_bad_body(leave_from_json(
+            load,
+            &read_body(alloc, body)?,
+        )),
+        Fixed(FixedRoute::AddJob) => or_bad_body(job_from_json(&read_body(alloc, body)?)),
+        OfName(NamedRoute::StopJob, job) => Ok(Call::StopJob { job: *job }),
+        Fixed(FixedRoute::StartOrder) => order_in(alloc, body),
+        OfVehicle(VehicleRoute::Advance, key) => or_bad_body(advance_from_json(
+            key,
+            &read_body(alloc, body)?,
+        )),
+        OfVehicle(VehicleRoute::Cancel, key) => Ok(Call::Cancel { key: *key }),
+        OfVehicle(VehicleRoute::Pause, key) => Ok(Call::Pause { key: *key }),
+        OfVehicle(VehicleRoute::Resume, key) => Ok(Call::Resume { key: *key }),
+        OfVehicle(VehicleRoute::PlaceVehicle, key) => or_bad_body(place_from_json(
+            key,
+            &read_body(alloc, body)?,
+        )),
+        OfVehicle(VehicleRoute::Resync, key) => Ok(Call::Resync { key: *key }),
+        OfVehicle(VehicleRoute::State, key) => state_in(alloc, key, body),
+        OfVehicle(VehicleRoute::GetOrder, key) => Ok(Call::GetOrder { key: *key }),
+        OfVehicle(VehicleRoute::GetInstant, key) => Ok(Call::GetInstant { key: *key }),
+        OfName(NamedRoute::Stocktake, reference) => stocktake_call(alloc, reference, body),
+        OfName(NamedRoute::GetLoad, load) => Ok(Call::GetLoad { load: *load }),
+        OfVehicle(VehicleRoute::GetVehicle, key) => Ok(Call::GetVehicle { key: *key }),
+        Fixed(FixedRoute::StockReport) => Ok(Call::StockReport),
+        Fixed(FixedRoute::HoldReport) => Ok(Call::HoldReport),
+        Fixed(FixedRoute::LoadsExport) => Ok(Call::LoadsExport),
     }
 }

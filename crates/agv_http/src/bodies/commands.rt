@@ -19,7 +19,7 @@ fn capacity(body: &Value) -> Option<u32>
     whole_or(body, "capacity", 1)
 }
 
-/// What the body of `POST /vehicles` says.
+/// What the body of `RegisterVehicle` says.
 #[tactic(auto, unfolding(crate::specs::bodies::CommandBodies::vehicle_from_json))]
 pub(crate) fn vehicle_from_json(body: &Value) -> Option<Call>
     ensures { result ≡ vehicle_from_json (view body.now) }
@@ -34,7 +34,7 @@ pub(crate) fn vehicle_from_json(body: &Value) -> Option<Call>
     })
 }
 
-/// What the body of `POST /loads` says.
+/// What the body of `RegisterLoad` says.
 #[tactic(auto, unfolding(crate::specs::bodies::CommandBodies::load_from_json))]
 pub(crate) fn load_from_json(body: &Value) -> Option<Call>
     ensures { result ≡ load_from_json (view body.now) }
@@ -44,7 +44,7 @@ pub(crate) fn load_from_json(body: &Value) -> Option<Call>
     Some(Call::RegisterLoad { load, station })
 }
 
-/// What the body of `POST /loads/{load}/correct` says.
+/// What the body of `CorrectLoad` says.
 #[tactic(auto, unfolding(crate::specs::bodies::CommandBodies::correction_from_json))]
 pub(crate) fn correction_from_json(load: &Name, body: &Value) -> Option<Call>
     ensures { result ≡ correction_from_json load.now (view body.now) }
@@ -58,7 +58,7 @@ pub(crate) fn correction_from_json(load: &Name, body: &Value) -> Option<Call>
     })
 }
 
-/// What the body of `POST /loads/{load}/leave` says.
+/// What the body of `LeaveLoad` says.
 #[tactic(auto, unfolding(crate::specs::bodies::CommandBodies::leave_from_json))]
 pub(crate) fn leave_from_json(load: &Name, body: &Value) -> Option<Call>
     ensures { result ≡ leave_from_json load.now (view body.now) }
@@ -70,7 +70,7 @@ pub(crate) fn leave_from_json(load: &Name, body: &Value) -> Option<Call>
     })
 }
 
-/// What the body of `POST /jobs` says.
+/// What the body of `AddJob` says.
 #[tactic(auto, unfolding(crate::specs::bodies::CommandBodies::job_from_json))]
 pub(crate) fn job_from_json(body: &Value) -> Option<Call>
     ensures { result ≡ job_from_json (view body.now) }
@@ -81,7 +81,7 @@ pub(crate) fn job_from_json(body: &Value) -> Option<Call>
     Some(Call::AddJob { job, load, to })
 }
 
-/// What the body of `POST /vehicles/{manufacturer}/{serial}/advance` says.
+/// What the body of `Advance` says.
 #[tactic(auto, unfolding(crate::specs::bodies::CommandBodies::advance_from_json))]
 pub(crate) fn advance_from_json(key: &VehicleKey, body: &Value) -> Option<Call>
     ensures { result ≡ advance_from_json key.now (view body.now) }
@@ -97,7 +97,7 @@ pub(crate) fn advance_from_json(key: &VehicleKey, body: &Value) -> Option<Call>
     })
 }
 
-/// What the body of `POST /vehicles/{manufacturer}/{serial}/place` says.
+/// What the body of `PlaceVehicle` says.
 #[tactic(auto, unfolding(crate::specs::bodies::CommandBodies::place_from_json))]
 pub(crate) fn place_from_json(key: &VehicleKey, body: &Value) -> Option<Call>
     ensures { result ≡ place_from_json key.now (view body.now) }

@@ -9,7 +9,7 @@ use agv_header::{Name, Refusal};
 use agv_message::BodyFault;
 use std::alloc::Global;
 
-/// The call that the body of `PUT /layout` makes.
+/// The call that the body of `SetLayout` makes.
 ///
 /// `Refused` with `BadCsv` where the body is no layout file; `Memory` where an allocation was refused.
 #[tactic(auto, unfolding(crate::specs::bodies::CsvBodies::layout_call))]
@@ -24,7 +24,7 @@ pub fn layout_call(alloc: Global, body: &[u8]) -> Result<Call, BodyFault>
     }
 }
 
-/// The call that the body of `POST /stocktakes/{reference}` makes.
+/// The call that the body of `Stocktake` makes.
 ///
 /// `Refused` with `BadCsv` where the body is no stocktake file; `Memory` where an allocation was refused.
 #[tactic(auto, unfolding(crate::specs::bodies::CsvBodies::stocktake_call))]

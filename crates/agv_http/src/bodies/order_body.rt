@@ -134,7 +134,7 @@ fn order_from_json(alloc: Global, body: &Value) -> Result<Option<Call>, Memory>
     }))
 }
 
-/// The call that the body of `POST /orders` makes.
+/// The call that the body of `StartOrder` makes.
 ///
 /// `Refused`, with the first of these that holds: what [`read_body`] refuses, and `BadBody` where a member is absent
 /// or of the wrong kind, or where there are both a `job` and `stops` or neither. `Memory` where an allocation was

@@ -29,7 +29,7 @@ fn message_in(alloc: Global, body: &[u8]) -> Result<StateMessage, BodyFault>
     read_state(alloc, &value)
 }
 
-/// The call that the body of `POST /uagv/v2/{manufacturer}/{serial}/state` makes, where the path names the vehicle
+/// The call that the body of `State` makes, where the path names the vehicle
 /// `key`.
 ///
 /// `Refused`, with the first of these that holds: what [`read_body`] and then [`read_state`] refuse, and

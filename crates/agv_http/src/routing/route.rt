@@ -1,54 +1,51 @@
-//! The lines of the table of calls.
+//! The calls that the desk serves, and what a request says by its method and path.
+//!
+//! The method and the path of each call stand in `table`, and the same as the promise in `specs/routing/Table.antt`.
 
 use agv_header::{Name, VehicleKey};
 
-/// A line of the table of calls, with the names that stand in its path.
+/// A call whose path has no name.
+#[derive(Clone, Copy, Debug)]
+pub enum FixedRoute {
+    SetLayout,
+    RegisterVehicle,
+    RegisterLoad,
+    AddJob,
+    StartOrder,
+    StockReport,
+    HoldReport,
+    LoadsExport,
+}
+
+/// A call whose path has one name: of a load, a job or a stocktake.
+#[derive(Clone, Copy, Debug)]
+pub enum NamedRoute {
+    CorrectLoad,
+    LeaveLoad,
+    StopJob,
+    Stocktake,
+    GetLoad,
+}
+
+/// A call whose path has a vehicle.
+#[derive(Clone, Copy, Debug)]
+pub enum VehicleRoute {
+    Advance,
+    Cancel,
+    Pause,
+    Resume,
+    PlaceVehicle,
+    Resync,
+    State,
+    GetOrder,
+    GetInstant,
+    GetVehicle,
+}
+
+/// A call with the names that stand in its path.
 #[derive(Clone, Copy, Debug)]
 pub enum Route {
-    /// `PUT /layout`
-    SetLayout,
-    /// `POST /vehicles`
-    RegisterVehicle,
-    /// `POST /loads`
-    RegisterLoad,
-    /// `POST /loads/{load}/correct`
-    CorrectLoad { load: Name },
-    /// `POST /loads/{load}/leave`
-    LeaveLoad { load: Name },
-    /// `POST /jobs`
-    AddJob,
-    /// `DELETE /jobs/{job}`
-    StopJob { job: Name },
-    /// `POST /orders`
-    StartOrder,
-    /// `POST /vehicles/{manufacturer}/{serial}/advance`
-    Advance { key: VehicleKey },
-    /// `POST /vehicles/{manufacturer}/{serial}/cancel`
-    Cancel { key: VehicleKey },
-    /// `POST /vehicles/{manufacturer}/{serial}/pause`
-    Pause { key: VehicleKey },
-    /// `POST /vehicles/{manufacturer}/{serial}/resume`
-    Resume { key: VehicleKey },
-    /// `POST /vehicles/{manufacturer}/{serial}/place`
-    PlaceVehicle { key: VehicleKey },
-    /// `POST /vehicles/{manufacturer}/{serial}/resync`
-    Resync { key: VehicleKey },
-    /// `POST /uagv/v2/{manufacturer}/{serial}/state`
-    State { key: VehicleKey },
-    /// `GET /uagv/v2/{manufacturer}/{serial}/order`
-    GetOrder { key: VehicleKey },
-    /// `GET /uagv/v2/{manufacturer}/{serial}/instantActions`
-    GetInstant { key: VehicleKey },
-    /// `POST /stocktakes/{reference}`
-    Stocktake { reference: Name },
-    /// `GET /loads/{load}`
-    GetLoad { load: Name },
-    /// `GET /vehicles/{manufacturer}/{serial}`
-    GetVehicle { key: VehicleKey },
-    /// `GET /report/stock`
-    StockReport,
-    /// `GET /report/holds`
-    HoldReport,
-    /// `GET /export/loads`
-    LoadsExport,
+    Fixed(FixedRoute),
+    OfName(NamedRoute, Name),
+    OfVehicle(VehicleRoute, VehicleKey),
 }

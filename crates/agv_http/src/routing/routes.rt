@@ -1,11 +1,10 @@
 //! Which line of the table of calls a request is.
 ghost use Rattle.std.specs.Prelude.{◌≡◌, ℕ, List, [], ◌∷◌, IsAscii, option_and_then, option_map, position};
 ghost use Rattle.agv_http.specs.routing.Kept.{kept_table};
-ghost use Rattle.agv_http.specs.routing.TableLines.{listed, route_with};
 ghost use Rattle.agv_http.specs.routing.Paths.{is_question_mark, path_of};
-ghost use Rattle.agv_http.specs.routing.Table.{at_path, if_method, route_at, with_route};
+ghost use Rattle.agv_http.specs.routing.Table.{at_path, if_method, route_at, route_with, with_route};
 ghost use Rattle.agv_header.specs.Refusal.{verb_text};
-ghost use Rattle.agv_http.specs.routing.Taken.{IsTaken, all_names, both};
+ghost use Rattle.agv_http.specs.routing.Taken.{IsTaken, all_names, both, listed};
 ghost use Rattle.matchit.specs.Params.{walk};
 
 use crate::Route;

@@ -1,90 +1,89 @@
 //! The table of calls, as it is put into the router.
 ghost use Rattle.std.specs.Prelude.{◌≡◌, true, map, IfOk, OnOk};
-ghost use Rattle.agv_http.specs.routing.Kept.{are_apart, entry, inserted, is_apart, kept_table, with_entries};
+ghost use Rattle.agv_http.specs.routing.Kept.{are_apart, inserted, is_apart, kept_table, with_entries};
+ghost use Rattle.agv_http.specs.routing.Table.{entry};
 
-use crate::routing::line::RouteKind::{Fixed, OfName, OfVehicle};
-use crate::routing::line::{FixedRoute, Line, NamedRoute, RouteKind, VehicleRoute};
-use agv_header::{Memory, Verb};
+use crate::routing::line::Line;
+use crate::routing::line::RouteKind::{self, Fixed, OfName, OfVehicle};
+use crate::{FixedRoute, NamedRoute, VehicleRoute};
+use agv_header::Memory;
+use agv_header::Verb::{self, Delete, Get, Post, Put};
 use matchit::{InsertError, Router};
 use std::alloc::Global;
 
-/// The lines of the table: the method, the pattern of the path, and the call.
+/// The lines of the table: the method, the path with a name's place in braces, and the call.
 const LINES: [(Verb, &str, RouteKind); 23] = [
-    (Verb::Put, "/layout", Fixed(FixedRoute::SetLayout)),
-    (Verb::Post, "/vehicles", Fixed(FixedRoute::RegisterVehicle)),
-    (Verb::Post, "/loads", Fixed(FixedRoute::RegisterLoad)),
+    (Put, "/layout", Fixed(FixedRoute::SetLayout)),
+    (Post, "/vehicles", Fixed(FixedRoute::RegisterVehicle)),
+    (Post, "/loads", Fixed(FixedRoute::RegisterLoad)),
     (
-        Verb::Post,
+        Post,
         "/loads/{load}/correct",
         OfName(NamedRoute::CorrectLoad),
     ),
+    (Post, "/loads/{load}/leave", OfName(NamedRoute::LeaveLoad)),
+    (Post, "/jobs", Fixed(FixedRoute::AddJob)),
+    (Delete, "/jobs/{job}", OfName(NamedRoute::StopJob)),
+    (Post, "/orders", Fixed(FixedRoute::StartOrder)),
     (
-        Verb::Post,
-        "/loads/{load}/leave",
-        OfName(NamedRoute::LeaveLoad),
-    ),
-    (Verb::Post, "/jobs", Fixed(FixedRoute::AddJob)),
-    (Verb::Delete, "/jobs/{job}", OfName(NamedRoute::StopJob)),
-    (Verb::Post, "/orders", Fixed(FixedRoute::StartOrder)),
-    (
-        Verb::Post,
+        Post,
         "/vehicles/{manufacturer}/{serial}/advance",
         OfVehicle(VehicleRoute::Advance),
     ),
     (
-        Verb::Post,
+        Post,
         "/vehicles/{manufacturer}/{serial}/cancel",
         OfVehicle(VehicleRoute::Cancel),
     ),
     (
-        Verb::Post,
+        Post,
         "/vehicles/{manufacturer}/{serial}/pause",
         OfVehicle(VehicleRoute::Pause),
     ),
     (
-        Verb::Post,
+        Post,
         "/vehicles/{manufacturer}/{serial}/resume",
         OfVehicle(VehicleRoute::Resume),
     ),
     (
-        Verb::Post,
+        Post,
         "/vehicles/{manufacturer}/{serial}/place",
         OfVehicle(VehicleRoute::PlaceVehicle),
     ),
     (
-        Verb::Post,
+        Post,
         "/vehicles/{manufacturer}/{serial}/resync",
         OfVehicle(VehicleRoute::Resync),
     ),
     (
-        Verb::Post,
+        Post,
         "/uagv/v2/{manufacturer}/{serial}/state",
         OfVehicle(VehicleRoute::State),
     ),
     (
-        Verb::Get,
+        Get,
         "/uagv/v2/{manufacturer}/{serial}/order",
         OfVehicle(VehicleRoute::GetOrder),
     ),
     (
-        Verb::Get,
+        Get,
         "/uagv/v2/{manufacturer}/{serial}/instantActions",
         OfVehicle(VehicleRoute::GetInstant),
     ),
     (
-        Verb::Post,
+        Post,
         "/stocktakes/{reference}",
         OfName(NamedRoute::Stocktake),
     ),
-    (Verb::Get, "/loads/{load}", OfName(NamedRoute::GetLoad)),
+    (Get, "/loads/{load}", OfName(NamedRoute::GetLoad)),
     (
-        Verb::Get,
+        Get,
         "/vehicles/{manufacturer}/{serial}",
         OfVehicle(VehicleRoute::GetVehicle),
     ),
-    (Verb::Get, "/report/stock", Fixed(FixedRoute::StockReport)),
-    (Verb::Get, "/report/holds", Fixed(FixedRoute::HoldReport)),
-    (Verb::Get, "/export/loads", Fixed(FixedRoute::LoadsExport)),
+    (Get, "/report/stock", Fixed(FixedRoute::StockReport)),
+    (Get, "/report/holds", Fixed(FixedRoute::HoldReport)),
+    (Get, "/export/loads", Fixed(FixedRoute::LoadsExport)),
 ];
 
 /// What an insert lacked that met no conflict.

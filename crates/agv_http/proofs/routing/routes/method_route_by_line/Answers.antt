@@ -1,7 +1,6 @@
 use Rattle.std.proofs.Common.{◌∙◌, ap}
 use Rattle.std.specs.Prelude.{option_and_then}
-use Rattle.agv_http.specs.routing.TableLines.{route_with}
-use Rattle.agv_http.specs.routing.Table.{with_route}
+use Rattle.agv_http.specs.routing.Table.{route_with, with_route}
 use Rattle.agv_http.proofs.routing.routes.method_route_by_line.Goals as goal
 
 pub returns : goal.returns

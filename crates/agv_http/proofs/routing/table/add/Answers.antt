@@ -1,4 +1,4 @@
-use Rattle.agv_http.specs.routing.Kept.{entry}
+use Rattle.agv_http.specs.routing.Table.{entry}
 use Rattle.agv_http.proofs.routing.Inserting.{lacks_memory, puts-in}
 use Rattle.agv_http.proofs.routing.table.add.Goals as goal
 

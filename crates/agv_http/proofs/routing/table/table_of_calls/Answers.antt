@@ -1,5 +1,6 @@
 use Rattle.std.proofs.Common.{◌≡◌, true, sym, subst}
-use Rattle.agv_http.specs.routing.Kept.{Kept, are_apart, entries, kept_table, with_entries}
+use Rattle.agv_http.specs.routing.Kept.{Kept, are_apart, kept_table, with_entries}
+use Rattle.agv_http.specs.routing.Table.{entries}
 use Rattle.agv_http.proofs.routing.Inserting.{all_apart}
 use Rattle.agv_http.proofs.routing.table.table_of_calls.Goals as goal
 
