@@ -78,6 +78,17 @@ pub fn put_load<'a>(
     put_pieces(out, &pieces)
 }
 
+/// Appends what is told of a refusal.
+pub fn put_refusal(out: &mut Vec<u8>, refusal: &Refusal) -> Result<(), Memory>
+    ensures { Appended result out.old out.new (compact_text (refusal_data refusal.now)) }
+{
+    match refusal {
+        Refusal::Held { what, by } => put_held(out, what, by),
+        Refusal::WrongUpdate { sent } => put_wrong_update(out, *sent),
+        other => put_plain_refusal(out, other),
+    }
+}
+
 /// Appends `{"by":"KIT/0001","name":"Held","refusal":33,"what":"edge E12"}`.
 fn put_held<'a>(out: &mut Vec<u8>, what: &'a Thing, by: &'a VehicleKey) -> Result<(), Memory>
     ensures { Appended result out.old out.new (compact_text (held_data what.now by.now)) }
@@ -125,15 +136,4 @@ fn put_plain_refusal(out: &mut Vec<u8>, refusal: &Refusal) -> Result<(), Memory>
         Piece::Text("}"),
     ];
     put_pieces(out, &pieces)
-}
-
-/// Appends what is told of a refusal.
-pub fn put_refusal(out: &mut Vec<u8>, refusal: &Refusal) -> Result<(), Memory>
-    ensures { Appended result out.old out.new (compact_text (refusal_data refusal.now)) }
-{
-    match refusal {
-        Refusal::Held { what, by } => put_held(out, what, by),
-        Refusal::WrongUpdate { sent } => put_wrong_update(out, *sent),
-        other => put_plain_refusal(out, other),
-    }
 }

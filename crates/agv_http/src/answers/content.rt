@@ -13,36 +13,22 @@ use agv_desk::Answer;
 use agv_header::{Memory, Refusal, Verb};
 use agv_message::{put_bytes, put_instant, put_order};
 
-fn status_of(answer: &Answer) -> u16
-    ensures status { result ≡ answer_status answer.now }
-    ensures low { 100 ≤ result }
-    ensures high { result < 1000 }
+/// Appends an answer, or a part of it where memory is refused: first its body and then its head, which then change
+/// places.
+pub fn put_parts(
+    out: &mut Vec<u8>,
+    answer: &Answer,
+    report: &[u8],
+    close: bool,
+) -> Result<(), Memory>
+    ensures { Appended result out.old out.new (answer_text answer.now report.now close) }
 {
-    match answer {
-        Answer::Refused(refusal) => refusal.status(),
-        Answer::NoMessage => 204,
-        _ => 200,
-    }
-}
-
-fn media_type_of(answer: &Answer) -> Option<&'static str>
-    ensures { option_map (λ k. k.now) result ≡ media_type (answer_content answer.now) }
-{
-    match answer {
-        Answer::NoMessage => None,
-        Answer::StockReport | Answer::HoldReport => Some("text/plain"),
-        Answer::LoadsExport => Some("text/csv"),
-        _ => Some("application/json"),
-    }
-}
-
-fn allowed_by(answer: &Answer) -> Option<Verb>
-    ensures { result ≡ allowed answer.now }
-{
-    match answer {
-        Answer::Refused(Refusal::BadMethod { allow }) => Some(*allow),
-        _ => None,
-    }
+    let start = out.len();
+    put_content(out, answer, report)?;
+    let len = out.len() - start;
+    put_head_of(out, answer, len, close)?;
+    turn(out, start, len);
+    Ok(())
 }
 
 /// Appends the body of an answer. The report is the body of the answers that give one.
@@ -77,6 +63,38 @@ fn put_head_of(out: &mut Vec<u8>, answer: &Answer, len: usize, close: bool) -> R
     put_head(out, status, kind, len, allow, close)
 }
 
+fn status_of(answer: &Answer) -> u16
+    ensures status { result ≡ answer_status answer.now }
+    ensures low { 100 ≤ result }
+    ensures high { result < 1000 }
+{
+    match answer {
+        Answer::Refused(refusal) => refusal.status(),
+        Answer::NoMessage => 204,
+        _ => 200,
+    }
+}
+
+fn media_type_of(answer: &Answer) -> Option<&'static str>
+    ensures { option_map (λ k. k.now) result ≡ media_type (answer_content answer.now) }
+{
+    match answer {
+        Answer::NoMessage => None,
+        Answer::StockReport | Answer::HoldReport => Some("text/plain"),
+        Answer::LoadsExport => Some("text/csv"),
+        _ => Some("application/json"),
+    }
+}
+
+fn allowed_by(answer: &Answer) -> Option<Verb>
+    ensures { result ≡ allowed answer.now }
+{
+    match answer {
+        Answer::Refused(Refusal::BadMethod { allow }) => Some(*allow),
+        _ => None,
+    }
+}
+
 /// The first `len` bytes from `start` on go behind those that follow them.
 fn turn(out: &mut Vec<u8>, start: usize, len: usize)
     requires { start + len ≤ vec_len out.old }
@@ -85,22 +103,4 @@ fn turn(out: &mut Vec<u8>, start: usize, len: usize)
 {
     let tail = &mut out[start..];
     tail.rotate_left(len);
-}
-
-/// Appends an answer, or a part of it where memory is refused: first its body and then its head, which then change
-/// places.
-pub fn put_parts(
-    out: &mut Vec<u8>,
-    answer: &Answer,
-    report: &[u8],
-    close: bool,
-) -> Result<(), Memory>
-    ensures { Appended result out.old out.new (answer_text answer.now report.now close) }
-{
-    let start = out.len();
-    put_content(out, answer, report)?;
-    let len = out.len() - start;
-    put_head_of(out, answer, len, close)?;
-    turn(out, start, len);
-    Ok(())
 }

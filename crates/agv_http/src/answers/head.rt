@@ -8,16 +8,23 @@ use crate::answers::piece::{Piece, put_pieces};
 use agv_header::{Memory, Verb};
 use http::StatusCode;
 
-/// The canonical phrase of the status, or no text where it has none.
-fn reason_of(status: u16) -> &'static str
+/// Appends the head of an answer with this status, and with a body of that type and length where it has one.
+pub fn put_head(
+    out: &mut Vec<u8>,
+    status: u16,
+    kind: Option<&str>,
+    len: usize,
+    allow: Option<Verb>,
+    close: bool,
+) -> Result<(), Memory>
     requires low { 100 ≤ status }
     requires high { status < 1000 }
-    ensures { result.now ≡ unwrap_or (reason_phrase status) [] }
+    ensures { Appended result out.old out.new
+        (head_text status (option_map (λ k. k.now) kind.entry) len allow close) }
 {
-    match StatusCode::from_u16(status) {
-        Ok(code) => code.canonical_reason().unwrap_or(""),
-        Err(_) => unreachable!(),
-    }
+    put_status_line(out, status)?;
+    put_content_lines(out, kind, len)?;
+    put_last_lines(out, allow, close)
 }
 
 /// Appends the status line.
@@ -34,6 +41,18 @@ fn put_status_line(out: &mut Vec<u8>, status: u16) -> Result<(), Memory>
         Piece::Text("\r\n"),
     ];
     put_pieces(out, &pieces)
+}
+
+/// The canonical phrase of the status, or no text where it has none.
+fn reason_of(status: u16) -> &'static str
+    requires low { 100 ≤ status }
+    requires high { status < 1000 }
+    ensures { result.now ≡ unwrap_or (reason_phrase status) [] }
+{
+    match StatusCode::from_u16(status) {
+        Ok(code) => code.canonical_reason().unwrap_or(""),
+        Err(_) => unreachable!(),
+    }
 }
 
 /// Appends the lines that tell the type and the length of the body, where there is one.
@@ -55,6 +74,14 @@ fn put_content_lines(out: &mut Vec<u8>, kind: Option<&str>, len: usize) -> Resul
     }
 }
 
+/// Appends the last lines of the head.
+fn put_last_lines(out: &mut Vec<u8>, allow: Option<Verb>, close: bool) -> Result<(), Memory>
+    ensures { Appended result out.old out.new (allow_line allow ++ (connection_line close ++ line_end)) }
+{
+    put_allow_line(out, allow)?;
+    put_end(out, close)
+}
+
 /// Appends the line that names the method which alone serves the path.
 fn put_allow_line(out: &mut Vec<u8>, allow: Option<Verb>) -> Result<(), Memory>
     ensures { Appended result out.old out.new (allow_line allow) }
@@ -73,13 +100,6 @@ fn put_allow_line(out: &mut Vec<u8>, allow: Option<Verb>) -> Result<(), Memory>
     }
 }
 
-/// The line that says that the stream ends.
-fn connection_text(close: bool) -> &'static str
-    ensures { result.now ≡ connection_line close }
-{
-    if close { "Connection: close\r\n" } else { "" }
-}
-
 /// Appends the end of the head.
 fn put_end(out: &mut Vec<u8>, close: bool) -> Result<(), Memory>
     ensures { Appended result out.old out.new (connection_line close ++ line_end) }
@@ -88,29 +108,9 @@ fn put_end(out: &mut Vec<u8>, close: bool) -> Result<(), Memory>
     put_pieces(out, &pieces)
 }
 
-/// Appends the last lines of the head.
-fn put_last_lines(out: &mut Vec<u8>, allow: Option<Verb>, close: bool) -> Result<(), Memory>
-    ensures { Appended result out.old out.new (allow_line allow ++ (connection_line close ++ line_end)) }
+/// The line that says that the stream ends.
+fn connection_text(close: bool) -> &'static str
+    ensures { result.now ≡ connection_line close }
 {
-    put_allow_line(out, allow)?;
-    put_end(out, close)
-}
-
-/// Appends the head of an answer with this status, and with a body of that type and length where it has one.
-pub fn put_head(
-    out: &mut Vec<u8>,
-    status: u16,
-    kind: Option<&str>,
-    len: usize,
-    allow: Option<Verb>,
-    close: bool,
-) -> Result<(), Memory>
-    requires low { 100 ≤ status }
-    requires high { status < 1000 }
-    ensures { Appended result out.old out.new
-        (head_text status (option_map (λ k. k.now) kind.entry) len allow close) }
-{
-    put_status_line(out, status)?;
-    put_content_lines(out, kind, len)?;
-    put_last_lines(out, allow, close)
+    if close { "Connection: close\r\n" } else { "" }
 }

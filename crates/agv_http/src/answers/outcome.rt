@@ -8,27 +8,17 @@ ghost use Rattle.agv_http.specs.answers.Sizes.{IsOfItsTypes, IsToldBriefly};
 use agv_desk::Answer;
 use agv_header::{Name, Refusal, Thing};
 
-/// A name has 1 to 32 bytes.
-fn name_is_short(name: &Name)
-    ensures { IsName name.now }
+/// What the answer holds is of its types: names, and numbers of their widths. The unknown names of a stocktake aren't
+/// looked at.
+pub(crate) fn is_of_its_types(answer: &Answer)
+    ensures { IsOfItsTypes answer.now }
 {
-    let _bytes = name.as_bytes();
-}
-
-fn number_is_short(n: u32)
-    ensures { n < 2 ^ 32 }
-{}
-
-fn size_is_short(n: usize)
-    ensures { n < 2 ^ 64 }
-{}
-
-fn thing_is_short(thing: &Thing)
-    ensures { IsName (thing_name thing.now) }
-{
-    match thing {
-        Thing::Node(id) => name_is_short(id),
-        Thing::Edge(id) => name_is_short(id),
+    match answer {
+        Answer::Refused(refusal) => refusal_is_short(refusal),
+        Answer::Update(n) => number_is_short(*n),
+        Answer::Instructed(n) => number_is_short(*n),
+        Answer::Counted { moved, .. } => size_is_short(*moved),
+        _ => {}
     }
 }
 
@@ -46,16 +36,26 @@ fn refusal_is_short(refusal: &Refusal)
     }
 }
 
-/// What the answer holds is of its types: names, and numbers of their widths. The unknown names of a stocktake aren't
-/// looked at.
-pub(crate) fn is_of_its_types(answer: &Answer)
-    ensures { IsOfItsTypes answer.now }
+fn thing_is_short(thing: &Thing)
+    ensures { IsName (thing_name thing.now) }
 {
-    match answer {
-        Answer::Refused(refusal) => refusal_is_short(refusal),
-        Answer::Update(n) => number_is_short(*n),
-        Answer::Instructed(n) => number_is_short(*n),
-        Answer::Counted { moved, .. } => size_is_short(*moved),
-        _ => {}
+    match thing {
+        Thing::Node(id) => name_is_short(id),
+        Thing::Edge(id) => name_is_short(id),
     }
 }
+
+/// A name has 1 to 32 bytes.
+fn name_is_short(name: &Name)
+    ensures { IsName name.now }
+{
+    let _bytes = name.as_bytes();
+}
+
+fn number_is_short(n: u32)
+    ensures { n < 2 ^ 32 }
+{}
+
+fn size_is_short(n: usize)
+    ensures { n < 2 ^ 64 }
+{}

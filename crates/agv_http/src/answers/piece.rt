@@ -37,6 +37,36 @@ pub enum Piece<'a> {
     ActionId(u32),
 }
 
+/// Appends pieces. It takes no memory where they fit.
+pub fn put_pieces(out: &mut Vec<u8>, pieces: &[Piece<'_>]) -> Result<(), Memory>
+    ensures { Appended result out.old out.new (flat_map piece_text pieces.now) }
+{
+    for piece in pieces {
+        put_piece(out, piece)?;
+    }
+    Ok(())
+}
+
+/// Appends a piece.
+fn put_piece(out: &mut Vec<u8>, piece: &Piece<'_>) -> Result<(), Memory>
+    ensures { Appended result out.old out.new (piece_text piece.now) }
+{
+    match piece {
+        Piece::Text(text) => put_bytes(out, text.as_bytes()),
+        Piece::Number(n) => put_number(out, *n),
+        Piece::Truth(is_so) => put_truth(out, *is_so),
+        Piece::Name(name) => put_name(out, name),
+        Piece::Names(names) => put_names(out, names),
+        Piece::MaybeNumber(number) => put_maybe_number(out, *number),
+        Piece::MaybeName(name) => put_maybe_name(out, name),
+        Piece::MaybeKind(kind) => put_maybe_kind(out, *kind),
+        Piece::Place(place) => put_place(out, place),
+        Piece::Key(key) => put_key(out, key),
+        Piece::Thing(thing) => put_thing(out, thing),
+        Piece::ActionId(n) => put_action_id(out, *n),
+    }
+}
+
 /// Appends a number, or `null`.
 fn put_maybe_number(out: &mut Vec<u8>, number: Option<u32>) -> Result<(), Memory>
     ensures { Appended result out.old out.new (compact_text (maybe_number number)) }
@@ -65,34 +95,4 @@ fn put_maybe_kind(out: &mut Vec<u8>, kind: Option<InstantKind>) -> Result<(), Me
         None => put_bytes(out, b"null"),
         Some(kind) => put_instant_kind(out, kind),
     }
-}
-
-/// Appends a piece.
-fn put_piece(out: &mut Vec<u8>, piece: &Piece<'_>) -> Result<(), Memory>
-    ensures { Appended result out.old out.new (piece_text piece.now) }
-{
-    match piece {
-        Piece::Text(text) => put_bytes(out, text.as_bytes()),
-        Piece::Number(n) => put_number(out, *n),
-        Piece::Truth(is_so) => put_truth(out, *is_so),
-        Piece::Name(name) => put_name(out, name),
-        Piece::Names(names) => put_names(out, names),
-        Piece::MaybeNumber(number) => put_maybe_number(out, *number),
-        Piece::MaybeName(name) => put_maybe_name(out, name),
-        Piece::MaybeKind(kind) => put_maybe_kind(out, *kind),
-        Piece::Place(place) => put_place(out, place),
-        Piece::Key(key) => put_key(out, key),
-        Piece::Thing(thing) => put_thing(out, thing),
-        Piece::ActionId(n) => put_action_id(out, *n),
-    }
-}
-
-/// Appends pieces. It takes no memory where they fit.
-pub fn put_pieces(out: &mut Vec<u8>, pieces: &[Piece<'_>]) -> Result<(), Memory>
-    ensures { Appended result out.old out.new (flat_map piece_text pieces.now) }
-{
-    for piece in pieces {
-        put_piece(out, piece)?;
-    }
-    Ok(())
 }

@@ -9,6 +9,33 @@ use agv_desk::OpenOrder;
 use agv_header::{Memory, Name, VehicleKey};
 use agv_world::VehicleRow;
 
+/// Appends what is told of a vehicle.
+pub fn put_vehicle(
+    out: &mut Vec<u8>,
+    key: &VehicleKey,
+    row: &VehicleRow,
+    order: &Option<OpenOrder>,
+) -> Result<(), Memory>
+    ensures { Appended result out.old out.new (compact_text (vehicle_data key.now row.now order.now)) }
+{
+    let astray = is_astray(row);
+    match order {
+        None => put_parts(out, astray, key, row, &None, None, None),
+        Some(open) => {
+            let name = Some(open.order);
+            put_parts(
+                out,
+                astray,
+                key,
+                row,
+                &name,
+                Some(open.sent),
+                open.confirmed,
+            )
+        }
+    }
+}
+
 fn is_astray(row: &VehicleRow) -> bool
     ensures { result ≡ is_some row.now.rest }
 {
@@ -57,31 +84,4 @@ fn put_parts<'a>(
         Piece::Text("}"),
     ];
     put_pieces(out, &pieces)
-}
-
-/// Appends what is told of a vehicle.
-pub fn put_vehicle(
-    out: &mut Vec<u8>,
-    key: &VehicleKey,
-    row: &VehicleRow,
-    order: &Option<OpenOrder>,
-) -> Result<(), Memory>
-    ensures { Appended result out.old out.new (compact_text (vehicle_data key.now row.now order.now)) }
-{
-    let astray = is_astray(row);
-    match order {
-        None => put_parts(out, astray, key, row, &None, None, None),
-        Some(open) => {
-            let name = Some(open.order);
-            put_parts(
-                out,
-                astray,
-                key,
-                row,
-                &name,
-                Some(open.sent),
-                open.confirmed,
-            )
-        }
-    }
 }

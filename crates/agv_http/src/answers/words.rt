@@ -12,23 +12,6 @@ use agv_header::{Memory, Name, Thing, VehicleKey};
 use agv_message::{put_bytes, put_name_after, put_words};
 use agv_stock::Place;
 
-/// Appends `"KIT/0001"`, with something before the vehicle.
-fn put_key_after(out: &mut Vec<u8>, before: &[u8], key: &VehicleKey) -> Result<(), Memory>
-    ensures { Appended result out.old out.new (34 ∷ (before.now ++ (escape (key_text key.now) ++ 34 ∷ []))) }
-{
-    put_words(
-        out,
-        &[
-            b"\"",
-            before,
-            key.manufacturer.as_bytes(),
-            b"/",
-            key.serial.as_bytes(),
-            b"\"",
-        ],
-    )
-}
-
 /// Appends `"KIT/0001"`.
 pub fn put_key(out: &mut Vec<u8>, key: &VehicleKey) -> Result<(), Memory>
     ensures { Appended result out.old out.new (compact_text (text (key_text key.now))) }
@@ -48,6 +31,23 @@ pub fn put_place(out: &mut Vec<u8>, place: &Place) -> Result<(), Memory>
     }
 }
 
+/// Appends `"KIT/0001"`, with something before the vehicle.
+fn put_key_after(out: &mut Vec<u8>, before: &[u8], key: &VehicleKey) -> Result<(), Memory>
+    ensures { Appended result out.old out.new (34 ∷ (before.now ++ (escape (key_text key.now) ++ 34 ∷ []))) }
+{
+    put_words(
+        out,
+        &[
+            b"\"",
+            before,
+            key.manufacturer.as_bytes(),
+            b"/",
+            key.serial.as_bytes(),
+            b"\"",
+        ],
+    )
+}
+
 /// Appends `"node N2"` or `"edge E12"`.
 pub fn put_thing(out: &mut Vec<u8>, thing: &Thing) -> Result<(), Memory>
     ensures { Appended result out.old out.new (compact_text (text (thing_text thing.now))) }
@@ -56,16 +56,6 @@ pub fn put_thing(out: &mut Vec<u8>, thing: &Thing) -> Result<(), Memory>
         Thing::Node(id) => put_words(out, &[b"\"node ", id.as_bytes(), b"\""]),
         Thing::Edge(id) => put_words(out, &[b"\"edge ", id.as_bytes(), b"\""]),
     }
-}
-
-/// Appends names between quotes, each after a comma.
-fn put_more_names(out: &mut Vec<u8>, names: &[Name]) -> Result<(), Memory>
-    ensures { Appended result out.old out.new (more_names names.now) }
-{
-    for name in names {
-        put_name_after(out, b",", name)?;
-    }
-    Ok(())
 }
 
 /// Appends an array of names.
@@ -80,4 +70,14 @@ pub fn put_names(out: &mut Vec<u8>, names: &[Name]) -> Result<(), Memory>
             put_bytes(out, b"]")
         }
     }
+}
+
+/// Appends names between quotes, each after a comma.
+fn put_more_names(out: &mut Vec<u8>, names: &[Name]) -> Result<(), Memory>
+    ensures { Appended result out.old out.new (more_names names.now) }
+{
+    for name in names {
+        put_name_after(out, b",", name)?;
+    }
+    Ok(())
 }

@@ -11,14 +11,6 @@ use agv_header::{Name, Refusal, VehicleKey};
 use agv_message::{BodyFault, whole};
 use serde_json::Value;
 
-/// How many loads the vehicle carries at once: one, where nothing else is said.
-#[tactic(auto, unfolding(crate::specs::bodies::CommandBodies::capacity_at))]
-fn capacity(body: &Value) -> Option<u32>
-    ensures { result ≡ capacity_at (view body.now) }
-{
-    whole_or(body, "capacity", 1)
-}
-
 /// What the body of `RegisterVehicle` says.
 #[tactic(auto, unfolding(crate::specs::bodies::CommandBodies::vehicle_from_json))]
 pub(crate) fn vehicle_from_json(body: &Value) -> Option<Call>
@@ -32,6 +24,14 @@ pub(crate) fn vehicle_from_json(body: &Value) -> Option<Call>
         node,
         capacity,
     })
+}
+
+/// How many loads the vehicle carries at once: one, where nothing else is said.
+#[tactic(auto, unfolding(crate::specs::bodies::CommandBodies::capacity_at))]
+fn capacity(body: &Value) -> Option<u32>
+    ensures { result ≡ capacity_at (view body.now) }
+{
+    whole_or(body, "capacity", 1)
 }
 
 /// What the body of `RegisterLoad` says.

@@ -8,13 +8,6 @@ use agv_header::{Name, VehicleKey};
 use agv_message::{below_2_32, member};
 use serde_json::Value;
 
-/// The name that a value is.
-fn name_in(value: &Value) -> Option<Name>
-    ensures { result ≡ name_in (view value.now) }
-{
-    Name::of_bytes(value.as_str()?.as_bytes())
-}
-
 /// The member as a name.
 #[tactic(auto, unfolding(crate::specs::bodies::Members::name_at, agv_message::specs::Members::text_at))]
 pub(crate) fn name(object: &Value, member_name: &str) -> Option<Name>
@@ -34,11 +27,11 @@ pub(crate) fn optional_name(object: &Value, member_name: &str) -> Option<Option<
     }
 }
 
-/// A value as a whole number from 0 to 4294967295.
-fn whole_in(value: &Value) -> Option<u32>
-    ensures { result ≡ whole_in (view value.now) }
+/// The name that a value is.
+fn name_in(value: &Value) -> Option<Name>
+    ensures { result ≡ name_in (view value.now) }
 {
-    below_2_32(value.as_u64()?)
+    Name::of_bytes(value.as_str()?.as_bytes())
 }
 
 /// The member as a whole number from 0 to 4294967295; absent, it is `absent`.
@@ -50,6 +43,13 @@ pub(crate) fn whole_or(object: &Value, member_name: &str, absent: u32) -> Option
         Some(value) => whole_in(value),
         None => Some(absent),
     }
+}
+
+/// A value as a whole number from 0 to 4294967295.
+fn whole_in(value: &Value) -> Option<u32>
+    ensures { result ≡ whole_in (view value.now) }
+{
+    below_2_32(value.as_u64()?)
 }
 
 /// The vehicle that the members name.

@@ -18,96 +18,22 @@ use agv_order::Stop;
 use serde_json::Value;
 use std::alloc::Global;
 
-fn kind_of(text: &[u8]) -> Option<ActKind>
-    ensures { result ≡ kind_of text.now }
+/// The call that the body of `StartOrder` makes.
+///
+/// `Refused`, with the first of these that holds: what [`read_body`] refuses, and `BadBody` where a member is absent
+/// or of the wrong kind, or where there are both a `job` and `stops` or neither. `Memory` where an allocation was
+/// refused, which a body that is not UTF-8 doesn't ask for.
+#[tactic(auto, unfolding(crate::specs::bodies::OrderBody::order_in, crate::specs::bodies::Members::json_in))]
+pub fn order_in(alloc: Global, body: &[u8]) -> Result<Call, BodyFault>
+    ensures ok { IfOk result (λ call. order_in body.now ≡ Ok call) }
+    ensures err { IfErr result (λ fault. IsFaultOf fault (order_in body.now)) }
+    ensures no_text { is_utf8 body.now ≡ false → result ≡ Err (fault.Refused refusal.BadJson) }
 {
-    if text == b"pick".as_slice() {
-        Some(ActKind::Pick)
-    } else if text == b"drop".as_slice() {
-        Some(ActKind::Drop)
-    } else {
-        None
+    let value = read_body(alloc, body)?;
+    match order_from_json(alloc, &value)? {
+        Some(call) => Ok(call),
+        None => Err(BodyFault::Refused(Refusal::BadBody)),
     }
-}
-
-#[tactic(auto, unfolding(agv_message::specs::Members::text_at))]
-fn kind(stop: &Value) -> Option<ActKind>
-    ensures { result ≡ option_and_then kind_of (text_at (codes "action") (view stop.now)) }
-{
-    kind_of(member(stop, "action")?.as_str()?.as_bytes())
-}
-
-/// The stop that a value is.
-#[tactic(auto, unfolding(crate::specs::bodies::OrderBody::stop_in))]
-fn stop_in(value: &Value) -> Option<Stop>
-    ensures { result ≡ stop_in (view value.now) }
-{
-    let kind = kind(value)?;
-    let job = name(value, "job")?;
-    Some(Stop { kind, job })
-}
-
-/// The stops that the values are, in their order.
-fn stops_in(alloc: Global, values: &[Value]) -> Result<Option<Sequence<Stop>>, Memory>
-    ensures { IfOk result (λ said. said ≡ each stop_in (map view values.now)) }
-{
-    let mut stops = Vec::new(alloc);
-    for value in values {
-        let Some(stop) = stop_in(value) else {
-            return Ok(None);
-        };
-        stops.push(stop)?;
-    }
-    Ok(Some(stops.into()))
-}
-
-#[tactic(auto, unfolding(crate::specs::bodies::OrderBody::listed_stops))]
-fn listed_stops(alloc: Global, order: &Value) -> Result<Option<Sequence<Stop>>, Memory>
-    ensures { IfOk result (λ said. said ≡ listed_stops (view order.now)) }
-{
-    match items(order, "stops") {
-        Some(values) => stops_in(alloc, values),
-        None => Ok(None),
-    }
-}
-
-/// The two stops of a job.
-fn both_stops(alloc: Global, job: &Name) -> Result<Sequence<Stop>, Memory>
-    ensures { IfOk result (λ stops. stops ≡ both_stops job.now) }
-{
-    let pick = Stop {
-        kind: ActKind::Pick,
-        job: *job,
-    };
-    let drop = Stop {
-        kind: ActKind::Drop,
-        job: *job,
-    };
-    let stops = Vec::from_slice(alloc, &[pick, drop])?;
-    Ok(stops.into())
-}
-
-fn job_stops(alloc: Global, order: &Value) -> Result<Option<Sequence<Stop>>, Memory>
-    ensures { IfOk result (λ said. said ≡ option_map both_stops (name_at (codes "job") (view order.now))) }
-{
-    match name(order, "job") {
-        Some(job) => Ok(Some(both_stops(alloc, &job)?)),
-        None => Ok(None),
-    }
-}
-
-/// The stops of the order: those of its one job, or those that it lists.
-#[tactic(auto, unfolding(crate::specs::bodies::OrderBody::stops_from_json))]
-fn stops_from_json(alloc: Global, order: &Value) -> Result<Option<Sequence<Stop>>, Memory>
-    ensures { IfOk result (λ said. said ≡ stops_from_json (view order.now)) }
-{
-    if !has(order, "stops") {
-        return job_stops(alloc, order);
-    }
-    if has(order, "job") {
-        return Ok(None);
-    }
-    listed_stops(alloc, order)
 }
 
 #[tactic(auto, unfolding(crate::specs::bodies::OrderBody::order_from_json))]
@@ -134,20 +60,94 @@ fn order_from_json(alloc: Global, body: &Value) -> Result<Option<Call>, Memory>
     }))
 }
 
-/// The call that the body of `StartOrder` makes.
-///
-/// `Refused`, with the first of these that holds: what [`read_body`] refuses, and `BadBody` where a member is absent
-/// or of the wrong kind, or where there are both a `job` and `stops` or neither. `Memory` where an allocation was
-/// refused, which a body that is not UTF-8 doesn't ask for.
-#[tactic(auto, unfolding(crate::specs::bodies::OrderBody::order_in, crate::specs::bodies::Members::json_in))]
-pub fn order_in(alloc: Global, body: &[u8]) -> Result<Call, BodyFault>
-    ensures ok { IfOk result (λ call. order_in body.now ≡ Ok call) }
-    ensures err { IfErr result (λ fault. IsFaultOf fault (order_in body.now)) }
-    ensures no_text { is_utf8 body.now ≡ false → result ≡ Err (fault.Refused refusal.BadJson) }
+/// The stops of the order: those of its one job, or those that it lists.
+#[tactic(auto, unfolding(crate::specs::bodies::OrderBody::stops_from_json))]
+fn stops_from_json(alloc: Global, order: &Value) -> Result<Option<Sequence<Stop>>, Memory>
+    ensures { IfOk result (λ said. said ≡ stops_from_json (view order.now)) }
 {
-    let value = read_body(alloc, body)?;
-    match order_from_json(alloc, &value)? {
-        Some(call) => Ok(call),
-        None => Err(BodyFault::Refused(Refusal::BadBody)),
+    if !has(order, "stops") {
+        return job_stops(alloc, order);
+    }
+    if has(order, "job") {
+        return Ok(None);
+    }
+    listed_stops(alloc, order)
+}
+
+fn job_stops(alloc: Global, order: &Value) -> Result<Option<Sequence<Stop>>, Memory>
+    ensures { IfOk result (λ said. said ≡ option_map both_stops (name_at (codes "job") (view order.now))) }
+{
+    match name(order, "job") {
+        Some(job) => Ok(Some(both_stops(alloc, &job)?)),
+        None => Ok(None),
+    }
+}
+
+/// The two stops of a job.
+fn both_stops(alloc: Global, job: &Name) -> Result<Sequence<Stop>, Memory>
+    ensures { IfOk result (λ stops. stops ≡ both_stops job.now) }
+{
+    let pick = Stop {
+        kind: ActKind::Pick,
+        job: *job,
+    };
+    let drop = Stop {
+        kind: ActKind::Drop,
+        job: *job,
+    };
+    let stops = Vec::from_slice(alloc, &[pick, drop])?;
+    Ok(stops.into())
+}
+
+#[tactic(auto, unfolding(crate::specs::bodies::OrderBody::listed_stops))]
+fn listed_stops(alloc: Global, order: &Value) -> Result<Option<Sequence<Stop>>, Memory>
+    ensures { IfOk result (λ said. said ≡ listed_stops (view order.now)) }
+{
+    match items(order, "stops") {
+        Some(values) => stops_in(alloc, values),
+        None => Ok(None),
+    }
+}
+
+/// The stops that the values are, in their order.
+fn stops_in(alloc: Global, values: &[Value]) -> Result<Option<Sequence<Stop>>, Memory>
+    ensures { IfOk result (λ said. said ≡ each stop_in (map view values.now)) }
+{
+    let mut stops = Vec::new(alloc);
+    for value in values {
+        let Some(stop) = stop_in(value) else {
+            return Ok(None);
+        };
+        stops.push(stop)?;
+    }
+    Ok(Some(stops.into()))
+}
+
+/// The stop that a value is.
+#[tactic(auto, unfolding(crate::specs::bodies::OrderBody::stop_in))]
+fn stop_in(value: &Value) -> Option<Stop>
+    ensures { result ≡ stop_in (view value.now) }
+{
+    let kind = kind(value)?;
+    let job = name(value, "job")?;
+    Some(Stop { kind, job })
+}
+
+#[tactic(auto, unfolding(agv_message::specs::Members::text_at))]
+fn kind(stop: &Value) -> Option<ActKind>
+    ensures { result ≡ option_and_then kind_of (text_at (codes "action") (view stop.now)) }
+{
+    kind_of(member(stop, "action")?.as_str()?.as_bytes())
+}
+
+fn kind_of(text: &[u8]) -> Option<ActKind>
+    ensures { result ≡ kind_of text.now }
+{
+    if text == b"pick".as_slice() {
+        Some(ActKind::Pick)
+    } else if text == b"drop".as_slice() {
+        Some(ActKind::Drop)
+    } else {
+        None
     }
 }

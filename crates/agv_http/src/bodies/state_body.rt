@@ -11,24 +11,6 @@ use agv_header::{Refusal, VehicleKey};
 use agv_message::{BodyFault, StateMessage, read_body, read_state};
 use std::alloc::Global;
 
-/// Whether the state says that it is of this vehicle.
-fn is_sent_by(key: &VehicleKey, state: &StateMessage) -> bool
-    ensures { result ≡ is_sent_by key.now state.now }
-{
-    state.manufacturer.as_str().as_bytes() == key.manufacturer.as_bytes()
-        && state.serial.as_str().as_bytes() == key.serial.as_bytes()
-}
-
-/// The state message that the body is.
-fn message_in(alloc: Global, body: &[u8]) -> Result<StateMessage, BodyFault>
-    ensures ok { IfOk result (λ message. message_in body.now ≡ Ok message) }
-    ensures err { IfErr result (λ fault. IsFaultOf fault (message_in body.now)) }
-    ensures no_text { is_utf8 body.now ≡ false → result ≡ Err (fault.Refused refusal.BadJson) }
-{
-    let value = read_body(alloc, body)?;
-    read_state(alloc, &value)
-}
-
 /// The call that the body of `State` makes, where the path names the vehicle
 /// `key`.
 ///
@@ -46,4 +28,22 @@ pub fn state_in(alloc: Global, key: &VehicleKey, body: &[u8]) -> Result<Call, Bo
         return Err(BodyFault::Refused(Refusal::WrongVehicle));
     }
     Ok(Call::State { key: *key, state })
+}
+
+/// The state message that the body is.
+fn message_in(alloc: Global, body: &[u8]) -> Result<StateMessage, BodyFault>
+    ensures ok { IfOk result (λ message. message_in body.now ≡ Ok message) }
+    ensures err { IfErr result (λ fault. IsFaultOf fault (message_in body.now)) }
+    ensures no_text { is_utf8 body.now ≡ false → result ≡ Err (fault.Refused refusal.BadJson) }
+{
+    let value = read_body(alloc, body)?;
+    read_state(alloc, &value)
+}
+
+/// Whether the state says that it is of this vehicle.
+fn is_sent_by(key: &VehicleKey, state: &StateMessage) -> bool
+    ensures { result ≡ is_sent_by key.now state.now }
+{
+    state.manufacturer.as_str().as_bytes() == key.manufacturer.as_bytes()
+        && state.serial.as_str().as_bytes() == key.serial.as_bytes()
 }

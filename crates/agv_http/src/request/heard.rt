@@ -36,16 +36,20 @@ pub enum Heard<'b> {
     Fault(Refusal),
 }
 
-/// The method that a token is.
-fn method_of(alloc: Global, token: &[u8]) -> Result<Method, Memory>
-    requires { IsToken token.now }
-    ensures method { IfOk result (λ method. method ≡ token.now) }
-    ensures short { length token.now ≤ 15 → IsOk result }
+/// The next request that the bytes begin with, or why there is none yet, or none at all.
+/// `ended` says that no byte follows.
+///
+/// The bytes that `NeedsMore` are fewer than 73,728. `http` keeps a method of up to 15 bytes with no
+/// memory, so `Memory` comes only where a request has a longer one.
+pub fn read_request(alloc: Global, buf: &[u8], ended: bool) -> Result<Heard<'_>, Memory>
+    ensures heard { IfOk result (λ heard. IsHeard buf.now ended heard) }
+    ensures long { IfErr result (λ _. HasLongMethod buf.now) }
 {
-    match Method::from_bytes(alloc, token) {
-        Ok(method) => Ok(method),
-        Err(MethodError::OutOfMemory) => Err(Memory),
-        Err(MethodError::Invalid) => unreachable!(),
+    match next_request(buf, ended) {
+        Next::Need => Ok(Heard::Need),
+        Next::End => Ok(Heard::End),
+        Next::Fault(refusal) => Ok(Heard::Fault(refusal)),
+        Next::Request(next) => Ok(Heard::Request(with_method(alloc, &next)?)),
     }
 }
 
@@ -64,19 +68,15 @@ fn with_method<'b>(alloc: Global, next: &RawRequest<'b>) -> Result<RequestRef<'b
     })
 }
 
-/// The next request that the bytes begin with, or why there is none yet, or none at all.
-/// `ended` says that no byte follows.
-///
-/// The bytes that `NeedsMore` are fewer than 73,728. `http` keeps a method of up to 15 bytes with no
-/// memory, so `Memory` comes only where a request has a longer one.
-pub fn read_request(alloc: Global, buf: &[u8], ended: bool) -> Result<Heard<'_>, Memory>
-    ensures heard { IfOk result (λ heard. IsHeard buf.now ended heard) }
-    ensures long { IfErr result (λ _. HasLongMethod buf.now) }
+/// The method that a token is.
+fn method_of(alloc: Global, token: &[u8]) -> Result<Method, Memory>
+    requires { IsToken token.now }
+    ensures method { IfOk result (λ method. method ≡ token.now) }
+    ensures short { length token.now ≤ 15 → IsOk result }
 {
-    match next_request(buf, ended) {
-        Next::Need => Ok(Heard::Need),
-        Next::End => Ok(Heard::End),
-        Next::Fault(refusal) => Ok(Heard::Fault(refusal)),
-        Next::Request(next) => Ok(Heard::Request(with_method(alloc, &next)?)),
+    match Method::from_bytes(alloc, token) {
+        Ok(method) => Ok(method),
+        Err(MethodError::OutOfMemory) => Err(Memory),
+        Err(MethodError::Invalid) => unreachable!(),
     }
 }

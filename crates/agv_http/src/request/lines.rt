@@ -31,31 +31,6 @@ pub(crate) fn is_same_word(name: &[u8], word: &[u8]) -> bool
     name.eq_ignore_ascii_case(word)
 }
 
-/// The values, with one more.
-fn with_value<'b>(values: Values<'b>, value: &'b [u8]) -> Values<'b>
-    ensures { (found : List (List ℕ)) → AreFound found values.entry → AreFound (found ++ value.now ∷ []) result }
-{
-    match values {
-        Values::Absent => Values::One(value),
-        Values::One(_) => Values::Several,
-        Values::Several => Values::Several,
-    }
-}
-
-/// The values of the lines of that name, in any ASCII case.
-fn values_named<'b>(buf: &'b [u8], headers: &[HeaderSpan], name: &[u8]) -> Values<'b>
-    requires { All (IsHeaderWithin (length buf.now)) headers.now }
-    ensures { AreFound (values_of name.now (map (header_bytes buf.now) headers.now)) result }
-{
-    let mut values = Values::Absent;
-    for header in headers {
-        if is_same_word(header.name.of(buf), name) {
-            values = with_value(values, header.value.of(buf));
-        }
-    }
-    values
-}
-
 /// Whether a line of that name is there.
 pub(crate) fn is_there(buf: &[u8], headers: &[HeaderSpan], name: &[u8]) -> bool
     requires { All (IsHeaderWithin (length buf.now)) headers.now }
@@ -64,22 +39,12 @@ pub(crate) fn is_there(buf: &[u8], headers: &[HeaderSpan], name: &[u8]) -> bool
     !matches!(values_named(buf, headers, name), Values::Absent)
 }
 
-/// The number that the digits give, at most 65,537.
-fn capped(digits: &[u8]) -> u32
-    requires { is_number digits.now ≡ true }
-    ensures { result ≡ min 65537 (digits_value 10 digits.now) }
+/// What the header lines say of the length of the body.
+pub(crate) fn read_length(buf: &[u8], headers: &[HeaderSpan]) -> FoundLength
+    requires { All (IsHeaderWithin (length buf.now)) headers.now }
+    ensures { result ≡ found_length (content_length (map (header_bytes buf.now) headers.now)) }
 {
-    let mut n: u32 = 0;
-    for digit in digits {
-        n = (n * 10 + (*digit - b'0') as u32).min(65537);
-    }
-    n
-}
-
-fn spells_number(bytes: &[u8]) -> bool
-    ensures { result ≡ is_number bytes.now }
-{
-    !bytes.is_empty() && are_digits(bytes)
+    length_of(values_named(buf, headers, b"content-length"))
 }
 
 fn length_of(values: Values<'_>) -> FoundLength
@@ -98,10 +63,45 @@ fn length_of(values: Values<'_>) -> FoundLength
     }
 }
 
-/// What the header lines say of the length of the body.
-pub(crate) fn read_length(buf: &[u8], headers: &[HeaderSpan]) -> FoundLength
-    requires { All (IsHeaderWithin (length buf.now)) headers.now }
-    ensures { result ≡ found_length (content_length (map (header_bytes buf.now) headers.now)) }
+fn spells_number(bytes: &[u8]) -> bool
+    ensures { result ≡ is_number bytes.now }
 {
-    length_of(values_named(buf, headers, b"content-length"))
+    !bytes.is_empty() && are_digits(bytes)
+}
+
+/// The number that the digits give, at most 65,537.
+fn capped(digits: &[u8]) -> u32
+    requires { is_number digits.now ≡ true }
+    ensures { result ≡ min 65537 (digits_value 10 digits.now) }
+{
+    let mut n: u32 = 0;
+    for digit in digits {
+        n = (n * 10 + (*digit - b'0') as u32).min(65537);
+    }
+    n
+}
+
+/// The values of the lines of that name, in any ASCII case.
+fn values_named<'b>(buf: &'b [u8], headers: &[HeaderSpan], name: &[u8]) -> Values<'b>
+    requires { All (IsHeaderWithin (length buf.now)) headers.now }
+    ensures { AreFound (values_of name.now (map (header_bytes buf.now) headers.now)) result }
+{
+    let mut values = Values::Absent;
+    for header in headers {
+        if is_same_word(header.name.of(buf), name) {
+            values = with_value(values, header.value.of(buf));
+        }
+    }
+    values
+}
+
+/// The values, with one more.
+fn with_value<'b>(values: Values<'b>, value: &'b [u8]) -> Values<'b>
+    ensures { (found : List (List ℕ)) → AreFound found values.entry → AreFound (found ++ value.now ∷ []) result }
+{
+    match values {
+        Values::Absent => Values::One(value),
+        Values::One(_) => Values::Several,
+        Values::Several => Values::Several,
+    }
 }

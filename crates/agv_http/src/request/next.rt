@@ -42,57 +42,22 @@ pub(crate) enum Next<'b> {
     Fault(Refusal),
 }
 
-/// Whether a request of that method has to say the length of its body.
-fn wants_length(method: &[u8]) -> bool
-    ensures { result ≡ sends_body method.now }
+/// The next request that the bytes begin with, or why there is none. `ended` says that no byte follows.
+pub(crate) fn next_request(buf: &[u8], ended: bool) -> Next<'_>
+    ensures { IsNext buf.now ended result }
 {
-    method == b"PUT".as_slice() || method == b"POST".as_slice()
-}
-
-/// How many bytes the body has where no line says its length.
-fn needed_without_length(is_coded: bool, method: &[u8]) -> Result<usize, Refusal>
-    ensures needed { result ≡ length_needed is_coded method.now absent }
-    ensures fits { IfOk result (λ n. n ≤ 65536) }
-{
-    if is_coded {
-        Err(Refusal::Coding)
-    } else if wants_length(method) {
-        Err(Refusal::NoLength)
-    } else {
-        Ok(0)
+    if buf.is_empty() {
+        return if ended { Next::End } else { Next::Need };
     }
-}
-
-/// How many bytes the body has, from what the header lines say of it.
-fn needed(is_coded: bool, method: &[u8], found: FoundLength) -> Result<usize, Refusal>
-    ensures needed { (length : Length) → found ≡ found_length length → result ≡ length_needed is_coded method.now length }
-    ensures fits { IfOk result (λ n. n ≤ 65536) }
-{
-    match found {
-        FoundLength::Wrong => Err(Refusal::BadHead),
-        FoundLength::Absent => needed_without_length(is_coded, method),
-        FoundLength::Bytes(_) if is_coded => Err(Refusal::Coding),
-        FoundLength::Bytes(n) if n > MAX_BODY_BYTES => Err(Refusal::TooLarge),
-        FoundLength::Bytes(n) => Ok(n as usize),
+    let front = front_of(buf);
+    let mut headers = [EMPTY_HEADER_SPAN; 32];
+    match parse_request(front, &mut headers) {
+        Ok(Status::Complete(head)) => with_head(buf, front, &headers, head, ended),
+        Ok(Status::Partial) if ended => Next::Fault(Refusal::BadHead),
+        Ok(Status::Partial) if buf.len() >= MAX_HEAD_BYTES => Next::Fault(Refusal::BadHead),
+        Ok(Status::Partial) => Next::Need,
+        Err(_) => Next::Fault(Refusal::BadHead),
     }
-}
-
-/// How many bytes the body has, as the header lines say it.
-fn needed_by(buf: &[u8], headers: &[HeaderSpan], method: &[u8]) -> Result<usize, Refusal>
-    requires { All (IsHeaderWithin (length buf.now)) headers.now }
-    ensures needed { result ≡ body_length method.now (map (header_bytes buf.now) headers.now) }
-    ensures fits { IfOk result (λ n. n ≤ 65536) }
-{
-    let is_coded = is_there(buf, headers, b"transfer-encoding");
-    needed(is_coded, method, read_length(buf, headers))
-}
-
-/// Whether the head ends its stream: it is of HTTP/1.0, or a Connection line says `close`.
-fn is_last(buf: &[u8], headers: &[HeaderSpan], minor: u8) -> bool
-    requires { All (IsHeaderWithin (length buf.now)) headers.now }
-    ensures { result ≡ is_last_head minor (map (header_bytes buf.now) headers.now) }
-{
-    minor == 0 || has_close(buf, headers)
 }
 
 /// The bytes in which a head has to lie.
@@ -134,20 +99,55 @@ fn with_head<'b>(
     }
 }
 
-/// The next request that the bytes begin with, or why there is none. `ended` says that no byte follows.
-pub(crate) fn next_request(buf: &[u8], ended: bool) -> Next<'_>
-    ensures { IsNext buf.now ended result }
+/// How many bytes the body has, as the header lines say it.
+fn needed_by(buf: &[u8], headers: &[HeaderSpan], method: &[u8]) -> Result<usize, Refusal>
+    requires { All (IsHeaderWithin (length buf.now)) headers.now }
+    ensures needed { result ≡ body_length method.now (map (header_bytes buf.now) headers.now) }
+    ensures fits { IfOk result (λ n. n ≤ 65536) }
 {
-    if buf.is_empty() {
-        return if ended { Next::End } else { Next::Need };
+    let is_coded = is_there(buf, headers, b"transfer-encoding");
+    needed(is_coded, method, read_length(buf, headers))
+}
+
+/// How many bytes the body has, from what the header lines say of it.
+fn needed(is_coded: bool, method: &[u8], found: FoundLength) -> Result<usize, Refusal>
+    ensures needed { (length : Length) → found ≡ found_length length → result ≡ length_needed is_coded method.now length }
+    ensures fits { IfOk result (λ n. n ≤ 65536) }
+{
+    match found {
+        FoundLength::Wrong => Err(Refusal::BadHead),
+        FoundLength::Absent => needed_without_length(is_coded, method),
+        FoundLength::Bytes(_) if is_coded => Err(Refusal::Coding),
+        FoundLength::Bytes(n) if n > MAX_BODY_BYTES => Err(Refusal::TooLarge),
+        FoundLength::Bytes(n) => Ok(n as usize),
     }
-    let front = front_of(buf);
-    let mut headers = [EMPTY_HEADER_SPAN; 32];
-    match parse_request(front, &mut headers) {
-        Ok(Status::Complete(head)) => with_head(buf, front, &headers, head, ended),
-        Ok(Status::Partial) if ended => Next::Fault(Refusal::BadHead),
-        Ok(Status::Partial) if buf.len() >= MAX_HEAD_BYTES => Next::Fault(Refusal::BadHead),
-        Ok(Status::Partial) => Next::Need,
-        Err(_) => Next::Fault(Refusal::BadHead),
+}
+
+/// How many bytes the body has where no line says its length.
+fn needed_without_length(is_coded: bool, method: &[u8]) -> Result<usize, Refusal>
+    ensures needed { result ≡ length_needed is_coded method.now absent }
+    ensures fits { IfOk result (λ n. n ≤ 65536) }
+{
+    if is_coded {
+        Err(Refusal::Coding)
+    } else if wants_length(method) {
+        Err(Refusal::NoLength)
+    } else {
+        Ok(0)
     }
+}
+
+/// Whether a request of that method has to say the length of its body.
+fn wants_length(method: &[u8]) -> bool
+    ensures { result ≡ sends_body method.now }
+{
+    method == b"PUT".as_slice() || method == b"POST".as_slice()
+}
+
+/// Whether the head ends its stream: it is of HTTP/1.0, or a Connection line says `close`.
+fn is_last(buf: &[u8], headers: &[HeaderSpan], minor: u8) -> bool
+    requires { All (IsHeaderWithin (length buf.now)) headers.now }
+    ensures { result ≡ is_last_head minor (map (header_bytes buf.now) headers.now) }
+{
+    minor == 0 || has_close(buf, headers)
 }

@@ -17,120 +17,6 @@ use std::alloc::Global;
 use std::marker::Model;
 use std::str;
 
-/// Where the first question mark is.
-fn question_mark_in(target: &[u8]) -> Option<usize>
-    ensures { result ≡ position is_question_mark target.now }
-{
-    target.iter().position(|byte| *byte == b'?')
-}
-
-/// The target up to the first question mark.
-fn path_in(target: &[u8]) -> &[u8]
-    ensures { result.now ≡ path_of target.now }
-{
-    match question_mark_in(target) {
-        Some(end) => &target[..end],
-        None => target,
-    }
-}
-
-/// The bytes of a method.
-fn text_of(method: Verb) -> &'static [u8]
-    ensures { result.now ≡ verb_text method }
-{
-    method.name().as_bytes()
-}
-
-fn one_name(first: Option<Name>) -> Option<Names>
-    ensures { option_map listed result ≡ option_map (λ name. name ∷ []) first }
-{
-    Some(Names::One(first?))
-}
-
-fn two_names(first: Option<Name>, second: Option<Name>) -> Option<Names>
-    ensures { option_map listed result ≡ both first second }
-{
-    Some(Names::Two(first?, second?))
-}
-
-/// The names that stand in a path, or none where a parameter isn't a name.
-fn names_of(params: &Params<'_, '_>) -> Option<Names>
-    ensures { (taken : List (List ℕ)) → IsTaken (walk params.now.pattern.now params.now.text.now params.now.path.now params.now.names.now 0 0) taken
-        → option_map listed result ≡ all_names taken }
-{
-    let mut taken = params.iter();
-    let Some((_, first)) = taken.next() else {
-        return Some(Names::Zero);
-    };
-    let first = Name::of_bytes(first.as_bytes());
-    let Some((_, second)) = taken.next() else {
-        return one_name(first);
-    };
-    two_names(first, Name::of_bytes(second.as_bytes()))
-}
-
-fn route_of_names(kind: RouteKind, names: Option<Names>) -> Option<Route>
-    ensures { result ≡ option_and_then (route_with kind) (option_map listed names) }
-{
-    route_for(kind, names?)
-}
-
-fn with_method(method: Verb, route: Option<Route>) -> Option<(Verb, Route)>
-    ensures { result ≡ with_route method route }
-{
-    Some((method, route?))
-}
-
-/// What a line serves at a path, by what the parameters took.
-fn method_route_by_line(line: Line, params: &Params<'_, '_>) -> Option<(Verb, Route)>
-    ensures { (taken : List (List ℕ)) → IsTaken (walk params.now.pattern.now params.now.text.now params.now.path.now params.now.names.now 0 0) taken
-        → result ≡ with_route line.method (option_and_then (route_with line.kind) (all_names taken)) }
-{
-    with_method(line.method, route_of_names(line.kind, names_of(params)))
-}
-
-/// What is served at a path of ASCII.
-fn method_route_at_text(router: &Router<Line>, path: &str) -> Option<(Verb, Route)>
-    requires table { router.now ≡ kept_table }
-    requires ascii { IsAscii path.now }
-    ensures { result ≡ at_path path.now }
-{
-    match router.at(path) {
-        Ok(found) => method_route_by_line(*found.value, &found.params),
-        Err(_) => None,
-    }
-}
-
-/// The method and the route that a path has.
-fn method_route_at_path(router: &Router<Line>, path: &[u8]) -> Option<(Verb, Route)>
-    requires { router.now ≡ kept_table }
-    ensures { result ≡ at_path path.now }
-{
-    if !path.is_ascii() {
-        return None;
-    }
-    match str::from_utf8(path) {
-        Ok(text) => method_route_at_text(router, text),
-        Err(_) => unreachable!(),
-    }
-}
-
-/// Only the method of the path's line reaches its call.
-fn if_allowed(method: &[u8], served: Option<(Verb, Route)>) -> Result<Route, Refusal>
-    ensures { result ≡ if_method method.now served }
-{
-    match served {
-        None => Err(Refusal::NoPath),
-        Some((allow, route)) => {
-            if method == text_of(allow) {
-                Ok(route)
-            } else {
-                Err(Refusal::BadMethod { allow })
-            }
-        }
-    }
-}
-
 /// The paths and methods that the desk serves, ready to be looked up. It is made once.
 #[derive(Drop)]
 pub struct Routes {
@@ -165,4 +51,118 @@ impl Routes {
         let served = method_route_at_path(&self.router, path_in(target));
         if_allowed(method.as_str().as_bytes(), served)
     }
+}
+
+/// The method and the route that a path has.
+fn method_route_at_path(router: &Router<Line>, path: &[u8]) -> Option<(Verb, Route)>
+    requires { router.now ≡ kept_table }
+    ensures { result ≡ at_path path.now }
+{
+    if !path.is_ascii() {
+        return None;
+    }
+    match str::from_utf8(path) {
+        Ok(text) => method_route_at_text(router, text),
+        Err(_) => unreachable!(),
+    }
+}
+
+/// What is served at a path of ASCII.
+fn method_route_at_text(router: &Router<Line>, path: &str) -> Option<(Verb, Route)>
+    requires table { router.now ≡ kept_table }
+    requires ascii { IsAscii path.now }
+    ensures { result ≡ at_path path.now }
+{
+    match router.at(path) {
+        Ok(found) => method_route_by_line(*found.value, &found.params),
+        Err(_) => None,
+    }
+}
+
+/// What a line serves at a path, by what the parameters took.
+fn method_route_by_line(line: Line, params: &Params<'_, '_>) -> Option<(Verb, Route)>
+    ensures { (taken : List (List ℕ)) → IsTaken (walk params.now.pattern.now params.now.text.now params.now.path.now params.now.names.now 0 0) taken
+        → result ≡ with_route line.method (option_and_then (route_with line.kind) (all_names taken)) }
+{
+    with_method(line.method, route_of_names(line.kind, names_of(params)))
+}
+
+fn with_method(method: Verb, route: Option<Route>) -> Option<(Verb, Route)>
+    ensures { result ≡ with_route method route }
+{
+    Some((method, route?))
+}
+
+fn route_of_names(kind: RouteKind, names: Option<Names>) -> Option<Route>
+    ensures { result ≡ option_and_then (route_with kind) (option_map listed names) }
+{
+    route_for(kind, names?)
+}
+
+/// The names that stand in a path, or none where a parameter isn't a name.
+fn names_of(params: &Params<'_, '_>) -> Option<Names>
+    ensures { (taken : List (List ℕ)) → IsTaken (walk params.now.pattern.now params.now.text.now params.now.path.now params.now.names.now 0 0) taken
+        → option_map listed result ≡ all_names taken }
+{
+    let mut taken = params.iter();
+    let Some((_, first)) = taken.next() else {
+        return Some(Names::Zero);
+    };
+    let first = Name::of_bytes(first.as_bytes());
+    let Some((_, second)) = taken.next() else {
+        return one_name(first);
+    };
+    two_names(first, Name::of_bytes(second.as_bytes()))
+}
+
+fn one_name(first: Option<Name>) -> Option<Names>
+    ensures { option_map listed result ≡ option_map (λ name. name ∷ []) first }
+{
+    Some(Names::One(first?))
+}
+
+fn two_names(first: Option<Name>, second: Option<Name>) -> Option<Names>
+    ensures { option_map listed result ≡ both first second }
+{
+    Some(Names::Two(first?, second?))
+}
+
+/// The target up to the first question mark.
+fn path_in(target: &[u8]) -> &[u8]
+    ensures { result.now ≡ path_of target.now }
+{
+    match question_mark_in(target) {
+        Some(end) => &target[..end],
+        None => target,
+    }
+}
+
+/// Where the first question mark is.
+fn question_mark_in(target: &[u8]) -> Option<usize>
+    ensures { result ≡ position is_question_mark target.now }
+{
+    target.iter().position(|byte| *byte == b'?')
+}
+
+/// Only the method of the path's line reaches its call.
+fn if_allowed(method: &[u8], served: Option<(Verb, Route)>) -> Result<Route, Refusal>
+    ensures { result ≡ if_method method.now served }
+{
+    match served {
+        None => Err(Refusal::NoPath),
+        Some((allow, route)) => {
+            if method == text_of(allow) {
+                Ok(route)
+            } else {
+                Err(Refusal::BadMethod { allow })
+            }
+        }
+    }
+}
+
+/// The bytes of a method.
+fn text_of(method: Verb) -> &'static [u8]
+    ensures { result.now ≡ verb_text method }
+{
+    method.name().as_bytes()
 }

@@ -86,25 +86,13 @@ const LINES: [(Verb, &str, RouteKind); 23] = [
     (Get, "/export/loads", Fixed(FixedRoute::LoadsExport)),
 ];
 
-/// What an insert lacked that met no conflict.
-fn lack_of(error: InsertError) -> Memory
-    requires { error ≡ InsertError.OutOfMemory }
+/// A router of all the lines of the table.
+pub(crate) fn table_of_calls(alloc: Global) -> Result<Router<Line>, Memory>
+    ensures { IfOk result (λ router. router ≡ kept_table) }
 {
-    match error {
-        InsertError::OutOfMemory => Memory,
-        _ => unreachable!(),
-    }
-}
-
-/// Puts a line into the router, with which none that is there conflicts. So memory alone may be wanting.
-fn add(router: &mut Router<Line>, method: Verb, path: &str, kind: RouteKind) -> Result<(), Memory>
-    requires { is_apart (entry method path.now kind) router.old ≡ true }
-    ensures { OnOk result (router.new ≡ inserted (entry method path.now kind) router.old) }
-{
-    match router.insert(path, Line { method, kind }) {
-        Ok(()) => Ok(()),
-        Err(error) => Err(lack_of(error)),
-    }
+    let mut router = Router::new(alloc);
+    add_all(&mut router, &LINES)?;
+    Ok(router)
 }
 
 /// Puts lines into the router, one after another.
@@ -118,11 +106,23 @@ fn add_all(router: &mut Router<Line>, lines: &[(Verb, &str, RouteKind)]) -> Resu
     Ok(())
 }
 
-/// A router of all the lines of the table.
-pub(crate) fn table_of_calls(alloc: Global) -> Result<Router<Line>, Memory>
-    ensures { IfOk result (λ router. router ≡ kept_table) }
+/// Puts a line into the router, with which none that is there conflicts. So memory alone may be wanting.
+fn add(router: &mut Router<Line>, method: Verb, path: &str, kind: RouteKind) -> Result<(), Memory>
+    requires { is_apart (entry method path.now kind) router.old ≡ true }
+    ensures { OnOk result (router.new ≡ inserted (entry method path.now kind) router.old) }
 {
-    let mut router = Router::new(alloc);
-    add_all(&mut router, &LINES)?;
-    Ok(router)
+    match router.insert(path, Line { method, kind }) {
+        Ok(()) => Ok(()),
+        Err(error) => Err(lack_of(error)),
+    }
+}
+
+/// What an insert lacked that met no conflict.
+fn lack_of(error: InsertError) -> Memory
+    requires { error ≡ InsertError.OutOfMemory }
+{
+    match error {
+        InsertError::OutOfMemory => Memory,
+        _ => unreachable!(),
+    }
 }
