@@ -51,17 +51,18 @@ const TRIP: &str = concat!(
     "first: 0, base: 1, sent: 0, confirmed: Some(0), seen: 0, acts: Sequence { kept: [] } }))",
 );
 
-/// The vehicles, and what is asked of each: its row, its trip, and its loads.
-const VEHICLES: [(&str, [&str; 3]); 2] = [
-    ("0001", [VEHICLE, TRIP, "Ok(0)"]),
-    ("0002", ["Ok(None)", "Ok(None)", "Ok(0)"]),
+/// The vehicles, and what is asked of each: its row, its trip, whether it has one, and its loads.
+const VEHICLES: [(&str, [&str; 4]); 2] = [
+    ("0001", [VEHICLE, TRIP, "Ok(true)", "Ok(0)"]),
+    ("0002", ["Ok(None)", "Ok(None)", "Ok(false)", "Ok(0)"]),
 ];
 
 fn check_vehicles(rt: &impl Abort, alloc: Global, floor: &mut impl Floor) {
-    for (serial, [row, trip, loads]) in VEHICLES {
+    for (serial, [row, trip, has_trip, loads]) in VEHICLES {
         let key = &vehicle(rt, "KIT", serial);
         check_debug(rt, alloc, &floor.vehicle(*key), row, serial);
         check_debug(rt, alloc, &floor.trip(*key), trip, serial);
+        check_debug(rt, alloc, &floor.has_trip(*key), has_trip, serial);
         check_debug(rt, alloc, &floor.loads_on(*key), loads, serial);
     }
 }

@@ -71,6 +71,11 @@ impl Floor for FailsAt<'_> {
         self.floor.trip(key)
     }
 
+    fn has_trip(&mut self, key: VehicleKey) -> Result<bool, Fault> {
+        self.ask()?;
+        self.floor.has_trip(key)
+    }
+
     fn place(&mut self, load: Name) -> Result<Option<Place>, Fault> {
         self.ask()?;
         self.floor.place(load)

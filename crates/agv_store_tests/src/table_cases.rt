@@ -9,7 +9,7 @@ use agv_http::{Routes, call_of};
 use agv_layout::Layout;
 use agv_store::Desk;
 use agv_tables::queries::layout_reading::query_layout;
-use agv_tables::queries::trip_queries::query_trip;
+use agv_tables::queries::trip_queries::{query_has_trip, query_trip};
 use agv_tables::readings::world_reading::read_world;
 use agv_tables::schema::desk_tables::make_desk_tables;
 use agv_track::HoldTable;
@@ -319,7 +319,7 @@ fn check_holds(rt: &impl Abort, floor: &mut PlainFloor<'_>, holds: &HoldTable) {
     }
 }
 
-/// Compares the open trip of a vehicle, asked with the layout and without it.
+/// Compares the open trip of a vehicle, asked with the layout and without it, and whether it has one.
 fn check_trip<S: Alter>(
     rt: &impl Abort,
     alloc: Global,
@@ -329,6 +329,8 @@ fn check_trip<S: Alter>(
     serial: &str,
 ) {
     let wanted = floor.trip(vehicle(rt, serial)).expect(rt, "memory");
+    let has_trip = query_has_trip(conn, &vehicle(rt, serial));
+    check(rt, has_trip == Ok(wanted.is_some()), serial);
     let trip = query_trip(alloc, conn, layout, &vehicle(rt, serial)).expect(rt, "the trip");
     check(rt, trip == wanted, serial);
     let trip = query_trip(alloc, conn, &None, &vehicle(rt, serial)).expect(rt, "the trip");
