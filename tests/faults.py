@@ -15,7 +15,7 @@ import tempfile
 import test_migrate
 from records import COLUMNS, FOLDER, copied, rows_of
 from test_program import AT, DESK, HERE, read_all, run
-from test_scripts import AT_A, CUT, SCRIPTS, accepted, answers_of, bytes_of, holds, load, ok, order, stands, state
+from test_scripts import AT_A, CUT, SCRIPTS, accepted, answers_of, bytes_of, holds, load, ok, order, refused, stands, state
 
 ALL = os.environ.get('FAULTS') == 'all'
 PART, PARTS = map(int, os.environ.get('FAULTS_PART', '0/1').split('/'))
@@ -47,8 +47,10 @@ AGAIN = SCRIPTS['an order is cancelled on its way'] + [
     order('O2', 'J2', 1), accepted(state(3, 'O2', node='N1', sequence=2, statuses=[('O2.0', 'FINISHED')])),
     stands('L1', 'vehicle KIT/0001', 'J2')]
 COUNTED = AT_A + [
-    load('L3', 'C'), load('L4'), ok('POST /stocktakes/R2', 'station,load\nA,\nB,L4\nC,L1\nC,L9\n', ''), ok('POST /loads/L3/leave', {'ref': 'R3'}),
-    accepted(state(2)), ok('POST /stocktakes/R4', 'station,load\nB,\nC,L1\nC,L4\n', ''), ('GET /report/stock', None, 200, '')]
+    load('L3', 'C'), load('L4'), ok('POST /stocktakes/R2', 'station,load\nA,\nB,L4\nC,L1\nC,L9\n', ''),
+    refused('POST /stocktakes/R2', 'station,load\nA,\nB,L4\nC,L1\nC,L9\n', 409, 'RefUsed', 49), ok('POST /loads/L3/leave', {'ref': 'R3'}),
+    accepted(state(2)), ok('POST /stocktakes/R4', 'station,load\nB,\nC,L1\nC,L4\n', ''),
+    ok('POST /stocktakes/R5', 'station,load\nB,\nC,L1\nC,L4\n', ''), ('GET /report/stock', None, 200, '')]
 
 
 # So many registrations that a few calls later the log is full, and what it has goes to the database.
@@ -114,6 +116,7 @@ def scripts():
         'a cancelled order': Script(lines(AGAIN)),
         'a stocktake': Script(lines(COUNTED)),
         'one state for the whole way': Script(lines(SCRIPTS['one state tells of the whole way, and again moves nothing'])),
+        'two loads in one order': Script(lines(SCRIPTS['a vehicle for two carries two loads in one order'])),
         'a request that is cut': Script(CUT, cut=True),
     }
 

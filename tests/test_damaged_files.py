@@ -74,7 +74,8 @@ def damaged(data, chance):
         one, other = at // 4096 * 4096, chance.randrange(len(data)) // 4096 * 4096
         data[one:one + 4096] = data[other:other + 4096]
     else:
-        del data[at // chance.choice((1, 512, 4096)) * chance.choice((1, 1, 512)):]
+        size = chance.choice((1, 512, 4096))
+        del data[at // size * size:]
     return bytes(data)
 
 
