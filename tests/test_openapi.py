@@ -155,7 +155,7 @@ class Document(unittest.TestCase):
         page = page[page.index('## The table of calls') : page.index('## Answers')]
         self.assertEqual(described, set(re.findall(r'^- `(\w+) (/\S+)`\.', page, re.M)))
         table = text_of('crates', 'agv_http', 'src', 'routing', 'table.rt')
-        lines = re.findall(r'Verb::(\w+),\s*"(/[^"]*)"', table)
+        lines = re.findall(r'\((Get|Put|Post|Delete),\s*"(/[^"]*)"', re.sub(r'\(\s+', '(', table))
         self.assertEqual(described, {(verb.upper(), path) for verb, path in lines})
         self.assertEqual(len(lines), len(operations()))
 
