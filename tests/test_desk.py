@@ -10,10 +10,10 @@ DESK = os.path.join(os.path.dirname(os.path.abspath(__file__)), '..', 'desk')
 TOOLS = ('awk', 'cat', 'cmp', 'cp', 'date', 'dirname', 'find', 'flock', 'head', 'mkdir', 'mktemp', 'mv', 'rm', 'sed', 'sh', 'sleep', 'tail', 'touch', 'wc')
 
 CRATES = """# a comment
-agv_app: agv_middle kit_crate agv_low
-agv_low:
-agv_middle: agv_low
-agv_tests: agv_app
+agv_app: agv_middle kit_crate agv_first
+agv_first:
+agv_middle: agv_first
+agv_middle_tests: agv_app
 """
 
 # It notes the crate that it is in and its words; for `run` it makes a program that prints its words and exits with 3.
@@ -38,7 +38,7 @@ chmod +x out/agv_app
 """
 
 # The calls of a build: each library behind those that it uses, and then the program.
-BUILD = ['agv_low lib', 'agv_middle lib', 'agv_app run -- replay --db memory --at 0']
+BUILD = ['agv_first lib', 'agv_middle lib', 'agv_app run -- replay --db memory --at 0']
 
 
 class DeskScript(unittest.TestCase):
@@ -56,7 +56,7 @@ class DeskScript(unittest.TestCase):
         shutil.copy(DESK, self.top)
         self.write('crates.txt', CRATES)
         self.write('HANDLES', 'Handles allowed: Net.\n')
-        for crate in ('agv_low', 'agv_middle', 'agv_app', 'agv_tests'):
+        for crate in ('agv_first', 'agv_middle', 'agv_app', 'agv_middle_tests'):
             for part in ('src/lib.rt', 'specs/Lib.antt', 'proofs/Lib.antt', 'must-fail/one.edit', 'out/old'):
                 self.write('crates/%s/%s' % (crate, part), 'text')
         self.write('crates/agv_app/stdin', 'text')
@@ -88,7 +88,7 @@ class DeskScript(unittest.TestCase):
         """The words and the exit status are handed on; what is built is what agv_app uses, the lowest first, and agv_app."""
         status, out, said = self.run_desk('report', '--db', 'a b', '')
         self.assertEqual((status, out), (3, 'report|--db|a b||'))
-        for number, crate in enumerate(('agv_low', 'agv_middle', 'agv_app'), 1):
+        for number, crate in enumerate(('agv_first', 'agv_middle', 'agv_app'), 1):
             self.assertIn('desk: %s, %d of 3 crates, after 0 min ' % (crate, number), said)
         self.assertIn('proved and built', said)
         self.assertEqual(self.calls(), BUILD)
@@ -105,15 +105,15 @@ class DeskScript(unittest.TestCase):
         self.assertEqual((process.communicate(timeout=120)[0], process.returncode), ('report|', 3))
         said = os.read(ours, 65536).decode()
         os.close(ours)
-        for number, crate in enumerate(('agv_low', 'agv_middle', 'agv_app'), 1):
+        for number, crate in enumerate(('agv_first', 'agv_middle', 'agv_app'), 1):
             self.assertIn('\r\x1b[Kdesk: %s, %d of 3 crates, 15 of 210 functions, 0 min ' % (crate, number), said)
         self.assertRegex(said, r'\r\x1b\[Kdesk: proved and built in 0 min \d+ s\r\n$')
 
     def test_it_builds_anew_where_a_source_is_newer(self):
         self.run_desk()
         later = time.time() + 10
-        watched = ['crates/agv_app/src/lib.rt', 'crates/agv_low/specs/Lib.antt', 'crates/agv_middle/proofs/Lib.antt']
-        others = ['crates.txt', 'crates/agv_low/must-fail/one.edit', 'crates/agv_tests/src/lib.rt', 'crates/agv_low/out/old', 'desk']
+        watched = ['crates/agv_app/src/lib.rt', 'crates/agv_first/specs/Lib.antt', 'crates/agv_middle/proofs/Lib.antt']
+        others = ['crates.txt', 'crates/agv_first/must-fail/one.edit', 'crates/agv_middle_tests/src/lib.rt', 'crates/agv_first/out/old', 'desk']
         for path in others:
             os.utime(os.path.join(self.top, path), (later, later))
         self.assertEqual(self.run_desk(), (3, '|', ''))
@@ -130,7 +130,7 @@ class DeskScript(unittest.TestCase):
         self.write('crates.txt', CRATES + 'agv_more: agv_app\n')
         self.assertEqual(self.run_desk(), (3, '|', ''))
         self.assertEqual(self.calls(), BUILD)
-        self.write('crates.txt', CRATES.replace('agv_middle: agv_low', 'agv_middle: agv_low kit_crate'))
+        self.write('crates.txt', CRATES.replace('agv_middle: agv_first', 'agv_middle: agv_first kit_crate'))
         self.assertEqual(self.run_desk()[0], 3)
         self.assertEqual(self.calls(), BUILD * 2)
 
@@ -152,7 +152,7 @@ class DeskScript(unittest.TestCase):
         self.run_desk()
         self.write(os.path.join(self.notes, 'fails'), 'agv_app')
         later = time.time() + 10
-        os.utime(os.path.join(self.top, 'crates/agv_low/src/lib.rt'), (later, later))
+        os.utime(os.path.join(self.top, 'crates/agv_first/src/lib.rt'), (later, later))
         self.assertEqual(self.run_desk()[:2], (1, ''))
 
     def test_no_rt(self):

@@ -300,7 +300,7 @@ fn migrate<W: Write>(
 
 /// Says a fault in its line, and gives the exit status. A write that fails here changes nothing about it.
 fn tell<E: Write>(end: Result<(), RunFault>, errors: &mut CountingIo<E>) -> u8
-    ensures told { IsTold E.contents errors.old errors.new end }
+    ensures line { IsTold E.contents errors.old errors.new end }
     ensures status { result ≡ status_of end }
 {
     match end {

@@ -65,10 +65,10 @@ module _ (layout : Layout) (jobs : List Job) where
     found : stop_route_to layout jobs at stop ≡ Some stop_route
     leads : stop_route.goal ≡ goal
 
-  leg_there : (at : List ℕ) (place : ℕ) (stop : Stop) (edges : List Edge) (act : Act) (made : MakesStop layout jobs at place stop edges act)
+  stop_there : (at : List ℕ) (place : ℕ) (stop : Stop) (edges : List Edge) (act : Act) (made : MakesStop layout jobs at place stop edges act)
       → HasLeg at made.site.node stop
   unfolding stop_route_to
-  leg_there at place stop edges act made = record {
+  stop_there at place stop edges act made = record {
     stop_route = stop_route_over layout stop made.job made.site.node (ids_of edges);
     found =
         ap (option_and_then (stop_route_for layout at stop)) made.named
@@ -88,7 +88,7 @@ module _ (layout : Layout) (jobs : List Job) where
   legs_there at place [] edges (act ∷ acts) made e = elim made [ ]
   legs_there at place (stop ∷ stops) edges [] made e = elim made [ ]
   legs_there at place (stop ∷ stops) edges (act ∷ acts) made e =
-      let has = leg_there at place stop made.0 act made.3.0 in
+      let has = stop_there at place stop made.0 act made.3.0 in
       let more : stop_routes_to layout jobs has.stop_route.goal stops ≢ None =
       subst (λ node. stop_routes_to layout jobs node stops ≢ None) (sym has.leads) (legs_there made.3.0.site.node (place + length made.0) stops made.1 acts made.3.1) in
       some_more has.stop_route (stop_routes_to layout jobs has.stop_route.goal stops) more

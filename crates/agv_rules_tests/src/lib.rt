@@ -13,7 +13,7 @@
 //! - `routes` has routes on small layouts, on random ones and on the largest; `listing` is the plain program
 //!   that lists all walks, with which the random ones are compared.
 //! - `plans` has trips and releases on the layout of the examples, `long_plans` trips of about 200 edges,
-//!   and `random_plans` trips on random layouts, whose legs are compared with those of the plain program.
+//!   and `random_plans` trips on random layouts, whose routes are compared with those of the plain program.
 //! - `stocks` has the room of stations and the checks of what is done with loads.
 //! - `tracks` has states of vehicles on the way, and what vehicles hold.
 //! - `trips` has trips that are built by hand, their messages, and what a vehicle does with these; which

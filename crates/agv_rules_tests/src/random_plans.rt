@@ -1,4 +1,4 @@
-//! Plans of trips on random layouts: each leg is compared with the first of all walks.
+//! Plans of trips on random layouts: each route to a stop is compared with the first of all walks.
 ghost use Rattle.agv_layout.specs.Rows.{IsLayoutOf};
 
 use crate::cases::{check, name, vehicle};
@@ -124,7 +124,7 @@ fn goal_of(rows: &[LayoutRow], act: &Option<Act>) -> Option<Name> {
 }
 
 /// The way between two nodes, if both are there.
-fn leg(
+fn stop_route(
     rt: &impl Abort,
     alloc: Global,
     layout: &Layout,
@@ -140,8 +140,8 @@ fn leg(
     }
 }
 
-/// Adds a leg, and the act at its end.
-fn add_leg(rt: &impl Abort, listed: &mut Listed, ids: &[Name], act: &Option<Act>) {
+/// Adds the route to a stop, and the act at its end.
+fn add_stop(rt: &impl Abort, listed: &mut Listed, ids: &[Name], act: &Option<Act>) {
     listed.ids.extend_from_slice(ids).expect(rt, "memory");
     let place_at = u32::try_from(listed.ids.len()).expect(rt, "a short way");
     let act = act.expect(rt, "an act");
@@ -165,10 +165,10 @@ fn go_on(
 {
     let act = act_at(jobs, stop);
     let goal = goal_of(rows, &act);
-    let found = leg(rt, alloc, layout, rows, &listed.at, &goal);
+    let found = stop_route(rt, alloc, layout, rows, &listed.at, &goal);
     listed.at = None;
     if let Some(ids) = &found {
-        add_leg(rt, listed, ids, &act);
+        add_stop(rt, listed, ids, &act);
         listed.at = goal;
     }
 }

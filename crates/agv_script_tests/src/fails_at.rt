@@ -35,7 +35,7 @@ impl<'a> FailsAt<'a> {
     fn ask(&mut self) -> Result<(), Fault>
         ensures answers { IfOk result (λ _. self.new.failed ≡ self.old.failed) }
         ensures fails { IfErr result (λ why. (why ≡ fault.Storage) × (self.new.failed ≡ true)) }
-        ensures same { self.new.floor ≡ self.old.floor }
+        ensures floor_stays { self.new.floor ≡ self.old.floor }
     {
         if self.asked == self.most {
             self.failed = true;

@@ -79,7 +79,7 @@ impl<S: Alter + Drop> Desk<S> {
 
     /// The connection, with the desk's tables in it.
     pub fn release_conn(self) -> Connection<S>
-        ensures same { result ≡ self.held }
+        ensures connection { result ≡ self.held }
         ensures idle { result.in_transaction ≡ false }
     {
         self.floor.conn

@@ -1,3 +1,4 @@
+-- Changes of a world made in the tables, inside one transaction, and what an opening finds after a crash amid them.
 pub mod ChangesFound
 pub mod ChangesRun
 pub mod RowsStay

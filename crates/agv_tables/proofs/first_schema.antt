@@ -1,3 +1,4 @@
+-- The first schema: whether its tables stand, the world that their rows tell, and the move to the second schema.
 pub mod AddedTables
 pub mod AddingSteps
 pub mod CarriedSingly

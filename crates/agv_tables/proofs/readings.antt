@@ -1,3 +1,4 @@
+-- Readings of whole tables: the tables that come of them, what is told of holds and rowids, and the world of a database.
 pub mod AskingAll
 pub mod HeldFootprints
 pub mod HeldRead

@@ -1,3 +1,4 @@
+-- Rows and the world: what a row writes and tells, that lists of rows tell one lawful world, and how they follow its changes.
 pub mod CellLemmas
 pub mod ColumnValues
 pub mod ColumnsKept

@@ -1,3 +1,4 @@
+-- The schema: what its texts mean, that they make the tables and indexes where the names are free, and the rows of a new desk.
 pub mod Creations
 pub mod DeskMade
 pub mod DeskPlaces

@@ -1,3 +1,4 @@
+-- What SQL does to one table somewhere in a schema, and to a connection: entries, keys, selections, failures.
 pub mod Entries
 pub mod EntryEdits
 pub mod Failing

@@ -1,3 +1,4 @@
+-- What each text of the desk means, wherever its tables stand, and what it does to their rows.
 pub mod DeskStatements
 pub mod QueryMeanings
 pub mod RowForms

@@ -20,7 +20,7 @@ use Rattle.agv_world.proofs.lists.Entries.{entries_found, is_same, same_Some}
 use Rattle.agv_world.proofs.lists.Orders.{names_apart}
 use Rattle.agv_trip_rows.specs.TripRows.{act_rows, acts_of, journey_of, journeys_of}
 use Rattle.agv_trip_rows.specs.TripsTold.{AreTripsOf, IsOfJob, acts_told, trip_told}
-use Rattle.agv_trip_rows.proofs.ActsAgain.{acts_again}
+use Rattle.agv_trip_rows.proofs.RowsTellActs.{rows_tell_acts}
 
 -- what all that a list contains has, each element has
 each_of : {A : Type 0} (P : A → Type 0) (xs : List A) → ((x : A) → Contains xs x → P x) → AllByRecursion P xs
@@ -85,4 +85,4 @@ module _ (seats : ℕ) (world : World) (lawful : IsLawful seats world) where
 
   pub lawful_trip : (order : List ℕ) (trip : TripRow) → finite.get (rows_of world).trips order ≡ Some trip
       → option_map (trip_told (journey_of trip)) (acts_told (rows_of world).jobs 0 (act_rows order trip)) ≡ Some trip
-  lawful_trip order trip at = ap (option_map (trip_told (journey_of trip))) (acts_again (rows_of world).jobs order 0 trip.acts (lawful_acts order trip at))
+  lawful_trip order trip at = ap (option_map (trip_told (journey_of trip))) (rows_tell_acts (rows_of world).jobs order 0 trip.acts (lawful_acts order trip at))

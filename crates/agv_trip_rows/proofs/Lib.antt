@@ -3,7 +3,7 @@ pub mod KeyedRows
 pub mod RowKeys
 pub mod TripTables
 pub mod RowsAtKeys
-pub mod ActsAgain
+pub mod RowsTellActs
 pub mod TripsFrom
 pub mod LawfulTrips
 pub mod LawfulValues

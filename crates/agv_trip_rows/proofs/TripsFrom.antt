@@ -23,7 +23,7 @@ use Rattle.agv_trip_rows.specs.TripRows.{act_rows, act_rows_from, is_of, journey
 use Rattle.agv_trip_rows.specs.TripsTold.{AreTripsOf, IsOfJob, acts_told, trip_told}
 use Rattle.agv_trip_rows.specs.declared.act_row.ActRow.{ActRow}
 use Rattle.agv_trip_rows.specs.declared.journey_row.JourneyRow.{JourneyRow}
-use Rattle.agv_trip_rows.proofs.ActsAgain.{Row, acts_again, rows_again}
+use Rattle.agv_trip_rows.proofs.RowsTellActs.{Row, rows_tell_acts, acts_give_rows}
 use Rattle.agv_trip_rows.proofs.Elements.{all_weaker, all-flat_map}
 use Rattle.agv_trip_rows.proofs.RowKeys.{AreAfter, DoRise, acts_in, acts_tested, journeys_in, not_after, rise_as_journeys, rise_from_sorted, sorted_from_rise}
 use Rattle.agv_trip_rows.proofs.TripTables.{entries-acts, entries-journeys}
@@ -131,7 +131,7 @@ module _ (jobs : finite.FinMap name_cmp JobRow) where
       let own : own_rows e.0 (rows ++ acts_in es) ≡ rows = ap (λ n. take n (rows ++ acts_in es)) first ∙ take-append_seam rows (acts_in es) in
       let others : other_rows e.0 (rows ++ acts_in es) ≡ acts_in es = ap (λ n. drop n (rows ++ acts_in es)) first ∙ drop-append_seam rows (acts_in es) in
       ap₂ (λ (mine : List Row) (more : List Row). option_and_then (λ (acts : List Act). trips_from (finite.insert trips e.0 (trip_told (journey_of e.1) acts)) (journeys_in es) more) (acts_told jobs 0 mine)) own others
-      ∙ ap (option_and_then (λ (acts : List Act). trips_from (finite.insert trips e.0 (trip_told (journey_of e.1) acts)) (journeys_in es) (acts_in es))) (acts_again jobs e.0 0 e.1.acts are.0)
+      ∙ ap (option_and_then (λ (acts : List Act). trips_from (finite.insert trips e.0 (trip_told (journey_of e.1) acts)) (journeys_in es) (acts_in es))) (rows_tell_acts jobs e.0 0 e.1.acts are.0)
       ∙ told_again (finite.insert trips e.0 e.1) es h.1 are.1
 
   -- and trips that are told have just these rows
@@ -155,7 +155,7 @@ module _ (jobs : finite.FinMap name_cmp JobRow) where
           → HaveRows trips (journey ∷ journeys) rows told
       with_acts further None none is = absurd (cc is)
       with_acts further (Some acts) some is =
-          let own = rows_again jobs journey.0 0 (own_rows journey.0 rows) acts (first_pass (is_of journey.0) rows) some in
+          let own = acts_give_rows jobs journey.0 0 (own_rows journey.0 rows) acts (first_pass (is_of journey.0) rows) some in
           let later = further acts is in
           record {
             es = (journey.0, trip_told journey.1 acts) ∷ later.es;

@@ -95,7 +95,7 @@ fn tables_in_lists(alloc: Global, lists: &[Vec<Row>]) -> Result<World, ReadingFa
     let nodes = nodes_in_rows(alloc, list_of(lists, TableName::Node))?;
     let edges = edges_in_rows(alloc, list_of(lists, TableName::Edge))?;
     let stations = stations_in_rows(alloc, list_of(lists, TableName::Station))?;
-    let vehicles = vehicles_in_rows(alloc, list_of(lists, TableName::Vehicle))?;
+    let vehicles = first_vehicles_in_rows(alloc, list_of(lists, TableName::Vehicle))?;
     let jobs = jobs_in_rows(alloc, list_of(lists, TableName::Job))?;
     let trips = trips_in_rows(alloc, list_of(lists, TableName::Trip), &jobs)?;
     let legs = legs_in_rows(alloc, list_of(lists, TableName::Leg))?;
@@ -115,7 +115,10 @@ fn tables_in_lists(alloc: Global, lists: &[Vec<Row>]) -> Result<World, ReadingFa
 }
 
 // The vehicles that these rows tell, each with room for one load.
-fn vehicles_in_rows(alloc: Global, rows: &[Row]) -> Result<ByVehicle<VehicleRow>, ReadingFault>
+fn first_vehicles_in_rows(
+    alloc: Global,
+    rows: &[Row],
+) -> Result<ByVehicle<VehicleRow>, ReadingFault>
     ensures { Reads result (read_rows vehicle_in finite.empty rows.now) }
 {
     let mut table = ByVehicle::new(alloc);

@@ -99,7 +99,7 @@ fn query_job_in<S: Alter>(
         job ≡ option_map (λ job. job.0) (find (λ job. pointwise nat_eq job.1.load load.now && is_in_phase phase job.1) (map.entries world.jobs))) }
 {
     let rows = query_rows_by(conn, RowsBy::LoadJobs, &name_and_phase_values(load, phase))?;
-    job_in_rows(rows.as_slice())
+    job_name_in_rows(rows.as_slice())
 }
 
 // A name and a phase, by which jobs are asked for.
@@ -110,7 +110,7 @@ fn name_and_phase_values(name: &Name, phase: Phase) -> [ValueRef<'_>; 2]
 }
 
 // The name of the job that the first of the rows tells.
-fn job_in_rows(rows: &[Row]) -> Result<Option<Name>, ReadingFault>
+fn job_name_in_rows(rows: &[Row]) -> Result<Option<Name>, ReadingFault>
     ensures { result ≡ first_key_in job_in rows.now }
 {
     match rows.first() {

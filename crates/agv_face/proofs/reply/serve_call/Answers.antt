@@ -17,7 +17,7 @@ returns-in_err-report-clause-unchanged_on_err g c clean still =
     let start = world_at g.S.Store c.args.desk.now.held in
     let known = world_known g.S.Store c.serve.new.self.held _ c.a_database_tells_its_world.ensures served.knows in
     let asked : names_report told ≡ true = true_where (names_report told) (λ none. (c.in_err-report.ensures.silent none).0) in
-    let same : world_at g.S.Store c.report.new.self.held ≡ start = ap world_in (c.report.ensures.left clean still) ∙ known ∙ stays c.tells_outcomes.ensures c.tells_without_change.ensures c.gives_only_what_is_named.ensures start c.args.at c.args.call.now told served.answer_is asked in
+    let same : world_at g.S.Store c.report.new.self.held ≡ start = ap world_in (c.report.ensures.unchanged clean still) ∙ known ∙ stays c.tells_outcomes.ensures c.tells_without_change.ensures c.gives_only_what_is_named.ensures start c.args.at c.args.call.now told served.answer_is asked in
     on_err c.from_residual-in_err-report.result same
 
 pub returns-clause-serves : goal.returns-clause-serves

@@ -15,6 +15,6 @@ returns-in_err-rows g c = passes g.S.Store c.args.conn.now c.query_rows_by.new.c
 
 pub returns : goal.returns
 returns g c =
-    follows g.S.Store c.args.conn.now c.query_rows_by.new.conn c.in_ok-rows.rows _ _ c.job_in_rows.result
-    (λ world lawful shown. tells_job_in world lawful c.args.load.now c.args.phase c.requires _ c.name_and_phase_values.ensures c.in_ok-rows.rows.items shown c.job_in_rows.result (c.job_in_rows.ensures ∙ ap (first_key_in job_in) c.as_slice.ensures.value))
+    follows g.S.Store c.args.conn.now c.query_rows_by.new.conn c.in_ok-rows.rows _ _ c.job_name_in_rows.result
+    (λ world lawful shown. tells_job_in world lawful c.args.load.now c.args.phase c.requires _ c.name_and_phase_values.ensures c.in_ok-rows.rows.items shown c.job_name_in_rows.result (c.job_name_in_rows.ensures ∙ ap (first_key_in job_in) c.as_slice.ensures.value))
     c.in_ok-rows.ensures

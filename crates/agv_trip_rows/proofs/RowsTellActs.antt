@@ -28,19 +28,19 @@ module _ (jobs : finite.FinMap name_cmp JobRow) where
   abbrev with_job : Row → Option (List Act) → JobRow → Option (List Act)
   with_job row later job = option_map (λ (acts : List Act). act_told row.1 job ∷ acts) later
 
-  act_again : (act : Act) (is : IsOfJob jobs act) → act_told (act_row act) is.job ≡ act
-  act_again act is = λ i. record { kind = act.kind; job = act.job; load = is.load i; station = is.station i; place_at = act.place_at; status = act.status }
+  row_tells_act : (act : Act) (is : IsOfJob jobs act) → act_told (act_row act) is.job ≡ act
+  row_tells_act act is = λ i. record { kind = act.kind; job = act.job; load = is.load i; station = is.station i; place_at = act.place_at; status = act.status }
 
   -- the rows of acts tell the acts
-  pub acts_again : (order : List ℕ) (n : ℕ) (acts : List Act) → AllByRecursion (IsOfJob jobs) acts → acts_told jobs n (act_rows_from order n acts) ≡ Some acts
-  acts_again order n [] are = refl
-  acts_again order n (act ∷ acts) are =
+  pub rows_tell_acts : (order : List ℕ) (n : ℕ) (acts : List Act) → AllByRecursion (IsOfJob jobs) acts → acts_told jobs n (act_rows_from order n acts) ≡ Some acts
+  rows_tell_acts order n [] are = refl
+  rows_tell_acts order n (act ∷ acts) are =
       let row : Row = (act_key order n, act_row act) in
       let later = acts_told jobs (n + 1) (act_rows_from order (n + 1) acts) in
       ap (λ b. cond b (option_and_then (with_job row later) (finite.get jobs act.job)) None) (own_number n)
       ∙ ap (option_and_then (with_job row later)) are.0.known
-      ∙ ap (λ (o : Option (List Act)). with_job row o are.0.job) (acts_again order (n + 1) acts are.1)
-      ∙ ap (λ (a : Act). Some (a ∷ acts)) (act_again act are.0)
+      ∙ ap (λ (o : Option (List Act)). with_job row o are.0.job) (rows_tell_acts order (n + 1) acts are.1)
+      ∙ ap (λ (a : Act). Some (a ∷ acts)) (row_tells_act act are.0)
 
   -- what acts tell of the rows that told them
   abbrev pub AreRows : List ℕ → ℕ → List Row → List Act → Type 0
@@ -53,10 +53,10 @@ module _ (jobs : finite.FinMap name_cmp JobRow) where
       λ i. (record { order = name i; k = number i }, row.1)
 
   -- rows of one order that tell acts are those of the acts
-  pub rows_again : (order : List ℕ) (n : ℕ) (rows : List Row) (acts : List Act) → AllByRecursion (λ row. is_of order row ≡ true) rows → acts_told jobs n rows ≡ Some acts → AreRows order n rows acts
-  rows_again order n [] acts of told = subst (AreRows order n []) (same_Some _ _ told) (refl, tt)
-  rows_again order n (row ∷ rows) acts of told =
-      numbered (λ rest more. rows_again order (n + 1) rows rest of.1 more) (nat_eq row.0.k n) refl told
+  pub acts_give_rows : (order : List ℕ) (n : ℕ) (rows : List Row) (acts : List Act) → AllByRecursion (λ row. is_of order row ≡ true) rows → acts_told jobs n rows ≡ Some acts → AreRows order n rows acts
+  acts_give_rows order n [] acts of told = subst (AreRows order n []) (same_Some _ _ told) (refl, tt)
+  acts_give_rows order n (row ∷ rows) acts of told =
+      numbered (λ rest more. acts_give_rows order (n + 1) rows rest of.1 more) (nat_eq row.0.k n) refl told
     where
       with_rest : ((rest : List Act) → acts_told jobs (n + 1) rows ≡ Some rest → AreRows order (n + 1) rows rest)
           → nat_eq row.0.k n ≡ true → (job : JobRow) → finite.get jobs row.1.job ≡ Some job
