@@ -54,11 +54,13 @@ pub enum Line<'a> {
 }
 
 /// Why a line asks for nothing.
-#[derive(Drop)]
+#[derive(Debug, Drop, thiserror::Error)]
 pub enum LineFault {
     /// The words are refused, or ask for help; the error is the text to show.
+    #[error("{0}")]
     Refused(Error),
     /// Want of memory.
+    #[error("want of memory")]
     Memory,
 }
 

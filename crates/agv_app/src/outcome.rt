@@ -7,7 +7,7 @@ use agv_face::{Ended, StreamFault, StreamSummary};
 use agv_header::Refusal;
 use agv_store::OpenFault;
 use clap::Error;
-use std::fmt;
+use std::{error, fmt};
 
 /// Why a run came to no end, as the program says it.
 #[derive(Clone, Copy, Debug, PartialEq, Eq, thiserror::Error)]
@@ -70,7 +70,7 @@ impl From<OpenFault> for RunFault {
 }
 
 /// Why there is no line to carry out. It is shown as the text that goes to standard error.
-#[derive(Drop)]
+#[derive(Debug, Drop)]
 pub enum NoLine {
     /// The words are refused, or ask for help; the error is the text.
     Refused(Error),
@@ -116,6 +116,8 @@ impl fmt::Display for NoLine {
         }
     }
 }
+
+impl error::Error for NoLine {}
 
 /// How a run ends whose stream has ended so: its last answer was the refusal for a fault of the machine, or it was served
 /// or refused as its requests had it.

@@ -25,49 +25,6 @@ use std::io::{Read, Write};
 use std::net::{Ipv4Addr, SocketAddr, SocketAddrV4, TcpListener};
 use std::time::{SystemTime, UNIX_EPOCH};
 
-/// Why no connection was served.
-#[derive(Clone, Copy, Debug, PartialEq, Eq, thiserror::Error)]
-pub enum NextFault {
-    /// None could be had.
-    #[error("no connection could be had")]
-    Net,
-    /// The clock shows no moment from 1970 to 2099.
-    #[error("the clock shows no moment from 1970 to 2099")]
-    Clock,
-}
-
-/// Accepts one connection, and serves its requests at the moment at which it is accepted.
-pub fn serve_next<S: Alter + Drop>(
-    rt: &HostRuntime,
-    alloc: Global,
-    desk: &mut Desk<S>,
-    listener: &mut TcpListener,
-) -> Result<Result<StreamSummary, StreamFault>, NextFault> {
-    let Ok((stream, _)) = listener.accept() else {
-        return Err(NextFault::Net);
-    };
-    let Some(at) = moment_now(rt) else {
-        return Err(NextFault::Clock);
-    };
-    let mut reader = CountingIo::new(&stream);
-    let mut writer = CountingIo::new(&stream);
-    Ok(serve_stream(alloc, desk, at, &mut reader, &mut writer))
-}
-
-/// The moment that the clock shows.
-fn moment_now(rt: &HostRuntime) -> Option<Moment> {
-    let Ok(now) = SystemTime::now(rt) else {
-        return None;
-    };
-    let Ok(since) = now.duration_since(UNIX_EPOCH) else {
-        return None;
-    };
-    match i64::try_from(since.as_millis()) {
-        Ok(ms) => Moment::of(ms),
-        Err(_) => None,
-    }
-}
-
 /// Carries a line out over a reader of its input, a writer of its output and one of its faults, and gives the exit
 /// status: 0 where all was done; 1 after a fault, which is one line on the writer of faults (`IsRun`, `specs/Runs.antt`).
 ///
@@ -259,6 +216,49 @@ fn serve_connections<S: Alter + Drop>(
         }
     }
     Ok(())
+}
+
+/// Why no connection was served.
+#[derive(Clone, Copy, Debug, PartialEq, Eq, thiserror::Error)]
+pub enum NextFault {
+    /// None could be had.
+    #[error("no connection could be had")]
+    Net,
+    /// The clock shows no moment from 1970 to 2099.
+    #[error("the clock shows no moment from 1970 to 2099")]
+    Clock,
+}
+
+/// Accepts one connection, and serves its requests at the moment at which it is accepted.
+pub fn serve_next<S: Alter + Drop>(
+    rt: &HostRuntime,
+    alloc: Global,
+    desk: &mut Desk<S>,
+    listener: &mut TcpListener,
+) -> Result<Result<StreamSummary, StreamFault>, NextFault> {
+    let Ok((stream, _)) = listener.accept() else {
+        return Err(NextFault::Net);
+    };
+    let Some(at) = moment_now(rt) else {
+        return Err(NextFault::Clock);
+    };
+    let mut reader = CountingIo::new(&stream);
+    let mut writer = CountingIo::new(&stream);
+    Ok(serve_stream(alloc, desk, at, &mut reader, &mut writer))
+}
+
+/// The moment that the clock shows.
+fn moment_now(rt: &HostRuntime) -> Option<Moment> {
+    let Ok(now) = SystemTime::now(rt) else {
+        return None;
+    };
+    let Ok(since) = now.duration_since(UNIX_EPOCH) else {
+        return None;
+    };
+    match i64::try_from(since.as_millis()) {
+        Ok(ms) => Moment::of(ms),
+        Err(_) => None,
+    }
 }
 
 /// Prints a report.
