@@ -106,7 +106,7 @@ impl<S: Alter + Drop> Desk<S> {
     /// after [`serve`](Desk::serve) has the report of the world in which the call was answered.
     ///
     /// It asks questions and writes nothing. Where the store is open afterwards, it was open before, and all that the
-    /// database has is as it was (`left`, `was_open`); a crash leaves what it could leave before (`crash`). Where the answer
+    /// database has is as it was (`unchanged`, `was_open`); a crash leaves what it could leave before (`crash`). Where the answer
     /// names no report nothing is asked, no memory is taken, and there is no fault (`silent`).
     ///
     /// # Errors

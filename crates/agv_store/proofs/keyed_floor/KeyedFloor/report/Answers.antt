@@ -4,8 +4,8 @@ use Rattle.agv_store.proofs.keyed_floor.KeyedFloor.report.Goals as goal
 pub returns-clause-knew : goal.returns-clause-knew
 returns-clause-knew g c = knew_before g.S.Store _ c.args.self.now c.reported.new.self c.knows.ensures _ c.reported.result c.reported.ensures.tells c.reported.ensures.knows
 
-pub returns-clause-left : goal.returns-clause-left
-returns-clause-left g c = leaves_all g.S.Store _ c.args.self.now c.reported.new.self c.knows.ensures c.reported.result c.reported.ensures.tells
+pub returns-clause-unchanged : goal.returns-clause-unchanged
+returns-clause-unchanged g c = leaves_all g.S.Store _ c.args.self.now c.reported.new.self c.knows.ensures c.reported.result c.reported.ensures.tells
 
 pub returns-clause-was_open : goal.returns-clause-was_open
 returns-clause-was_open g c = was_open g.S.Store _ c.args.self.now c.reported.new.self c.reported.result c.reported.ensures.tells
