@@ -158,9 +158,10 @@ class Lines(unittest.TestCase):
         )
 
     def test_the_command_that_replays(self):
-        """The second command of README answers each request of the file that it is given."""
-        commands = blocks_of('README.md', 'Two commands')[0][1].splitlines()
-        words, file = commands[1].split(' < ')
+        """That command of README answers each request of the file that it is given."""
+        blocks = blocks_of('README.md', 'Two commands')
+        (command,) = [text for _, text in blocks if text.startswith('./desk replay')]
+        words, file = command.rstrip('\n').split(' < ')
         words = shlex.split(words)
         self.assertEqual(words[:2], ['./desk', 'replay'])
         with open(os.path.join(ROOT, file), 'rb') as requests:
