@@ -467,6 +467,21 @@ class DayByDay(Program):
             self.refused(desk, job('J1', 'L2', 'A'), 'Exists')
             self.done(desk, job('J4', 'L2', 'A'))
 
+    def test_an_order_that_the_vehicle_rejects(self):
+        """A cancel doesn't end it, whatever becomes of the cancel; a person who places the vehicle does."""
+        for status in ('FAILED', 'FINISHED'):
+            self.db = self.path('%s.db' % status)
+            with Serving(self.db) as desk:
+                self.done(
+                    desk, ok('PUT /layout', SIDING), vehicle('0001', 'N1'), state(1), load('L1', 'A'),
+                    job('J1', 'L1', 'B'), order('O1', 'J1', 1), ok('POST /vehicles/KIT/0001/cancel', ''),
+                    state(2, statuses=[('instant-1', status)]),
+                )
+                told = self.ask(desk, 'GET /vehicles/KIT/0001')[1]
+                self.assertEqual((told['order'], told['pending']), ('O1', None))
+                self.done(desk, ok('POST /vehicles/KIT/0001/place', {'ref': 'R1', 'node': 'N1'}))
+                self.assertIsNone(self.ask(desk, 'GET /vehicles/KIT/0001')[1]['order'])
+
     def test_a_vehicle_that_was_restarted(self):
         with Serving(self.db) as desk:
             self.done(
