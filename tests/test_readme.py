@@ -1,12 +1,15 @@
 """The sessions with curl that README.md and docs/HTTP.md show, as they stand there: each command is run against a
 desk on a new file, and what it writes is what the page shows. Only the port and the moments differ."""
+import json
 import os
 import re
 import shlex
 import shutil
+import socket
 import sqlite3
 import subprocess
 import tempfile
+import threading
 import unittest
 
 from test_program import DESK, Serving, over_sockets
@@ -58,6 +61,59 @@ def words_of_serving(blocks):
     return shlex.split(lines[0])[1:]
 
 
+def front_of(data):
+    """The request at the front of these bytes, or nothing where it is not whole."""
+    head, end, body = data.partition(b'\r\n\r\n')
+    length = re.search(rb'^Content-Length: *([0-9]+)', head, re.I | re.M)
+    length = int(length.group(1)) if length else 0
+    return head + end + body[:length] if end and len(body) >= length else b''
+
+
+def meaning_of(request):
+    """The method, the path and the body of a request; a body of JSON as its value."""
+    head, _, body = request.decode().partition('\r\n\r\n')
+    try:
+        body = json.loads(body)
+    except ValueError:
+        pass
+    return *head.split(' ')[:2], body
+
+
+class Relay:
+    """Hands each request on to the desk, by a connection of its own, and keeps it."""
+
+    def __init__(self, desk):
+        self.desk, self.seen = desk, []
+
+    def __enter__(self):
+        self.listener = socket.create_server(('127.0.0.1', 0))
+        self.port = self.listener.getsockname()[1]
+        self.thread = threading.Thread(target=self.run)
+        self.thread.start()
+        return self
+
+    def run(self):
+        while True:
+            try:
+                conn, _ = self.listener.accept()
+            except OSError:
+                return
+            with conn, socket.create_connection(('127.0.0.1', self.desk)) as desk:
+                data = b''
+                while not front_of(data) and (more := conn.recv(65536)):
+                    data += more
+                self.seen.append(data)
+                desk.sendall(data)
+                desk.shutdown(socket.SHUT_WR)
+                while more := desk.recv(65536):
+                    conn.sendall(more)
+
+    def __exit__(self, *_):
+        self.listener.shutdown(socket.SHUT_RDWR)
+        self.listener.close()
+        self.thread.join()
+
+
 @over_sockets
 class Pages(unittest.TestCase):
     def check(self, page, title):
@@ -105,6 +161,25 @@ class Pages(unittest.TestCase):
 
     def test_each_call(self):
         self.check('docs/HTTP.md', 'Each call by an example')
+
+    def test_the_session_is_the_file(self):
+        """What curl sends in the session of docs/HTTP.md are the requests of `examples/calls.http`, one after the other."""
+        blocks = blocks_of('docs/HTTP.md', 'Each call by an example')
+        words = words_of_serving(blocks)
+        with tempfile.TemporaryDirectory() as folder, Serving(os.path.join(folder, words[2]), words[6]) as desk:
+            with Relay(desk.port) as relay:
+                script = ''.join(commands for commands, _ in session_of(blocks))
+                script = script.replace(':' + PORT, ':%d' % relay.port)
+                subprocess.run(['sh', '-e', '-c', script], capture_output=True, cwd=folder, timeout=120, check=True)
+        with open(os.path.join(ROOT, 'examples', 'calls.http'), 'rb') as file:
+            data = file.read()
+        wanted = []
+        while data:
+            one = front_of(data)
+            data = data[len(one) :]
+            wanted.append(meaning_of(one))
+        self.assertGreater(len(wanted), 22)
+        self.assertEqual([meaning_of(one) for one in relay.seen], wanted)
 
 
 class Lines(unittest.TestCase):
