@@ -114,7 +114,7 @@ class FailingStreams(FaultTest):
                         tracing.Fails(errno.EIO) if number == n + 40 else None)
                     self.assertEqual((ended.status, ended.said), (1, b'fault: Write\n'))
                     answered = script.whole(ended.out)
-                    self.assertEqual(len(ended.out), len(b''.join(script.answers[:answered])) + 40)
+                    self.assertEqual(ended.out, script.out[: len(b''.join(script.answers[: n - 1])) + 40])
                     self.assertEqual(rows_of(self.db), script.rows[answered + 1])
                     check_kept(self, script, self.db, answered)
                     cut += 1
