@@ -118,6 +118,12 @@ def without_moments(body):
     return re.sub(MOMENT, b'MOMENT', body)
 
 
+def moment_now():
+    """The moment that the clock shows, as messages have it: cut off after the hundredths."""
+    seconds, hundredths = divmod(time.time_ns() // 10_000_000, 100)
+    return '%s.%02dZ' % (datetime.datetime.fromtimestamp(seconds, datetime.timezone.utc).strftime('%Y-%m-%dT%H:%M:%S'), hundredths)
+
+
 def read_all(plain):
     got = b''
     while True:
@@ -327,7 +333,7 @@ class Serve(ProgramTest):
         self.assertLess(abs((moment - before).total_seconds()), 60)
 
     def test_a_connection_has_one_moment(self):
-        """An order and an instant action of one connection have its moment, though a second lies between them."""
+        """An order and an instant action of one connection have its moment, though five hundredths of a second lie between them."""
         requests = requests_of(self.transport)
         order = [target.endswith('/order') for _, target, _ in requests].index(True)
         with Serving(self.db) as desk:
@@ -335,11 +341,31 @@ class Serve(ProgramTest):
             for request in requests[:order]:
                 self.assertEqual(desk.ask(*request, connection)[0], 200)
             first = json.loads(desk.ask(*requests[order], connection)[1])
-            time.sleep(1.1)
+            time.sleep(0.05)
             self.assertEqual(desk.ask('POST', '/vehicles/KIT/0001/pause', None, connection)[0], 200)
             second = json.loads(desk.ask('GET', '/uagv/v2/KIT/0001/instantActions', None, connection)[1])
             connection.close()
         self.assertEqual(first['timestamp'], second['timestamp'])
+
+    def test_each_connection_has_a_moment_of_its_own(self):
+        """An order by one connection and a pause by a later one have the moments at which these were begun: none of the desk's start, none of
+        the connection before, and none at which the desk began to wait for them."""
+        requests = requests_of(self.transport)
+        order = [target for _, target, _ in requests].index('/orders')
+        changes = [(requests[order], '/uagv/v2/KIT/0001/order'), (('POST', '/vehicles/KIT/0001/pause'), '/uagv/v2/KIT/0001/instantActions')]
+        told = []
+        with Serving(self.db) as desk:
+            for request in requests[:order]:
+                self.assertEqual(desk.ask(*request)[0], 200)
+            for change, message in changes:
+                time.sleep(0.05)
+                begun = moment_now()
+                self.assertEqual(desk.ask(*change)[0], 200)
+                ended = moment_now()
+                told.append(json.loads(desk.ask('GET', message)[1])['timestamp'])
+                self.assertRegex(told[-1].encode(), b'^%s$' % MOMENT)
+                self.assertTrue(begun <= told[-1] <= ended, (begun, told[-1], ended))
+        self.assertLess(told[0], told[1])
 
 
 @over_sockets
@@ -395,15 +421,21 @@ class Clock(ProgramTest):
         if lacks:
             self.skipTest(lacks)
 
-    def serve(self, seconds, request, connections):
-        """How the program ends that is sent this by its first connection, and what it answers there."""
+    def serve(self, seconds, requests, connections):
+        """How the program ends that is sent each of these by a connection of its own, and what it answers there. It asks for the time once
+        for each of them."""
         from faults import asks, port_of  # which take from this file themselves
         answers = []
+
+        def beside(process):
+            port = port_of(process)
+            answers.extend(asks(port, request) for request in requests)
+
         words = [DESK, 'serve', '--db', self.db, '--port', '0', '--connections', str(connections)]
-        ended = tracing.run(words, heap=tracing.Clock(DESK, seconds), beside=lambda process: answers.append(asks(port_of(process), request)))
+        ended = tracing.run(words, heap=tracing.Clock(DESK, seconds), beside=beside)
         self.assertRegex(ended.out, rb'^listening on 127\.0\.0\.1:\d+\n$')
-        self.assertEqual(ended.asked, 1)
-        return ended.status, ended.said, answers[0]
+        self.assertEqual(ended.asked, len(requests))
+        return ended.status, ended.said, answers
 
     def test_the_first_and_the_last_moment(self):
         """They are the moments of the connection, which its order message has."""
@@ -411,16 +443,24 @@ class Clock(ProgramTest):
         front = self.transport[:self.transport.index(order)] + order
         for seconds, moment in ((0, b'1970-01-01T00:00:00.00Z'), (4_102_444_799, b'2099-12-31T23:59:59.00Z')):
             self.db = os.path.join(self.folder.name, '%d.db' % seconds)
-            status, said, answer = self.serve(seconds, front, 1)
+            status, said, answers = self.serve(seconds, [front], 1)
             self.assertEqual((status, said), (0, b''))
-            self.assertEqual(re.findall(b'"timestamp":"([^"]*)"', answer), [moment])
+            self.assertEqual(re.findall(b'"timestamp":"([^"]*)"', answers[0]), [moment])
+
+    def test_each_connection_asks_once(self):
+        """With no connection there is no need to; one that asks three things asks for the time once."""
+        request = b'GET /loads/L1 HTTP/1.1\r\n\r\n'
+        for asked in ([], [request], [request, request * 3], [b'', request, request]):
+            status, said, answers = self.serve(1_700_000_000, asked, len(asked))
+            self.assertEqual((status, said), (0, b''))
+            self.assertEqual([answer.count(b'{"name":"NoLoad","refusal":23}') for answer in answers], [one.count(b'GET') for one in asked])
 
     def test_moments_out_of_range(self):
         """From 2100 on, before 1970, and where there is no time to be had: the first connection is closed with no answer, and nobody else
         is served."""
         for seconds in (4_102_444_800, (1 << 63) - 1, -1, -1 << 63, None):
-            ended = self.serve(seconds, b'POST /loads HTTP/1.1\r\nContent-Length: 13\r\n\r\n{"load":"L1"}', 2)
-            self.assertEqual(ended, (1, b'fault: Clock\n', b''), seconds)
+            ended = self.serve(seconds, [b'POST /loads HTTP/1.1\r\nContent-Length: 13\r\n\r\n{"load":"L1"}'], 2)
+            self.assertEqual(ended, (1, b'fault: Clock\n', [b'']), seconds)
         status, out, said = self.replay(b'GET /loads/L1 HTTP/1.1\r\n\r\n')
         self.assertEqual((status, said), (0, b''))
         self.assertTrue(out.endswith(b'{"name":"NoLoad","refusal":23}'))
@@ -753,11 +793,21 @@ class Exits(ProgramTest):
 
     @over_sockets
     def test_a_second_program_is_told(self):
-        with Serving(self.db) as desk:
-            status, out, said = self.replay(b'')
-            self.assertEqual((status, out), (1, b''))
-            self.assertEqual(said, b'fault: Storage\n')
-            self.assertEqual(desk.ask('GET', '/loads/L1')[0], 404)
+        """Whichever it is, of a file that a desk holds: it leaves each byte as it was, and the desk goes on with its file."""
+        with Serving(self.db, 2) as desk:
+            self.assertEqual(desk.ask('POST', '/loads', b'{"load":"L1"}'), (200, b'{}'))
+            before = self.files()
+            self.assertEqual(set(before), {self.db, self.db + '-wal'})
+            for words in [*self.all(self.db), ('report', '--db', self.db, 'holds')]:
+                self.fault(b'Storage', words)
+                self.assertTrue(self.files() == before, words)
+            self.assertEqual(desk.ask('POST', '/loads', b'{"load":"L2"}'), (200, b'{}'))
+            self.assertEqual((desk.process.wait(30), desk.process.stderr.read()), (0, b''))
+        self.assertEqual(run('report', '--db', self.db, 'stock'), (0, b'checking: 2\n  L1\n  L2\nleft: 0\n', b''))
+        base = sqlite3.connect(self.db)
+        self.assertEqual(base.execute('PRAGMA integrity_check').fetchall(), [('ok',)])
+        self.assertEqual(base.execute('SELECT id, kind FROM load ORDER BY id').fetchall(), [('L1', 'checking'), ('L2', 'checking')])
+        base.close()
 
 
 if __name__ == '__main__':
