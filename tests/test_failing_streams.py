@@ -1,6 +1,6 @@
 """Standard input that fails at its n-th read, or ends there, and standard output that fails at its n-th write, or takes nothing or one
 byte. The program ends as docs/HTTP.md says; the bytes that it has written are a front of the whole answers, and what stands in the file is
-what was answered, with the call whose answer was cut."""
+what was answered, with the call whose answer was cut. Connections that fail so end alone; one that can't be had ends the program."""
 import errno
 import unittest
 
@@ -39,6 +39,7 @@ class FailingStreams(FaultTest):
             print(text % numbers)
 
     def test_reads_that_fail(self):
+        """None is passed over, one that was interrupted neither."""
         failed = 0
         for name in scripts():
             script = self.played(name)
@@ -49,9 +50,6 @@ class FailingStreams(FaultTest):
                 for error in (errno.EIO, errno.EINTR):
                     with self.subTest(name, n=n, error=error):
                         ended, _, _ = self.serve(script, lambda number: tracing.Fails(error) if number == n else None)
-                        if error == errno.EINTR and ended.status == 0:
-                            self.assertEqual((ended.out, ended.said), (script.out, b''))
-                            continue
                         whole, _ = script.begun((n - 1) * PART)
                         self.assertEqual((ended.status, ended.said), (1, b'fault: Read\n'))
                         self.assertEqual(ended.out, b''.join(script.answers[:whole]))
@@ -79,15 +77,16 @@ class FailingStreams(FaultTest):
         self.assertGreater(at_end, 3)
 
     def test_writes_that_fail(self):
-        """The call whose answer can't be written is carried out; none behind it is."""
+        """The call whose answer can't be written is carried out; none behind it is. No write is made again."""
         failed = 0
+        faults = [*map(tracing.Fails, (errno.EIO, errno.EPIPE, errno.ENOSPC, errno.EINTR)), tracing.Gives(0)]
         for name in scripts():
             script = self.played(name)
             ended, _, writes = self.serve(script)
             self.assertEqual(ended.out, script.out)
             self.assertGreaterEqual(len(writes), len(script.requests))
-            for n in sample(range(1, len(writes) + 1), 7):
-                for told in (tracing.Fails(errno.EIO), tracing.Fails(errno.EPIPE), tracing.Fails(errno.ENOSPC), tracing.Gives(0)):
+            for n in sample(range(1, len(writes) + 1), 6):
+                for told in faults:
                     with self.subTest(name, n=n, told=vars(told)):
                         ended, _, _ = self.serve(script, None, lambda number: told if number == n else None)
                         self.assertEqual((ended.status, ended.said), (1, b'fault: Write\n'))
@@ -163,30 +162,70 @@ class FailingConnections(FaultTest):
                 self.assertEqual(answer, wanted[number])
         return lost, seen
 
-    def check(self, name, most, faults):
+    def check(self, name, most, faults, also=()):
+        """Calls of this name fail: of a script of few calls each one, and by the other faults too. Whichever error it is, the same is lost."""
         met = {'lost': 0, 'whole': 0}
         for title in scripts():
             script = self.played(title)
             lost, seen = self.serve(script, name, None)
             self.assertEqual(lost, [])
             self.assertGreaterEqual(len(seen), len(script.requests))
-            for n in sample(range(1, len(seen) + 1), most):
-                for fault in faults:
+            short = ALL or len(seen) <= 8
+            for n in sample(range(1, len(seen) + 1), len(seen) if short else most):
+                of_errors = set()
+                for fault in [*faults, *also] if short else faults:
                     with self.subTest(title, n=n, fault=vars(fault)):
                         lost, _ = self.serve(script, name, lambda number: fault if number == n else None)
                         self.assertLessEqual(len(lost), 1)
                         met['lost' if lost else 'whole'] += 1
+                        if isinstance(fault, tracing.Fails):
+                            of_errors.add(tuple(lost))
+                self.assertEqual(len(of_errors), 1, (title, n))
         if ALL:
             print('%s of a connection: %s' % (name, met))
         self.assertGreater(met['lost'], 10)
 
     def test_reads_that_fail(self):
         """The connection ends, and the next one is served."""
-        self.check('recvfrom', 5, (tracing.Fails(errno.EIO), tracing.Gives(0)))
+        self.check('recvfrom', 5, (tracing.Fails(errno.EIO), tracing.Gives(0)), [tracing.Fails(errno.EINTR)])
 
     def test_writes_that_fail(self):
         """The call stands, and the next connection is served."""
-        self.check('sendto', 4, (tracing.Fails(errno.EPIPE), tracing.Gives(0), tracing.Short(1)))
+        self.check('sendto', 4, (tracing.Fails(errno.EPIPE), tracing.Gives(0), tracing.Short(1)), [tracing.Fails(errno.EINTR)])
+
+    def lack(self, script, n):
+        """The program has one descriptor too few at its n-th connection. How it ends, what those before were answered, and how often it
+        asked for one."""
+        seen, answers = [], []
+        words = [DESK, 'serve', '--db', self.db, '--port', '0', '--connections', str(len(script.requests) + 1)]
+
+        def on_call(call):
+            seen.append(call)
+            return tracing.Fails(errno.EMFILE) if len(seen) == n else None
+
+        def beside(process):
+            port = port_of(process)
+            answers.extend(without_moments(asks(port, request)) for request in script.requests[:n - 1])
+
+        remove(self.db)
+        return tracing.run(words, ['accept', 'accept4'], on_call, beside=beside, limit=20), answers, seen
+
+    def test_connections_that_can_not_be_had(self):
+        """The program ends by it, told as such. What it has answered before is in the file, and it takes no further connection."""
+        failed = 0
+        for title in scripts():
+            script = self.played(title)
+            for n in sample(range(1, len(script.requests) + 1), 2):
+                with self.subTest(title, n=n):
+                    ended, answers, seen = self.lack(script, n)
+                    self.assertEqual((ended.status, ended.said, len(seen)), (1, b'fault: Net\n', n))
+                    self.assertRegex(ended.out, rb'^listening on 127\.0\.0\.1:\d+\n$')
+                    self.assertEqual(answers, [without_moments(answer) for answer in script.answers[:n - 1]])
+                    self.assertEqual(without_clock(rows_of(self.db)), without_clock(script.rows[n - 1]))
+                    failed += 1
+        if ALL:
+            print('%d connections that could not be had' % failed)
+        self.assertGreater(failed, 10)
 
 
 if __name__ == '__main__':

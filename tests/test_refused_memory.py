@@ -1,14 +1,15 @@
 """Each allocation of the program is refused in turn: its calls of the C library's heap are counted, and the k-th gets no memory, or none
 from the k-th on. The calls before are answered, the one that lacks memory by the refusal for want of memory, and it changes nothing; a
-further run, or the next connection, goes on from there. A move to the second schema leaves the file as before. What a program takes by
-other ways than `malloc` and its like isn't reached."""
+further run, or the next connection, goes on from there. A move to the second schema leaves the file as before, and a report is told whole or
+not at all. What a program takes by other ways than `malloc` and its like isn't reached."""
 import collections
 import unittest
 
 import tracing
 from faults import ALL, MEMORY, STORAGE, Move, asks, check_kept, moves, port_of, remove, sample, scripts, without_clock
 from records import rows_of
-from test_program import AT, DESK, over_sockets, without_moments
+from test_program import AT, DESK, over_sockets, run, without_moments
+from test_scripts import bytes_of, load
 from test_stops import FULL, LACKS, FaultTest
 
 
@@ -114,6 +115,29 @@ class RefusedMemory(FaultTest):
             if ALL:
                 print('a move, %s, calls 1 to %d of the heap: %s so far' % (name, calls[-1], dict(met)))
         self.assertGreater(met['refused'], 20, met)
+
+    def test_a_report(self):
+        """Each opening asks the heap alike, so what the stock report asks beyond the hold report is of the report itself. Where that gets no
+        memory it is told so, and nothing is written."""
+        loads = ['L%03d' % number for number in range(300)]
+        status, _, said = run(*self.words[1:], stdin=b''.join(bytes_of(load(name)) for name in loads))
+        self.assertEqual((status, said), (0, b''))
+        whole = 'checking: %d\n%sleft: 0\n' % (len(loads), ''.join('  %s\n' % name for name in loads))
+        stock, holds = ([DESK, 'report', '--db', self.db, kind] for kind in ('stock', 'holds'))
+        fewer, ended = tracing.run(holds, heap=tracing.Heap(DESK)), tracing.run(stock, heap=tracing.Heap(DESK))
+        self.assertEqual((fewer.status, fewer.out, fewer.said), (0, b'held 0 of 0\n', b''))
+        self.assertEqual((ended.status, ended.out, ended.said), (0, whole.encode(), b''))
+        self.assertGreater(ended.asked, fewer.asked + 10)
+        tried = sample(range(fewer.asked + 1, ended.asked + 1), 6)
+        for times in (1, None):
+            for k in tried:
+                with self.subTest(k=k, of=ended.asked, times=times):
+                    one = tracing.run(stock, heap=tracing.Heap(DESK, k, times))
+                    self.assertGreaterEqual(one.refused, 1)
+                    self.assertEqual((one.status, one.out, one.said), (1, b'', b'fault: Memory\n'))
+        self.assertEqual(run(*stock[1:]), (0, whole.encode(), b''))
+        if ALL:
+            print('a report, %d calls of the heap behind its opening' % len(tried))
 
 
 @unittest.skipIf(NO_HEAP, NO_HEAP)
