@@ -1,18 +1,19 @@
 """The program beside `bench/plain_desk.py`, which is another desk, in plain Python over another SQLite: both answer
 the same bytes to the scripts, to the examples of docs/openapi.json, and to random lawful traffic as `bench/soak`
-makes it."""
+makes it. And the streams by which `bench/each_call` times the two have each call of the table."""
 import importlib.machinery
 import importlib.util
 import os
 import random
+import re
 import subprocess
 import sys
 import tempfile
 import unittest
 
 from test_openapi import body_of, operations, requests_before, SETUPS
-from test_program import AT, HERE, run
-from test_scripts import SCRIPTS, bytes_of
+from test_program import AT, HERE, requests_of, run
+from test_scripts import SCRIPTS, answers_of, bytes_of
 
 ROOT = os.path.join(HERE, '..')
 PLAIN = os.path.join(ROOT, 'bench', 'plain_desk.py')
@@ -23,11 +24,10 @@ def as_bytes(method, path, body):
     return bytes_of(('%s %s' % (method, path), body, None, None))
 
 
-def soak():
-    """`bench/soak` as a module."""
-    path = os.path.join(ROOT, 'bench', 'soak')
-    loader = importlib.machinery.SourceFileLoader('soak', path)
-    module = importlib.util.module_from_spec(importlib.util.spec_from_loader('soak', loader))
+def bench(name):
+    """A script of `bench` as a module."""
+    loader = importlib.machinery.SourceFileLoader(name, os.path.join(ROOT, 'bench', name))
+    module = importlib.util.module_from_spec(importlib.util.spec_from_loader(name, loader))
     loader.exec_module(module)
     return module
 
@@ -75,7 +75,7 @@ class BesideAPlainDesk(unittest.TestCase):
 
     def traffic(self, seed, vehicles, count):
         """Random requests, as the model of the soak makes them."""
-        module = soak()
+        module = bench('soak')
         model = module.Model(module.Layout(6, 5))
         data = [as_bytes('PUT', '/layout', model.layout.rows())]
         chance = random.Random(seed)
@@ -104,9 +104,29 @@ class BesideAPlainDesk(unittest.TestCase):
             ours, theirs = os.path.join(folder, 'ours.db'), os.path.join(folder, 'theirs.db')
             self.check(b''.join(data[:half]), ours, theirs)
             self.check(b''.join(data[half:]), theirs, ours)
-            module = soak()
+            module = bench('soak')
             self.assertEqual(module.differences(model, ours), [])
             self.assertEqual(module.differences(model, theirs), [])
+
+
+class KindsOfCalls(unittest.TestCase):
+    def test_each_call_is_timed_and_none_is_refused(self):
+        """But for those whose name says that they are. So the figures are of the calls, and of all of them."""
+        left = {(method, path): re.sub('{[^}]*}', '[^/]+', path) for method, path, _, _ in operations()}
+        for name, (front, stream) in bench('each_call').kinds(0.01).items():
+            with self.subTest(name):
+                status, out, said = run('replay', '--db', 'memory', '--at', AT, stdin=front + b''.join(stream))
+                self.assertEqual((status, said), (0, b''))
+                told = [status for status, _ in answers_of(out)]
+                begun, timed = len(requests_of(front)), requests_of(b''.join(stream))
+                self.assertEqual(len(told), begun + len(timed))
+                self.assertEqual(set(told[:begun]) | {200}, {200})
+                self.assertEqual(set(told[begun:]), {409 if name.endswith('refused') else 200})
+                if not name.endswith('refused'):
+                    for call, path in list(left.items()):
+                        if any(method == call[0] and re.fullmatch(path, target) for method, target, _ in timed):
+                            del left[call]
+        self.assertEqual(list(left), [])
 
 
 if __name__ == '__main__':
