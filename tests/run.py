@@ -1,4 +1,6 @@
-"""Runs all scripts of this folder over the built program, which the variable DESK names, and ends with `N passed, M failed`."""
+"""Runs all scripts of this folder over the built program, which the variable DESK names, and ends with `N passed, M failed`. The line before
+says how many tests were skipped, and how many of them for each reason."""
+import collections
 import os
 import sys
 import unittest
@@ -11,5 +13,8 @@ failed = len(result.failures) + len(result.errors) + len(result.unexpectedSucces
 passed = result.testsRun - failed - len(result.skipped)
 for test, why in result.skipped:
     print('skipped: %s: %s' % (test, why))
+reasons = collections.Counter(why for _, why in result.skipped)
+told = '; '.join('%d: %s' % (count, why) for why, count in reasons.most_common())
+print('%d skipped%s' % (len(result.skipped), ' (%s)' % told if told else ''))
 print('%d passed, %d failed' % (passed, failed))
 sys.exit(failed != 0 or passed == 0)
