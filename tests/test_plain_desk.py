@@ -77,18 +77,9 @@ class BesideAPlainDesk(unittest.TestCase):
         """Random requests, as the model of the soak makes them."""
         module = bench('soak')
         model = module.Model(module.Layout(6, 5))
-        data = [as_bytes('PUT', '/layout', model.layout.rows())]
-        chance = random.Random(seed)
-        for number, node in enumerate(chance.sample(model.layout.nodes, vehicles), 1):
-            model.register_vehicle('%04d' % number, node)
-            data.append(
-                as_bytes('POST', '/vehicles', {'manufacturer': 'KIT', 'serialNumber': '%04d' % number, 'node': node})
-            )
-        traffic = module.Traffic(model, chance)
-        for _ in range(count):
-            method, path, body, _ = traffic.next()
-            data.append(as_bytes(method, path, body))
-        return data, model
+        traffic = module.Traffic(model, random.Random(seed))
+        asked = [*traffic.begin(vehicles), *(traffic.next() for _ in range(count))]
+        return [as_bytes(*request[:3]) for request in asked], model
 
     def test_random_traffic(self):
         for seed, vehicles in ((1, 1), (2, 3), (3, 9)):
