@@ -1,13 +1,20 @@
 """`examples/map` draws what the file of a desk has, and the same of a running desk; docs/map.svg is what README's
-commands make."""
+commands make. Where the built program isn't what is tried, `bench/plain_desk.py` makes the file and is the desk."""
+import collections
+import contextlib
 import csv
+import importlib.machinery
+import importlib.util
 import os
 import re
 import shlex
+import socket
+import sqlite3
 import subprocess
 import sys
 import tempfile
 import unittest
+from unittest import mock
 import xml.etree.ElementTree as ElementTree
 
 from test_openapi import Asked
@@ -17,6 +24,7 @@ from test_scripts import FIRST_EDGE, LAYOUT, accepted, bytes_of, load, state, ve
 HERE = os.path.dirname(os.path.abspath(__file__))
 ROOT = os.path.join(HERE, '..')
 MAP = os.path.join(ROOT, 'examples', 'map')
+PLAIN = os.path.join(ROOT, 'bench', 'plain_desk.py')
 SVG = '{http://www.w3.org/2000/svg}'
 
 # Two vehicles: KIT/0001 has picked L1 up at N1 and may go to N2, KIT/0002 stands on N3; L3 is at C and L4 at the
@@ -35,6 +43,48 @@ def drawn(*words):
     if (done.returncode, done.stderr) != (0, b''):
         raise AssertionError(done.stderr.decode())
     return done.stdout
+
+
+def refused(*words):
+    """The line with which the map says why there is no picture."""
+    done = subprocess.run([sys.executable, MAP, *words], capture_output=True, text=True, timeout=120)
+    if (done.returncode, done.stdout) != (1, '') or done.stderr.count('\n') != 1 or not done.stderr.startswith('map: '):
+        raise AssertionError('%d, %s%s' % (done.returncode, done.stdout, done.stderr))
+    return done.stderr[len('map: ') : -1]
+
+
+def plain(db, data):
+    """Has a plain desk serve these requests on a file."""
+    done = subprocess.run([sys.executable, PLAIN, db, AT], input=data, capture_output=True, timeout=60)
+    if (done.returncode, done.stderr) != (0, b''):
+        raise AssertionError(done.stderr.decode())
+    return done.stdout
+
+
+def check_the_picture_of_the_page(test, db):
+    """The file is drawn as docs/map.svg is: the same of everything, and places that are no pixel apart."""
+
+    def apart(one, other):
+        """How far apart the numbers of two texts are that else are the same."""
+        number = r'-?\d+\.\d'
+        test.assertEqual(re.sub(number, '0', one), re.sub(number, '0', other))
+        return max(
+            [abs(float(a) - float(b)) for a, b in zip(re.findall(number, one), re.findall(number, other))], default=0
+        )
+
+    made = ElementTree.fromstring(drawn('--db', db))
+    kept = ElementTree.parse(os.path.join(ROOT, 'docs', 'map.svg')).getroot()
+    for one, other in zip(made.iter(), kept.iter(), strict=True):
+        test.assertEqual((one.tag, one.text, set(one.attrib)), (other.tag, other.text, set(other.attrib)))
+        for name in one.attrib:
+            test.assertLess(apart(one.get(name), other.get(name)), 1, (one.tag, name))
+
+
+def module():
+    loader = importlib.machinery.SourceFileLoader('map', MAP)
+    made = importlib.util.module_from_spec(importlib.util.spec_from_loader('map', loader))
+    loader.exec_module(made)
+    return made
 
 
 class Picture:
@@ -149,8 +199,15 @@ class Map(unittest.TestCase):
             running = drawn('--desk', '127.0.0.1:%d' % desk.port, '--layout', layout)
         self.assertEqual(running, drawn('--db', self.db))
 
+    @over_sockets
+    def test_the_file_of_a_running_desk(self):
+        run('replay', '--db', self.db, '--at', AT, stdin=b''.join(map(bytes_of, LINES)))
+        with Serving(self.db):
+            self.assertRegex(refused('--db', self.db), ': .*locked: ask the desk that has it open')
+        self.assertEqual(len(Picture(drawn('--db', self.db)).vehicles), 2)
+
     def test_the_picture_of_the_page(self):
-        """README's two lines make docs/map.svg: the same of everything, and places that are no pixel apart."""
+        """README's two lines make docs/map.svg."""
         with open(os.path.join(ROOT, 'README.md')) as file:
             text = file.read()
         serve, draw = re.search(
@@ -163,20 +220,7 @@ class Map(unittest.TestCase):
         status, out, said = run(*words[1:], stdin=data)
         self.assertEqual((status, said, out.count(b'HTTP/1.1 200 OK')), (0, b'', len(requests_of(data))))
         self.assertEqual(draw.split()[:3], ['examples/map', '--db', 'map.db'])
-        made = ElementTree.fromstring(drawn('--db', self.db))
-        kept = ElementTree.parse(os.path.join(ROOT, 'docs', 'map.svg')).getroot()
-        for one, other in zip(made.iter(), kept.iter(), strict=True):
-            self.assertEqual((one.tag, one.text, set(one.attrib)), (other.tag, other.text, set(other.attrib)))
-            for name in one.attrib:
-                self.assertLess(self.apart(one.get(name), other.get(name)), 1, (one.tag, name))
-
-    def apart(self, one, other):
-        """How far apart the numbers of two texts are that else are the same."""
-        number = r'-?\d+\.\d'
-        self.assertEqual(re.sub(number, '0', one), re.sub(number, '0', other))
-        return max(
-            [abs(float(a) - float(b)) for a, b in zip(re.findall(number, one), re.findall(number, other))], default=0
-        )
+        check_the_picture_of_the_page(self, self.db)
 
     def test_parts_that_nothing_joins(self):
         """They are drawn beside one another, and so is a layout of one node, or of none."""
@@ -189,6 +233,201 @@ class Map(unittest.TestCase):
         empty = os.path.join(self.folder.name, 'empty.db')
         run('replay', '--db', empty, '--at', AT)
         self.assertEqual(Picture(drawn('--db', empty)).nodes, {})
+
+
+class OfAFile(unittest.TestCase):
+    """Files that are none of a desk, or a desk's that is open, are told in a line, and are left as they are."""
+
+    def setUp(self):
+        self.folder = tempfile.TemporaryDirectory()
+        self.db = os.path.join(self.folder.name, 'map.db')
+
+    def tearDown(self):
+        self.folder.cleanup()
+
+    def test_no_file(self):
+        self.assertEqual(refused('--db', self.db), self.db + ': there is no such file')
+        self.assertEqual(os.listdir(self.folder.name), [])
+
+    def test_no_tables_of_a_desk(self):
+        other = os.path.join(self.folder.name, 'other.db')
+        with contextlib.closing(sqlite3.connect(other)) as base:
+            base.execute('CREATE TABLE node (name TEXT)')
+        with open(other, 'rb') as file:
+            tables = file.read()
+        for data in (b'', b'kind,id,from,to\n' * 100, tables):
+            with open(self.db, 'wb') as file:
+                file.write(data)
+            self.assertEqual(refused('--db', self.db), self.db + ': it has no tables of a desk')
+            with open(self.db, 'rb') as file:
+                self.assertEqual(file.read(), data)
+
+    def test_no_file_to_be_opened(self):
+        said = refused('--db', self.folder.name)
+        self.assertEqual(said, self.folder.name + ': unable to open database file')
+
+    def test_a_file_that_a_desk_has_open(self):
+        plain(self.db, b''.join(map(bytes_of, LINES)))
+        with contextlib.closing(sqlite3.connect(self.db, isolation_level=None)) as base:
+            base.execute('PRAGMA locking_mode = EXCLUSIVE')
+            base.execute('BEGIN EXCLUSIVE')
+            self.assertEqual(
+                refused('--db', self.db),
+                self.db + ': database is locked: ask the desk that has it open, by --desk and --layout, or stop it first',
+            )
+            base.execute('ROLLBACK')
+        self.assertIn(b'</svg>', drawn('--db', self.db))
+
+    def test_a_name_with_marks_of_an_address(self):
+        db = os.path.join(self.folder.name, 'a ?mode=memory#b%20.db')
+        plain(db, b''.join(map(bytes_of, LINES)))
+        self.assertEqual(set(Picture(drawn('--db', db)).nodes), {'N1', 'N2', 'N3'})
+
+    def test_the_picture_of_the_page(self):
+        """The file that a plain desk makes of the same requests is drawn so, too."""
+        with open(os.path.join(ROOT, 'examples', 'map.http'), 'rb') as file:
+            data = file.read()
+        self.assertEqual(plain(self.db, data).count(b'HTTP/1.1 200 OK'), len(requests_of(data)))
+        check_the_picture_of_the_page(self, self.db)
+
+
+@over_sockets
+class OfADesk(unittest.TestCase):
+    def setUp(self):
+        self.folder = tempfile.TemporaryDirectory()
+        self.db = os.path.join(self.folder.name, 'map.db')
+        self.layout = os.path.join(self.folder.name, 'layout.csv')
+        with open(self.layout, 'w') as file:
+            file.write(LAYOUT)
+
+    def tearDown(self):
+        self.folder.cleanup()
+
+    @contextlib.contextmanager
+    def serving(self):
+        """The port of a plain desk that serves one connection and no more."""
+        plain(self.db, b''.join(map(bytes_of, LINES)))
+        words = [sys.executable, PLAIN, self.db, AT, '0']
+        with subprocess.Popen(words, stdout=subprocess.PIPE, stderr=subprocess.PIPE, text=True) as desk:
+            try:
+                yield int(desk.stdout.readline().rsplit(':')[-1])
+                self.assertEqual((desk.wait(30), desk.stderr.read()), (0, ''))
+            finally:
+                desk.kill()
+
+    def test_one_connection(self):
+        with self.serving() as port:
+            running = drawn('--desk', '127.0.0.1:%d' % port, '--layout', self.layout)
+        self.assertEqual(running, drawn('--db', self.db))
+        self.assertEqual(len(Picture(running).vehicles), 2)
+
+    def test_another_layout(self):
+        with open(self.layout, 'w') as file:
+            file.write('kind,id,from,to\nnode,N7,,\n')
+        with self.serving() as port:
+            said = refused('--desk', '127.0.0.1:%d' % port, '--layout', self.layout)
+        self.assertEqual(said, self.layout + ': it is not the layout of this desk')
+
+    def test_no_layout_file(self):
+        self.assertEqual(
+            refused('--desk', '127.0.0.1:1', '--layout', self.db), self.db + ': No such file or directory'
+        )
+        with open(self.layout, 'a') as file:
+            file.write('node,N4\n')
+        self.assertEqual(
+            refused('--desk', '127.0.0.1:1', '--layout', self.layout), self.layout + ': it is no layout file'
+        )
+
+    def test_no_desk(self):
+        with socket.socket() as taken:
+            taken.bind(('127.0.0.1', 0))
+            address = '127.0.0.1:%d' % taken.getsockname()[1]
+            said = refused('--desk', address, '--layout', self.layout)
+        self.assertRegex(said, '^%s: .*refused' % address)
+        self.assertRegex(refused('--desk', 'desk:port', '--layout', self.layout), '^desk:port: nonnumeric port')
+
+
+class Places(unittest.TestCase):
+    """Where nodes and labels are put, and how much is done for that."""
+
+    def setUp(self):
+        self.map = module()
+
+    def grid(self, width, height):
+        """A layout of two-way streets, with a station at each node and a vehicle at every fifth."""
+        found = self.map.Warehouse()
+        found.nodes = ['N%02d-%02d' % (y, x) for y in range(height) for x in range(width)]
+        for y in range(height):
+            for x in range(width):
+                for there in ((y, x + 1), (y + 1, x)):
+                    ends = 'N%02d-%02d' % (y, x), 'N%02d-%02d' % there
+                    if ends[1] in found.nodes:
+                        found.edges += [('%s.%s' % ends, *ends), ('%s.%s' % ends[::-1], *ends[::-1])]
+        found.edges = found.edges[:1500]
+        found.stations = [('S' + node, node, 2) for node in found.nodes]
+        found.vehicles = {'KIT/%04d' % number: node for number, node in enumerate(found.nodes[::5])}
+        return found
+
+    def plain_box(self, node, width, height, at, edges, boxes):
+        """The box beside a node, chosen by looking at all edges, nodes and boxes."""
+        radius, x, y = self.map.RADIUS, *at[node]
+        best = None
+        for turn, (right, down) in enumerate(((0, 1), (0, -1), (1, 0), (-1, 0), (1, 1), (-1, 1), (1, -1), (-1, -1))):
+            gap = radius + 7 if right == 0 or down == 0 else radius * 0.75
+            left = x - width / 2 if right == 0 else x + gap if right > 0 else x - gap - width
+            top = y - height / 2 if down == 0 else y + gap if down > 0 else y - gap - height
+            box = (left, top, left + width, top + height)
+            price = sum(3 * self.map.crosses(box, at[start], at[finish]) for _, start, finish in edges)
+            price += 10 * sum(
+                left - radius <= u <= box[2] + radius and top - radius <= v <= box[3] + radius
+                for name, (u, v) in at.items()
+                if name != node
+            )
+            price += 10 * sum(
+                left < one[2] and one[0] < box[2] and top < one[3] and one[1] < box[3] for one in boxes
+            )
+            if best is None or (price, turn) < best[:2]:
+                best = price, turn, box
+        return best[2]
+
+    def test_boxes(self):
+        """They are those that are found by looking at everything."""
+        warehouse = self.grid(7, 5)
+        labels, at, boxes = self.map.labels_of(warehouse), self.map.places_of(warehouse), []
+        for node, lines in labels.items():
+            width = max(len(words) for _, _, words, _ in lines) * self.map.LETTER + 12
+            height = self.map.LINE * len(lines) + 8
+            boxes.append(self.plain_box(node, width, height, at, warehouse.edges, boxes))
+        self.assertEqual(self.map.boxes_of(labels, at, warehouse.edges), boxes)
+        self.assertGreater(len({box[0] < at[node][0] < box[2] for node, box in zip(labels, boxes)}), 1)
+
+    def test_things_near_a_box(self):
+        grid = self.map.Grid()
+        for number in range(20):
+            grid.add((number * 60, -500, number * 60 + 30, 500), number)
+        self.assertEqual(grid.near((500, 0, 501, 1)) & {8}, {8})
+        self.assertLess(len(grid.near((500, 0, 501, 1))), 6)
+        self.assertEqual(grid.near((-2000, -600, 2000, 600)), set(range(20)))
+
+    def test_turns(self):
+        """Forty for the layouts that most warehouses have, and eight for the largest."""
+        self.assertEqual([self.map.turns_for(nodes * (nodes - 1) // 2) for nodes in (1, 2, 120, 200, 500)], [40, 40, 40, 40, 8])
+
+    def test_the_largest_layout(self):
+        warehouse = self.grid(25, 20)
+        self.assertEqual((len(warehouse.nodes), len(warehouse.edges), len(warehouse.stations)), (500, 1500, 500))
+        looked = collections.Counter()
+        crosses = self.map.crosses
+        with mock.patch.object(self.map, 'crosses', lambda *words: looked.update('x') or crosses(*words)):
+            picture = Picture(self.map.drawing(warehouse))
+        self.assertEqual(set(picture.nodes), set(warehouse.nodes))
+        self.assertEqual(set(picture.edges), {name for name, _, _ in warehouse.edges})
+        self.assertEqual(len(picture.labels), 500)
+        self.assertLess(looked['x'], 8 * 500 * 1500 / 50)
+        place = {name: where for name, (where, _, _) in picture.nodes.items()}
+        lengths = [length(place[start], place[finish]) for _, start, finish in warehouse.edges]
+        self.assertGreater(min(lengths), 0.8 * self.map.LENGTH)
+        self.assertLess(max(lengths), 1.6 * self.map.LENGTH)
 
 
 if __name__ == '__main__':
