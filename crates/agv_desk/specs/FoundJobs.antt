@@ -1,4 +1,4 @@
--- The jobs that are found stop by stop, of which none is asked for twice.
+-- The jobs that are found stop by stop, of which none is asked for twice. No public clause cites this.
 use Rattle.std.specs.Prelude.{◌≡◌, ℕ, List, Option, Some}
 use Rattle.std.specs.FinMap as finite
 use Rattle.std.specs.Option.{option_map}

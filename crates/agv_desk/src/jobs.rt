@@ -14,16 +14,6 @@ use agv_stock::{Phase, Place, can_job};
 use agv_world::{Change, Counted, Fault, Floor, JobRow};
 use std::alloc::Global;
 
-// Whether a job waits for a vehicle.
-pub(crate) fn is_waiting(phase: Phase) -> bool
-    ensures { result ≡ is_waiting phase }
-{
-    match phase {
-        Phase::Waiting => true,
-        Phase::Riding | Phase::Done | Phase::Stopped => false,
-    }
-}
-
 /// A load is to be carried to a station.
 pub(crate) fn add_job<F: Floor>(
     alloc: Global,
@@ -89,6 +79,16 @@ pub(crate) fn stop_job<F: Floor>(alloc: Global, floor: &mut F, job: Name) -> Res
         ..row
     };
     Ok(job_written(alloc, job, stopped)?)
+}
+
+// Whether a job waits for a vehicle.
+pub(crate) fn is_waiting(phase: Phase) -> bool
+    ensures { result ≡ is_waiting phase }
+{
+    match phase {
+        Phase::Waiting => true,
+        Phase::Riding | Phase::Done | Phase::Stopped => false,
+    }
 }
 
 // A job is written.

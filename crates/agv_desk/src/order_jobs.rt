@@ -7,9 +7,10 @@ ghost use Rattle.agv_world.specs.declared.row.JobRow.{JobRow as RowOf};
 ghost use Rattle.agv_desk.specs.OrderSteps.{job_for, jobs_for, named, riding, riding_by, waits};
 ghost use Rattle.agv_desk.specs.FoundJobs.{AreFound};
 
+use crate::jobs::is_waiting;
 use agv_header::{Memory, Name};
-use agv_message::{ActKind, Sequence};
-use agv_order::{Stop, job_named};
+use agv_message::Sequence;
+use agv_order::{Stop, is_drop, job_named};
 use agv_stock::{Job, Phase};
 use agv_world::{Change, Fault, Floor, JobRow};
 use std::alloc::Global;
@@ -62,7 +63,7 @@ fn named(name: &Name, row: &JobRow) -> Job
 pub(crate) fn waits(job: &Job) -> bool
     ensures { result ≡ waits job.now }
 {
-    matches!(job.phase, Phase::Waiting)
+    is_waiting(job.phase)
 }
 
 /// How many loads are picked.
@@ -108,7 +109,7 @@ fn riding_by(stop: &Stop, job: &Job) -> Option<(Name, JobRow)>
 fn is_pick(stop: &Stop) -> bool
     ensures { result ≡ is_pick stop.now }
 {
-    matches!(stop.kind, ActKind::Pick)
+    !is_drop(stop.kind)
 }
 
 /// Writes the jobs.

@@ -15,13 +15,6 @@ use agv_order::Trip;
 use agv_world::{Fault, Floor, Sent, VehicleRow};
 use std::alloc::Global;
 
-// An answer, and nothing changes.
-pub(crate) fn answer_only(alloc: Global, answer: Answer) -> Decision
-    ensures { result ≡ decided (Made (answer_only answer)) }
-{
-    accepted_with(answer, Vec::new(alloc))
-}
-
 /// The last order message of the vehicle's open order.
 pub(crate) fn get_order<F: Floor>(
     alloc: Global,
@@ -138,4 +131,11 @@ fn open_order(trip: &Trip) -> OpenOrder
         sent: trip.sent,
         confirmed: trip.confirmed,
     }
+}
+
+// An answer, and nothing changes.
+pub(crate) fn answer_only(alloc: Global, answer: Answer) -> Decision
+    ensures { result ≡ decided (Made (answer_only answer)) }
+{
+    accepted_with(answer, Vec::new(alloc))
 }

@@ -1,4 +1,4 @@
--- What became of the next request of a buffer.
+-- What became of the next request of a buffer. No public clause cites this.
 use Rattle.std.specs.Prelude.{◌≡◌, ℕ, Bool, true, List, IsErr}
 use Rattle.sqlite_trees.specs.declared.store.Store.{Ghosts}
 use Rattle.agv_http.specs.request.Heard.{IsHeard}

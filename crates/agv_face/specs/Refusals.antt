@@ -1,4 +1,4 @@
--- The refusal for a fault of the machine, and how a stream ends with it.
+-- The refusal for a fault of the machine, and how a stream ends with it. No public clause cites this.
 use Rattle.std.specs.Prelude.{◌≡◌, ◌+◌, ℕ, List, Option, Result, Ok, Err}
 use Rattle.std.specs.Io.KnownBytes.{Appends}
 use Rattle.agv_header.specs.declared.refusal.Refusal.{Refusal}

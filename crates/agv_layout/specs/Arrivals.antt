@@ -1,4 +1,4 @@
--- Which nodes are one edge away from a node.
+-- Which nodes are one edge away from a node. No public clause cites this.
 use Rattle.std.specs.Prelude.{◌≡◌, Bool, ◌&&◌, List, [], Some}
 use Rattle.std.specs.List.{list_any}
 use Rattle.std.specs.Option.{unwrap_or, option_map}

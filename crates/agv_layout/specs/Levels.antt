@@ -1,4 +1,4 @@
--- How far it is to a goal, over any steps from node to node.
+-- How far it is to a goal, over any steps from node to node. No public clause cites this.
 use Rattle.std.specs.Prelude.{◌≡◌, ℕ, zero, suc, ◌≤◌, Option, Some}
 
 module _ {K : Type 0} (Step : K → K → Type 0) (goal : K) where

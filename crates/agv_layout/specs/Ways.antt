@@ -1,4 +1,4 @@
--- Which edge to take at each node, and the walk that follows.
+-- Which edge to take at each node, and the walk that follows. No public clause cites this.
 use Rattle.std.specs.Prelude.{ℕ, zero, suc, Bool, false, cond, ◌&&◌, nat_lt, List, [], ◌∷◌, Option, None, Some}
 use Rattle.std.specs.BTreeMap.{BTreeMap, is_at, get}
 use Rattle.agv_header.specs.Name.{name_cmp}

@@ -13,7 +13,7 @@ use agv_message::Sequence;
 /// base of the order: the vehicle may drive there. The others are its horizon (VDA 5050 2.0, order).
 #[derive(Debug, Drop, PartialEq, Eq)]
 pub struct Trip {
-    /// The order's name, which is used once for good.
+    /// The order's name (`orderId`), which is used once for good.
     pub order: Name,
     /// The vehicle that carries it out.
     pub vehicle: VehicleKey,
@@ -21,17 +21,19 @@ pub struct Trip {
     pub start: Name,
     /// The edges that it drives, in this order: of a well-formed trip at most 200.
     pub edges: Sequence<Edge>,
-    /// The place of the node with which the last message begins.
+    /// The place of the node with which the last message begins, half of that node's `sequenceId`: 0 for the order
+    /// itself, and for an update the stitching node.
     pub first: u32,
-    /// The place of the last node that is released.
+    /// The place of the last node that is `released`.
     pub base: u32,
-    /// The number of the last update that was sent, 0 for the order itself.
+    /// The number of the last update that was sent (`orderUpdateId`), 0 for the order itself.
     pub sent: u32,
-    /// The number of the last update that the vehicle has confirmed: `sent`, the one before, or none.
+    /// The number of the last update that the vehicle has confirmed by a state with that `orderUpdateId`: `sent`, the
+    /// one before, or none.
     pub confirmed: Option<u32>,
-    /// The place of the last node that the vehicle has reported.
+    /// The place of the last node that the vehicle has reported, half of `lastNodeSequenceId`.
     pub seen: u32,
-    /// What is done on the way, in this order: of a well-formed trip two acts for each of one to four jobs.
+    /// What is done on the way (the `actions` of nodes), in this order: of a well-formed trip two acts for each of one to four jobs.
     pub acts: Sequence<Act>,
 }
 

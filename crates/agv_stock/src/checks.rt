@@ -7,67 +7,6 @@ ghost use Rattle.agv_stock.specs.declared.goal.Goal.TheVariants as goals;
 use crate::{Goal, Place};
 use agv_header::Refusal;
 
-impl Goal {
-    /// Whether it is not a station that is unknown.
-    pub fn is_known(&self) -> bool
-        ensures { result ≡ is_known self.now }
-    {
-        match self {
-            Goal::Checking | Goal::At(_, _) => true,
-            Goal::Unknown => false,
-        }
-    }
-
-    fn has_room(&self) -> bool
-        ensures { result ≡ has_room self.now }
-    {
-        match self {
-            Goal::Checking | Goal::Unknown => true,
-            Goal::At(_, room) => *room != 0,
-        }
-    }
-
-    fn is_there(&self, place: &Place) -> bool
-        ensures { result ≡ is_there self.now place.now }
-    {
-        match self {
-            Goal::Checking => place.is_checking(),
-            Goal::Unknown => false,
-            Goal::At(station, _) => place.is_at(*station),
-        }
-    }
-}
-
-impl Place {
-    fn is_checking(&self) -> bool
-        ensures { result ≡ is_checking self.now }
-    {
-        match self {
-            Place::Checking => true,
-            Place::Station(_) | Place::Vehicle(_) | Place::Left => false,
-        }
-    }
-
-    /// Whether the load has left the warehouse.
-    pub fn has_left(&self) -> bool
-        ensures { result ≡ has_left self.now }
-    {
-        match self {
-            Place::Left => true,
-            Place::Station(_) | Place::Vehicle(_) | Place::Checking => false,
-        }
-    }
-
-    fn is_stored(&self) -> bool
-        ensures { result ≡ is_stored self.now }
-    {
-        match self {
-            Place::Station(_) => true,
-            Place::Vehicle(_) | Place::Checking | Place::Left => false,
-        }
-    }
-}
-
 /// Whether a load can be registered that has this place already, or none, and is to go there: `Exists`
 /// where it has one, `NoStation`, `Full`. It takes no memory.
 pub fn can_register(place: Option<Place>, goal: Goal) -> Result<(), Refusal>
@@ -159,4 +98,65 @@ pub fn can_job(known: bool, place: Option<Place>, live: bool, goal: Goal) -> Res
         return Err(Refusal::Full);
     }
     Ok(())
+}
+
+impl Goal {
+    /// Whether it is not a station that is unknown.
+    pub fn is_known(&self) -> bool
+        ensures { result ≡ is_known self.now }
+    {
+        match self {
+            Goal::Checking | Goal::At(_, _) => true,
+            Goal::Unknown => false,
+        }
+    }
+
+    fn has_room(&self) -> bool
+        ensures { result ≡ has_room self.now }
+    {
+        match self {
+            Goal::Checking | Goal::Unknown => true,
+            Goal::At(_, room) => *room != 0,
+        }
+    }
+
+    fn is_there(&self, place: &Place) -> bool
+        ensures { result ≡ is_there self.now place.now }
+    {
+        match self {
+            Goal::Checking => place.is_checking(),
+            Goal::Unknown => false,
+            Goal::At(station, _) => place.is_at(*station),
+        }
+    }
+}
+
+impl Place {
+    fn is_checking(&self) -> bool
+        ensures { result ≡ is_checking self.now }
+    {
+        match self {
+            Place::Checking => true,
+            Place::Station(_) | Place::Vehicle(_) | Place::Left => false,
+        }
+    }
+
+    /// Whether the load has left the warehouse.
+    pub fn has_left(&self) -> bool
+        ensures { result ≡ has_left self.now }
+    {
+        match self {
+            Place::Left => true,
+            Place::Station(_) | Place::Vehicle(_) | Place::Checking => false,
+        }
+    }
+
+    fn is_stored(&self) -> bool
+        ensures { result ≡ is_stored self.now }
+    {
+        match self {
+            Place::Station(_) => true,
+            Place::Vehicle(_) | Place::Checking | Place::Left => false,
+        }
+    }
 }

@@ -1,4 +1,4 @@
--- What is left of a layout that is kept beside the connection, once rows were written.
+-- What is left of a layout that is kept beside the connection, once rows were written. No public clause cites this.
 use Rattle.std.specs.Prelude.{Bool, true, false, List, Option, None, if◌then◌else◌}
 use Rattle.std.specs.List.{list_any}
 use Rattle.agv_layout.specs.Layout.{Layout}

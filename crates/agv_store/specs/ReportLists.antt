@@ -1,4 +1,4 @@
--- What a report lists.
+-- What a report lists. No public clause cites this.
 use Rattle.std.specs.Prelude.{List, [], ◌∷◌}
 use Rattle.std.specs.FinMap.{insert}
 use Rattle.agv_header.specs.declared.key.Thing.{Thing}

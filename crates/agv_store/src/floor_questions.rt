@@ -9,6 +9,7 @@ use agv_layout::{Layout, StationSite};
 use agv_message::Sequence;
 use agv_order::Trip;
 use agv_stock::Place;
+use agv_tables::DESK_SEATS;
 use agv_tables::queries::key_queries::{
     query_holder, query_job, query_node, query_place, query_station, query_used, query_vehicle,
 };
@@ -38,7 +39,7 @@ impl<S: Alter + Drop> Floor for KeyedFloor<S> {
     }
 
     fn seats(&self) -> u32 {
-        4
+        DESK_SEATS
     }
 
     fn vehicle(&mut self, key: VehicleKey) -> Result<Option<VehicleRow>, Fault> {

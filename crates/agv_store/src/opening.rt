@@ -20,7 +20,6 @@ use crate::open_fault::OpenFault;
 use agv_header::Memory;
 use agv_layout::Layout;
 use agv_layout::laws::{gives_itself, needs_a_node};
-use agv_tables::HeldThings;
 use agv_tables::readings::reading_laws::tables_read_tell_the_world;
 use agv_tables::readings::rowid_reading::query_rowids;
 use agv_tables::readings::world_laws::a_database_tells_its_world;
@@ -29,6 +28,7 @@ use agv_tables::schema::desk_tables::make_desk_tables;
 use agv_tables::schema::making_laws::{made_desks_stand, new_desks_know_nothing};
 use agv_tables::schema::standing_tables::tables_stand;
 use agv_tables::schema::table_room::leaves_room;
+use agv_tables::{DESK_SEATS, HeldThings};
 use agv_world::World;
 use agv_world::lawful_laws::is_in_good_order;
 use agv_world::laws::tables_tell_the_world;
@@ -172,5 +172,5 @@ fn find_desk<S: Alter>(
 fn are_of_a_lawful_world(alloc: Global, tables: &World, holds: &HeldThings) -> Result<bool, Memory>
     ensures { IfOk result (λ are. IsTrue are ↔ ((world : WorldOf) × Keeps tables.now world × IsLawful desk_seats world × (holds.now.table ≡ (rows_of world).holds))) }
 {
-    Ok(tables.is_lawful(alloc, 4)? && holds.are_footprints(alloc, tables)?)
+    Ok(tables.is_lawful(alloc, DESK_SEATS)? && holds.are_footprints(alloc, tables)?)
 }

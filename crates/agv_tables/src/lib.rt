@@ -30,4 +30,5 @@ pub use rows::capacity_row::CapacityRow;
 pub use rows::rows_by::RowsBy;
 pub use rows::words::{PlaceKind, ThingKind};
 pub use schema::making_fault::MakingFault;
+pub use schema::schema_numbers::DESK_SEATS;
 pub use schema::table_name::TableName;

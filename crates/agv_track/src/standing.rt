@@ -6,9 +6,10 @@ use agv_order::Trip;
 /// Where a vehicle stands, as far as the desk knows.
 #[derive(Debug, Drop)]
 pub struct Standing {
-    /// The node that it reached last.
+    /// The node that it reached last (`lastNodeId`), or where a person placed it.
     pub node: Name,
-    /// The edge on which it stopped between two nodes, and the node where the edge leads.
+    /// The next edge of its way and the node where that leads, to which it may have gone on when its order was cancelled before
+    /// the last released node.
     pub rest: Option<(Name, Name)>,
     /// Its open order.
     pub trip: Option<Trip>,

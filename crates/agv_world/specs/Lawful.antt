@@ -1,4 +1,5 @@
--- The joint invariant: what holds of the world of a desk after every list of calls (this project's profile). Each part has a name of its own.
+-- The joint invariant: what holds of the world of a desk after every list of calls (this project's
+-- profile). Each part has a name of its own.
 use Rattle.std.specs.Prelude.{◌≡◌, ◌↔◌, ◌⊎◌, ℕ, ◌+◌, ◌<◌, ◌≤◌, ◌&&◌, not, nat_eq, Bool, true, false, List, length, count_by, Option, None, Some, Contains}
 use Rattle.std.specs.Cmp.Lexicographic.{pointwise}
 use Rattle.std.specs.FinMap as finite
@@ -35,7 +36,8 @@ use Rattle.agv_world.specs.declared.row.VehicleRow.{VehicleRow}
 abbrev pub IsKey : VehicleKey → Type 0
 IsKey key = IsName key.manufacturer × IsName key.serial
 
--- the number and the moment of the last message of a topic: the moment lies before 2100, and is 0 where no message was sent
+-- the number and the moment of the last message of a topic: the moment lies before 2100, and is 0
+-- where no message was sent
 pub record IsSent (sent : Sent) : Type 0 where
   pub number : sent.count ≤ 4294967295
   pub moment : sent.at ≤ 4102444799999
@@ -46,7 +48,8 @@ abbrev pub IsRestAt : Layout → List ℕ → Option (List ℕ × List ℕ) → 
 IsRestAt layout node None = Unit {0}
 IsRestAt layout node (Some rest) = IsEdge layout rest.0 (record { start = node; finish = rest.1 })
 
--- a vehicle has 1 to `seats` places for loads, stands at a node, may have gone on from there to a rest, and what was sent to it was numbered; an action is pending only where a message was sent
+-- a vehicle has 1 to `seats` places for loads, stands at a node, may have gone on from there to a
+-- rest, and what was sent to it was numbered; an action is pending only where a message was sent
 pub record IsVehicleOf (seats : ℕ) (layout : Layout) (row : VehicleRow) : Type 0 where
   pub carries : 1 ≤ row.capacity
   pub seated : row.capacity ≤ seats
@@ -64,7 +67,8 @@ pub record IsVehicleOf (seats : ℕ) (layout : Layout) (row : VehicleRow) : Type
 abbrev pub picks : Act → Bool
 picks act = not (is_drop act.kind)
 
--- the trip is well formed, names its vehicle, has at most as many jobs as the vehicle has places, and was sent; the vehicle stands at the node that it has seen last, and there is no rest
+-- the trip is well formed, names its vehicle, has at most as many jobs as the vehicle has places,
+-- and was sent; the vehicle stands at the node that it has seen last, and there is no rest
 pub record IsTripOf (layout : Layout) (key : VehicleKey) (row : VehicleRow) (trip : Trip) : Type 0 where
   pub well_formed : IsWellFormed layout trip
   pub own : trip.vehicle ≡ key
@@ -83,15 +87,19 @@ pub record HasLawfulVehicles (seats : ℕ) (world : World) : Type 0 where
   pub few_orders : set.len world.orders ≤ 1000000
   pub few_references : set.len world.references ≤ 1000000
   -- the names of vehicles, orders and references are names
-  pub vehicles_named : (key : VehicleKey) (vehicle : Vehicle) → IsVehicle world key vehicle → IsKey key
+  pub vehicles_named : (key : VehicleKey) (vehicle : Vehicle)
+      → IsVehicle world key vehicle → IsKey key
   pub orders_named : (name : List ℕ) → set.contains world.orders name ≡ true → IsName name
   pub references_named : (name : List ℕ) → set.contains world.references name ≡ true → IsName name
   -- each vehicle, and each open trip with its vehicle, is as above
-  pub vehicles : (key : VehicleKey) (vehicle : Vehicle) → IsVehicle world key vehicle → IsVehicleOf seats world.layout vehicle.row
+  pub vehicles : (key : VehicleKey) (vehicle : Vehicle)
+      → IsVehicle world key vehicle → IsVehicleOf seats world.layout vehicle.row
   pub trips : (key : VehicleKey) (vehicle : Vehicle) (trip : Trip)
-      → IsVehicle world key vehicle → vehicle.trip ≡ Some trip → IsTripOf world.layout key vehicle.row trip
+      → IsVehicle world key vehicle → vehicle.trip ≡ Some trip
+      → IsTripOf world.layout key vehicle.row trip
   -- the name of an open trip's order was used, and no order has two trips
-  pub used : (key : VehicleKey) (trip : Trip) → HasTrip world key trip → set.contains world.orders trip.order ≡ true
+  pub used : (key : VehicleKey) (trip : Trip)
+      → HasTrip world key trip → set.contains world.orders trip.order ≡ true
   pub one_trip : HasOneTripAnOrder world
   -- no node or edge is in the footprints of two vehicles
   pub apart : SharesNothing world
@@ -142,7 +150,8 @@ pub record NamesItsJob (world : World) (act : Act) : Type 0 where
   pub load : row.load ≡ act.load
   pub station : station_for act.kind row ≡ act.station
 
--- where the load of a job that rides is: at the origin until its pick is finished, and then on the vehicle
+-- where the load of a job that rides is: at the origin until its pick is finished, and then on the
+-- vehicle
 abbrev pub carried_at : VehicleKey → List ℕ → Bool → Place
 carried_at key origin false = place.Station origin
 carried_at key origin true = place.Vehicle key
@@ -153,51 +162,68 @@ is_to_drop act = is_drop act.kind && not (is_finished act.status)
 
 -- the load is one that the trip is still to drop
 abbrev pub is_load_of : Trip → List ℕ → Bool
-is_load_of trip load = list_any (λ (act : Act). is_to_drop act && pointwise nat_eq act.load load) trip.acts
+is_load_of trip load =
+    list_any (λ (act : Act). is_to_drop act && pointwise nat_eq act.load load) trip.acts
 
 -- how many loads are on the vehicle that belong to none of the trip's live jobs
 abbrev pub other_loads : World → VehicleKey → Trip → ℕ
-other_loads world key trip = count_by (λ (load : List ℕ × Place). is_on key load.1 && not (is_load_of trip load.0)) (finite.entries world.places)
+other_loads world key trip =
+    count_by (λ (load : List ℕ × Place). is_on key load.1 && not (is_load_of trip load.0))
+    (finite.entries world.places)
 
 pub record HasLawfulLoads (world : World) : Type 0 where
   -- at most 1,000,000 loads, those that have left counted, and 1,000,000 jobs
   pub few_loads : finite.len world.places ≤ 1000000
   pub few_jobs : finite.len world.jobs ≤ 1000000
   -- the names of loads and jobs are names
-  pub loads_named : (load : List ℕ) (place : Place) → finite.get world.places load ≡ Some place → IsName load
+  pub loads_named : (load : List ℕ) (place : Place)
+      → finite.get world.places load ≡ Some place → IsName load
   pub jobs_named : (job : List ℕ) (row : JobRow) → IsJob world job row → IsName job
   -- what a place or a job names is known
-  pub places : (load : List ℕ) (place : Place) → finite.get world.places load ≡ Some place → IsPlaceIn world place
+  pub places : (load : List ℕ) (place : Place)
+      → finite.get world.places load ≡ Some place → IsPlaceIn world place
   pub jobs : (job : List ℕ) (row : JobRow) → IsJob world job row → IsJobIn world row
   -- the loads at a station and the live jobs to it are together at most its capacity
   pub room : (station : List ℕ) (site : StationSite)
-      → IsStation world.layout station site → length (loads_at world station) + reserved world station ≤ site.capacity
-  -- a vehicle without a trip has at most as many loads as it has places; with a trip, its other loads and the trip's jobs that are not done are together at most that many
-  pub idle : (key : VehicleKey) (vehicle : Vehicle) → IsVehicle world key vehicle → vehicle.trip ≡ None → loads_on world key ≤ vehicle.row.capacity
+      → IsStation world.layout station site
+      → length (loads_at world station) + reserved world station ≤ site.capacity
+  -- a vehicle without a trip has at most as many loads as it has places; with a trip, its other
+  -- loads and the trip's jobs that are not done are together at most that many
+  pub idle : (key : VehicleKey) (vehicle : Vehicle)
+      → IsVehicle world key vehicle → vehicle.trip ≡ None
+      → loads_on world key ≤ vehicle.row.capacity
   pub within_capacity : (key : VehicleKey) (vehicle : Vehicle) (trip : Trip)
       → IsVehicle world key vehicle → vehicle.trip ≡ Some trip
       → other_loads world key trip + count_by is_to_drop trip.acts ≤ vehicle.row.capacity
   -- a load has at most one live job
   pub one_job : (one other : List ℕ) (row further : JobRow)
-      → IsJob world one row → IsJob world other further → is_live row.phase ≡ true → is_live further.phase ≡ true
+      → IsJob world one row → IsJob world other further → is_live row.phase ≡ true
+      → is_live further.phase ≡ true
       → row.load ≡ further.load → one ≡ other
-  -- a job rides exactly where an open trip has it and its drop is not finished; where the drop is finished, the job is done
-  pub riding : (job : List ℕ) (row : JobRow) → IsJob world job row → (row.phase ≡ phase.Riding) ↔ IsToDrop world job
+  -- a job rides exactly where an open trip has it and its drop is not finished; where the drop is
+  -- finished, the job is done
+  pub riding : (job : List ℕ) (row : JobRow)
+      → IsJob world job row → (row.phase ≡ phase.Riding) ↔ IsToDrop world job
   pub done : (key : VehicleKey) (trip : Trip) (act : Act) (row : JobRow)
-      → HasAct world key trip act → act.kind ≡ Drop → is_finished act.status ≡ true → IsJob world act.job row
+      → HasAct world key trip act → act.kind ≡ Drop → is_finished act.status ≡ true
+      → IsJob world act.job row
       → row.phase ≡ phase.Done
   -- a job stands in at most one open trip
   pub one_vehicle : (one other : VehicleKey) (trip further : Trip) (act more : Act)
-      → HasAct world one trip act → HasAct world other further more → act.job ≡ more.job → one ≡ other
-  -- the load of a job that waits is at the origin; the load of one that rides is there until its pick is finished, and then on the vehicle
+      → HasAct world one trip act → HasAct world other further more → act.job ≡ more.job
+      → one ≡ other
+  -- the load of a job that waits is at the origin; the load of one that rides is there until its
+  -- pick is finished, and then on the vehicle
   pub waiting : (job : List ℕ) (row : JobRow)
       → IsJob world job row → row.phase ≡ phase.Waiting
       → finite.get world.places row.load ≡ Some (place.Station row.origin)
   pub carried : (key : VehicleKey) (trip : Trip) (act : Act) (row : JobRow)
-      → HasAct world key trip act → act.kind ≡ Pick → IsJob world act.job row → is_live row.phase ≡ true
+      → HasAct world key trip act → act.kind ≡ Pick → IsJob world act.job row
+      → is_live row.phase ≡ true
       → finite.get world.places row.load ≡ Some (carried_at key row.origin (is_finished act.status))
   -- each act of an open trip names the load and the station of its job
-  pub acts : (key : VehicleKey) (trip : Trip) (act : Act) → HasAct world key trip act → NamesItsJob world act
+  pub acts : (key : VehicleKey) (trip : Trip) (act : Act)
+      → HasAct world key trip act → NamesItsJob world act
 
 -- ---- all of it
 

@@ -20,16 +20,17 @@ pub struct Sent {
 pub struct VehicleRow {
     /// How many loads it carries at once: 1 to 4.
     pub capacity: u32,
-    /// The node where it stands, or that it has reported last.
+    /// The node where it stands, or that it has reported last (`lastNodeId`).
     pub node: Name,
     /// The edge and the node that it may have gone on to after a cancelled order.
     pub rest: Option<(Name, Name)>,
-    /// The number of the last state that was accepted, none before the first and after a resync.
+    /// The `headerId` of the last state that was accepted, none before the first and after a resync.
     pub last_header: Option<u32>,
-    /// The order that it has reported last, if that was a name.
+    /// The `orderId` that it has reported last, if that was a name.
     pub reported: Option<Name>,
     /// The desk is in control of it, and it can drive.
     pub ready: bool,
+    /// Its last accepted state says `paused`.
     pub paused: bool,
     /// Its order messages.
     pub orders: Sent,
@@ -43,13 +44,21 @@ pub struct VehicleRow {
 /// An open trip, but for its order's name and its edges.
 #[derive(Debug, Drop)]
 pub struct TripRow {
+    /// The vehicle that carries it out.
     pub vehicle: VehicleKey,
+    /// The node where it starts.
     pub start: Name,
+    /// The place of the node with which the last message begins, half of that node's `sequenceId`.
     pub first: u32,
+    /// The place of the last node that is `released`.
     pub base: u32,
+    /// The `orderUpdateId` of the last message that was sent.
     pub sent: u32,
+    /// The `orderUpdateId` of the update that the vehicle has confirmed, none before the first.
     pub confirmed: Option<u32>,
+    /// The place of the last node that the vehicle has reported, half of `lastNodeSequenceId`.
     pub seen: u32,
+    /// What is done on the way, in this order.
     pub acts: Sequence<Act>,
 }
 

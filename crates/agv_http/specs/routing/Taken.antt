@@ -1,4 +1,4 @@
--- What a match took from a path, and the names that it spells.
+-- What a match took from a path, and the names that it spells. No public clause cites this.
 use Rattle.std.specs.Prelude.{◌≡◌, ◌≤◌, ℕ, List, [], ◌∷◌, length, Option, Some, None, option_map, IsUtf8, if◌then◌else◌}
 use Rattle.agv_header.specs.Name.{is_name}
 use Rattle.agv_http.specs.declared.routing.line.Names.{Names}

@@ -24,13 +24,6 @@ pub(crate) enum FoundLength {
     Wrong,
 }
 
-/// Whether the two are one word in any ASCII case.
-pub(crate) fn is_same_word(name: &[u8], word: &[u8]) -> bool
-    ensures { result ≡ same_word name.now word.now }
-{
-    name.eq_ignore_ascii_case(word)
-}
-
 /// Whether a line of that name is there.
 pub(crate) fn is_there(buf: &[u8], headers: &[HeaderSpan], name: &[u8]) -> bool
     requires { All (IsHeaderWithin (length buf.now)) headers.now }
@@ -104,4 +97,11 @@ fn with_value<'b>(values: Values<'b>, value: &'b [u8]) -> Values<'b>
         Values::One(_) => Values::Several,
         Values::Several => Values::Several,
     }
+}
+
+/// Whether the two are one word in any ASCII case.
+pub(crate) fn is_same_word(name: &[u8], word: &[u8]) -> bool
+    ensures { result ≡ same_word name.now word.now }
+{
+    name.eq_ignore_ascii_case(word)
 }

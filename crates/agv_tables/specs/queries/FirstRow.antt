@@ -1,4 +1,4 @@
--- What the rows of a key tell.
+-- What the rows of a key tell. No public clause cites this.
 use Rattle.std.specs.Prelude.{List, [], ◌∷◌, Option, None, Some, Result, Ok, Err}
 use Rattle.sqlite_value.specs.Order.{Row}
 use Rattle.agv_tables.specs.declared.queries.reading_fault.ReadingFault.{ReadingFault}

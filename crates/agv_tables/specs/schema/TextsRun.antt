@@ -1,4 +1,4 @@
--- What texts of SQL that write do to a database, one after the other.
+-- What texts of SQL that write do to a database, one after the other. No public clause cites this.
 use Rattle.std.specs.Prelude.{◌≡◌, ℕ, Bool, true, false, IsTrue, List, [], ◌∷◌, Option, None, Ok}
 use Rattle.sqlite_trees.specs.Tree.{Trees}
 use Rattle.sqlite_schema.specs.declared.schema.Keys.TheVariants.{Enforced}

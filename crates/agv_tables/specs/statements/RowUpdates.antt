@@ -1,4 +1,4 @@
--- The texts of SQL that write a row over those of its key, and what becomes of the rows.
+-- The texts of SQL that write a row over those of its key, and what becomes of the rows. No public clause cites this.
 use Rattle.std.specs.Prelude.{◌≡◌, ◌++◌, ℕ, List, codes, filter, length, map, not, true}
 use Rattle.sqlite_value.specs.Order.{Row}
 use Rattle.sqlite.specs.State.{State}

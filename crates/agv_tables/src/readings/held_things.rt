@@ -9,6 +9,7 @@ ghost use Rattle.agv_world.specs.Worlds.{World as WorldOf};
 ghost use Rattle.agv_tables.specs.schema.SchemaNumbers.{desk_seats};
 ghost use Rattle.agv_tables.specs.readings.HeldThings.{HasEach, are_entries, are_holders, hold_their_own, holds_each, holds_only, is_kept, things_of};
 
+use crate::schema::schema_numbers::DESK_SEATS;
 use agv_header::{Memory, Thing, VehicleKey};
 use agv_track::hold_laws::tests_membership;
 use agv_track::{HoldTable, Standing, footprint};
@@ -28,7 +29,7 @@ pub struct HeldThings {
 
 impl HeldThings {
     /// Whether what is held is what the vehicles of these tables hold: each its footprint, and nothing else. It answers so
-    /// where they are the tables of a lawful world with at most four places on each vehicle.
+    /// where they are the tables of a lawful world with at most [`DESK_SEATS`](crate::DESK_SEATS) places on each vehicle.
     ///
     /// `Memory` for want of memory alone. It takes time in proportion to the vehicles times what is held and what is open, and
     /// for each thing that is held it looks over the footprint of its vehicle.
@@ -82,7 +83,7 @@ fn things_of(
 ) -> Result<Vec<Thing>, Memory>
     ensures { IfOk result (λ things. things.items ≡ things_of (world_of tables.now) (key, row.now)) }
 {
-    let mut floor = PlainFloor::new(alloc, tables, 4);
+    let mut floor = PlainFloor::new(alloc, tables, DESK_SEATS);
     let Ok(trip) = floor.trip(key) else {
         return Err(Memory);
     };

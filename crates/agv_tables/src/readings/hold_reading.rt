@@ -16,15 +16,13 @@ use crate::ReadingFault;
 use crate::queries::queried_rows::query_all_rows;
 use crate::readings::held_things::HeldThings;
 use crate::rows::decode_row::{decode_hold, decode_meta};
+use crate::schema::schema_numbers::SCHEMA_NUMBER;
 use crate::schema::table_name::TableName;
 use agv_header::{Thing, VehicleKey};
 use agv_track::{ClaimFault, HoldTable};
 use agv_world::lawful_laws::is_in_good_order;
 use sqlite::{Alter, Connection, Row};
 use std::alloc::Global;
-
-// The number of the schema, as `meta` has it.
-const SCHEMA_NUMBER: u32 = 2;
 
 /// The vehicle that holds a node or an edge, for each that is held.
 ///

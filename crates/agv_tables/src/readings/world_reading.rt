@@ -79,9 +79,9 @@ fn query_stock_tables<S: Alter>(
 
 /// All tables: those of the world in memory, and who holds what. The row of `meta` is that of the second schema.
 ///
-/// Where [`World::is_lawful`](agv_world::World::is_lawful), asked with four places on each vehicle (`is_lawful(alloc, 4)`), and
-/// [`HeldThings::are_footprints`] both answer `true`, the database has the rows of a lawful world with at most four places on each
-/// vehicle (`reading_laws`); where one answers `false`, it has those of none.
+/// Where [`World::is_lawful`](agv_world::World::is_lawful), asked with [`DESK_SEATS`](crate::DESK_SEATS) places on each vehicle,
+/// and [`HeldThings::are_footprints`] both answer `true`, the database has the rows of a lawful world with at most so many places
+/// on each vehicle (`reading_laws`); where one answers `false`, it has those of none.
 ///
 /// It fails as [`ReadingFault`] says.
 pub fn read_world<S: Alter>(

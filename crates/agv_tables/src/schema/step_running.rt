@@ -6,16 +6,6 @@ ghost use Rattle.agv_tables.specs.schema.TextsRun.{LeavesSteps, RunSteps, RunsSt
 
 use sqlite::{Alter, Connection, Error, Transaction};
 
-/// Carries out the text.
-pub(crate) fn run_text<S: Alter>(tx: &mut Transaction<'_, S>, sql: &str) -> Result<usize, Error>
-    ensures same_reference { tx.new.conn.ghost_name ≡ tx.old.conn.ghost_name }
-    ensures survives { Survives (state S.Store tx.old.conn.now) (state S.Store tx.new.conn.now) (λ _. ⊥) }
-    ensures kept { HasCleanDisk (state S.Store tx.new.conn.now) → KeepsCommit (state S.Store tx.old.conn.now) (state S.Store tx.new.conn.now) }
-    ensures ran { HasCleanDisk (state S.Store tx.new.conn.now) → OnOk result (RunsSteps ((true, sql.now) ∷ []) (state S.Store tx.old.conn.now) (state S.Store tx.new.conn.now)) }
-{
-    tx.execute(sql, &[])
-}
-
 /// Carries out those of the steps that are not left out, in one transaction. Where it succeeds what they
 /// do is committed; after an error that leaves the store open nothing is; a store that was shut stays shut; and a crash
 /// leaves none of it or all.
@@ -53,4 +43,14 @@ fn run_step<S: Alter>(
         → OnOk result (RunsSteps ((is_wanted, sql.now) ∷ []) (state S.Store tx.old.conn.now) (state S.Store tx.new.conn.now)) }
 {
     if is_wanted { run_text(tx, sql) } else { Ok(0) }
+}
+
+/// Carries out the text.
+pub(crate) fn run_text<S: Alter>(tx: &mut Transaction<'_, S>, sql: &str) -> Result<usize, Error>
+    ensures same_reference { tx.new.conn.ghost_name ≡ tx.old.conn.ghost_name }
+    ensures survives { Survives (state S.Store tx.old.conn.now) (state S.Store tx.new.conn.now) (λ _. ⊥) }
+    ensures kept { HasCleanDisk (state S.Store tx.new.conn.now) → KeepsCommit (state S.Store tx.old.conn.now) (state S.Store tx.new.conn.now) }
+    ensures ran { HasCleanDisk (state S.Store tx.new.conn.now) → OnOk result (RunsSteps ((true, sql.now) ∷ []) (state S.Store tx.old.conn.now) (state S.Store tx.new.conn.now)) }
+{
+    tx.execute(sql, &[])
 }

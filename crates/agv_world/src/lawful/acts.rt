@@ -5,11 +5,11 @@ ghost use Rattle.std.specs.List.{list_all, list_any};
 ghost use Rattle.agv_world.specs.Lawful.{station_for};
 ghost use Rattle.agv_world.specs.LoadTests.{are_acts, are_jobs_apart, is_act, is_act_of, is_apart_from, is_as_acted, is_carried_at, is_done, is_placed_on, is_riding, is_same_job, is_shared, names_its_job};
 
-use super::jobs::{is_finished, is_placed_at};
+use super::jobs::is_placed_at;
 use crate::{JobRow, TripRow, World};
 use agv_header::{Name, VehicleKey};
 use agv_message::ActKind;
-use agv_order::Act;
+use agv_order::{Act, is_finished};
 use agv_stock::{Phase, Place};
 
 impl World {

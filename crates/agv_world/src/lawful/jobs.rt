@@ -1,15 +1,13 @@
 //! Whether loads and jobs are as they should be, each by itself.
 ghost use Rattle.std.specs.Prelude.{◌≡◌, IfOk};
 ghost use Rattle.std.specs.List.{list_any};
-ghost use Rattle.agv_order.specs.Statuses.{is_finished};
 ghost use Rattle.agv_world.specs.Lawful.{is_to_drop};
 ghost use Rattle.agv_world.specs.LoadTests.{are_jobs, are_loads_few, are_places, has_one_job_each, has_station, is_carried, is_drop_of, is_in_phase, is_job, is_job_row, is_place, is_placed_at};
 
 use crate::{JobRow, Names, World};
 use agv_header::limits::MAX_RECORDS;
 use agv_header::{Memory, Name};
-use agv_message::{ActKind, Status};
-use agv_order::Act;
+use agv_order::{Act, is_drop, is_finished};
 use agv_stock::{Phase, Place};
 use std::alloc::Global;
 
@@ -118,28 +116,11 @@ pub(crate) fn is_placed_at(station: Name, place: Option<Place>) -> bool
     }
 }
 
-// Whether the load was picked or dropped.
-pub(crate) fn is_finished(status: Status) -> bool
-    ensures { result ≡ is_finished status }
-{
-    match status {
-        Status::Finished => true,
-        Status::Waiting
-        | Status::Initializing
-        | Status::Running
-        | Status::Paused
-        | Status::Failed => false,
-    }
-}
-
 // Whether the act is a drop that is not finished.
 pub(crate) fn is_to_drop(act: &Act) -> bool
     ensures { result ≡ is_to_drop act.now }
 {
-    match act.kind {
-        ActKind::Pick => false,
-        ActKind::Drop => !is_finished(act.status),
-    }
+    is_drop(act.kind) && !is_finished(act.status)
 }
 
 // Whether one of the acts is.

@@ -7,8 +7,7 @@ ghost use Rattle.agv_world.specs.LawfulTests.{are_fit, are_fit_on, is_fit, are_i
 use crate::{LegKey, TripRow, UseKey, UseKind, VehicleRow, World};
 use agv_header::{Memory, Name, VehicleKey};
 use agv_layout::Layout;
-use agv_message::ActKind;
-use agv_order::{Act, Trip};
+use agv_order::{Act, Trip, is_drop};
 use std::alloc::Global;
 
 impl World {
@@ -179,8 +178,5 @@ fn pick_count(acts: &[Act]) -> usize
 fn picks(act: &Act) -> bool
     ensures { result ≡ picks act.now }
 {
-    match act.kind {
-        ActKind::Pick => true,
-        ActKind::Drop => false,
-    }
+    !is_drop(act.kind)
 }
