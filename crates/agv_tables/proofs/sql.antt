@@ -1,4 +1,5 @@
 -- What SQL does to one table somewhere in a schema, and to a connection: entries, keys, selections, failures.
+pub mod CountRows
 pub mod Entries
 pub mod EntryEdits
 pub mod Failing

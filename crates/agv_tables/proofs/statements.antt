@@ -1,4 +1,6 @@
 -- What each text of the desk means, wherever its tables stand, and what it does to their rows.
+pub mod CountMeanings
+pub mod CountStatements
 pub mod DeskStatements
 pub mod QueryMeanings
 pub mod RowForms

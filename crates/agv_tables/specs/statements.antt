@@ -1,3 +1,4 @@
+pub mod CountQueries
 pub mod RowQueries
 pub mod RowTexts
 pub mod RowUpdates

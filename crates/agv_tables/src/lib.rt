@@ -28,6 +28,7 @@ pub use queries::reading_fault::ReadingFault;
 pub use readings::held_things::HeldThings;
 pub use rows::capacity_row::CapacityRow;
 pub use rows::rows_by::RowsBy;
+pub use rows::rows_counted::RowsCounted;
 pub use rows::words::{PlaceKind, ThingKind};
 pub use schema::making_fault::MakingFault;
 pub use schema::schema_numbers::DESK_SEATS;

@@ -6,7 +6,8 @@
 //!   change, and they, and a database that has them, tell one lawful world alone.
 //! - `capacity_row` is a vehicle's room for loads; the rows of journeys and acts are those of agv_trip_rows. `trip_laws`
 //!   says that the rows of its journey, its acts, their jobs and its edges tell a trip whole.
-//! - `world_table` names a table that is written, `row_of` a look-up by the key, `rows_by` one by other columns.
+//! - `world_table` names a table that is written, `row_of` a look-up by the key, `rows_by` one by other columns,
+//!   `rows_counted` a count by other columns.
 
 pub mod capacity_row;
 pub(crate) mod decode_row;
@@ -18,6 +19,7 @@ pub mod row_list_laws;
 pub(crate) mod row_of;
 pub(crate) mod row_values;
 pub(crate) mod rows_by;
+pub(crate) mod rows_counted;
 pub mod trip_laws;
 pub(crate) mod words;
 pub(crate) mod world_table;

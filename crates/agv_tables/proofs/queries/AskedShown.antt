@@ -19,8 +19,10 @@ use Rattle.agv_tables.specs.rows.DecodedTrips.{is_driven_by}
 use Rattle.agv_tables.specs.rows.DeskRows.{is_equal}
 use Rattle.agv_tables.specs.rows.RowKeys.{name_key, vehicle_key}
 use Rattle.agv_tables.specs.rows.RowLists.{TellRows}
+use Rattle.agv_tables.specs.statements.CountQueries.{columns_counted}
 use Rattle.agv_tables.specs.statements.RowQueries.{columns_asked, equal_from}
 use Rattle.agv_tables.specs.declared.rows.rows_by.RowsBy.TheVariants as by
+use Rattle.agv_tables.specs.declared.rows.rows_counted.RowsCounted.TheVariants as counted
 use Rattle.agv_tables.proofs.sql.KeyTests.{last_text_is, text_is}
 use Rattle.agv_tables.proofs.queries.KeysShown.{all_shown}
 
@@ -37,7 +39,7 @@ null_fails k more = ap (λ b. b && more) (null_is_none k)
 two_texts : (a b p q : List ℕ) → (is_equal (Text a) (Text p) && (is_equal (Text b) (Text q) && true)) ≡ (pointwise nat_eq a p && pointwise nat_eq b q)
 two_texts a b p q = ap₂ ◌&&◌ (text_is a p) (last_text_is b q)
 
--- ---- look-ups
+-- ---- look-ups and counts
 
 load_at : (station id : List ℕ) (x : Place) → equal_from 0 (columns_asked by.StationLoads) (name_key station) (load_columns id x) ≡ is_at station x
 load_at station id (place.Station s) = last_text_is s station
@@ -45,7 +47,7 @@ load_at station id (place.Vehicle key) = null_fails station true
 load_at station id place.Checking = null_fails station true
 load_at station id place.Left = null_fails station true
 
-load_on : (key : VehicleKey) (id : List ℕ) (x : Place) → equal_from 0 (columns_asked by.VehicleLoads) (vehicle_key key) (load_columns id x) ≡ is_on key x
+load_on : (key : VehicleKey) (id : List ℕ) (x : Place) → equal_from 0 (columns_counted counted.VehicleLoads) (vehicle_key key) (load_columns id x) ≡ is_on key x
 load_on key id (place.Station s) = null_fails key.manufacturer _
 load_on key id (place.Vehicle other) = two_texts other.manufacturer other.serial key.manufacturer key.serial
 load_on key id place.Checking = null_fails key.manufacturer _
@@ -60,9 +62,9 @@ shown_asked lists rows told =
       acts = λ order. all.acts (equal_from 0 (columns_asked by.OrderActs) (name_key order)) (is_of order) (λ key act. last_text_is key.order order);
       legs = λ order. all.legs (equal_from 0 (columns_asked by.OrderLegs) (name_key order)) (is_of_order order) (λ key edge. last_text_is key.order order);
       loads_at = λ station. all.loads (equal_from 0 (columns_asked by.StationLoads) (name_key station)) (λ (load : List ℕ × Place). is_at station load.1) (load_at station);
-      loads_on = λ key. all.loads (equal_from 0 (columns_asked by.VehicleLoads) (vehicle_key key)) (λ (load : List ℕ × Place). is_on key load.1) (load_on key);
+      loads_on = λ key. all.loads (equal_from 0 (columns_counted counted.VehicleLoads) (vehicle_key key)) (λ (load : List ℕ × Place). is_on key load.1) (load_on key);
       jobs_of = λ load phase. all.jobs (equal_from 0 (columns_asked by.LoadJobs) (name_and_phase load phase)) (λ (job : List ℕ × JobRow). pointwise nat_eq job.1.load load && is_in_phase phase job.1)
           (λ id job. two_texts job.load (phase_name job.phase) load (phase_name phase));
-      jobs_to = λ station phase. all.jobs (equal_from 0 (columns_asked by.TargetJobs) (name_and_phase station phase)) (λ (job : List ℕ × JobRow). pointwise nat_eq job.1.target station && is_in_phase phase job.1)
+      jobs_to = λ station phase. all.jobs (equal_from 0 (columns_counted counted.TargetJobs) (name_and_phase station phase)) (λ (job : List ℕ × JobRow). pointwise nat_eq job.1.target station && is_in_phase phase job.1)
           (λ id job. two_texts job.target (phase_name job.phase) station (phase_name phase));
     }

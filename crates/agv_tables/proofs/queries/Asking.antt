@@ -142,6 +142,12 @@ module _ {S : Type 0} (g : Ghosts S) (old : Held S) where
     survives = asked.survives;
   }
 
+  -- an answer that says one thing says another
+  pub tells : {A : Type 0} (new : Held S) (says means : World → A → Type 0) (r : Result A ReadingFault)
+      → ((world : World) → IsLawful desk_seats world → (a : A) → says world a → means world a) → AnswersQuery g old new r says → AnswersQuery g old new r means
+  tells new says means (Ok a) so asked = follows new a says means (Ok a) (λ world lawful. so world lawful a) asked
+  tells new says means (Err f) so asked = passes new f says means (Err f) refl asked
+
   -- a query after another
   module _ {A B : Type 0} (mid new : Held S) (a : A) (says : World → A → Type 0) (first : AnswersQuery g old mid (Ok a) says) where
     module _ (r : Result B ReadingFault) (means : World → B → Type 0) (next : AnswersQuery g mid new r means) where

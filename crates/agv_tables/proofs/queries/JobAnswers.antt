@@ -1,4 +1,4 @@
--- What the rows of jobs that are asked for answer, in a lawful world.
+-- What the rows of jobs that are asked for or counted answer, in a lawful world.
 use Rattle.std.proofs.Common.{◌≡◌, ◌||◌, ◌&&◌, ◌+◌, ℕ, nat_eq, Bool, true, false, cond, List, length, map, count_by, find, Option, None, Some, Ok, Result, IsPermutation, refl, sym, ap, subst, ◌∙◌, ◌-◌, ◌^◌, ◌≤◌, min, arith, ap₂}
 use Rattle.std.proofs.lemmas.Bool.{and_parts}
 use Rattle.std.proofs.lemmas.List.Sums.{count_by-le-length}
@@ -19,10 +19,12 @@ use Rattle.agv_tables.specs.rows.ValueEncodings.{phase_name}
 use Rattle.agv_tables.specs.rows.Columns.{job_columns, job_in}
 use Rattle.agv_tables.specs.queries.FirstRow.{first_key_in, key_of}
 use Rattle.agv_tables.specs.rows.RowLists.{TellRows, row_if, row_lists}
+use Rattle.agv_tables.specs.statements.CountQueries.{rows_counted}
 use Rattle.agv_tables.specs.statements.RowQueries.{rows_asked}
 use Rattle.agv_tables.specs.schema.SchemaNumbers.{desk_seats}
 use Rattle.agv_tables.specs.declared.queries.reading_fault.ReadingFault.{ReadingFault}
 use Rattle.agv_tables.specs.declared.rows.rows_by.RowsBy.TheVariants as by
+use Rattle.agv_tables.specs.declared.rows.rows_counted.RowsCounted.TheVariants as counted
 use Rattle.agv_tables.proofs.queries.Asking.{Follows}
 use Rattle.agv_tables.proofs.queries.AskedShown.{shown_asked}
 use Rattle.agv_tables.proofs.rows.ColumnsKept.{job_kept}
@@ -31,7 +33,7 @@ use Rattle.agv_tables.proofs.queries.KeyAnswers.{only}
 use Rattle.agv_tables.proofs.rows.LawfulValues.{job_value}
 use Rattle.agv_tables.proofs.rows.ListsHeld.{alike_itself}
 use Rattle.agv_tables.proofs.sql.KeyTests.{same_name}
-use Rattle.agv_tables.proofs.queries.LoadAnswers.{again, counted}
+use Rattle.agv_tables.proofs.queries.LoadAnswers.{again, as_many}
 
 -- ---- jobs
 
@@ -94,11 +96,11 @@ module _ (world : World) (lawful : IsLawful desk_seats world) where
 
   -- ---- jobs to a station
 
-  pub counts_jobs_to : (station : List ℕ) (one : Phase) (values : Row) → values ≡ name_and_phase station one → (rows : List Row) → IsPermutation (rows_asked by.TargetJobs values lists) rows
-      → length rows ≡ count_by (is_to station one) (finite.entries world.jobs)
-  counts_jobs_to station one values is rows shown =
-      counted (λ (job : List ℕ × JobRow). job_columns job.0 job.1) (is_to station one) (finite.entries world.jobs) rows
-      (again ((shown_asked lists (rows_of world) its_own).jobs_to station one) (subst (λ v. IsPermutation (rows_asked by.TargetJobs v lists) rows) is shown))
+  pub counts_jobs_to : (station : List ℕ) (one : Phase) (values : Row) → values ≡ name_and_phase station one
+      → length (rows_counted counted.TargetJobs values lists) ≡ count_by (is_to station one) (finite.entries world.jobs)
+  counts_jobs_to station one values is =
+      ap (λ v. length (rows_counted counted.TargetJobs v lists)) is
+      ∙ as_many (λ (job : List ℕ × JobRow). job_columns job.0 job.1) (is_to station one) (finite.entries world.jobs) _ ((shown_asked lists (rows_of world) its_own).jobs_to station one)
 
   pub counts_reserved : (station : List ℕ) → reserved world station ≡ count_by (is_to station phase.Waiting) (finite.entries world.jobs) + count_by (is_to station phase.Riding) (finite.entries world.jobs)
   unfolding reserved

@@ -1,7 +1,7 @@
--- What the rows of loads that are asked for answer, in a lawful world.
+-- What the rows of loads that are asked for or counted answer, in a lawful world.
 use Rattle.std.proofs.Common.{◌≡◌, ℕ, Bool, List, length, map, count_by, filter, None, Some, IsPermutation, sym, ap, subst, ◌∙◌}
 use Rattle.std.proofs.lemmas.List.{length-map}
-use Rattle.std.proofs.lemmas.List.Sorted.{IsPermutation-sym, IsPermutation-trans, length_permutation}
+use Rattle.std.proofs.lemmas.List.Sorted.{IsPermutation-refl, IsPermutation-sym, IsPermutation-trans, length_permutation}
 use Rattle.std.proofs.lemmas.List.Sums.{length-filter}
 use Rattle.std.specs.FinMap as finite
 use Rattle.std.specs.Option.{option_map}
@@ -18,15 +18,17 @@ use Rattle.agv_tables.specs.queries.QueriedRows.{loads_shown}
 use Rattle.agv_tables.specs.rows.Columns.{load_columns}
 use Rattle.agv_tables.specs.rows.RowKeys.{name_key, vehicle_key}
 use Rattle.agv_tables.specs.rows.RowLists.{TellRows, row_lists}
+use Rattle.agv_tables.specs.statements.CountQueries.{rows_counted}
 use Rattle.agv_tables.specs.statements.RowQueries.{rows_asked}
 use Rattle.agv_tables.specs.schema.SchemaNumbers.{desk_seats}
 use Rattle.agv_tables.specs.declared.rows.rows_by.RowsBy.TheVariants as by
+use Rattle.agv_tables.specs.declared.rows.rows_counted.RowsCounted.TheVariants as counted
 use Rattle.agv_tables.proofs.queries.AskedShown.{shown_asked}
 use Rattle.agv_tables.proofs.rows.ListsHeld.{alike_itself}
 
 -- as many rows as entries pass
-pub counted : {A : Type 0} (f : A → Row) (p : A → Bool) (xs : List A) (rows : List Row) → IsPermutation (map f (filter p xs)) rows → length rows ≡ count_by p xs
-counted f p xs rows h = length_permutation _ _ h ∙ length-map (filter p xs) f ∙ length-filter p xs
+pub as_many : {A : Type 0} (f : A → Row) (p : A → Bool) (xs : List A) (rows : List Row) → IsPermutation rows (map f (filter p xs)) → length rows ≡ count_by p xs
+as_many f p xs rows h = sym (length_permutation _ _ h) ∙ length-map (filter p xs) f ∙ length-filter p xs
 
 pub again : {asked shown rows : List Row} → IsPermutation asked shown → IsPermutation asked rows → IsPermutation shown rows
 again one two = IsPermutation-trans _ _ _ (IsPermutation-sym _ _ one) two
@@ -40,20 +42,20 @@ module _ (world : World) (lawful : IsLawful desk_seats world) where
 
   -- ---- loads
 
-  pub counts_loads_on : (key : VehicleKey) (values : Row) → values ≡ vehicle_key key → (rows : List Row) → IsPermutation (rows_asked by.VehicleLoads values lists) rows → length rows ≡ loads_on world key
+  pub counts_loads_on : (key : VehicleKey) (values : Row) → values ≡ vehicle_key key → length (rows_counted counted.VehicleLoads values lists) ≡ loads_on world key
   unfolding loads_on
-  counts_loads_on key values is rows shown =
-      counted (λ (load : List ℕ × Place). load_columns load.0 load.1) (λ load. is_on key load.1) (finite.entries world.places) rows
-      (again ((shown_asked lists (rows_of world) its_own).loads_on key) (subst (λ v. IsPermutation (rows_asked by.VehicleLoads v lists) rows) is shown))
+  counts_loads_on key values is =
+      ap (λ v. length (rows_counted counted.VehicleLoads v lists)) is
+      ∙ as_many (λ (load : List ℕ × Place). load_columns load.0 load.1) (λ load. is_on key load.1) (finite.entries world.places) _ ((shown_asked lists (rows_of world) its_own).loads_on key)
 
   pub shows_loads_at : (station : List ℕ) (values : Row) → values ≡ name_key station → (rows : List Row) → IsPermutation (rows_asked by.StationLoads values lists) rows
       → IsPermutation (loads_shown (filter (λ (load : List ℕ × Place). is_at station load.1) (finite.entries world.places))) rows
   shows_loads_at station values is rows shown = again ((shown_asked lists (rows_of world) its_own).loads_at station) (subst (λ v. IsPermutation (rows_asked by.StationLoads v lists) rows) is shown)
 
-  pub counts_loads_at : (station : List ℕ) (values : Row) → values ≡ name_key station → (rows : List Row) → IsPermutation (rows_asked by.StationLoads values lists) rows → length rows ≡ length (loads_at world station)
+  pub counts_loads_at : (station : List ℕ) (values : Row) → values ≡ name_key station → length (rows_counted counted.StationLoads values lists) ≡ length (loads_at world station)
   unfolding loads_at
-  counts_loads_at station values is rows shown =
-      length_permutation _ _ (shows_loads_at station values is rows shown)
+  counts_loads_at station values is =
+      length_permutation _ _ (shows_loads_at station values is _ (IsPermutation-refl _))
       ∙ length-map (filter (λ (load : List ℕ × Place). is_at station load.1) (finite.entries world.places)) (λ (load : List ℕ × Place). load_columns load.0 load.1)
       ∙ sym (length-map (filter (λ (load : List ℕ × Place). is_at station load.1) (finite.entries world.places)) (λ (load : List ℕ × Place). load.0))
 

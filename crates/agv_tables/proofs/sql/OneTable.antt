@@ -14,12 +14,15 @@ use Rattle.sqlite_ast.specs.declared.Statement.TheVariants as written
 use Rattle.sqlite_ast.specs.Layer.{Layer, ShownLayer}
 use Rattle.sqlite_syntax.specs.declared.statement.Parsed.{Parsed}
 use Rattle.sqlite_value.specs.declared.keys.Collation.TheVariants.{Binary}
-use Rattle.sqlite_value.specs.declared.value.Value.TheVariants.{Int}
+use Rattle.sqlite_value.specs.declared.value.Value.TheVariants.{Null, Int}
+use Rattle.sqlite_sql.specs.declared.aggregate.AggregateOp.TheVariants.{CountRows}
 use Rattle.sqlite_sql.specs.Term.{Term, lit, col, op2}
 use Rattle.sqlite_sql.specs.declared.ops.BinaryOp.TheVariants.{Compare}
 use Rattle.sqlite_sql.specs.declared.ops.CompareOp.TheVariants.{Eq}
 use Rattle.sqlite_sql.specs.Query.{Query, inner, end}
 use Rattle.sqlite_draft.specs.declared.query.Draft.{Draft}
+use Rattle.sqlite_draft.specs.declared.query.Grouping.{Grouping}
+use Rattle.sqlite_draft.specs.Query.{query_of}
 use Rattle.sqlite_typing.specs.Types.{accepts_after, is_count, row_classes}
 use Rattle.sqlite_schema.specs.declared.command.Command.{Command}
 use Rattle.sqlite_schema.specs.declared.schema.Table.{Table}
@@ -66,10 +69,11 @@ reads_only_at t inside (Expr-F.Parameter n) = true
 reads_only_at t inside (Expr-F.Integer digits) = true
 reads_only_at t inside (Expr-F.Text text) = true
 reads_only_at t inside Expr-F.Null = true
+reads_only_at t inside (Expr-F.CallStar name) = true
 reads_only_at t inside (Expr-F.Binary op a b) = not (is_identity op) && (inside a && inside b)
 reads_only_at t inside _ = false
 
--- columns of the table, parameters and literals, joined by operators
+-- columns of the table, parameters, literals and counts of rows, joined by operators
 abbrev pub reads_only : Table → ℕ → Expr → Bool
 reads_only t zero e = true
 reads_only t (suc depth) e = reads_only_at t (reads_only t depth) (out-Expr e)
@@ -165,8 +169,23 @@ query_by tree terms project = record { from = inner tree end; filter = terms; gr
 abbrev pub no_limit : Term × Term
 no_limit = (lit (Int (negsuc 0)), lit (Int (pos 0)))
 
+-- it shows these terms of each row that passes, or of the groups of these rows
+abbrev pub draft_in : Option Grouping → ℕ → List Term → List Term → Draft
+draft_in group tree terms project = record { from = inner tree end; filter = terms; group = group; project = project; distinct = false; collations = []; order = []; limit = no_limit.0; offset = no_limit.1 }
+
+abbrev pub query_in : Option Grouping → ℕ → List Term → List Term → Query
+query_in group tree terms project = query_of (draft_in group tree terms project)
+
 abbrev pub draft_by : ℕ → List Term → List Term → Draft
-draft_by tree terms project = record { from = inner tree end; filter = terms; group = None; project = project; distinct = false; collations = []; order = []; limit = no_limit.0; offset = no_limit.1 }
+draft_by = draft_in None
+
+-- all rows that pass are one group, which is counted
+abbrev pub counting : Grouping
+counting = record { keys = []; collations = []; aggregates = record { op = CountRows; distinct = false; collation = Binary; argument = lit Null } ∷ []; having = [] }
+
+-- how many they are, the one value that is shown of that group
+abbrev pub their_count : List Term
+their_count = col 1 0 ∷ []
 
 -- its types are accepted over the table
 abbrev pub is_typed : Table → Query → Bool

@@ -16,6 +16,7 @@ use Rattle.sqlite_schema.specs.declared.schema.Schema.{Schema}
 use Rattle.sqlite_schema.specs.Names.{table_named}
 use Rattle.sqlite_schema.specs.declared.command.Command.TheVariants as make
 use Rattle.sqlite_draft.specs.declared.join.Step.TheVariants.{Inner}
+use Rattle.sqlite_draft.specs.declared.query.Grouping.{Grouping}
 use Rattle.sqlite_resolve.specs.declared.body.Joined.{Joined}
 use Rattle.sqlite_resolve.specs.declared.body.Body.{Body}
 use Rattle.sqlite_resolve.specs.declared.select.Clauses.{Clauses}
@@ -31,7 +32,7 @@ use Rattle.sqlite_resolve.specs.Body.{table_in, bound, bounds, shared, tests, sh
 use Rattle.sqlite_resolve.specs.Select.{outermost, having, parts, assembled, named, paging, constant_or}
 use Rattle.sqlite_resolve.specs.Program.{Shown as Made, Building, source, sources, viewing, single, alone, whole, with, level, query_to, query}
 use Rattle.sqlite_resolve.specs.Compile.{first, timed, returning, command, read}
-use Rattle.agv_tables.proofs.sql.OneTable.{IsIn, Means, sole, deepest, test_reads_only, shown_reads_only_at, shown_read_only, is_typed, query_by, draft_by, no_limit, bound_at, scope_of, IsPlainFrom, IsAlone}
+use Rattle.agv_tables.proofs.sql.OneTable.{IsIn, Means, sole, deepest, test_reads_only, shown_reads_only_at, shown_read_only, is_typed, query_by, query_in, draft_by, draft_in, no_limit, bound_at, scope_of, IsPlainFrom, IsAlone}
 use Rattle.agv_tables.proofs.sql.OneTableTerms.{NamesRowid, around, rowid_term, rowid_heading, rowid_lowered, rowid_headed, lower_same, heading_same}
 use Rattle.agv_tables.proofs.sql.OneTableWrites.{means, program_is}
 
@@ -226,13 +227,20 @@ module _ (s : Schema) (name : Name) (sel : Select) (one : IsAlone sel) (plain : 
 
 module _ (s : Schema) (name : Name) (t : Table) (at : ℕ) (stands : IsIn s name t at) (sql : List ℕ) (p : Parsed) (parses : first sql ≡ Ok p) (untimed : p.formats ≡ [])
     (sel : Select) (is : p.statement ≡ written.Select sel) (one : IsAlone sel) (plain : IsPlainFrom (out-Select sel).first name) where
+  pub select_means_in : (group : Option Grouping) (terms project : List Term) (names : List Name) (collations : List (Option Collation))
+      → shown_read_only t (out-Core (out-Select sel).first).shown ≡ true → test_reads_only t (out-Core (out-Select sel).first).filter ≡ true
+      → table_named (sole t) name ≡ Some 0 → named (sole t) (out-Select sel).first [] no_limit ≡ Ok (draft_in group t.tree terms project, names, collations)
+      → is_typed t (query_in group t.tree terms project) ≡ true → Means s sql (make.Select (record { lets = []; body = query_in group t.tree terms project }) names)
+  unfolding command returning timed read
+  select_means_in group terms project names collations shown_so tested_so own found typed =
+      let built = named_same t name (out-Select sel).first plain shown_so tested_so s (sole t) at 0 stands.named own stands.there refl ∙ found in
+      let asks = query_is s name sel one plain _ built in
+      let runs = program_is s name t at stands (draft_in group t.tree terms project) refl typed in
+      means s sql p _ parses (rw (is, untimed)) (rw is) (rw (is, asks, runs))
+
+  -- with nothing grouped
   pub select_means : (terms project : List Term) (names : List Name) (collations : List (Option Collation))
       → shown_read_only t (out-Core (out-Select sel).first).shown ≡ true → test_reads_only t (out-Core (out-Select sel).first).filter ≡ true
       → table_named (sole t) name ≡ Some 0 → named (sole t) (out-Select sel).first [] no_limit ≡ Ok (draft_by t.tree terms project, names, collations)
       → is_typed t (query_by t.tree terms project) ≡ true → Means s sql (make.Select (record { lets = []; body = query_by t.tree terms project }) names)
-  unfolding command returning timed read
-  select_means terms project names collations shown_so tested_so own found typed =
-      let built = named_same t name (out-Select sel).first plain shown_so tested_so s (sole t) at 0 stands.named own stands.there refl ∙ found in
-      let asks = query_is s name sel one plain _ built in
-      let runs = program_is s name t at stands (draft_by t.tree terms project) refl typed in
-      means s sql p _ parses (rw (is, untimed)) (rw is) (rw (is, asks, runs))
+  select_means = select_means_in None

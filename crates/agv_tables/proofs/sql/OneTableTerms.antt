@@ -20,7 +20,7 @@ use Rattle.sqlite_resolve.specs.Scope.{Name, Context, column, find, term_of, in_
 use Rattle.sqlite_resolve.specs.declared.state.Carried.{Carried}
 use Rattle.sqlite_resolve.specs.declared.error.CompileError.TheVariants.{NoSuchColumn}
 use Rattle.sqlite_resolve.specs.Compare.{of_column, affinity_of, compared}
-use Rattle.sqlite_resolve.specs.Expr.{is_identity, lower_to, node, node_at, opened, passes, operation, both, combine, applied, operator, wanted_truth, tests_truth, tests_alias}
+use Rattle.sqlite_resolve.specs.Expr.{is_identity, lower_to, node, node_at, opened, passes, operation, both, combine, applied, operator, star, wanted_truth, tests_truth, tests_alias}
 use Rattle.sqlite_resolve.specs.Body.{heading, heading_at, found_name, declared as declared_name}
 use Rattle.agv_tables.proofs.sql.OneTable.{is_bare, is_shown_by, reads_only_at, reads_only, scope_of}
 
@@ -141,6 +141,10 @@ module _ (t : Table) (s s' : Schema) (at at' : ℕ) (there : slice_get s.tables 
 
   -- ---- expressions
 
+  star_same : (c : Name) → star here c ≡ star elsewhere c
+  unfolding star
+  star_same c = refl
+
   layer_same : (d : ℕ) → ((e : Expr) → reads_only t d e ≡ true → lower_to d here e ≡ lower_to d elsewhere e) → (x : Layer) → reads_only_at t (reads_only t d) x ≡ true → node_at (lower_to d) here x ≡ node_at (lower_to d) elsewhere x
   layer_same d same (Expr-F.Column None c) h = column_same c h
   layer_same d same (Expr-F.Column (Some qualifier) c) h = absurd (cc)
@@ -148,6 +152,7 @@ module _ (t : Table) (s s' : Schema) (at at' : ℕ) (there : slice_get s.tables 
   layer_same d same (Expr-F.Integer digits) h = refl
   layer_same d same (Expr-F.Text text) h = refl
   layer_same d same Expr-F.Null h = refl
+  layer_same d same (Expr-F.CallStar c) h = star_same c
   layer_same d same (Expr-F.Binary op a b) h =
       let outer = and_parts _ _ h in
       let sides = and_parts _ _ outer.1 in
@@ -194,6 +199,7 @@ module _ (t : Table) (s s' : Schema) (at at' : ℕ) (there : slice_get s.tables 
   heading_layer_same d text (Expr-F.Integer digits) h = refl
   heading_layer_same d text (Expr-F.Text word) h = refl
   heading_layer_same d text Expr-F.Null h = refl
+  heading_layer_same d text (Expr-F.CallStar c) h = refl
   heading_layer_same d text (Expr-F.Binary op a b) h = refl
   heading_layer_same d text _ h = absurd (cc)
 

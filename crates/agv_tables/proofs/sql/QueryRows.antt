@@ -8,7 +8,7 @@ use Rattle.sqlite_value.specs.Order.{Row, column}
 use Rattle.sqlite_trees.specs.Tree.{Trees}
 use Rattle.sqlite_sql.specs.Term.{Term, lit, col, op1, op2, case, eval, eval_all, holds}
 use Rattle.sqlite_sql.specs.Ops.{unary, binary, is_true}
-use Rattle.sqlite_sql.specs.Query.{IsAnswer, Output, output}
+use Rattle.sqlite_sql.specs.Query.{IsAnswer, Output, end, inner, matches, output}
 use Rattle.sqlite_sql.specs.Program.{overlay}
 use Rattle.agv_tables.specs.rows.DeskRows.{first_columns, columns_in}
 use Rattle.agv_tables.proofs.sql.OneTable.{query_by}
@@ -42,11 +42,15 @@ three_maps : {A B C D : Type 0} (h : C → D) (g : B → C) (f : A → B) (xs : 
 three_maps h g f [] = refl
 three_maps h g f (x ∷ xs) = ap (λ ys. h (g (f x)) ∷ ys) (three_maps h g f xs)
 
+-- the rows of a table that pass
+pub passing : (tree : ℕ) (terms : List Term) (db : Trees) (params : Row) → matches (overlay db []) terms (inner tree end) (params ∷ []) ≡ map (λ e. params ∷ e ∷ []) (filter (entry_passes terms params) (db tree))
+passing tree terms db params = matched terms params (overlay db [] tree) ∙ ap (λ es. map (λ e. params ∷ e ∷ []) (filter (entry_passes terms params) es)) (tree_alone db tree)
+
 pub answered_by : (tree : ℕ) (terms project : List Term) (db : Trees) (params : Row) (rows : List Row) → IsAnswer (query_by tree terms project) (overlay db []) params rows
     → IsPermutation (map (λ e. eval_all project (params ∷ e ∷ [])) (filter (entry_passes terms params) (db tree))) rows
 answered_by tree terms project db params rows a =
     let q = query_by tree terms project in
-    let staged : a.staged ≡ map (λ e. params ∷ e ∷ []) (filter (entry_passes terms params) (db tree)) = a.grouped ∙ matched terms params (overlay db [] tree) ∙ ap (λ es. map (λ e. params ∷ e ∷ []) (filter (entry_passes terms params) es)) (tree_alone db tree) in
+    let staged : a.staged ≡ map (λ e. params ∷ e ∷ []) (filter (entry_passes terms params) (db tree)) = a.grouped ∙ passing tree terms db params in
     let kept = a.distinct ∙ ap (map (output q)) staged in
     let all = three_maps (λ (o : Output). o.1) (output q) (λ (e : Row). params ∷ e ∷ []) (filter (entry_passes terms params) (db tree)) in
     subst (λ xs. IsPermutation xs rows) (ap (map (λ (o : Output). o.1)) kept ∙ all) (subst (IsPermutation (map (λ (o : Output). o.1) a.kept)) (sym a.shown) (IsPermutation-map (λ (o : Output). o.1) _ _ a.same))

@@ -1,9 +1,12 @@
 -- Why a look-up fails, where its error is a fault of the store.
-use Rattle.std.proofs.Common.{◌≡◌, ◌≤◌, ◌&&◌, ◌∙◌, inl, inr, ℕ, zero, suc, pos, slice_get, true, List, [], ◌∷◌, length, Some, Ok, Err, Result, IfErr, option_and_then, Vec, Global, refl, sym, ap, subst, append-nil, lit≤}
+use Rattle.std.proofs.Common.{◌≡◌, ◌≤◌, ◌&&◌, ◌∙◌, inl, inr, ℕ, zero, suc, pos, slice_get, true, List, [], ◌∷◌, length, Option, None, Some, Ok, Err, Result, IfErr, option_map, option_and_then, Vec, Global, refl, sym, ap, subst, append-nil, lit≤}
 use Rattle.sqlite_value.specs.Order.{Row, column}
 use Rattle.sqlite_value.specs.declared.value.Value.{Value}
 use Rattle.sqlite_value.specs.declared.value.Value.TheVariants.{Null, Int, Real, Text, Blob}
-use Rattle.sqlite_sql.specs.Term.{Term}
+use Rattle.sqlite_draft.specs.declared.query.Grouping.{Grouping}
+use Rattle.sqlite_draft.specs.Query.{grouping_of}
+use Rattle.sqlite_sql.specs.Group.{Overflows}
+use Rattle.sqlite_sql.specs.Term.{Env, Term}
 use Rattle.sqlite_value.specs.declared.keys.Collation.TheVariants.{Binary}
 use Rattle.sqlite_sql.specs.declared.ops.BinaryOp.TheVariants.{Compare}
 use Rattle.sqlite_sql.specs.declared.ops.CompareOp.TheVariants.{Eq}
@@ -22,7 +25,7 @@ use Rattle.agv_tables.specs.rows.DeskRows.{table_for, Placing, IsDesk, StandApar
 use Rattle.agv_tables.specs.sql.Errors.{IsOfStore}
 use Rattle.agv_tables.specs.declared.schema.table_name.TableName.{TableName}
 use Rattle.agv_tables.specs.declared.schema.table_name.TableName.TheVariants as the
-use Rattle.agv_tables.proofs.sql.OneTable.{Means, parsed, query_by, compiled_as}
+use Rattle.agv_tables.proofs.sql.OneTable.{Means, parsed, query_in, compiled_as}
 use Rattle.agv_tables.proofs.schema.DeskPlaces.{is_in_alone, one_stands}
 use Rattle.agv_tables.proofs.sql.Failing.{IsCaused, IsWhole, caused, is_statement}
 use Rattle.agv_tables.specs.statements.RowTexts.{look_up_text, table_looked_up}
@@ -31,25 +34,25 @@ use Rattle.agv_tables.specs.declared.rows.row_of.RowOf.{RowOf}
 use Rattle.agv_tables.specs.declared.rows.row_of.RowOf.TheVariants as keyed
 use Rattle.agv_tables.specs.declared.rows.rows_by.RowsBy.{RowsBy}
 use Rattle.agv_tables.specs.declared.rows.rows_by.RowsBy.TheVariants as by
-use Rattle.agv_tables.proofs.statements.QueryMeanings.{AsksFor, query_terms, query_asks, all_rows_asked}
+use Rattle.agv_tables.proofs.statements.QueryMeanings.{AsksFor, AsksIn, query_terms, query_asks, all_rows_asked}
 use Rattle.agv_tables.proofs.statements.RowMeanings.{key_terms, looks_up, column_terms, column_names}
 
 -- ---- types
 
-fits_at : (columns : List Column) (row : Row) → fits columns row ≡ true → (k : ℕ) (c : Column) → slice_get columns k ≡ Some c → is_of_kind c.kind (column row k) ≡ true
+pub fits_at : (columns : List Column) (row : Row) → fits columns row ≡ true → (k : ℕ) (c : Column) → slice_get columns k ≡ Some c → is_of_kind c.kind (column row k) ≡ true
 fits_at [] row h k c there = absurd (cc)
 fits_at (x ∷ columns) [] h k c there = absurd (cc)
 fits_at (x ∷ columns) (v ∷ row) h zero c there = let same : x ≡ c = cc in subst (λ (y : Column). is_of_kind y.kind v ≡ true) same (and_parts _ _ h).0
 fits_at (x ∷ columns) (v ∷ row) h (suc k) c there = fits_at columns row (and_parts _ _ h).1 k c there
 
-fits_length : (columns : List Column) (row : Row) → fits columns row ≡ true → length row ≡ length columns
+pub fits_length : (columns : List Column) (row : Row) → fits columns row ≡ true → length row ≡ length columns
 fits_length [] [] h = refl
 fits_length [] (v ∷ row) h = absurd (cc)
 fits_length (x ∷ columns) [] h = absurd (cc)
 fits_length (x ∷ columns) (v ∷ row) h = ap suc (fits_length columns row (and_parts _ _ h).1)
 
 -- SQL compares a column of texts with a text or NULL, and one of whole numbers with a whole number or NULL
-text_compares : (v : Value) → is_of_kind kind.Text v ≡ true → option_and_then (binary_class (Compare Eq Binary) (column_class kind.Text)) (class_of v) ≡ option_and_then (binary_class (Compare Eq Binary) (column_class kind.Text)) (class_of (Text []))
+pub text_compares : (v : Value) → is_of_kind kind.Text v ≡ true → option_and_then (binary_class (Compare Eq Binary) (column_class kind.Text)) (class_of v) ≡ option_and_then (binary_class (Compare Eq Binary) (column_class kind.Text)) (class_of (Text []))
 text_compares Null h = refl
 text_compares (Int n) h = absurd (cc)
 text_compares (Real x) h = absurd (cc)
@@ -64,8 +67,12 @@ number_compares (Text t) h = absurd (cc)
 number_compares (Blob b) h = absurd (cc)
 
 -- the tests of the query, and what it shows, are of types that SQL takes
+abbrev pub IsTypedIn : Option Grouping → TableName → List Term → List Term → Row → Type 0
+IsTypedIn group name terms project params =
+    (accepts_after params (query_in group 0 terms project) (Some (row_classes (table_for name) ∷ [])) && (is_count params (query_in None 0 [] []).limit && is_count params (query_in None 0 [] []).offset)) ≡ true
+
 abbrev pub IsTypedTo : TableName → List Term → List Term → Row → Type 0
-IsTypedTo name terms project params = (accepts_after params (query_by 0 terms project) (Some (row_classes (table_for name) ∷ [])) && (is_count params (query_by 0 [] []).limit && is_count params (query_by 0 [] []).offset)) ≡ true
+IsTypedTo = IsTypedIn None
 
 abbrev pub IsTypedFor : TableName → List Term → Row → Type 0
 IsTypedFor name terms params = IsTypedTo name terms (column_terms name) params
@@ -134,17 +141,9 @@ query_typed by.OrderLegs params h =
 query_typed by.StationLoads params h =
     let k0 : is_of_kind kind.Text (column params 0) ≡ true = fits_at (columns_at the.Load (columns_asked by.StationLoads)) params h 0 _ refl in
     rw (text_compares (column params 0) k0)
-query_typed by.VehicleLoads params h =
-    let k0 : is_of_kind kind.Text (column params 0) ≡ true = fits_at (columns_at the.Load (columns_asked by.VehicleLoads)) params h 0 _ refl in
-    let k1 : is_of_kind kind.Text (column params 1) ≡ true = fits_at (columns_at the.Load (columns_asked by.VehicleLoads)) params h 1 _ refl in
-    rw (text_compares (column params 0) k0, text_compares (column params 1) k1)
 query_typed by.LoadJobs params h =
     let k0 : is_of_kind kind.Text (column params 0) ≡ true = fits_at (columns_at the.Job (columns_asked by.LoadJobs)) params h 0 _ refl in
     let k1 : is_of_kind kind.Text (column params 1) ≡ true = fits_at (columns_at the.Job (columns_asked by.LoadJobs)) params h 1 _ refl in
-    rw (text_compares (column params 0) k0, text_compares (column params 1) k1)
-query_typed by.TargetJobs params h =
-    let k0 : is_of_kind kind.Text (column params 0) ≡ true = fits_at (columns_at the.Job (columns_asked by.TargetJobs)) params h 0 _ refl in
-    let k1 : is_of_kind kind.Text (column params 1) ≡ true = fits_at (columns_at the.Job (columns_asked by.TargetJobs)) params h 1 _ refl in
     rw (text_compares (column params 0) k0, text_compares (column params 1) k1)
 
 all_typed : (name : TableName) → IsTypedFor name [] []
@@ -169,33 +168,44 @@ all_typed the.Act = refl
 abbrev pub IsWholeText : List ℕ → ℕ → Type 0
 IsWholeText sql n = (length sql ≤ (parsed sql).tail) × (length (parsed sql).names ≡ n)
 
-module _ (name : TableName) (terms project : List Term) (names : List (List ℕ)) (sql : List ℕ) (asks : AsksFor name sql terms project names) (params : Row) (whole : IsWholeText sql (length params))
-    (typed : IsTypedTo name terms project params) (old new : State) (e : Error) (desk : Placing) (stand : StandApart desk (name ∷ [])) (has : old.now.schema ≡ desk.schema) where
-  abbrev means : Means desk.schema sql (Select (record { lets = []; body = query_by (desk.tree name) terms project }) names)
+-- no sum of a group is too large
+abbrev pub NeverOverflows : Option Grouping → Type 0
+NeverOverflows group = (all : List Env) → ¬ Overflows (option_map grouping_of group) all
+
+module _ (group : Option Grouping) (fit : NeverOverflows group) (name : TableName) (terms project : List Term) (names : List (List ℕ)) (sql : List ℕ) (asks : AsksIn group name sql terms project names)
+    (params : Row) (whole : IsWholeText sql (length params)) (typed : IsTypedIn group name terms project params)
+    (old new : State) (e : Error) (desk : Placing) (stand : StandApart desk (name ∷ [])) (has : old.now.schema ≡ desk.schema) where
+  abbrev means : Means desk.schema sql (Select (record { lets = []; body = query_in group (desk.tree name) terms project }) names)
   means = asks desk.schema stand.stands.0.at (desk.tree name) (is_in_alone desk name stand.stands.0 stand.apart)
 
-  accepted : accepts_program desk.schema [] (query_by (desk.tree name) terms project) params ≡ true
+  accepted : accepts_program desk.schema [] (query_in group (desk.tree name) terms project) params ≡ true
   accepted = let here = is_in_alone desk name stand.stands.0 stand.apart in rw (here.low, here.by_tree, typed)
 
-  refused : (db : Database) → db.schema ≡ desk.schema → RefusesToRead old.step_limit (Select (record { lets = []; body = query_by (desk.tree name) terms project }) names) db params e → IsCaused old new
-  refused db schema (inl untyped) = absurd (let wrong = sym (ap (λ s. accepts_program s [] (query_by (desk.tree name) terms project) params) schema ∙ accepted) ∙ untyped.1 in cc)
-  refused db schema (inr (inl over)) = absurd (elim over.1 [ inl sum ↦ sum | inr row ↦ row.4 ])
+  refused : (db : Database) → db.schema ≡ desk.schema → RefusesToRead old.step_limit (Select (record { lets = []; body = query_in group (desk.tree name) terms project }) names) db params e → IsCaused old new
+  refused db schema (inl untyped) = absurd (let wrong = sym (ap (λ s. accepts_program s [] (query_in group (desk.tree name) terms project) params) schema ∙ accepted) ∙ untyped.1 in cc)
+  refused db schema (inr (inl over)) = absurd (elim over.1 [ inl sum ↦ fit _ sum | inr row ↦ row.4 ])
   refused db schema (inr (inr stopped)) = inr (inr stopped.1)
 
   -- a look-up that fails as the store does
-  pub read_caused : IsOfStore e → FailsToQuery sql params old new e → IsCaused old new
+  pub read_caused_in : IsOfStore e → FailsToQuery sql params old new e → IsCaused old new
   unfolding FailsToQuery IsNotRun
-  read_caused stored (inl (inl unread)) =
+  read_caused_in stored (inl (inl unread)) =
       let known : understood old.now.schema sql ≡ Ok (compiled_as (parsed sql) _) = ap (λ s. understood s sql) has ∙ means.known in
       absurd (is_statement old sql params e (subst (IsWhole sql (length params)) (sym known) (whole.0, whole.1, refl)) unread.0)
-  read_caused stored (inl (inr fails)) = caused old new e stored fails
-  read_caused stored (inr it) =
+  read_caused_in stored (inl (inr fails)) = caused old new e stored fails
+  read_caused_in stored (inr it) =
       let known = sym it.1.is ∙ ap (λ s. understood s sql) has in
       let bare = subst IsPlain (sym known) means.plain in
       let shows = rw (bare.0, bare.1, append-nil params) at it.2 in
       let db : shows.0 ≡ old.now = subst (λ b. IsSourceOf b old.now shows.0) (ap (λ s. reads_listing s sql) has ∙ means.own) shows.1 in
       let schema : shows.0.schema ≡ desk.schema = ap (λ (d : Database). d.schema) db ∙ has in
       refused shows.0 schema (subst (λ k. RefusesToRead old.step_limit k shows.0 params e) (ap command_of known ∙ means.is) shows.2)
+
+-- the same with nothing grouped
+pub read_caused : (name : TableName) (terms project : List Term) (names : List (List ℕ)) (sql : List ℕ) → AsksFor name sql terms project names → (params : Row) → IsWholeText sql (length params)
+    → IsTypedTo name terms project params → (old new : State) (e : Error) (desk : Placing) → StandApart desk (name ∷ []) → old.now.schema ≡ desk.schema
+    → IsOfStore e → FailsToQuery sql params old new e → IsCaused old new
+read_caused = read_caused_in None (λ all none. none)
 
 -- ---- the texts are one statement each
 
@@ -217,9 +227,7 @@ query_whole by.VehicleJourney = (lit≤ tt, refl)
 query_whole by.OrderActs = (lit≤ tt, refl)
 query_whole by.OrderLegs = (lit≤ tt, refl)
 query_whole by.StationLoads = (lit≤ tt, refl)
-query_whole by.VehicleLoads = (lit≤ tt, refl)
 query_whole by.LoadJobs = (lit≤ tt, refl)
-query_whole by.TargetJobs = (lit≤ tt, refl)
 
 all_whole : (name : TableName) → IsWholeText (all_rows_text name) 0
 unfolding everything
@@ -240,7 +248,7 @@ all_whole the.Act = (lit≤ tt, refl)
 
 -- ---- the look-ups
 
-on_err_all : {X : Type 0} {P Q : Error → Type 0} (r : Result X Error) → ((e : Error) → P e → Q e) → IfErr r P → IfErr r Q
+pub on_err_all : {X : Type 0} {P Q : Error → Type 0} (r : Result X Error) → ((e : Error) → P e → Q e) → IfErr r P → IfErr r Q
 on_err_all (Ok x) f h = tt
 on_err_all (Err e) f h = f e h
 

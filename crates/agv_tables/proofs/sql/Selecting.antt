@@ -124,9 +124,7 @@ queries by.VehicleJourney = tt
 queries by.OrderActs = tt
 queries by.OrderLegs = tt
 queries by.StationLoads = tt
-queries by.VehicleLoads = tt
 queries by.LoadJobs = tt
-queries by.TargetJobs = tt
 
 whole_tables : (name : TableName) → IsSelectText (all_rows_text name)
 unfolding everything

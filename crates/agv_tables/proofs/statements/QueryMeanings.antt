@@ -1,10 +1,11 @@
 -- What the texts that ask for rows mean, wherever the desk's tables stand.
-use Rattle.std.proofs.Common.{◌≡◌, ℕ, true, List, [], ◌∷◌, codes, refl}
+use Rattle.std.proofs.Common.{◌≡◌, ℕ, true, List, [], ◌∷◌, Option, None, codes, refl}
 use Rattle.std.specs.List.{list_all}
 use Rattle.sqlite_ast.specs.declared.Core.{out-Core}
 use Rattle.sqlite_ast.specs.declared.Select.{out-Select}
 use Rattle.sqlite_value.specs.Order.{Row}
 use Rattle.sqlite_sql.specs.Term.{Term}
+use Rattle.sqlite_draft.specs.declared.query.Grouping.{Grouping}
 use Rattle.sqlite_schema.specs.declared.schema.Schema.{Schema}
 use Rattle.sqlite_schema.specs.declared.command.Command.TheVariants.{Select}
 use Rattle.sqlite_tied.specs.Compute.{everything}
@@ -14,14 +15,18 @@ use Rattle.agv_tables.specs.declared.rows.rows_by.RowsBy.{RowsBy}
 use Rattle.agv_tables.specs.declared.rows.rows_by.RowsBy.TheVariants as by
 use Rattle.agv_tables.specs.declared.schema.table_name.TableName.{TableName}
 use Rattle.agv_tables.specs.declared.schema.table_name.TableName.TheVariants as the
-use Rattle.agv_tables.proofs.sql.OneTable.{IsIn, Means, parsed, selection, head_of, is_param, query_by}
+use Rattle.agv_tables.proofs.sql.OneTable.{IsIn, Means, parsed, selection, head_of, is_param, query_in}
 use Rattle.agv_tables.proofs.sql.OneTableReads.{select_means}
 use Rattle.agv_tables.proofs.sql.QueryRows.{passes, reads_within}
 use Rattle.agv_tables.proofs.statements.RowMeanings.{with_tree, column_terms, column_names, collations}
 
--- SQL takes the text for a query of the table that shows these terms, under these names, of the rows that pass these tests
+-- SQL takes the text for a query of the table that shows these terms, under these names, of the rows that pass these tests, or of the groups of these rows
+abbrev pub AsksIn : Option Grouping → TableName → List ℕ → List Term → List Term → List (List ℕ) → Type 0
+AsksIn group name sql terms project names = (s : Schema) (at tree : ℕ) → IsIn s (table_for name).name (with_tree name tree) at → Means s sql (Select (record { lets = []; body = query_in group tree terms project }) names)
+
+-- of the rows themselves
 abbrev pub AsksFor : TableName → List ℕ → List Term → List Term → List (List ℕ) → Type 0
-AsksFor name sql terms project names = (s : Schema) (at tree : ℕ) → IsIn s (table_for name).name (with_tree name tree) at → Means s sql (Select (record { lets = []; body = query_by tree terms project }) names)
+AsksFor = AsksIn None
 
 -- the same that shows all columns
 abbrev pub Asks : TableName → List ℕ → List Term → Type 0
@@ -33,27 +38,21 @@ query_terms by.VehicleJourney = is_param 2 0 ∷ is_param 3 1 ∷ []
 query_terms by.OrderActs = is_param 1 0 ∷ []
 query_terms by.OrderLegs = is_param 1 0 ∷ []
 query_terms by.StationLoads = is_param 3 0 ∷ []
-query_terms by.VehicleLoads = is_param 4 0 ∷ is_param 5 1 ∷ []
 query_terms by.LoadJobs = is_param 2 0 ∷ is_param 5 1 ∷ []
-query_terms by.TargetJobs = is_param 4 0 ∷ is_param 5 1 ∷ []
 
 pub query_passes : (query : RowsBy) (values : Row) → passes (query_terms query) values ≡ equal_from 0 (columns_asked query) values
 query_passes by.VehicleJourney values = refl
 query_passes by.OrderActs values = refl
 query_passes by.OrderLegs values = refl
 query_passes by.StationLoads values = refl
-query_passes by.VehicleLoads values = refl
 query_passes by.LoadJobs values = refl
-query_passes by.TargetJobs values = refl
 
 pub query_within : (query : RowsBy) → list_all (reads_within (width_of (table_asked query))) (query_terms query) ≡ true
 query_within by.VehicleJourney = refl
 query_within by.OrderActs = refl
 query_within by.OrderLegs = refl
 query_within by.StationLoads = refl
-query_within by.VehicleLoads = refl
 query_within by.LoadJobs = refl
-query_within by.TargetJobs = refl
 
 pub query_asks : (query : RowsBy) → Asks (table_asked query) (query_text query) (query_terms query)
 unfolding everything
@@ -85,13 +84,6 @@ query_asks by.StationLoads s at tree stands =
     (record { with = refl; others = refl; order = refl; limit = refl; offset = refl })
     (record { source = head_of (out-Core (out-Select sel).first).from tt; from = refl; origin = refl; alias = refl; on = refl; using = refl; inner = refl; group = refl; having = refl; repeats = refl })
     (query_terms by.StationLoads) (column_terms the.Load) (column_names the.Load) (collations the.Load) refl refl refl refl refl
-query_asks by.VehicleLoads s at tree stands =
-    let p = parsed (query_text by.VehicleLoads) in
-    let sel = selection p.statement tt in
-    select_means s (codes "load") (with_tree the.Load tree) at stands (query_text by.VehicleLoads) p refl refl sel refl
-    (record { with = refl; others = refl; order = refl; limit = refl; offset = refl })
-    (record { source = head_of (out-Core (out-Select sel).first).from tt; from = refl; origin = refl; alias = refl; on = refl; using = refl; inner = refl; group = refl; having = refl; repeats = refl })
-    (query_terms by.VehicleLoads) (column_terms the.Load) (column_names the.Load) (collations the.Load) refl refl refl refl refl
 query_asks by.LoadJobs s at tree stands =
     let p = parsed (query_text by.LoadJobs) in
     let sel = selection p.statement tt in
@@ -99,13 +91,6 @@ query_asks by.LoadJobs s at tree stands =
     (record { with = refl; others = refl; order = refl; limit = refl; offset = refl })
     (record { source = head_of (out-Core (out-Select sel).first).from tt; from = refl; origin = refl; alias = refl; on = refl; using = refl; inner = refl; group = refl; having = refl; repeats = refl })
     (query_terms by.LoadJobs) (column_terms the.Job) (column_names the.Job) (collations the.Job) refl refl refl refl refl
-query_asks by.TargetJobs s at tree stands =
-    let p = parsed (query_text by.TargetJobs) in
-    let sel = selection p.statement tt in
-    select_means s (codes "job") (with_tree the.Job tree) at stands (query_text by.TargetJobs) p refl refl sel refl
-    (record { with = refl; others = refl; order = refl; limit = refl; offset = refl })
-    (record { source = head_of (out-Core (out-Select sel).first).from tt; from = refl; origin = refl; alias = refl; on = refl; using = refl; inner = refl; group = refl; having = refl; repeats = refl })
-    (query_terms by.TargetJobs) (column_terms the.Job) (column_names the.Job) (collations the.Job) refl refl refl refl refl
 
 pub all_rows_asked : (name : TableName) → Asks name (all_rows_text name) []
 unfolding everything

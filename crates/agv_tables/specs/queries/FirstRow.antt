@@ -1,6 +1,7 @@
--- What the rows of a key tell. No public clause cites this.
-use Rattle.std.specs.Prelude.{List, [], ◌∷◌, Option, None, Some, Result, Ok, Err}
-use Rattle.sqlite_value.specs.Order.{Row}
+-- What the rows of a key and of a count tell. No public clause cites this.
+use Rattle.std.specs.Prelude.{ℕ, List, [], ◌∷◌, Option, None, Some, Result, Ok, Err}
+use Rattle.sqlite_value.specs.Order.{Row, column}
+use Rattle.agv_tables.specs.rows.ValueEncodings.{number_in}
 use Rattle.agv_tables.specs.declared.queries.reading_fault.ReadingFault.{ReadingFault}
 use Rattle.agv_tables.specs.declared.queries.reading_fault.ReadingFault.TheVariants as fault
 
@@ -33,3 +34,13 @@ whole_of (Some a) = Ok (Some a)
 abbrev pub first_whole_in : {A : Type 0} → (Row → Option A) → List Row → Result (Option A) ReadingFault
 first_whole_in told [] = Ok None
 first_whole_in told (row ∷ rows) = whole_of (told row)
+
+-- the number that a column tells; one that tells none is damaged
+abbrev pub number_of : Option ℕ → Result ℕ ReadingFault
+number_of None = Err fault.Damaged
+number_of (Some n) = Ok n
+
+-- the number that the first of the rows tells; where there is no row, they are damaged
+abbrev pub first_number_in : List Row → Result ℕ ReadingFault
+first_number_in [] = Err fault.Damaged
+first_number_in (row ∷ rows) = number_of (number_in (column row 0))

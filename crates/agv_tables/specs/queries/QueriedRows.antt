@@ -1,4 +1,4 @@
--- What the look-ups by columns other than the key show, in lists that tell the rows of a world.
+-- What the look-ups and the counts by columns other than the key show, in lists that tell the rows of a world.
 use Rattle.std.specs.Prelude.{ℕ, ◌&&◌, nat_eq, Bool, List, [], ◌∷◌, filter, map, IsPermutation}
 use Rattle.std.specs.Cmp.Lexicographic.{pointwise}
 use Rattle.std.specs.FinMap as finite
@@ -18,9 +18,11 @@ use Rattle.agv_tables.specs.rows.ValueEncodings.{phase_name}
 use Rattle.agv_tables.specs.rows.Columns.{job_columns, leg_columns, load_columns, journey_columns}
 use Rattle.agv_tables.specs.rows.RowKeys.{name_key, vehicle_key}
 use Rattle.agv_tables.specs.rows.RowLists.{rows_of_acts}
+use Rattle.agv_tables.specs.statements.CountQueries.{rows_counted}
 use Rattle.agv_tables.specs.statements.RowQueries.{rows_asked}
 use Rattle.agv_tables.specs.rows.DecodedTrips.{is_driven_by}
 use Rattle.agv_tables.specs.declared.rows.rows_by.RowsBy.TheVariants as by
+use Rattle.agv_tables.specs.declared.rows.rows_counted.RowsCounted.TheVariants as counted
 
 -- ---- the entries that are asked for
 
@@ -41,20 +43,20 @@ journeys_shown journeys = map (λ (journey : List ℕ × JourneyRow). journey_co
 abbrev pub is_in_phase : Phase → JobRow → Bool
 is_in_phase phase job = pointwise nat_eq (phase_name job.phase) (phase_name phase)
 
--- the values of a look-up of jobs: a name and a phase
+-- the values by which jobs are asked for or counted: a name and a phase
 abbrev pub name_and_phase : List ℕ → Phase → Row
 name_and_phase name phase = Text name ∷ Text (phase_name phase) ∷ []
 
 -- ---- the answers
 
--- each look-up shows the rows of just those entries, in some order
+-- each look-up shows, and each count counts, the rows of just those entries, in some order
 pub record ShowAsked (lists : List (List Row)) (rows : Rows) : Type 0 where
   pub journey : (key : VehicleKey) → IsPermutation (rows_asked by.VehicleJourney (vehicle_key key) lists) (journeys_shown (filter (is_driven_by key) (finite.entries (journeys_of rows.trips))))
   pub acts : (order : List ℕ) → IsPermutation (rows_asked by.OrderActs (name_key order) lists) (rows_of_acts (filter (is_of order) (finite.entries (acts_of rows.trips))))
   pub legs : (order : List ℕ) → IsPermutation (rows_asked by.OrderLegs (name_key order) lists) (legs_shown (filter (is_of_order order) (finite.entries rows.legs)))
   pub loads_at : (station : List ℕ) → IsPermutation (rows_asked by.StationLoads (name_key station) lists) (loads_shown (filter (λ (load : List ℕ × Place). is_at station load.1) (finite.entries rows.loads)))
-  pub loads_on : (key : VehicleKey) → IsPermutation (rows_asked by.VehicleLoads (vehicle_key key) lists) (loads_shown (filter (λ (load : List ℕ × Place). is_on key load.1) (finite.entries rows.loads)))
+  pub loads_on : (key : VehicleKey) → IsPermutation (rows_counted counted.VehicleLoads (vehicle_key key) lists) (loads_shown (filter (λ (load : List ℕ × Place). is_on key load.1) (finite.entries rows.loads)))
   pub jobs_of : (load : List ℕ) (phase : Phase)
       → IsPermutation (rows_asked by.LoadJobs (name_and_phase load phase) lists) (jobs_shown (filter (λ (job : List ℕ × JobRow). pointwise nat_eq job.1.load load && is_in_phase phase job.1) (finite.entries rows.jobs)))
   pub jobs_to : (station : List ℕ) (phase : Phase)
-      → IsPermutation (rows_asked by.TargetJobs (name_and_phase station phase) lists) (jobs_shown (filter (λ (job : List ℕ × JobRow). pointwise nat_eq job.1.target station && is_in_phase phase job.1) (finite.entries rows.jobs)))
+      → IsPermutation (rows_counted counted.TargetJobs (name_and_phase station phase) lists) (jobs_shown (filter (λ (job : List ℕ × JobRow). pointwise nat_eq job.1.target station && is_in_phase phase job.1) (finite.entries rows.jobs)))

@@ -15,18 +15,14 @@ table_asked by.VehicleJourney = the.Journey
 table_asked by.OrderActs = the.Act
 table_asked by.OrderLegs = the.Leg
 table_asked by.StationLoads = the.Load
-table_asked by.VehicleLoads = the.Load
 table_asked by.LoadJobs = the.Job
-table_asked by.TargetJobs = the.Job
 
 abbrev pub columns_asked : RowsBy → List ℕ
 columns_asked by.VehicleJourney = 2 ∷ 3 ∷ []
 columns_asked by.OrderActs = 1 ∷ []
 columns_asked by.OrderLegs = 1 ∷ []
 columns_asked by.StationLoads = 3 ∷ []
-columns_asked by.VehicleLoads = 4 ∷ 5 ∷ []
 columns_asked by.LoadJobs = 2 ∷ 5 ∷ []
-columns_asked by.TargetJobs = 4 ∷ 5 ∷ []
 
 -- the columns of the row are equal to the values from a place on
 abbrev pub equal_from : ℕ → List ℕ → Row → Row → Bool
@@ -56,9 +52,7 @@ query_text by.VehicleJourney = codes "SELECT order_id, manufacturer, serial, sta
 query_text by.OrderActs = codes "SELECT order_id, n, job, kind, place_at, status FROM act WHERE order_id = ?1"
 query_text by.OrderLegs = codes "SELECT order_id, k, edge FROM leg WHERE order_id = ?1"
 query_text by.StationLoads = codes "SELECT id, kind, station, manufacturer, serial FROM load WHERE station = ?1"
-query_text by.VehicleLoads = codes "SELECT id, kind, station, manufacturer, serial FROM load WHERE manufacturer = ?1 AND serial = ?2"
 query_text by.LoadJobs = codes "SELECT id, load, origin, target, phase FROM job WHERE load = ?1 AND phase = ?2"
-query_text by.TargetJobs = codes "SELECT id, load, origin, target, phase FROM job WHERE target = ?1 AND phase = ?2"
 
 abbrev pub all_rows_text : TableName → List ℕ
 all_rows_text the.Meta = codes "SELECT id, schema FROM meta"

@@ -18,11 +18,12 @@ ghost use Rattle.agv_tables.specs.queries.WorldAnswers.{AgreesWith, AnswersQuery
 use crate::ReadingFault;
 use crate::queries::key_queries::query_station;
 use crate::queries::known_layout::known_station;
-use crate::queries::queried_rows::query_rows_by;
+use crate::queries::queried_rows::{query_count, query_rows_by};
 use crate::rows::decode_row::decode_job;
 use crate::rows::key_values::{name_key_values, vehicle_key_values};
 use crate::rows::row_values::name_value;
 use crate::rows::rows_by::RowsBy;
+use crate::rows::rows_counted::RowsCounted;
 use crate::rows::words::phase_text;
 use agv_header::{Name, VehicleKey};
 use agv_layout::Layout;
@@ -39,8 +40,7 @@ pub fn query_loads_on<S: Alter>(
 ) -> Result<usize, ReadingFault>
     ensures { AnswersQuery S.Store conn.old conn.new result (λ world count. count ≡ loads_on world key.now) }
 {
-    let rows = query_rows_by(conn, RowsBy::VehicleLoads, &vehicle_key_values(key))?;
-    Ok(rows.len())
+    query_count(conn, RowsCounted::VehicleLoads, &vehicle_key_values(key))
 }
 
 /// How many live jobs go to a station, each of which keeps a place there.
@@ -66,12 +66,11 @@ fn query_jobs_to<S: Alter>(
     ensures { AnswersQuery S.Store conn.old conn.new result (λ world count.
         count ≡ count_by (λ job. pointwise nat_eq job.1.target station.now && is_in_phase phase job.1) (map.entries world.jobs)) }
 {
-    let rows = query_rows_by(
+    query_count(
         conn,
-        RowsBy::TargetJobs,
+        RowsCounted::TargetJobs,
         &name_and_phase_values(station, phase),
-    )?;
-    Ok(rows.len())
+    )
 }
 
 /// The live job of a load; none where it is in none.
@@ -102,7 +101,7 @@ fn query_job_in<S: Alter>(
     job_name_in_rows(rows.as_slice())
 }
 
-// A name and a phase, by which jobs are asked for.
+// A name and a phase, by which jobs are asked for or counted.
 fn name_and_phase_values(name: &Name, phase: Phase) -> [ValueRef<'_>; 2]
     ensures { bound result ≡ name_and_phase name.now phase }
 {
@@ -167,6 +166,5 @@ fn query_load_count<S: Alter>(
 ) -> Result<usize, ReadingFault>
     ensures { AnswersQuery S.Store conn.old conn.new result (λ world count. count ≡ length (loads_at world station.now)) }
 {
-    let rows = query_rows_by(conn, RowsBy::StationLoads, &name_key_values(station))?;
-    Ok(rows.len())
+    query_count(conn, RowsCounted::StationLoads, &name_key_values(station))
 }

@@ -1,19 +1,24 @@
-//! Rows that are asked for, in the words of the world: those of a key, those with some values, and all of a table.
-ghost use Rattle.std.specs.Prelude.{IsPermutation};
+//! Rows that are asked for, in the words of the world: those of a key, those with some values or how many these are, and all
+//! of a table.
+ghost use Rattle.std.specs.Prelude.{◌≡◌, length, IsPermutation};
 ghost use Rattle.sqlite.specs.Values.{bound};
 ghost use Rattle.agv_world.specs.Rows.{rows_of};
 ghost use Rattle.agv_tables.specs.rows.DeskRows.{rows_of_key, table_for};
 ghost use Rattle.agv_tables.specs.rows.RowLists.{row_lists};
+ghost use Rattle.agv_tables.specs.statements.CountQueries.{columns_counted, rows_counted, table_counted};
 ghost use Rattle.agv_tables.specs.statements.RowQueries.{FitsColumns, all_rows_of, columns_asked, rows_asked, table_asked};
 ghost use Rattle.agv_tables.specs.statements.RowTexts.{table_looked_up};
 ghost use Rattle.agv_tables.specs.readings.TablesRead.{TellsAll};
+ghost use Rattle.agv_tables.specs.queries.FirstRow.{first_number_in};
 ghost use Rattle.agv_tables.specs.queries.WorldAnswers.{AnswersQuery};
 
 use crate::ReadingFault;
+use crate::rows::decode_value::number_at;
 use crate::rows::row_of::RowOf;
 use crate::rows::rows_by::RowsBy;
+use crate::rows::rows_counted::RowsCounted;
 use crate::schema::table_name::TableName;
-use crate::statements::row_reads::{find_all_rows, find_rows, find_rows_by};
+use crate::statements::row_reads::{find_all_rows, find_count, find_rows, find_rows_by};
 use sqlite::types::ValueRef;
 use sqlite::{Alter, Connection, Row};
 
@@ -41,6 +46,32 @@ pub(crate) fn query_rows_by<S: Alter>(
 {
     let rows = find_rows_by(conn, by, values)?;
     Ok(rows)
+}
+
+/// How many rows have these values in the columns that are counted by.
+pub(crate) fn query_count<S: Alter>(
+    conn: &mut Connection<S>,
+    by: RowsCounted,
+    values: &[ValueRef<'_>],
+) -> Result<usize, ReadingFault>
+    requires { FitsColumns (table_counted by) (columns_counted by) (bound values.now) }
+    ensures { AnswersQuery S.Store conn.old conn.new result (λ world count. count ≡ length (rows_counted by (bound values.now) (row_lists (rows_of world)))) }
+{
+    let rows = find_count(conn, by, values)?;
+    number_in_rows(rows.as_slice())
+}
+
+// The number that the first of the rows tells.
+fn number_in_rows(rows: &[Row]) -> Result<usize, ReadingFault>
+    ensures { result ≡ first_number_in rows.now }
+{
+    match rows.first() {
+        None => Err(ReadingFault::Damaged),
+        Some(row) => match number_at(row, 0) {
+            None => Err(ReadingFault::Damaged),
+            Some(number) => Ok(number as usize),
+        },
+    }
 }
 
 /// All rows of a table.

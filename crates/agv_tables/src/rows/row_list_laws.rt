@@ -91,9 +91,9 @@ pub fn a_test_shows_its_rows()
     ensures { (lists : List (List Row)) (rows : Rows) → TellRows lists rows → ShowAll lists rows }
 {}
 
-/// In lists that tell the rows of a world, each look-up by other columns than the key shows the rows of those
-/// entries of the world's table that are asked for: the journey of a vehicle, the acts and the edges of an order, the loads at a
-/// station or on a vehicle, and the jobs of a load or to a station that are in a phase.
+/// In lists that tell the rows of a world, each look-up and each count by other columns than the key is of the rows
+/// of those entries of the world's table that are asked for: the journey of a vehicle, the acts and the edges of an
+/// order, the loads at a station or on a vehicle, and the jobs of a load or to a station that are in a phase.
 pub fn a_query_shows_its_rows()
     ensures { (lists : List (List Row)) (rows : Rows) → TellRows lists rows → ShowAsked lists rows }
 {}

@@ -11,10 +11,6 @@ pub enum RowsBy {
     OrderLegs,
     /// The loads at a station.
     StationLoads,
-    /// The loads on a vehicle.
-    VehicleLoads,
     /// The jobs of a load in a phase.
     LoadJobs,
-    /// The jobs to a station in a phase.
-    TargetJobs,
 }

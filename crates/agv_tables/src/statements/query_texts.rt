@@ -1,8 +1,10 @@
-//! The texts of SQL that ask for rows by columns other than the key, and for all rows of a table.
+//! The texts of SQL that ask for rows by columns other than the key, count them, or ask for all rows of a table.
 ghost use Rattle.std.specs.Prelude.{◌≡◌};
+ghost use Rattle.agv_tables.specs.statements.CountQueries.{count_text};
 ghost use Rattle.agv_tables.specs.statements.RowQueries.{all_rows_text, query_text};
 
 use crate::rows::rows_by::RowsBy;
+use crate::rows::rows_counted::RowsCounted;
 use crate::schema::table_name::TableName;
 
 /// Shows the rows that are asked for; the values are the parameters.
@@ -17,12 +19,20 @@ pub(crate) fn query(by: RowsBy) -> &'static str
         RowsBy::OrderLegs => "SELECT order_id, k, edge FROM leg WHERE order_id = ?1",
         RowsBy::StationLoads =>
             "SELECT id, kind, station, manufacturer, serial FROM load WHERE station = ?1",
-        RowsBy::VehicleLoads =>
-            "SELECT id, kind, station, manufacturer, serial FROM load WHERE manufacturer = ?1 AND serial = ?2",
         RowsBy::LoadJobs =>
             "SELECT id, load, origin, target, phase FROM job WHERE load = ?1 AND phase = ?2",
-        RowsBy::TargetJobs =>
-            "SELECT id, load, origin, target, phase FROM job WHERE target = ?1 AND phase = ?2",
+    }
+}
+
+/// Shows how many rows there are; the values are the parameters.
+pub(crate) fn count_query(by: RowsCounted) -> &'static str
+    ensures { result.now ≡ count_text by }
+{
+    match by {
+        RowsCounted::StationLoads => "SELECT count(*) FROM load WHERE station = ?1",
+        RowsCounted::VehicleLoads =>
+            "SELECT count(*) FROM load WHERE manufacturer = ?1 AND serial = ?2",
+        RowsCounted::TargetJobs => "SELECT count(*) FROM job WHERE target = ?1 AND phase = ?2",
     }
 }
 

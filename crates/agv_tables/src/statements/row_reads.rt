@@ -1,4 +1,4 @@
-//! Rows are looked up: by the key, by other columns, or all of a table.
+//! Rows are looked up: by the key, by other columns, or all of a table; or they are counted.
 //!
 //! The rows that are shown are those of any database in which the desk's tables stand (`specs/rows/DeskRows.antt`), in no
 //! order. Whatever a database has, rows that are shown change nothing, and nothing is committed. An error that is a
@@ -10,13 +10,15 @@ ghost use Rattle.sqlite.specs.Values.{bound};
 ghost use Rattle.agv_tables.specs.rows.DeskRows.{Answers, AnswersAlone, Placing, IsDesk, StandApart, rows_of_key, table_for};
 ghost use Rattle.agv_tables.specs.sql.Errors.{IsOfStore};
 ghost use Rattle.agv_tables.specs.sql.Connections.{HasStorageCause};
+ghost use Rattle.agv_tables.specs.statements.CountQueries.{columns_counted, count_shown, table_counted};
 ghost use Rattle.agv_tables.specs.statements.RowQueries.{FitsColumns, all_rows_of, columns_asked, rows_asked, table_asked};
 ghost use Rattle.agv_tables.specs.statements.RowTexts.{table_looked_up};
 
 use crate::rows::row_of::RowOf;
 use crate::rows::rows_by::RowsBy;
+use crate::rows::rows_counted::RowsCounted;
 use crate::schema::table_name::TableName;
-use crate::statements::query_texts::{all_rows, query};
+use crate::statements::query_texts::{all_rows, count_query, query};
 use crate::statements::row_texts::look_up;
 use sqlite::types::ValueRef;
 use sqlite::{Alter, Connection, Error, Row};
@@ -57,6 +59,25 @@ pub(crate) fn find_rows_by<S: Alter>(
     ensures survives { Survives (state S.Store conn.old) (state S.Store conn.new) (λ _. ⊥) }
 {
     conn.query_all(query(by), values)
+}
+
+/// One row that shows how many rows have these values in the columns that are counted by.
+pub(crate) fn find_count<S: Alter>(
+    conn: &mut Connection<S>,
+    by: RowsCounted,
+    values: &[ValueRef<'_>],
+) -> Result<Vec<Row>, Error>
+    ensures shown { HasCleanDisk (state S.Store conn.new) → IfOk result (λ rows. Answers (count_shown by (bound values.now)) (state S.Store conn.old) rows.items) }
+    ensures kept { HasCleanDisk (state S.Store conn.new) → OnOk result (IsUnchanged (state S.Store conn.old) (state S.Store conn.new)) }
+    ensures failed { HasCleanDisk (state S.Store conn.new)
+        → OnErr result (IsUnchanged (state S.Store conn.old) (state S.Store conn.new) ⊎ IsRolledBack (state S.Store conn.old) (state S.Store conn.new)) }
+    ensures caused { HasCleanDisk (state S.Store conn.new) → IfErr result (λ e. IsOfStore e
+        → (desk : Placing) → IsDesk desk → (state S.Store conn.old).now.schema ≡ desk.schema → FitsColumns (table_counted by) (columns_counted by) (bound values.now)
+        → HasStorageCause S.Store conn.old conn.new) }
+    ensures idle { conn.old.in_transaction ≡ false → conn.new.in_transaction ≡ false }
+    ensures survives { Survives (state S.Store conn.old) (state S.Store conn.new) (λ _. ⊥) }
+{
+    conn.query_all(count_query(by), values)
 }
 
 /// All rows of a table, which may stand without the others.

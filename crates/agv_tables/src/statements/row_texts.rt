@@ -1,8 +1,8 @@
 //! The texts of SQL on one row: what adds it, what takes it out by its key, and what shows it.
 //!
 //! There is none that nothing asks for: `meta` is written once, by a text of its own, `trip` stays empty, and journeys,
-//! acts and legs are not looked up by their key. So there are 33 here; with the 4 of `row_updates`, the 21 of
-//! `query_texts`, the 19 of `table_texts` and the 14 of `rowid_reading` a desk has 91 texts of SQL. The move from the first
+//! acts and legs are not looked up by their key. So there are 33 here; with the 4 of `row_updates`, the 22 of
+//! `query_texts`, the 19 of `table_texts` and the 14 of `rowid_reading` a desk has 92 texts of SQL. The move from the first
 //! schema has its own.
 ghost use Rattle.std.specs.Prelude.{◌≡◌};
 ghost use Rattle.agv_tables.specs.statements.RowTexts.{insertion_text, deletion_text, look_up_text};
