@@ -34,6 +34,7 @@ pub use act::{Act, is_drop};
 pub use fault::PlanFault;
 pub use joins::{JoinRefusal, Joined, join};
 pub use number::{edge_seq, node_seq};
+pub use plan::NewTrip;
 pub use status::{is_final, is_finished, merge};
 pub use stop::{Stop, stops_fit};
 pub use stop_route::job_named;

@@ -5,7 +5,7 @@ use crate::layouts::{WAREHOUSE, layout};
 use agv_header::{Name, Refusal};
 use agv_layout::{Edge, Layout};
 use agv_message::ActKind;
-use agv_order::{Act, PlanFault, Stop, Trip};
+use agv_order::{Act, NewTrip, PlanFault, Stop, Trip};
 use agv_stock::{Job, Phase};
 use std::alloc::Global;
 use std::process::Abort;
@@ -75,10 +75,15 @@ pub(crate) fn plan(
     at: Name,
     edges: u32,
 ) -> Result<Trip, PlanFault> {
-    let key = vehicle(rt, "KIT", "0001");
     let jobs = jobs(rt, alloc, jobs_of);
     let stops = stops(rt, alloc, stops_of);
-    Trip::plan(alloc, layout, key, &jobs, &stops, name(rt, "O1"), at, edges)
+    let new_trip = NewTrip {
+        order: name(rt, "O1"),
+        vehicle: vehicle(rt, "KIT", "0001"),
+        start: at,
+        edges,
+    };
+    Trip::plan(alloc, layout, new_trip, &jobs, &stops)
 }
 
 /// The same on the layout of the examples.

@@ -7,7 +7,7 @@ use crate::routes::{draw, numbered, random_rows};
 use agv_header::Name;
 use agv_layout::{Edge, Layout, LayoutRow};
 use agv_message::{ActKind, Status};
-use agv_order::{Act, PlanFault, Stop, Trip};
+use agv_order::{Act, NewTrip, PlanFault, Stop, Trip};
 use agv_stock::{Job, Phase};
 use std::alloc::Global;
 use std::process::Abort;
@@ -316,9 +316,13 @@ fn try_plan(
     let stops = random_stops(rt, alloc, state);
     let start = numbered(rt, alloc, 'P', draw(state, nodes.saturating_add(1)));
     let edges = draw(state, 4);
-    let key = vehicle(rt, "KIT", "0001");
-    let order = name(rt, "O1");
-    let found = Trip::plan(alloc, layout, key, &jobs, &stops, order, start, edges);
+    let new_trip = NewTrip {
+        order: name(rt, "O1"),
+        vehicle: vehicle(rt, "KIT", "0001"),
+        start,
+        edges,
+    };
+    let found = Trip::plan(alloc, layout, new_trip, &jobs, &stops);
     let listed = list_trip(rt, alloc, layout, rows, &jobs, &stops, start);
     compare(rt, met, rows, &listed, &found, start, edges);
 }

@@ -199,6 +199,33 @@ fn write_many<S: Alter>(rt: &impl Abort, alloc: Global, conn: &mut Connection<S>
     }
 }
 
+/// A station with so many loads, each with a live job that goes there.
+fn write_full<S: Alter>(rt: &impl Abort, alloc: Global, conn: &mut Connection<S>, loads: u32) {
+    let roomy = StationSite {
+        node: name(rt, "N1"),
+        capacity: 999,
+    };
+    let mut changes = Vec::new(alloc);
+    changes
+        .push(Change::Station(name(rt, "S"), roomy))
+        .expect(rt, "memory");
+    for number in 0..loads {
+        let load = numbered(rt, alloc, 'S', number);
+        let row = JobRow {
+            load,
+            origin: name(rt, "A"),
+            target: name(rt, "S"),
+            phase: Phase::Riding,
+        };
+        let riding = Change::Job(numbered(rt, alloc, 'R', number), row);
+        changes
+            .push(Change::Load(load, Place::Station(name(rt, "S"))))
+            .expect(rt, "memory");
+        changes.push(riding).expect(rt, "memory");
+    }
+    write(rt, conn, changes.as_slice());
+}
+
 /// Asks by each key for what is there.
 fn ask_known<S: Alter>(rt: &impl Abort, alloc: Global, conn: &mut Connection<S>, number: u32) {
     let row = query_vehicle(conn, &vehicle(rt));
@@ -315,6 +342,20 @@ fn check_asked<S: Alter>(
     check(rt, place == Ok(Some(Place::Left)), "the place then");
 }
 
+/// Asks how many loads are at a station that has 300, and how many live jobs go there.
+fn check_counted<S: Alter>(rt: &impl Abort, alloc: Global, conn: &mut Connection<S>) {
+    assert!(rt; conn.is_autocommit(), "idle");
+    make_desk_tables(conn).expect(rt, "tables");
+    write_few(rt, conn);
+    write_full(rt, alloc, conn, 300);
+    let coming = query_reserved(conn, &name(rt, "S"));
+    check(rt, coming == Ok(300), "the live jobs to S");
+    let room = query_room(conn, &None, &name(rt, "S"));
+    check(rt, room == Ok(Some(400)), "the room of S");
+    let loads = query_loads_at(alloc, conn, &name(rt, "S")).expect(rt, "the loads at S");
+    check(rt, loads.as_slice().len() == 300, "the loads at S");
+}
+
 #[test]
 fn with_1_000_loads(rt: HostRuntime) {
     let mut conn = Connection::open(&rt, "with_1_000_loads.db").expect(&rt, "a file");
@@ -325,4 +366,10 @@ fn with_1_000_loads(rt: HostRuntime) {
 fn with_100_000_loads(rt: HostRuntime) {
     let mut conn = Connection::open(&rt, "with_100_000_loads.db").expect(&rt, "a file");
     check_asked(&rt, rt.alloc(), &mut conn, 100, 50_000);
+}
+
+#[test]
+fn with_300_loads_at_a_station(rt: HostRuntime) {
+    let mut conn = Connection::open_in_memory(rt.alloc()).expect(&rt, "memory");
+    check_counted(&rt, rt.alloc(), &mut conn);
 }
