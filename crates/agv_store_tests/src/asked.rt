@@ -351,7 +351,7 @@ fn check_counted<S: Alter>(rt: &impl Abort, alloc: Global, conn: &mut Connection
     let coming = query_reserved(conn, &name(rt, "S"));
     check(rt, coming == Ok(300), "the live jobs to S");
     let room = query_room(conn, &None, &name(rt, "S"));
-    check(rt, room == Ok(Some(400)), "the room of S");
+    check(rt, room == Ok(Some(399)), "the room of S");
     let loads = query_loads_at(alloc, conn, &name(rt, "S")).expect(rt, "the loads at S");
     check(rt, loads.as_slice().len() == 300, "the loads at S");
 }
