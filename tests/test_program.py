@@ -293,16 +293,34 @@ class Serve(ProgramTest):
             plain.close()
             self.assertEqual(desk.ask('GET', '/loads/L1')[0], 404)
 
-    def test_a_client_that_never_reads(self):
-        """It keeps the others waiting until it leaves; the desk goes on then."""
+    def test_a_client_that_says_nothing(self):
+        """It keeps the others waiting for ten seconds, in the middle of a request or behind one, and is left then."""
         with Serving(self.db) as desk:
-            plain = desk.plain()
-            plain.settimeout(1)
-            with self.assertRaises(TimeoutError):
-                while True:
-                    plain.sendall(b'GET /loads/L1 HTTP/1.1\r\n\r\n' * 10_000)
-            plain.close()
-            self.assertEqual(desk.ask('GET', '/loads/L1')[0], 404)
+            unknown = b'{"name":"NoLoad","refusal":23}'
+            for said, answer in ((b'POST /loads HTTP/1.1\r\nContent-Length: 13\r\n\r\n{"loa', b''), (b'GET /loads/L1 HTTP/1.1\r\n\r\n', unknown)):
+                plain = desk.plain()
+                plain.sendall(said)
+                begun = time.monotonic()
+                self.assertEqual(desk.ask('GET', '/loads/L1'), (404, unknown))
+                self.assertTrue(9 < time.monotonic() - begun < 20)
+                self.assertEqual(read_all(plain).rpartition(b'\r\n')[2], answer)
+                plain.close()
+
+    def test_a_client_that_never_reads(self):
+        """It keeps the others waiting for ten seconds, and is left then, or where it leaves."""
+        for leaves in (False, True):
+            with Serving(self.db) as desk:
+                plain = desk.plain()
+                plain.settimeout(1)
+                with self.assertRaises(TimeoutError):
+                    while True:
+                        plain.sendall(b'GET /loads/L1 HTTP/1.1\r\n\r\n' * 10_000)
+                if leaves:
+                    plain.close()
+                begun = time.monotonic()
+                self.assertEqual(desk.ask('GET', '/loads/L1')[0], 404)
+                self.assertTrue(time.monotonic() - begun < 9 if leaves else 8 < time.monotonic() - begun < 20)
+                plain.close()
 
     def test_noise(self):
         """Of 20 clients, the last with 10 MB."""

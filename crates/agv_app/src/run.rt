@@ -21,9 +21,9 @@ use agv_world::Fault;
 use sqlite::{Alter, Connection, Error, ErrorCode, FileStore};
 use sqlite_std_file::File;
 use std::alloc::Global;
-use std::io::{Read, Write};
-use std::net::{Ipv4Addr, SocketAddr, SocketAddrV4, TcpListener};
-use std::time::{SystemTime, UNIX_EPOCH};
+use std::io::{self, Read, Write};
+use std::net::{Ipv4Addr, SocketAddr, SocketAddrV4, TcpListener, TcpStream};
+use std::time::{Duration, SystemTime, UNIX_EPOCH};
 
 /// Carries a line out over a reader of its input, a writer of its output and one of its faults, and gives the exit
 /// status: 0 where all was done; 1 after a fault, which is one line on the writer of faults (`IsRun`, `specs/Runs.antt`).
@@ -229,7 +229,11 @@ pub enum NextFault {
     Clock,
 }
 
-/// Accepts one connection, and serves its requests at the moment at which it is accepted.
+/// How long a read or a write of a connection may wait for its client, in seconds.
+pub const MAX_WAIT_SECONDS: u64 = 10;
+
+/// Accepts one connection, and serves its requests at the moment at which it is accepted. It ends where nothing comes from
+/// its client, or nothing of an answer is taken by it, for `MAX_WAIT_SECONDS`: that is a fault of the connection.
 pub fn serve_next<S: Alter + Drop>(
     rt: &HostRuntime,
     alloc: Global,
@@ -242,9 +246,19 @@ pub fn serve_next<S: Alter + Drop>(
     let Some(at) = moment_now(rt) else {
         return Err(NextFault::Clock);
     };
+    if limit_waits(&stream).is_err() {
+        return Ok(Err(StreamFault::Read { answers: 0 }));
+    }
     let mut reader = CountingIo::new(&stream);
     let mut writer = CountingIo::new(&stream);
     Ok(serve_stream(alloc, desk, at, &mut reader, &mut writer))
+}
+
+/// Limits how long a read and a write of the connection may wait.
+fn limit_waits(stream: &TcpStream) -> io::Result<()> {
+    let most = Some(Duration::from_secs(MAX_WAIT_SECONDS));
+    stream.set_read_timeout(most)?;
+    stream.set_write_timeout(most)
 }
 
 /// The moment that the clock shows.
