@@ -1,7 +1,9 @@
 """Standard input that fails at its n-th read, or ends there, and standard output that fails at its n-th write, or takes nothing or one
 byte. The program ends as docs/HTTP.md says; the bytes that it has written are a front of the whole answers, and what stands in the file is
-what was answered, with the call whose answer was cut. Connections that fail so end alone; one that can't be had ends the program."""
+what was answered, with the call whose answer was cut. Connections that fail so end alone, and so does one whose waits
+can't be limited; one that can't be had ends the program."""
 import errno
+import socket
 import unittest
 
 import tracing
@@ -127,14 +129,14 @@ class FailingStreams(FaultTest):
 @over_sockets
 class FailingConnections(FaultTest):
     def serve(self, script, name, told):
-        """The program serves each request by a connection of its own. Which requests weren't answered whole; where the fault is of reads
-        they are asked again."""
+        """The program serves each request by a connection of its own. Which requests weren't answered whole; where the fault isn't of
+        writes they are asked again."""
         answers, lost, seen = [], [], []
         wanted = [without_moments(answer) for answer in script.answers]
         words = [DESK, 'serve', '--db', self.db, '--port', '0', '--connections', str(len(script.requests) + 1)]
 
         def on_call(call):
-            if not call.path.startswith('socket:'):
+            if not call.path.startswith('socket:') or name == 'setsockopt' and call.words[2] == socket.SO_REUSEADDR:
                 return None
             seen.append(call)
             return told(len(seen)) if told else None
@@ -145,10 +147,10 @@ class FailingConnections(FaultTest):
                 answer = without_moments(asks(port, request))
                 if answer != wanted[number]:
                     lost.append(number)
-                    if name == 'recvfrom':
+                    if name != 'sendto':
                         answer = without_moments(asks(port, request))
                 answers.append(answer)
-            if not lost or name != 'recvfrom':
+            if not lost or name == 'sendto':
                 asks(port, b'')
 
         remove(self.db)
@@ -192,6 +194,10 @@ class FailingConnections(FaultTest):
     def test_writes_that_fail(self):
         """The call stands, and the next connection is served."""
         self.check('sendto', 4, (tracing.Fails(errno.EPIPE), tracing.Gives(0), tracing.Short(1)), [tracing.Fails(errno.EINTR)])
+
+    def test_waits_that_can_not_be_limited(self):
+        """The connection ends before anything is read of it, and the next one is served."""
+        self.check('setsockopt', 4, (tracing.Fails(errno.ENOMEM), tracing.Fails(errno.EINVAL)))
 
     def lack(self, script, n):
         """The program has one descriptor too few at its n-th connection. How it ends, what those before were answered, and how often it

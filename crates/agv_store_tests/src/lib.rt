@@ -4,7 +4,8 @@
 //! - `tables` makes the desk's tables in databases with and without others.
 //! - `strangers` asks of tables that anyone made whether they are a desk's, whether they leave room for a desk's, and
 //!   whether each row of them has a number of its own.
-//! - `asked` asks the desk's tables in a file with 1,000 loads and with 100,000.
+//! - `asked` asks the desk's tables in a file with 1,000 loads and with 100,000, and counts at a station with 300 loads and
+//!   300 jobs to come.
 //! - `written` has a desk serve a worked example, on a disk and in a file too, and reads the rows back.
 //! - `two_vehicles` does so with an example of two vehicles, of which one is cancelled on its way.
 //! - `kept_desks` changes the database of the worked example in lawful ways, and the desk is taken over.
