@@ -307,7 +307,7 @@ class Serve(ProgramTest):
                 plain.close()
 
     def test_a_client_that_never_reads(self):
-        """It keeps the others waiting for ten seconds, and is left then, or where it leaves."""
+        """It keeps the others waiting until the system has taken nothing of an answer for ten seconds, or until it leaves."""
         for leaves in (False, True):
             with Serving(self.db) as desk:
                 plain = desk.plain()
@@ -318,8 +318,10 @@ class Serve(ProgramTest):
                 if leaves:
                     plain.close()
                 begun = time.monotonic()
-                self.assertEqual(desk.ask('GET', '/loads/L1')[0], 404)
-                self.assertTrue(time.monotonic() - begun < 9 if leaves else 8 < time.monotonic() - begun < 20)
+                later = http.client.HTTPConnection('127.0.0.1', desk.port, timeout=120)
+                self.assertEqual(desk.ask('GET', '/loads/L1', connection=later)[0], 404)
+                self.assertTrue(time.monotonic() - begun < 8 if leaves else time.monotonic() - begun > 8)
+                later.close()
                 plain.close()
 
     def test_noise(self):
