@@ -1,6 +1,6 @@
 """Measures each kind of call over `serve` on a file with 1,000, 100,000 and 999,000 loads at the checking place and as many jobs that have
 ended: the wall time from the last byte of the request written to the answer read, the median of some rounds, and the instructions of the
-program for it. Beside, in the same run and on copies of the same files, the statements that the desk carries out for the call
+program for it, by `replay` on the file. Beside, in the same run and on copies of the same files, the statements that the desk carries out for the call
 (bench/statements.txt; the layout is kept in memory) by the SQLite of C (bench/plain_calls.c; WAL, synchronous=FULL, each text prepared
 once). Besides the time and the memory of an opening, and the time in which C reads all rows of the tables. The layout and the vehicle are
 set once, and reports are in bench/many_loads.py. Python's standard library, gcc with SQLite's header and library, and valgrind.
@@ -40,9 +40,9 @@ def copied(source, name):
 class Served:
     """A desk that serves one connection."""
 
-    def __init__(self, name, before=()):
+    def __init__(self, name):
         begun = time.perf_counter()
-        self.desk = subprocess.Popen([*before, DESK, 'serve', '--db', name, '--port', '0', '--connections', '1'], stdout=subprocess.PIPE)
+        self.desk = subprocess.Popen([DESK, 'serve', '--db', name, '--port', '0', '--connections', '1'], stdout=subprocess.PIPE)
         line = self.desk.stdout.readline()
         self.opened = time.perf_counter() - begun
         self.memory = int(re.search(r'VmHWM:\s+(\d+)', open('/proc/%d/status' % self.desk.pid).read()).group(1))
@@ -77,7 +77,7 @@ def times(name):
 
 
 def totals(folder, mark):
-    """The instructions that callgrind has written for each request, by the number of its dump."""
+    """The instructions between two dumps of callgrind, by the number of the second."""
     found = {}
     for path in glob.glob(os.path.join(folder, mark + '.*')):
         total = re.search(r'^(?:totals|summary):\s*(\d+)', open(path).read(), re.M)
@@ -87,29 +87,29 @@ def totals(folder, mark):
 
 
 def instructions(name, folder):
-    """The instructions of each kind of call, the mean of a round's."""
+    """The instructions of each kind of call, the mean of a round's, behind four rounds: from the moment at which the desk looks which
+    call it is to that of the next one, each sent when the one before it was answered."""
     out = os.path.join(folder, 'desk.callgrind')
-    desk = Served(name, ['valgrind', '-q', '--tool=callgrind', '--instr-atstart=no', '--callgrind-out-file=' + out])
-    calls = rounds.Rounds()
-    for _ in range(3):
-        for what, bytes_ in calls.round():
-            desk.ask(what, bytes_)
-
-    def control(*words):
-        subprocess.run(['callgrind_control', *words, str(desk.desk.pid)], stdout=subprocess.DEVNULL, stderr=subprocess.DEVNULL, check=True)
-    control('-i', 'on')
-    for what, bytes_ in calls.round():
-        desk.ask(what, bytes_)
-    control('-d')
-    kinds = []
-    for what, bytes_ in calls.round():
-        desk.ask(what, bytes_)
-        control('-d')
-        kinds.append(what)
-    desk.close()
+    calls, asked = rounds.Rounds(), []
+    for _ in range(5):
+        first = len(asked)
+        asked += calls.round()
+    last = len(asked)
+    asked += calls.round()
+    desk = subprocess.Popen(['valgrind', '-q', '--tool=callgrind', '--dump-before=agv_face::call::call_in*', '--callgrind-out-file=' + out, DESK,
+                             'replay', '--db', name, '--at', rounds.AT], stdin=subprocess.PIPE, stdout=subprocess.PIPE)
+    for what, bytes_ in asked:
+        desk.stdin.write(bytes_)
+        desk.stdin.flush()
+        answer = os.read(desk.stdout.fileno(), 131_072)
+        if not answer.startswith((b'HTTP/1.1 200', b'HTTP/1.1 204')):
+            raise SystemExit('%s: %r' % (what, answer))
+    desk.stdin.close()
+    desk.wait()
+    desk.stdout.close()
     found, counts = totals(folder, 'desk.callgrind'), {}
-    for number, what in enumerate(kinds, 2):
-        counts.setdefault(what, []).append(found[number])
+    for number in range(first, last):
+        counts.setdefault(asked[number][0], []).append(found[number + 2])
     for path in glob.glob(out + '*'):
         os.remove(path)
     return {what: statistics.mean(some) for what, some in counts.items()}
