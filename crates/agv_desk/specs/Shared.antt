@@ -1,12 +1,12 @@
 -- Words that the calls of several families share: names that are used once, counts and their limit, the goal of a load, what a vehicle may hold and the numbers of its messages (this project's profile).
-use Rattle.std.specs.Prelude.{ℕ, ◌+◌, nat_lt, not, Bool, is_some, if◌then◌else◌, List, Option, None, Some}
+use Rattle.std.specs.Prelude.{ℕ, ◌+◌, nat_lt, not, Bool, true, false, is_some, if◌then◌else◌, List, Option, None, Some}
 use Rattle.agv_header.specs.declared.key.Thing.{Thing}
 use Rattle.agv_header.specs.declared.key.VehicleKey.{VehicleKey}
 use Rattle.agv_stock.specs.declared.goal.Goal.{Goal}
 use Rattle.agv_stock.specs.declared.goal.Goal.TheVariants as goal
 use Rattle.agv_stock.specs.declared.place.Place.{Place}
 use Rattle.agv_track.specs.Holds.{first_held}
-use Rattle.agv_world.specs.Questions.{room_at, job_of, is_used}
+use Rattle.agv_world.specs.Questions.{has_room_at, job_of, is_used}
 use Rattle.agv_world.specs.Rows.{rows_of}
 use Rattle.agv_world.specs.Worlds.{World}
 use Rattle.agv_world.specs.declared.key.UseKey.{UseKey}
@@ -30,15 +30,16 @@ reference_key reference = record { kind = used.Reference; name = reference }
 
 -- ---- loads
 
--- a station with so much room, or one that is unknown
-abbrev pub goal_at : List ℕ → Option ℕ → Goal
+-- a station with room for one load or for none, or one that is unknown
+abbrev pub goal_at : List ℕ → Option Bool → Goal
 goal_at station None = goal.Unknown
-goal_at station (Some room) = goal.At station room
+goal_at station (Some true) = goal.At station 1
+goal_at station (Some false) = goal.At station 0
 
--- where the load is to go
+-- where the load is to go; of the room at a station no more is told than whether one load fits
 abbrev pub goal_of : World → Option (List ℕ) → Goal
 goal_of world None = goal.Checking
-goal_of world (Some station) = goal_at station (room_at world station)
+goal_of world (Some station) = goal_at station (has_room_at world station)
 
 -- the load is in a live job
 abbrev pub is_in_job : World → List ℕ → Bool

@@ -30,7 +30,7 @@ pub(crate) fn add_job<F: Floor>(
     let Some(place) = floor.place(load)? else {
         return Ok(refused(alloc, Refusal::NoLoad));
     };
-    let goal = goal_at(to, floor.room(to)?);
+    let goal = goal_at(to, floor.has_room(to)?);
     if !goal.is_known() {
         return Ok(refused(alloc, Refusal::NoStation));
     }

@@ -86,7 +86,7 @@ fn goal_of<F: Floor>(floor: &mut F, station: Option<Name>) -> Result<Goal, Fault
     let Some(station) = station else {
         return Ok(Goal::Checking);
     };
-    Ok(goal_at(station, floor.room(station)?))
+    Ok(goal_at(station, floor.has_room(station)?))
 }
 
 // Where it is then.

@@ -39,13 +39,14 @@ pub(crate) fn reference_used(reference: Name) -> Change
     })
 }
 
-/// A station as a goal, with its room, or as one that is unknown.
-pub(crate) fn goal_at(station: Name, room: Option<u32>) -> Goal
-    ensures is { result ≡ goal_at station room }
+/// A station as a goal, with room for one load or for none, or as one that is unknown.
+pub(crate) fn goal_at(station: Name, has_room: Option<bool>) -> Goal
+    ensures is { result ≡ goal_at station has_room }
     ensures stored { result ≢ goals.Checking }
 {
-    match room {
-        Some(room) => Goal::At(station, room),
+    match has_room {
+        Some(true) => Goal::At(station, 1),
+        Some(false) => Goal::At(station, 0),
         None => Goal::Unknown,
     }
 }

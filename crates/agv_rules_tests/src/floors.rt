@@ -95,19 +95,20 @@ fn check_stock(rt: &impl Abort, alloc: Global, floor: &mut impl Floor) {
     check_debug(rt, alloc, &floor.job_of(job), "Ok(None)", "no job");
 }
 
-/// The stations, and what is asked of each: where it is, the room, the loads, and the jobs that go there.
+/// The stations, and what is asked of each: where it is, the room, whether there is any, the loads, and
+/// the jobs that go there.
 const STATIONS: [(&str, &str); 3] = [
     (
         "A",
-        "(Ok(Some(StationSite { node: N1, capacity: 1 })), Ok(Some(0)), Ok(Sequence { kept: [L1] }), Ok(0))",
+        "(Ok(Some(StationSite { node: N1, capacity: 1 })), Ok(Some(0)), Ok(Some(false)), Ok(Sequence { kept: [L1] }), Ok(0))",
     ),
     (
         "B",
-        "(Ok(Some(StationSite { node: N3, capacity: 2 })), Ok(Some(1)), Ok(Sequence { kept: [] }), Ok(1))",
+        "(Ok(Some(StationSite { node: N3, capacity: 2 })), Ok(Some(1)), Ok(Some(true)), Ok(Sequence { kept: [] }), Ok(1))",
     ),
     (
         "C",
-        "(Ok(None), Ok(None), Ok(Sequence { kept: [] }), Ok(0))",
+        "(Ok(None), Ok(None), Ok(None), Ok(Sequence { kept: [] }), Ok(0))",
     ),
 ];
 
@@ -117,6 +118,7 @@ fn check_stations(rt: &impl Abort, alloc: Global, floor: &mut impl Floor) {
         let answers = (
             floor.station(station),
             floor.room(station),
+            floor.has_room(station),
             floor.loads_at(station),
             floor.reserved(station),
         );

@@ -91,6 +91,11 @@ impl Floor for FailsAt<'_> {
         self.floor.room(station)
     }
 
+    fn has_room(&mut self, station: Name) -> Result<Option<bool>, Fault> {
+        self.ask()?;
+        self.floor.has_room(station)
+    }
+
     fn holder(&mut self, thing: Thing) -> Result<Option<VehicleKey>, Fault> {
         self.ask()?;
         self.floor.holder(thing)

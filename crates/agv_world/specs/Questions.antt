@@ -1,5 +1,5 @@
 -- The questions to what the desk knows (this project's profile).
-use Rattle.std.specs.Prelude.{ℕ, ◌&&◌, nat_eq, Bool, List, length, filter, find, count_by, Option, None, Some, Result, Ok, Err}
+use Rattle.std.specs.Prelude.{ℕ, ◌&&◌, ◌==◌, nat_eq, not, Bool, List, length, filter, find, count_by, Option, None, Some, Result, Ok, Err}
 use Rattle.std.specs.Cmp.Lexicographic.{pointwise}
 use Rattle.std.specs.FinMap as finite
 use Rattle.std.specs.FinSet as set
@@ -77,6 +77,10 @@ reserved world station = count_by (λ (job : List ℕ × JobRow). is_live_to sta
 unfoldable pub room_at : World → List ℕ → Option ℕ
 room_at world station =
     option_map (λ (site : StationSite). room_left site.capacity (length (loads_at world station)) (reserved world station)) (finite.get world.layout.stations station)
+
+-- one load more fits at a station; none where there is no such station
+abbrev pub has_room_at : World → List ℕ → Option Bool
+has_room_at world station = option_map (λ (room : ℕ). not (room == 0)) (room_at world station)
 
 -- ---- the names that were used, and the counts
 

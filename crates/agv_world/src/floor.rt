@@ -3,7 +3,7 @@ ghost use Rattle.std.specs.Prelude.{◌≡◌, ◌≤◌, is_some};
 ghost use Rattle.std.specs.FinMap as map;
 ghost use Rattle.std.specs.FinSet as set;
 ghost use Rattle.agv_world.specs.Asks.{Facts, Asks};
-ghost use Rattle.agv_world.specs.Questions.{row_of, trip_of, room_at, holder_of, is_used, layout_set, loads_at, loads_on, job_of, reserved, count_of};
+ghost use Rattle.agv_world.specs.Questions.{row_of, trip_of, room_at, has_room_at, holder_of, is_used, layout_set, loads_at, loads_on, job_of, reserved, count_of};
 
 use crate::{Fault, JobRow, UseKind, VehicleRow};
 use agv_header::{Name, Thing, VehicleKey};
@@ -67,6 +67,10 @@ pub trait Floor {
     /// How many loads more fit at a station; none where it is unknown.
     fn room(&mut self, station: Name) -> Result<Option<u32>, Fault>
         ensures { Asks facts self.old self.new result (λ world room. room ≡ room_at world station) };
+
+    /// Whether one load more fits at a station; none where it is unknown.
+    fn has_room(&mut self, station: Name) -> Result<Option<bool>, Fault>
+        ensures { Asks facts self.old self.new result (λ world fits. fits ≡ has_room_at world station) };
 
     /// The vehicle that holds a node or an edge; none where it is free.
     fn holder(&mut self, thing: Thing) -> Result<Option<VehicleKey>, Fault>

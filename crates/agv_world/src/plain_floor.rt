@@ -90,6 +90,10 @@ impl Floor for PlainFloor<'_> {
         Ok(self.world.room(station))
     }
 
+    fn has_room(&mut self, station: Name) -> Result<Option<bool>, Fault> {
+        Ok(self.world.has_room(station))
+    }
+
     fn holder(&mut self, thing: Thing) -> Result<Option<VehicleKey>, Fault> {
         Ok(self.world.holder(thing))
     }

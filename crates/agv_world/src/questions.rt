@@ -4,7 +4,7 @@ ghost use Rattle.std.specs.FinMap as map;
 ghost use Rattle.std.specs.FinSet as set;
 ghost use Rattle.agv_order.specs.Trips.{node_at};
 ghost use Rattle.agv_track.specs.Footprints.{along, from_node, released_edges, rest_things, things_by};
-ghost use Rattle.agv_world.specs.Questions.{row_of, trip_of, room_at, holder_of, is_used, loads_at, loads_on, job_of, reserved, count_of};
+ghost use Rattle.agv_world.specs.Questions.{row_of, trip_of, room_at, has_room_at, holder_of, is_used, loads_at, loads_on, job_of, reserved, count_of};
 ghost use Rattle.agv_world.specs.Told.{world_of, edge_named, edges_of, trip_in, open_trip, names_of, is_among, is_held_by};
 
 use crate::{Counted, JobRow, TripRow, UseKey, UseKind, VehicleRow, World};
@@ -106,6 +106,14 @@ impl World {
             self.load_count(station),
             self.reserved(station),
         ))
+    }
+
+    // Whether one load more fits at a station; none where it is unknown.
+    pub(crate) fn has_room(&self, station: Name) -> Option<bool>
+        ensures { result ≡ has_room_at (world_of self.now) station }
+    {
+        let room = self.room(station)?;
+        Some(room != 0)
     }
 
     // How many loads stand at a station.
