@@ -232,8 +232,9 @@ pub enum NextFault {
 /// How long a read or a write of a connection may wait for its client, in seconds.
 pub const MAX_WAIT_SECONDS: u64 = 10;
 
-/// Accepts one connection, and serves its requests at the moment at which it is accepted. It ends where nothing comes from
-/// its client, or nothing of an answer is taken by it, for `MAX_WAIT_SECONDS`: that is a fault of the connection.
+/// Accepts one connection, and serves its requests at the moment at which it is accepted. It ends where for
+/// `MAX_WAIT_SECONDS` nothing comes from its client, or the system takes nothing more of an answer to it: that is a fault of
+/// the connection.
 pub fn serve_next<S: Alter + Drop>(
     rt: &HostRuntime,
     alloc: Global,

@@ -3,7 +3,8 @@
 //! - A [`Trip`] is an open order of a vehicle: the edges that it is to drive, and the [`Act`]s, picks
 //!   and drops of loads, that it carries out on the way.
 //! - [`stops_fit`] tells which lists of [`Stop`]s an order can make. [`Trip::plan`] plans the trip that
-//!   makes them, by the route from stop to stop; [`Trip::release`] releases more of it by an update.
+//!   makes those of a [`NewTrip`], by the route from stop to stop; [`Trip::release`] releases more of it
+//!   by an update.
 //! - [`Trip::message`] is the order message of the trip's last update, with the numbers of
 //!   [`node_seq`] and [`edge_seq`]; [`join`] is what a vehicle does with a message.
 //! - [`Trip::is_well_formed`] tests whether a trip is planned on a layout and under way.
