@@ -13,7 +13,7 @@ use Rattle.agv_track.specs.Holds.{Holds as Holders}
 use Rattle.agv_world.specs.Kept.{Keeps}
 use Rattle.agv_world.specs.Lawful.{IsLawful}
 use Rattle.agv_world.specs.Questions.{count_of, layout_set}
-use Rattle.agv_world.specs.Rows.{rows_of}
+use Rattle.agv_world.specs.Rows.{Rows, rows_of}
 use Rattle.agv_world.specs.Told.{world_of}
 use Rattle.agv_world.specs.Worlds.{World}
 use Rattle.agv_world.specs.declared.floor.Counted.{Counted}
@@ -32,7 +32,8 @@ use Rattle.agv_tables.specs.declared.queries.reading_fault.ReadingFault.TheVaria
 use Rattle.agv_tables.specs.declared.readings.held_things.HeldThings.{HeldThings}
 use Rattle.agv_tables.specs.declared.schema.table_name.TableName.{TableName}
 use Rattle.agv_store.specs.Counts.{count_in}
-use Rattle.agv_store.specs.Floors.{IsAsked, Knows, world_at}
+use Rattle.agv_store.specs.Floors.{IsAsked, IsKept, Knows, world_at}
+use Rattle.agv_store.specs.KeptRooms.{AreLeft, RoomsLeft}
 use Rattle.agv_store.specs.OpenFaults.{of_reading}
 use Rattle.agv_store.specs.Opening.{Finds}
 use Rattle.agv_store.specs.declared.counts.Counts.{Counts}
@@ -168,3 +169,15 @@ module _ {S : Type 0} (g : Ghosts S) where
             damaged = λ _. tt;
             asked = asked_both;
           }
+
+  -- ---- the desk that was found
+
+  pub found_kept : (old new : Held S) (counts : Counts) (layout : Option Layout) → Finds g old new (Ok (counts, layout)) → old.in_transaction ≡ false → (rooms : RoomsLeft) → ((rows : Rows) → AreLeft rooms rows) → IsKept g new counts layout rooms false false
+  found_kept old new counts layout finds idle rooms none = record {
+    idle = finds.asked.idle idle;
+    opens = λ clean _ _. (finds.found clean).1.is_open;
+    knows = λ clean _. (finds.found clean).1;
+    counted = λ clean _. (finds.found clean).2;
+    agrees = λ clean _. (finds.found clean).3;
+    fits = λ clean _. none (rows_of (world_at g new));
+  }

@@ -20,6 +20,7 @@ use Rattle.agv_tables.specs.sql.Connections.{IsClean, IsOpen}
 use Rattle.agv_store.specs.Floors.{IsKept, world_at}
 use Rattle.agv_store.specs.declared.counts.Counts.{Counts}
 use Rattle.agv_store.specs.KeptLayouts.{is_of_layout, kept_through}
+use Rattle.agv_store.specs.KeptRooms.{RoomsLeft}
 
 -- the laws of layouts that are cited
 abbrev pub GivesItself : Type 0
@@ -60,14 +61,15 @@ agrees_set gives needs world laid None is = tt
 agrees_set gives needs world laid (Some layout) is = set_is gives needs world laid layout is
 
 -- so it can be kept
-pub keeps_set : {S : Type 0} (g : Ghosts S) → GivesItself → NeedsANode → (held : Held S) (counts : Counts) (before : Option Layout) (failed in_doubt : Bool) → IsKept g held counts before failed in_doubt
-    → (layout : Option Layout) → (IsClean g held → IsOpen g held → layout ≡ layout_set (world_at g held)) → IsKept g held counts layout failed in_doubt
-keeps_set g gives needs held counts before failed in_doubt is layout is_set = record {
+pub keeps_set : {S : Type 0} (g : Ghosts S) → GivesItself → NeedsANode → (held : Held S) (counts : Counts) (before : Option Layout) (rooms : RoomsLeft) (failed in_doubt : Bool) → IsKept g held counts before rooms failed in_doubt
+    → (layout : Option Layout) → (IsClean g held → IsOpen g held → layout ≡ layout_set (world_at g held)) → IsKept g held counts layout rooms failed in_doubt
+keeps_set g gives needs held counts before rooms failed in_doubt is layout is_set = record {
   idle = is.idle;
   opens = is.opens;
   knows = is.knows;
   counted = is.counted;
   agrees = λ clean still. agrees_set gives needs (world_at g held) (is.knows clean still).has.lawful.vehicles.laid layout (is_set clean still);
+  fits = is.fits;
 }
 
 -- ---- rows that are written

@@ -6,6 +6,7 @@ mod Deciding
 mod Found
 mod InTurn
 mod KeptLayout
+mod KeptRooms
 mod Moving
 mod ReportLists
 mod Reporting

@@ -11,6 +11,7 @@ use Rattle.agv_world.specs.GoodOrder.{InGoodOrder}
 use Rattle.agv_world.specs.Kept.{Keeps}
 use Rattle.agv_world.specs.Lawful.{IsLawful}
 use Rattle.agv_world.specs.Questions.{count_of, layout_set}
+use Rattle.agv_world.specs.Rows.{Rows, rows_of}
 use Rattle.agv_world.specs.Told.{world_of}
 use Rattle.agv_world.specs.Worlds.{World}
 use Rattle.agv_world.specs.declared.floor.Counted.{Counted}
@@ -25,6 +26,7 @@ use Rattle.agv_tables.specs.declared.schema.making_fault.MakingFault.{MakingFaul
 use Rattle.agv_tables.specs.declared.schema.making_fault.MakingFault.TheVariants as making
 use Rattle.agv_store.specs.Counts.{count_in}
 use Rattle.agv_store.specs.Floors.{IsAsked, IsKept, Knows, world_at}
+use Rattle.agv_store.specs.KeptRooms.{AreLeft, RoomsLeft}
 use Rattle.agv_store.specs.Migration.{CannotBeMigrated, FindsFirstDesk, FirstFound, LeavesMigrated, Migrates}
 use Rattle.agv_store.specs.OpenFaults.{of_making, of_reading}
 use Rattle.agv_store.specs.Opening.{IsDamaged, Opening}
@@ -195,13 +197,14 @@ module _ {S : Type 0} (g : Ghosts S) where
         told : (clean : IsClean g new) → world_at g new ≡ (had (clean_mid clean)).world
         told clean = let it = knows clean in tells_its_world it.at (state g new).now (had (clean_mid clean)).world it.has
 
-        pub moved_kept : IsKept g new counts layout false false
-        moved_kept = record {
+        pub moved_kept : (rooms : RoomsLeft) → ((rows : Rows) → AreLeft rooms rows) → IsKept g new counts layout rooms false false
+        moved_kept rooms none = record {
           idle = idle;
           opens = λ clean _ _. (opens clean).1;
           knows = λ clean _. subst (λ (world : World). Knows g new world) (sym (told clean)) (knows clean);
           counted = λ clean _ what. counted (clean_mid clean) what ∙ ap (λ (w : World). count_of w what) (sym (told clean));
           agrees = λ clean _. subst (AgreesWith layout) (sym (told clean)) (agreed (clean_mid clean));
+          fits = λ clean _. none (rows_of (world_at g new));
         }
 
   -- the names of the three tables are not free, or a key refers to one of them

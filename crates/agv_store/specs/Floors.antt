@@ -8,6 +8,7 @@ use Rattle.sqlite.specs.State.{Survives}
 use Rattle.agv_layout.specs.Layout.{Layout}
 use Rattle.agv_world.specs.Asks.{Facts}
 use Rattle.agv_world.specs.Questions.{count_of}
+use Rattle.agv_world.specs.Rows.{rows_of}
 use Rattle.agv_world.specs.Worlds.{World}
 use Rattle.agv_world.specs.declared.floor.Counted.{Counted}
 use Rattle.agv_tables.specs.queries.WorldAnswers.{AgreesWith, HasWorld}
@@ -16,6 +17,7 @@ use Rattle.agv_tables.specs.rows.DeskRows.{Placing}
 use Rattle.agv_tables.specs.schema.SchemaNumbers.{desk_seats}
 use Rattle.agv_tables.specs.sql.Connections.{IsClean, IsOpen}
 use Rattle.agv_store.specs.Counts.{count_in}
+use Rattle.agv_store.specs.KeptRooms.{AreLeft, RoomsLeft}
 use Rattle.agv_store.specs.declared.counts.Counts.{Counts}
 
 -- ---- a desk, as its callers see it
@@ -48,7 +50,7 @@ module _ {S : Type 0} (g : Ghosts S) where
 
   -- ---- what it keeps true
 
-  pub record IsKept (held : Held S) (counts : Counts) (layout : Option Layout) (failed in_doubt : Bool) : Type 0 where
+  pub record IsKept (held : Held S) (counts : Counts) (layout : Option Layout) (rooms : RoomsLeft) (failed in_doubt : Bool) : Type 0 where
     pub idle : held.in_transaction ≡ false
     -- it is open, unless a fault was noted that may have shut it
     pub opens : IsClean g held → failed ≡ false → in_doubt ≡ false → IsOpen g held
@@ -58,6 +60,8 @@ module _ {S : Type 0} (g : Ghosts S) where
     pub counted : IsClean g held → IsOpen g held → (what : Counted) → count_in counts what ≡ count_of (world_at held) what
     -- and a layout that is kept is this world's
     pub agrees : IsClean g held → IsOpen g held → AgreesWith layout (world_at held)
+    -- and so much room as is kept is left at its stations
+    pub fits : IsClean g held → IsOpen g held → AreLeft rooms (rows_of (world_at held))
 
   -- ---- it as a floor
 

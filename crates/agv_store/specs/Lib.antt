@@ -2,6 +2,7 @@ pub mod Counts
 pub mod Flags
 pub mod Floors
 pub mod KeptLayouts
+pub mod KeptRooms
 pub mod Migration
 pub mod OpenFaults
 pub mod Opening

@@ -82,6 +82,7 @@ impl<S: Alter + Drop> Desk<S> {
         ensures connection { result ≡ self.held }
         ensures idle { result.in_transaction ≡ false }
     {
-        self.floor.conn
+        let floor = self.floor;
+        floor.conn
     }
 }

@@ -1,6 +1,7 @@
 //! The questions of a floor, each by look-ups of a key or an index in the desk's tables; the layout alone is read whole, and
 //! kept then. A node, a station, the edges of a trip and the layout itself are looked up in the kept one, and asked of the
-//! tables only where none is kept or it lacks the name.
+//! tables only where none is kept or it lacks the name. Whether one load more fits at a station is told by what is left of
+//! the room that was counted there; where nothing is left of it, the room is counted.
 
 use crate::flags::note;
 use crate::keyed_floor::KeyedFloor;
@@ -70,6 +71,21 @@ impl<S: Alter + Drop> Floor for KeyedFloor<S> {
     fn room(&mut self, station: Name) -> Result<Option<u32>, Fault> {
         let asked = query_room(&mut self.conn, &self.layout, &station);
         note(&mut self.failed, &mut self.in_doubt, asked)
+    }
+
+    fn has_room(&mut self, station: Name) -> Result<Option<bool>, Fault> {
+        if self.keeps_room(station) {
+            self.settle()?;
+            return Ok(Some(true));
+        }
+        let Some(room) = self.room(station)? else {
+            return Ok(None);
+        };
+        if room == 0 {
+            return Ok(Some(false));
+        }
+        self.keep_room(station, room)?;
+        Ok(Some(true))
     }
 
     fn holder(&mut self, thing: Thing) -> Result<Option<VehicleKey>, Fault> {

@@ -101,7 +101,7 @@ fn have_layout(changes: &[Change]) -> bool
 }
 
 // Whether the change writes a row of the layout.
-fn is_of_layout(change: &Change) -> bool
+pub(crate) fn is_of_layout(change: &Change) -> bool
     ensures { result ≡ is_of_layout change.now }
 {
     match change {

@@ -8,6 +8,7 @@ ghost use Rattle.agv_store.specs.Floors.{Knows, facts_of, world_at};
 
 use crate::counts::Counts;
 use crate::flags::note;
+use crate::kept_rooms::RoomsLeft;
 use agv_layout::Layout;
 use agv_tables::readings::hold_reading::query_meta;
 use agv_world::Fault;
@@ -26,6 +27,8 @@ pub struct KeyedFloor<S: Alter> {
     pub(crate) counts: Counts,
     // The layout, once it was read; none where it is not set, or was not read since then.
     pub(crate) layout: Option<Layout>,
+    // The room at stations, once it was counted.
+    pub(crate) rooms: RoomsLeft,
     pub(crate) failed: bool,
     // Memory was refused since the connection was last known to be open.
     pub(crate) in_doubt: bool,
@@ -41,7 +44,7 @@ impl<S: Alter> Model for KeyedFloor<S> {
 
     ghost view = { λ floor. record { held = floor.conn; failed = floor.failed } };
 
-    ghost invariant = { λ floor. IsKept S.Store floor.conn floor.counts floor.layout floor.failed floor.in_doubt };
+    ghost invariant = { λ floor. IsKept S.Store floor.conn floor.counts floor.layout floor.rooms floor.failed floor.in_doubt };
 }
 
 impl<S: Alter + Drop> KeyedFloor<S> {

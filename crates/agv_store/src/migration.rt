@@ -10,6 +10,7 @@ ghost use Rattle.agv_store.specs.Opening.{IsDamaged, left_by};
 use crate::counts::Counts;
 use crate::desk::Desk;
 use crate::kept_layout::layout_told;
+use crate::kept_rooms::no_rooms;
 use crate::keyed_floor::KeyedFloor;
 use crate::open_fault::OpenFault;
 use agv_layout::Layout;
@@ -64,6 +65,7 @@ impl<S: Alter + Drop> Desk<S> {
                     conn,
                     counts,
                     layout,
+                    rooms: no_rooms(alloc),
                     failed: false,
                     in_doubt: false,
                     alloc,

@@ -15,6 +15,7 @@ ghost use Rattle.agv_store.specs.Opening.{Adopts, CanBeMade, Finds, IsDamaged, M
 use crate::counts::Counts;
 use crate::desk::Desk;
 use crate::kept_layout::layout_told;
+use crate::kept_rooms::no_rooms;
 use crate::keyed_floor::KeyedFloor;
 use crate::open_fault::OpenFault;
 use agv_header::Memory;
@@ -69,6 +70,7 @@ impl<S: Alter + Drop> Desk<S> {
                     conn,
                     counts: Counts::none(),
                     layout: None,
+                    rooms: no_rooms(alloc),
                     failed: false,
                     in_doubt: false,
                     alloc,
@@ -104,6 +106,7 @@ impl<S: Alter + Drop> Desk<S> {
                     conn,
                     counts,
                     layout,
+                    rooms: no_rooms(alloc),
                     failed: false,
                     in_doubt: false,
                     alloc,

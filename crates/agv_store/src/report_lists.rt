@@ -1,5 +1,5 @@
 //! What a report lists, in the order in which it lists it.
-ghost use Rattle.std.specs.Prelude.{◌≡◌, ◌<◌, ◌+◌, ◌^◌, ℕ, List, map, IfOk};
+ghost use Rattle.std.specs.Prelude.{◌≡◌, ◌<◌, ◌+◌, ◌^◌, ℕ, List, map, IfOk, IfSome};
 ghost use Rattle.std.specs.FinMap as finite;
 ghost use Rattle.std.specs.FinSet as set;
 ghost use Rattle.std.specs.Map.{keys_of};
@@ -10,7 +10,8 @@ ghost use Rattle.agv_world.specs.Questions.{reserved};
 ghost use Rattle.agv_world.specs.Rows.{rows_of};
 ghost use Rattle.agv_reports.specs.Reports.{station_named, stations_told};
 ghost use Rattle.agv_tables.specs.schema.SchemaNumbers.{desk_seats};
-ghost use Rattle.agv_store.specs.Floors.{facts_of};
+ghost use Rattle.agv_tables.specs.sql.Connections.{IsClean, IsOpen};
+ghost use Rattle.agv_store.specs.Floors.{facts_of, world_at};
 ghost use Rattle.agv_store.specs.ReportLists.{entered};
 
 use crate::keyed_floor::KeyedFloor;
@@ -80,13 +81,30 @@ impl<S: Alter + Drop> KeyedFloor<S> {
         Ok(holds)
     }
 
-    // How many nodes and edges there are.
+    // How many nodes and edges there are: in the layout that is kept, else in the tables.
     pub(crate) fn things_counted(&mut self) -> Result<u32, Fault>
         ensures { Asks (facts_of S.Store) self.old self.new result (λ world count. IsLawful desk_seats world → count ≡ set.len world.layout.nodes + finite.len world.layout.edges) }
     {
+        if let Some(things) = self.kept_things() {
+            self.settle()?;
+            return Ok(things);
+        }
         let nodes = self.all_nodes()?;
         let edges = self.all_edges()?;
         Ok(told_number(nodes.len().saturating_add(edges.len())))
+    }
+
+    // How many nodes and edges the layout has, where one is kept.
+    fn kept_things(&self) -> Option<u32>
+        ensures { IfSome result (λ things. IsClean S.Store self.now.held → IsOpen S.Store self.now.held → IsLawful desk_seats (world_at S.Store self.now.held)
+            → things ≡ set.len (world_at S.Store self.now.held).layout.nodes + finite.len (world_at S.Store self.now.held).layout.edges) }
+    {
+        match &self.layout {
+            None => None,
+            Some(layout) => Some(told_number(
+                layout.node_count().saturating_add(layout.edge_count()),
+            )),
+        }
     }
 }
 

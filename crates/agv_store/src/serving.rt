@@ -15,6 +15,7 @@ ghost use Rattle.agv_store.specs.Serving.{Decides, IsServedBy, LeavesAll, Leaves
 
 use crate::flags::{note, read_as};
 use crate::kept_layout::keep_through;
+use crate::kept_rooms::lower_through;
 use crate::keyed_floor::KeyedFloor;
 use agv_desk::laws::counts::{adds_below_the_limit, counts_follow};
 use agv_desk::laws::lawful::{keeps_lawful, serves_lawful_worlds};
@@ -68,8 +69,8 @@ impl<S: Alter + Drop> KeyedFloor<S> {
         Ok(decision)
     }
 
-    // The changes of the decision are made in one transaction, the counts follow the answer, and a layout that was written
-    // is kept no more.
+    // The changes of the decision are made in one transaction. The counts follow the answer, a layout that was written is
+    // kept no more, and of the rooms what is left is.
     fn write(&mut self, decision: Decision, at: Moment, call: &Call) -> Result<Answer, Fault>
         requires knows { IsClean S.Store self.old.held → Knows S.Store self.old.held (world_at S.Store self.old.held) }
         requires decides { IsClean S.Store self.old.held → Decides (world_at S.Store self.old.held) at call.now decision }
@@ -88,6 +89,7 @@ impl<S: Alter + Drop> KeyedFloor<S> {
         note(&mut self.failed, &mut self.in_doubt, read_as(written))?;
         self.counts.add(counted_by(call, &decision.answer));
         keep_through(&mut self.layout, decision.changes.as_slice());
+        lower_through(&mut self.rooms, decision.changes.as_slice());
         Ok(decision.answer)
     }
 }

@@ -4,9 +4,13 @@ use Rattle.std.specs.FinSet as set
 use Rattle.agv_header.specs.Name.{name_cmp}
 use Rattle.agv_layout.specs.declared.edge.EdgeEnds.{EdgeEnds}
 use Rattle.agv_world.specs.Worlds.{World}
+use Rattle.agv_store.proofs.Asked.{answered_open}
 use Rattle.agv_store.proofs.InTurn.{asked_both}
 use Rattle.agv_store.proofs.ReportLists.{counted, few_things}
 use Rattle.agv_store.proofs.keyed_floor.KeyedFloor.things_counted.Goals as goal
+
+pub returns-in-Some : goal.returns-in-Some
+returns-in-Some g c = answered_open g.S.Store c.args.self.now c.settle.new.self c.in_ok-settle.ensures.asks c.in_ok-settle.ensures.knows c.in-Some.ensures
 
 pub returns : goal.returns
 returns g c =

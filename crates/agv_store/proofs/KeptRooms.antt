@@ -1,0 +1,238 @@
+-- Rooms at stations that are kept beside the connection: what they say of the world, and what is left of them once rows were written.
+use Rattle.std.proofs.Common.{◌≡◌, ◌+◌, ◌-◌, ◌≤◌, ◌<◌, ◌==◌, ◌&&◌, ◌++◌, ℕ, Bool, true, false, not, cond, if◌then◌else◌, nat_eq, List, [], ◌∷◌, length, take, take_all, get_or, Option, None, Some, Result, Ok, Err, OnOk, OnErr, arith, refl, sym, ap, subst, ◌∙◌}
+use Rattle.std.specs.BTreeMap as tree
+use Rattle.std.specs.Cmp.Lexicographic.{pointwise, texts_ties}
+use Rattle.std.specs.FinMap as finite
+use Rattle.std.specs.Map.{lookup}
+use Rattle.std.specs.Option.{option_map}
+use Rattle.std.proofs.lemmas.Bool.Decides.{nat_tests}
+use Rattle.std.proofs.lemmas.List.{length-map, take_more}
+use Rattle.std.proofs.lemmas.List.Sums.{length-filter}
+use Rattle.std.proofs.lemmas.Option.{same_Some}
+use Rattle.sqlite.specs.Held.{Held}
+use Rattle.sqlite_trees.specs.declared.store.Store.{Ghosts}
+use Rattle.agv_header.specs.Name.{name_cmp}
+use Rattle.agv_layout.specs.Layout.{Layout}
+use Rattle.agv_layout.specs.declared.station.StationSite.{StationSite}
+use Rattle.agv_stock.specs.Phase.{is_live}
+use Rattle.agv_stock.specs.Rooms.{is_at, room_left}
+use Rattle.agv_stock.specs.declared.place.Place.{Place}
+use Rattle.agv_stock.specs.declared.place.Place.TheVariants as place
+use Rattle.agv_world.specs.Changes.{change, changed}
+use Rattle.agv_world.specs.Questions.{has_room_at, is_live_to, loads_at, reserved, room_at}
+use Rattle.agv_world.specs.Rows.{Rows, rows_of}
+use Rattle.agv_world.specs.StockInvariant.{coming, stored}
+use Rattle.agv_world.specs.Worlds.{World}
+use Rattle.agv_world.specs.declared.change.Change.{Change}
+use Rattle.agv_world.specs.declared.change.Change.TheVariants as row
+use Rattle.agv_world.proofs.lists.Orders.{names_apart, names_total}
+use Rattle.agv_desk.proofs.lists.SameNames.{same_name}
+use Rattle.agv_desk.proofs.lists.Writes.{is_written, one_if, tally, tally-written}
+use Rattle.agv_tables.specs.sql.Connections.{IsClean, IsOpen}
+use Rattle.agv_store.specs.Floors.{IsKept, world_at}
+use Rattle.agv_store.specs.KeptLayouts.{is_of_layout}
+use Rattle.agv_store.specs.KeptRooms.{AreLeft, IsLowered, IsRoomLeft, RoomsLeft, place_taken, station_of}
+use Rattle.agv_store.specs.declared.counts.Counts.{Counts}
+
+-- ---- what they say
+
+some_left : (capacity loads jobs : ℕ) → loads + jobs + 1 ≤ capacity → not (room_left capacity loads jobs == 0) ≡ true
+some_left capacity loads jobs fits =
+    let some : 0 < capacity - loads - jobs = omega (arith, fits) in
+    grind (arith, nat_tests, some)
+
+all_fit : (capacity loads jobs room : ℕ) → room_left capacity loads jobs ≡ room → 1 ≤ room → loads + jobs + room ≤ capacity
+all_fit capacity loads jobs room is some = omega (arith, is, some)
+
+mapped : {A B : Type 0} (f : A → B) (there : Option A) (b : B) → option_map f there ≡ Some b → (a : A) × (there ≡ Some a)
+mapped f None b is = absurd (cc is)
+mapped f (Some a) b is = (a, refl)
+
+module _ (world : World) (station : List ℕ) where
+  abbrev left_in : StationSite → ℕ
+  left_in site = room_left site.capacity (length (loads_at world station)) (reserved world station)
+
+  stored_is : length (loads_at world station) ≡ stored world.places station
+  unfolding loads_at
+  stored_is = length-map _ _ ∙ length-filter (λ (load : List ℕ × Place). is_at station load.1) (finite.entries world.places)
+
+  reserved_is : reserved world station ≡ coming world.jobs station
+  unfolding reserved
+  reserved_is = refl
+
+  room_is : room_at world station ≡ option_map left_in (finite.get world.layout.stations station)
+  unfolding room_at
+  room_is = refl
+
+  -- one load fits where room is left
+  pub one_fits : IsRoomLeft (rows_of world) station 1 → has_room_at world station ≡ Some true
+  one_fits (site, there, within) =
+      let enough : length (loads_at world station) + reserved world station + 1 ≤ site.capacity =
+      subst (λ jobs. length (loads_at world station) + jobs + 1 ≤ site.capacity) (sym reserved_is) (subst (λ loads. loads + coming world.jobs station + 1 ≤ site.capacity) (sym stored_is) within) in
+      ap (option_map (λ (room : ℕ). not (room == 0))) (room_is ∙ ap (option_map left_in) there) ∙ ap Some (some_left _ _ _ enough)
+
+  -- what was counted is left
+  pub counted_left : (room : ℕ) → 1 ≤ room → Some room ≡ room_at world station → IsRoomLeft (rows_of world) station room
+  counted_left room some is =
+      let (site, there) = mapped left_in (finite.get world.layout.stations station) room (sym (is ∙ room_is)) in
+      let told : left_in site ≡ room = same_Some _ _ (sym (ap (option_map left_in) there) ∙ sym (is ∙ room_is)) in
+      let enough : length (loads_at world station) + reserved world station + room ≤ site.capacity = all_fit _ _ _ room told some in
+      (site, there, subst (λ loads. loads + coming world.jobs station + room ≤ site.capacity) stored_is (subst (λ jobs. length (loads_at world station) + jobs + room ≤ site.capacity) reserved_is enough))
+
+-- ---- the rooms that are kept
+
+-- less is left, where more is
+pub less_left : (rows : Rows) (station : List ℕ) (room less : ℕ) → less ≤ room → IsRoomLeft rows station room → IsRoomLeft rows station less
+less_left rows station room less few (site, there, within) = (site, there, omega (arith, few, within))
+
+-- what has the same entries keeps the same
+pub same_left : (rooms more : RoomsLeft) → tree.IsUnchanged rooms more → (rows : Rows) → AreLeft rooms rows → AreLeft more rows
+same_left rooms more same rows left station room there = left station room (sym (ap (λ es. lookup (tree.is_at (name_cmp station)) es) same) ∙ there)
+
+-- one more that is left can be kept
+pub one_more_left : (rooms more : RoomsLeft) (station : List ℕ) (room : ℕ) → ((other : List ℕ) → tree.get name_cmp more other ≡ cond (tree.is_at (name_cmp station) other) (Some room) (tree.get name_cmp rooms other))
+    → (rows : Rows) → IsRoomLeft rows station room → AreLeft rooms rows → AreLeft more rows
+one_more_left rooms more station room puts rows counted left other known there =
+    elim (tree.is_at (name_cmp station) other) as (λ b. tree.is_at (name_cmp station) other ≡ b → cond b (Some room) (tree.get name_cmp rooms other) ≡ Some known → IsRoomLeft rows other known) [
+      | true ↦ λ tied is. subst (λ name. IsRoomLeft rows name known) (same_name station other (texts_ties station other ∙ tied)) (subst (IsRoomLeft rows station) (same_Some room known is) counted)
+      | false ↦ λ untied is. left other known is
+    ] refl (sym (puts other) ∙ there)
+
+module _ (old new : RoomsLeft) (station : List ℕ) where
+  -- one that is forgotten
+  pub forgotten : ((other : List ℕ) → tree.get name_cmp new other ≡ cond (tree.is_at (name_cmp station) other) None (tree.get name_cmp old other)) → IsLowered old new station
+  forgotten takes other room there =
+      elim (tree.is_at (name_cmp station) other) as (λ b. tree.is_at (name_cmp station) other ≡ b → cond b None (tree.get name_cmp old other) ≡ Some room → (before : ℕ) × (tree.get name_cmp old other ≡ Some before) × (room + cond (pointwise nat_eq station other) 1 0 ≤ before)) [
+        | true ↦ λ tied is. absurd (cc is)
+        | false ↦ λ untied is. (room, is, subst (λ b. room + cond b 1 0 ≤ room) (sym (texts_ties station other ∙ untied)) (omega arith))
+      ] refl (sym (takes other) ∙ there)
+
+  -- one that is put back, less by one
+  pub put_back : (mid : RoomsLeft) (before less : ℕ) → less + 1 ≤ before → tree.get name_cmp old station ≡ Some before
+      → ((other : List ℕ) → tree.get name_cmp mid other ≡ cond (tree.is_at (name_cmp station) other) None (tree.get name_cmp old other))
+      → ((other : List ℕ) → tree.get name_cmp new other ≡ cond (tree.is_at (name_cmp station) other) (Some less) (tree.get name_cmp mid other)) → IsLowered old new station
+  put_back mid before less lower was takes puts other room there =
+      elim (tree.is_at (name_cmp station) other) as (λ b. tree.is_at (name_cmp station) other ≡ b → cond b (Some less) (cond b None (tree.get name_cmp old other)) ≡ Some room → (before : ℕ) × (tree.get name_cmp old other ≡ Some before) × (room + cond (pointwise nat_eq station other) 1 0 ≤ before)) [
+        | true ↦ λ tied is.
+            let same : station ≡ other = same_name station other (texts_ties station other ∙ tied) in (
+              before,
+              subst (λ name. tree.get name_cmp old name ≡ Some before) same was,
+              subst (λ b. room + cond b 1 0 ≤ before) (sym (texts_ties station other ∙ tied)) (subst (λ n. n + 1 ≤ before) (same_Some less room is) lower),
+            )
+        | false ↦ λ untied is. (room, is, subst (λ b. room + cond b 1 0 ≤ room) (sym (texts_ties station other ∙ untied)) (omega arith))
+      ] refl (sym (puts other ∙ ap (cond (tree.is_at (name_cmp station) other) (Some less)) (takes other)) ∙ there)
+
+  -- one that is put back where there is memory for it
+  pub put_or_forgotten : {E : Type 0} (mid : RoomsLeft) (before less : ℕ) → less + 1 ≤ before → tree.get name_cmp old station ≡ Some before
+      → ((other : List ℕ) → tree.get name_cmp mid other ≡ cond (tree.is_at (name_cmp station) other) None (tree.get name_cmp old other))
+      → (r : Result (Option ℕ) E) → OnOk r (tree.Updates name_cmp mid new station (Some less)) → OnErr r (tree.IsUnchanged mid new) → IsLowered old new station
+  put_or_forgotten mid before less lower was takes (Ok there) puts same = put_back mid before less lower was takes puts.0
+  put_or_forgotten mid before less lower was takes (Err back) puts same = forgotten (λ other. ap (λ es. lookup (tree.is_at (name_cmp other)) es) same ∙ takes other)
+
+-- ---- rows that are written
+
+-- a row that is written counts as one, where it counts at all
+one_more : {X : Type 0} (test : X → Bool) (m : finite.FinMap name_cmp X) (k : List ℕ) (x : X) → tally test (finite.insert m k x) ≤ tally test m + one_if (test x)
+one_more test m k x =
+    let is = tally-written names_total names_apart test m k x (finite.insert m k x) (is_written names_total names_apart m k x) in
+    omega (arith, is)
+
+both_pass : (a b : Bool) → one_if (a && b) ≤ one_if b
+both_pass true b = omega arith
+both_pass false b = omega arith
+
+live_target : (live : Bool) (target station : List ℕ) → (if live then Some target else None) ≡ Some station → target ≡ station
+live_target true target station is = same_Some target station is
+live_target false target station is = absurd (cc is)
+
+not_live : (live : Bool) (target : List ℕ) → (if live then Some target else None) ≡ None → live ≡ false
+not_live true target is = absurd (cc is)
+not_live false target is = refl
+
+-- where one load less is known to fit at the station that a row takes a place at, what is known is left with the row
+pub lowered_left : (old new : RoomsLeft) (one : Change) (station : List ℕ) → place_taken one ≡ Some station → IsLowered old new station → (rows : Rows) → AreLeft old rows → AreLeft new (change rows one)
+lowered_left old new (row.Node id) station is lowered rows left other room there = absurd (cc is)
+lowered_left old new (row.Edge id ends) station is lowered rows left other room there = absurd (cc is)
+lowered_left old new (row.Station id site) station is lowered rows left other room there = absurd (cc is)
+lowered_left old new (row.Vehicle key vehicle) station is lowered rows left other room there = absurd (cc is)
+lowered_left old new (row.Trip order trip) station is lowered rows left other room there = absurd (cc is)
+lowered_left old new (row.Leg key edge) station is lowered rows left other room there = absurd (cc is)
+lowered_left old new (row.Load id (place.Station at)) station is lowered rows left other room there =
+    let (before, was, lower) = lowered other room there in
+    let (site, known, within) = left other before was in
+    let more : stored (finite.insert rows.loads id (place.Station at)) other ≤ stored rows.loads other + one_if (pointwise nat_eq at other) = one_more (is_at other) rows.loads id (place.Station at) in
+    let same : one_if (pointwise nat_eq at other) ≡ one_if (pointwise nat_eq station other) = ap (λ name. one_if (pointwise nat_eq name other)) (same_Some at station is) in
+    (site, known, omega (arith, more, same, lower, within))
+lowered_left old new (row.Load id (place.Vehicle key)) station is lowered rows left other room there = absurd (cc is)
+lowered_left old new (row.Load id place.Checking) station is lowered rows left other room there = absurd (cc is)
+lowered_left old new (row.Load id place.Left) station is lowered rows left other room there = absurd (cc is)
+lowered_left old new (row.Job id job) station is lowered rows left other room there =
+    let (before, was, lower) = lowered other room there in
+    let (site, known, within) = left other before was in
+    let more : coming (finite.insert rows.jobs id job) other ≤ coming rows.jobs other + one_if (is_live_to other job) = one_more (is_live_to other) rows.jobs id job in
+    let few : one_if (is_live_to other job) ≤ one_if (pointwise nat_eq job.target other) = both_pass (is_live job.phase) (pointwise nat_eq job.target other) in
+    let same : one_if (pointwise nat_eq job.target other) ≡ one_if (pointwise nat_eq station other) = ap (λ name. one_if (pointwise nat_eq name other)) (live_target (is_live job.phase) job.target station is) in
+    (site, known, omega (arith, more, few, same, lower, within))
+lowered_left old new (row.Hold thing key) station is lowered rows left other room there = absurd (cc is)
+lowered_left old new (row.Used key) station is lowered rows left other room there = absurd (cc is)
+
+-- a row that takes no place, and isn't of the layout, leaves what is known
+pub still_left : (rooms : RoomsLeft) (one : Change) → is_of_layout one ≡ false → place_taken one ≡ None → (rows : Rows) → AreLeft rooms rows → AreLeft rooms (change rows one)
+still_left rooms (row.Node id) laid none rows left other room there = absurd (cc laid)
+still_left rooms (row.Edge id ends) laid none rows left other room there = absurd (cc laid)
+still_left rooms (row.Station id site) laid none rows left other room there = absurd (cc laid)
+still_left rooms (row.Vehicle key vehicle) laid none rows left other room there = left other room there
+still_left rooms (row.Trip order trip) laid none rows left other room there = left other room there
+still_left rooms (row.Leg key edge) laid none rows left other room there = left other room there
+still_left rooms (row.Load id to) laid none rows left other room there =
+    let (site, known, within) = left other room there in
+    let more : stored (finite.insert rows.loads id to) other ≤ stored rows.loads other + one_if (is_at other to) = one_more (is_at other) rows.loads id to in
+    let same : one_if (is_at other to) ≡ 0 = ap one_if (not_there to other none) in
+    (site, known, omega (arith, more, same, within))
+  where
+    not_there : (to : Place) (other : List ℕ) → station_of to ≡ None → is_at other to ≡ false
+    not_there (place.Station at) other is = absurd (cc is)
+    not_there (place.Vehicle key) other is = refl
+    not_there place.Checking other is = refl
+    not_there place.Left other is = refl
+still_left rooms (row.Job id job) laid none rows left other room there =
+    let (site, known, within) = left other room there in
+    let more : coming (finite.insert rows.jobs id job) other ≤ coming rows.jobs other + one_if (is_live_to other job) = one_more (is_live_to other) rows.jobs id job in
+    let same : one_if (is_live_to other job) ≡ 0 = ap (λ live. one_if (live && pointwise nat_eq job.target other)) (not_live (is_live job.phase) job.target none) in
+    (site, known, omega (arith, more, same, within))
+still_left rooms (row.Hold thing key) laid none rows left other room there = left other room there
+still_left rooms (row.Used key) laid none rows left other room there = left other room there
+
+-- the law that is cited
+abbrev pub ChangesInTurn : Type 0
+ChangesInTurn = (first later : List Change) (rows : Rows) → changed (first ++ later) rows ≡ changed later (changed first rows)
+
+-- what is known through the changes so far, and through one more
+pub one_left_more : ChangesInTurn → (all : List Change) (i : ℕ) (one : Change) (rooms mid new : RoomsLeft) → i < length all → one ≡ get_or all i one
+    → ((rows : Rows) → AreLeft rooms rows → AreLeft mid (changed (take i all) rows)) → ((rows : Rows) → AreLeft mid rows → AreLeft new (change rows one))
+    → (rows : Rows) → AreLeft rooms rows → AreLeft new (changed (take (i + 1) all) rows)
+unfolding changed
+one_left_more in_turn all i one rooms mid new low is so_far more rows left =
+    subst (λ changes. AreLeft new (changed changes rows)) (ap (λ x. take i all ++ x ∷ []) is ∙ sym (take_more all i one low))
+    (subst (AreLeft new) (sym (in_turn (take i all) (one ∷ []) rows)) (more (changed (take i all) rows) (so_far rows left)))
+
+pub all_left : (all : List Change) (i : ℕ) (rooms new : RoomsLeft) → length all ≤ i → ((rows : Rows) → AreLeft rooms rows → AreLeft new (changed (take i all) rows))
+    → (rows : Rows) → AreLeft rooms rows → AreLeft new (changed all rows)
+all_left all i rooms new whole so_far rows left = subst (λ changes. AreLeft new (changed changes rows)) (take_all i all whole) (so_far rows left)
+
+pub none_changed : (all : List Change) (rooms : RoomsLeft) (rows : Rows) → AreLeft rooms rows → AreLeft rooms (changed (take 0 all) rows)
+unfolding changed
+none_changed all rooms rows left = left
+
+-- ---- a floor that keeps them
+
+module _ {S : Type 0} (g : Ghosts S) (held : Held S) (counts : Counts) (layout : Option Layout) (rooms more : RoomsLeft) (failed in_doubt : Bool) (is : IsKept g held counts layout rooms failed in_doubt) where
+  pub keeps_rooms : (IsClean g held → IsOpen g held → AreLeft rooms (rows_of (world_at g held)) → AreLeft more (rows_of (world_at g held))) → IsKept g held counts layout more failed in_doubt
+  keeps_rooms left = record {
+    idle = is.idle;
+    opens = is.opens;
+    knows = is.knows;
+    counted = is.counted;
+    agrees = is.agrees;
+    fits = λ clean still. left clean still (is.fits clean still);
+  }
