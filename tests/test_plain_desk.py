@@ -1,6 +1,6 @@
 """The program beside `bench/plain_desk.py`, which is another desk, in plain Python over another SQLite: both answer
-the same bytes to the scripts, to the examples of docs/openapi.json, and to random lawful traffic as `bench/soak`
-makes it. And the streams by which `bench/each_call` times the two have each call of the table."""
+the same bytes to the scripts, to the examples of docs/openapi.json, to random lawful traffic as `bench/soak`
+makes it, and to loads and jobs at small stations. And the streams by which `bench/each_call` times the two have each call of the table."""
 import importlib.machinery
 import importlib.util
 import os
@@ -88,26 +88,26 @@ class BesideAPlainDesk(unittest.TestCase):
             self.assertIn('done', {job['phase'] for job in model.jobs.values()})
 
     def test_random_loads_at_small_stations(self):
-        """Loads and jobs that come and go at stations which are full again and again: the program keeps the room that it counted there,
-        and the other desk counts for each call."""
+        """Loads are put at small stations and taken away again, and jobs to them are added and taken back, so that each
+        station is now full and now not: the program keeps the room that it counted, the other desk counts each time."""
         chance = random.Random(5)
         rows = ['kind,id,from,to', 'node,N1,,', *('station,S%d,N1,%d' % (n, n) for n in range(1, 6))]
         lines = [as_bytes('PUT', '/layout', '\n'.join(rows) + '\n')]
+        lines += [as_bytes('POST', '/loads', {'load': 'L%d' % n}) for n in range(16)]
         for n in range(REQUESTS):
-            load, job, to = 'L%d' % chance.randrange(n // 6 + 1), 'J%d' % chance.randrange(n // 6 + 1), 'S%d' % chance.randint(1, 6)
+            load, to = 'L%d' % chance.randrange(16), 'S%d' % chance.randint(1, 6)
             method, path, body = (
-                ('POST', '/loads', {'load': 'L%d' % (n // 6)}),
                 ('POST', '/loads/%s/correct' % load, {'ref': 'R%d' % n, 'station': to}),
-                ('POST', '/jobs', {'job': 'J%d' % (n // 6), 'load': load, 'to': to}),
-                ('DELETE', '/jobs/%s' % job, None),
+                ('POST', '/jobs', {'job': 'J%d' % n, 'load': load, 'to': to}),
+                ('DELETE', '/jobs/J%d' % (n - 31), None),
                 ('POST', '/loads', {'load': 'M%d' % n, 'station': to}),
-                ('POST', '/loads/%s/leave' % chance.choice((load, 'M%d' % (n - 1))), {'ref': 'R%d' % n}),
+                ('POST', '/loads/M%d/leave' % (n - 37), {'ref': 'R%d' % n}),
+                ('POST', '/loads/%s/correct' % load, {'ref': 'R%d' % n}),
             )[n % 6]
             lines.append(as_bytes(method, path, body))
         lines.append(as_bytes('GET', '/report/stock', None))
         answers = self.check(b''.join(lines))
-        full = sum(b'"Full"' in answer for answer in answers)
-        self.assertGreater(full, REQUESTS // 20)
+        self.assertGreater(sum(b'"Full"' in answer for answer in answers), REQUESTS // 20)
         self.assertGreater(sum(answer.startswith(b'200') for answer in answers), REQUESTS // 5)
 
     def test_each_goes_on_with_the_file_of_the_other(self):
