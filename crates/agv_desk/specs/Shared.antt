@@ -30,13 +30,13 @@ reference_key reference = record { kind = used.Reference; name = reference }
 
 -- ---- loads
 
--- a station with room for one load or for none, or one that is unknown
+-- a station as a goal: 1 stands for room for one load or more, 0 for none; unknown where the layout has no such station
 abbrev pub goal_at : List ℕ → Option Bool → Goal
 goal_at station None = goal.Unknown
 goal_at station (Some true) = goal.At station 1
 goal_at station (Some false) = goal.At station 0
 
--- where the load is to go; of the room at a station no more is told than whether one load fits
+-- where the load is to go: to the checking place, or to this station; no check asks how many loads fit there, only whether one does
 abbrev pub goal_of : World → Option (List ℕ) → Goal
 goal_of world None = goal.Checking
 goal_of world (Some station) = goal_at station (has_room_at world station)

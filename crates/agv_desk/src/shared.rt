@@ -39,7 +39,7 @@ pub(crate) fn reference_used(reference: Name) -> Change
     })
 }
 
-/// A station as a goal, with room for one load or for none, or as one that is unknown.
+/// A station as a goal, with 1 where one load more fits and 0 where none does, or as one that is unknown.
 pub(crate) fn goal_at(station: Name, has_room: Option<bool>) -> Goal
     ensures is { result ≡ goal_at station has_room }
     ensures stored { result ≢ goals.Checking }

@@ -9,6 +9,6 @@ pub enum Goal {
     Checking,
     /// To a station that the layout does not have.
     Unknown,
-    /// To the station of this name, which has room for so many loads more.
+    /// To the station of this name, which has room for so many loads more, or for more than that; 0 is for none.
     At(Name, u32),
 }
