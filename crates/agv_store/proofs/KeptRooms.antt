@@ -1,12 +1,12 @@
 -- Rooms at stations that are kept beside the connection: what they say of the world, and what is left of them once rows were written.
-use Rattle.std.proofs.Common.{◌≡◌, ◌+◌, ◌-◌, ◌≤◌, ◌<◌, ◌==◌, ◌&&◌, ◌++◌, ℕ, Bool, true, false, not, cond, if◌then◌else◌, nat_eq, List, [], ◌∷◌, length, take, take_all, get_or, Option, None, Some, Result, Ok, Err, OnOk, OnErr, arith, refl, sym, ap, subst, ◌∙◌}
+use Rattle.std.proofs.Common.{◌≡◌, ◌+◌, ◌-◌, ◌≤◌, ◌<◌, ◌==◌, ◌&&◌, ℕ, Bool, true, false, not, cond, if◌then◌else◌, nat_eq, List, length, Option, None, Some, Result, Ok, Err, OnOk, OnErr, arith, refl, sym, ap, subst, ◌∙◌}
 use Rattle.std.specs.BTreeMap as tree
 use Rattle.std.specs.Cmp.Lexicographic.{pointwise, texts_ties}
 use Rattle.std.specs.FinMap as finite
 use Rattle.std.specs.Map.{lookup}
 use Rattle.std.specs.Option.{option_map}
 use Rattle.std.proofs.lemmas.Bool.Decides.{nat_tests}
-use Rattle.std.proofs.lemmas.List.{length-map, take_more}
+use Rattle.std.proofs.lemmas.List.{length-map}
 use Rattle.std.proofs.lemmas.List.Sums.{length-filter}
 use Rattle.std.proofs.lemmas.Option.{same_Some}
 use Rattle.sqlite.specs.Held.{Held}
@@ -18,7 +18,7 @@ use Rattle.agv_stock.specs.Phase.{is_live}
 use Rattle.agv_stock.specs.Rooms.{is_at, room_left}
 use Rattle.agv_stock.specs.declared.place.Place.{Place}
 use Rattle.agv_stock.specs.declared.place.Place.TheVariants as place
-use Rattle.agv_world.specs.Changes.{change, changed}
+use Rattle.agv_world.specs.Changes.{change}
 use Rattle.agv_world.specs.Questions.{has_room_at, is_live_to, loads_at, reserved, room_at}
 use Rattle.agv_world.specs.Rows.{Rows, rows_of}
 use Rattle.agv_world.specs.StockInvariant.{coming, stored}
@@ -26,12 +26,14 @@ use Rattle.agv_world.specs.Worlds.{World}
 use Rattle.agv_world.specs.declared.change.Change.{Change}
 use Rattle.agv_world.specs.declared.change.Change.TheVariants as row
 use Rattle.agv_world.proofs.lists.Orders.{names_apart, names_total}
+use Rattle.agv_desk.specs.JobSteps.{station_in}
 use Rattle.agv_desk.proofs.lists.SameNames.{same_name}
 use Rattle.agv_desk.proofs.lists.Writes.{is_written, one_if, tally, tally-written}
+use Rattle.agv_tables.specs.queries.KnownWays.{WaysOf}
 use Rattle.agv_tables.specs.sql.Connections.{IsClean, IsOpen}
 use Rattle.agv_store.specs.Floors.{IsKept, world_at}
 use Rattle.agv_store.specs.KeptLayouts.{is_of_layout}
-use Rattle.agv_store.specs.KeptRooms.{AreLeft, IsLowered, IsRoomLeft, RoomsLeft, place_taken, station_of}
+use Rattle.agv_store.specs.KeptRooms.{AreLeft, IsLowered, IsRoomLeft, RoomsLeft, takes_room_at}
 use Rattle.agv_store.specs.declared.counts.Counts.{Counts}
 
 -- ---- what they say
@@ -80,10 +82,6 @@ module _ (world : World) (station : List ℕ) where
       (site, there, subst (λ loads. loads + coming world.jobs station + room ≤ site.capacity) stored_is (subst (λ jobs. length (loads_at world station) + jobs + room ≤ site.capacity) reserved_is enough))
 
 -- ---- the rooms that are kept
-
--- less is left, where more is
-pub less_left : (rows : Rows) (station : List ℕ) (room less : ℕ) → less ≤ room → IsRoomLeft rows station room → IsRoomLeft rows station less
-less_left rows station room less few (site, there, within) = (site, there, omega (arith, few, within))
 
 -- what has the same entries keeps the same
 pub same_left : (rooms more : RoomsLeft) → tree.IsUnchanged rooms more → (rows : Rows) → AreLeft rooms rows → AreLeft more rows
@@ -150,7 +148,7 @@ not_live true target is = absurd (cc is)
 not_live false target is = refl
 
 -- where one load less is known to fit at the station that a row takes a place at, what is known is left with the row
-pub lowered_left : (old new : RoomsLeft) (one : Change) (station : List ℕ) → place_taken one ≡ Some station → IsLowered old new station → (rows : Rows) → AreLeft old rows → AreLeft new (change rows one)
+pub lowered_left : (old new : RoomsLeft) (one : Change) (station : List ℕ) → takes_room_at one ≡ Some station → IsLowered old new station → (rows : Rows) → AreLeft old rows → AreLeft new (change rows one)
 lowered_left old new (row.Node id) station is lowered rows left other room there = absurd (cc is)
 lowered_left old new (row.Edge id ends) station is lowered rows left other room there = absurd (cc is)
 lowered_left old new (row.Station id site) station is lowered rows left other room there = absurd (cc is)
@@ -177,7 +175,7 @@ lowered_left old new (row.Hold thing key) station is lowered rows left other roo
 lowered_left old new (row.Used key) station is lowered rows left other room there = absurd (cc is)
 
 -- a row that takes no place, and isn't of the layout, leaves what is known
-pub still_left : (rooms : RoomsLeft) (one : Change) → is_of_layout one ≡ false → place_taken one ≡ None → (rows : Rows) → AreLeft rooms rows → AreLeft rooms (change rows one)
+pub still_left : (rooms : RoomsLeft) (one : Change) → is_of_layout one ≡ false → takes_room_at one ≡ None → (rows : Rows) → AreLeft rooms rows → AreLeft rooms (change rows one)
 still_left rooms (row.Node id) laid none rows left other room there = absurd (cc laid)
 still_left rooms (row.Edge id ends) laid none rows left other room there = absurd (cc laid)
 still_left rooms (row.Station id site) laid none rows left other room there = absurd (cc laid)
@@ -190,7 +188,7 @@ still_left rooms (row.Load id to) laid none rows left other room there =
     let same : one_if (is_at other to) ≡ 0 = ap one_if (not_there to other none) in
     (site, known, omega (arith, more, same, within))
   where
-    not_there : (to : Place) (other : List ℕ) → station_of to ≡ None → is_at other to ≡ false
+    not_there : (to : Place) (other : List ℕ) → station_in (Some to) ≡ None → is_at other to ≡ false
     not_there (place.Station at) other is = absurd (cc is)
     not_there (place.Vehicle key) other is = refl
     not_there place.Checking other is = refl
@@ -203,31 +201,10 @@ still_left rooms (row.Job id job) laid none rows left other room there =
 still_left rooms (row.Hold thing key) laid none rows left other room there = left other room there
 still_left rooms (row.Used key) laid none rows left other room there = left other room there
 
--- the law that is cited
-abbrev pub ChangesInTurn : Type 0
-ChangesInTurn = (first later : List Change) (rows : Rows) → changed (first ++ later) rows ≡ changed later (changed first rows)
-
--- what is known through the changes so far, and through one more
-pub one_left_more : ChangesInTurn → (all : List Change) (i : ℕ) (one : Change) (rooms mid new : RoomsLeft) → i < length all → one ≡ get_or all i one
-    → ((rows : Rows) → AreLeft rooms rows → AreLeft mid (changed (take i all) rows)) → ((rows : Rows) → AreLeft mid rows → AreLeft new (change rows one))
-    → (rows : Rows) → AreLeft rooms rows → AreLeft new (changed (take (i + 1) all) rows)
-unfolding changed
-one_left_more in_turn all i one rooms mid new low is so_far more rows left =
-    subst (λ changes. AreLeft new (changed changes rows)) (ap (λ x. take i all ++ x ∷ []) is ∙ sym (take_more all i one low))
-    (subst (AreLeft new) (sym (in_turn (take i all) (one ∷ []) rows)) (more (changed (take i all) rows) (so_far rows left)))
-
-pub all_left : (all : List Change) (i : ℕ) (rooms new : RoomsLeft) → length all ≤ i → ((rows : Rows) → AreLeft rooms rows → AreLeft new (changed (take i all) rows))
-    → (rows : Rows) → AreLeft rooms rows → AreLeft new (changed all rows)
-all_left all i rooms new whole so_far rows left = subst (λ changes. AreLeft new (changed changes rows)) (take_all i all whole) (so_far rows left)
-
-pub none_changed : (all : List Change) (rooms : RoomsLeft) (rows : Rows) → AreLeft rooms rows → AreLeft rooms (changed (take 0 all) rows)
-unfolding changed
-none_changed all rooms rows left = left
-
 -- ---- a floor that keeps them
 
-module _ {S : Type 0} (g : Ghosts S) (held : Held S) (counts : Counts) (layout : Option Layout) (rooms more : RoomsLeft) (failed in_doubt : Bool) (is : IsKept g held counts layout rooms failed in_doubt) where
-  pub keeps_rooms : (IsClean g held → IsOpen g held → AreLeft rooms (rows_of (world_at g held)) → AreLeft more (rows_of (world_at g held))) → IsKept g held counts layout more failed in_doubt
+module _ {S : Type 0} (g : Ghosts S) (held : Held S) (counts : Counts) (layout : Option Layout) (rooms more : RoomsLeft) (ways : WaysOf) (failed in_doubt : Bool) (is : IsKept g held counts layout rooms ways failed in_doubt) where
+  pub keeps_rooms : (IsClean g held → IsOpen g held → AreLeft rooms (rows_of (world_at g held)) → AreLeft more (rows_of (world_at g held))) → IsKept g held counts layout more ways failed in_doubt
   keeps_rooms left = record {
     idle = is.idle;
     opens = is.opens;
@@ -235,4 +212,5 @@ module _ {S : Type 0} (g : Ghosts S) (held : Held S) (counts : Counts) (layout :
     counted = is.counted;
     agrees = is.agrees;
     fits = λ clean still. left clean still (is.fits clean still);
+    go = is.go;
   }

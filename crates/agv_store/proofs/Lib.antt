@@ -7,6 +7,8 @@ mod Found
 mod InTurn
 mod KeptLayout
 mod KeptRooms
+mod KeptThrough
+mod KeptWays
 mod Moving
 mod ReportLists
 mod Reporting

@@ -6,12 +6,11 @@ use Rattle.std.specs.FinMap as finite
 use Rattle.agv_header.specs.Name.{name_cmp}
 use Rattle.agv_layout.specs.declared.station.StationSite.{StationSite}
 use Rattle.agv_stock.specs.Phase.{is_live}
-use Rattle.agv_stock.specs.declared.place.Place.{Place}
-use Rattle.agv_stock.specs.declared.place.Place.TheVariants as place
 use Rattle.agv_world.specs.Rows.{Rows}
 use Rattle.agv_world.specs.StockInvariant.{coming, stored}
 use Rattle.agv_world.specs.declared.change.Change.{Change}
 use Rattle.agv_world.specs.declared.change.Change.TheVariants as row
+use Rattle.agv_desk.specs.JobSteps.{station_in}
 
 abbrev pub RoomsLeft : Type 0
 RoomsLeft = tree.BTreeMap (List ℕ) ℕ
@@ -21,32 +20,25 @@ abbrev pub IsRoomLeft : Rows → List ℕ → ℕ → Type 0
 IsRoomLeft rows station room =
     (site : StationSite) × (finite.get rows.stations station ≡ Some site) × (stored rows.loads station + coming rows.jobs station + room ≤ site.capacity)
 
--- so it is at each of the stations
+-- so it is at each station of which a room is kept
 abbrev pub AreLeft : RoomsLeft → Rows → Type 0
 AreLeft rooms rows = (station : List ℕ) (room : ℕ) → tree.get name_cmp rooms station ≡ Some room → IsRoomLeft rows station room
 
--- what is still known is less by one at the station, and not more at the others
+-- what is still kept is less by one at least at the station, and not more at the others
 abbrev pub IsLowered : RoomsLeft → RoomsLeft → List ℕ → Type 0
 IsLowered old new station =
     (other : List ℕ) (room : ℕ) → tree.get name_cmp new other ≡ Some room
     → (before : ℕ) × (tree.get name_cmp old other ≡ Some before) × (room + cond (pointwise nat_eq station other) 1 0 ≤ before)
 
--- the station that a place is
-abbrev pub station_of : Place → Option (List ℕ)
-station_of (place.Station id) = Some id
-station_of (place.Vehicle key) = None
-station_of place.Checking = None
-station_of place.Left = None
-
 -- the station where a row puts a load or keeps a place for one
-abbrev pub place_taken : Change → Option (List ℕ)
-place_taken (row.Node id) = None
-place_taken (row.Edge id ends) = None
-place_taken (row.Station id site) = None
-place_taken (row.Vehicle key vehicle) = None
-place_taken (row.Trip order trip) = None
-place_taken (row.Leg key edge) = None
-place_taken (row.Load id place) = station_of place
-place_taken (row.Job id job) = if is_live job.phase then Some job.target else None
-place_taken (row.Hold thing key) = None
-place_taken (row.Used key) = None
+abbrev pub takes_room_at : Change → Option (List ℕ)
+takes_room_at (row.Node id) = None
+takes_room_at (row.Edge id ends) = None
+takes_room_at (row.Station id site) = None
+takes_room_at (row.Vehicle key vehicle) = None
+takes_room_at (row.Trip order trip) = None
+takes_room_at (row.Leg key edge) = None
+takes_room_at (row.Load id place) = station_in (Some place)
+takes_room_at (row.Job id job) = if is_live job.phase then Some job.target else None
+takes_room_at (row.Hold thing key) = None
+takes_room_at (row.Used key) = None

@@ -1,7 +1,8 @@
 //! The questions of a floor, each by look-ups of a key or an index in the desk's tables; the layout alone is read whole, and
 //! kept then. A node, a station, the edges of a trip and the layout itself are looked up in the kept one, and asked of the
-//! tables only where none is kept or it lacks the name. Whether one load more fits at a station is told by what is left of
-//! the room that was counted there; where nothing is left of it, the room is counted.
+//! tables only where none is kept or it lacks the name. The edges of an order that were read are kept as long as it has
+//! them. Whether one load more fits at a station is told by what is left of the room that was counted there; where none is
+//! kept, the room is counted.
 
 use crate::flags::note;
 use crate::keyed_floor::KeyedFloor;
@@ -16,7 +17,7 @@ use agv_tables::queries::key_queries::{
 };
 use agv_tables::queries::load_queries::{query_job_of, query_loads_on, query_reserved, query_room};
 use agv_tables::queries::station_loads::query_loads_at;
-use agv_tables::queries::trip_queries::{query_has_trip, query_trip};
+use agv_tables::queries::trip_queries::query_has_trip;
 use agv_world::{Counted, Fault, Floor, JobRow, UseKey, UseKind, VehicleRow};
 use sqlite::Alter;
 
@@ -49,8 +50,11 @@ impl<S: Alter + Drop> Floor for KeyedFloor<S> {
     }
 
     fn trip(&mut self, key: VehicleKey) -> Result<Option<Trip>, Fault> {
-        let asked = query_trip(self.alloc, &mut self.conn, &self.layout, &key);
-        note(&mut self.failed, &mut self.in_doubt, asked)
+        let trip = self.trip_asked(&key)?;
+        if let Some(trip) = &trip {
+            self.keep_way(&key, trip)?;
+        }
+        Ok(trip)
     }
 
     fn has_trip(&mut self, key: VehicleKey) -> Result<bool, Fault> {
@@ -84,7 +88,7 @@ impl<S: Alter + Drop> Floor for KeyedFloor<S> {
         if room == 0 {
             return Ok(Some(false));
         }
-        self.keep_room(station, room)?;
+        let _kept = self.keep_room(station, room);
         Ok(Some(true))
     }
 

@@ -1,13 +1,14 @@
 //! How many loads more fit at a station, at least: kept beside the connection, so that the loads at a station and the live
-//! jobs to it aren't counted for each call. What was counted is lowered by each load and each live job that is written to
-//! be there, whatever its row was before; where nothing is left of it, they are counted anew.
+//! jobs to it aren't counted for each call. What was counted is lowered by one for each written row that puts a load there
+//! or is of a live job to there, whatever it was before; where nothing is left of it, they are counted anew.
 ghost use Rattle.std.specs.Prelude.{◌≡◌, ◌≤◌, true, Some};
 ghost use Rattle.agv_world.specs.Changes.{change, changed};
 ghost use Rattle.agv_world.specs.Questions.{has_room_at, room_at};
 ghost use Rattle.agv_world.specs.Rows.{Rows};
+ghost use Rattle.agv_desk.specs.JobSteps.{station_in};
 ghost use Rattle.agv_tables.specs.sql.Connections.{IsClean, IsOpen};
 ghost use Rattle.agv_store.specs.Floors.{world_at};
-ghost use Rattle.agv_store.specs.KeptRooms.{AreLeft, IsLowered, IsRoomLeft, place_taken, station_of};
+ghost use Rattle.agv_store.specs.KeptRooms.{AreLeft, IsLowered, IsRoomLeft, takes_room_at};
 
 use crate::kept_layout::is_of_layout;
 use crate::keyed_floor::KeyedFloor;
@@ -68,7 +69,7 @@ pub(crate) fn lower_through(rooms: &mut RoomsLeft, changes: &[Change])
     }
 }
 
-// What is left of the rooms once the change was made; nothing is, where it is one of the layout.
+// What is left of the rooms once the change was made; none is kept where it is one of the layout.
 fn lower(rooms: &mut RoomsLeft, one: &Change)
     ensures { (rows : Rows) → AreLeft rooms.old rows → AreLeft rooms.new (change rows one.now) }
 {
@@ -76,7 +77,7 @@ fn lower(rooms: &mut RoomsLeft, one: &Change)
         rooms.clear();
         return;
     }
-    if let Some(station) = place_taken(one) {
+    if let Some(station) = takes_room_at(one) {
         lower_at(rooms, station);
     }
 }
@@ -93,8 +94,8 @@ fn lower_at(rooms: &mut RoomsLeft, station: Name)
 }
 
 // The station where the row that is written puts a load or keeps a place for one.
-fn place_taken(change: &Change) -> Option<Name>
-    ensures { result ≡ place_taken change.now }
+fn takes_room_at(change: &Change) -> Option<Name>
+    ensures { result ≡ takes_room_at change.now }
 {
     match change {
         Change::Load(_, place) => station_of(*place),
@@ -118,7 +119,7 @@ fn place_taken(change: &Change) -> Option<Name>
 
 // The station that a place is.
 fn station_of(place: Place) -> Option<Name>
-    ensures { result ≡ station_of place }
+    ensures { result ≡ station_in (Some place) }
 {
     match place {
         Place::Station(id) => Some(id),

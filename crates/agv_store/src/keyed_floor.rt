@@ -10,6 +10,7 @@ use crate::counts::Counts;
 use crate::flags::note;
 use crate::kept_rooms::RoomsLeft;
 use agv_layout::Layout;
+use agv_tables::queries::known_ways::KnownWays;
 use agv_tables::readings::hold_reading::query_meta;
 use agv_world::Fault;
 use sqlite::{Alter, Connection};
@@ -27,8 +28,10 @@ pub struct KeyedFloor<S: Alter> {
     pub(crate) counts: Counts,
     // The layout, once it was read; none where it is not set, or was not read since then.
     pub(crate) layout: Option<Layout>,
-    // The room at stations, once it was counted.
+    // Stations whose room was counted, each with so many loads as still fit there at least.
     pub(crate) rooms: RoomsLeft,
+    // The edges of open orders, once they were read.
+    pub(crate) ways: KnownWays,
     pub(crate) failed: bool,
     // Memory was refused since the connection was last known to be open.
     pub(crate) in_doubt: bool,
@@ -44,7 +47,7 @@ impl<S: Alter> Model for KeyedFloor<S> {
 
     ghost view = { λ floor. record { held = floor.conn; failed = floor.failed } };
 
-    ghost invariant = { λ floor. IsKept S.Store floor.conn floor.counts floor.layout floor.rooms floor.failed floor.in_doubt };
+    ghost invariant = { λ floor. IsKept S.Store floor.conn floor.counts floor.layout floor.rooms floor.ways floor.failed floor.in_doubt };
 }
 
 impl<S: Alter + Drop> KeyedFloor<S> {

@@ -16,6 +16,7 @@ use crate::counts::Counts;
 use crate::desk::Desk;
 use crate::kept_layout::layout_told;
 use crate::kept_rooms::no_rooms;
+use crate::kept_ways::no_ways;
 use crate::keyed_floor::KeyedFloor;
 use crate::open_fault::OpenFault;
 use agv_header::Memory;
@@ -71,6 +72,7 @@ impl<S: Alter + Drop> Desk<S> {
                     counts: Counts::none(),
                     layout: None,
                     rooms: no_rooms(alloc),
+                    ways: no_ways(alloc),
                     failed: false,
                     in_doubt: false,
                     alloc,
@@ -107,6 +109,7 @@ impl<S: Alter + Drop> Desk<S> {
                     counts,
                     layout,
                     rooms: no_rooms(alloc),
+                    ways: no_ways(alloc),
                     failed: false,
                     in_doubt: false,
                     alloc,

@@ -16,6 +16,7 @@ ghost use Rattle.agv_store.specs.Serving.{Decides, IsServedBy, LeavesAll, Leaves
 use crate::flags::{note, read_as};
 use crate::kept_layout::keep_through;
 use crate::kept_rooms::lower_through;
+use crate::kept_ways::forget_through;
 use crate::keyed_floor::KeyedFloor;
 use agv_desk::laws::counts::{adds_below_the_limit, counts_follow};
 use agv_desk::laws::lawful::{keeps_lawful, serves_lawful_worlds};
@@ -69,8 +70,8 @@ impl<S: Alter + Drop> KeyedFloor<S> {
         Ok(decision)
     }
 
-    // The changes of the decision are made in one transaction. The counts follow the answer, a layout that was written is
-    // kept no more, and of the rooms what is left is.
+    // The changes of the decision are made in one transaction. The counts follow the answer, a layout and the ways that were
+    // written are kept no more, and the rooms that are kept are lowered.
     fn write(&mut self, decision: Decision, at: Moment, call: &Call) -> Result<Answer, Fault>
         requires knows { IsClean S.Store self.old.held → Knows S.Store self.old.held (world_at S.Store self.old.held) }
         requires decides { IsClean S.Store self.old.held → Decides (world_at S.Store self.old.held) at call.now decision }
@@ -90,6 +91,7 @@ impl<S: Alter + Drop> KeyedFloor<S> {
         self.counts.add(counted_by(call, &decision.answer));
         keep_through(&mut self.layout, decision.changes.as_slice());
         lower_through(&mut self.rooms, decision.changes.as_slice());
+        forget_through(&mut self.ways, decision.changes.as_slice());
         Ok(decision.answer)
     }
 }

@@ -37,7 +37,7 @@ use Rattle.agv_tables.specs.rows.RowKeys.{name_key, vehicle_key}
 use Rattle.agv_tables.specs.rows.RowLists.{TellRows, row_if, row_lists, rows_of_acts}
 use Rattle.agv_tables.specs.statements.RowQueries.{rows_asked}
 use Rattle.agv_tables.specs.schema.SchemaNumbers.{desk_seats}
-use Rattle.agv_tables.specs.rows.DecodedTrips.{is_driven_by, journey_for, tables_of, told_by_journey}
+use Rattle.agv_tables.specs.rows.DecodedTrips.{is_driven_by, journey_for, tables_of, told_by_journey, trip_told_by}
 use Rattle.agv_tables.specs.rows.TypedRows.{IsActRow, IsJourneyRow, IsLegKey}
 use Rattle.agv_tables.specs.declared.queries.reading_fault.ReadingFault.{ReadingFault}
 use Rattle.agv_tables.specs.declared.rows.rows_by.RowsBy.TheVariants as by
@@ -294,32 +294,10 @@ module _ (known : Option Layout) (world : World) (order : List ℕ) (edges : Lis
 -- ---- what is told of the journey
 
 pub told_journey : (world : World) (journey : Entry) (acts : List Act) (edges : List Edge) → acts_for world journey.0 ≡ Some acts → edges ≡ edges_of (tables_of (rows_of world)) journey.0
-    → told_by_journey (rows_of world) journey ≡ Some (record {
-      order = journey.0;
-      vehicle = journey.1.vehicle;
-      start = journey.1.start;
-      edges = edges;
-      first = journey.1.first;
-      base = journey.1.base;
-      sent = journey.1.sent;
-      confirmed = journey.1.confirmed;
-      seen = journey.1.seen;
-      acts = acts;
-    })
+    → told_by_journey (rows_of world) journey ≡ Some (trip_told_by journey edges acts)
 told_journey world journey acts edges told way =
     ap (λ (o : Option (List Act)). option_map (trip_in (tables_of (rows_of world))) (option_map (λ (acts : List Act). (journey.0, trip_told journey.1 acts)) o)) told
-    ∙ (λ i. Some (record {
-      order = journey.0;
-      vehicle = journey.1.vehicle;
-      start = journey.1.start;
-      edges = sym way i;
-      first = journey.1.first;
-      base = journey.1.base;
-      sent = journey.1.sent;
-      confirmed = journey.1.confirmed;
-      seen = journey.1.seen;
-      acts = acts;
-    }))
+    ∙ ap (λ (es : List Edge). Some (trip_told_by journey es acts)) (sym way)
 
 -- a trip is told just where there is a journey, since the acts of each order are told
 pub trip_there : (world : World) → ((order : List ℕ) → (acts : List Act) × (acts_for world order ≡ Some acts)) → (journey : Option Entry) → is_some (option_and_then (told_by_journey (rows_of world)) journey) ≡ is_some journey

@@ -1,5 +1,5 @@
 -- The open trips of a lawful world are what their journeys, their acts and the jobs tell.
-use Rattle.std.proofs.Common.{◌≡◌, ℕ, true, false, cond, List, [], ◌∷◌, filter, find, map, Option, None, Some, refl, sym, ap, ◌∙◌}
+use Rattle.std.proofs.Common.{◌≡◌, ℕ, true, false, cond, List, [], ◌∷◌, filter, find, map, Option, None, Some, refl, sym, ap, subst, ◌∙◌}
 use Rattle.std.proofs.lemmas.Option.{same_Some}
 use Rattle.std.specs.Cmp.{Equal-is}
 use Rattle.std.specs.Cmp.Lexicographic.{nat_list_cmp_total}
@@ -13,6 +13,7 @@ use Rattle.agv_header.specs.KeyOrder.{key_cmp-IsAntisymmetric, key_cmp-total}
 use Rattle.agv_header.specs.Name.{name_cmp}
 use Rattle.agv_header.specs.declared.key.VehicleKey.{VehicleKey}
 use Rattle.agv_order.specs.declared.act.Act.{Act}
+use Rattle.agv_order.specs.declared.trip.Trip.{Trip}
 use Rattle.agv_trip_rows.specs.TripRows.{act_rows, acts_of, is_of, journey_of, journeys_of, rows_if}
 use Rattle.agv_trip_rows.specs.TripsTold.{acts_told, trip_told}
 use Rattle.agv_trip_rows.specs.declared.journey_row.JourneyRow.{JourneyRow}
@@ -20,7 +21,7 @@ use Rattle.agv_world.specs.GoodOrder.{InGoodOrder}
 use Rattle.agv_world.specs.Kept.{Keeps}
 use Rattle.agv_world.specs.Questions.{trip_of}
 use Rattle.agv_world.specs.Rows.{rows_of}
-use Rattle.agv_world.specs.Told.{names_vehicle, open_trip, trip_in, vehicle_in, vehicles_in, vehicles_of, world_of}
+use Rattle.agv_world.specs.Told.{edges_of, names_vehicle, open_trip, trip_in, vehicle_in, vehicles_in, vehicles_of, world_of}
 use Rattle.agv_world.specs.Worlds.{Vehicle, World}
 use Rattle.agv_world.specs.declared.row.JobRow.{JobRow}
 use Rattle.agv_world.specs.declared.row.TripRow.{TripRow}
@@ -160,3 +161,12 @@ module _ (journeys : JourneysListed) (acts : ActsListed) (found : ActsFound) (to
     -- the trip of a vehicle is told by its journey
     pub trip_again : (key : VehicleKey) → trip_of world key ≡ option_and_then (told_by_journey (rows_of world)) (journey_for (rows_of world) key)
     trip_again key = by_row key (trip_row_for world key) refl (finite.get world.vehicles key) refl ∙ ap (option_and_then (told_by_journey (rows_of world))) (sym (journey_is key))
+
+-- the edges of a trip that is told are those that the rows of its order tell
+pub told_way : (world : World) (o : Option (List ℕ × JourneyRow)) (trip : Trip) → option_and_then (told_by_journey (rows_of world)) o ≡ Some trip → trip.edges ≡ edges_of (tables_of (rows_of world)) trip.order
+told_way world None trip is = absurd (cc is)
+told_way world (Some journey) trip is = at (trip_with (acts_of (rows_of world).trips) (rows_of world).jobs journey) is
+  where
+    at : (told : Option (List ℕ × TripRow)) → option_map (λ (row : List ℕ × TripRow). trip_in (tables_of (rows_of world)) row) told ≡ Some trip → trip.edges ≡ edges_of (tables_of (rows_of world)) trip.order
+    at None is = absurd (cc is)
+    at (Some row) is = subst (λ (t : Trip). t.edges ≡ edges_of (tables_of (rows_of world)) t.order) (same_Some _ _ is) refl

@@ -8,6 +8,7 @@ use Rattle.agv_header.specs.Key.{key_cmp}
 use Rattle.agv_header.specs.KeyOrder.{key_eq}
 use Rattle.agv_header.specs.Name.{name_cmp}
 use Rattle.agv_header.specs.declared.key.VehicleKey.{VehicleKey}
+use Rattle.agv_layout.specs.declared.edge.Edge.{Edge}
 use Rattle.agv_order.specs.declared.act.Act.{Act}
 use Rattle.agv_order.specs.declared.trip.Trip.{Trip}
 use Rattle.agv_trip_rows.specs.TripRows.{acts_of, is_of, journeys_of}
@@ -74,3 +75,18 @@ journey_for rows key = find (is_driven_by key) (finite.entries (journeys_of rows
 -- the trip of a journey with the acts of its order, where their jobs are known, and the edges of the order
 abbrev pub told_by_journey : Rows → List ℕ × JourneyRow → Option Trip
 told_by_journey rows journey = option_map (λ trip. trip_in (tables_of rows) trip) (trip_with (acts_of rows.trips) rows.jobs journey)
+
+-- the trip of a journey that has these edges and these acts
+abbrev pub trip_told_by : List ℕ × JourneyRow → List Edge → List Act → Trip
+trip_told_by journey edges acts = record {
+  order = journey.0;
+  vehicle = journey.1.vehicle;
+  start = journey.1.start;
+  edges = edges;
+  first = journey.1.first;
+  base = journey.1.base;
+  sent = journey.1.sent;
+  confirmed = journey.1.confirmed;
+  seen = journey.1.seen;
+  acts = acts;
+}

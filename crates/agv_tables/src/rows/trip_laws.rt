@@ -5,6 +5,7 @@ ghost use Rattle.std.specs.Option.{option_and_then};
 ghost use Rattle.agv_header.specs.Name.{IsName};
 ghost use Rattle.agv_header.specs.declared.key.VehicleKey.{VehicleKey};
 ghost use Rattle.agv_order.specs.declared.act.Act.{Act};
+ghost use Rattle.agv_order.specs.declared.trip.Trip.{Trip};
 ghost use Rattle.agv_trip_rows.specs.TripRows.{acts_of, is_of, journeys_of};
 ghost use Rattle.agv_trip_rows.specs.TripsTold.{acts_told};
 ghost use Rattle.agv_trip_rows.specs.declared.act_row.ActRow.{ActRow};
@@ -12,10 +13,11 @@ ghost use Rattle.agv_trip_rows.specs.declared.journey_row.JourneyRow.{JourneyRow
 ghost use Rattle.agv_world.specs.Lawful.{IsLawful};
 ghost use Rattle.agv_world.specs.Questions.{trip_of};
 ghost use Rattle.agv_world.specs.Rows.{rows_of};
+ghost use Rattle.agv_world.specs.Told.{edges_of};
 ghost use Rattle.agv_world.specs.Worlds.{World};
 ghost use Rattle.agv_world.specs.declared.key.LegKey.{LegKey};
 ghost use Rattle.agv_tables.specs.schema.SchemaNumbers.{desk_seats};
-ghost use Rattle.agv_tables.specs.rows.DecodedTrips.{is_driven_by, journey_for, told_by_journey, trips_with};
+ghost use Rattle.agv_tables.specs.rows.DecodedTrips.{is_driven_by, journey_for, tables_of, told_by_journey, trips_with};
 ghost use Rattle.agv_tables.specs.rows.TypedRows.{IsActRow, IsJourneyRow, IsLegKey};
 
 use agv_trip_rows::row_laws::{rows_are_of_trips, rows_have_keys, tables_have_rows};
@@ -43,6 +45,8 @@ pub fn rows_tell_trips()
         → finite.get (journeys_of (rows_of world).trips) order ≡ Some journey → IsName order × IsJourneyRow journey }
     ensures act_values { (world : World) → IsLawful desk_seats world → (key : LegKey) (act : ActRow)
         → finite.get (acts_of (rows_of world).trips) key ≡ Some act → IsLegKey key × IsActRow act }
+    ensures ways { (world : World) → IsLawful desk_seats world → (key : VehicleKey) (trip : Trip)
+        → trip_of world key ≡ Some trip → trip.edges ≡ edges_of (tables_of (rows_of world)) trip.order }
 {
     rows_have_keys();
     tables_have_rows();

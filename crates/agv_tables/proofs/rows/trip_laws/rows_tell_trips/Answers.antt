@@ -1,6 +1,9 @@
+use Rattle.std.proofs.Common.{sym, ◌∙◌}
+use Rattle.agv_world.specs.Rows.{rows_of}
+use Rattle.agv_tables.specs.rows.DecodedTrips.{journey_for}
 use Rattle.agv_tables.specs.schema.SchemaNumbers.{desk_seats}
 use Rattle.agv_tables.proofs.rows.LawfulTrips.{act_key_typed, act_typed, journey_typed, one_journey}
-use Rattle.agv_tables.proofs.rows.TripsTell.{acts_known, all_told, trip_again}
+use Rattle.agv_tables.proofs.rows.TripsTell.{acts_known, all_told, told_way, trip_again}
 use Rattle.agv_tables.proofs.rows.trip_laws.rows_tell_trips.Goals as goal
 
 pub returns : goal.returns
@@ -15,4 +18,8 @@ returns c = record {
       all_told c.rows_have_keys.ensures.journeys_listed c.rows_have_keys.ensures.acts_listed c.rows_are_of_trips.ensures.acts c.rows_tell_one_table.ensures.acts world (c.lawful_rows_tell_trips.ensures.all desk_seats world lawful).of_jobs;
   journeys = λ world lawful order journey at. let value = c.lawful_rows_have_values.ensures.journeys desk_seats world lawful order journey at in (value.0, journey_typed journey value.1);
   act_values = λ world lawful key act at. let value = c.lawful_rows_have_values.ensures.acts desk_seats world lawful key act at in (act_key_typed key value.0, act_typed act value.1);
+  ways = λ world lawful key trip is.
+      told_way world (journey_for (rows_of world) key) trip
+      (sym (trip_again c.rows_have_keys.ensures.journeys_listed c.rows_have_keys.ensures.acts_listed c.rows_are_of_trips.ensures.acts c.rows_tell_one_table.ensures.acts world (c.lawful_rows_tell_trips.ensures.all desk_seats world lawful).of_jobs
+      c.tables_tell_the_world.ensures (c.is_in_good_order.ensures desk_seats world lawful) key) ∙ is);
 }
