@@ -13,7 +13,8 @@
 //! - `failing_stores` has a desk serve the worked example over files that fail from some call on.
 //! - `failing_streams` has it serve streams over such files.
 //! - `large_streams` asks for the reports and the export of 500 stations and 100,000 loads.
-//! - `refused_changes` writes a list of changes of which SQL refuses one.
+//! - `refused_changes` writes a list of changes of which SQL refuses one, and `rows_written_again` one that writes a row of each
+//!   table twice.
 //! - `moving` moves databases of the first schema, on files that fail, too.
 //! - `table_cases` makes and takes over desks, serves and reads for these, and `disks` has files in memory that fail.
 //! - `streams` has a desk serve requests as bytes, of which `examples` has some: in pieces, with a reader or a writer of `fakes`
@@ -48,6 +49,8 @@ mod large_streams;
 mod moving;
 #[cfg(test)]
 mod refused_changes;
+#[cfg(test)]
+mod rows_written_again;
 #[cfg(test)]
 mod strangers;
 #[cfg(test)]

@@ -2,6 +2,7 @@
 pub mod CountMeanings
 pub mod CountStatements
 pub mod DeskStatements
+pub mod KeysFree
 pub mod QueryMeanings
 pub mod RowForms
 pub mod RowMeanings

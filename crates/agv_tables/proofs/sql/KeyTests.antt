@@ -36,7 +36,7 @@ use Rattle.agv_tables.specs.statements.RowTexts.{columns_deleted}
 use Rattle.agv_tables.specs.declared.rows.world_table.WorldTable.TheVariants as table
 use Rattle.agv_tables.specs.declared.schema.table_name.TableName.TheVariants as the
 
-truth_of : (b : Bool) → is_true (from_truth (Some b)) ≡ b
+pub truth_of : (b : Bool) → is_true (from_truth (Some b)) ≡ b
 truth_of true = refl
 truth_of false = refl
 

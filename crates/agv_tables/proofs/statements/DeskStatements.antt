@@ -24,12 +24,12 @@ use Rattle.agv_tables.proofs.schema.DeskPlaces.{is_in, is_in_alone}
 use Rattle.agv_tables.proofs.sql.EntryEdits.{filter_nothing}
 use Rattle.agv_tables.proofs.statements.QueryMeanings.{Asks, query_terms, query_passes, query_within, query_asks, all_rows_asked}
 use Rattle.agv_tables.proofs.sql.QueryRows.{passes, reads_within}
-use Rattle.agv_tables.proofs.statements.RowForms.{Lands, rows_deleted, row_inserted, rows_shown, rows_shown_alone}
+use Rattle.agv_tables.proofs.statements.RowForms.{Inserted, Lands, lands_inserted, row_inserted, rows_deleted, rows_shown, rows_shown_alone}
 use Rattle.agv_tables.proofs.statements.RowMeanings.{key_terms, deleted_terms, column_names, inserts, deletes, looks_up}
 
 -- ---- keys
 
-key_passes : (name : TableName) (key : Row) → passes (key_terms name) key ≡ has_key name key
+pub key_passes : (name : TableName) (key : Row) → passes (key_terms name) key ≡ has_key name key
 key_passes the.Meta key = refl
 key_passes the.Node key = refl
 key_passes the.Edge key = refl
@@ -45,7 +45,7 @@ key_passes the.Capacity key = refl
 key_passes the.Journey key = refl
 key_passes the.Act key = refl
 
-within : (name : TableName) → list_all (reads_within (width_of name)) (key_terms name) ≡ true
+pub within : (name : TableName) → list_all (reads_within (width_of name)) (key_terms name) ≡ true
 within the.Meta = refl
 within the.Node = refl
 within the.Edge = refl
@@ -112,11 +112,18 @@ makes change sql params old new (Ok count) step ran = elim (cases_Bool old.in_tr
   | inr outside ↦ absurd (let e = ran.0 outside in cc)
 ]
 
+-- what is left where a row is added
+pub added_one : (table : WorldTable) (desk : Placing) (is : IsDesk desk) (old new : State) (has : old.now.schema ≡ desk.schema) (row : Row) → FitsTable (table_written table) row
+    → (count : ℕ) → Executes (insertion_text table) row old new (Ok count) → Inserted desk is (table_written table) old new has row
+added_one table desk is old new has row fit =
+    let name = table_written table in
+    row_inserted desk is name old new has (insertion_text table) row fit (inserts table desk.schema (is.stands name).at (desk.tree name) (is_in desk is name))
+
 pub inserts_row : (table : WorldTable) (sql : List ℕ) → sql ≡ insertion_text table → (row : Row) → FitsTable (table_written table) row → (old new : State) (r : Result ℕ Error) → RunsInside sql row old new r → OnOk r (Makes (with_row (table_written table) row) old new)
 inserts_row table sql text row fit old new r ran =
     let name = table_written table in
     makes (with_row name row) (insertion_text table) row old new r
-    (λ desk is has. row_inserted desk is name old new has (insertion_text table) row fit (inserts table desk.schema (is.stands name).at (desk.tree name) (is_in desk is name)))
+    (λ desk is has count done. lands_inserted desk is name old new has row (added_one table desk is old new has row fit count done) fit)
     (subst (λ t. RunsInside t row old new r) text ran)
 
 pub deletes_row : (table : WorldTable) (sql : List ℕ) → sql ≡ deletion_text table → (key : Row) (old new : State) (r : Result ℕ Error) → RunsInside sql key old new r → OnOk r (Makes (without_rows (table_written table) (columns_deleted table) key) old new)

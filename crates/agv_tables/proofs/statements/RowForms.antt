@@ -310,9 +310,18 @@ module _ (desk : Placing) (is : IsDesk desk) (name : TableName) (old new : State
             ∙ sym (length-map edit.news (columns_in width)) ∙ length_permutation _ _ (copies rows (table_has desk name db lists h.rows)) ∙ length-map (filter p rows) (λ _. row),
       )
 
+  -- what an INSERT of this one row leaves: the row stands under a rowid of its own
+  pub record Inserted (row : Row) : Type 0 where
+    pub next : Trees
+    pub id : ℤ
+    pub step : Applies old.now.schema Enforced old.now.trees (edit_of old.now.trees table [] Chosen 0 ((Null ∷ row) ∷ [])) next
+    pub news : (edit_of old.now.trees table [] Chosen 0 ((Null ∷ row) ∷ [])).news ≡ (Int id ∷ row) ∷ []
+    pub now : new.now ≡ record { schema = old.now.schema; trees = next }
+    pub sound : IsDatabase new.now
+
   pub row_inserted : (sql : List ℕ) (row : Row) → FitsTable name row
       → Means desk.schema sql (Insert at (Values (row_terms name) (suc width)))
-      → (count : ℕ) → Executes sql row old new (Ok count) → Lands desk old.now new.now (on_table (place_of name) (λ rows. row ∷ rows))
+      → (count : ℕ) → Executes sql row old new (Ok count) → Inserted row
   row_inserted sql row fit means count ran =
       let command = Insert at (Values (row_terms name) (suc width)) in
       let db = old.now.trees in
@@ -330,17 +339,38 @@ module _ (desk : Placing) (is : IsDesk desk) (name : TableName) (old new : State
       given.1.1 ∙ ap (λ ps. value_rows ps (suc width) (length (row_terms name) / suc width) (row_terms name)) (unstamped name (desk.tree name) row) ∙ one_row name row
       ∙ ap (λ (r : Row). (Null ∷ r) ∷ []) (params_in_turn 0 width row [] ∙ whole) in
       let same : first ≡ edit = ap (λ (how : Rowids). edit_of db table [] how 0 given.0) (chosen table.is_counted (count_of counter.0) (uncounted name)) ∙ ap (edit_of db table [] Chosen 0) one in
-      let a = applied edit mid refl (subst (λ (e : Edit). Edited old.now.schema Enforced db e (Ok mid)) same edited.1) in
       let quiet = second _ _ table.is_counted _ (uncounted name) counted.1 in
       let trees : done.0.trees ≡ mid = ap (λ (it : Written). it.trees) (same_value counted.2) ∙ same_value quiet in
-      let now : new.now ≡ record { schema = old.now.schema; trees = mid } = settled (task_for row) old done.0 w.tally new.now done.2 ∙ ap (λ (t : Trees). record { schema = old.now.schema; trees = t }) trees in
-      let entry = Int (next_rowid (db table.tree)) ∷ row in
       let fits : cast_all table.columns row ≡ row = cast_all_keeps (table_for name).columns row fit in
-      let news : edit.news ≡ entry ∷ [] = rw (cast_null, fits) in
-      lands edit mid (λ rows. row ∷ rows) refl a (λ rows was.
-      subst (λ es. HaveRows width es (row ∷ rows)) (sym (a.rows ∙ ap (put_all (db table.tree)) news))
-      (subst (λ r. HaveRows width (put_all (db table.tree) (entry ∷ [])) (r ∷ rows)) whole
-      (one_more_row width entry (db table.tree) rows (fresh_one (db table.tree) entry (subst (λ ns. are_fresh (db table.tree) ns ≡ true) news a.fresh)) refl was))) now w.sound
+      record {
+        next = mid;
+        id = next_rowid (db table.tree);
+        step = applied edit mid refl (subst (λ (e : Edit). Edited old.now.schema Enforced db e (Ok mid)) same edited.1);
+        news = rw (cast_null, fits);
+        now = settled (task_for row) old done.0 w.tally new.now done.2 ∙ ap (λ (t : Trees). record { schema = old.now.schema; trees = t }) trees;
+        sound = w.sound;
+      }
+
+  module _ (row : Row) (it : Inserted row) where
+    abbrev entries : List Row
+    entries = old.now.trees table.tree
+
+    abbrev entry : Row
+    entry = Int it.id ∷ row
+
+    -- its rowid is new, and it stands with the entries that were there
+    pub rowid_is_new : is_taken entries entry ≡ false
+    rowid_is_new = fresh_one entries entry (subst (λ ns. are_fresh entries ns ≡ true) it.news it.step.fresh)
+
+    pub stands_with_them : it.next table.tree ≡ put_row entry entries
+    stands_with_them = it.step.rows ∙ ap (put_all entries) it.news
+
+    pub lands_inserted : FitsTable name row → Lands desk old.now new.now (on_table (place_of name) (λ rows. row ∷ rows))
+    lands_inserted fit =
+        let whole : first_columns width row ≡ row = all_columns (table_for name).columns row fit in
+        lands (edit_of old.now.trees table [] Chosen 0 ((Null ∷ row) ∷ [])) it.next (λ rows. row ∷ rows) refl it.step (λ rows was.
+        subst (λ es. HaveRows width es (row ∷ rows)) (sym stands_with_them)
+        (subst (λ r. HaveRows width (put_row entry entries) (r ∷ rows)) whole (one_more_row width entry entries rows rowid_is_new refl was))) it.now it.sound
 
 module _ (desk : Placing) (name : TableName) (old new : State) (has : old.now.schema ≡ desk.schema) where
   abbrev tree : ℕ

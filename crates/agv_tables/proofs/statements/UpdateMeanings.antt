@@ -81,13 +81,13 @@ module _ (table : UpdatedTable) (sql : List ℕ) (text : sql ≡ update_text tab
 
 -- ---- a row in the place of that of its key
 
-on_table-agree : (at : ℕ) (f g : List Row → List Row) (lists : List (List Row)) → f (table_at at lists) ≡ g (table_at at lists) → on_table at f lists ≡ on_table at g lists
+pub on_table-agree : (at : ℕ) (f g : List Row → List Row) (lists : List (List Row)) → f (table_at at lists) ≡ g (table_at at lists) → on_table at f lists ≡ on_table at g lists
 on_table-agree at f g [] same = refl
 on_table-agree zero f g (rows ∷ lists) same = ap (λ now. now ∷ lists) same
 on_table-agree (suc at) f g (rows ∷ lists) same = ap (λ more. rows ∷ more) (on_table-agree at f g lists same)
 
 -- a change of the rows that the tables have is another change, if it makes the same of them
-remade : (f g : List (List Row) → List (List Row)) (a b : State) → Makes f a b → ((desk : Placing) → IsDesk desk → (lists : List (List Row)) → Holds desk a.now lists → f lists ≡ g lists) → Makes g a b
+pub remade : (f g : List (List Row) → List (List Row)) (a b : State) → Makes f a b → ((desk : Placing) → IsDesk desk → (lists : List (List Row)) → Holds desk a.now lists → f lists ≡ g lists) → Makes g a b
 remade f g a b m same = record {
   made = λ desk is lists h. subst (Holds desk b.now) (same desk is lists h) (m.made desk is lists h);
   others = m.others;

@@ -1,7 +1,11 @@
--- The texts of SQL that write a row over those of its key, and what becomes of the rows. No public clause cites this.
+-- The texts of SQL that write a row over those of its key, what becomes of the rows, and when SQL refuses one. No public clause cites this.
 use Rattle.std.specs.Prelude.{◌≡◌, ◌++◌, ℕ, List, codes, filter, length, map, not, true}
 use Rattle.sqlite_value.specs.Order.{Row}
+use Rattle.sqlite_schema.specs.declared.schema.Constraint.{Constraint}
 use Rattle.sqlite.specs.State.{State}
+use Rattle.sqlite.specs.declared.error.Error.{Error}
+use Rattle.sqlite.specs.declared.error.Error.TheVariants.{SqliteFailure}
+use Rattle.sqlite.specs.declared.error.ErrorCode.TheVariants.{ConstraintViolation}
 use Rattle.agv_tables.specs.rows.DeskRows.{Placing, Holds, IsDesk, has_columns, on_table, place_of, table_at}
 use Rattle.agv_tables.specs.declared.rows.world_table.WorldTable.{WorldTable}
 use Rattle.agv_tables.specs.declared.rows.world_table.WorldTable.TheVariants as world
@@ -33,7 +37,17 @@ abbrev pub Counts : TableName → List ℕ → Row → State → ℕ → Type 0
 Counts name columns row old count =
     (desk : Placing) → IsDesk desk → (lists : List (List Row)) → Holds desk old.now lists → count ≡ length (filter (has_columns columns row) (table_at (place_of name) lists))
 
--- in these columns it is equal to itself, so none of them is NULL, and other rows are equal to it just where they are equal to the key
+-- other rows are equal to it in these columns just where they are equal to the key
+abbrev pub TellsAlike : List ℕ → Row → Row → Type 0
+TellsAlike columns key row = (other : Row) → has_columns columns key other ≡ has_columns columns row other
+
+-- in these columns it is equal to itself, so none of them is NULL, and tells other rows as the key does
 pub record IsKeyOf (columns : List ℕ) (key row : Row) : Type 0 where
   pub itself : has_columns columns row row ≡ true
-  pub alike : (other : Row) → has_columns columns key other ≡ has_columns columns row other
+  pub alike : TellsAlike columns key row
+
+-- ---- a row that SQL refuses
+
+-- a rule of the table forbids it
+abbrev pub IsConstraint : Error → Type 0
+IsConstraint e = (rule : Constraint) × (e ≡ SqliteFailure (ConstraintViolation rule))

@@ -24,7 +24,7 @@ use crate::rows::row_values::{
 };
 use crate::rows::world_table::WorldTable;
 use crate::statements::row_updates::put_over;
-use crate::statements::row_writes::{delete_row, put_row};
+use crate::statements::row_writes::{delete_row, put_new};
 use crate::statements::updated_table::UpdatedTable;
 use agv_header::{Name, Thing, VehicleKey};
 use agv_layout::{EdgeEnds, StationSite};
@@ -66,7 +66,7 @@ fn write_node<S: Alter>(tx: &mut Transaction<'_, S>, id: &Name) -> Result<usize,
     ensures made { HasCleanDisk (state S.Store tx.new.conn.now)
         → OnOk result (Makes (listed (row.Node id.now)) (state S.Store tx.old.conn.now) (state S.Store tx.new.conn.now)) }
 {
-    put_row(tx, WorldTable::Node, &name_key_values(id), &node_values(id))
+    put_new(tx, WorldTable::Node, &name_key_values(id), &node_values(id))
 }
 
 // The edge has these ends.
@@ -81,7 +81,7 @@ fn write_edge<S: Alter>(
     ensures made { HasCleanDisk (state S.Store tx.new.conn.now)
         → OnOk result (Makes (listed (row.Edge id.now ends.now)) (state S.Store tx.old.conn.now) (state S.Store tx.new.conn.now)) }
 {
-    put_row(
+    put_new(
         tx,
         WorldTable::Edge,
         &name_key_values(id),
@@ -101,7 +101,7 @@ fn write_station<S: Alter>(
     ensures made { HasCleanDisk (state S.Store tx.new.conn.now)
         → OnOk result (Makes (listed (row.Station id.now site.now)) (state S.Store tx.old.conn.now) (state S.Store tx.new.conn.now)) }
 {
-    put_row(
+    put_new(
         tx,
         WorldTable::Station,
         &name_key_values(id),
@@ -236,7 +236,7 @@ fn write_leg<S: Alter>(
 {
     match edge {
         None => drop_leg(tx, key),
-        Some(edge) => put_row(
+        Some(edge) => put_new(
             tx,
             WorldTable::Leg,
             &leg_key_values(key),
@@ -306,7 +306,7 @@ fn write_hold<S: Alter>(
 {
     match key {
         None => drop_hold(tx, thing),
-        Some(key) => put_row(
+        Some(key) => put_new(
             tx,
             WorldTable::Hold,
             &hold_key_values(thing),
@@ -323,5 +323,5 @@ fn write_used<S: Alter>(tx: &mut Transaction<'_, S>, key: &UseKey) -> Result<usi
     ensures made { HasCleanDisk (state S.Store tx.new.conn.now)
         → OnOk result (Makes (listed (row.Used key.now)) (state S.Store tx.old.conn.now) (state S.Store tx.new.conn.now)) }
 {
-    put_row(tx, WorldTable::Used, &used_values(key), &used_values(key))
+    put_new(tx, WorldTable::Used, &used_values(key), &used_values(key))
 }

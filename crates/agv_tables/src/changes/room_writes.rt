@@ -13,7 +13,7 @@ use crate::rows::row_of::RowOf;
 use crate::rows::row_values::capacity_values;
 use crate::rows::world_table::WorldTable;
 use crate::statements::row_finds::find_rows_inside;
-use crate::statements::row_writes::put_row;
+use crate::statements::row_writes::put_new;
 use agv_header::VehicleKey;
 use agv_world::VehicleRow;
 use sqlite::{Alter, Error, Transaction};
@@ -50,7 +50,7 @@ fn put_room<S: Alter>(
     ensures made { HasCleanDisk (state S.Store tx.new.conn.now)
         → OnOk result (Makes (with_put the.Capacity (vehicle_key key.now) (room_columns key.now vehicle.now)) (state S.Store tx.old.conn.now) (state S.Store tx.new.conn.now)) }
 {
-    put_row(
+    put_new(
         tx,
         WorldTable::Capacity,
         &vehicle_key_values(key),

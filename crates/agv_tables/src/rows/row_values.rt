@@ -7,7 +7,7 @@ ghost use Rattle.agv_message.specs.Instant.{instant_name};
 ghost use Rattle.agv_tables.specs.rows.ValueEncodings.{number_cell};
 ghost use Rattle.agv_tables.specs.rows.Columns.{node_columns, edge_columns, station_columns, vehicle_columns, room_columns, journey_columns, act_columns, leg_columns, load_columns, job_columns, hold_columns, used_columns};
 
-use crate::rows::words::{act_text, phase_text, use_text};
+use crate::rows::words::{phase_text, use_text};
 use agv_header::{Name, Thing, VehicleKey};
 use agv_layout::{EdgeEnds, StationSite};
 use agv_message::InstantKind;
@@ -152,7 +152,7 @@ pub(crate) fn act_values<'a>(key: &'a LegKey, act: &'a ActRow) -> [ValueRef<'a>;
         name_value(&key.order),
         key.k.to_sql(),
         name_value(&act.job),
-        act_text(act.kind).to_sql(),
+        act.kind.name().to_sql(),
         act.place_at.to_sql(),
         act.status.name().to_sql(),
     ]

@@ -1,9 +1,7 @@
 //! The words of columns: how kinds, phases and statuses are written.
 ghost use Rattle.std.specs.Prelude.{◌≡◌};
-ghost use Rattle.agv_message.specs.Order.{act_name};
 ghost use Rattle.agv_tables.specs.rows.ValueEncodings.{phase_name, use_name};
 
-use agv_message::ActKind;
 use agv_stock::Phase;
 use agv_world::UseKind;
 
@@ -32,16 +30,6 @@ pub(crate) fn phase_text(phase: Phase) -> &'static str
         Phase::Riding => "riding",
         Phase::Done => "done",
         Phase::Stopped => "stopped",
-    }
-}
-
-/// How it is written what is done with a load.
-pub(crate) fn act_text(kind: ActKind) -> &'static str
-    ensures { result.now ≡ act_name kind }
-{
-    match kind {
-        ActKind::Pick => "pick",
-        ActKind::Drop => "drop",
     }
 }
 

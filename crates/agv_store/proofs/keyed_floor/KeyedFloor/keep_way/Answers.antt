@@ -16,6 +16,6 @@ invariant_of-self-2 g c =
     let there = subst (λ (desk : Keyed g.row.S.Denot). IsClean g.S.Store desk.held → IsOpen g.S.Store desk.held → Some c.args.trip.now ≡ trip_of (world_at g.S.Store desk.held) c.args.key.now) (sym c.self.view_is) c.requires in
     keeps_ways g.S.Store c.self.inside.conn c.self.inside.counts c.self.inside.layout c.self.inside.rooms c.self.inside.ways c.insert.new.self c.self.inside.failed c.self.inside.in_doubt c.self.invariant
     (λ clean still are.
-        let world = world_at g.S.Store c.self.inside.conn in
-        one_more_way c.self.inside.ways c.insert.new.self c.args.trip.now.order c.in_ok-edges.edges c.in_ok-insert.ensures.updates.0 (rows_of world)
-        (c.in_ok-edges.ensures ∙ c.rows_tell_trips.ensures.ways world (c.self.invariant.knows clean still).has.lawful c.args.key.now c.args.trip.now (sym (there clean still))) are)
+    let world = world_at g.S.Store c.self.inside.conn in
+    one_more_way c.self.inside.ways c.insert.new.self c.args.trip.now.order c.in_ok-edges.edges c.in_ok-insert.ensures.updates.0 (rows_of world)
+    (c.in_ok-edges.ensures ∙ c.rows_tell_trips.ensures.ways world (c.self.invariant.knows clean still).has.lawful c.args.key.now c.args.trip.now (sym (there clean still))) are)

@@ -21,9 +21,9 @@ pub returns-in-Some : goal.returns-in-Some
 returns-in-Some g c =
     follows g.S.Store c.args.conn.now c.query_acts.new.conn c.in_ok-acts.acts _ _ (Ok _)
     (λ world lawful one agrees ways.
-        let its : AreWays c.args.ways.now (rows_of world) → c.in-Some.edges ≡ edges_of (tables_of (rows_of world)) c.args.journey.now.0 =
-            subst (λ (o : Option (List Edge)). IfSome o (λ edges. (rows : Rows) → AreWays c.args.ways.now rows → edges ≡ edges_of (tables_of rows) c.args.journey.now.0)) c.in-Some.is c.in_ok-known_edges.ensures (rows_of world) in
-        told_journey world c.args.journey.now c.in_ok-acts.acts c.in-Some.edges one (its ways) ∙ ap Some (sym c.trip_told.ensures)) c.in_ok-acts.ensures
+    let its : AreWays c.args.ways.now (rows_of world) → c.in-Some.edges ≡ edges_of (tables_of (rows_of world)) c.args.journey.now.0 =
+    subst (λ (o : Option (List Edge)). IfSome o (λ edges. (rows : Rows) → AreWays c.args.ways.now rows → edges ≡ edges_of (tables_of rows) c.args.journey.now.0)) c.in-Some.is c.in_ok-known_edges.ensures (rows_of world) in
+    told_journey world c.args.journey.now c.in_ok-acts.acts c.in-Some.edges one (its ways) ∙ ap Some (sym c.trip_told.ensures)) c.in_ok-acts.ensures
 
 pub returns-in_err-edges : goal.returns-in_err-edges
 returns-in_err-edges g c =

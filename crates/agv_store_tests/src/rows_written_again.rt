@@ -1,0 +1,129 @@
+//! A row of each table is written twice in one list of changes: the second stands in the place of the first.
+
+use crate::table_cases::{check_rows, make};
+use agv_header::{Moment, Name, Thing, VehicleKey};
+use agv_layout::{EdgeEnds, StationSite};
+use agv_stock::{Phase, Place};
+use agv_tables::changes::change_running::write_changes;
+use agv_world::{Change, JobRow, LegKey, Sent, UseKey, UseKind, VehicleRow};
+use sqlite::Connection;
+use std::alloc::Global;
+use std::process::Abort;
+
+/// One row for each key.
+const ROWS: &str = "meta 1 2
+node N1
+edge E1 N2 N1
+station A N2 4
+vehicle KIT 0001 N2 NULL NULL NULL NULL 0 1 0 0 0 0 NULL
+leg O1 0 E2
+load L1 checking NULL NULL NULL
+job J1 L1 A B done
+hold node N1 KIT 0002
+used order O1
+capacity KIT 0001 4
+";
+
+fn name(rt: &impl Abort, text: &str) -> Name {
+    Name::read(text).expect(rt, text)
+}
+
+fn key(rt: &impl Abort, serial: &str) -> VehicleKey {
+    VehicleKey {
+        manufacturer: name(rt, "KIT"),
+        serial: name(rt, serial),
+    }
+}
+
+fn edge(rt: &impl Abort, start: &str, finish: &str) -> Change {
+    let start = name(rt, start);
+    let finish = name(rt, finish);
+    Change::Edge(name(rt, "E1"), EdgeEnds { start, finish })
+}
+
+fn station(rt: &impl Abort, node: &str, capacity: u32) -> Change {
+    let node = name(rt, node);
+    Change::Station(name(rt, "A"), StationSite { node, capacity })
+}
+
+fn vehicle(rt: &impl Abort, node: &str, capacity: u32, paused: bool) -> Change {
+    let at = Moment::of(0).expect(rt, "a moment");
+    let row = VehicleRow {
+        capacity,
+        node: name(rt, node),
+        rest: None,
+        last_header: None,
+        reported: None,
+        ready: false,
+        paused,
+        orders: Sent { count: 0, at },
+        instants: Sent { count: 0, at },
+        pending: None,
+    };
+    Change::Vehicle(key(rt, "0001"), row)
+}
+
+fn leg(rt: &impl Abort, edge: &str) -> Change {
+    let order = name(rt, "O1");
+    Change::Leg(LegKey { order, k: 0 }, Some(name(rt, edge)))
+}
+
+fn load(rt: &impl Abort, place: Place) -> Change {
+    Change::Load(name(rt, "L1"), place)
+}
+
+fn job(rt: &impl Abort, phase: Phase) -> Change {
+    let row = JobRow {
+        load: name(rt, "L1"),
+        origin: name(rt, "A"),
+        target: name(rt, "B"),
+        phase,
+    };
+    Change::Job(name(rt, "J1"), row)
+}
+
+fn hold(rt: &impl Abort, serial: &str) -> Change {
+    Change::Hold(Thing::Node(name(rt, "N1")), Some(key(rt, serial)))
+}
+
+fn used(rt: &impl Abort) -> Change {
+    let name = name(rt, "O1");
+    Change::Used(UseKey {
+        kind: UseKind::Order,
+        name,
+    })
+}
+
+fn check_again(rt: &impl Abort, alloc: Global) {
+    let mut conn = Connection::open_in_memory(alloc).expect(rt, "memory");
+    make(rt, &mut conn);
+    let changes = [
+        Change::Node(name(rt, "N1")),
+        Change::Node(name(rt, "N1")),
+        edge(rt, "N1", "N2"),
+        edge(rt, "N2", "N1"),
+        station(rt, "N1", 1),
+        station(rt, "N2", 4),
+        vehicle(rt, "N1", 1, false),
+        vehicle(rt, "N2", 4, true),
+        leg(rt, "E1"),
+        leg(rt, "E2"),
+        load(rt, Place::Station(name(rt, "A"))),
+        load(rt, Place::Checking),
+        job(rt, Phase::Waiting),
+        job(rt, Phase::Done),
+        hold(rt, "0001"),
+        hold(rt, "0002"),
+        used(rt),
+        used(rt),
+    ];
+    assert!(rt; conn.is_autocommit(), "idle");
+    write_changes(&mut conn, &changes).expect(rt, "a commit");
+    check_rows(rt, alloc, &mut conn, ROWS);
+}
+
+/// Each second row is there, and no first.
+#[test]
+fn second_row_stands(rt: HostRuntime) {
+    check_again(&rt, rt.alloc());
+}
