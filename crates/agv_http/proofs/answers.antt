@@ -5,6 +5,7 @@ pub mod Ladders
 pub mod LastWords
 pub mod Lengths
 pub mod Outcomes
+pub mod QuestionLengths
 pub mod RefusalNames
 pub mod Requested
 pub mod ShortRefusals

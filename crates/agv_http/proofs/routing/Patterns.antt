@@ -9,7 +9,8 @@ use borrow.Author.Tests.{eqb-true}
 use Rattle.agv_header.specs.Name.{is_name}
 use Rattle.agv_http.specs.routing.Paths.{Part, Word, AName, names_in, is_slash}
 use Rattle.agv_http.specs.routing.Taken.{all_names}
-use Rattle.agv_http.proofs.routing.Seeking.{after_segment, fits, is_open, tail, is_nil}
+use Rattle.agv_http.proofs.routing.Fits.{fits, is_open, tail, is_nil}
+use Rattle.agv_http.proofs.routing.Segments.{after_segment}
 
 -- a byte of a word: ASCII, and no slash
 abbrev pub is_word : List ℕ → Bool

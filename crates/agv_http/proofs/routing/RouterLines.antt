@@ -16,7 +16,9 @@ use Rattle.agv_http.specs.routing.Table.{Row, MethodRoute, with_route, method_ro
 use Rattle.agv_http.specs.routing.Kept.{Kept, with_scan, inserted, with_entries}
 use Rattle.agv_http.specs.declared.routing.line.Line.{Line}
 use Rattle.agv_http.specs.routing.Taken.{all_names}
-use Rattle.agv_http.proofs.routing.Seeking.{after_segment, fits, IsGood, AllGood, SomeFits, NoneFits, Answers}
+use Rattle.agv_http.proofs.routing.Fits.{fits, IsGood}
+use Rattle.agv_http.proofs.routing.Seeking.{AllGood, SomeFits, NoneFits, Answers}
+use Rattle.agv_http.proofs.routing.Segments.{after_segment}
 use Rattle.agv_http.proofs.routing.Patterns.{is_word, is_tidy, tokens, before_slash, taken_in, later_segments, AtSlash, AtSlash-tokens, fits-word, names-law}
 
 module _ {K : Type 0} where

@@ -18,7 +18,9 @@ use Rattle.agv_http.specs.routing.Table.{Row, MethodRoute, with_route, method_ro
 use Rattle.agv_http.specs.routing.Kept.{Kept, kept_table}
 use Rattle.agv_http.specs.routing.Taken.{all_names, AreTexts, IsTaken}
 use Rattle.agv_http.specs.declared.routing.line.Line.{Line}
-use Rattle.agv_http.proofs.routing.Seeking.{after_segment, fits, tail, SomeFits, NoneFits, Answers, AreBytes, answers}
+use Rattle.agv_http.proofs.routing.Fits.{fits, tail, AreBytes}
+use Rattle.agv_http.proofs.routing.Seeking.{SomeFits, NoneFits, Answers, answers}
+use Rattle.agv_http.proofs.routing.Segments.{after_segment}
 use Rattle.agv_http.proofs.routing.Patterns.{is_word, is_tidy, tokens, before_slash, taken_in, later_segments, AtSlash, AtSlash-after, names-law, split-first, word-byte}
 use Rattle.agv_http.proofs.routing.RouterLines.{params, is_fit, AllMade, HasMatchingRow, Covered, covered, kin, good-tokens, tidy-of, not-nil-fits, none-served, one-served, table-apart, bytes_same}
 use Rattle.agv_http.proofs.routing.Walks.{spelled}

@@ -7,7 +7,8 @@ use borrow.Author.Tests.{eqb-true}
 use Rattle.matchit.specs.Params.{walk, wild_from, wild_stop, part_of, after_token}
 use Rattle.matchit.specs.Seek.{segment}
 use Rattle.agv_http.specs.routing.Taken.{Spells}
-use Rattle.agv_http.proofs.routing.Seeking.{after_segment, fits, is_open, tail, is_nil, IsGood, fits-none}
+use Rattle.agv_http.proofs.routing.Fits.{fits, is_open, tail, is_nil, IsGood, fits-none}
+use Rattle.agv_http.proofs.routing.Segments.{after_segment}
 use Rattle.agv_http.proofs.routing.Patterns.{before_slash, taken_in}
 
 abbrev is_cons : List ℕ → Bool

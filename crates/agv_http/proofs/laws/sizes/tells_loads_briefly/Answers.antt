@@ -1,4 +1,4 @@
-use Rattle.agv_http.proofs.answers.Lengths.{load_brief}
+use Rattle.agv_http.proofs.answers.QuestionLengths.{load_brief}
 use Rattle.agv_http.proofs.laws.sizes.tells_loads_briefly.Goals as goal
 
 pub returns : goal.returns

@@ -1,4 +1,4 @@
-use Rattle.agv_http.proofs.answers.Lengths.{vehicle_brief}
+use Rattle.agv_http.proofs.answers.QuestionLengths.{vehicle_brief}
 use Rattle.agv_http.proofs.laws.sizes.tells_vehicles_briefly.Goals as goal
 
 pub returns : goal.returns
