@@ -1,5 +1,5 @@
 -- How long heads and bodies are.
-use Rattle.std.proofs.Common.{◌≡◌, ◌&&◌, nat_lt, nat_le, suc, ◌≤◌, ◌<◌, ◌+◌, ◌^◌, ℕ, Bool, true, false, List, [], ◌∷◌, ◌++◌, length, Option, Some, None, All, unwrap_or, codes, decimal, ap, arith, length-append, lit<, lit≤, map, is_some}
+use Rattle.std.proofs.Common.{◌≡◌, ◌&&◌, nat_lt, nat_le, suc, ◌≤◌, ◌<◌, ◌+◌, ◌^◌, ℕ, Bool, true, false, List, [], ◌∷◌, ◌++◌, length, Option, Some, None, All, unwrap_or, codes, decimal, ap, arith, length-append, lit<, lit≤, map}
 use Rattle.std.specs.List.{list_all}
 use Rattle.std.proofs.lemmas.Bool.{and_parts}
 use Rattle.std.proofs.lemmas.Bool.Decides.{nat_tests}
@@ -22,20 +22,11 @@ use Rattle.agv_header.specs.declared.refusal.Refusal.{Refusal}
 use Rattle.agv_header.specs.declared.refusal.Refusal.TheVariants as refusal
 use Rattle.agv_header.specs.declared.refusal.Verb.{Verb}
 use Rattle.agv_header.specs.declared.refusal.Verb.TheVariants as verb
-use Rattle.agv_count.specs.ExportRecords.{IsPlaceNamed}
-use Rattle.agv_desk.specs.declared.answer.OpenOrder.{OpenOrder}
-use Rattle.agv_message.specs.Instant.{instant_name}
-use Rattle.agv_message.specs.declared.instant.InstantKind.{InstantKind}
-use Rattle.agv_message.specs.declared.instant.InstantKind.TheVariants as kind
-use Rattle.agv_stock.specs.declared.place.Place.{Place}
-use Rattle.agv_stock.specs.declared.place.Place.TheVariants as place
-use Rattle.agv_world.specs.declared.row.VehicleRow.{VehicleRow}
-use Rattle.agv_message.specs.Json.{list, text, truth, whole}
+use Rattle.agv_message.specs.Json.{list, text}
 use Rattle.agv_http.specs.answers.Answers.{allowed, answer_text}
-use Rattle.agv_http.specs.answers.Bodies.{accepted_data, counted_data, held_data, instructed_data, load_data, or_null, place_words, plain_refusal_data, refusal_data, update_data, wrong_update_data}
+use Rattle.agv_http.specs.answers.Bodies.{accepted_data, counted_data, held_data, instructed_data, plain_refusal_data, refusal_data, update_data, wrong_update_data}
 use Rattle.agv_http.specs.answers.Heads.{allow_line, connection_line, content_lines, head_text, line_end, status_line}
-use Rattle.agv_http.specs.answers.Sizes.{IsBrief, IsNameIfAny, IsOfItsTypes, IsOrderShort, IsShortIfAny, IsToldBriefly, IsVehicleShort, is_outcome, names_size, outcome_room}
-use Rattle.agv_http.specs.answers.VehicleBody.{vehicle_data, vehicle_parts}
+use Rattle.agv_http.specs.answers.Sizes.{IsBrief, IsOfItsTypes, IsToldBriefly, is_outcome, names_size, outcome_room}
 use Rattle.agv_message.proofs.Escapes.{escape-name, escape-decimal}
 use Rattle.agv_http.proofs.answers.Escapes.{escape-key}
 use Rattle.agv_http.proofs.answers.RefusalNames.{escape-refusal}

@@ -1,27 +1,11 @@
 -- How long the answers to questions on a load and on a vehicle are.
-use Rattle.std.proofs.Common.{◌≡◌, ◌&&◌, nat_lt, nat_le, suc, ◌≤◌, ◌<◌, ◌+◌, ◌^◌, ℕ, Bool, true, false, List, [], ◌∷◌, ◌++◌, length, Option, Some, None, All, unwrap_or, codes, decimal, ap, arith, length-append, lit<, lit≤, map, is_some}
-use Rattle.std.specs.List.{list_all}
-use Rattle.std.proofs.lemmas.Bool.{and_parts}
-use Rattle.std.proofs.lemmas.Bool.Decides.{nat_tests}
-use Rattle.std.proofs.lemmas.Fmt.{length-decimal-le}
-use Rattle.std.proofs.lemmas.List.Sums.{sum_by-cons}
-use Rattle.http.specs.StatusCode.{reason_phrase}
+use Rattle.std.proofs.Common.{◌≤◌, ℕ, Bool, true, false, List, [], ◌∷◌, ◌++◌, length, Option, Some, None, codes, ap, arith, length-append, lit<, lit≤, is_some}
 use Rattle.json.specs.Print.{escape, escape_byte}
-use Rattle.serde_json.specs.View.{items_of}
-use Rattle.serde_json.specs.Written.{compact_text, items_text}
-use Rattle.agv_header.specs.Key.{thing_name}
-use Rattle.agv_header.specs.Name.{IsName, is_name_byte}
-use Rattle.agv_count.specs.Reports.{key_text, thing_text}
-use Rattle.agv_desk.specs.declared.answer.Answer.{Answer}
+use Rattle.serde_json.specs.Written.{compact_text}
+use Rattle.agv_header.specs.Name.{IsName}
+use Rattle.agv_count.specs.Reports.{key_text}
 use Rattle.agv_desk.specs.declared.answer.Answer.TheVariants as answer
-use Rattle.agv_header.specs.Refusal.{name_of, number_of, status_of}
-use Rattle.agv_header.specs.declared.key.Thing.{Thing}
-use Rattle.agv_header.specs.declared.key.Thing.TheVariants as thing
 use Rattle.agv_header.specs.declared.key.VehicleKey.{VehicleKey}
-use Rattle.agv_header.specs.declared.refusal.Refusal.{Refusal}
-use Rattle.agv_header.specs.declared.refusal.Refusal.TheVariants as refusal
-use Rattle.agv_header.specs.declared.refusal.Verb.{Verb}
-use Rattle.agv_header.specs.declared.refusal.Verb.TheVariants as verb
 use Rattle.agv_count.specs.ExportRecords.{IsPlaceNamed}
 use Rattle.agv_desk.specs.declared.answer.OpenOrder.{OpenOrder}
 use Rattle.agv_message.specs.Instant.{instant_name}
@@ -30,16 +14,12 @@ use Rattle.agv_message.specs.declared.instant.InstantKind.TheVariants as kind
 use Rattle.agv_stock.specs.declared.place.Place.{Place}
 use Rattle.agv_stock.specs.declared.place.Place.TheVariants as place
 use Rattle.agv_world.specs.declared.row.VehicleRow.{VehicleRow}
-use Rattle.agv_message.specs.Json.{list, text, truth, whole}
-use Rattle.agv_http.specs.answers.Answers.{allowed, answer_text}
-use Rattle.agv_http.specs.answers.Bodies.{accepted_data, counted_data, held_data, instructed_data, load_data, or_null, place_words, plain_refusal_data, refusal_data, update_data, wrong_update_data}
-use Rattle.agv_http.specs.answers.Heads.{allow_line, connection_line, content_lines, head_text, line_end, status_line}
-use Rattle.agv_http.specs.answers.Sizes.{IsBrief, IsNameIfAny, IsOfItsTypes, IsOrderShort, IsShortIfAny, IsToldBriefly, IsVehicleShort, is_outcome, names_size, outcome_room}
+use Rattle.agv_message.specs.Json.{text, truth, whole}
+use Rattle.agv_http.specs.answers.Answers.{answer_text}
+use Rattle.agv_http.specs.answers.Bodies.{load_data, or_null, place_words}
+use Rattle.agv_http.specs.answers.Sizes.{IsNameIfAny, IsOrderShort, IsShortIfAny, IsVehicleShort}
 use Rattle.agv_http.specs.answers.VehicleBody.{vehicle_data, vehicle_parts}
-use Rattle.agv_message.proofs.Escapes.{escape-name, escape-decimal}
-use Rattle.agv_http.proofs.answers.Escapes.{escape-key}
-use Rattle.agv_http.proofs.answers.RefusalNames.{escape-refusal}
-use Rattle.agv_http.proofs.answers.ShortRefusals.{short_refusal}
+use Rattle.agv_message.proofs.Escapes.{escape-name}
 use Rattle.agv_http.proofs.answers.Lengths.{name_length, digits_length, key_length, whole_length}
 
 name_text_length : (s : List ℕ) → IsName s → length (compact_text (text s)) ≤ 34

@@ -1,11 +1,9 @@
 -- What a parameter of a pattern takes in the router's walk: a whole segment that isn't empty.
-use Rattle.std.proofs.Common.{◌≡◌, ℕ, zero, suc, ◌-◌, ◌<◌, ◌≤◌, ◌⊎◌, inl, inr, List, [], ◌∷◌, length, drop, Option, Some, None, Bool, true, false, cond, not, ◌&&◌, refl, sym, subst, ap, ◌∙◌, is_some, arith, nat_eq, ◌==◌, ltb}
+use Rattle.std.proofs.Common.{◌≡◌, ℕ, zero, suc, ◌-◌, List, [], ◌∷◌, length, drop, Option, None, Bool, true, false, cond, ◌&&◌, refl, sym, ap, ◌∙◌, arith, ◌==◌, ltb}
 use Rattle.std.proofs.lemmas.Bool.Decides.{nat_tests}
 use mathlib.Core.Bool.{true≢false}
-use Rattle.std.specs.Cmp.Lexicographic.{pointwise}
-use borrow.Author.Tests.{eqb-true}
 use Rattle.matchit.specs.Rows.{RowsOf}
-use Rattle.matchit.specs.Seek.{own, step, or_else, seek, param_step, segment, has_slash, cuts, longest_from, with_suffix}
+use Rattle.matchit.specs.Seek.{step, seek, param_step, segment, has_slash, cuts, longest_from, with_suffix}
 use Rattle.agv_http.proofs.routing.Segments.{after_segment, Slashed, slashed, whole, no-slash-drop, and-false, drop-whole, cuts-slash}
 
 module _ {K : Type 0} where

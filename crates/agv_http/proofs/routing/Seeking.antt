@@ -1,11 +1,10 @@
 -- What the router's walk over rows answers: a row whose pattern the path fits, or none where it fits none.
-use Rattle.std.proofs.Common.{◌≡◌, ℕ, zero, suc, ◌-◌, ◌<◌, ◌≤◌, ◌⊎◌, inl, inr, List, [], ◌∷◌, length, drop, Option, Some, None, Bool, true, false, cond, not, ◌&&◌, refl, sym, subst, ap, ◌∙◌, is_some, arith, nat_eq, ◌==◌, ltb}
+use Rattle.std.proofs.Common.{◌≡◌, ℕ, zero, suc, ◌<◌, ◌≤◌, ◌⊎◌, inl, inr, List, [], ◌∷◌, length, Option, Some, None, Bool, true, false, cond, refl, sym, subst, ap, ◌∙◌, is_some, arith, ◌==◌}
 use Rattle.std.proofs.lemmas.Bool.Decides.{nat_tests}
 use mathlib.Core.Bool.{true≢false}
-use Rattle.std.specs.Cmp.Lexicographic.{pointwise}
 use borrow.Author.Tests.{eqb-true}
 use Rattle.matchit.specs.Rows.{RowsOf}
-use Rattle.matchit.specs.Seek.{own, step, or_else, seek, param_step, segment, has_slash, cuts, longest_from, with_suffix}
+use Rattle.matchit.specs.Seek.{own, step, or_else, seek}
 use Rattle.agv_http.proofs.routing.Segments.{after_segment, length-after_segment}
 use Rattle.agv_http.proofs.routing.Parameters.{AllTails, taken, taken-all, taken-none}
 use Rattle.agv_http.proofs.routing.Fits.{fits, fits-none, fits-byte, fits-param, fits-slash, fits-other, IsGood, IsGood-tail, IsGood-token, AreBytes, AreBytes-after}

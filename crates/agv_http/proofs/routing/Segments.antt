@@ -1,11 +1,9 @@
 -- The first segment of a path, and what comes after it.
-use Rattle.std.proofs.Common.{◌≡◌, ℕ, zero, suc, ◌-◌, ◌<◌, ◌≤◌, ◌⊎◌, inl, inr, List, [], ◌∷◌, length, drop, Option, Some, None, Bool, true, false, cond, not, ◌&&◌, refl, sym, subst, ap, ◌∙◌, is_some, arith, nat_eq, ◌==◌, ltb}
+use Rattle.std.proofs.Common.{◌≡◌, ℕ, zero, suc, ◌-◌, ◌≤◌, List, [], ◌∷◌, length, drop, Bool, true, false, cond, ◌&&◌, refl, sym, ap, ◌∙◌, arith, nat_eq, ◌==◌, ltb}
 use Rattle.std.proofs.lemmas.Bool.Decides.{nat_tests}
 use mathlib.Core.Bool.{true≢false}
 use Rattle.std.specs.Cmp.Lexicographic.{pointwise}
-use borrow.Author.Tests.{eqb-true}
-use Rattle.matchit.specs.Rows.{RowsOf}
-use Rattle.matchit.specs.Seek.{own, step, or_else, seek, param_step, segment, has_slash, cuts, longest_from, with_suffix}
+use Rattle.matchit.specs.Seek.{segment, has_slash, cuts}
 
 -- the path after its first segment
 abbrev pub after_segment : List ℕ → List ℕ
