@@ -1,10 +1,10 @@
-"""Measures each kind of call over `serve` on a file with 1,000, 100,000 and 999,000 loads at the checking place and as many jobs that
-have ended: the wall time from the last byte of the request written to the answer read, the median of some rounds, and the instructions of
-the program for it, by `replay` on the file. Beside, in the same run and on copies of the same files, the statements that the desk carries
-out for the call (bench/statements.txt; the layout, the room at stations and the edges of open orders are kept in memory) by the SQLite of
-C (bench/plain_calls.c; WAL, synchronous=FULL, each text prepared once). Besides the time and the memory of an opening, and the time in
-which C reads all rows of the tables. The layout and the vehicle are set once, and reports are in bench/many_loads.py. Python's standard
-library, gcc with SQLite's header and library, and valgrind.
+"""Measures each kind of call over `serve` on a file with 1,000, 100,000 and 999,000 loads at the checking place and as many jobs that have
+ended: the wall time from the last byte of the request written to the answer read, the median of some rounds, and the instructions of the
+program for it, by `replay` on the file. Beside, in the same run and on copies of the same files, the statements that the desk carries out
+for the call (bench/statements.txt; the layout, the room at stations, the edges of open orders and the capacities of vehicles are kept in
+memory) by the SQLite of C (bench/plain_calls.c; WAL, synchronous=FULL, each text prepared once). Besides the time and the memory of an
+opening, and the time in which C reads all rows of the tables. The layout and the vehicle are set once, and reports are in
+bench/many_loads.py. Python's standard library, gcc with SQLite's header and library, and valgrind.
 
     DESK=crates/agv_app/out/agv_app python3 bench/statements.py [SIZE..]
 """

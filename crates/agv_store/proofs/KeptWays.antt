@@ -1,5 +1,5 @@
 -- The ways of orders that are kept beside the connection, and which of them are kept once rows were written.
-use Rattle.std.proofs.Common.{◌≡◌, ℕ, Bool, true, false, not, cond, nat_eq, List, [], ◌∷◌, filter, Option, None, Some, Ordering, Less, Equal, Greater, is_eq, refl, sym, ap, subst, ◌∙◌}
+use Rattle.std.proofs.Common.{◌≡◌, ℕ, Bool, true, false, not, cond, nat_eq, List, [], ◌∷◌, filter, Option, None, Some, Ordering, Less, Equal, Greater, is_eq, refl, sym, ap, ◌∙◌}
 use Rattle.std.specs.BTreeMap as tree
 use Rattle.std.specs.Cmp.{Equal-is}
 use Rattle.std.specs.Cmp.Lexicographic.{pointwise, texts_ties}
@@ -24,6 +24,7 @@ use Rattle.agv_world.specs.declared.change.Change.{Change}
 use Rattle.agv_world.specs.declared.change.Change.TheVariants as row
 use Rattle.agv_world.specs.declared.key.LegKey.{LegKey}
 use Rattle.agv_desk.proofs.lists.SameNames.{same_name}
+use Rattle.agv_tables.specs.queries.KnownCapacities.{CapacitiesOf}
 use Rattle.agv_tables.specs.queries.KnownWays.{AreWays, WaysOf}
 use Rattle.agv_tables.specs.rows.DecodedTrips.{tables_of}
 use Rattle.agv_tables.specs.sql.Connections.{IsClean, IsOpen}
@@ -117,8 +118,8 @@ one_more_way ways more order edges puts rows own are other known there =
       | false ↦ λ untied is. are other known is
     ] refl (sym (puts other) ∙ there)
 
-module _ {S : Type 0} (g : Ghosts S) (held : Held S) (counts : Counts) (layout : Option Layout) (rooms : RoomsLeft) (ways more : WaysOf) (failed in_doubt : Bool) (is : IsKept g held counts layout rooms ways failed in_doubt) where
-  pub keeps_ways : (IsClean g held → IsOpen g held → AreWays ways (rows_of (world_at g held)) → AreWays more (rows_of (world_at g held))) → IsKept g held counts layout rooms more failed in_doubt
+module _ {S : Type 0} (g : Ghosts S) (held : Held S) (counts : Counts) (layout : Option Layout) (rooms : RoomsLeft) (ways more : WaysOf) (capacities : CapacitiesOf) (failed in_doubt : Bool) (is : IsKept g held counts layout rooms ways capacities failed in_doubt) where
+  pub keeps_ways : (IsClean g held → IsOpen g held → AreWays ways (rows_of (world_at g held)) → AreWays more (rows_of (world_at g held))) → IsKept g held counts layout rooms more capacities failed in_doubt
   keeps_ways so = record {
     idle = is.idle;
     opens = is.opens;
@@ -127,4 +128,5 @@ module _ {S : Type 0} (g : Ghosts S) (held : Held S) (counts : Counts) (layout :
     agrees = is.agrees;
     fits = is.fits;
     go = λ clean still. so clean still (is.go clean still);
+    built = is.built;
   }

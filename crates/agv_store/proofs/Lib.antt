@@ -5,6 +5,7 @@ mod Crashes
 mod Deciding
 mod Found
 mod InTurn
+mod KeptCapacities
 mod KeptLayout
 mod KeptRooms
 mod KeptThrough

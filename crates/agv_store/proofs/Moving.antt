@@ -19,6 +19,7 @@ use Rattle.agv_world.specs.declared.world.World.{World as Tables}
 use Rattle.agv_tables.specs.first_schema.FirstFound.{FindsFirst}
 use Rattle.agv_tables.specs.first_schema.Moved.{CanBeAdded, LeavesMoved, MovesTables, MovesWorld}
 use Rattle.agv_tables.proofs.sql.Later.{later_by}
+use Rattle.agv_tables.specs.queries.KnownCapacities.{AreCapacities, CapacitiesOf}
 use Rattle.agv_tables.specs.queries.KnownWays.{AreWays, WaysOf}
 use Rattle.agv_tables.specs.queries.WorldAnswers.{AgreesWith}
 use Rattle.agv_tables.specs.sql.Connections.{IsClean, IsOpen}
@@ -198,8 +199,9 @@ module _ {S : Type 0} (g : Ghosts S) where
         told : (clean : IsClean g new) → world_at g new ≡ (had (clean_mid clean)).world
         told clean = let it = knows clean in tells_its_world it.at (state g new).now (had (clean_mid clean)).world it.has
 
-        pub moved_kept : (rooms : RoomsLeft) → ((rows : Rows) → AreLeft rooms rows) → (ways : WaysOf) → ((rows : Rows) → AreWays ways rows) → IsKept g new counts layout rooms ways false false
-        moved_kept rooms none ways no_ways = record {
+        pub moved_kept : (rooms : RoomsLeft) → ((rows : Rows) → AreLeft rooms rows) → (ways : WaysOf) → ((rows : Rows) → AreWays ways rows)
+            → (capacities : CapacitiesOf) → ((rows : Rows) → AreCapacities capacities rows) → IsKept g new counts layout rooms ways capacities false false
+        moved_kept rooms none ways no_ways capacities no_capacities = record {
           idle = idle;
           opens = λ clean _ _. (opens clean).1;
           knows = λ clean _. subst (λ (world : World). Knows g new world) (sym (told clean)) (knows clean);
@@ -207,6 +209,7 @@ module _ {S : Type 0} (g : Ghosts S) where
           agrees = λ clean _. subst (AgreesWith layout) (sym (told clean)) (agreed (clean_mid clean));
           fits = λ clean _. none (rows_of (world_at g new));
           go = λ clean _. no_ways (rows_of (world_at g new));
+          built = λ clean _. no_capacities (rows_of (world_at g new));
         }
 
   -- the names of the three tables are not free, or a key refers to one of them

@@ -1,8 +1,8 @@
 //! The questions of a floor, each by look-ups of a key or an index in the desk's tables; the layout alone is read whole, and
 //! kept then. A node, a station, the edges of a trip and the layout itself are looked up in the kept one, and asked of the
 //! tables only where none is kept or it lacks the name. The edges of an order that were read are kept as long as it has
-//! them. Whether one load more fits at a station is told by what is left of the room that was counted there; where none is
-//! kept, the room is counted.
+//! them, and so is the capacity of a vehicle. Whether one load more fits at a station is told by what is left of the room
+//! that was counted there; where none is kept, the room is counted.
 
 use crate::flags::note;
 use crate::keyed_floor::KeyedFloor;
@@ -13,7 +13,7 @@ use agv_order::Trip;
 use agv_stock::Place;
 use agv_tables::DESK_SEATS;
 use agv_tables::queries::key_queries::{
-    query_holder, query_job, query_node, query_place, query_station, query_used, query_vehicle,
+    query_holder, query_job, query_node, query_place, query_station, query_used,
 };
 use agv_tables::queries::load_queries::{query_job_of, query_loads_on, query_reserved, query_room};
 use agv_tables::queries::station_loads::query_loads_at;
@@ -45,8 +45,11 @@ impl<S: Alter + Drop> Floor for KeyedFloor<S> {
     }
 
     fn vehicle(&mut self, key: VehicleKey) -> Result<Option<VehicleRow>, Fault> {
-        let asked = query_vehicle(&mut self.conn, &key);
-        note(&mut self.failed, &mut self.in_doubt, asked)
+        let vehicle = self.vehicle_asked(&key)?;
+        if let Some(vehicle) = &vehicle {
+            let _kept = self.keep_capacity(&key, vehicle);
+        }
+        Ok(vehicle)
     }
 
     fn trip(&mut self, key: VehicleKey) -> Result<Option<Trip>, Fault> {

@@ -10,6 +10,7 @@ use crate::counts::Counts;
 use crate::flags::note;
 use crate::kept_rooms::RoomsLeft;
 use agv_layout::Layout;
+use agv_tables::queries::known_capacities::KnownCapacities;
 use agv_tables::queries::known_ways::KnownWays;
 use agv_tables::readings::hold_reading::query_meta;
 use agv_world::Fault;
@@ -32,6 +33,8 @@ pub struct KeyedFloor<S: Alter> {
     pub(crate) rooms: RoomsLeft,
     // The edges of open orders, once they were read.
     pub(crate) ways: KnownWays,
+    // How many loads vehicles have room for, once their rows were read.
+    pub(crate) capacities: KnownCapacities,
     pub(crate) failed: bool,
     // Memory was refused since the connection was last known to be open.
     pub(crate) in_doubt: bool,
@@ -47,7 +50,7 @@ impl<S: Alter> Model for KeyedFloor<S> {
 
     ghost view = { λ floor. record { held = floor.conn; failed = floor.failed } };
 
-    ghost invariant = { λ floor. IsKept S.Store floor.conn floor.counts floor.layout floor.rooms floor.ways floor.failed floor.in_doubt };
+    ghost invariant = { λ floor. IsKept S.Store floor.conn floor.counts floor.layout floor.rooms floor.ways floor.capacities floor.failed floor.in_doubt };
 }
 
 impl<S: Alter + Drop> KeyedFloor<S> {

@@ -9,6 +9,7 @@ ghost use Rattle.agv_store.specs.Opening.{IsDamaged, left_by};
 
 use crate::counts::Counts;
 use crate::desk::Desk;
+use crate::kept_capacities::no_capacities;
 use crate::kept_layout::layout_told;
 use crate::kept_rooms::no_rooms;
 use crate::kept_ways::no_ways;
@@ -68,6 +69,7 @@ impl<S: Alter + Drop> Desk<S> {
                     layout,
                     rooms: no_rooms(alloc),
                     ways: no_ways(alloc),
+                    capacities: no_capacities(alloc),
                     failed: false,
                     in_doubt: false,
                     alloc,

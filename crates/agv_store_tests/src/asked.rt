@@ -229,7 +229,7 @@ fn write_full<S: Alter>(rt: &impl Abort, alloc: Global, conn: &mut Connection<S>
 
 /// Asks by each key for what is there.
 fn ask_known<S: Alter>(rt: &impl Abort, alloc: Global, conn: &mut Connection<S>, number: u32) {
-    let row = query_vehicle(conn, &vehicle(rt));
+    let row = query_vehicle(conn, &BTreeMap::new(alloc), &vehicle(rt));
     check(rt, row == Ok(Some(vehicle_row(rt))), "the vehicle");
     let load = numbered(rt, alloc, 'L', number);
     let place = query_place(conn, &load);
@@ -267,7 +267,8 @@ fn ask_unknown<S: Alter>(rt: &impl Abort, alloc: Global, conn: &mut Connection<S
         manufacturer: name(rt, "0001"),
         serial: name(rt, "KIT"),
     };
-    check(rt, query_vehicle(conn, &other) == Ok(None), "a vehicle");
+    let row = query_vehicle(conn, &BTreeMap::new(alloc), &other);
+    check(rt, row == Ok(None), "a vehicle");
     let load = name(rt, "J1");
     check(rt, query_place(conn, &load) == Ok(None), "a place");
     check(rt, query_job(conn, &name(rt, "A1")) == Ok(None), "a job");

@@ -1,5 +1,6 @@
 pub mod QueriedRows
 pub mod FirstRow
+pub mod KnownCapacities
 pub mod KnownWays
 pub mod ReadingFault
 pub mod WorldAnswers

@@ -24,7 +24,7 @@ use Rattle.agv_tables.proofs.schema.DeskPlaces.{is_in, is_in_alone}
 use Rattle.agv_tables.proofs.sql.EntryEdits.{filter_nothing}
 use Rattle.agv_tables.proofs.statements.QueryMeanings.{Asks, query_terms, query_passes, query_within, query_asks, all_rows_asked}
 use Rattle.agv_tables.proofs.sql.QueryRows.{passes, reads_within}
-use Rattle.agv_tables.proofs.statements.RowForms.{Inserted, Lands, lands_inserted, row_inserted, rows_deleted, rows_shown, rows_shown_alone}
+use Rattle.agv_tables.proofs.statements.RowForms.{Inserted, Lands, one_inserted, row_inserted, rows_deleted, rows_shown, rows_shown_alone}
 use Rattle.agv_tables.proofs.statements.RowMeanings.{key_terms, deleted_terms, column_names, inserts, deletes, looks_up}
 
 -- ---- keys
@@ -117,13 +117,13 @@ pub added_one : (table : WorldTable) (desk : Placing) (is : IsDesk desk) (old ne
     → (count : ℕ) → Executes (insertion_text table) row old new (Ok count) → Inserted desk is (table_written table) old new has row
 added_one table desk is old new has row fit =
     let name = table_written table in
-    row_inserted desk is name old new has (insertion_text table) row fit (inserts table desk.schema (is.stands name).at (desk.tree name) (is_in desk is name))
+    one_inserted desk is name old new has (insertion_text table) row fit (inserts table desk.schema (is.stands name).at (desk.tree name) (is_in desk is name))
 
 pub inserts_row : (table : WorldTable) (sql : List ℕ) → sql ≡ insertion_text table → (row : Row) → FitsTable (table_written table) row → (old new : State) (r : Result ℕ Error) → RunsInside sql row old new r → OnOk r (Makes (with_row (table_written table) row) old new)
 inserts_row table sql text row fit old new r ran =
     let name = table_written table in
     makes (with_row name row) (insertion_text table) row old new r
-    (λ desk is has count done. lands_inserted desk is name old new has row (added_one table desk is old new has row fit count done) fit)
+    (λ desk is has. row_inserted desk is name old new has (insertion_text table) row fit (inserts table desk.schema (is.stands name).at (desk.tree name) (is_in desk is name)))
     (subst (λ t. RunsInside t row old new r) text ran)
 
 pub deletes_row : (table : WorldTable) (sql : List ℕ) → sql ≡ deletion_text table → (key : Row) (old new : State) (r : Result ℕ Error) → RunsInside sql key old new r → OnOk r (Makes (without_rows (table_written table) (columns_deleted table) key) old new)

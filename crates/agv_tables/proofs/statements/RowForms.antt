@@ -319,10 +319,10 @@ module _ (desk : Placing) (is : IsDesk desk) (name : TableName) (old new : State
     pub now : new.now ≡ record { schema = old.now.schema; trees = next }
     pub sound : IsDatabase new.now
 
-  pub row_inserted : (sql : List ℕ) (row : Row) → FitsTable name row
+  pub one_inserted : (sql : List ℕ) (row : Row) → FitsTable name row
       → Means desk.schema sql (Insert at (Values (row_terms name) (suc width)))
       → (count : ℕ) → Executes sql row old new (Ok count) → Inserted row
-  row_inserted sql row fit means count ran =
+  one_inserted sql row fit means count ran =
       let command = Insert at (Values (row_terms name) (suc width)) in
       let db = old.now.trees in
       let w = runs_as sql row old new desk.schema has command means.is means.plain count ran in
@@ -365,12 +365,17 @@ module _ (desk : Placing) (is : IsDesk desk) (name : TableName) (old new : State
     pub stands_with_them : it.next table.tree ≡ put_row entry entries
     stands_with_them = it.step.rows ∙ ap (put_all entries) it.news
 
-    pub lands_inserted : FitsTable name row → Lands desk old.now new.now (on_table (place_of name) (λ rows. row ∷ rows))
+    lands_inserted : FitsTable name row → Lands desk old.now new.now (on_table (place_of name) (λ rows. row ∷ rows))
     lands_inserted fit =
         let whole : first_columns width row ≡ row = all_columns (table_for name).columns row fit in
         lands (edit_of old.now.trees table [] Chosen 0 ((Null ∷ row) ∷ [])) it.next (λ rows. row ∷ rows) refl it.step (λ rows was.
         subst (λ es. HaveRows width es (row ∷ rows)) (sym stands_with_them)
         (subst (λ r. HaveRows width (put_row entry entries) (r ∷ rows)) whole (one_more_row width entry entries rows rowid_is_new refl was))) it.now it.sound
+
+  pub row_inserted : (sql : List ℕ) (row : Row) → FitsTable name row
+      → Means desk.schema sql (Insert at (Values (row_terms name) (suc width)))
+      → (count : ℕ) → Executes sql row old new (Ok count) → Lands desk old.now new.now (on_table (place_of name) (λ rows. row ∷ rows))
+  row_inserted sql row fit means count ran = lands_inserted row (one_inserted sql row fit means count ran) fit
 
 module _ (desk : Placing) (name : TableName) (old new : State) (has : old.now.schema ≡ desk.schema) where
   abbrev tree : ℕ

@@ -1,4 +1,4 @@
-//! What the rows of a lawful world tell of its open trips. The function does nothing: its clauses are the law.
+//! What the rows of a lawful world tell of its open trips and its vehicles. The functions do nothing: their clauses are the law.
 ghost use Rattle.std.specs.Prelude.{◌≡◌, ℕ, List, Some, filter, true};
 ghost use Rattle.std.specs.FinMap as finite;
 ghost use Rattle.std.specs.Option.{option_and_then};
@@ -11,7 +11,7 @@ ghost use Rattle.agv_trip_rows.specs.TripsTold.{acts_told};
 ghost use Rattle.agv_trip_rows.specs.declared.act_row.ActRow.{ActRow};
 ghost use Rattle.agv_trip_rows.specs.declared.journey_row.JourneyRow.{JourneyRow};
 ghost use Rattle.agv_world.specs.Lawful.{IsLawful};
-ghost use Rattle.agv_world.specs.Questions.{trip_of};
+ghost use Rattle.agv_world.specs.Questions.{row_of, trip_of};
 ghost use Rattle.agv_world.specs.Rows.{rows_of};
 ghost use Rattle.agv_world.specs.Told.{edges_of};
 ghost use Rattle.agv_world.specs.Worlds.{World};
@@ -57,3 +57,8 @@ pub fn rows_tell_trips()
     is_in_good_order();
     tables_tell_the_world();
 }
+
+/// The row of a vehicle is the row of its key.
+pub fn rows_have_vehicles()
+    ensures { (world : World) (key : VehicleKey) → finite.get (rows_of world).vehicles key ≡ row_of world key }
+{}

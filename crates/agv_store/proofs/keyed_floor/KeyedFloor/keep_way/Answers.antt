@@ -8,13 +8,13 @@ use Rattle.agv_store.proofs.keyed_floor.KeyedFloor.keep_way.Goals as goal
 
 pub invariant_of-self : goal.invariant_of-self
 invariant_of-self g c =
-    keeps_ways g.S.Store c.self.inside.conn c.self.inside.counts c.self.inside.layout c.self.inside.rooms c.self.inside.ways c.insert.new.self c.self.inside.failed c.self.inside.in_doubt c.self.invariant
+    keeps_ways g.S.Store c.self.inside.conn c.self.inside.counts c.self.inside.layout c.self.inside.rooms c.self.inside.ways c.insert.new.self c.self.inside.capacities c.self.inside.failed c.self.inside.in_doubt c.self.invariant
     (λ clean still are. same_ways c.self.inside.ways c.insert.new.self c.in_err-insert.ensures.err (rows_of (world_at g.S.Store c.self.inside.conn)) are)
 
 pub invariant_of-self-2 : goal.invariant_of-self-2
 invariant_of-self-2 g c =
     let there = subst (λ (desk : Keyed g.row.S.Denot). IsClean g.S.Store desk.held → IsOpen g.S.Store desk.held → Some c.args.trip.now ≡ trip_of (world_at g.S.Store desk.held) c.args.key.now) (sym c.self.view_is) c.requires in
-    keeps_ways g.S.Store c.self.inside.conn c.self.inside.counts c.self.inside.layout c.self.inside.rooms c.self.inside.ways c.insert.new.self c.self.inside.failed c.self.inside.in_doubt c.self.invariant
+    keeps_ways g.S.Store c.self.inside.conn c.self.inside.counts c.self.inside.layout c.self.inside.rooms c.self.inside.ways c.insert.new.self c.self.inside.capacities c.self.inside.failed c.self.inside.in_doubt c.self.invariant
     (λ clean still are.
     let world = world_at g.S.Store c.self.inside.conn in
     one_more_way c.self.inside.ways c.insert.new.self c.args.trip.now.order c.in_ok-edges.edges c.in_ok-insert.ensures.updates.0 (rows_of world)
