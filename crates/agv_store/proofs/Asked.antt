@@ -112,8 +112,8 @@ module _ {S : Type 0} (g : Ghosts S) where
       counted = λ clean still what. is.counted (clean_before old new asked clean) (asked.was_open clean still) what ∙ ap (λ (world : World). count_of world what) (sym (world_same clean still));
       agrees = λ clean still. subst (AgreesWith layout) (sym (world_same clean still)) (is.agrees (clean_before old new asked clean) (asked.was_open clean still));
       fits = λ clean still. subst (λ (world : World). AreLeft rooms (rows_of world)) (sym (world_same clean still)) (is.fits (clean_before old new asked clean) (asked.was_open clean still));
-      go = λ clean still. subst (λ (world : World). AreWays ways (rows_of world)) (sym (world_same clean still)) (is.go (clean_before old new asked clean) (asked.was_open clean still));
-      built = λ clean still. subst (λ (world : World). AreCapacities capacities (rows_of world)) (sym (world_same clean still)) (is.built (clean_before old new asked clean) (asked.was_open clean still));
+      ways_are = λ clean still. subst (λ (world : World). AreWays ways (rows_of world)) (sym (world_same clean still)) (is.ways_are (clean_before old new asked clean) (asked.was_open clean still));
+      capacities_are = λ clean still. subst (λ (world : World). AreCapacities capacities (rows_of world)) (sym (world_same clean still)) (is.capacities_are (clean_before old new asked clean) (asked.was_open clean still));
     }
 
   -- a kept layout is the world's, to who sees the floor as its value
@@ -246,22 +246,22 @@ module _ {S : Type 0} (g : Ghosts S) where
         (asked_asks old new counts layout rooms ways capacities failed in_doubt is r _ tells failed_now (record { held = old; failed = failed }) refl (noted r) refl raised)))
 
     -- and a kept way is that of its order
-    pub asked_along : AnswersQuery g old new r (λ world a. AgreesWith layout world → AreWays ways (rows_of world) → says world a) → (failed_now : Bool) → (seen : Keyed S) → record { held = old; failed = failed } ≡ seen
+    pub asked_with_ways : AnswersQuery g old new r (λ world a. AgreesWith layout world → AreWays ways (rows_of world) → says world a) → (failed_now : Bool) → (seen : Keyed S) → record { held = old; failed = failed } ≡ seen
         → (q : Result A Fault) → q ≡ noted r → failed_now ≡ failed_by r failed → Asks (facts_of g) seen (record { held = new; failed = failed_now }) q says
-    asked_along tells failed_now seen view_is q noted_is raised =
+    asked_with_ways tells failed_now seen view_is q noted_is raised =
         subst (λ (k : Keyed S). Asks (facts_of g) k (record { held = new; failed = failed_now }) q says) view_is
         (subst (λ (q : Result A Fault). Asks (facts_of g) (record { held = old; failed = failed }) (record { held = new; failed = failed_now }) q says) (sym noted_is)
-        (told_so old new failed failed_now (λ world. AreWays ways (rows_of world)) is.go says r tells.answering
+        (told_so old new failed failed_now (λ world. AreWays ways (rows_of world)) is.ways_are says r tells.answering
         (told_so old new failed failed_now (AgreesWith layout) is.agrees (λ world a. AreWays ways (rows_of world) → says world a) r tells.answering
         (asked_asks old new counts layout rooms ways capacities failed in_doubt is r _ tells failed_now (record { held = old; failed = failed }) refl (noted r) refl raised))))
 
     -- and a kept capacity is that of its vehicle
-    pub asked_built : AnswersQuery g old new r (λ world a. AreCapacities capacities (rows_of world) → says world a) → (failed_now : Bool) → (seen : Keyed S) → record { held = old; failed = failed } ≡ seen
+    pub asked_with_capacities : AnswersQuery g old new r (λ world a. AreCapacities capacities (rows_of world) → says world a) → (failed_now : Bool) → (seen : Keyed S) → record { held = old; failed = failed } ≡ seen
         → (q : Result A Fault) → q ≡ noted r → failed_now ≡ failed_by r failed → Asks (facts_of g) seen (record { held = new; failed = failed_now }) q says
-    asked_built tells failed_now seen view_is q noted_is raised =
+    asked_with_capacities tells failed_now seen view_is q noted_is raised =
         subst (λ (k : Keyed S). Asks (facts_of g) k (record { held = new; failed = failed_now }) q says) view_is
         (subst (λ (q : Result A Fault). Asks (facts_of g) (record { held = old; failed = failed }) (record { held = new; failed = failed_now }) q says) (sym noted_is)
-        (told_so old new failed failed_now (λ world. AreCapacities capacities (rows_of world)) is.built says r tells.answering
+        (told_so old new failed failed_now (λ world. AreCapacities capacities (rows_of world)) is.capacities_are says r tells.answering
         (asked_asks old new counts layout rooms ways capacities failed in_doubt is r _ tells failed_now (record { held = old; failed = failed }) refl (noted r) refl raised)))
 
   -- what is known of an open floor is answered once it is known to be open

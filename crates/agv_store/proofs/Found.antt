@@ -183,6 +183,6 @@ module _ {S : Type 0} (g : Ghosts S) where
     counted = λ clean _. (finds.found clean).2;
     agrees = λ clean _. (finds.found clean).3;
     fits = λ clean _. none (rows_of (world_at g new));
-    go = λ clean _. no_ways (rows_of (world_at g new));
-    built = λ clean _. no_capacities (rows_of (world_at g new));
+    ways_are = λ clean _. no_ways (rows_of (world_at g new));
+    capacities_are = λ clean _. no_capacities (rows_of (world_at g new));
   }

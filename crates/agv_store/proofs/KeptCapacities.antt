@@ -1,9 +1,8 @@
 -- The capacities of vehicles that are kept beside the connection, and which of them are kept once rows were written.
-use Rattle.std.proofs.Common.{◌≡◌, ℕ, Bool, true, false, cond, Option, Some, refl, sym, ap, subst, ◌∙◌}
+use Rattle.std.proofs.Common.{◌≡◌, ℕ, Bool, true, false, cond, Option, Some, refl, sym, ap, ◌∙◌}
 use Rattle.std.specs.BTreeMap as tree
 use Rattle.std.specs.Cmp.{Equal-is, tied_itself}
 use Rattle.std.specs.FinMap as finite
-use Rattle.std.specs.Map.{lookup}
 use Rattle.std.specs.Ordering.{eq_by_cmp, is_eq}
 use Rattle.std.proofs.lemmas.Option.{same_Some}
 use Rattle.sqlite.specs.Held.{Held}
@@ -21,7 +20,7 @@ use Rattle.agv_tables.specs.queries.KnownCapacities.{AreCapacities, CapacitiesOf
 use Rattle.agv_tables.specs.queries.KnownWays.{WaysOf}
 use Rattle.agv_tables.specs.sql.Connections.{IsClean, IsOpen}
 use Rattle.agv_store.specs.Floors.{IsKept, world_at}
-use Rattle.agv_store.specs.KeptCapacities.{AreThoseOf}
+use Rattle.agv_store.specs.KeptCapacities.{AreKeptFor}
 use Rattle.agv_store.specs.KeptRooms.{RoomsLeft}
 use Rattle.agv_store.specs.declared.counts.Counts.{Counts}
 
@@ -32,14 +31,14 @@ same_key a b tied = key_cmp-IsAntisymmetric a b ((Equal-is (key_cmp a b)).0 tied
 
 module _ (old new : CapacitiesOf) (key : VehicleKey) (capacity : ℕ) where
   -- none is kept of it but this one
-  pub all_stay : ((kept : ℕ) → tree.get key_cmp old key ≡ Some kept → kept ≡ capacity) → AreThoseOf old old key capacity
+  pub all_stay : ((kept : ℕ) → tree.get key_cmp old key ≡ Some kept → kept ≡ capacity) → AreKeptFor old old key capacity
   all_stay is other known there = (there, λ tied. is known (ap (tree.get key_cmp old) (same_key key other tied) ∙ there))
 
   at_itself : (other : VehicleKey) → eq_by_cmp key_cmp other key ≡ true → tree.is_at (key_cmp key) other ≡ true
   at_itself other tied = ap (tree.is_at (key_cmp key)) (key_cmp-IsAntisymmetric other key ((Equal-is (key_cmp other key)).0 tied)) ∙ ap is_eq (tied_itself key_cmp-total key)
 
   -- those that are kept are as they were, or as the row says
-  pub vehicle_written : (vehicle : VehicleRow) → vehicle.capacity ≡ capacity → AreThoseOf old new key capacity → (rows : Rows) → AreCapacities old rows → AreCapacities new (change rows (row.Vehicle key vehicle))
+  pub vehicle_written : (vehicle : VehicleRow) → vehicle.capacity ≡ capacity → AreKeptFor old new key capacity → (rows : Rows) → AreCapacities old rows → AreCapacities new (change rows (row.Vehicle key vehicle))
   vehicle_written vehicle has those rows are other known there now now_there =
       let kept = those other known there in
       elim (eq_by_cmp key_cmp other key) as (λ b. eq_by_cmp key_cmp other key ≡ b → cond b (Some vehicle) (finite.get rows.vehicles other) ≡ Some now → known ≡ now.capacity) [
@@ -48,32 +47,19 @@ module _ (old new : CapacitiesOf) (key : VehicleKey) (capacity : ℕ) where
       ] refl (sym (finite.get-insert key_cmp-total rows.vehicles key vehicle other) ∙ now_there)
 
 -- a row that is none of a vehicle leaves each
-pub still_built : (capacities : CapacitiesOf) (one : Change) → ((key : VehicleKey) (vehicle : VehicleRow) → one ≡ row.Vehicle key vehicle → ⊥) → (rows : Rows) → AreCapacities capacities rows → AreCapacities capacities (change rows one)
-still_built capacities (row.Node id) none rows are = are
-still_built capacities (row.Edge id ends) none rows are = are
-still_built capacities (row.Station id site) none rows are = are
-still_built capacities (row.Vehicle key vehicle) none rows are = absurd (none key vehicle refl)
-still_built capacities (row.Trip order trip) none rows are = are
-still_built capacities (row.Leg leg edge) none rows are = are
-still_built capacities (row.Load id to) none rows are = are
-still_built capacities (row.Job id job) none rows are = are
-still_built capacities (row.Hold thing key) none rows are = are
-still_built capacities (row.Used key) none rows are = are
+pub capacities_stay : (capacities : CapacitiesOf) (one : Change) → ((key : VehicleKey) (vehicle : VehicleRow) → one ≡ row.Vehicle key vehicle → ⊥) → (rows : Rows) → AreCapacities capacities rows → AreCapacities capacities (change rows one)
+capacities_stay capacities (row.Node id) none rows are = are
+capacities_stay capacities (row.Edge id ends) none rows are = are
+capacities_stay capacities (row.Station id site) none rows are = are
+capacities_stay capacities (row.Vehicle key vehicle) none rows are = absurd (none key vehicle refl)
+capacities_stay capacities (row.Trip order trip) none rows are = are
+capacities_stay capacities (row.Leg leg edge) none rows are = are
+capacities_stay capacities (row.Load id to) none rows are = are
+capacities_stay capacities (row.Job id job) none rows are = are
+capacities_stay capacities (row.Hold thing key) none rows are = are
+capacities_stay capacities (row.Used key) none rows are = are
 
 -- ---- a capacity that is kept
-
--- what has the same entries keeps the same
-pub same_capacities : (capacities more : CapacitiesOf) → tree.IsUnchanged capacities more → (rows : Rows) → AreCapacities capacities rows → AreCapacities more rows
-same_capacities capacities more same rows are key capacity there = are key capacity (sym (ap (λ es. lookup (tree.is_at (key_cmp key)) es) same) ∙ there)
-
--- one more that is the vehicle's can be kept
-pub one_more_capacity : (capacities more : CapacitiesOf) (key : VehicleKey) (capacity : ℕ) → ((other : VehicleKey) → tree.get key_cmp more other ≡ cond (tree.is_at (key_cmp key) other) (Some capacity) (tree.get key_cmp capacities other))
-    → (rows : Rows) → HasCapacity rows key capacity → AreCapacities capacities rows → AreCapacities more rows
-one_more_capacity capacities more key capacity puts rows own are other known there =
-    elim (tree.is_at (key_cmp key) other) as (λ b. tree.is_at (key_cmp key) other ≡ b → cond b (Some capacity) (tree.get key_cmp capacities other) ≡ Some known → HasCapacity rows other known) [
-      | true ↦ λ tied is. subst (λ k. HasCapacity rows k known) (same_key key other tied) (subst (HasCapacity rows key) (same_Some capacity known is) own)
-      | false ↦ λ untied is. are other known is
-    ] refl (sym (puts other) ∙ there)
 
 -- it is the vehicle's, where this is its row
 pub has_its_capacity : (rows : Rows) (key : VehicleKey) (vehicle : VehicleRow) → Some vehicle ≡ finite.get rows.vehicles key → HasCapacity rows key vehicle.capacity
@@ -88,6 +74,6 @@ module _ {S : Type 0} (g : Ghosts S) (held : Held S) (counts : Counts) (layout :
     counted = is.counted;
     agrees = is.agrees;
     fits = is.fits;
-    go = is.go;
-    built = λ clean still. so clean still (is.built clean still);
+    ways_are = is.ways_are;
+    capacities_are = λ clean still. so clean still (is.capacities_are clean still);
   }

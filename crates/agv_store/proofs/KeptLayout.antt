@@ -72,8 +72,8 @@ keeps_set g gives needs held counts before rooms ways capacities failed in_doubt
   counted = is.counted;
   agrees = λ clean still. agrees_set gives needs (world_at g held) (is.knows clean still).has.lawful.vehicles.laid layout (is_set clean still);
   fits = is.fits;
-  go = is.go;
-  built = is.built;
+  ways_are = is.ways_are;
+  capacities_are = is.capacities_are;
 }
 
 -- ---- rows that are written

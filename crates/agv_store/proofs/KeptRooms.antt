@@ -84,19 +84,6 @@ module _ (world : World) (station : List ℕ) where
 
 -- ---- the rooms that are kept
 
--- what has the same entries keeps the same
-pub same_left : (rooms more : RoomsLeft) → tree.IsUnchanged rooms more → (rows : Rows) → AreLeft rooms rows → AreLeft more rows
-same_left rooms more same rows left station room there = left station room (sym (ap (λ es. lookup (tree.is_at (name_cmp station)) es) same) ∙ there)
-
--- one more that is left can be kept
-pub one_more_left : (rooms more : RoomsLeft) (station : List ℕ) (room : ℕ) → ((other : List ℕ) → tree.get name_cmp more other ≡ cond (tree.is_at (name_cmp station) other) (Some room) (tree.get name_cmp rooms other))
-    → (rows : Rows) → IsRoomLeft rows station room → AreLeft rooms rows → AreLeft more rows
-one_more_left rooms more station room puts rows counted left other known there =
-    elim (tree.is_at (name_cmp station) other) as (λ b. tree.is_at (name_cmp station) other ≡ b → cond b (Some room) (tree.get name_cmp rooms other) ≡ Some known → IsRoomLeft rows other known) [
-      | true ↦ λ tied is. subst (λ name. IsRoomLeft rows name known) (same_name station other (texts_ties station other ∙ tied)) (subst (IsRoomLeft rows station) (same_Some room known is) counted)
-      | false ↦ λ untied is. left other known is
-    ] refl (sym (puts other) ∙ there)
-
 module _ (old new : RoomsLeft) (station : List ℕ) where
   -- one that is forgotten
   pub forgotten : ((other : List ℕ) → tree.get name_cmp new other ≡ cond (tree.is_at (name_cmp station) other) None (tree.get name_cmp old other)) → IsLowered old new station
@@ -213,6 +200,6 @@ module _ {S : Type 0} (g : Ghosts S) (held : Held S) (counts : Counts) (layout :
     counted = is.counted;
     agrees = is.agrees;
     fits = λ clean still. left clean still (is.fits clean still);
-    go = is.go;
-    built = is.built;
+    ways_are = is.ways_are;
+    capacities_are = is.capacities_are;
   }

@@ -6,14 +6,11 @@ use Rattle.std.specs.Cmp.Lexicographic.{pointwise, texts_ties}
 use Rattle.std.specs.FinMap as finite
 use Rattle.std.specs.FinMap.Entries.{by_order, where_key}
 use Rattle.std.specs.List.{filter_map}
-use Rattle.std.specs.Map.{lookup}
 use Rattle.std.specs.Ordering.{eq_by_cmp}
-use Rattle.std.proofs.lemmas.Option.{same_Some}
 use Rattle.sqlite.specs.Held.{Held}
 use Rattle.sqlite_trees.specs.declared.store.Store.{Ghosts}
 use Rattle.agv_header.specs.Name.{name_cmp}
 use Rattle.agv_layout.specs.Layout.{Layout}
-use Rattle.agv_layout.specs.declared.edge.Edge.{Edge}
 use Rattle.agv_world.specs.Changes.{change}
 use Rattle.agv_world.specs.KeyOrders.{leg_cmp-IsAntisymmetric, leg_cmp-total}
 use Rattle.agv_world.specs.Keys.{leg_cmp}
@@ -23,7 +20,6 @@ use Rattle.agv_world.specs.Told.{edge_named, edges_of, is_of_order}
 use Rattle.agv_world.specs.declared.change.Change.{Change}
 use Rattle.agv_world.specs.declared.change.Change.TheVariants as row
 use Rattle.agv_world.specs.declared.key.LegKey.{LegKey}
-use Rattle.agv_desk.proofs.lists.SameNames.{same_name}
 use Rattle.agv_tables.specs.queries.KnownCapacities.{CapacitiesOf}
 use Rattle.agv_tables.specs.queries.KnownWays.{AreWays, WaysOf}
 use Rattle.agv_tables.specs.rows.DecodedTrips.{tables_of}
@@ -90,33 +86,20 @@ leg_forgotten ways new leg edge takes rows are order edges there =
     ] refl (sym (takes order) ∙ there)
 
 -- a row that is none of an edge or of the layout leaves each way
-pub still_go : (ways : WaysOf) (one : Change) → is_of_layout one ≡ false → ((leg : LegKey) (edge : Option (List ℕ)) → one ≡ row.Leg leg edge → ⊥) → (rows : Rows) → AreWays ways rows → AreWays ways (change rows one)
+pub ways_stay : (ways : WaysOf) (one : Change) → is_of_layout one ≡ false → ((leg : LegKey) (edge : Option (List ℕ)) → one ≡ row.Leg leg edge → ⊥) → (rows : Rows) → AreWays ways rows → AreWays ways (change rows one)
 unfolding edges_of
-still_go ways (row.Node id) laid none rows are = absurd (cc laid)
-still_go ways (row.Edge id ends) laid none rows are = absurd (cc laid)
-still_go ways (row.Station id site) laid none rows are = absurd (cc laid)
-still_go ways (row.Vehicle key vehicle) laid none rows are = are
-still_go ways (row.Trip order trip) laid none rows are = are
-still_go ways (row.Leg leg edge) laid none rows are = absurd (none leg edge refl)
-still_go ways (row.Load id to) laid none rows are = are
-still_go ways (row.Job id job) laid none rows are = are
-still_go ways (row.Hold thing key) laid none rows are = are
-still_go ways (row.Used key) laid none rows are = are
+ways_stay ways (row.Node id) laid none rows are = absurd (cc laid)
+ways_stay ways (row.Edge id ends) laid none rows are = absurd (cc laid)
+ways_stay ways (row.Station id site) laid none rows are = absurd (cc laid)
+ways_stay ways (row.Vehicle key vehicle) laid none rows are = are
+ways_stay ways (row.Trip order trip) laid none rows are = are
+ways_stay ways (row.Leg leg edge) laid none rows are = absurd (none leg edge refl)
+ways_stay ways (row.Load id to) laid none rows are = are
+ways_stay ways (row.Job id job) laid none rows are = are
+ways_stay ways (row.Hold thing key) laid none rows are = are
+ways_stay ways (row.Used key) laid none rows are = are
 
 -- ---- a way that is kept
-
--- what has the same entries keeps the same
-pub same_ways : (ways more : WaysOf) → tree.IsUnchanged ways more → (rows : Rows) → AreWays ways rows → AreWays more rows
-same_ways ways more same rows are order edges there = are order edges (sym (ap (λ es. lookup (tree.is_at (name_cmp order)) es) same) ∙ there)
-
--- one more that is the order's can be kept
-pub one_more_way : (ways more : WaysOf) (order : List ℕ) (edges : List Edge) → ((other : List ℕ) → tree.get name_cmp more other ≡ cond (tree.is_at (name_cmp order) other) (Some edges) (tree.get name_cmp ways other))
-    → (rows : Rows) → edges ≡ edges_of (tables_of rows) order → AreWays ways rows → AreWays more rows
-one_more_way ways more order edges puts rows own are other known there =
-    elim (tree.is_at (name_cmp order) other) as (λ b. tree.is_at (name_cmp order) other ≡ b → cond b (Some edges) (tree.get name_cmp ways other) ≡ Some known → known ≡ edges_of (tables_of rows) other) [
-      | true ↦ λ tied is. sym (same_Some edges known is) ∙ own ∙ ap (edges_of (tables_of rows)) (same_name order other (texts_ties order other ∙ tied))
-      | false ↦ λ untied is. are other known is
-    ] refl (sym (puts other) ∙ there)
 
 module _ {S : Type 0} (g : Ghosts S) (held : Held S) (counts : Counts) (layout : Option Layout) (rooms : RoomsLeft) (ways more : WaysOf) (capacities : CapacitiesOf) (failed in_doubt : Bool) (is : IsKept g held counts layout rooms ways capacities failed in_doubt) where
   pub keeps_ways : (IsClean g held → IsOpen g held → AreWays ways (rows_of (world_at g held)) → AreWays more (rows_of (world_at g held))) → IsKept g held counts layout rooms more capacities failed in_doubt
@@ -127,6 +110,6 @@ module _ {S : Type 0} (g : Ghosts S) (held : Held S) (counts : Counts) (layout :
     counted = is.counted;
     agrees = is.agrees;
     fits = is.fits;
-    go = λ clean still. so clean still (is.go clean still);
-    built = is.built;
+    ways_are = λ clean still. so clean still (is.ways_are clean still);
+    capacities_are = is.capacities_are;
   }

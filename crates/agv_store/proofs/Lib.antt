@@ -7,6 +7,7 @@ mod Found
 mod InTurn
 mod KeptCapacities
 mod KeptLayout
+mod KeptMaps
 mod KeptRooms
 mod KeptThrough
 mod KeptWays

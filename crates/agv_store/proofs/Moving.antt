@@ -208,8 +208,8 @@ module _ {S : Type 0} (g : Ghosts S) where
           counted = λ clean _ what. counted (clean_mid clean) what ∙ ap (λ (w : World). count_of w what) (sym (told clean));
           agrees = λ clean _. subst (AgreesWith layout) (sym (told clean)) (agreed (clean_mid clean));
           fits = λ clean _. none (rows_of (world_at g new));
-          go = λ clean _. no_ways (rows_of (world_at g new));
-          built = λ clean _. no_capacities (rows_of (world_at g new));
+          ways_are = λ clean _. no_ways (rows_of (world_at g new));
+          capacities_are = λ clean _. no_capacities (rows_of (world_at g new));
         }
 
   -- the names of the three tables are not free, or a key refers to one of them

@@ -172,15 +172,15 @@ module _ {S : Type 0} (g : Ghosts S) (law : DatabaseTells) where
           subst (λ (world : World). AreLeft rooms_now (rows_of world)) (sym (world_next ok clean))
           (subst (AreLeft rooms_now) (rows_next clean) (leaves (rows_of (world_at g old)) was))
 
-      go_next : (ways ways_now : WaysOf) → (IsClean g old → IsOpen g old → AreWays ways (rows_of (world_at g old))) → LeavesWays changes ways ways_now → r ≡ Ok tt → IsClean g new → AreWays ways_now (rows_of (world_at g new))
-      go_next ways ways_now go leads ok clean =
-          let was = go (clean_old clean) (knows (clean_old clean)).is_open in
+      ways_next : (ways ways_now : WaysOf) → (IsClean g old → IsOpen g old → AreWays ways (rows_of (world_at g old))) → LeavesWays changes ways ways_now → r ≡ Ok tt → IsClean g new → AreWays ways_now (rows_of (world_at g new))
+      ways_next ways ways_now ways_are leads ok clean =
+          let was = ways_are (clean_old clean) (knows (clean_old clean)).is_open in
           subst (λ (world : World). AreWays ways_now (rows_of world)) (sym (world_next ok clean))
           (subst (AreWays ways_now) (rows_next clean) (leads (rows_of (world_at g old)) was))
 
-      built_next : (capacities capacities_now : CapacitiesOf) → (IsClean g old → IsOpen g old → AreCapacities capacities (rows_of (world_at g old))) → LeavesCapacities changes capacities capacities_now → r ≡ Ok tt → IsClean g new → AreCapacities capacities_now (rows_of (world_at g new))
-      built_next capacities capacities_now built leaves ok clean =
-          let was = built (clean_old clean) (knows (clean_old clean)).is_open in
+      capacities_next : (capacities capacities_now : CapacitiesOf) → (IsClean g old → IsOpen g old → AreCapacities capacities (rows_of (world_at g old))) → LeavesCapacities changes capacities capacities_now → r ≡ Ok tt → IsClean g new → AreCapacities capacities_now (rows_of (world_at g new))
+      capacities_next capacities capacities_now capacities_are leaves ok clean =
+          let was = capacities_are (clean_old clean) (knows (clean_old clean)).is_open in
           subst (λ (world : World). AreCapacities capacities_now (rows_of world)) (sym (world_next ok clean))
           (subst (AreCapacities capacities_now) (rows_next clean) (leaves (rows_of (world_at g old)) was))
 
@@ -189,15 +189,15 @@ module _ {S : Type 0} (g : Ghosts S) (law : DatabaseTells) where
           → (ways ways_now : WaysOf) → (IsClean g old → IsOpen g old → AreWays ways (rows_of (world_at g old))) → LeavesWays changes ways ways_now
           → (capacities capacities_now : CapacitiesOf) → (IsClean g old → IsOpen g old → AreCapacities capacities (rows_of (world_at g old))) → LeavesCapacities changes capacities capacities_now
           → (failed_now in_doubt_now : Bool) → r ≡ Ok tt → IsKept g new counts_now layout_now rooms_now ways_now capacities_now failed_now in_doubt_now
-      written_kept layout layout_now agrees now_is rooms rooms_now fits leaves ways ways_now go leads capacities capacities_now built stays failed_now in_doubt_now ok = record {
+      written_kept layout layout_now agrees now_is rooms rooms_now fits leaves ways ways_now ways_are leads capacities capacities_now capacities_are stays failed_now in_doubt_now ok = record {
         idle = writes.idle;
         opens = λ clean _ _. (knows_next ok clean).is_open;
         knows = λ clean still. subst (λ world. Knows g new world) (sym (world_next ok clean)) (knows_next ok clean);
         counted = λ clean still. counted_next ok clean;
         agrees = λ clean still. agrees_next layout layout_now agrees now_is ok clean;
         fits = λ clean still. fits_next rooms rooms_now fits leaves ok clean;
-        go = λ clean still. go_next ways ways_now go leads ok clean;
-        built = λ clean still. built_next capacities capacities_now built stays ok clean;
+        ways_are = λ clean still. ways_next ways ways_now ways_are leads ok clean;
+        capacities_are = λ clean still. capacities_next capacities capacities_now capacities_are stays ok clean;
       }
 
     -- ---- after a fault
@@ -231,15 +231,15 @@ module _ {S : Type 0} (g : Ghosts S) (law : DatabaseTells) where
     pub refused_kept : (layout : Option Layout) → (IsClean g old → IsOpen g old → AgreesWith layout (world_at g old)) → (rooms : RoomsLeft) → (IsClean g old → IsOpen g old → AreLeft rooms (rows_of (world_at g old)))
         → (ways : WaysOf) → (IsClean g old → IsOpen g old → AreWays ways (rows_of (world_at g old))) → (capacities : CapacitiesOf) → (IsClean g old → IsOpen g old → AreCapacities capacities (rows_of (world_at g old)))
         → (why : WriteFault) → r ≡ Err why → (failed failed_now in_doubt_now : Bool) → failed_now ≡ failed_by (read_as r) failed → in_doubt_now ≡ doubted_by (read_as r) in_doubt → IsKept g new counts layout rooms ways capacities failed_now in_doubt_now
-    refused_kept layout agrees rooms fits ways go capacities built why is_err failed failed_now in_doubt_now failed_is doubt_is = record {
+    refused_kept layout agrees rooms fits ways ways_are capacities capacities_are why is_err failed failed_now in_doubt_now failed_is doubt_is = record {
       idle = writes.idle;
       opens = λ clean not_failed no_doubt. absurd (flags_raised why is_err failed failed_now in_doubt_now failed_is doubt_is not_failed no_doubt);
       knows = λ clean still. subst (λ world. Knows g new world) (sym (ap world_in (left_all why is_err clean still))) (knows_still why is_err clean still);
       counted = λ clean still what. counted (clean_old clean) (knows (clean_old clean)).is_open what ∙ ap (λ (world : World). count_of world what) (sym (ap world_in (left_all why is_err clean still)));
       agrees = λ clean still. subst (AgreesWith layout) (sym (ap world_in (left_all why is_err clean still))) (agrees (clean_old clean) (knows (clean_old clean)).is_open);
       fits = λ clean still. subst (λ (world : World). AreLeft rooms (rows_of world)) (sym (ap world_in (left_all why is_err clean still))) (fits (clean_old clean) (knows (clean_old clean)).is_open);
-      go = λ clean still. subst (λ (world : World). AreWays ways (rows_of world)) (sym (ap world_in (left_all why is_err clean still))) (go (clean_old clean) (knows (clean_old clean)).is_open);
-      built = λ clean still. subst (λ (world : World). AreCapacities capacities (rows_of world)) (sym (ap world_in (left_all why is_err clean still))) (built (clean_old clean) (knows (clean_old clean)).is_open);
+      ways_are = λ clean still. subst (λ (world : World). AreWays ways (rows_of world)) (sym (ap world_in (left_all why is_err clean still))) (ways_are (clean_old clean) (knows (clean_old clean)).is_open);
+      capacities_are = λ clean still. subst (λ (world : World). AreCapacities capacities (rows_of world)) (sym (ap world_in (left_all why is_err clean still))) (capacities_are (clean_old clean) (knows (clean_old clean)).is_open);
     }
 
     -- ---- after a crash
@@ -298,14 +298,14 @@ module _ {S : Type 0} (g : Ghosts S) (law : DatabaseTells) where
         → IsKept g new counts layout rooms ways capacities failed_now in_doubt_now
     kept_refused f is_err =
         let why = write_failed r f is_err in
-        refused_kept old new counts in_doubt is.counted at call decision knows_old decides_old changes changes_are r writes layout is.agrees rooms is.fits ways is.go capacities is.built why.0 why.1 failed
+        refused_kept old new counts in_doubt is.counted at call decision knows_old decides_old changes changes_are r writes layout is.agrees rooms is.fits ways is.ways_are capacities is.capacities_are why.0 why.1 failed
 
     pub kept_written : CountsFollow → AddsBelow → (counts_now : Counts) (kind : Option Counted) → kind ≡ counted_by call decision.answer
         → ((what : Counted) → (one_more kind what ≢ 0 → count_in counts what < limit_of what) → count_in counts_now what ≡ count_in counts what + one_more kind what)
         → (layout_now : Option Layout) → layout_now ≡ kept_through changes layout → (rooms_now : RoomsLeft) → LeavesRooms changes rooms rooms_now → (ways_now : WaysOf) → LeavesWays changes ways ways_now
         → (capacities_now : CapacitiesOf) → LeavesCapacities changes capacities capacities_now → (failed_now in_doubt_now : Bool) → noted (read_as r) ≡ Ok tt → IsKept g new counts_now layout_now rooms_now ways_now capacities_now failed_now in_doubt_now
     kept_written follow below counts_now kind kind_is adds layout_now now_is rooms_now leaves ways_now leads capacities_now stays failed_now in_doubt_now ok =
-        written_kept old new counts in_doubt is.counted at call decision knows_old decides_old changes changes_are r writes follow below counts_now kind kind_is adds layout layout_now is.agrees now_is rooms rooms_now is.fits leaves ways ways_now is.go leads capacities capacities_now is.built stays failed_now in_doubt_now (write_done r ok)
+        written_kept old new counts in_doubt is.counted at call decision knows_old decides_old changes changes_are r writes follow below counts_now kind kind_is adds layout layout_now is.agrees now_is rooms rooms_now is.fits leaves ways ways_now is.ways_are leads capacities capacities_now is.capacities_are stays failed_now in_doubt_now (write_done r ok)
 
     pub serves_written : noted (read_as r) ≡ Ok tt → IsClean g new → IsServedBy g seen.held new at call decision.answer
     serves_written ok clean =

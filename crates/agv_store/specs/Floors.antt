@@ -65,9 +65,9 @@ module _ {S : Type 0} (g : Ghosts S) where
     -- and so much room as is kept is left at its stations
     pub fits : IsClean g held → IsOpen g held → AreLeft rooms (rows_of (world_at held))
     -- and a way that is kept is that of its order
-    pub go : IsClean g held → IsOpen g held → AreWays ways (rows_of (world_at held))
+    pub ways_are : IsClean g held → IsOpen g held → AreWays ways (rows_of (world_at held))
     -- and a capacity that is kept is that of its vehicle
-    pub built : IsClean g held → IsOpen g held → AreCapacities capacities (rows_of (world_at held))
+    pub capacities_are : IsClean g held → IsOpen g held → AreCapacities capacities (rows_of (world_at held))
 
   -- ---- it as a floor
 

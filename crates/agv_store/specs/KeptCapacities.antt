@@ -6,6 +6,6 @@ use Rattle.agv_header.specs.declared.key.VehicleKey.{VehicleKey}
 use Rattle.agv_tables.specs.queries.KnownCapacities.{CapacitiesOf}
 
 -- what is still kept was kept before, and for this vehicle it is this capacity
-abbrev pub AreThoseOf : CapacitiesOf → CapacitiesOf → VehicleKey → ℕ → Type 0
-AreThoseOf old new key capacity =
+abbrev pub AreKeptFor : CapacitiesOf → CapacitiesOf → VehicleKey → ℕ → Type 0
+AreKeptFor old new key capacity =
     (other : VehicleKey) (known : ℕ) → tree.get key_cmp new other ≡ Some known → (tree.get key_cmp old other ≡ Some known) × (tree.is_at (key_cmp key) other ≡ true → known ≡ capacity)

@@ -1,8 +1,9 @@
 //! The questions of a floor, each by look-ups of a key or an index in the desk's tables; the layout alone is read whole, and
 //! kept then. A node, a station, the edges of a trip and the layout itself are looked up in the kept one, and asked of the
-//! tables only where none is kept or it lacks the name. The edges of an order that were read are kept as long as it has
-//! them, and so is the capacity of a vehicle. Whether one load more fits at a station is told by what is left of the room
-//! that was counted there; where none is kept, the room is counted.
+//! tables only where none is kept or it lacks the name. The edges of an order, once they were read, are kept until a row of
+//! them or of the layout is written, and the capacity of a vehicle until another is. Whether one load more fits at a station
+//! is told by what is left of the room that was counted there; where none is kept, the room is counted. Where there is no
+//! memory to keep an answer, but of the layout, it is given all the same.
 
 use crate::flags::note;
 use crate::keyed_floor::KeyedFloor;
@@ -55,7 +56,7 @@ impl<S: Alter + Drop> Floor for KeyedFloor<S> {
     fn trip(&mut self, key: VehicleKey) -> Result<Option<Trip>, Fault> {
         let trip = self.trip_asked(&key)?;
         if let Some(trip) = &trip {
-            self.keep_way(&key, trip)?;
+            let _kept = self.keep_way(&key, trip);
         }
         Ok(trip)
     }

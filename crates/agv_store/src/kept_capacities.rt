@@ -1,6 +1,6 @@
-//! How many loads vehicles have room for, kept beside the connection once their rows were read, so that a state of a vehicle
-//! doesn't read that anew. A vehicle has the same room as long as it is registered: where a write has a row of it with
-//! another, it is kept no more.
+//! The capacities of vehicles, kept beside the connection once their rows were read, so that a state of a vehicle doesn't read
+//! its row in `capacity` anew. A capacity stays as long as its vehicle is registered; where a write has a row of the vehicle
+//! with another, it is kept no more.
 ghost use Rattle.std.specs.Prelude.{◌≡◌, ℕ, false, Some};
 ghost use Rattle.std.specs.BTreeMap as tree;
 ghost use Rattle.agv_header.specs.Key.{key_cmp};
@@ -11,7 +11,7 @@ ghost use Rattle.agv_world.specs.Rows.{Rows};
 ghost use Rattle.agv_tables.specs.queries.KnownCapacities.{AreCapacities};
 ghost use Rattle.agv_tables.specs.sql.Connections.{IsClean, IsOpen};
 ghost use Rattle.agv_store.specs.Floors.{facts_of, world_at};
-ghost use Rattle.agv_store.specs.KeptCapacities.{AreThoseOf};
+ghost use Rattle.agv_store.specs.KeptCapacities.{AreKeptFor};
 
 use crate::flags::note;
 use crate::keyed_floor::KeyedFloor;
@@ -26,7 +26,7 @@ use std::alloc::Global;
 use std::collections::BTreeMap;
 
 impl<S: Alter + Drop> KeyedFloor<S> {
-    // The row of a vehicle, asked of the tables; its room for loads only where that isn't kept.
+    // The row of a vehicle, asked of the tables; its capacity only where that isn't kept.
     pub(crate) fn vehicle_asked(&mut self, key: &VehicleKey) -> Result<Option<VehicleRow>, Fault>
         ensures { Asks (facts_of S.Store) self.old self.new result (λ world row. row ≡ row_of world key.now) }
     {
@@ -34,7 +34,7 @@ impl<S: Alter + Drop> KeyedFloor<S> {
         note(&mut self.failed, &mut self.in_doubt, asked)
     }
 
-    // The room of a vehicle for loads is kept.
+    // The capacity of a vehicle is kept.
     pub(crate) fn keep_capacity(
         &mut self,
         key: &VehicleKey,
@@ -52,7 +52,7 @@ impl<S: Alter + Drop> KeyedFloor<S> {
     }
 }
 
-// No vehicle.
+// None is known.
 pub(crate) fn no_capacities(alloc: Global) -> KnownCapacities
     ensures { (rows : Rows) → AreCapacities result rows }
 {
@@ -60,27 +60,27 @@ pub(crate) fn no_capacities(alloc: Global) -> KnownCapacities
 }
 
 // The capacities that are kept once the changes were made.
-pub(crate) fn compare_through(capacities: &mut KnownCapacities, changes: &[Change])
+pub(crate) fn forget_other_through(capacities: &mut KnownCapacities, changes: &[Change])
     ensures { (rows : Rows) → AreCapacities capacities.old rows → AreCapacities capacities.new (changed changes.now rows) }
 {
     changes_in_turn();
     for change in changes {
-        compare(capacities, change);
+        forget_other(capacities, change);
     }
 }
 
 // The capacities that are kept once the change was made: that of a vehicle no more where its row has another.
-fn compare(capacities: &mut KnownCapacities, one: &Change)
+fn forget_other(capacities: &mut KnownCapacities, one: &Change)
     ensures { (rows : Rows) → AreCapacities capacities.old rows → AreCapacities capacities.new (change rows one.now) }
 {
     if let Change::Vehicle(key, vehicle) = one {
-        compare_vehicle(capacities, key, vehicle.capacity);
+        forget_other_of(capacities, key, vehicle.capacity);
     }
 }
 
 // A capacity of the vehicle that isn't this one is kept no more.
-fn compare_vehicle(capacities: &mut KnownCapacities, key: &VehicleKey, capacity: u32)
-    ensures { AreThoseOf capacities.old capacities.new key.now capacity }
+fn forget_other_of(capacities: &mut KnownCapacities, key: &VehicleKey, capacity: u32)
+    ensures { AreKeptFor capacities.old capacities.new key.now capacity }
 {
     if has_other(capacities, key, capacity) {
         capacities.remove(key);

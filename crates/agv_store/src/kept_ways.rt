@@ -25,7 +25,7 @@ use std::alloc::Global;
 use std::collections::BTreeMap;
 
 impl<S: Alter + Drop> KeyedFloor<S> {
-    // The open trip of a vehicle, asked of the tables; of its edges only where they aren't kept.
+    // The open trip of a vehicle, asked of the tables; which edges it has is asked only where they aren't kept.
     pub(crate) fn trip_asked(&mut self, key: &VehicleKey) -> Result<Option<Trip>, Fault>
         ensures { Asks (facts_of S.Store) self.old self.new result (λ world trip. trip ≡ trip_of world key.now) }
     {
@@ -39,6 +39,7 @@ impl<S: Alter + Drop> KeyedFloor<S> {
         ensures { self.new ≡ self.old }
     {
         rows_tell_trips();
+        // Only the contract names it.
         let _key = *key;
         if trip.edges.is_empty() || self.ways.contains_key(&trip.order) {
             return Ok(());
@@ -49,7 +50,7 @@ impl<S: Alter + Drop> KeyedFloor<S> {
     }
 }
 
-// No way.
+// None is known.
 pub(crate) fn no_ways(alloc: Global) -> KnownWays
     ensures { (rows : Rows) → AreWays result rows }
 {

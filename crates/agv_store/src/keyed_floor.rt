@@ -33,7 +33,7 @@ pub struct KeyedFloor<S: Alter> {
     pub(crate) rooms: RoomsLeft,
     // The edges of open orders, once they were read.
     pub(crate) ways: KnownWays,
-    // How many loads vehicles have room for, once their rows were read.
+    // The capacities of vehicles, once their rows were read.
     pub(crate) capacities: KnownCapacities,
     pub(crate) failed: bool,
     // Memory was refused since the connection was last known to be open.

@@ -1,4 +1,5 @@
-//! A list of changes of which SQL refuses one, for an index that a stranger put on the desk's tables: none is made.
+//! A list of changes of which SQL refuses one, for an index that a stranger put on the desk's tables: none is made, whether
+//! the row would be written over another or be a new one.
 
 use crate::cases::check;
 use crate::table_cases::{call_in, check_read, check_rows, decided, make, write_calls};
@@ -12,8 +13,11 @@ use sqlite::{Connection, MemStore};
 use std::alloc::Global;
 use std::process::Abort;
 
-/// L3 has left, and no two loads may be in places of one kind.
-const INDEX: &str = "CREATE UNIQUE INDEX one_of_a_kind ON load (kind)";
+/// L3 has left, and no two loads may be in places of one kind; R1 was used, and no two names may be used for one kind.
+const INDEXES: [&str; 2] = [
+    "CREATE UNIQUE INDEX one_of_a_kind ON load (kind)",
+    "CREATE UNIQUE INDEX one_of_a_kind ON used (kind)",
+];
 
 /// What the desk decides where L2 leaves: that its place is written, and the reference.
 fn leaving(rt: &impl Abort, alloc: Global, world: &World) -> Decision {
@@ -36,12 +40,12 @@ fn check_written(
     check(rt, written == end, "how it ends");
 }
 
-fn check_refused(rt: &impl Abort, alloc: Global) {
+fn check_refused(rt: &impl Abort, alloc: Global, index: &'static str) {
     let mut conn = Connection::open_in_memory(alloc).expect(rt, "memory");
     make(rt, &mut conn);
     let mut world = World::empty(alloc);
     let mut conn = write_calls(rt, alloc, &mut world, conn, PICKED);
-    conn.execute(INDEX, &[]).expect(rt, INDEX);
+    conn.execute(index, &[]).expect(rt, index);
     let decision = leaving(rt, alloc, &world);
     check_written(rt, &mut conn, &decision, Err(WriteFault::Storage));
     check_rows(rt, alloc, &mut conn, PICKED_ROWS);
@@ -54,5 +58,7 @@ fn check_refused(rt: &impl Abort, alloc: Global) {
 /// The list is refused whole, and the rows are as before; without the index it is written.
 #[test]
 fn refused_whole(rt: HostRuntime) {
-    check_refused(&rt, rt.alloc());
+    for index in INDEXES {
+        check_refused(&rt, rt.alloc(), index);
+    }
 }

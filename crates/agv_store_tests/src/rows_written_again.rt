@@ -3,9 +3,11 @@
 use crate::table_cases::{check_rows, make};
 use agv_header::{Moment, Name, Thing, VehicleKey};
 use agv_layout::{EdgeEnds, StationSite};
+use agv_message::{ActKind, Sequence, Status};
+use agv_order::Act;
 use agv_stock::{Phase, Place};
 use agv_tables::changes::change_running::write_changes;
-use agv_world::{Change, JobRow, LegKey, Sent, UseKey, UseKind, VehicleRow};
+use agv_world::{Change, JobRow, LegKey, Sent, TripRow, UseKey, UseKind, VehicleRow};
 use sqlite::Connection;
 use std::alloc::Global;
 use std::process::Abort;
@@ -22,6 +24,9 @@ job J1 L1 A B done
 hold node N1 KIT 0002
 used order O1
 capacity KIT 0001 4
+journey O1 KIT 0001 N1 0 1 0 NULL 0
+act O1 0 J1 pick 0 FINISHED
+act O1 1 J1 drop 1 WAITING
 ";
 
 fn name(rt: &impl Abort, text: &str) -> Name {
@@ -61,6 +66,36 @@ fn vehicle(rt: &impl Abort, node: &str, capacity: u32, paused: bool) -> Change {
         pending: None,
     };
     Change::Vehicle(key(rt, "0001"), row)
+}
+
+fn act(rt: &impl Abort, kind: ActKind, station: &str, place_at: u32, status: Status) -> Act {
+    Act {
+        kind,
+        job: name(rt, "J1"),
+        load: name(rt, "L1"),
+        station: name(rt, station),
+        place_at,
+        status,
+    }
+}
+
+fn trip(rt: &impl Abort, alloc: Global, base: u32, picked: Status) -> Change {
+    let mut acts = Vec::new(alloc);
+    acts.push(act(rt, ActKind::Pick, "A", 0, picked))
+        .expect(rt, "memory");
+    acts.push(act(rt, ActKind::Drop, "B", 1, Status::Waiting))
+        .expect(rt, "memory");
+    let row = TripRow {
+        vehicle: key(rt, "0001"),
+        start: name(rt, "N1"),
+        first: 0,
+        base,
+        sent: 0,
+        confirmed: None,
+        seen: 0,
+        acts: Sequence::from(acts),
+    };
+    Change::Trip(name(rt, "O1"), Some(row))
 }
 
 fn leg(rt: &impl Abort, edge: &str) -> Change {
@@ -106,6 +141,8 @@ fn check_again(rt: &impl Abort, alloc: Global) {
         station(rt, "N2", 4),
         vehicle(rt, "N1", 1, false),
         vehicle(rt, "N2", 4, true),
+        trip(rt, alloc, 0, Status::Waiting),
+        trip(rt, alloc, 1, Status::Finished),
         leg(rt, "E1"),
         leg(rt, "E2"),
         load(rt, Place::Station(name(rt, "A"))),

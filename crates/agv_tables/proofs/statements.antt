@@ -6,5 +6,6 @@ pub mod KeysFree
 pub mod QueryMeanings
 pub mod RowForms
 pub mod RowMeanings
+pub mod RowParameters
 pub mod RowidMeanings
 pub mod UpdateMeanings

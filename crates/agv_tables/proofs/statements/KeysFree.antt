@@ -31,7 +31,7 @@ use Rattle.sqlite.specs.Effect.{Database, IsDatabase}
 use Rattle.sqlite.specs.State.{State, ExecutesIn, Fails, IsNotRun, IsUnchanged, shows_rows, store_error}
 use Rattle.agv_tables.specs.rows.DeskRows.{Placing, AreKeyed, FitsTable, Holds, IsDesk, KeepsOthers, Makes, columns_in, has_columns, has_key, place_of, table_at, table_for, table_in, width_of, with_put_by, with_row}
 use Rattle.agv_tables.specs.statements.RowTexts.{insertion_text, table_written}
-use Rattle.agv_tables.specs.statements.RowUpdates.{Counts, IsConstraint, TellsAlike}
+use Rattle.agv_tables.specs.statements.RowUpdates.{Counts, IsBrokenRule, TellsAlike}
 use Rattle.agv_tables.specs.declared.rows.world_table.WorldTable.{WorldTable}
 use Rattle.agv_tables.specs.declared.schema.table_name.TableName.{TableName}
 use Rattle.agv_tables.specs.declared.schema.table_name.TableName.TheVariants as the
@@ -145,7 +145,7 @@ module _ (desk : Placing) (is : IsDesk desk) (name : TableName) (old new : State
       sym (agrees name row e it.id) ∙ left_fails _ _ (none_is _ (it.next table.tree) e no_clash stays) differs
 
   -- no row had its key
-  pub key_was_free : (lists : List (List Row)) → Holds desk old.now lists → 0 ≡ length (filter (has_key name row) (table_at (place_of name) lists))
+  key_was_free : (lists : List (List Row)) → Holds desk old.now lists → 0 ≡ length (filter (has_key name row) (table_at (place_of name) lists))
   key_was_free lists h =
       let was = table_has desk name old.now.trees lists h.rows in
       let p = passes (key_terms name) row in
@@ -177,10 +177,10 @@ no_fault Full rule is = cc
 no_fault Broken rule is = cc
 no_fault Unstorable rule is = cc
 
-never_failed : (old new : State) (big : Type 0) (e : Error) → IsConstraint e → Fails old new big e → ⊥
+never_failed : (old new : State) (big : Type 0) (e : Error) → IsBrokenRule e → Fails old new big e → ⊥
 never_failed old new big e broken failed = no_fault failed.0 broken.0 (sym broken.1 ∙ failed.1)
 
-refused_alone : (sql : List ℕ) (row : Row) (old new : State) (e : Error) → IsConstraint e → ExecutesIn false sql row old new (Err e) → IsUnchanged old new
+refused_alone : (sql : List ℕ) (row : Row) (old new : State) (e : Error) → IsBrokenRule e → ExecutesIn false sql row old new (Err e) → IsUnchanged old new
 unfolding ExecutesIn IsNotRun
 refused_alone sql row old new e broken (inl (inl none)) = none.1
 refused_alone sql row old new e broken (inl (inr failed)) = absurd (never_failed old new ⊥ e broken failed)
@@ -189,7 +189,7 @@ refused_alone sql row old new e broken (inr ran) = elim (cases_Bool (shows_rows 
   | inr runs ↦ elim (rw runs at ran.2) [ inl refused ↦ refused.1 | inr failed ↦ absurd (never_failed old new _ e broken failed) ]
 ]
 
-pub refuses_row : (sql : List ℕ) (row : Row) (old new : State) (r : Result ℕ Error) → RunsInside sql row old new r → IfErr r (λ e. IsConstraint e → IsUnchanged old new)
+pub refuses_row : (sql : List ℕ) (row : Row) (old new : State) (r : Result ℕ Error) → RunsInside sql row old new r → IfErr r (λ e. IsBrokenRule e → IsUnchanged old new)
 refuses_row sql row old new (Ok count) ran = tt
 refuses_row sql row old new (Err e) ran = λ broken. elim (cases_Bool old.in_transaction) [
   | inl inside ↦ elim (ran.1 inside) [ inl it ↦ refused_alone sql row old new e broken it.0 | inr scope ↦ scope.2 ]
@@ -206,13 +206,13 @@ all_stay p q alike (x ∷ rows) none = elim (cases_Bool (p x)) [
 ]
 
 -- none had its key, and it is added
-pub put_free : (name : TableName) (columns : List ℕ) (key row : Row) (a b : State) → TellsAlike columns key row → Counts name columns row a 0 → Makes (with_row name row) a b → Makes (with_put_by name columns key row) a b
+put_free : (name : TableName) (columns : List ℕ) (key row : Row) (a b : State) → TellsAlike columns key row → Counts name columns row a 0 → Makes (with_row name row) a b → Makes (with_put_by name columns key row) a b
 put_free name columns key row a b alike none added =
     remade (with_row name row) (with_put_by name columns key row) a b added (λ desk is lists h.
     ap (with_row name row) (sym (on_table-agree (place_of name) _ (λ rows. rows) lists (all_stay (has_columns columns row) (has_columns columns key) alike _ (none desk is lists h)) ∙ on_table-same (place_of name) lists)))
 
 -- it was refused, and then something else was made
-pub after_refusal : (change : List (List Row) → List (List Row)) (a b c : State) → IsUnchanged a b → Makes change b c → Makes change a c
+after_refusal : (change : List (List Row) → List (List Row)) (a b c : State) → IsUnchanged a b → Makes change b c → Makes change a c
 after_refusal change a b c same made =
     let now : a.now ≡ b.now = sym same.0.now_is in
     record {

@@ -1,11 +1,11 @@
 -- What an INSERT, an UPDATE, a DELETE and a SELECT on one of the desk's tables do to its rows.
-use Rattle.std.proofs.Common.{◌≡◌, ◌≢◌, ◌++◌, ℕ, zero, suc, ℤ, Bool, true, false, not, MatchBool, cond, List, [], ◌∷◌, ◌/◌, length, map, drop, filter, slice_get, unwrap_or, Option, Some, None, Ok, refl, sym, ap, ap₂, subst, ◌∙◌, append-nil, IsPermutation}
+use Rattle.std.proofs.Common.{◌≡◌, ◌≢◌, ◌++◌, ℕ, suc, ℤ, Bool, true, false, not, MatchBool, cond, List, [], ◌∷◌, ◌/◌, length, map, drop, filter, slice_get, unwrap_or, Option, Some, None, Ok, refl, sym, ap, ap₂, subst, ◌∙◌, IsPermutation}
 use Rattle.std.specs.List.{AllByRecursion, list_all}
 use Rattle.std.proofs.lemmas.Bool.{and_parts, not-true}
 use Rattle.std.proofs.lemmas.List.{length-map}
 use Rattle.std.proofs.lemmas.List.Sorted.{IsPermutation-append_left, IsPermutation-map, IsPermutation-sym, IsPermutation-trans, length_permutation}
 use Rattle.sqlite_value.specs.declared.value.Value.TheVariants.{Null, Int}
-use Rattle.sqlite_value.specs.Order.{Row, column}
+use Rattle.sqlite_value.specs.Order.{Row}
 use Rattle.sqlite_trees.specs.Tree.{Trees, put_row, rowid}
 use Rattle.sqlite_trees.specs.View.{is_int}
 use Rattle.sqlite_trees.proofs.ListLemmas.{IsPermutation-filter}
@@ -26,15 +26,15 @@ use Rattle.sqlite_rules.specs.Calls.{ids_of}
 use Rattle.sqlite_rules.specs.declared.error.Rowids.TheVariants.{Chosen, Above, Given}
 use Rattle.sqlite_rules.specs.declared.error.Rowids.{Rowids}
 use Rattle.sqlite.specs.Effect.{Database, IsDatabase, value_rows}
-use Rattle.sqlite.specs.Rows.{Written, Task, Edited, stamped, rowids_for, count_of}
+use Rattle.sqlite.specs.Rows.{Written, Task, Edited, rowids_for, count_of}
 use Rattle.sqlite.specs.Does.{Tally, OnRows, Concludes, AtPlace}
 use Rattle.sqlite.specs.State.{State, mode_of, Executes, Shown}
 use Rattle.sqlite.proofs.Callers.{runs_as, reads_as, one_step}
 use Rattle.agv_tables.specs.rows.DeskRows.{width_of, table_for, place_of, Placing, table_in, IsDesk, first_columns, columns_in, HaveRows, Holds, KeepsOthers, table_at, on_table, FitsTable}
 use Rattle.agv_tables.specs.declared.schema.table_name.TableName.{TableName}
-use Rattle.agv_tables.specs.declared.schema.table_name.TableName.TheVariants as the
 use Rattle.agv_tables.proofs.sql.OneTable.{Means, query_by}
 use Rattle.agv_tables.proofs.statements.RowMeanings.{from_slot, row_terms, over_terms, column_terms}
+use Rattle.agv_tables.proofs.statements.RowParameters.{columns_in_turn, one_row, params_in_turn, uncounted, unstamped}
 use Rattle.agv_tables.proofs.sql.QueryRows.{entry_passes, passes, reads_within, filter_alike, answered_by}
 use Rattle.agv_tables.proofs.sql.EntryEdits.{filter_of_map, map_of_map, one_more_row, fewer_rows}
 use Rattle.agv_tables.proofs.rows.KeyedRows.{added, added-permuted}
@@ -42,77 +42,6 @@ use Rattle.agv_tables.proofs.rows.ColumnValues.{same_either_way, cast_all_keeps,
 use Rattle.agv_tables.proofs.schema.DeskPlaces.{is_among, one_of_a_tree, table_changes, table_has}
 use Rattle.agv_tables.proofs.sql.NoReferences.{sets_off_nothing}
 use Rattle.agv_tables.proofs.sql.Running.{went, same_value}
-
--- ---- columns in turn
-
-column_past : (k : ℕ) (row : Row) → column row k ≡ column (drop k row) 0
-column_past zero row = refl
-column_past (suc k) [] = refl
-column_past (suc k) (v ∷ row) = column_past k row
-
-drop_one_more : (k : ℕ) (row : Row) → drop 1 (drop k row) ≡ drop (suc k) row
-drop_one_more zero row = refl
-drop_one_more (suc zero) [] = refl
-drop_one_more (suc (suc k)) [] = refl
-drop_one_more (suc k) (v ∷ row) = drop_one_more k row
-
--- the values of a slot from a place on
-params_in_turn : (k n : ℕ) (params : Row) (more : List Row) → eval_all (from_slot 0 k n) (params ∷ more) ≡ first_columns n (drop k params)
-params_in_turn k zero params more = refl
-params_in_turn k (suc n) params more = ap₂ ◌∷◌ (column_past k params) (params_in_turn (suc k) n params more ∙ ap (first_columns n) (sym (drop_one_more k params)))
-
-columns_in_turn : (k n : ℕ) (params entry : Row) → eval_all (from_slot 1 k n) (params ∷ entry ∷ []) ≡ first_columns n (drop k entry)
-columns_in_turn k zero params entry = refl
-columns_in_turn k (suc n) params entry = ap₂ ◌∷◌ (column_past k entry) (columns_in_turn (suc k) n params entry ∙ ap (first_columns n) (sym (drop_one_more k entry)))
-
--- the row of an INSERT is the parameters
-one_row : (name : TableName) (params : Row) → value_rows params (suc (width_of name)) (length (row_terms name) / suc (width_of name)) (row_terms name) ≡ (Null ∷ eval_all (from_slot 0 0 (width_of name)) (params ∷ [])) ∷ []
-one_row the.Meta params = refl
-one_row the.Node params = refl
-one_row the.Edge params = refl
-one_row the.Station params = refl
-one_row the.Vehicle params = refl
-one_row the.Trip params = refl
-one_row the.Leg params = refl
-one_row the.Load params = refl
-one_row the.Job params = refl
-one_row the.Hold params = refl
-one_row the.Used params = refl
-one_row the.Capacity params = refl
-one_row the.Journey params = refl
-one_row the.Act params = refl
-
-unstamped : (name : TableName) (tree : ℕ) (params : Row) → stamped (record (table_for name) { tree = tree }) params ≡ params
-unstamped the.Meta tree params = append-nil params
-unstamped the.Node tree params = append-nil params
-unstamped the.Edge tree params = append-nil params
-unstamped the.Station tree params = append-nil params
-unstamped the.Vehicle tree params = append-nil params
-unstamped the.Trip tree params = append-nil params
-unstamped the.Leg tree params = append-nil params
-unstamped the.Load tree params = append-nil params
-unstamped the.Job tree params = append-nil params
-unstamped the.Hold tree params = append-nil params
-unstamped the.Used tree params = append-nil params
-unstamped the.Capacity tree params = append-nil params
-unstamped the.Journey tree params = append-nil params
-unstamped the.Act tree params = append-nil params
-
-uncounted : (name : TableName) → (table_for name).is_counted ≡ false
-uncounted the.Meta = refl
-uncounted the.Node = refl
-uncounted the.Edge = refl
-uncounted the.Station = refl
-uncounted the.Vehicle = refl
-uncounted the.Trip = refl
-uncounted the.Leg = refl
-uncounted the.Load = refl
-uncounted the.Job = refl
-uncounted the.Hold = refl
-uncounted the.Used = refl
-uncounted the.Capacity = refl
-uncounted the.Journey = refl
-uncounted the.Act = refl
 
 -- ---- parts of what a statement does
 

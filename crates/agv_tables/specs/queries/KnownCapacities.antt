@@ -1,4 +1,4 @@
--- How many loads vehicles have room for, where it is known, so that their rows of it needn't be asked for.
+-- The capacities of vehicles that are known, so that the rows of them needn't be asked for.
 use Rattle.std.specs.Prelude.{◌≡◌, ℕ, Some}
 use Rattle.std.specs.BTreeMap as tree
 use Rattle.std.specs.FinMap as finite
@@ -7,11 +7,11 @@ use Rattle.agv_header.specs.declared.key.VehicleKey.{VehicleKey}
 use Rattle.agv_world.specs.Rows.{Rows}
 use Rattle.agv_world.specs.declared.row.VehicleRow.{VehicleRow}
 
--- vehicles, each with a number of loads
+-- vehicles, each with a capacity
 abbrev pub CapacitiesOf : Type 0
 CapacitiesOf = tree.BTreeMap VehicleKey ℕ
 
--- the vehicle, where there is one of this key, has room for so many loads
+-- the vehicle, where there is one of this key, has this capacity
 abbrev pub HasCapacity : Rows → VehicleKey → ℕ → Type 0
 HasCapacity rows key capacity = (vehicle : VehicleRow) → finite.get rows.vehicles key ≡ Some vehicle → capacity ≡ vehicle.capacity
 

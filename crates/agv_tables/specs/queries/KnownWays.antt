@@ -1,4 +1,4 @@
--- The ways of orders that are known, so that the rows of their edges needn't be asked for.
+-- The ways of orders that are known, so that the rows of their edges needn't be asked for. A way here is the list of the edges of an order, without its start.
 use Rattle.std.specs.Prelude.{◌≡◌, ℕ, List, Some}
 use Rattle.std.specs.BTreeMap as tree
 use Rattle.agv_header.specs.Name.{name_cmp}

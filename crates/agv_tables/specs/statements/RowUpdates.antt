@@ -1,4 +1,4 @@
--- The texts of SQL that write a row over those of its key, what becomes of the rows, and when SQL refuses one. No public clause cites this.
+-- The texts of SQL that write a row over those of its key, what becomes of the rows, and the errors by which a rule refuses one. No public clause cites this.
 use Rattle.std.specs.Prelude.{◌≡◌, ◌++◌, ℕ, List, codes, filter, length, map, not, true}
 use Rattle.sqlite_value.specs.Order.{Row}
 use Rattle.sqlite_schema.specs.declared.schema.Constraint.{Constraint}
@@ -41,13 +41,13 @@ Counts name columns row old count =
 abbrev pub TellsAlike : List ℕ → Row → Row → Type 0
 TellsAlike columns key row = (other : Row) → has_columns columns key other ≡ has_columns columns row other
 
--- in these columns it is equal to itself, so none of them is NULL, and tells other rows as the key does
+-- in these columns it is equal to itself, so none of them is NULL, and other rows are equal to it just where they are equal to the key
 pub record IsKeyOf (columns : List ℕ) (key row : Row) : Type 0 where
   pub itself : has_columns columns row row ≡ true
   pub alike : TellsAlike columns key row
 
 -- ---- a row that SQL refuses
 
--- a rule of the table forbids it
-abbrev pub IsConstraint : Error → Type 0
-IsConstraint e = (rule : Constraint) × (e ≡ SqliteFailure (ConstraintViolation rule))
+-- the error says that a rule of the table forbids the row
+abbrev pub IsBrokenRule : Error → Type 0
+IsBrokenRule e = (rule : Constraint) × (e ≡ SqliteFailure (ConstraintViolation rule))

@@ -30,8 +30,8 @@ use agv_stock::Place;
 use agv_world::{JobRow, UseKey, VehicleRow};
 use sqlite::{Alter, Connection, Row};
 
-/// The row of a vehicle, with its room for loads; none where there is no such vehicle. Where capacities are given that are
-/// those of the world, its room isn't asked for if it is among them.
+/// The row of a vehicle, with its capacity; none where there is no such vehicle. Where capacities are given that are those
+/// of the world, its own isn't asked for if it is among them.
 ///
 /// It fails as [`ReadingFault`] says.
 pub fn query_vehicle<S: Alter>(

@@ -1,4 +1,4 @@
-//! How many loads vehicles have room for, where it is known, so that the tables needn't be asked for it.
+//! The capacities of vehicles that are known, so that the tables needn't be asked for them.
 ghost use Rattle.std.specs.Prelude.{IfSome};
 ghost use Rattle.agv_world.specs.Rows.{Rows};
 ghost use Rattle.agv_tables.specs.queries.KnownCapacities.{AreCapacities, HasCapacity};
@@ -6,10 +6,10 @@ ghost use Rattle.agv_tables.specs.queries.KnownCapacities.{AreCapacities, HasCap
 use agv_header::VehicleKey;
 use std::collections::BTreeMap;
 
-/// Vehicles, each with the number of loads that it has room for.
+/// Vehicles, each with its capacity: how many loads it takes at once.
 pub type KnownCapacities = BTreeMap<VehicleKey, u32>;
 
-// How many loads a vehicle has room for, where that is known.
+// The capacity of a vehicle, where it is known.
 pub(crate) fn known_capacity(capacities: &KnownCapacities, key: &VehicleKey) -> Option<u32>
     ensures { IfSome result (λ capacity. (rows : Rows) → AreCapacities capacities.now rows → HasCapacity rows key.now capacity) }
 {

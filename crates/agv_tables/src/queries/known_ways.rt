@@ -1,4 +1,5 @@
-//! The edges of orders that are known, so that the tables needn't be asked for them.
+//! The edges of orders that are known, so that the tables needn't be asked for them. A way here is the list of the edges of an
+//! order, without its start.
 ghost use Rattle.std.specs.Prelude.{◌≡◌, IfOk, IfSome};
 ghost use Rattle.agv_world.specs.Rows.{Rows};
 ghost use Rattle.agv_world.specs.Told.{edges_of};

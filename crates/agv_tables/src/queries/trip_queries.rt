@@ -37,8 +37,8 @@ use sqlite::{Alter, Connection, Row};
 use std::alloc::Global;
 
 /// The open trip of a vehicle, with its edges and its acts; none where it has none, or there is no such vehicle. Where a
-/// layout is given that is the world's, it says where the edges lead, and they aren't asked for; and where the way of the
-/// order is given, which edges these are isn't asked for either.
+/// layout is given that is the world's, it says where the edges lead, and they aren't asked for; and where the edges of the
+/// order are given, its rows in `leg` aren't asked for either.
 ///
 /// It fails as [`ReadingFault`] says.
 pub fn query_trip<S: Alter>(

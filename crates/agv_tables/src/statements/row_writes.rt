@@ -8,7 +8,7 @@ ghost use Rattle.sqlite.specs.Held.{state};
 ghost use Rattle.sqlite.specs.Values.{bound};
 ghost use Rattle.agv_tables.specs.rows.DeskRows.{FitsTable, Makes, table_for, with_put_by, with_row, without_rows};
 ghost use Rattle.agv_tables.specs.statements.RowTexts.{columns_deleted, table_written};
-ghost use Rattle.agv_tables.specs.statements.RowUpdates.{Counts, IsConstraint, TellsAlike};
+ghost use Rattle.agv_tables.specs.statements.RowUpdates.{Counts, IsBrokenRule, TellsAlike};
 
 use crate::rows::world_table::WorldTable;
 use crate::statements::row_texts::{deletion, insertion};
@@ -29,7 +29,7 @@ pub(crate) fn insert_row<S: Alter>(
     ensures free { HasCleanDisk (state S.Store tx.new.conn.now) → FitsTable (table_written table) (bound row.now)
         → IfOk result (λ _. Counts (table_written table) (table_for (table_written table)).primary (bound row.now) (state S.Store tx.old.conn.now) 0) }
     ensures refused { HasCleanDisk (state S.Store tx.new.conn.now)
-        → IfErr result (λ e. IsConstraint e → IsUnchanged (state S.Store tx.old.conn.now) (state S.Store tx.new.conn.now)) }
+        → IfErr result (λ e. IsBrokenRule e → IsUnchanged (state S.Store tx.old.conn.now) (state S.Store tx.new.conn.now)) }
 {
     tx.execute(insertion(table), row)
 }
@@ -66,8 +66,9 @@ pub(crate) fn put_row<S: Alter>(
     insert_row(tx, table, row)
 }
 
-/// Puts the row in the place of that of its key, if there is one: it is added, and where SQL refuses that, the row of its
-/// key is taken out before. Where there is none as a rule, this is one statement in place of two.
+/// Puts the row in the place of that of its key, if there is one: it is added, and where a rule of the table forbids that,
+/// the row of its key is taken out before. Where as a rule there is none, this is one statement in place of two. Not for
+/// acts, which are taken out by their order.
 pub(crate) fn put_new<S: Alter>(
     tx: &mut Transaction<'_, S>,
     table: WorldTable,

@@ -49,8 +49,8 @@ module _ {S : Type 0} (g : Ghosts S) (made_stand : MadeDesksStand) (knows_nothin
       counted = λ clean _ what. none what ∙ ap (λ (world : World). count_of world what) (sym (nothing_told clean));
       agrees = λ clean still. tt;
       fits = λ clean _. none_left (rows_of (world_at g new));
-      go = λ clean _. no_ways (rows_of (world_at g new));
-      built = λ clean _. no_capacities (rows_of (world_at g new));
+      ways_are = λ clean _. no_ways (rows_of (world_at g new));
+      capacities_are = λ clean _. no_capacities (rows_of (world_at g new));
     }
 
 pub invariant_of-result : goal.invariant_of-result

@@ -1,15 +1,19 @@
 use Rattle.std.proofs.Common.{◌≡◌, Some, subst, sym, ◌∙◌}
+use Rattle.agv_header.specs.Key.{key_cmp}
+use Rattle.agv_header.specs.KeyOrder.{key_cmp-IsAntisymmetric}
 use Rattle.agv_world.specs.Questions.{row_of}
 use Rattle.agv_world.specs.Rows.{rows_of}
+use Rattle.agv_tables.specs.queries.KnownCapacities.{HasCapacity}
 use Rattle.agv_tables.specs.sql.Connections.{IsClean, IsOpen}
 use Rattle.agv_store.specs.Floors.{Keyed, world_at}
-use Rattle.agv_store.proofs.KeptCapacities.{has_its_capacity, keeps_capacities, one_more_capacity, same_capacities}
+use Rattle.agv_store.proofs.KeptCapacities.{has_its_capacity, keeps_capacities}
+use Rattle.agv_store.proofs.KeptMaps.{one_more_entry, same_entries}
 use Rattle.agv_store.proofs.keyed_floor.KeyedFloor.keep_capacity.Goals as goal
 
 pub invariant_of-self : goal.invariant_of-self
 invariant_of-self g c =
     keeps_capacities g.S.Store c.self.inside.conn c.self.inside.counts c.self.inside.layout c.self.inside.rooms c.self.inside.ways c.self.inside.capacities c.insert.new.self c.self.inside.failed c.self.inside.in_doubt c.self.invariant
-    (λ clean still are. same_capacities c.self.inside.capacities c.insert.new.self c.in_err-insert.ensures.err (rows_of (world_at g.S.Store c.self.inside.conn)) are)
+    (λ clean still are. same_entries key_cmp key_cmp-IsAntisymmetric (HasCapacity (rows_of (world_at g.S.Store c.self.inside.conn))) c.self.inside.capacities c.insert.new.self c.in_err-insert.ensures.err are)
 
 pub invariant_of-self-2 : goal.invariant_of-self-2
 invariant_of-self-2 g c =
@@ -17,5 +21,5 @@ invariant_of-self-2 g c =
     keeps_capacities g.S.Store c.self.inside.conn c.self.inside.counts c.self.inside.layout c.self.inside.rooms c.self.inside.ways c.self.inside.capacities c.insert.new.self c.self.inside.failed c.self.inside.in_doubt c.self.invariant
     (λ clean still are.
     let world = world_at g.S.Store c.self.inside.conn in
-    one_more_capacity c.self.inside.capacities c.insert.new.self c.args.key.now c.args.vehicle.now.capacity c.in_ok-insert.ensures.updates.0 (rows_of world)
+    one_more_entry key_cmp key_cmp-IsAntisymmetric (HasCapacity (rows_of world)) c.self.inside.capacities c.insert.new.self c.args.key.now c.args.vehicle.now.capacity c.in_ok-insert.ensures.updates.0
     (has_its_capacity (rows_of world) c.args.key.now c.args.vehicle.now (there clean still ∙ sym (c.rows_have_vehicles.ensures world c.args.key.now))) are)

@@ -23,7 +23,7 @@ invariant_of-self-2 g c =
     c.counts_follow.ensures c.adds_below_the_limit.ensures c.add.new.self c.counted_by.result c.counted_by.ensures c.add.ensures c.keep_through.new.layout (c.keep_through.ensures ∙ ap (λ cs. kept_through cs c.self.inside.layout) (c.as_slice-2.ensures ∙ sym c.as_slice.ensures))
     c.lower_through.new.rooms (subst (λ cs. LeavesRooms cs c.self.inside.rooms c.lower_through.new.rooms) (c.as_slice-3.ensures ∙ sym c.as_slice.ensures) c.lower_through.ensures)
     c.forget_through.new.ways (subst (λ cs. LeavesWays cs c.self.inside.ways c.forget_through.new.ways) (c.as_slice-4.ensures ∙ sym c.as_slice.ensures) c.forget_through.ensures)
-    c.compare_through.new.capacities (subst (λ cs. LeavesCapacities cs c.self.inside.capacities c.compare_through.new.capacities) (c.as_slice-5.ensures ∙ sym c.as_slice.ensures) c.compare_through.ensures) c.note.new.failed c.note.new.in_doubt (ap noted (sym c.read_as.ensures) ∙ sym c.note.ensures.is ∙ c.in_ok-note.was)
+    c.forget_other_through.new.capacities (subst (λ cs. LeavesCapacities cs c.self.inside.capacities c.forget_other_through.new.capacities) (c.as_slice-5.ensures ∙ sym c.as_slice.ensures) c.forget_other_through.ensures) c.note.new.failed c.note.new.in_doubt (ap noted (sym c.read_as.ensures) ∙ sym c.note.ensures.is ∙ c.in_ok-note.was)
 
 pub returns-clause-serves : goal.returns-clause-serves
 returns-clause-serves g c =
