@@ -11,7 +11,7 @@ use Rattle.agv_face.specs.declared.stream_end.StreamSummary.{StreamSummary}
 use Rattle.agv_face.specs.declared.stream_end.StreamFault.{StreamFault}
 use Rattle.agv_face.specs.declared.stream_end.StreamFault.TheVariants as stream
 use Rattle.agv_face.specs.declared.counting_io.CountingIo.{CountingIo}
-use Rattle.agv_memory.specs.MemoryStores.{MemoryStore, over_memory_files}
+use Rattle.agv_database.specs.MemoryStores.{MemoryStore, over_memory_files}
 use Rattle.agv_store.specs.Floors.{Keyed, world_at}
 use Rattle.agv_store.specs.declared.open_fault.OpenFault.{OpenFault}
 use Rattle.agv_store.specs.declared.open_fault.OpenFault.TheVariants as opening

@@ -1,7 +1,7 @@
 //! What the program does with its line: it opens a desk, and serves a stream or connections, or prints a report; or it
 //! moves a file of the first schema to the second.
 ghost use Rattle.std.specs.Prelude.{◌≡◌, ◌⊎◌, ◌≤◌, ◌<◌, codes, false, IfErr, IfOk, IfSome, None};
-ghost use Rattle.agv_memory.specs.MemoryStores.{over_memory_files};
+ghost use Rattle.agv_database.specs.MemoryStores.{over_memory_files};
 ghost use Rattle.agv_store.specs.Floors.{world_at};
 ghost use Rattle.agv_world.specs.Worlds.{empty_world};
 ghost use Rattle.agv_app.specs.CommandLine.{last_moment};
@@ -10,11 +10,11 @@ ghost use Rattle.agv_app.specs.declared.outcome.RunFault.TheVariants as fault;
 
 use crate::line::{Line, ReportKind};
 use crate::outcome::{RunFault, end_of};
+use agv_database::MemoryFile;
+use agv_database::laws::stores_in_memory_are_clean;
 use agv_desk::Answer;
 use agv_face::{CountingIo, StreamFault, StreamSummary, serve_stream, write_whole};
 use agv_header::Moment;
-use agv_memory::MemoryFile;
-use agv_memory::laws::stores_in_memory_are_clean;
 use agv_store::Desk;
 use agv_tables::readings::world_laws::a_database_tells_its_world;
 use agv_world::Fault;
@@ -24,6 +24,20 @@ use std::alloc::Global;
 use std::io::{self, Read, Write};
 use std::net::{Ipv4Addr, SocketAddr, SocketAddrV4, TcpListener, TcpStream};
 use std::time::{Duration, SystemTime, UNIX_EPOCH};
+
+/// Why no connection was served.
+#[derive(Clone, Copy, Debug, PartialEq, Eq, thiserror::Error)]
+pub enum NextFault {
+    /// None could be had.
+    #[error("no connection could be had")]
+    Net,
+    /// The clock shows no moment from 1970 to 2099.
+    #[error("the clock shows no moment from 1970 to 2099")]
+    Clock,
+}
+
+/// How long a read or a write of a connection may wait for its client, in seconds.
+pub const MAX_WAIT_SECONDS: u64 = 10;
 
 /// Carries a line out over a reader of its input, a writer of its output and one of its faults, and gives the exit
 /// status: 0 where all was done; 1 after a fault, which is one line on the writer of faults (`IsRun`, `specs/Runs.antt`).
@@ -104,7 +118,7 @@ fn open_in_memory(alloc: Global) -> Result<Desk<FileStore<MemoryFile>>, RunFault
 {
     stores_in_memory_are_clean();
     a_database_tells_its_world();
-    let conn = match agv_memory::open_in_memory(alloc) {
+    let conn = match agv_database::open_in_memory(alloc) {
         Ok(conn) => conn,
         Err(error) => return Err(fault_of(error)),
     };
@@ -166,7 +180,7 @@ fn open_in_file(rt: &HostRuntime, file: &str) -> Result<Desk<FileStore<File>>, R
 fn connect(rt: &HostRuntime, file: &str) -> Result<Connection<FileStore<File>>, RunFault>
     ensures idle { IfOk result (λ conn. conn.in_transaction ≡ false) }
 {
-    match Connection::open(rt, file) {
+    match agv_database::open_file(rt, file) {
         Ok(conn) => Ok(conn),
         Err(error) => Err(fault_of(error)),
     }
@@ -217,20 +231,6 @@ fn serve_connections<S: Alter + Drop>(
     }
     Ok(())
 }
-
-/// Why no connection was served.
-#[derive(Clone, Copy, Debug, PartialEq, Eq, thiserror::Error)]
-pub enum NextFault {
-    /// None could be had.
-    #[error("no connection could be had")]
-    Net,
-    /// The clock shows no moment from 1970 to 2099.
-    #[error("the clock shows no moment from 1970 to 2099")]
-    Clock,
-}
-
-/// How long a read or a write of a connection may wait for its client, in seconds.
-pub const MAX_WAIT_SECONDS: u64 = 10;
 
 /// Accepts one connection, and serves its requests at the moment at which it is accepted. It ends where for
 /// `MAX_WAIT_SECONDS` nothing comes from its client, or the system takes nothing more of an answer to it: that is a fault of

@@ -16,7 +16,7 @@ use agv_http::{Routes, memory_answer, storage_answer};
 use agv_store::Desk;
 use agv_world::Fault;
 use sqlite::Alter;
-use std::alloc::{AllocError, Global};
+use std::alloc::Global;
 use std::io::{Read, Write};
 
 /// The most reads of a stream, where its caller sets no other number.
@@ -35,6 +35,23 @@ struct Room {
     routes: Routes,
     input: Vec<u8>,
     output: Vec<u8>,
+}
+
+/// Serves a stream of requests, each at this moment, with at most 16,777,216 reads, as [`serve_stream_within`] does.
+pub fn serve_stream<S: Alter + Drop, R: Read, W: Write>(
+    alloc: Global,
+    desk: &mut Desk<S>,
+    at: Moment,
+    reader: &mut CountingIo<R>,
+    writer: &mut CountingIo<W>,
+) -> Result<StreamSummary, StreamFault>
+    ensures ends { IsStreamEnd S.Store R.remaining W.contents at 16777216 desk.old desk.new reader.old reader.new writer.old writer.new result }
+    ensures counts { IsCounted R.remaining W.contents at desk.old desk.new reader.old reader.new writer.old writer.new result }
+    ensures later { IsLaterDesk S.Store desk.old desk.new }
+    ensures failed { EndsFailed desk.old.failed desk.new.failed result }
+    ensures reads { HadCallsAtMost 16777216 reader.old reader.new }
+{
+    serve_stream_within(alloc, desk, at, reader, writer, MAX_READS)
 }
 
 /// Serves a stream of requests, each at this moment, with at most so many reads: a number above 4,503,599,627,370,495
@@ -196,21 +213,4 @@ fn refuse<W: Write>(
     } else {
         Err(StreamFault::Write { answers })
     }
-}
-
-/// Serves a stream of requests, each at this moment, with at most 16,777,216 reads, as [`serve_stream_within`] does.
-pub fn serve_stream<S: Alter + Drop, R: Read, W: Write>(
-    alloc: Global,
-    desk: &mut Desk<S>,
-    at: Moment,
-    reader: &mut CountingIo<R>,
-    writer: &mut CountingIo<W>,
-) -> Result<StreamSummary, StreamFault>
-    ensures ends { IsStreamEnd S.Store R.remaining W.contents at 16777216 desk.old desk.new reader.old reader.new writer.old writer.new result }
-    ensures counts { IsCounted R.remaining W.contents at desk.old desk.new reader.old reader.new writer.old writer.new result }
-    ensures later { IsLaterDesk S.Store desk.old desk.new }
-    ensures failed { EndsFailed desk.old.failed desk.new.failed result }
-    ensures reads { HadCallsAtMost 16777216 reader.old reader.new }
-{
-    serve_stream_within(alloc, desk, at, reader, writer, MAX_READS)
 }

@@ -1,4 +1,4 @@
--- What is kept of the capacities of vehicles where the row of one is written.
+-- What is kept of the capacities of vehicles where the row of one is written. No public clause cites this.
 use Rattle.std.specs.Prelude.{◌≡◌, ℕ, true, Some}
 use Rattle.std.specs.BTreeMap as tree
 use Rattle.agv_header.specs.Key.{key_cmp}

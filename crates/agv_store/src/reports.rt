@@ -22,6 +22,35 @@ use agv_reports::names_report;
 use agv_world::Fault;
 use sqlite::Alter;
 
+impl<S: Alter + Drop> Desk<S> {
+    /// The bytes of the report that the answer names, of the desk's world as it is now; none where the answer names no
+    /// report. They are exactly those that the report has in the world whose rows the tables have (`tells`): who asks right
+    /// after [`serve`](Desk::serve) has the report of the world in which the call was answered.
+    ///
+    /// It asks questions and writes nothing. Where the store is open afterwards, it was open before, and all that the
+    /// database has is as it was (`unchanged`, `was_open`); a crash leaves what it could leave before (`crash`). Where the answer
+    /// names no report nothing is asked, no memory is taken, and there is no fault (`silent`).
+    ///
+    /// # Errors
+    /// `Memory` for want of memory. `Storage` where the store failed or had failed before: exactly where
+    /// [`failed`](Desk::failed) is `true` as it ends (`ends`). A desk that had failed before asks nothing, and stays as it is
+    /// (`stopped`).
+    pub fn report(&mut self, told: &Answer) -> Result<Vec<u8>, Fault>
+        ensures tells { IsClean S.Store self.new.held → IfOk result (λ bytes. bytes.items ≡ report_of (world_at S.Store self.old.held) told.now) }
+        ensures knew { IsClean S.Store self.new.held → OnOk result (names_report told.now ≡ true → Knows S.Store self.old.held (world_at S.Store self.old.held)) }
+        ensures knows { IsClean S.Store self.new.held → OnOk result (names_report told.now ≡ true → Knows S.Store self.new.held (world_at S.Store self.old.held)) }
+        ensures unchanged { IsClean S.Store self.new.held → IsOpen S.Store self.new.held → LeavesAll S.Store self.old.held self.new.held }
+        ensures was_open { IsClean S.Store self.new.held → IsOpen S.Store self.new.held → IsOpen S.Store self.old.held }
+        ensures crash { Survives (state S.Store self.old.held) (state S.Store self.new.held) (λ _. ⊥) }
+        ensures silent { names_report told.now ≡ false → IsOkAnd result (λ bytes. bytes.items ≡ []) × (self.new ≡ self.old) }
+        ensures ends { names_report told.now ≡ true → EndsAs result self.new.failed }
+        ensures fails { self.old.failed ≡ true → self.new.failed ≡ true }
+        ensures stopped { names_report told.now ≡ true → self.old.failed ≡ true → (result ≡ Err fault.Storage) × (self.new ≡ self.old) }
+    {
+        self.floor.report(told)
+    }
+}
+
 impl<S: Alter + Drop> KeyedFloor<S> {
     // The report that the answer names; none where it names none.
     pub(crate) fn report(&mut self, told: &Answer) -> Result<Vec<u8>, Fault>
@@ -97,34 +126,5 @@ impl<S: Alter + Drop> KeyedFloor<S> {
         let alloc = self.alloc;
         let loads = self.loads_told()?;
         Ok(loads_csv(alloc, &loads)?)
-    }
-}
-
-impl<S: Alter + Drop> Desk<S> {
-    /// The bytes of the report that the answer names, of the desk's world as it is now; none where the answer names no
-    /// report. They are exactly those that the report has in the world whose rows the tables have (`tells`): who asks right
-    /// after [`serve`](Desk::serve) has the report of the world in which the call was answered.
-    ///
-    /// It asks questions and writes nothing. Where the store is open afterwards, it was open before, and all that the
-    /// database has is as it was (`unchanged`, `was_open`); a crash leaves what it could leave before (`crash`). Where the answer
-    /// names no report nothing is asked, no memory is taken, and there is no fault (`silent`).
-    ///
-    /// # Errors
-    /// `Memory` for want of memory. `Storage` where the store failed or had failed before: exactly where
-    /// [`failed`](Desk::failed) is `true` as it ends (`ends`). A desk that had failed before asks nothing, and stays as it is
-    /// (`stopped`).
-    pub fn report(&mut self, told: &Answer) -> Result<Vec<u8>, Fault>
-        ensures tells { IsClean S.Store self.new.held → IfOk result (λ bytes. bytes.items ≡ report_of (world_at S.Store self.old.held) told.now) }
-        ensures knew { IsClean S.Store self.new.held → OnOk result (names_report told.now ≡ true → Knows S.Store self.old.held (world_at S.Store self.old.held)) }
-        ensures knows { IsClean S.Store self.new.held → OnOk result (names_report told.now ≡ true → Knows S.Store self.new.held (world_at S.Store self.old.held)) }
-        ensures unchanged { IsClean S.Store self.new.held → IsOpen S.Store self.new.held → LeavesAll S.Store self.old.held self.new.held }
-        ensures was_open { IsClean S.Store self.new.held → IsOpen S.Store self.new.held → IsOpen S.Store self.old.held }
-        ensures crash { Survives (state S.Store self.old.held) (state S.Store self.new.held) (λ _. ⊥) }
-        ensures silent { names_report told.now ≡ false → IsOkAnd result (λ bytes. bytes.items ≡ []) × (self.new ≡ self.old) }
-        ensures ends { names_report told.now ≡ true → EndsAs result self.new.failed }
-        ensures fails { self.old.failed ≡ true → self.new.failed ≡ true }
-        ensures stopped { names_report told.now ≡ true → self.old.failed ≡ true → (result ≡ Err fault.Storage) × (self.new ≡ self.old) }
-    {
-        self.floor.report(told)
     }
 }

@@ -6,7 +6,6 @@ ghost use Rattle.sqlite.specs.State.{Survives};
 ghost use Rattle.agv_world.specs.Asks.{Asks};
 ghost use Rattle.agv_world.specs.Lawful.{IsLawful};
 ghost use Rattle.agv_world.specs.declared.fault.Fault.TheVariants as fault;
-ghost use Rattle.agv_desk.specs.Outcomes.{answer_of};
 ghost use Rattle.agv_tables.specs.schema.SchemaNumbers.{desk_seats};
 ghost use Rattle.agv_tables.specs.sql.Connections.{IsClean, IsOpen};
 ghost use Rattle.agv_store.specs.Flags.{EndsAs};

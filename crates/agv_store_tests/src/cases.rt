@@ -4,6 +4,7 @@
 use crate::fakes::{Drip, Trickle};
 use crate::table_cases::{made, moment};
 use agv_face::{CountingIo, StreamFault, StreamSummary, serve_stream};
+use agv_header::{Name, VehicleKey};
 use agv_store::Desk;
 use sqlite::{Alter, Connection, MemStore};
 use std::alloc::Global;
@@ -12,6 +13,18 @@ use std::process::Abort;
 /// Fails the test unless this holds of the case.
 pub(crate) fn check(rt: &impl Abort, holds: bool, case: &str) {
     assert!(rt; holds, "`{case}`");
+}
+
+pub(crate) fn name(rt: &impl Abort, text: &str) -> Name {
+    Name::read(text).expect(rt, text)
+}
+
+/// The vehicle of KIT with this serial number.
+pub(crate) fn vehicle(rt: &impl Abort, serial: &str) -> VehicleKey {
+    VehicleKey {
+        manufacturer: name(rt, "KIT"),
+        serial: name(rt, serial),
+    }
 }
 
 /// A desk in memory that knows nothing yet.

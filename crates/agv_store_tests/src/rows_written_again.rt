@@ -1,7 +1,8 @@
 //! A row of each table is written twice in one list of changes: the second stands in the place of the first.
 
+use crate::cases::{name, vehicle};
 use crate::table_cases::{check_rows, make};
-use agv_header::{Moment, Name, Thing, VehicleKey};
+use agv_header::{Moment, Thing};
 use agv_layout::{EdgeEnds, StationSite};
 use agv_message::{ActKind, Sequence, Status};
 use agv_order::Act;
@@ -29,17 +30,6 @@ act O1 0 J1 pick 0 FINISHED
 act O1 1 J1 drop 1 WAITING
 ";
 
-fn name(rt: &impl Abort, text: &str) -> Name {
-    Name::read(text).expect(rt, text)
-}
-
-fn key(rt: &impl Abort, serial: &str) -> VehicleKey {
-    VehicleKey {
-        manufacturer: name(rt, "KIT"),
-        serial: name(rt, serial),
-    }
-}
-
 fn edge(rt: &impl Abort, start: &str, finish: &str) -> Change {
     let start = name(rt, start);
     let finish = name(rt, finish);
@@ -65,7 +55,7 @@ fn vehicle(rt: &impl Abort, node: &str, capacity: u32, paused: bool) -> Change {
         instants: Sent { count: 0, at },
         pending: None,
     };
-    Change::Vehicle(key(rt, "0001"), row)
+    Change::Vehicle(vehicle(rt, "0001"), row)
 }
 
 fn act(rt: &impl Abort, kind: ActKind, station: &str, place_at: u32, status: Status) -> Act {
@@ -86,7 +76,7 @@ fn trip(rt: &impl Abort, alloc: Global, base: u32, picked: Status) -> Change {
     acts.push(act(rt, ActKind::Drop, "B", 1, Status::Waiting))
         .expect(rt, "memory");
     let row = TripRow {
-        vehicle: key(rt, "0001"),
+        vehicle: vehicle(rt, "0001"),
         start: name(rt, "N1"),
         first: 0,
         base,
@@ -118,7 +108,7 @@ fn job(rt: &impl Abort, phase: Phase) -> Change {
 }
 
 fn hold(rt: &impl Abort, serial: &str) -> Change {
-    Change::Hold(Thing::Node(name(rt, "N1")), Some(key(rt, serial)))
+    Change::Hold(Thing::Node(name(rt, "N1")), Some(vehicle(rt, serial)))
 }
 
 fn used(rt: &impl Abort) -> Change {

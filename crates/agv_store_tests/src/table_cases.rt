@@ -2,9 +2,9 @@
 //! too. The answers are compared, the rows with texts, the world that is read of them with the one in memory, and who holds
 //! what with the answers of the floor.
 
-use crate::cases::check;
+use crate::cases::{check, name, vehicle};
 use agv_desk::{Answer, Call, Decision, decide};
-use agv_header::{Moment, Name, Thing, VehicleKey};
+use agv_header::{Moment, Thing};
 use agv_http::{Routes, call_of};
 use agv_layout::Layout;
 use agv_store::Desk;
@@ -277,17 +277,6 @@ pub(crate) fn check_rows<S: Alter>(
 ) {
     let text = rows_text(rt, alloc, conn);
     check(rt, text.as_str() == wanted, text.as_str());
-}
-
-fn name(rt: &impl Abort, text: &str) -> Name {
-    Name::read(text).expect(rt, text)
-}
-
-fn vehicle(rt: &impl Abort, serial: &str) -> VehicleKey {
-    VehicleKey {
-        manufacturer: name(rt, "KIT"),
-        serial: name(rt, serial),
-    }
 }
 
 /// Compares two values by how they are printed.

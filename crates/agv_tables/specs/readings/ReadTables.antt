@@ -41,14 +41,14 @@ Reads (Err fault.Storage) given = ⊥
 Reads (Err fault.Damaged) given = given ≡ None
 
 -- the row of `meta` of the second schema
-abbrev pub is_first_meta : Option (ℕ × ℕ) → Bool
-is_first_meta None = false
-is_first_meta (Some told) = nat_eq told.0 1 && nat_eq told.1 schema_number
+abbrev pub is_desk_meta : Option (ℕ × ℕ) → Bool
+is_desk_meta None = false
+is_desk_meta (Some told) = nat_eq told.0 1 && nat_eq told.1 schema_number
 
 -- the rows are that one row
 abbrev pub meta_read : List Row → Result (Unit {0}) ReadingFault
 meta_read [] = Err fault.Damaged
-meta_read (row ∷ []) = if is_first_meta (meta_in row) then Ok tt else Err fault.Damaged
+meta_read (row ∷ []) = if is_desk_meta (meta_in row) then Ok tt else Err fault.Damaged
 meta_read (row ∷ (other ∷ rows)) = Err fault.Damaged
 
 -- the table, where what is held was read

@@ -33,8 +33,8 @@ module _ {S A : Type 0} (g : Ghosts S) (old new : Held S) (result : Result A Rea
     pub exact : Shows g old new result shows
 
 -- the one row of `meta`: the number of the schema
-abbrev pub first_meta : finite.FinMap nat_cmp ℕ
-first_meta = finite.insert finite.empty 1 schema_number
+abbrev pub desk_meta : finite.FinMap nat_cmp ℕ
+desk_meta = finite.insert finite.empty 1 schema_number
 
 -- the lists have just the rows of the tables in memory: in all but the lists of the schema's number and of what is held
 pub record HaveTables (lists : List (List Row)) (tables : Tables) : Type 0 where
@@ -54,6 +54,6 @@ pub record HaveTables (lists : List (List Row)) (tables : Tables) : Type 0 where
 
 -- the lists have the row of `meta` of the second schema, the rows of these tables, and those of what is held
 pub record HaveAll (lists : List (List Row)) (read : Tables) (held : Holders) : Type 0 where
-  pub meta : IsPermutation (table_at (place_of the.Meta) lists) (rows_in meta_columns first_meta)
+  pub meta : IsPermutation (table_at (place_of the.Meta) lists) (rows_in meta_columns desk_meta)
   pub tables : HaveTables lists read
   pub holds : IsPermutation (table_at (place_of the.Hold) lists) (rows_in hold_columns held)

@@ -8,7 +8,7 @@ ghost use Rattle.std.specs.Option.{option_map};
 ghost use Rattle.agv_world.specs.Questions.{row_of, holder_of, is_used};
 ghost use Rattle.agv_world.specs.Rows.{rows_of};
 ghost use Rattle.agv_world.specs.declared.row.VehicleRow.{VehicleRow as RowOfVehicle};
-ghost use Rattle.agv_tables.specs.rows.Columns.{capacity_in, edge_in, hold_in, job_in, load_in, station_in, used_columns, vehicle_in};
+ghost use Rattle.agv_tables.specs.rows.Columns.{capacity_in, edge_in, hold_in, job_in, load_in, station_in, vehicle_in};
 ghost use Rattle.agv_tables.specs.queries.FirstRow.{first_in};
 ghost use Rattle.agv_tables.specs.queries.KnownCapacities.{AreCapacities};
 ghost use Rattle.agv_tables.specs.rows.TypedRows.{IsThing};

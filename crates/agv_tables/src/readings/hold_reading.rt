@@ -6,9 +6,9 @@ ghost use Rattle.std.specs.FinMap as map;
 ghost use Rattle.agv_world.specs.Rows.{rows_of};
 ghost use Rattle.agv_tables.specs.rows.Columns.{hold_columns, hold_in, meta_columns, meta_in};
 ghost use Rattle.agv_tables.specs.rows.DeskRows.{place_of, table_at};
-ghost use Rattle.agv_tables.specs.readings.ReadTables.{Reads, is_first_meta, meta_read, read_rows, table_read};
+ghost use Rattle.agv_tables.specs.readings.ReadTables.{Reads, is_desk_meta, meta_read, read_rows, table_read};
 ghost use Rattle.agv_tables.specs.rows.RowLists.{rows_in};
-ghost use Rattle.agv_tables.specs.readings.TablesRead.{TellsAll, first_meta};
+ghost use Rattle.agv_tables.specs.readings.TablesRead.{TellsAll, desk_meta};
 ghost use Rattle.agv_tables.specs.declared.queries.reading_fault.ReadingFault.TheVariants as fault;
 ghost use Rattle.agv_tables.specs.declared.schema.table_name.TableName.TheVariants as the;
 
@@ -77,7 +77,7 @@ fn note_hold(holds: &mut HoldTable, thing: &Thing, key: &VehicleKey) -> Result<(
 ///
 /// It fails as [`ReadingFault`] says.
 pub fn query_meta<S: Alter>(conn: &mut Connection<S>) -> Result<(), ReadingFault>
-    ensures { TellsAll S.Store conn.old conn.new result (λ world nothing. Unit {0}) (λ lists nothing. IsPermutation (table_at (place_of the.Meta) lists) (rows_in meta_columns first_meta)) }
+    ensures { TellsAll S.Store conn.old conn.new result (λ world nothing. Unit {0}) (λ lists nothing. IsPermutation (table_at (place_of the.Meta) lists) (rows_in meta_columns desk_meta)) }
 {
     let rows = query_all_rows(conn, TableName::Meta)?;
     meta_in_rows(rows.as_slice())
@@ -95,7 +95,7 @@ fn meta_in_rows(rows: &[Row]) -> Result<(), ReadingFault>
 
 // Whether it is the row of `meta` of the second schema.
 fn is_meta(row: &Row) -> bool
-    ensures { result ≡ is_first_meta (meta_in row.now) }
+    ensures { result ≡ is_desk_meta (meta_in row.now) }
 {
     match decode_meta(row) {
         None => false,

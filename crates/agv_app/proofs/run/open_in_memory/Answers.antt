@@ -1,5 +1,5 @@
 use Rattle.std.proofs.Common.{◌≡◌, ◌⊎◌, sym, subst}
-use Rattle.agv_memory.specs.MemoryStores.{over_memory_files}
+use Rattle.agv_database.specs.MemoryStores.{over_memory_files}
 use Rattle.agv_app.specs.declared.outcome.RunFault.TheVariants as fault
 use Rattle.agv_app.proofs.NewDesks.{can_be_made, knows_nothing, told_as}
 use Rattle.agv_app.proofs.run.open_in_memory.Goals as goal

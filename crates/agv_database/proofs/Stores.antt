@@ -1,22 +1,18 @@
 -- A store over files in memory is clean, and a connection over one with no rows has an empty database.
 use Rattle.std.proofs.Common.{◌≡◌, List, [], ◌∷◌, true, refl, sym, subst}
 use Rattle.std.specs.List.{AllZip}
-use Rattle.std.specs.Bool.{IsTrue}
+use Rattle.sqlite_disk.specs.declared.Disk as disk
 use Rattle.sqlite_pool.specs.Pool.{state as pool_state}
 use Rattle.sqlite_trees.specs.Tree.{Trees}
 use Rattle.sqlite_trees.proofs.Doubt.{no_doubt}
 use Rattle.sqlite_schema.specs.declared.schema.Schema.{Schema}
 use Rattle.sqlite_catalog.specs.Listing.{IsIndexRow, IsSound, IsTableRow, IsViewRow, Lists}
-use Rattle.sqlite_store.specs.FileStore.{state as store_state}
+use Rattle.sqlite_store.specs.declared.store.FileStore.{FileStore}
 use Rattle.sqlite.specs.Held.{Held, state}
-use Rattle.sqlite.specs.State.{HasCleanDisk, IsLive, Opens}
-use Rattle.sqlite.specs.Files.{IsEmpty as HaveNothing}
+use Rattle.sqlite.specs.State.{HasCleanDisk}
+use Rattle.sqlite.specs.Files.{IsEmpty as HaveNothing, IsOpened, file_state}
 use Rattle.sqlite.specs.Steps.{IsEmpty}
-use Rattle.agv_memory.specs.MemoryStores.{MemoryStore, over_memory_files}
-
-pub store_is_clean : (store : MemoryStore) → IsTrue (store_state store).is_clean
-unfolding pool_state
-store_is_clean store = refl
+use Rattle.agv_database.specs.MemoryStores.{MemoryStore, over_memory_files}
 
 pub memory_is_clean : (held : Held MemoryStore) → HasCleanDisk (state over_memory_files held)
 unfolding pool_state
@@ -37,7 +33,7 @@ lists_nothing schema trees empty sound =
     }
 
 -- so a connection that was opened over a store with no rows has a database that is empty
-pub opens_empty : (conn : Held MemoryStore) (trees : Trees) → HaveNothing trees → (state over_memory_files conn).now.trees ≡ trees → Opens (state over_memory_files conn) × IsLive (state over_memory_files conn) → IsEmpty (state over_memory_files conn)
+pub opens_empty : {D : Type 0} {g : disk.Ghosts D} (conn : Held (FileStore D g)) (trees : Trees) → HaveNothing trees → (file_state conn).now.trees ≡ trees → IsOpened conn → IsEmpty (file_state conn)
 opens_empty conn trees nothing has opened =
-    let now = (state over_memory_files conn).now in
+    let now = (file_state conn).now in
     (opened.0, opened.1, lists_nothing now.schema now.trees (subst HaveNothing (sym has) nothing) (opened.1 opened.0.is_open).0)

@@ -22,7 +22,7 @@ pub struct MemoryFile {
 }
 
 impl MemoryFile {
-    ghost use Rattle.agv_memory.specs.MemoryFiles.{bytes_of};
+    ghost use Rattle.agv_database.specs.MemoryFiles.{bytes_of};
 
     /// An empty file, which takes its memory from this allocator.
     pub fn new(alloc: Global) -> MemoryFile

@@ -2,7 +2,7 @@
 ghost use Rattle.std.specs.Prelude.{◌≡◌};
 ghost use Rattle.sqlite.specs.Held.{Held, state};
 ghost use Rattle.sqlite.specs.State.{HasCleanDisk};
-ghost use Rattle.agv_memory.specs.MemoryStores.{MemoryStore, over_memory_files};
+ghost use Rattle.agv_database.specs.MemoryStores.{MemoryStore, over_memory_files};
 
 /// A store over files in memory is always clean: what is read is what was written. So what calls say of values there
 /// holds with no condition.

@@ -2,8 +2,8 @@
 use Rattle.sqlite_trees.specs.declared.store.Store.{Ghosts}
 use Rattle.sqlite_store.specs.declared.store.FileStore.{FileStore}
 use Rattle.sqlite.specs.Files.{over_files}
-use Rattle.agv_memory.specs.contracts.memory_file.MemoryFileDisk.TheImpl.{ghosts}
-use Rattle.agv_memory.specs.declared.memory_file.MemoryFile.{MemoryFile}
+use Rattle.agv_database.specs.contracts.memory_file.MemoryFileDisk.TheImpl.{ghosts}
+use Rattle.agv_database.specs.declared.memory_file.MemoryFile.{MemoryFile}
 
 -- the store, and what clauses see of it
 abbrev pub MemoryStore : Type 0

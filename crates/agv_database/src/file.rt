@@ -1,0 +1,143 @@
+//! A database in a file.
+ghost use Rattle.std.specs.Prelude.{◌≡◌, IfErr, IfOk, IsTrue};
+ghost use Rattle.sqlite_std_file.specs.File.{file_is_usable};
+ghost use Rattle.sqlite_wal.specs.Reads.{OnlyReads};
+ghost use Rattle.sqlite.specs.Files.{IsOpened, file_state};
+ghost use Rattle.sqlite.specs.Held.{IsNew};
+ghost use Rattle.sqlite.specs.Opening.{is_open_error};
+ghost use Rattle.sqlite.specs.State.{HasCleanDisk};
+
+use crate::new_database::{NO_MEMORY, new_database};
+use sqlite::{Connection, Error, ErrorCode, FileStore, Files, Options};
+use sqlite_disk::{Disk, Unknown};
+use sqlite_pool::probe_blank;
+use sqlite_std_file::{File, OpenError};
+use sqlite_wal::{PageSize, probe_page_size};
+use std::alloc::Global;
+use std::hash::{BuildHasher, RandomState};
+use std::io::ErrorKind;
+
+/// Bytes of a page of a new file. A change writes whole pages, each with its sum, and of a short row little else is new
+/// on them.
+const PAGE_SIZE: usize = 1024;
+
+/// Bytes of pages that are kept in memory, of those read and of those that a transaction has written.
+const KEPT_BYTES: usize = 8_192_000;
+
+/// Bytes of pages after which the log is copied into the database file.
+const LOG_BYTES: usize = 4_096_000;
+
+const CANNOT_OPEN: Error = Error::SqliteFailure(ErrorCode::CannotOpen);
+
+/// Opens the database in the file. Where there is no file it makes one, and where the file has no database yet, an empty
+/// one with pages of 1,024 bytes. Another file keeps the pages that it has.
+///
+/// No clause ties the connection to the path, nor says anything of what the file holds: it supposes that a torn write
+/// leaves each byte old or new, as the kit's `Connection::open` does.
+///
+/// # Errors
+/// `DatabaseBusy` where another program has the file open, `NotADatabase` where it has something else than a sound
+/// database, `OutOfMemory`, and others where the system refuses it.
+pub fn open_file(rt: &HostRuntime, path: &str) -> Result<Connection<FileStore<File>>, Error>
+    ensures opened { IfOk result (λ conn. HasCleanDisk (file_state conn) → IsOpened conn) }
+    ensures guarded { IfOk result (λ conn. HasCleanDisk (file_state conn) → (file_state conn).IsShielded) }
+    ensures fresh { IfOk result IsNew }
+    ensures fault { IfErr result (λ error. IsTrue (is_open_error error)) }
+{
+    let files = files_at(rt, path)?;
+    let seed = random_number(rt)?;
+    let mut conn = open_files(rt.alloc(), files, seed)?;
+    conn.set_clock(rt);
+    Ok(conn)
+}
+
+// The two files of the database: its own and its log.
+fn files_at(rt: &HostRuntime, path: &str) -> Result<Files<File>, Error>
+    ensures log { IfOk result (λ files. IsTrue (file_is_usable _ files.log)) }
+    ensures db { IfOk result (λ files. IsTrue (file_is_usable _ files.db)) }
+    ensures fault { IfErr result (λ error. IsTrue (is_open_error error)) }
+{
+    match sqlite_std_file::open(rt, path, Unknown) {
+        Ok(files) => Ok(files),
+        Err(OpenError::OutOfMemory) => Err(NO_MEMORY),
+        Err(OpenError::Busy) => Err(Error::SqliteFailure(ErrorCode::DatabaseBusy)),
+        Err(OpenError::Io(error)) if error.kind() == ErrorKind::OutOfMemory => Err(NO_MEMORY),
+        Err(_) => Err(CANNOT_OPEN),
+    }
+}
+
+// A random number, for the salts of the log.
+fn random_number(rt: &HostRuntime) -> Result<u64, Error>
+    ensures { IfErr result (λ error. IsTrue (is_open_error error)) }
+{
+    match RandomState::new(rt) {
+        Ok(state) => Ok(state.hash_one(&0u8)),
+        Err(_) => Err(CANNOT_OPEN),
+    }
+}
+
+// Opens the database in these files; where they have none, it makes an empty one.
+fn open_files<D: Disk + Drop>(
+    alloc: Global,
+    mut files: Files<D>,
+    seed: u64,
+) -> Result<Connection<FileStore<D>>, Error>
+    requires log { IsTrue (D.Disk.is_usable files.log) }
+    requires db { IsTrue (D.Disk.is_usable files.db) }
+    ensures opened { IfOk result (λ conn. HasCleanDisk (file_state conn) → IsOpened conn) }
+    ensures guarded { IfOk result (λ conn. HasCleanDisk (file_state conn) → (file_state conn).IsShielded) }
+    ensures fresh { IfOk result IsNew }
+    ensures fault { IfErr result (λ error. IsTrue (is_open_error error)) }
+{
+    let size = PageSize::new(PAGE_SIZE).unwrap();
+    match probe_blank(alloc, &mut files, size, false) {
+        Ok(true) => new_database(alloc, files, size, options_for(size, seed)),
+        Ok(false) => open_existing(alloc, files, seed),
+        Err(error) => Err(probe_error(error)),
+    }
+}
+
+// Opens the database in these files, which are not empty.
+fn open_existing<D: Disk + Drop>(
+    alloc: Global,
+    mut files: Files<D>,
+    seed: u64,
+) -> Result<Connection<FileStore<D>>, Error>
+    requires log { IsTrue (D.Disk.is_usable files.log) }
+    requires db { IsTrue (D.Disk.is_usable files.db) }
+    ensures opened { IfOk result (λ conn. HasCleanDisk (file_state conn) → IsOpened conn) }
+    ensures guarded { IfOk result (λ conn. HasCleanDisk (file_state conn) → (file_state conn).IsShielded) }
+    ensures fresh { IfOk result IsNew }
+    ensures fault { IfErr result (λ error. IsTrue (is_open_error error)) }
+{
+    let options = match probe_page_size(&mut files) {
+        Ok(Some(size)) => options_for(size, seed),
+        Ok(None) => Options::new(seed),
+        Err(_) => return Err(Error::SqliteFailure(ErrorCode::SystemIoFailure)),
+    };
+    match Connection::open_files_with(alloc, files, options, false) {
+        Ok(conn) => Ok(conn),
+        Err((error, _)) => Err(error),
+    }
+}
+
+// How many pages of this size are kept in memory, and how many the log may have.
+fn options_for(size: PageSize, seed: u64) -> Options {
+    let mut options = Options::new(seed);
+    options.cache_pages = KEPT_BYTES / size.bytes();
+    options.spill_pages = KEPT_BYTES / size.bytes();
+    options.checkpoint_frames = LOG_BYTES / size.bytes();
+    options
+}
+
+// A fault of files that could not be looked at, as a connection tells it.
+fn probe_error(error: sqlite_wal::Error) -> Error
+    ensures { IsTrue (is_open_error result) }
+{
+    Error::SqliteFailure(match error {
+        sqlite_wal::Error::OutOfMemory => ErrorCode::OutOfMemory,
+        sqlite_wal::Error::Io(_) => ErrorCode::SystemIoFailure,
+        sqlite_wal::Error::Full => ErrorCode::DiskFull,
+        _ => ErrorCode::NotADatabase,
+    })
+}

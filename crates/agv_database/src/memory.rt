@@ -1,0 +1,35 @@
+//! A database in memory.
+ghost use Rattle.std.specs.Prelude.{◌≡◌, IfErr, IfOk, IsTrue};
+ghost use Rattle.sqlite.specs.Held.{IsNew, state};
+ghost use Rattle.sqlite.specs.Opening.{is_open_error};
+ghost use Rattle.sqlite.specs.Steps.{IsEmpty};
+ghost use Rattle.agv_database.specs.MemoryStores.{over_memory_files};
+
+use crate::MemoryFile;
+use crate::laws::stores_in_memory_are_clean;
+use crate::new_database::new_database;
+use sqlite::{Connection, Error, FileStore, Files, Options};
+use sqlite_wal::PageSize;
+use std::alloc::Global;
+
+/// Bytes of a page, the fewest that a database may have: what changes is written by whole pages, and summed.
+const PAGE_SIZE: usize = 512;
+
+/// A new database in memory: it has no table, and it is gone when the connection is.
+///
+/// # Errors
+/// Where memory is wanting: `OutOfMemory`, or where it was a file that lacked it `SystemIoFailure`. So it is with the
+/// calls of the connection.
+pub fn open_in_memory(alloc: Global) -> Result<Connection<FileStore<MemoryFile>>, Error>
+    ensures empty { IfOk result (λ conn. IsEmpty (state over_memory_files conn)) }
+    ensures fresh { IfOk result IsNew }
+    ensures fault { IfErr result (λ error. IsTrue (is_open_error error)) }
+{
+    stores_in_memory_are_clean();
+    let files = Files {
+        log: MemoryFile::new(alloc),
+        db: MemoryFile::new(alloc),
+    };
+    let size = PageSize::new(PAGE_SIZE).unwrap();
+    new_database(alloc, files, size, Options::new(0))
+}

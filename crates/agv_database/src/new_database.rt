@@ -1,0 +1,81 @@
+//! A new database, over two files that have none yet.
+ghost use Rattle.std.specs.Prelude.{◌≡◌, IfErr, IfOk, IsTrue};
+ghost use Rattle.sqlite_trees.specs.View.{IsClean};
+ghost use Rattle.sqlite_store.specs.FileStore.{is_shielded, view};
+ghost use Rattle.sqlite.specs.Files.{IsEmpty as HaveNothing, file_state};
+ghost use Rattle.sqlite.specs.Held.{IsNew};
+ghost use Rattle.sqlite.specs.Opening.{is_open_error};
+ghost use Rattle.sqlite.specs.State.{HasCleanDisk};
+ghost use Rattle.sqlite.specs.Steps.{IsEmpty, IsFresh};
+
+use sqlite::{Connection, Error, ErrorCode, FileStore, Files, Options};
+use sqlite_disk::Disk;
+use sqlite_pager::Pager;
+use sqlite_store::{OpenError, Unopened};
+use sqlite_wal::PageSize;
+use std::alloc::Global;
+
+/// The error where memory is wanting.
+pub const NO_MEMORY: Error = Error::SqliteFailure(ErrorCode::OutOfMemory);
+
+/// A new database over these files, with pages of this size: it has no table.
+///
+/// # Errors
+/// Where memory is wanting, where the files fail, and where they have a database already.
+pub fn new_database<D: Disk + Drop>(
+    alloc: Global,
+    files: Files<D>,
+    size: PageSize,
+    options: Options,
+) -> Result<Connection<FileStore<D>>, Error>
+    requires log { IsTrue (D.Disk.is_usable files.log) }
+    requires db { IsTrue (D.Disk.is_usable files.db) }
+    ensures empty { IfOk result (λ conn. HasCleanDisk (file_state conn) → IsEmpty (file_state conn)) }
+    ensures guarded { IfOk result (λ conn. HasCleanDisk (file_state conn) → (file_state conn).IsShielded) }
+    ensures fresh { IfOk result IsNew }
+    ensures fault { IfErr result (λ error. IsTrue (is_open_error error)) }
+{
+    let store = new_store(alloc, files, size, options)?;
+    match Connection::over(alloc, store) {
+        Ok(conn) => Ok(conn),
+        Err((error, _)) => Err(error),
+    }
+}
+
+// A store over these files, with nothing in it.
+fn new_store<D: Disk + Drop>(
+    alloc: Global,
+    files: Files<D>,
+    size: PageSize,
+    options: Options,
+) -> Result<FileStore<D>, Error>
+    requires log { IsTrue (D.Disk.is_usable files.log) }
+    requires db { IsTrue (D.Disk.is_usable files.db) }
+    ensures fresh { IfOk result (λ store. IsClean (view store) → IsFresh (view store)) }
+    ensures empty { IfOk result (λ store. IsTrue (view store).is_clean → HaveNothing (view store).trees) }
+    ensures guarded { IfOk result (λ store. IsTrue (view store).is_clean → is_shielded store) }
+    ensures fault { IfErr result (λ error. IsTrue (is_open_error error)) }
+{
+    let Ok(pager) = Pager::new(alloc, files, size, options) else {
+        return Err(NO_MEMORY);
+    };
+    let Ok(unopened) = Unopened::new(alloc, pager, &[]) else {
+        return Err(NO_MEMORY);
+    };
+    match unopened.create() {
+        Ok(store) => Ok(store),
+        Err((error, _)) => Err(open_error(error)),
+    }
+}
+
+// A fault of a store that could not be made, as a connection tells it.
+fn open_error(error: OpenError) -> Error
+    ensures { IsTrue (is_open_error result) }
+{
+    Error::SqliteFailure(match error {
+        OpenError::OutOfMemory => ErrorCode::OutOfMemory,
+        OpenError::Io => ErrorCode::SystemIoFailure,
+        OpenError::Full => ErrorCode::DiskFull,
+        OpenError::Refused => ErrorCode::DatabaseCorrupt,
+    })
+}
