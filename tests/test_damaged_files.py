@@ -19,6 +19,7 @@ from test_scripts import accepted, advance, job, load, ok, order, state, vehicle
 
 DAMAGES = int(os.environ.get('DAMAGES', '28'))
 SECONDS = 10
+PAGE = 512  # bytes of a page of a new file
 NODES = range(1, 9)
 LAYOUT = 'kind,id,from,to\n' + ''.join('node,N%d,,\n' % n for n in NODES) + ''.join(
     'edge,E%d%d,N%d,N%d\nedge,E%d%d,N%d,N%d\n' % (n, n + 1, n, n + 1, n + 1, n, n + 1, n) for n in NODES[:-1]) + ''.join(
@@ -67,14 +68,14 @@ def damaged(data, chance):
     elif kind == 2:
         data[at:at + 16] = chance.randbytes(len(data[at:at + 16]))
     elif kind == 3:
-        page = at // 4096 * 4096
-        part = len(data[page:page + 4096])
-        data[page:page + 4096] = chance.choice((bytes(part), chance.randbytes(part)))
+        page = at // PAGE * PAGE
+        part = len(data[page:page + PAGE])
+        data[page:page + PAGE] = chance.choice((bytes(part), chance.randbytes(part)))
     elif kind == 4:
-        one, other = at // 4096 * 4096, chance.randrange(len(data)) // 4096 * 4096
-        data[one:one + 4096] = data[other:other + 4096]
+        one, other = at // PAGE * PAGE, chance.randrange(len(data)) // PAGE * PAGE
+        data[one:one + PAGE] = data[other:other + PAGE]
     else:
-        size = chance.choice((1, 512, 4096))
+        size = chance.choice((1, PAGE, 4096))
         del data[at // size * size:]
     return bytes(data)
 

@@ -305,20 +305,45 @@ class Migrate(unittest.TestCase):
     def tells_all(self, lines):
         """All that can be asked is answered over the file as in memory after these requests."""
         rows = rows_of(self.db)
+        names = ['%s/%s' % row[:2] for row in rows['vehicle']]
         asked = ['/report/stock', '/report/holds', '/export/loads', *['/loads/' + row[0] for row in rows['load']]]
-        for name in ['%s/%s' % row[:2] for row in rows['vehicle']]:
+        for name in names:
             asked += ['/vehicles/' + name, '/uagv/v2/%s/order' % name, '/uagv/v2/%s/instantActions' % name]
-        asked = b''.join(b'GET %s HTTP/1.1\r\n\r\n' % path.encode() for path in asked)
+        self.answers_as_in_memory(lines, [('GET', path, b'') for path in asked], {200, 204})
+        return names
+
+    def changes_all(self, lines):
+        """Each vehicle is told to pause and is asked again, a load comes and goes, and all is told: over the file as in memory."""
+        more = [('POST', '/loads', b'{"load":"more"}')]
+        for name in self.tells_all(lines):
+            more += [('POST', '/vehicles/%s/%s' % (name, call), b'') for call in ('pause', 'resync', 'cancel')]
+            more += [('GET', '/uagv/v2/%s/instantActions' % name, b''), ('GET', '/vehicles/' + name, b'')]
+        more += [('POST', '/loads/more/leave', b'{"ref":"more"}'), ('GET', '/export/loads', b''), ('GET', '/report/holds', b'')]
+        told = self.answers_as_in_memory(lines, more, {200, 204, 409})
+        self.assertEqual((told[0], told[-3:]), (200, [200, 200, 200]))
+        with tempfile.TemporaryDirectory(dir=FOLDER) as folder:
+            first, self.db = self.db, os.path.join(folder, 'plain.db')
+            self.check(*lines)
+            self.answers_as_in_memory(lines, more, {200, 204, 409})
+            self.assertEqual(rows_of(self.db), rows_of(first))
+
+    def answers_as_in_memory(self, lines, requests, statuses):
+        """Requests are answered over the file as in memory after these lines, with no other statuses."""
+        asked = b''.join(
+            b'%s %s HTTP/1.1\r\n%s\r\n%s' % (method.encode(), path.encode(), b'' if method == 'GET' else b'Content-Length: %d\r\n' % len(body), body)
+            for method, path, body in requests)
         of_file = run('replay', '--db', self.db, '--at', AT, stdin=asked)
         in_memory = run('replay', '--db', 'memory', '--at', AT, stdin=b''.join(map(bytes_of, lines)) + asked)
         self.assertEqual((of_file[0], of_file[2], in_memory[0], in_memory[2]), (0, b'', 0, b''))
         told = answers_of(of_file[1])
         self.assertEqual(told, answers_of(in_memory[1])[len(lines):])
-        self.assertLessEqual({status for status, _ in told}, {200, 204})
+        self.assertEqual(len(told), len(requests))
+        self.assertLessEqual({status for status, _ in told}, statuses)
+        return [status for status, _ in told]
 
     def test_each_script(self):
         """What a script has come to after its last request, and after every second one before (of a long one eight), is moved, each second time
-        out of the log: it tells what it tells in memory, and goes on as it would have gone on."""
+        out of the log: it tells what it tells in memory, and goes on as it would have gone on, the last with calls that change something."""
         moved, ended, trips = 0, set(), []
         for title, lines in MOVED.items():
             for cut in (*range(1, len(lines), max(2, len(lines) // 8)), len(lines)):
@@ -333,11 +358,13 @@ class Migrate(unittest.TestCase):
                         self.put_in_log()
                     self.assertEqual(run('migrate', '--db', self.db), (0, b'migrated\n', b''))
                     self.assertEqual(rows_of(self.db), rows_of(second))
-                    self.tells_all(lines[:cut])
-                    self.check(*lines[cut:])
-                    moved += 1
                     if cut == len(lines):
+                        self.changes_all(lines)
                         ended.add(title)
+                    else:
+                        self.tells_all(lines[:cut])
+                        self.check(*lines[cut:])
+                    moved += 1
         self.assertEqual(ended, {title for title, lines in MOVED.items() if not for_more(lines)})
         of_messages = {(trip['sent'], trip['first'], trip['confirmed']) for trip in trips}
         self.assertLessEqual({(0, 0, None), (0, 0, 0), (1, 1, 0), (1, 1, 1)}, of_messages)

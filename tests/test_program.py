@@ -221,6 +221,22 @@ class Replay(ProgramTest):
         loads = subprocess.run(['ldd', DESK], capture_output=True, text=True).stdout
         self.assertNotIn('rattle', loads)
 
+    def test_pages(self):
+        """A new file has pages of 512 bytes, and one that is there keeps those that it has: a desk goes on with each of them."""
+        for number, size in enumerate((512, 1024, 4096, 65536, 512)):
+            with self.subTest(size=size):
+                if number > 0:
+                    base = sqlite3.connect(self.db, isolation_level=None)
+                    base.executescript('PRAGMA journal_mode = DELETE; PRAGMA page_size = %d; VACUUM' % size)
+                    base.close()
+                done = self.replay(b'POST /loads HTTP/1.1\r\nContent-Length: 13\r\n\r\n{"load":"L%d"}' % number)
+                self.assertEqual((done[0], done[1][-2:], done[2]), (0, b'{}', b''))
+                base = sqlite3.connect(self.db)
+                self.assertEqual(base.execute('PRAGMA page_size').fetchall(), [(size,)])
+                self.assertEqual(base.execute('PRAGMA integrity_check').fetchall(), [('ok',)])
+                self.assertEqual(base.execute('SELECT count(*) FROM load').fetchall(), [(number + 1,)])
+                base.close()
+
     def test_the_file_is_a_database(self):
         self.replay(self.transport)
         base = sqlite3.connect(self.db)

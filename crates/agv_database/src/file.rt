@@ -1,5 +1,5 @@
 //! A database in a file.
-ghost use Rattle.std.specs.Prelude.{◌≡◌, IfErr, IfOk, IsTrue};
+ghost use Rattle.std.specs.Prelude.{codes, ◌≡◌, IfErr, IfOk, IsTrue};
 ghost use Rattle.sqlite_std_file.specs.File.{file_is_usable};
 ghost use Rattle.sqlite_wal.specs.Reads.{OnlyReads};
 ghost use Rattle.sqlite.specs.Files.{IsOpened, file_state};
@@ -7,7 +7,7 @@ ghost use Rattle.sqlite.specs.Held.{IsNew};
 ghost use Rattle.sqlite.specs.Opening.{is_open_error};
 ghost use Rattle.sqlite.specs.State.{HasCleanDisk};
 
-use crate::new_database::{NO_MEMORY, new_database};
+use crate::new_database::{NO_MEMORY, PAGE_SIZE, new_database};
 use sqlite::{Connection, Error, ErrorCode, FileStore, Files, Options};
 use sqlite_disk::{Disk, Unknown};
 use sqlite_pool::probe_blank;
@@ -17,20 +17,19 @@ use std::alloc::Global;
 use std::hash::{BuildHasher, RandomState};
 use std::io::ErrorKind;
 
-/// Bytes of a page of a new file. A change writes whole pages, each with its sum, and of a short row little else is new
-/// on them.
-const PAGE_SIZE: usize = 1024;
+/// So many of these pages are kept in memory, of those read and of those that a transaction has written: as many bytes as
+/// the kit keeps of pages of 4,096 bytes.
+const KEPT_PAGES: usize = 16_000;
 
-/// Bytes of pages that are kept in memory, of those read and of those that a transaction has written.
-const KEPT_BYTES: usize = 8_192_000;
-
-/// Bytes of pages after which the log is copied into the database file.
-const LOG_BYTES: usize = 4_096_000;
+/// So many of these pages may be in the log before it is copied into the database file.
+const LOG_PAGES: usize = 8000;
 
 const CANNOT_OPEN: Error = Error::SqliteFailure(ErrorCode::CannotOpen);
 
 /// Opens the database in the file. Where there is no file it makes one, and where the file has no database yet, an empty
-/// one with pages of 1,024 bytes. Another file keeps the pages that it has.
+/// one with pages of 512 bytes. Another file keeps the pages that it has.
+///
+/// A path `:memory:` and one that begins with `file:`, which other programs take for no file's name, are refused.
 ///
 /// No clause ties the connection to the path, nor says anything of what the file holds: it supposes that a torn write
 /// leaves each byte old or new, as the kit's `Connection::open` does.
@@ -39,6 +38,7 @@ const CANNOT_OPEN: Error = Error::SqliteFailure(ErrorCode::CannotOpen);
 /// `DatabaseBusy` where another program has the file open, `NotADatabase` where it has something else than a sound
 /// database, `OutOfMemory`, and others where the system refuses it.
 pub fn open_file(rt: &HostRuntime, path: &str) -> Result<Connection<FileStore<File>>, Error>
+    ensures memory { path.now ≡ codes ":memory:" → result ≡ Err (Error.SqliteFailure ErrorCode.CannotOpen) }
     ensures opened { IfOk result (λ conn. HasCleanDisk (file_state conn) → IsOpened conn) }
     ensures guarded { IfOk result (λ conn. HasCleanDisk (file_state conn) → (file_state conn).IsShielded) }
     ensures fresh { IfOk result IsNew }
@@ -53,10 +53,14 @@ pub fn open_file(rt: &HostRuntime, path: &str) -> Result<Connection<FileStore<Fi
 
 // The two files of the database: its own and its log.
 fn files_at(rt: &HostRuntime, path: &str) -> Result<Files<File>, Error>
+    ensures memory { path.now ≡ codes ":memory:" → result ≡ Err (Error.SqliteFailure ErrorCode.CannotOpen) }
     ensures log { IfOk result (λ files. IsTrue (file_is_usable _ files.log)) }
     ensures db { IfOk result (λ files. IsTrue (file_is_usable _ files.db)) }
     ensures fault { IfErr result (λ error. IsTrue (is_open_error error)) }
 {
+    if path == ":memory:" || path.starts_with("file:") {
+        return Err(CANNOT_OPEN);
+    }
     match sqlite_std_file::open(rt, path, Unknown) {
         Ok(files) => Ok(files),
         Err(OpenError::OutOfMemory) => Err(NO_MEMORY),
@@ -91,7 +95,7 @@ fn open_files<D: Disk + Drop>(
 {
     let size = PageSize::new(PAGE_SIZE).unwrap();
     match probe_blank(alloc, &mut files, size, false) {
-        Ok(true) => new_database(alloc, files, size, options_for(size, seed)),
+        Ok(true) => new_database(alloc, files, options(seed)),
         Ok(false) => open_existing(alloc, files, seed),
         Err(error) => Err(probe_error(error)),
     }
@@ -111,8 +115,8 @@ fn open_existing<D: Disk + Drop>(
     ensures fault { IfErr result (λ error. IsTrue (is_open_error error)) }
 {
     let options = match probe_page_size(&mut files) {
-        Ok(Some(size)) => options_for(size, seed),
-        Ok(None) => Options::new(seed),
+        Ok(Some(size)) if size.bytes() == PAGE_SIZE => options(seed),
+        Ok(_) => Options::new(seed),
         Err(_) => return Err(Error::SqliteFailure(ErrorCode::SystemIoFailure)),
     };
     match Connection::open_files_with(alloc, files, options, false) {
@@ -121,12 +125,12 @@ fn open_existing<D: Disk + Drop>(
     }
 }
 
-// How many pages of this size are kept in memory, and how many the log may have.
-fn options_for(size: PageSize, seed: u64) -> Options {
+// What is kept in memory and in the log of a file with pages of this size.
+fn options(seed: u64) -> Options {
     let mut options = Options::new(seed);
-    options.cache_pages = KEPT_BYTES / size.bytes();
-    options.spill_pages = KEPT_BYTES / size.bytes();
-    options.checkpoint_frames = LOG_BYTES / size.bytes();
+    options.cache_pages = KEPT_PAGES;
+    options.spill_pages = KEPT_PAGES;
+    options.checkpoint_frames = LOG_PAGES;
     options
 }
 

@@ -9,11 +9,7 @@ use crate::MemoryFile;
 use crate::laws::stores_in_memory_are_clean;
 use crate::new_database::new_database;
 use sqlite::{Connection, Error, FileStore, Files, Options};
-use sqlite_wal::PageSize;
 use std::alloc::Global;
-
-/// Bytes of a page, the fewest that a database may have: what changes is written by whole pages, and summed.
-const PAGE_SIZE: usize = 512;
 
 /// A new database in memory: it has no table, and it is gone when the connection is.
 ///
@@ -30,6 +26,5 @@ pub fn open_in_memory(alloc: Global) -> Result<Connection<FileStore<MemoryFile>>
         log: MemoryFile::new(alloc),
         db: MemoryFile::new(alloc),
     };
-    let size = PageSize::new(PAGE_SIZE).unwrap();
-    new_database(alloc, files, size, Options::new(0))
+    new_database(alloc, files, Options::new(0))
 }

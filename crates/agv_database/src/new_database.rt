@@ -15,17 +15,19 @@ use sqlite_store::{OpenError, Unopened};
 use sqlite_wal::PageSize;
 use std::alloc::Global;
 
+/// Bytes of a page of a new database, the fewest that there may be: what changes is written by whole pages, and summed.
+pub const PAGE_SIZE: usize = 512;
+
 /// The error where memory is wanting.
 pub const NO_MEMORY: Error = Error::SqliteFailure(ErrorCode::OutOfMemory);
 
-/// A new database over these files, with pages of this size: it has no table.
+/// A new database over these files, with pages of 512 bytes: it has no table.
 ///
 /// # Errors
 /// Where memory is wanting, where the files fail, and where they have a database already.
 pub fn new_database<D: Disk + Drop>(
     alloc: Global,
     files: Files<D>,
-    size: PageSize,
     options: Options,
 ) -> Result<Connection<FileStore<D>>, Error>
     requires log { IsTrue (D.Disk.is_usable files.log) }
@@ -35,7 +37,7 @@ pub fn new_database<D: Disk + Drop>(
     ensures fresh { IfOk result IsNew }
     ensures fault { IfErr result (λ error. IsTrue (is_open_error error)) }
 {
-    let store = new_store(alloc, files, size, options)?;
+    let store = new_store(alloc, files, options)?;
     match Connection::over(alloc, store) {
         Ok(conn) => Ok(conn),
         Err((error, _)) => Err(error),
@@ -46,7 +48,6 @@ pub fn new_database<D: Disk + Drop>(
 fn new_store<D: Disk + Drop>(
     alloc: Global,
     files: Files<D>,
-    size: PageSize,
     options: Options,
 ) -> Result<FileStore<D>, Error>
     requires log { IsTrue (D.Disk.is_usable files.log) }
@@ -56,6 +57,7 @@ fn new_store<D: Disk + Drop>(
     ensures guarded { IfOk result (λ store. IsTrue (view store).is_clean → is_shielded store) }
     ensures fault { IfErr result (λ error. IsTrue (is_open_error error)) }
 {
+    let size = PageSize::new(PAGE_SIZE).unwrap();
     let Ok(pager) = Pager::new(alloc, files, size, options) else {
         return Err(NO_MEMORY);
     };
