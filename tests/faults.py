@@ -54,7 +54,7 @@ COUNTED = AT_A + [
 
 
 # So many registrations that a few calls later the log is full, and what it has goes to the database.
-FILL = [bytes_of(load('C%04d' % number)) for number in range(183)]
+FILL = [bytes_of(load('C%04d' % number)) for number in range(172)]
 
 
 class Script:

@@ -117,9 +117,9 @@ class FailingDisk(FaultTest):
         """The file has more pages than a desk keeps in memory, so that a report reads some of them again behind the opening. It gives the
         report of it."""
         self.assertEqual(run('replay', '--db', self.db, '--at', AT), (0, b'', b''))
-        loads = ['L%031d' % number for number in range(9_000)]
+        loads = ['L%031d' % number for number in range(20_000)]
         base = sqlite3.connect(self.db, isolation_level=None)
-        base.executescript('PRAGMA journal_mode = DELETE; PRAGMA page_size = 512; VACUUM; BEGIN')
+        base.executescript('PRAGMA journal_mode = DELETE; PRAGMA page_size = 1024; VACUUM; BEGIN')
         base.executemany("INSERT INTO load VALUES (?, 'checking', NULL, NULL, NULL)", zip(loads))
         base.execute('COMMIT')
         base.close()

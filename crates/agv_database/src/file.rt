@@ -21,9 +21,6 @@ use std::io::ErrorKind;
 /// the kit keeps of pages of 4,096 bytes.
 const KEPT_PAGES: usize = 16_000;
 
-/// So many of these pages may be in the log before it is copied into the database file.
-const LOG_PAGES: usize = 8000;
-
 const CANNOT_OPEN: Error = Error::SqliteFailure(ErrorCode::CannotOpen);
 
 /// Opens the database in the file. Where there is no file it makes one, and where the file has no database yet, an empty
@@ -125,12 +122,11 @@ fn open_existing<D: Disk + Drop>(
     }
 }
 
-// What is kept in memory and in the log of a file with pages of this size.
+// What is kept in memory of a file with pages of this size.
 fn options(seed: u64) -> Options {
     let mut options = Options::new(seed);
     options.cache_pages = KEPT_PAGES;
     options.spill_pages = KEPT_PAGES;
-    options.checkpoint_frames = LOG_PAGES;
     options
 }
 
