@@ -182,6 +182,21 @@ class Pages(unittest.TestCase):
         self.assertEqual([meaning_of(one) for one in relay.seen], wanted)
 
 
+class Statements(unittest.TestCase):
+    def test_plans_are_kept(self):
+        """The statements that serve have as many texts as docs/DECISIONS.md says, fewer than the plans that a connection keeps."""
+        texts, folder = set(), os.path.join(ROOT, 'crates', 'agv_tables', 'src', 'statements')
+        for name in os.listdir(folder):
+            with open(os.path.join(folder, name)) as file:
+                code = re.sub('//.*', '', file.read())
+            texts |= set(re.findall(r'"((?:INSERT|DELETE|UPDATE|SELECT)\b[^"]*)"', code))
+        with open(os.path.join(ROOT, 'docs', 'DECISIONS.md')) as file:
+            said = re.search(r'What serves has at most (\d+) texts, and a connection keeps (\d+)\s+plans', file.read())
+        self.assertEqual(int(said.group(1)), len(texts))
+        self.assertEqual(said.group(2), '64')
+        self.assertLess(len(texts), 64)
+
+
 class Lines(unittest.TestCase):
     def test_pages_keep_their_width(self):
         """Each line of a page has less than 100 signs, also in a table and in a block."""
