@@ -147,7 +147,7 @@ def main():
         tables = os.path.join(folder, 'tables.txt')
         with open(tables, 'w') as file:
             file.write('= opening\n' + ''.join('SELECT * FROM %s\n' % name for name in (
-                'meta', 'node', 'edge', 'station', 'vehicle', 'trip', 'leg', 'load', 'job', 'hold', 'used')))
+                'meta', 'node', 'edge', 'station', 'vehicle', 'trip', 'leg', 'load', 'job', 'hold', 'used', 'capacity', 'journey', 'act')))
         for size in sizes:
             rounds.fill(start, size)
             run = os.path.join(folder, 'run.db')
