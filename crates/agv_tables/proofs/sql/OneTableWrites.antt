@@ -18,7 +18,7 @@ use Rattle.sqlite_draft.specs.declared.query.Draft.{Draft}
 use Rattle.sqlite_draft.specs.Query.{query_of}
 use Rattle.sqlite_resolve.specs.declared.compiled.Compiled.{Compiled}
 use Rattle.sqlite_resolve.specs.declared.error.CompileError.TheVariants.{Unsupported}
-use Rattle.sqlite_resolve.specs.Lowering.{◌<$>◌, Checked, Lowering, and_then, fail, fresh, get, max_budget, pure, take_steps}
+use Rattle.sqlite_resolve.specs.Lowering.{◌<$>◌, ◌>>=◌, Checked, Lowering, and_then, fail, fresh, get, max_budget, pure, take_steps}
 use Rattle.sqlite_resolve.specs.Scope.{Name, Context}
 use Rattle.sqlite_resolve.specs.Terms.{conjuncts}
 use Rattle.sqlite_resolve.specs.Expr.{lower}
