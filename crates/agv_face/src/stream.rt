@@ -16,7 +16,7 @@ use agv_http::{Routes, memory_answer, storage_answer};
 use agv_store::Desk;
 use agv_world::Fault;
 use sqlite::Alter;
-use std::alloc::Global;
+use std::alloc::{AllocError, Global};
 use std::io::{Read, Write};
 
 /// The most reads of a stream, where its caller sets no other number.
