@@ -12,7 +12,7 @@ import unittest
 from faults import ALL, STORAGE, Script, full_log, lines, remove, scripts
 from records import COLUMNS, FOLDER, answer_of, broken, copied, rows_of
 from test_hostile_bytes import answers_of, request
-from test_migrate import BEGUN, FIRST, NEW
+from test_migrate import BEGUN, FIRST, NEW, committed
 from test_migrate import LAYOUT as NO_VEHICLE
 from test_program import AT, run
 from test_scripts import accepted, advance, job, load, ok, order, state, vehicle
@@ -59,10 +59,10 @@ def reads_of(rows):
             *['/loads/' + row[0] for row in rows['load'][:8]], '/loads/no']
 
 
-def damaged(data, chance):
-    """The bytes with one change."""
-    data = bytearray(data)
-    kind, at = chance.randrange(6), chance.randrange(len(data))
+def damaged(data, chance, used=0):
+    """The bytes with one change, in the front that is used where there is one."""
+    data, used = bytearray(data), used or len(data)
+    kind, at = chance.randrange(6), chance.randrange(used)
     if kind in (0, 1):
         data[at] ^= 1 << chance.randrange(8) if kind == 0 else chance.randrange(1, 256)
     elif kind == 2:
@@ -72,7 +72,7 @@ def damaged(data, chance):
         part = len(data[page:page + PAGE])
         data[page:page + PAGE] = chance.choice((bytes(part), chance.randbytes(part)))
     elif kind == 4:
-        one, other = at // PAGE * PAGE, chance.randrange(len(data)) // PAGE * PAGE
+        one, other = at // PAGE * PAGE, chance.randrange(used) // PAGE * PAGE
         data[one:one + PAGE] = data[other:other + PAGE]
     else:
         size = chance.choice((1, PAGE, 4096))
@@ -275,7 +275,7 @@ class Damaged(FilesTest):
                 kind = sorted(kinds)[number % len(kinds)]
                 files, end = kinds[kind]
                 with self.subTest(name, kind=kind, number=number):
-                    changed = damaged(files[end], random.Random('%s %d' % (name, number)))
+                    changed = damaged(files[end], random.Random('%s %d' % (name, number)), len(committed(files[end])) if end else 0)
                     self.put({**files, end: changed})
                     said, found, read = self.look(reads, rows if end else rows[-1:])
                     what = said or ('the same' if found == rows[-1] else 'fewer calls' if end else 'other rows')
