@@ -1,1 +1,2 @@
+pub mod FoundDatabases
 pub mod Stores

@@ -1,2 +1,3 @@
+pub mod FoundDatabases
 pub mod MemoryFiles
 pub mod MemoryStores

@@ -1,11 +1,11 @@
 //! A database in a file.
 ghost use Rattle.std.specs.Prelude.{codes, ◌≡◌, IfErr, IfOk, IsTrue};
 ghost use Rattle.sqlite_std_file.specs.File.{file_is_usable};
-ghost use Rattle.sqlite_wal.specs.Reads.{OnlyReads};
 ghost use Rattle.sqlite.specs.Files.{IsOpened, file_state};
 ghost use Rattle.sqlite.specs.Held.{IsNew};
 ghost use Rattle.sqlite.specs.Opening.{is_open_error};
 ghost use Rattle.sqlite.specs.State.{HasCleanDisk};
+ghost use Rattle.agv_database.specs.FoundDatabases.{Shows};
 
 use crate::new_database::{NO_MEMORY, PAGE_SIZE, new_database};
 use sqlite::{Connection, Error, ErrorCode, FileStore, Files, Options};
@@ -77,8 +77,12 @@ fn random_number(rt: &HostRuntime) -> Result<u64, Error>
     }
 }
 
-// Opens the database in these files; where they have none, it makes an empty one.
-fn open_files<D: Disk + Drop>(
+/// Opens the database that these files hold; where they have none, it makes an empty one, as [`open_file`] does. The number
+/// is one drawn at random, for the salts of the log.
+///
+/// # Errors
+/// As those of [`open_file`].
+pub fn open_files<D: Disk + Drop>(
     alloc: Global,
     mut files: Files<D>,
     seed: u64,
@@ -86,6 +90,7 @@ fn open_files<D: Disk + Drop>(
     requires log { IsTrue (D.Disk.is_usable files.log) }
     requires db { IsTrue (D.Disk.is_usable files.db) }
     ensures opened { IfOk result (λ conn. HasCleanDisk (file_state conn) → IsOpened conn) }
+    ensures found { IfOk result (λ conn. HasCleanDisk (file_state conn) → Shows files conn) }
     ensures guarded { IfOk result (λ conn. HasCleanDisk (file_state conn) → (file_state conn).IsShielded) }
     ensures fresh { IfOk result IsNew }
     ensures fault { IfErr result (λ error. IsTrue (is_open_error error)) }
@@ -107,6 +112,7 @@ fn open_existing<D: Disk + Drop>(
     requires log { IsTrue (D.Disk.is_usable files.log) }
     requires db { IsTrue (D.Disk.is_usable files.db) }
     ensures opened { IfOk result (λ conn. HasCleanDisk (file_state conn) → IsOpened conn) }
+    ensures found { IfOk result (λ conn. HasCleanDisk (file_state conn) → Shows files conn) }
     ensures guarded { IfOk result (λ conn. HasCleanDisk (file_state conn) → (file_state conn).IsShielded) }
     ensures fresh { IfOk result IsNew }
     ensures fault { IfErr result (λ error. IsTrue (is_open_error error)) }

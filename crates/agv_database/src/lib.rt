@@ -12,6 +12,6 @@ mod memory;
 mod memory_file;
 mod new_database;
 
-pub use file::open_file;
+pub use file::{open_file, open_files};
 pub use memory::open_in_memory;
 pub use memory_file::MemoryFile;

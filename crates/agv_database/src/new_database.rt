@@ -1,6 +1,7 @@
 //! A new database, over two files that have none yet.
 ghost use Rattle.std.specs.Prelude.{◌≡◌, IfErr, IfOk, IsTrue};
 ghost use Rattle.sqlite_trees.specs.View.{IsClean};
+ghost use Rattle.sqlite_wal.specs.Reads.{AreClean};
 ghost use Rattle.sqlite_store.specs.FileStore.{is_shielded, view};
 ghost use Rattle.sqlite.specs.Files.{IsEmpty as HaveNothing, file_state};
 ghost use Rattle.sqlite.specs.Held.{IsNew};
@@ -34,6 +35,7 @@ pub fn new_database<D: Disk + Drop>(
     requires db { IsTrue (D.Disk.is_usable files.db) }
     ensures empty { IfOk result (λ conn. HasCleanDisk (file_state conn) → IsEmpty (file_state conn)) }
     ensures guarded { IfOk result (λ conn. HasCleanDisk (file_state conn) → (file_state conn).IsShielded) }
+    ensures honest { IfOk result (λ conn. HasCleanDisk (file_state conn) → AreClean D.Disk files.log files.db) }
     ensures fresh { IfOk result IsNew }
     ensures fault { IfErr result (λ error. IsTrue (is_open_error error)) }
 {
@@ -55,6 +57,7 @@ fn new_store<D: Disk + Drop>(
     ensures fresh { IfOk result (λ store. IsClean (view store) → IsFresh (view store)) }
     ensures empty { IfOk result (λ store. IsTrue (view store).is_clean → HaveNothing (view store).trees) }
     ensures guarded { IfOk result (λ store. IsTrue (view store).is_clean → is_shielded store) }
+    ensures honest { IfOk result (λ store. IsTrue (view store).is_clean → AreClean D.Disk files.log files.db) }
     ensures fault { IfErr result (λ error. IsTrue (is_open_error error)) }
 {
     let size = PageSize::new(PAGE_SIZE).unwrap();

@@ -12,3 +12,7 @@ returns-in-Ok-clause-empty g c =
 pub returns-in-Ok-clause-guarded : goal.returns-in-Ok-clause-guarded
 returns-in-Ok-clause-guarded g c =
     λ now. c.in-Ok.ensures.shield (c.in_ok-store.ensures.guarded (clean_of (view c.in_ok-store.store).is_clean (omega (arith, c.in-Ok.ensures.clean, now))))
+
+pub returns-in-Ok-clause-honest : goal.returns-in-Ok-clause-honest
+returns-in-Ok-clause-honest g c =
+    λ now. c.in_ok-store.ensures.honest (clean_of (view c.in_ok-store.store).is_clean (omega (arith, c.in-Ok.ensures.clean, now)))
