@@ -503,9 +503,9 @@ class Clock(ProgramTest):
 
 
 def limit_files():
-    """The system lets the files of this process grow to a million bytes."""
+    """The system lets the files of this process grow to 400,000 bytes."""
     signal.signal(signal.SIGXFSZ, signal.SIG_IGN)
-    resource.setrlimit(resource.RLIMIT_FSIZE, (1_000_000, 1_000_000))
+    resource.setrlimit(resource.RLIMIT_FSIZE, (400_000, 400_000))
 
 
 class Full(ProgramTest):
