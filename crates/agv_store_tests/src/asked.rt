@@ -4,7 +4,7 @@
 //! The vehicle KIT/0001 stands at N1, with the load V1, and has a trip of ten edges, there and back. At the station A are the
 //! loads A1 and A2, and A1 has a live job to B, which the trip is for.
 
-use crate::cases::{check, name, vehicle};
+use crate::cases::{check, name, vehicle_key};
 use agv_header::{Moment, Name, Thing, VehicleKey};
 use agv_layout::{EdgeEnds, StationSite};
 use agv_message::{ActKind, Sequence, Status};
@@ -109,7 +109,7 @@ fn trip_row(rt: &impl Abort, alloc: Global) -> TripRow {
     acts.push(act(rt, ActKind::Drop, "B", 10))
         .expect(rt, "memory");
     TripRow {
-        vehicle: vehicle(rt, "0001"),
+        vehicle: vehicle_key(rt, "0001"),
         start: name(rt, "N1"),
         first: 0,
         base: 0,
@@ -150,12 +150,12 @@ fn write_few<S: Alter>(rt: &impl Abort, conn: &mut Connection<S>) {
         Change::Edge(name(rt, "E21"), ends(rt, "N2", "N1")),
         Change::Station(name(rt, "A"), site(rt, "N1")),
         Change::Station(name(rt, "B"), site(rt, "N2")),
-        Change::Vehicle(vehicle(rt, "0001"), vehicle_row(rt)),
-        Change::Hold(Thing::Node(name(rt, "N1")), Some(vehicle(rt, "0001"))),
+        Change::Vehicle(vehicle_key(rt, "0001"), vehicle_row(rt)),
+        Change::Hold(Thing::Node(name(rt, "N1")), Some(vehicle_key(rt, "0001"))),
         Change::Used(order_key(rt, "O1")),
         Change::Load(name(rt, "A1"), at_a(rt)),
         Change::Load(name(rt, "A2"), at_a(rt)),
-        Change::Load(name(rt, "V1"), Place::Vehicle(vehicle(rt, "0001"))),
+        Change::Load(name(rt, "V1"), Place::Vehicle(vehicle_key(rt, "0001"))),
         Change::Job(name(rt, "J1"), job(rt, name(rt, "A1"), Phase::Waiting)),
     ];
     write(rt, conn, &changes);
@@ -218,7 +218,7 @@ fn write_full<S: Alter>(rt: &impl Abort, alloc: Global, conn: &mut Connection<S>
 
 /// Asks by each key for what is there.
 fn ask_known<S: Alter>(rt: &impl Abort, alloc: Global, conn: &mut Connection<S>, number: u32) {
-    let row = query_vehicle(conn, &BTreeMap::new(alloc), &vehicle(rt, "0001"));
+    let row = query_vehicle(conn, &BTreeMap::new(alloc), &vehicle_key(rt, "0001"));
     check(rt, row == Ok(Some(vehicle_row(rt))), "the vehicle");
     let load = numbered(rt, alloc, 'L', number);
     let place = query_place(conn, &load);
@@ -229,7 +229,11 @@ fn ask_known<S: Alter>(rt: &impl Abort, alloc: Global, conn: &mut Connection<S>,
     let station = query_station(conn, &name(rt, "A"));
     check(rt, station == Ok(Some(site(rt, "N1"))), "the station");
     let holder = query_holder(conn, &Thing::Node(name(rt, "N1")));
-    check(rt, holder == Ok(Some(vehicle(rt, "0001"))), "the holder");
+    check(
+        rt,
+        holder == Ok(Some(vehicle_key(rt, "0001"))),
+        "the holder",
+    );
     let node = query_node(conn, &name(rt, "N2"));
     check(rt, node == Ok(true), "the node");
     let used = query_used(conn, &order_key(rt, "O1"));
@@ -241,7 +245,9 @@ fn ask_known<S: Alter>(rt: &impl Abort, alloc: Global, conn: &mut Connection<S>,
 /// Asks for the trip of the vehicle, and for the layout.
 fn ask_whole<S: Alter>(rt: &impl Abort, alloc: Global, conn: &mut Connection<S>) {
     let ways = BTreeMap::new(alloc);
-    let trip = query_trip(alloc, conn, &None, &ways, &vehicle(rt, "0001")).expect(rt, "the trip");
+    let trip = query_trip(alloc, conn, &None, &ways, &vehicle_key(rt, "0001")).expect(
+        rt, "the trip",
+    );
     let trip = trip.expect(rt, "a trip");
     check(rt, trip.order == name(rt, "O1"), "its order");
     check(rt, trip.edges.as_slice().len() == 10, "its edges");
@@ -276,7 +282,7 @@ fn ask_unknown<S: Alter>(rt: &impl Abort, alloc: Global, conn: &mut Connection<S
 
 /// Asks for the loads and the live jobs of what has some.
 fn ask_some<S: Alter>(rt: &impl Abort, alloc: Global, conn: &mut Connection<S>) {
-    let aboard = query_loads_on(conn, &vehicle(rt, "0001"));
+    let aboard = query_loads_on(conn, &vehicle_key(rt, "0001"));
     check(rt, aboard == Ok(1), "the loads on the vehicle");
     let coming = query_reserved(conn, &name(rt, "B"));
     check(rt, coming == Ok(1), "the live jobs to B");

@@ -20,7 +20,7 @@ pub(crate) fn name(rt: &impl Abort, text: &str) -> Name {
 }
 
 /// The vehicle of KIT with this serial number.
-pub(crate) fn vehicle(rt: &impl Abort, serial: &str) -> VehicleKey {
+pub(crate) fn vehicle_key(rt: &impl Abort, serial: &str) -> VehicleKey {
     VehicleKey {
         manufacturer: name(rt, "KIT"),
         serial: name(rt, serial),

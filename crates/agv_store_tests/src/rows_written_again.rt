@@ -1,6 +1,6 @@
 //! A row of each table is written twice in one list of changes: the second stands in the place of the first.
 
-use crate::cases::{name, vehicle};
+use crate::cases::{name, vehicle_key};
 use crate::table_cases::{check_rows, make};
 use agv_header::{Moment, Thing};
 use agv_layout::{EdgeEnds, StationSite};
@@ -55,7 +55,7 @@ fn vehicle(rt: &impl Abort, node: &str, capacity: u32, paused: bool) -> Change {
         instants: Sent { count: 0, at },
         pending: None,
     };
-    Change::Vehicle(vehicle(rt, "0001"), row)
+    Change::Vehicle(vehicle_key(rt, "0001"), row)
 }
 
 fn act(rt: &impl Abort, kind: ActKind, station: &str, place_at: u32, status: Status) -> Act {
@@ -76,7 +76,7 @@ fn trip(rt: &impl Abort, alloc: Global, base: u32, picked: Status) -> Change {
     acts.push(act(rt, ActKind::Drop, "B", 1, Status::Waiting))
         .expect(rt, "memory");
     let row = TripRow {
-        vehicle: vehicle(rt, "0001"),
+        vehicle: vehicle_key(rt, "0001"),
         start: name(rt, "N1"),
         first: 0,
         base,
@@ -108,7 +108,7 @@ fn job(rt: &impl Abort, phase: Phase) -> Change {
 }
 
 fn hold(rt: &impl Abort, serial: &str) -> Change {
-    Change::Hold(Thing::Node(name(rt, "N1")), Some(vehicle(rt, serial)))
+    Change::Hold(Thing::Node(name(rt, "N1")), Some(vehicle_key(rt, serial)))
 }
 
 fn used(rt: &impl Abort) -> Change {

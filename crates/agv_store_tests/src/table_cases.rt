@@ -2,7 +2,7 @@
 //! too. The answers are compared, the rows with texts, the world that is read of them with the one in memory, and who holds
 //! what with the answers of the floor.
 
-use crate::cases::{check, name, vehicle};
+use crate::cases::{check, name, vehicle_key};
 use agv_desk::{Answer, Call, Decision, decide};
 use agv_header::{Moment, Thing};
 use agv_http::{Routes, call_of};
@@ -318,13 +318,17 @@ fn check_trip<S: Alter>(
     layout: &Option<Layout>,
     serial: &str,
 ) {
-    let wanted = floor.trip(vehicle(rt, serial)).expect(rt, "memory");
-    let has_trip = query_has_trip(conn, &vehicle(rt, serial));
+    let wanted = floor.trip(vehicle_key(rt, serial)).expect(rt, "memory");
+    let has_trip = query_has_trip(conn, &vehicle_key(rt, serial));
     check(rt, has_trip == Ok(wanted.is_some()), serial);
     let ways = BTreeMap::new(alloc);
-    let trip = query_trip(alloc, conn, layout, &ways, &vehicle(rt, serial)).expect(rt, "the trip");
+    let trip = query_trip(alloc, conn, layout, &ways, &vehicle_key(rt, serial)).expect(
+        rt, "the trip",
+    );
     check(rt, trip == wanted, serial);
-    let trip = query_trip(alloc, conn, &None, &ways, &vehicle(rt, serial)).expect(rt, "the trip");
+    let trip = query_trip(alloc, conn, &None, &ways, &vehicle_key(rt, serial)).expect(
+        rt, "the trip",
+    );
     check(rt, trip == wanted, serial);
 }
 
