@@ -1,4 +1,4 @@
--- Files that hold a database are not blank; what holds of a connection that was had.
+-- Files that hold a database are not blank; and what holds of the value of a result is carried over.
 use Rattle.std.proofs.Common.{arith, ℕ, ◌<◌, ◌≤◌}
 use Rattle.std.specs.Result.{IfOk}
 use Rattle.std.specs.Prelude.{Result, Ok, Err}

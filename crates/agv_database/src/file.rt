@@ -17,23 +17,24 @@ use std::alloc::Global;
 use std::hash::{BuildHasher, RandomState};
 use std::io::ErrorKind;
 
-/// So many of these pages are kept in memory, of those read and of those that a transaction has written: as many bytes as
-/// the kit keeps of pages of 4,096 bytes.
+/// So many pages of 512 bytes are kept in memory, of those read and of those that a transaction has written: as many bytes
+/// as the kit keeps in 2,000 pages of 4,096.
 const KEPT_PAGES: usize = 16_000;
 
 const CANNOT_OPEN: Error = Error::SqliteFailure(ErrorCode::CannotOpen);
 
 /// Opens the database in the file. Where there is no file it makes one, and where the file has no database yet, an empty
-/// one with pages of 512 bytes. Another file keeps the pages that it has.
+/// one with pages of 512 bytes. Another file keeps the pages that it has; one that a stop left half made, with pages of 4,096
+/// bytes, gets those.
 ///
 /// A path `:memory:` and one that begins with `file:`, which other programs take for no file's name, are refused.
 ///
-/// No clause ties the connection to the path, nor says anything of what the file holds: it supposes that a torn write
-/// leaves each byte old or new, as the kit's `Connection::open` does.
+/// No clause ties the connection to the path, nor says anything of what the file holds. A torn write is supposed to leave
+/// each byte old or new, as by the kit's `Connection::open`.
 ///
 /// # Errors
-/// `DatabaseBusy` where another program has the file open, `NotADatabase` where it has something else than a sound
-/// database, `OutOfMemory`, and others where the system refuses it.
+/// `DatabaseBusy` where another program has the file open, `NotADatabase` or `DatabaseCorrupt` where it has something else
+/// than a sound database, `OutOfMemory` where memory is wanting, and others where the system refuses it.
 pub fn open_file(rt: &HostRuntime, path: &str) -> Result<Connection<FileStore<File>>, Error>
     ensures memory { path.now ≡ codes ":memory:" → result ≡ Err (Error.SqliteFailure ErrorCode.CannotOpen) }
     ensures opened { IfOk result (λ conn. HasCleanDisk (file_state conn) → IsOpened conn) }
@@ -77,11 +78,12 @@ fn random_number(rt: &HostRuntime) -> Result<u64, Error>
     }
 }
 
-/// Opens the database that these files hold; where they have none, it makes an empty one, as [`open_file`] does. The number
-/// is one drawn at random, for the salts of the log.
+/// Opens the database that these files hold; where they have none, it makes an empty one, as [`open_file`] does. `seed` is a
+/// number drawn at random, for the salts of the log.
 ///
 /// # Errors
-/// As those of [`open_file`].
+/// `NotADatabase` or `DatabaseCorrupt` where the files have something else than a sound database, `OutOfMemory` where memory
+/// is wanting, and others where the files fail.
 pub fn open_files<D: Disk + Drop>(
     alloc: Global,
     mut files: Files<D>,
@@ -97,13 +99,13 @@ pub fn open_files<D: Disk + Drop>(
 {
     let size = PageSize::new(PAGE_SIZE).unwrap();
     match probe_blank(alloc, &mut files, size, false) {
-        Ok(true) => new_database(alloc, files, options(seed)),
+        Ok(true) => new_database(alloc, files, small_page_options(seed)),
         Ok(false) => open_existing(alloc, files, seed),
         Err(error) => Err(probe_error(error)),
     }
 }
 
-// Opens the database in these files, which are not empty.
+// Opens these files as the kit does.
 fn open_existing<D: Disk + Drop>(
     alloc: Global,
     mut files: Files<D>,
@@ -118,7 +120,7 @@ fn open_existing<D: Disk + Drop>(
     ensures fault { IfErr result (λ error. IsTrue (is_open_error error)) }
 {
     let options = match probe_page_size(&mut files) {
-        Ok(Some(size)) if size.bytes() == PAGE_SIZE => options(seed),
+        Ok(Some(size)) if size.bytes() == PAGE_SIZE => small_page_options(seed),
         Ok(_) => Options::new(seed),
         Err(_) => return Err(Error::SqliteFailure(ErrorCode::SystemIoFailure)),
     };
@@ -128,8 +130,8 @@ fn open_existing<D: Disk + Drop>(
     }
 }
 
-// What is kept in memory of a file with pages of this size.
-fn options(seed: u64) -> Options {
+// How a file with pages of 512 bytes is opened.
+fn small_page_options(seed: u64) -> Options {
     let mut options = Options::new(seed);
     options.cache_pages = KEPT_PAGES;
     options.spill_pages = KEPT_PAGES;

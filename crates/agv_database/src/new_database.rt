@@ -25,7 +25,8 @@ pub const NO_MEMORY: Error = Error::SqliteFailure(ErrorCode::OutOfMemory);
 /// A new database over these files, with pages of 512 bytes: it has no table.
 ///
 /// # Errors
-/// Where memory is wanting, where the files fail, and where they have a database already.
+/// `OutOfMemory` where memory is wanting, `SystemIoFailure` or `DiskFull` where the files fail, and `DatabaseCorrupt` where
+/// they have a database already.
 pub fn new_database<D: Disk + Drop>(
     alloc: Global,
     files: Files<D>,
