@@ -616,6 +616,19 @@ REFUSED = [
 ]
 
 # The example at the end of the help of the command, and of each subcommand.
+FILE_OPTION = {'--db <FILE>': 'The file that keeps the records'}
+OPTIONS = {
+    'replay': {
+        '--db <FILE|memory>': 'The file that keeps the records; `memory` keeps them for this run alone',
+        '--at <MILLIS>': 'The moment of all requests, in milliseconds since the start of 1970 (UTC)'},
+    'serve': {
+        **FILE_OPTION, '--port <P>': 'The port on this machine, 0 to 65535; at 0 a free one is chosen and printed',
+        '--connections <N>': 'How many connections are served, one after another, before the program ends'},
+    'report': {
+        **FILE_OPTION,
+        '<REPORT>': '`stock`: each load and its place; `holds`: what each vehicle holds of the floor [possible values: stock, holds]'},
+    'migrate': FILE_OPTION,
+}
 EXAMPLES = {
     '': 'desk replay --db memory --at 1700000000000 < requests.txt',
     'replay': 'desk replay --db memory --at 1700000000000 < requests.txt',
@@ -669,6 +682,13 @@ class Exits(ProgramTest):
             done = subprocess.run([DESK, *words], capture_output=True, timeout=60, cwd=self.folder.name)
             self.assertEqual((done.returncode, done.stdout), (2, b''), words)
             self.assertEqual(done.stderr.decode().split('\n\n')[-1], 'Example: %s\n' % example, words)
+
+    def test_help_tells_each_option(self):
+        """With the name of its value, and what it is for."""
+        for name, options in OPTIONS.items():
+            said = subprocess.run([DESK, name, '--help'], capture_output=True, timeout=60).stderr.decode()
+            found = dict(re.findall(r'^ +((?:--\w+ )?<[^>]+>) {2,}(\S.*)$', said, re.M))
+            self.assertEqual(found, options, name)
 
     def test_the_examples_of_the_help(self):
         """Each is taken as it stands, `serve` with a free port and for no connection."""
