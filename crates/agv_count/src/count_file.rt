@@ -10,6 +10,19 @@ use agv_header::Name;
 use csv::ByteRecord;
 use std::alloc::Global;
 
+/// The rows of a stocktake file, in the order of the file: a station that was counted, and a load that was
+/// found there, or none. The header alone is a count of nothing.
+///
+/// `BadCsv` where the file isn't CSV whose records have as many fields each, has no record, doesn't begin with
+/// the header `station,load`, or has a record that is no row: its station is no name, or its load is neither a
+/// name nor empty. `Memory` where an allocation was refused.
+pub fn read_count(alloc: Global, bytes: &[u8]) -> Result<Vec<(Name, Option<Name>)>, CsvFault>
+    ensures ok { IfOk result (λ rows. count_in bytes.now ≡ Some rows.items) }
+    ensures bad { result ≡ Err CsvFault.BadCsv → count_in bytes.now ≡ None }
+{
+    read_table(alloc, bytes)
+}
+
 impl Row for (Name, Option<Name>) {
     ghost columns = { count_columns };
 
@@ -62,17 +75,4 @@ fn load_found(field: &[u8]) -> Option<Option<Name>>
         return Some(None);
     }
     Some(Some(Name::of_bytes(field)?))
-}
-
-/// The rows of a stocktake file, in the order of the file: a station that was counted, and a load that was
-/// found there, or none. The header alone is a count of nothing.
-///
-/// `BadCsv` where the file isn't CSV whose records have as many fields each, has no record, doesn't begin with
-/// the header `station,load`, or has a record that is no row: its station is no name, or its load is neither a
-/// name nor empty. `Memory` where an allocation was refused.
-pub fn read_count(alloc: Global, bytes: &[u8]) -> Result<Vec<(Name, Option<Name>)>, CsvFault>
-    ensures ok { IfOk result (λ rows. count_in bytes.now ≡ Some rows.items) }
-    ensures bad { result ≡ Err CsvFault.BadCsv → count_in bytes.now ≡ None }
-{
-    read_table(alloc, bytes)
 }

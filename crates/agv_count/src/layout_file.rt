@@ -13,6 +13,19 @@ use agv_layout::LayoutRow;
 use csv::ByteRecord;
 use std::alloc::Global;
 
+/// The rows of a layout file, in the order of the file.
+///
+/// `BadCsv` where the file isn't CSV whose records have as many fields each, has no record, doesn't begin with
+/// the header `kind,id,from,to`, or has a record that is no row: its kind is not `node`, `edge` or
+/// `station`, one of its names is none, a node's `from` or `to` isn't empty, or a station's
+/// capacity isn't 1 to 3 digits. `Memory` where an allocation was refused.
+pub fn read_layout(alloc: Global, bytes: &[u8]) -> Result<Vec<LayoutRow>, CsvFault>
+    ensures ok { IfOk result (λ rows. layout_rows_in bytes.now ≡ Some rows.items) }
+    ensures bad { result ≡ Err CsvFault.BadCsv → layout_rows_in bytes.now ≡ None }
+{
+    read_table(alloc, bytes)
+}
+
 impl Row for LayoutRow {
     ghost columns = { layout_columns };
 
@@ -102,17 +115,4 @@ fn station(fields: Fields<'_>) -> Option<LayoutRow>
         node: Name::of_bytes(fields.from)?,
         capacity: capacity(fields.to)?,
     })
-}
-
-/// The rows of a layout file, in the order of the file.
-///
-/// `BadCsv` where the file isn't CSV whose records have as many fields each, has no record, doesn't begin with
-/// the header `kind,id,from,to`, or has a record that is no row: its kind is not `node`, `edge` or
-/// `station`, one of its names is none, a node's `from` or `to` isn't empty, or a station's
-/// capacity isn't 1 to 3 digits. `Memory` where an allocation was refused.
-pub fn read_layout(alloc: Global, bytes: &[u8]) -> Result<Vec<LayoutRow>, CsvFault>
-    ensures ok { IfOk result (λ rows. layout_rows_in bytes.now ≡ Some rows.items) }
-    ensures bad { result ≡ Err CsvFault.BadCsv → layout_rows_in bytes.now ≡ None }
-{
-    read_table(alloc, bytes)
 }

@@ -1,4 +1,4 @@
--- What of a lawful world the rows of a call rest on.
+-- Derived, not the promise: what of a lawful world (agv_world, Lawful.antt) the rows of a call rest on.
 use Rattle.std.specs.Prelude.{◌≡◌, ◌≤◌, ◌⊎◌, true, length}
 use Rattle.std.specs.FinSet as set
 use Rattle.agv_header.specs.declared.key.VehicleKey.{VehicleKey}

@@ -53,17 +53,6 @@ pub(crate) fn add_job<F: Floor>(
     Ok(job_written(alloc, job, row)?)
 }
 
-// The station where a load stands.
-fn station_in(place: Place) -> Option<Name>
-    ensures is { result ≡ station_in (Some place) }
-    ensures stored { is_some result ≡ is_stored place }
-{
-    match place {
-        Place::Station(id) => Some(id),
-        Place::Vehicle(_) | Place::Checking | Place::Left => None,
-    }
-}
-
 /// A job that waits is taken back.
 pub(crate) fn stop_job<F: Floor>(alloc: Global, floor: &mut F, job: Name) -> Result<Decision, Fault>
     ensures { Asks F.facts floor.old floor.new result (λ world decision. decision ≡ decided (stop_job world job)) }
@@ -98,4 +87,15 @@ fn job_written(alloc: Global, job: Name, row: JobRow) -> Result<Decision, Memory
     let mut changes = Vec::new(alloc);
     changes.push(Change::Job(job, row))?;
     Ok(accepted_with(Answer::Done, changes))
+}
+
+/// The station that a place is; none where it is no station.
+pub fn station_in(place: Place) -> Option<Name>
+    ensures is { result ≡ station_in (Some place) }
+    ensures stored { is_some result ≡ is_stored place }
+{
+    match place {
+        Place::Station(id) => Some(id),
+        Place::Vehicle(_) | Place::Checking | Place::Left => None,
+    }
 }

@@ -6,6 +6,7 @@
 //!   rows that change. Each call is one private function, in a file for its family; `decide_call` has
 //!   them all, and `shared` what several of them need.
 //! - [`moves_of`] tells which loads a decision moves, and where to, in their order.
+//! - [`station_in`] is the station that a place is.
 //! - [`counted_by`] tells to which count a call has added one; the counts follow it ([`laws::counts`]).
 //! - [`laws::calls`] says that the rows which change take the rows of the world to those of the world after the call.
 //! - From a lawful world each call leads to a lawful world ([`laws::lawful`], of the halves [`laws::vehicles`] and
@@ -40,4 +41,5 @@ pub use answer::{Answer, Decision, OpenOrder};
 pub use call::Call;
 pub use counts::counted_by;
 pub use decide_call::decide;
+pub use jobs::station_in;
 pub use moves::moves_of;

@@ -14,6 +14,27 @@ use agv_track::{Standing, footprint};
 use agv_world::{Change, LegKey, TripRow, VehicleRow};
 use std::alloc::Global;
 
+/// Writes a vehicle in place of the old one: its row, its trip with the edges, and what it holds, each where it changes.
+pub(crate) fn write_vehicle(
+    alloc: Global,
+    key: &VehicleKey,
+    before: &VehicleRow,
+    old: &Standing,
+    vehicle: VehicleRow,
+    new: &Standing,
+    changes: &mut Vec<Change>,
+) -> Result<(), Memory>
+    requires old_short { IsShort old.now.trip }
+    requires new_short { IsShort new.now.trip }
+    ensures { OnOk result (changes.new.items ≡ changes.old.items ++ (own_changes key.now (Some before.now) vehicle ++ (trip_changes key.now old.now.trip new.now.trip ++ hold_changes key.now (footprint_of old.now) (footprint_of new.now)))) }
+{
+    let held = footprint(alloc, old)?;
+    let holds = footprint(alloc, new)?;
+    write_row(key, before, vehicle, changes)?;
+    write_trip(key, &old.trip, &new.trip, changes)?;
+    write_holds(key, &held, &holds, changes)
+}
+
 /// Writes the row of a vehicle in place of the old one, where it changes.
 pub(crate) fn write_row(
     key: &VehicleKey,
@@ -34,27 +55,6 @@ fn same_row(old: &VehicleRow, new: &VehicleRow) -> bool
     ensures { result ≡ same_row old.now new.now }
 {
     *old == *new
-}
-
-/// Writes a vehicle in place of the old one: its row, its trip with the edges, and what it holds, each where it changes.
-pub(crate) fn write_vehicle(
-    alloc: Global,
-    key: &VehicleKey,
-    before: &VehicleRow,
-    old: &Standing,
-    vehicle: VehicleRow,
-    new: &Standing,
-    changes: &mut Vec<Change>,
-) -> Result<(), Memory>
-    requires old_short { IsShort old.now.trip }
-    requires new_short { IsShort new.now.trip }
-    ensures { OnOk result (changes.new.items ≡ changes.old.items ++ (own_changes key.now (Some before.now) vehicle ++ (trip_changes key.now old.now.trip new.now.trip ++ hold_changes key.now (footprint_of old.now) (footprint_of new.now)))) }
-{
-    let held = footprint(alloc, old)?;
-    let holds = footprint(alloc, new)?;
-    write_row(key, before, vehicle, changes)?;
-    write_trip(key, &old.trip, &new.trip, changes)?;
-    write_holds(key, &held, &holds, changes)
 }
 
 // Writes a trip that begins, ends or goes on.

@@ -5,15 +5,14 @@ ghost use Rattle.std.specs.Prelude.{◌≡◌, ◌≤◌, true, Some};
 ghost use Rattle.agv_world.specs.Changes.{change, changed};
 ghost use Rattle.agv_world.specs.Questions.{has_room_at, room_at};
 ghost use Rattle.agv_world.specs.Rows.{Rows};
-ghost use Rattle.agv_desk.specs.JobSteps.{station_in};
 ghost use Rattle.agv_tables.specs.sql.Connections.{IsClean, IsOpen};
 ghost use Rattle.agv_store.specs.Floors.{world_at};
 ghost use Rattle.agv_store.specs.KeptRooms.{AreLeft, IsLowered, IsRoomLeft, takes_room_at};
 
 use crate::kept_layout::is_of_layout;
 use crate::keyed_floor::KeyedFloor;
+use agv_desk::station_in;
 use agv_header::{Memory, Name};
-use agv_stock::Place;
 use agv_world::Change;
 use agv_world::change_laws::changes_in_turn;
 use sqlite::Alter;
@@ -98,7 +97,7 @@ fn takes_room_at(change: &Change) -> Option<Name>
     ensures { result ≡ takes_room_at change.now }
 {
     match change {
-        Change::Load(_, place) => station_of(*place),
+        Change::Load(_, place) => station_in(*place),
         Change::Job(_, job) => {
             if job.phase.is_live() {
                 Some(job.target)
@@ -114,15 +113,5 @@ fn takes_room_at(change: &Change) -> Option<Name>
         | Change::Leg(_, _)
         | Change::Hold(_, _)
         | Change::Used(_) => None,
-    }
-}
-
-// The station that a place is.
-fn station_of(place: Place) -> Option<Name>
-    ensures { result ≡ station_in (Some place) }
-{
-    match place {
-        Place::Station(id) => Some(id),
-        Place::Vehicle(_) | Place::Checking | Place::Left => None,
     }
 }

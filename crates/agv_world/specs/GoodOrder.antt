@@ -4,8 +4,7 @@ use Rattle.std.specs.FinMap as map
 use Rattle.std.specs.List.{AllByRecursion, Contains}
 use Rattle.agv_header.specs.declared.key.Thing.{Thing}
 use Rattle.agv_header.specs.declared.key.VehicleKey.{VehicleKey}
-use Rattle.agv_layout.specs.Layout.{Layout, IsEdge}
-use Rattle.agv_layout.specs.declared.edge.Edge.{Edge}
+use Rattle.agv_order.specs.WellFormed.{IsEdgeOf}
 use Rattle.agv_order.specs.declared.trip.Trip.{Trip}
 use Rattle.agv_track.specs.Footprints.{footprint_of}
 use Rattle.agv_world.specs.Rows.{standing_of}
@@ -31,13 +30,9 @@ HasOneTripAnOrder world = (one other : VehicleKey) (trip further : Trip) → Has
 abbrev pub NamesItsVehicle : World → Type 0
 NamesItsVehicle world = (key : VehicleKey) (trip : Trip) → HasTrip world key trip → trip.vehicle ≡ key
 
--- the layout has the edge, with its ends
-abbrev pub IsOfLayout : Layout → Edge → Type 0
-IsOfLayout layout edge = IsEdge layout edge.id (record { start = edge.start; finish = edge.finish })
-
 -- each edge of a trip is the layout's
 abbrev pub DrivesOnLayout : World → Type 0
-DrivesOnLayout world = (key : VehicleKey) (trip : Trip) → HasTrip world key trip → AllByRecursion (IsOfLayout world.layout) trip.edges
+DrivesOnLayout world = (key : VehicleKey) (trip : Trip) → HasTrip world key trip → AllByRecursion (IsEdgeOf world.layout) trip.edges
 
 -- no node or edge is in the footprints of two vehicles
 abbrev pub SharesNothing : World → Type 0

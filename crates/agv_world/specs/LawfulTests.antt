@@ -107,16 +107,16 @@ is_name_of None name = false
 is_name_of (Some other) name = pointwise nat_eq other name
 
 -- the trip is one of this vehicle: it has places enough, was sent an order, and stands where the trip has seen it, without a rest
-abbrev pub is_borne_by : VehicleRow → Trip → Bool
-is_borne_by row trip =
+abbrev pub is_trip_of_row : VehicleRow → Trip → Bool
+is_trip_of_row row trip =
     nat_le (count_by picks trip.acts) row.capacity
     && (nat_lt 0 row.orders.count
     && (is_name_of (node_at trip trip.seen) row.node
     && is_none row.rest))
 
-abbrev pub is_borne : Option VehicleRow → Trip → Bool
-is_borne None trip = false
-is_borne (Some row) trip = is_borne_by row trip
+abbrev pub is_trip_of : Option VehicleRow → Trip → Bool
+is_trip_of None trip = false
+is_trip_of (Some row) trip = is_trip_of_row row trip
 
 -- the order of a row
 abbrev pub order_in : Option (List ℕ × TripRow) → Option (List ℕ)
@@ -149,7 +149,7 @@ is_trip_row tables entry =
     is_first tables entry.1.vehicle entry.0
     && (is_used_order tables entry.0
     && (are_in_turn tables entry.0 0 (finite.entries tables.legs)
-    && is_borne (finite.get tables.vehicles entry.1.vehicle) (trip_in tables entry)))
+    && is_trip_of (finite.get tables.vehicles entry.1.vehicle) (trip_in tables entry)))
 
 -- each row of a trip
 abbrev pub are_trips : Tables → Bool

@@ -138,7 +138,7 @@ pub record StockInvariant (layout : Layout) (carries : VehicleKey → List Actio
   pub known_places : (load : List ℕ) (place : Place) → finite.get places load ≡ Some place → IsKnownPlace layout place
   pub known : (job : List ℕ) (row : JobRow) → finite.get jobs job ≡ Some row → IsJobOn layout places row
   pub room : (station : List ℕ) (site : StationSite) → IsStation layout station site → stored places station + coming jobs station ≤ site.capacity
-  pub boards : (key : VehicleKey) → loads_on_vehicle places key + to_pick (carries key) ≤ capacity key
+  pub within_capacity : (key : VehicleKey) → loads_on_vehicle places key + to_pick (carries key) ≤ capacity key
   pub one_job : (one other : List ℕ) (row further : JobRow) → finite.get jobs one ≡ Some row → finite.get jobs other ≡ Some further → is_live row.phase ≡ true → is_live further.phase ≡ true → row.load ≡ further.load → one ≡ other
   pub waiting : (job : List ℕ) (row : JobRow) → finite.get jobs job ≡ Some row → row.phase ≡ phase.Waiting → finite.get places row.load ≡ Some (place.Station row.origin)
   pub riding : (job : List ℕ) (row : JobRow) → finite.get jobs job ≡ Some row → row.phase ≡ phase.Riding → IsCarriedOn carries job

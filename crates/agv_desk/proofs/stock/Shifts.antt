@@ -69,17 +69,17 @@ pub record Shift (layout : Layout) (carries : VehicleKey → List ActionView) (c
   pub rides : next ≡ Riding → (k : ℕ) × (action_view : ActionView) × (slice_get after k ≡ Some action_view) × (action_view.kind ≡ Drop) × (action_view.job ≡ job) × (action_view.finished ≡ false)
   -- no station has less room; the vehicle has its places, and no other one gets a load
   pub room : (station : List ℕ) → one_if (is_at station to) + one_if (is_live_to station (record row { phase = next })) ≤ one_if (is_at station from) + one_if (is_live_to station row)
-  pub boards : one_if (is_on key to) + to_pick after + loads_on_vehicle places key ≤ capacity key + one_if (is_on key from)
+  pub within_capacity : one_if (is_on key to) + to_pick after + loads_on_vehicle places key ≤ capacity key + one_if (is_on key from)
   pub off : (other : VehicleKey) → other ≢ key → one_if (is_on other to) ≤ one_if (is_on other from)
 
 room_kept : (n o p q n' o' p' q' c : ℕ) → n + o ≡ p + q → n' + o' ≡ p' + q' → q + q' ≤ o + o' → p + p' ≤ c → n + n' ≤ c
 room_kept n o p q n' o' p' q' c e f h g = omega arith
 
-boards_kept : (n o p q d c : ℕ) → n + o ≡ p + q → q + d + p ≤ c + o → n + d ≤ c
-boards_kept n o p q d c e f = omega arith
+capacity_kept : (n o p q d c : ℕ) → n + o ≡ p + q → q + d + p ≤ c + o → n + d ≤ c
+capacity_kept n o p q d c e f = omega arith
 
-boards_still : (n o p q d c : ℕ) → n + o ≡ p + q → q ≤ o → p + d ≤ c → n + d ≤ c
-boards_still n o p q d c e f g = omega arith
+capacity_still : (n o p q d c : ℕ) → n + o ≡ p + q → q ≤ o → p + d ≤ c → n + d ≤ c
+capacity_still n o p q d c e f g = omega arith
 
 module _ (layout : Layout) (carries : VehicleKey → List ActionView) (capacity : VehicleKey → ℕ) (places : Places) (jobs : Jobs) (stock : StockInvariant layout carries capacity places jobs) (c : Shift layout carries capacity places jobs) where
   abbrev row_after : JobRow
@@ -151,15 +151,15 @@ module _ (layout : Layout) (carries : VehicleKey → List ActionView) (capacity 
       subst (λ (found : Option Place). loads_on_vehicle c.places_after key + weight (is_on key) found ≡ loads_on_vehicle places key + one_if (is_on key c.to)) c.place_was
       (tally-written names_total names_apart (is_on key) places c.row.load c.to c.places_after c.place_is)
 
-  boards_after : (key : VehicleKey) → loads_on_vehicle c.places_after key + to_pick (c.carries_after key) ≤ capacity key
-  boards_after key = elim (same_or_other key_cmp-total key_cmp-IsAntisymmetric key c.key) [
+  capacity_after : (key : VehicleKey) → loads_on_vehicle c.places_after key + to_pick (c.carries_after key) ≤ capacity key
+  capacity_after key = elim (same_or_other key_cmp-total key_cmp-IsAntisymmetric key c.key) [
     | inl same ↦
         subst (λ one. loads_on_vehicle c.places_after one + to_pick (c.carries_after one) ≤ capacity one) (sym same)
         (subst (λ carried. loads_on_vehicle c.places_after c.key + to_pick carried ≤ capacity c.key) (sym c.now)
-        (boards_kept _ _ _ _ _ _ (on_vehicle_after c.key) c.boards))
+        (capacity_kept _ _ _ _ _ _ (on_vehicle_after c.key) c.within_capacity))
     | inr other ↦
         subst (λ carried. loads_on_vehicle c.places_after key + to_pick carried ≤ capacity key) (sym (c.there key other))
-        (boards_still _ _ _ _ _ _ (on_vehicle_after key) (c.off key other) (stock.boards key))
+        (capacity_still _ _ _ _ _ _ (on_vehicle_after key) (c.off key other) (stock.within_capacity key))
   ]
 
   pub shift_kept : StockInvariant layout c.carries_after capacity c.places_after c.jobs_after
@@ -183,7 +183,7 @@ module _ (layout : Layout) (carries : VehicleKey → List ActionView) (capacity 
       | inr old ↦ known_as_before row (stock.known job row old.1)
     ];
     room = λ station site there. room_kept _ _ _ _ _ _ _ _ _ (stored_after station) (coming_after station) (c.room station) (stock.room station site there);
-    boards = boards_after;
+    within_capacity = capacity_after;
     one_job = λ one other row further there more live still_live same. elim (job_case one row there) [
       | inl here ↦ elim (job_case other further more) [
         | inl too ↦ here.0 ∙ sym too.0

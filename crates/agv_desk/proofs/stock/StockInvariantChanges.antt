@@ -61,8 +61,8 @@ room_stored n o p q j c e f = omega arith
 room_coming : (n o p q l c : ℕ) → n + o ≡ p + q → l + p + q ≤ c + o → l + n ≤ c
 room_coming n o p q l c e f = omega arith
 
-boards_still : (n o p q d c : ℕ) → n + o ≡ p + q → q ≡ 0 → p + d ≤ c → n + d ≤ c
-boards_still n o p q d c e f g = omega arith
+count_still : (n o p q d c : ℕ) → n + o ≡ p + q → q ≡ 0 → p + d ≤ c → n + d ≤ c
+count_still n o p q d c e f g = omega arith
 
 module _ (layout : Layout) (carries : VehicleKey → List ActionView) (capacity : VehicleKey → ℕ) (places : Places) (jobs : Jobs) (stock : StockInvariant layout carries capacity places jobs) where
   module _ (c : PlaceChange layout places jobs) where
@@ -84,8 +84,8 @@ module _ (layout : Layout) (carries : VehicleKey → List ActionView) (capacity 
           record { load = written_has names_total names_apart places c.load c.to c.after c.is row.load known.load; origin = known.origin; target = known.target };
       room = λ station site there.
           room_stored _ _ _ _ _ _ (tally-written names_total names_apart (is_at station) places c.load c.to c.after c.is) (c.room station site there);
-      boards = λ key.
-          boards_still _ _ _ _ _ _ (tally-written names_total names_apart (is_on key) places c.load c.to c.after c.is) (ap one_if (c.ashore key)) (stock.boards key);
+      within_capacity = λ key.
+          count_still _ _ _ _ _ _ (tally-written names_total names_apart (is_on key) places c.load c.to c.after c.is) (ap one_if (c.ashore key)) (stock.within_capacity key);
       one_job = stock.one_job;
       waiting = λ job row there waits. c.is.there row.load (c.free job row there (live_if_waiting _ waits)) ∙ stock.waiting job row there waits;
       riding = stock.riding;
@@ -128,7 +128,7 @@ module _ (layout : Layout) (carries : VehicleKey → List ActionView) (capacity 
       ];
       room = λ station site there.
           room_coming _ _ _ _ _ _ (tally-written names_total names_apart (is_live_to station) jobs c.job c.row c.after c.is) (c.room station site there);
-      boards = stock.boards;
+      within_capacity = stock.within_capacity;
       one_job = λ one other row further there more live still_live same. elim (job_case one row there) [
         | inl here ↦ elim (job_case other further more) [
           | inl too ↦ here.0 ∙ sym too.0
@@ -167,7 +167,7 @@ same_stock layout carries carries_after capacity capacity_after places jobs same
       known_places = stock.known_places;
       known = stock.known;
       room = stock.room;
-      boards = λ key. enough _ _ _ (stock.boards key) (more key);
+      within_capacity = λ key. enough _ _ _ (stock.within_capacity key) (more key);
       one_job = stock.one_job;
       waiting = stock.waiting;
       riding = stock.riding;

@@ -77,7 +77,7 @@ module _ (layout : Layout) (carries : VehicleKey → List ActionView) (capacity 
     known_places = λ load at there. elim (c.came load at there) [ inl old ↦ stock.known_places load at old | inr new ↦ new.1 ];
     known = λ job row there. let known = stock.known job row there in record { load = still_known row.load known.load; origin = known.origin; target = known.target };
     room = c.room;
-    boards = λ key. fewer _ _ _ _ (c.ashore key) (stock.boards key);
+    within_capacity = λ key. fewer _ _ _ _ (c.ashore key) (stock.within_capacity key);
     one_job = stock.one_job;
     waiting = λ job row there waits. live_same job row there (live_if_waiting _ waits) ∙ stock.waiting job row there waits;
     riding = stock.riding;

@@ -168,7 +168,7 @@ module _ (gives : GivesItself) (seats : ℕ) (world : World) (lawful : HasLawful
       room = λ station site there. none_of_both _ _ _
           (tally-none names_total (is_at station) world.places (λ load at there. at_none station at (stock.known_places load at there)))
           (tally-none names_total (is_live_to station) world.jobs (λ job row there. absurd (no_job job row there)));
-      boards = stock.boards;
+      within_capacity = stock.within_capacity;
       one_job = stock.one_job;
       waiting = stock.waiting;
       riding = stock.riding;

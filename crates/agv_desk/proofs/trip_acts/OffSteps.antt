@@ -21,7 +21,7 @@ use Rattle.agv_world.proofs.lists.Orders.{names_total, names_apart}
 use Rattle.agv_desk.proofs.trip_acts.ActionViews.{due-cons}
 use Rattle.agv_desk.proofs.outcomes.Known.{same_some}
 use Rattle.agv_desk.proofs.stock.Shifts.{live_if_riding, shift_kept}
-use Rattle.agv_desk.proofs.trip_acts.WalkSteps.{Fits, Now, alone_of, an_action_view, boarded, fits_here, own, owned, there, with_action_views, with_here}
+use Rattle.agv_desk.proofs.trip_acts.WalkSteps.{Fits, Now, alone_of, an_action_view, capacity_now, fits_here, own, owned, there, with_action_views, with_here}
 use Rattle.agv_desk.proofs.lists.Writes.{IsWritten, is_written, is_written_already, one_if, same_or_other}
 
 module _ (layout : Layout) (carries : VehicleKey → List ActionView) (capacity : VehicleKey → ℕ) (key : VehicleKey) where
@@ -41,10 +41,10 @@ module _ (layout : Layout) (carries : VehicleKey → List ActionView) (capacity 
     known_places = now.known_places;
     known = now.known;
     room = now.room;
-    boards = λ other. elim (same_or_other key_cmp-total key_cmp-IsAntisymmetric other key) [
+    within_capacity = λ other. elim (same_or_other key_cmp-total key_cmp-IsAntisymmetric other key) [
       | inl same ↦ subst (λ v. loads_on_vehicle places v + to_pick (at_all rest v) ≤ capacity v) (sym same)
-          (subst (λ xs. loads_on_vehicle places key + to_pick xs ≤ capacity key) (sym (with_here carries key rest)) (fewer (one_if (is_to_pick one)) (to_pick (one ∷ rest)) (to_pick rest) _ _ (due-cons one rest) (boarded layout carries capacity key (one ∷ rest) places jobs now)))
-      | inr apart ↦ subst (λ xs. loads_on_vehicle places other + to_pick xs ≤ capacity other) (there layout carries capacity key rest (one ∷ rest) other apart) (now.boards other)
+          (subst (λ xs. loads_on_vehicle places key + to_pick xs ≤ capacity key) (sym (with_here carries key rest)) (fewer (one_if (is_to_pick one)) (to_pick (one ∷ rest)) (to_pick rest) _ _ (due-cons one rest) (capacity_now layout carries capacity key (one ∷ rest) places jobs now)))
+      | inr apart ↦ subst (λ xs. loads_on_vehicle places other + to_pick xs ≤ capacity other) (there layout carries capacity key rest (one ∷ rest) other apart) (now.within_capacity other)
     ];
     one_job = now.one_job;
     waiting = now.waiting;
@@ -131,7 +131,7 @@ module _ (layout : Layout) (carries : VehicleKey → List ActionView) (capacity 
         apart = λ i k one more at further e f. suc_same i k ((now.once key key (suc i) (suc k) one more (own layout carries capacity key olds (suc i) one at) (own layout carries capacity key olds (suc k) more further) e).1 f);
         rides = λ e. absurd (not_riding e);
         room = room;
-        boards = off_boards _ _ _ _ _ _ (due-cons old rest) (boarded layout carries capacity key olds places jobs now) (off key);
+        within_capacity = off_capacity _ _ _ _ _ _ (due-cons old rest) (capacity_now layout carries capacity key olds places jobs now) (off key);
         off = λ other apart. off other;
       })
     where
@@ -142,8 +142,8 @@ module _ (layout : Layout) (carries : VehicleKey → List ActionView) (capacity 
       suc_same : (i k : ℕ) → suc i ≡ suc k → i ≡ k
       suc_same i k e = omega (arith, e)
 
-      off_boards : (all d n c p o : ℕ) → all ≡ 0 + d → n + all ≤ c → p ≤ o → p + d + n ≤ c + o
-      off_boards all d n c p o e h g = omega (arith, e, h, g)
+      off_capacity : (all d n c p o : ℕ) → all ≡ 0 + d → n + all ≤ c → p ≤ o → p + d + n ≤ c + o
+      off_capacity all d n c p o e h g = omega (arith, e, h, g)
 
   -- a drop goes that is not finished, and its job stops
   pub stop_step : (rest : List ActionView) (job load station : List ℕ) (places : Places) (jobs : Jobs) (row : JobRow)

@@ -172,12 +172,12 @@ module _ (world : World) (stock : HasStockInvariant world) where
             subst (IsJobOn world.layout world.places) (same_some (sym has.is ∙ at)) (record { load = k.load; origin = k.origin; target = k.target })
       ];
       room = λ station site at. subst (λ n. stored world.places station + n ≤ site.capacity) (sym (begun.coming station)) (stock.room station site at);
-      boards = λ other. elim (same_or_other key_cmp-total key_cmp-IsAntisymmetric other key) [
+      within_capacity = λ other. elim (same_or_other key_cmp-total key_cmp-IsAntisymmetric other key) [
         | inl same ↦
             subst (λ v. loads_on_vehicle world.places v + to_pick (carries_after v) ≤ capacity_of world v) (sym same)
             (subst (λ xs. loads_on_vehicle world.places key + to_pick xs ≤ capacity_of world key) (sym (with_here (action_views_of world) key (action_views acts)))
             (board _ _ _ _ (subst (λ ss. to_pick (action_views acts) ≤ count_by is_pick ss) made (due_picks acts)) fits))
-        | inr apart ↦ subst (λ xs. loads_on_vehicle world.places other + to_pick xs ≤ capacity_of world other) (sym (with_there (action_views_of world) key (action_views acts) other apart)) (stock.boards other)
+        | inr apart ↦ subst (λ xs. loads_on_vehicle world.places other + to_pick xs ≤ capacity_of world other) (sym (with_there (action_views_of world) key (action_views acts) other apart)) (stock.within_capacity other)
       ];
       one_job = λ one other row further at there live too same.
           let a = was_live one row at live in

@@ -105,8 +105,8 @@ module _ (layout : Layout) (carries : VehicleKey → List ActionView) (capacity 
   there carried more other apart = with_there carries key more other apart ∙ sym (with_there carries key carried other apart)
 
   -- the vehicle has its places
-  pub boarded : (carried : List ActionView) (places : Places) (jobs : Jobs) → Now carried places jobs → loads_on_vehicle places key + to_pick carried ≤ capacity key
-  boarded carried places jobs now = subst (λ xs. loads_on_vehicle places key + to_pick xs ≤ capacity key) (with_here carries key carried) (now.boards key)
+  pub capacity_now : (carried : List ActionView) (places : Places) (jobs : Jobs) → Now carried places jobs → loads_on_vehicle places key + to_pick carried ≤ capacity key
+  capacity_now carried places jobs now = subst (λ xs. loads_on_vehicle places key + to_pick xs ≤ capacity key) (with_here carries key carried) (now.within_capacity key)
 
   -- an action, with its job's row
   pub fits_here : (carried : List ActionView) (places : Places) (jobs : Jobs) → Now carried places jobs → (k : ℕ) (one : ActionView) → slice_get carried k ≡ Some one
@@ -217,12 +217,12 @@ module _ (layout : Layout) (carries : VehicleKey → List ActionView) (capacity 
               | inr other ↦ (t.k, t.action_view, other.1, t.drop, t.of_job, t.undone)
             ];
         room = λ name. omega arith;
-        boards = pick_boards _ _ _ _ _ (ap one_if (key_itself key)) (boarded olds places jobs now) swap.count;
+        within_capacity = pick_capacity _ _ _ _ _ (ap one_if (key_itself key)) (capacity_now olds places jobs now) swap.count;
         off = λ other apart. subst (λ b. one_if b ≤ 0) (sym (key_other key other apart)) (omega arith);
       })
     where
-      pick_boards : (o d e n c : ℕ) → o ≡ 1 → n + e ≤ c → d + 1 ≡ e + 0 → o + d + n ≤ c + 0
-      pick_boards o d e n c f g h = omega (arith, f, g, h)
+      pick_capacity : (o d e n c : ℕ) → o ≡ 1 → n + e ≤ c → d + 1 ≡ e + 0 → o + d + n ≤ c + 0
+      pick_capacity o d e n c f g h = omega (arith, f, g, h)
 
   -- a drop becomes finished, after its pick
   pub drop_step : (gone rest : List ActionView) (job load station : List ℕ) (places : Places) (jobs : Jobs) (row : JobRow)
@@ -293,12 +293,12 @@ module _ (layout : Layout) (carries : VehicleKey → List ActionView) (capacity 
         apart = apart_swapped old new olds news places jobs now swap refl refl;
         rides = λ e. cc;
         room = λ name. drop_room _ _ _ (ap (λ target. one_if (pointwise nat_eq target name)) (sym h.station)) (ap (λ f. one_if (is_live f && pointwise nat_eq row.target name)) h.stands);
-        boards = drop_boards _ _ _ _ _ (boarded olds places jobs now) swap.count;
+        within_capacity = drop_capacity _ _ _ _ _ (capacity_now olds places jobs now) swap.count;
         off = λ other apart. omega arith;
       })
     where
       drop_room : (x y z : ℕ) → x ≡ y → z ≡ y → x + 0 ≤ 0 + z
       drop_room x y z e f = omega (arith, e, f)
 
-      drop_boards : (d e n c o : ℕ) → n + e ≤ c → d + 0 ≡ e + 0 → 0 + d + n ≤ c + o
-      drop_boards d e n c o g h = omega (arith, g, h)
+      drop_capacity : (d e n c o : ℕ) → n + e ≤ c → d + 0 ≡ e + 0 → 0 + d + n ≤ c + o
+      drop_capacity d e n c o g h = omega (arith, g, h)

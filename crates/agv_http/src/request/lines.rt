@@ -5,8 +5,12 @@ ghost use Rattle.httparse.specs.Spans.{IsHeaderWithin, header_bytes};
 ghost use Rattle.agv_http.specs.request.Lines.{same_word, values_of, has_line, is_number, length_given, content_length};
 ghost use Rattle.agv_http.specs.request.Found.{AreFound, found_length};
 
+use crate::request::next::MAX_BODY_BYTES;
 use agv_header::are_digits;
 use httparse::spans::HeaderSpan;
+
+// What stands for each length over the greatest.
+const MORE_THAN_MAX_BODY_BYTES: u32 = MAX_BODY_BYTES + 1;
 
 /// The values of the header lines of one name.
 #[derive(Clone, Copy)]
@@ -62,14 +66,14 @@ fn spells_number(bytes: &[u8]) -> bool
     !bytes.is_empty() && are_digits(bytes)
 }
 
-/// The number that the digits give, at most 65,537.
+/// The number that the digits give, or 65,537 where that is less.
 fn capped(digits: &[u8]) -> u32
     requires { is_number digits.now ≡ true }
     ensures { result ≡ min 65537 (digits_value 10 digits.now) }
 {
     let mut n: u32 = 0;
     for digit in digits {
-        n = (n * 10 + (*digit - b'0') as u32).min(65537);
+        n = (n * 10 + (*digit - b'0') as u32).min(MORE_THAN_MAX_BODY_BYTES);
     }
     n
 }

@@ -16,7 +16,7 @@ use httparse::spans::{EMPTY_HEADER_SPAN, HeaderSpan, RequestSpans, parse_request
 const MAX_HEAD_BYTES: usize = 8192;
 
 /// The most bytes of a body.
-const MAX_BODY_BYTES: u32 = 65536;
+pub(crate) const MAX_BODY_BYTES: u32 = 65536;
 
 /// A request, lent from the bytes that it came in, its method too.
 #[derive(Clone, Copy)]

@@ -14,10 +14,11 @@ use Rattle.agv_header.specs.declared.key.VehicleKey.{VehicleKey}
 use Rattle.agv_layout.specs.declared.edge.Edge.{Edge}
 use Rattle.agv_layout.specs.declared.edge.EdgeEnds.{EdgeEnds}
 use Rattle.agv_order.specs.Trips.{node_at}
+use Rattle.agv_order.specs.WellFormed.{IsEdgeOf}
 use Rattle.agv_order.specs.declared.trip.Trip.{Trip}
 use Rattle.agv_track.specs.Footprints.{along, footprint_of, from_node, once, rest_things, things_by}
 use Rattle.agv_track.specs.Holds.{Holds, first_held, or_further, other_holder}
-use Rattle.agv_world.specs.GoodOrder.{InGoodOrder, IsOfLayout}
+use Rattle.agv_world.specs.GoodOrder.{InGoodOrder}
 use Rattle.agv_world.specs.Lawful.{IsLawful}
 use Rattle.agv_world.specs.Rows.{hold_rows, rows_of, standing_of}
 use Rattle.agv_world.specs.Worlds.{Vehicle, World}
@@ -53,7 +54,7 @@ named_once (first ∷ things) are = (are.0, all-filter IsThing (λ (other : Thin
 -- ---- footprints
 
 module _ (world : World) (lawful : IsLawful desk_seats world) (good : InGoodOrder world) where
-  named_along : (edges : List Edge) → AllByRecursion (IsOfLayout world.layout) edges → AllByRecursion IsThing (along edges)
+  named_along : (edges : List Edge) → AllByRecursion (IsEdgeOf world.layout) edges → AllByRecursion IsThing (along edges)
   named_along [] are = tt
   named_along (edge ∷ edges) are =
       let ends : EdgeEnds = record { start = edge.start; finish = edge.finish } in
@@ -76,7 +77,7 @@ module _ (world : World) (lawful : IsLawful desk_seats world) (good : InGoodOrde
       let going = lawful.vehicles.trips key vehicle trip at is in
       let known = good.known key trip (vehicle, at, is) in
       named_from (node_at trip trip.seen) vehicle.row.node going.stands (node_named world lawful vehicle.row.node kept.node) _
-      (named_along _ (all-take (IsOfLayout world.layout) (trip.base - trip.seen) _ (all-drop (IsOfLayout world.layout) trip.seen trip.edges known)))
+      (named_along _ (all-take (IsEdgeOf world.layout) (trip.base - trip.seen) _ (all-drop (IsEdgeOf world.layout) trip.seen trip.edges known)))
 
   named_footprint : (key : VehicleKey) (vehicle : Vehicle) → finite.get world.vehicles key ≡ Some vehicle → AllByRecursion IsThing (footprint_of (standing_of vehicle))
   unfolding footprint_of

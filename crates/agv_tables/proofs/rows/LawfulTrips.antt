@@ -13,12 +13,13 @@ use Rattle.agv_header.specs.Name.{IsName, name_cmp}
 use Rattle.agv_header.specs.declared.key.VehicleKey.{VehicleKey}
 use Rattle.agv_layout.specs.declared.edge.Edge.{Edge}
 use Rattle.agv_layout.specs.declared.edge.EdgeEnds.{EdgeEnds}
+use Rattle.agv_order.specs.WellFormed.{IsEdgeOf}
 use Rattle.agv_order.specs.declared.trip.Trip.{Trip}
 use Rattle.agv_trip_rows.specs.RowValues.{IsActKey, IsActValue, IsJourneyValue}
 use Rattle.agv_trip_rows.specs.TripRows.{journey_of, journeys_of}
 use Rattle.agv_trip_rows.specs.declared.act_row.ActRow.{ActRow}
 use Rattle.agv_trip_rows.specs.declared.journey_row.JourneyRow.{JourneyRow}
-use Rattle.agv_world.specs.GoodOrder.{InGoodOrder, IsOfLayout}
+use Rattle.agv_world.specs.GoodOrder.{InGoodOrder}
 use Rattle.agv_world.specs.KeyOrders.{leg_cmp-IsAntisymmetric, leg_cmp-total}
 use Rattle.agv_world.specs.Keys.{leg_cmp}
 use Rattle.agv_world.specs.Lawful.{IsLawful}
@@ -151,10 +152,10 @@ numbered_one P order n (edge ∷ edges) are q id is =
     ] refl is
 
 leg_of : (world : World) (good : InGoodOrder world) (key : VehicleKey) (vehicle : Vehicle) (o : Option Trip) → vehicle.trip ≡ o → finite.get world.vehicles key ≡ Some vehicle → (q : LegKey) (id : List ℕ) → finite.find leg_cmp q (legs_of_trip o) ≡ Some id
-    → (trip : Trip) × (vehicle.trip ≡ Some trip) × (q.order ≡ trip.order) × (q.k ≤ length trip.edges) × (edge : Edge) × (edge.id ≡ id) × IsOfLayout world.layout edge
+    → (trip : Trip) × (vehicle.trip ≡ Some trip) × (q.order ≡ trip.order) × (q.k ≤ length trip.edges) × (edge : Edge) × (edge.id ≡ id) × IsEdgeOf world.layout edge
 leg_of world good key vehicle None is at q id found = absurd (cc found)
 leg_of world good key vehicle (Some trip) is at q id found =
-    let one = numbered_one (IsOfLayout world.layout) trip.order 0 trip.edges (good.known key trip (vehicle, at, is)) q id found in
+    let one = numbered_one (IsEdgeOf world.layout) trip.order 0 trip.edges (good.known key trip (vehicle, at, is)) q id found in
     let low : q.k ≤ 0 + length trip.edges = one.1 in
     (trip, is, one.0, omega (arith, low), one.2, one.3, one.4)
 

@@ -6,9 +6,10 @@ use Rattle.std.proofs.lemmas.List.Elements.{recursion_from_All}
 use Rattle.agv_header.specs.Key.{key_cmp}
 use Rattle.agv_header.specs.Name.{name_cmp}
 use Rattle.agv_header.specs.declared.key.VehicleKey.{VehicleKey}
+use Rattle.agv_order.specs.WellFormed.{IsEdgeOf}
 use Rattle.agv_order.specs.declared.trip.Trip.{Trip}
 use Rattle.agv_stock.specs.declared.place.Place.{Place}
-use Rattle.agv_world.specs.GoodOrder.{HasTrip, InGoodOrder, IsOfLayout, IsVehicle}
+use Rattle.agv_world.specs.GoodOrder.{HasTrip, InGoodOrder, IsVehicle}
 use Rattle.agv_world.specs.Lawful.{HasLawfulLoads, HasLawfulVehicles, IsJob, IsLawful}
 use Rattle.agv_world.specs.Worlds.{Vehicle, World, empty_world}
 use Rattle.agv_world.specs.declared.row.JobRow.{JobRow}
@@ -20,7 +21,7 @@ pub in_good_order : (seats : ℕ) (world : World) → IsLawful seats world → I
 in_good_order seats world lawful = record {
   one_trip = lawful.vehicles.one_trip;
   own = λ key trip has. (lawful.vehicles.trips key has.0 trip has.1 has.2).own;
-  known = λ key trip has. recursion_from_All (IsOfLayout world.layout) trip.edges (lawful.vehicles.trips key has.0 trip has.1 has.2).well_formed.planned.edges;
+  known = λ key trip has. recursion_from_All (IsEdgeOf world.layout) trip.edges (lawful.vehicles.trips key has.0 trip has.1 has.2).well_formed.planned.edges;
 }
 
 -- ---- nothing is known yet

@@ -94,12 +94,12 @@ module _ {X : Type 0} (p : List ℕ × X → Bool) where
 
 module _ (places : Places) (key : VehicleKey) where
   -- a load that is there counts
-  pub boards_one : (load : List ℕ) (place : Place) → finite.get places load ≡ Some place → is_on key place ≡ true → 0 < loads_on_vehicle places key
-  boards_one load place at on = one_passes (λ (e : List ℕ × Place). is_on key e.1) (finite.entries places) load place (sym (finite.get-entries places load) ∙ at) on
+  pub capacity_one : (load : List ℕ) (place : Place) → finite.get places load ≡ Some place → is_on key place ≡ true → 0 < loads_on_vehicle places key
+  capacity_one load place at on = one_passes (λ (e : List ℕ × Place). is_on key e.1) (finite.entries places) load place (sym (finite.get-entries places load) ∙ at) on
 
   -- and without one there are none
-  pub boards_none : ((load : List ℕ) (place : Place) → finite.get places load ≡ Some place → is_on key place ≡ false) → loads_on_vehicle places key ≡ 0
-  boards_none none = none_passes (λ (e : List ℕ × Place). is_on key e.1) (finite.entries places) (each (finite.entries places) (entries_found names_total places))
+  pub capacity_none : ((load : List ℕ) (place : Place) → finite.get places load ≡ Some place → is_on key place ≡ false) → loads_on_vehicle places key ≡ 0
+  capacity_none none = none_passes (λ (e : List ℕ × Place). is_on key e.1) (finite.entries places) (each (finite.entries places) (entries_found names_total places))
     where
       each : (es : List (List ℕ × Place)) → AllByRecursion (λ (e : List ℕ × Place). finite.get places e.0 ≡ Some e.1) es → AllByRecursion (λ (e : List ℕ × Place). is_on key e.1 ≡ false) es
       each [] found = tt

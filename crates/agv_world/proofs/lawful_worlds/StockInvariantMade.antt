@@ -27,7 +27,7 @@ use Rattle.agv_world.proofs.lawful_worlds.ActPlaces.{ActAt, among, drop_of, from
 use Rattle.agv_world.proofs.lawful_worlds.StockInvariantTold.{origin_of}
 use Rattle.agv_world.proofs.lists.Entries.{is_same, no_more, same_Some}
 use Rattle.agv_world.proofs.lawful_worlds.CapacityCounts.{StopLaws, within_capacity_alike}
-use Rattle.agv_world.proofs.lawful_worlds.OtherLoads.{boards_none}
+use Rattle.agv_world.proofs.lawful_worlds.OtherLoads.{capacity_none}
 use Rattle.agv_world.proofs.lawful_worlds.WorldActionViews.{on_vehicle_is, coming_is, action_view_of, action_views_is, has_act, of_act, stored_is}
 
 module _ {seats : ℕ} (laws : StopLaws) (world : World) (vehicles : HasLawfulVehicles seats world) (loads : HasLawfulLoads world) where
@@ -108,8 +108,8 @@ module _ {seats : ℕ} (laws : StopLaws) (world : World) (vehicles : HasLawfulVe
 
   -- ---- what a vehicle may carry
 
-  boards : (key : VehicleKey) → loads_on_vehicle world.places key + to_pick (action_views_of world key) ≤ capacity_of world key
-  boards key = of_vehicle (finite.get world.vehicles key) refl
+  within_capacity : (key : VehicleKey) → loads_on_vehicle world.places key + to_pick (action_views_of world key) ≤ capacity_of world key
+  within_capacity key = of_vehicle (finite.get world.vehicles key) refl
     where
       add_none : (n m c : ℕ) → n ≡ m → n ≤ c → m + 0 ≤ c
       add_none n m c e f = omega (arith, e, f)
@@ -133,7 +133,7 @@ module _ {seats : ℕ} (laws : StopLaws) (world : World) (vehicles : HasLawfulVe
           subst (λ n. n ≤ vehicle.row.capacity) alike (loads.within_capacity key vehicle trip known is_open)
 
       of_vehicle : (found : Option Vehicle) → finite.get world.vehicles key ≡ found → loads_on_vehicle world.places key + to_pick (action_views_for (finite.get world.vehicles key)) ≤ capacity_for (finite.get world.vehicles key)
-      of_vehicle None none = subst (λ found. loads_on_vehicle world.places key + to_pick (action_views_for found) ≤ capacity_for found) (sym none) (nothing _ (boards_none world.places key (not_on none)))
+      of_vehicle None none = subst (λ found. loads_on_vehicle world.places key + to_pick (action_views_for found) ≤ capacity_for found) (sym none) (nothing _ (capacity_none world.places key (not_on none)))
       of_vehicle (Some vehicle) known = subst (λ found. loads_on_vehicle world.places key + to_pick (action_views_for found) ≤ capacity_for found) (sym known) (of_trip vehicle vehicle.trip known refl)
 
   -- ---- actions
@@ -171,7 +171,7 @@ module _ {seats : ℕ} (laws : StopLaws) (world : World) (vehicles : HasLawfulVe
     known_places = λ load where_is at. known_place_of where_is (loads.places load where_is at);
     known = λ job row at. let its = loads.jobs job row at in record { load = its.load; origin = its.origin; target = its.target };
     room = λ station site known. roomy _ _ _ _ _ (stored_is world station) (coming_is world station) (loads.room station site known);
-    boards = boards;
+    within_capacity = within_capacity;
     one_job = loads.one_job;
     waiting = loads.waiting;
     riding = carried_on;

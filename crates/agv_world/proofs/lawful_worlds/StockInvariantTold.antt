@@ -22,7 +22,7 @@ use Rattle.agv_world.specs.declared.row.JobRow.{JobRow}
 use Rattle.agv_world.proofs.lawful_worlds.ActPlaces.{mapped_at, stops_of}
 use Rattle.agv_world.proofs.lists.Entries.{same_Some}
 use Rattle.agv_world.proofs.lawful_worlds.CapacityCounts.{StopLaws, key_itself, within_capacity_alike}
-use Rattle.agv_world.proofs.lawful_worlds.OtherLoads.{boards_one}
+use Rattle.agv_world.proofs.lawful_worlds.OtherLoads.{capacity_one}
 use Rattle.agv_world.proofs.lawful_worlds.WorldActionViews.{on_vehicle_is, coming_is, action_view_of, action_views_is, has_act, of_act, stored_is}
 
 -- ---- what stands as it should, by kind
@@ -51,8 +51,8 @@ module _ {seats : ℕ} (laws : StopLaws) (world : World) (vehicles : HasLawfulVe
   known_vehicle load key at =
       elim (finite.get world.vehicles key) as (λ found. finite.get world.vehicles key ≡ found → (vehicle : Vehicle) × IsVehicle world key vehicle) [
         | None ↦ λ none.
-            let few : loads_on_vehicle world.places key + to_pick (action_views_of world key) ≤ 0 = subst (λ found. loads_on_vehicle world.places key + to_pick (action_views_of world key) ≤ capacity_for found) none (stock.boards key) in
-            let one = boards_one world.places key load (place.Vehicle key) at (key_itself key) in
+            let few : loads_on_vehicle world.places key + to_pick (action_views_of world key) ≤ 0 = subst (λ found. loads_on_vehicle world.places key + to_pick (action_views_of world key) ≤ capacity_for found) none (stock.within_capacity key) in
+            let one = capacity_one world.places key load (place.Vehicle key) at (key_itself key) in
             absurd (never _ _ few one)
         | Some vehicle ↦ λ known. (vehicle, known)
       ] refl
@@ -66,8 +66,8 @@ module _ {seats : ℕ} (laws : StopLaws) (world : World) (vehicles : HasLawfulVe
   place_in load place.Checking at known = tt
   place_in load place.Left at known = tt
 
-  boards_by : (key : VehicleKey) (vehicle : Vehicle) → IsVehicle world key vehicle → loads_on_vehicle world.places key + to_pick (action_views_for (Some vehicle)) ≤ vehicle.row.capacity
-  boards_by key vehicle known = subst (λ found. loads_on_vehicle world.places key + to_pick (action_views_for found) ≤ capacity_for found) known (stock.boards key)
+  capacity_by : (key : VehicleKey) (vehicle : Vehicle) → IsVehicle world key vehicle → loads_on_vehicle world.places key + to_pick (action_views_for (Some vehicle)) ≤ vehicle.row.capacity
+  capacity_by key vehicle known = subst (λ found. loads_on_vehicle world.places key + to_pick (action_views_for found) ≤ capacity_for found) known (stock.within_capacity key)
 
   -- ---- acts
 
@@ -118,7 +118,7 @@ module _ {seats : ℕ} (laws : StopLaws) (world : World) (vehicles : HasLawfulVe
   within_capacity key vehicle trip known has =
       let carried = λ (k : ℕ) (act : Act) (at : slice_get trip.acts k ≡ Some act). stock.carried key k (action_view act) (subst (λ list. slice_get list k ≡ Some (action_view act)) (sym (action_views_is world key trip (vehicle, known, has))) (mapped_at action_view trip.acts k act at)) in
       let alike = within_capacity_alike world.places world.jobs key laws stock.one_job (λ job row at. (stock.known job row at).load) trip.acts (fits_of key trip (vehicle, known, has)) carried in
-      let few : loads_on_vehicle world.places key + to_pick (action_views trip.acts) ≤ vehicle.row.capacity = subst (λ trip. loads_on_vehicle world.places key + to_pick (action_views_by trip) ≤ vehicle.row.capacity) has (boards_by key vehicle known) in
+      let few : loads_on_vehicle world.places key + to_pick (action_views trip.acts) ≤ vehicle.row.capacity = subst (λ trip. loads_on_vehicle world.places key + to_pick (action_views_by trip) ≤ vehicle.row.capacity) has (capacity_by key vehicle known) in
       subst (λ n. n ≤ vehicle.row.capacity) (sym alike) few
 
   pub loads_told : HasLawfulLoads world
@@ -130,7 +130,7 @@ module _ {seats : ℕ} (laws : StopLaws) (world : World) (vehicles : HasLawfulVe
     places = λ load where_is at. place_in load where_is at (stock.known_places load where_is at);
     jobs = λ job row at. let its = stock.known job row at in record { load = its.load; origin = its.origin; target = its.target };
     room = λ station site known. roomy _ _ _ _ _ (stored_is world station) (coming_is world station) (stock.room station site known);
-    idle = λ key vehicle known none. subst (λ n. n ≤ vehicle.row.capacity) (sym (on_vehicle_is world key)) (idle _ _ _ (ap (λ trip. to_pick (action_views_by trip)) none) (boards_by key vehicle known));
+    idle = λ key vehicle known none. subst (λ n. n ≤ vehicle.row.capacity) (sym (on_vehicle_is world key)) (idle _ _ _ (ap (λ trip. to_pick (action_views_by trip)) none) (capacity_by key vehicle known));
     within_capacity = within_capacity;
     one_job = stock.one_job;
     riding = λ job row known. (to_drop job row known, rides job row known);

@@ -9,7 +9,7 @@ use Rattle.std.specs.Ordering.{eq_by_cmp, is_eq, nat_cmp, ordering_then}
 use Rattle.agv_header.specs.Name.{name_cmp}
 use Rattle.agv_layout.specs.Layout.{Layout, edge_of}
 use Rattle.agv_layout.specs.declared.edge.Edge.{Edge}
-use Rattle.agv_world.specs.GoodOrder.{IsOfLayout}
+use Rattle.agv_order.specs.WellFormed.{IsEdgeOf}
 use Rattle.agv_world.specs.KeyOrders.{leg_cmp-total, leg_cmp-IsAntisymmetric}
 use Rattle.agv_world.specs.Keys.{leg_cmp}
 use Rattle.agv_world.specs.Told.{edge_named, is_of_order}
@@ -34,10 +34,10 @@ sorted-numbered order i [] = tt
 sorted-numbered order i (edge ∷ edges) = both _ _ (below-numbered order i (i + 1) (omega arith) edges) (sorted-numbered order (i + 1) edges)
 
 -- ---- each is the layout's
-named : (layout : Layout) (edge : Edge) → IsOfLayout layout edge → edge_named layout.edges edge.id ≡ Some edge
+named : (layout : Layout) (edge : Edge) → IsEdgeOf layout edge → edge_named layout.edges edge.id ≡ Some edge
 named layout edge is = ap (option_map (edge_of edge.id)) is
 
-pub all_named : (layout : Layout) (order : List ℕ) (i : ℕ) (edges : List Edge) → AllByRecursion (IsOfLayout layout) edges
+pub all_named : (layout : Layout) (order : List ℕ) (i : ℕ) (edges : List Edge) → AllByRecursion (IsEdgeOf layout) edges
     → filter_map (λ (leg : LegKey × List ℕ). edge_named layout.edges leg.1) (numbered order i edges) ≡ edges
 all_named layout order i [] known = refl
 all_named layout order i (edge ∷ edges) known =

@@ -5,9 +5,10 @@ use Rattle.std.specs.FinMap.{get}
 use Rattle.std.proofs.lemmas.List.Elements.{recursion_from_All}
 use Rattle.agv_header.specs.Name.{name_cmp}
 use Rattle.agv_header.specs.declared.key.VehicleKey.{VehicleKey}
+use Rattle.agv_order.specs.WellFormed.{IsEdgeOf}
 use Rattle.agv_order.specs.declared.act.Act.{Act}
 use Rattle.agv_order.specs.declared.trip.Trip.{Trip}
-use Rattle.agv_world.specs.GoodOrder.{HasTrip, InGoodOrder, IsOfLayout, IsVehicle}
+use Rattle.agv_world.specs.GoodOrder.{HasTrip, InGoodOrder, IsVehicle}
 use Rattle.agv_world.specs.Kept.{Keeps}
 use Rattle.agv_world.specs.Lawful.{HasAct, HasLawfulVehicles}
 use Rattle.agv_world.specs.Rows.{rows_of_trip, trip_row}
@@ -55,7 +56,7 @@ pub good_vehicles : {seats : ℕ} (world : World) → HasLawfulVehicles seats wo
 good_vehicles world vehicles = record {
   one_trip = vehicles.one_trip;
   own = λ key trip has. (vehicles.trips key has.0 trip has.1 has.2).own;
-  known = λ key trip has. recursion_from_All (IsOfLayout world.layout) trip.edges (vehicles.trips key has.0 trip has.1 has.2).well_formed.planned.edges;
+  known = λ key trip has. recursion_from_All (IsEdgeOf world.layout) trip.edges (vehicles.trips key has.0 trip has.1 has.2).well_formed.planned.edges;
 }
 
 module _ (tables : Tables) (world : World) (keeps : Keeps tables world) (good : InGoodOrder world) where

@@ -13,7 +13,7 @@ use Rattle.agv_world.specs.GoodOrder.{HasTrip}
 use Rattle.agv_world.specs.Kept.{Keeps}
 use Rattle.agv_world.specs.KeyOrders.{leg_cmp-total, leg_cmp-IsAntisymmetric, use_cmp-total, use_cmp-IsAntisymmetric}
 use Rattle.agv_world.specs.Keys.{leg_cmp}
-use Rattle.agv_world.specs.LawfulTests.{are_in_turn, are_legs, are_trips, has_trip_row, is_borne, is_borne_by, is_first, is_trip_row, is_used_order}
+use Rattle.agv_world.specs.LawfulTests.{are_in_turn, are_legs, are_trips, has_trip_row, is_trip_of, is_trip_of_row, is_first, is_trip_row, is_used_order}
 use Rattle.agv_world.specs.Rows.{leg_rows, legs_of_trip, rows_of, rows_of_trip, trip_row, trip_rows}
 use Rattle.agv_world.specs.Told.{trip_in, vehicle_in, vehicles_of, world_of}
 use Rattle.agv_world.specs.Worlds.{Vehicle}
@@ -40,11 +40,11 @@ pub record IsTripRow (tables : Tables) (order : List ℕ) (row : TripRow) : Type
   pub turn : are_in_turn tables order 0 (finite.entries tables.legs) ≡ true
   pub owner : VehicleRow
   pub there : get tables.vehicles row.vehicle ≡ Some owner
-  pub borne : is_borne_by owner (trip_in tables (order, row)) ≡ true
+  pub of_row : is_trip_of_row owner (trip_in tables (order, row)) ≡ true
 
-borne_by : (o : Option VehicleRow) (trip : Trip) → is_borne o trip ≡ true → (row : VehicleRow) × (o ≡ Some row) × (is_borne_by row trip ≡ true)
-borne_by None trip is = absurd (false≢true is)
-borne_by (Some row) trip is = (row, refl, is)
+trip_of_owner : (o : Option VehicleRow) (trip : Trip) → is_trip_of o trip ≡ true → (row : VehicleRow) × (o ≡ Some row) × (is_trip_of_row row trip ≡ true)
+trip_of_owner None trip is = absurd (false≢true is)
+trip_of_owner (Some row) trip is = (row, refl, is)
 
 if_own : (b : Bool) (row : Option (List ℕ)) (y : List ℕ) → cond b row None ≡ Some y → (b ≡ true) × (row ≡ Some y)
 if_own true row y e = (refl, e)
@@ -56,8 +56,8 @@ module _ (tables : Tables) where
       let parts = and_parts _ _ (each-entry names_total names_apart (is_trip_row tables) tables.trips trips order row at) in
       let more = and_parts _ _ parts.1 in
       let rest = and_parts _ _ more.1 in
-      let owner = borne_by (get tables.vehicles row.vehicle) (trip_in tables (order, row)) rest.1 in
-      record { first = parts.0; used = more.0; turn = rest.0; owner = owner.0; there = owner.1; borne = owner.2 }
+      let owner = trip_of_owner (get tables.vehicles row.vehicle) (trip_in tables (order, row)) rest.1 in
+      record { first = parts.0; used = more.0; turn = rest.0; owner = owner.0; there = owner.1; of_row = owner.2 }
 
   -- the vehicle of a trip's row has it
   pub open_trip_told : (order : List ℕ) (row : TripRow) → get tables.trips order ≡ Some row → IsTripRow tables order row → HasTrip (world_of tables) row.vehicle (trip_in tables (order, row))

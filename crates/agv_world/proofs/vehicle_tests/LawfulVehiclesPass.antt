@@ -13,14 +13,14 @@ use Rattle.agv_header.specs.declared.key.VehicleKey.{VehicleKey}
 use Rattle.agv_layout.specs.Layout.{Layout}
 use Rattle.agv_layout.specs.declared.edge.Edge.{Edge}
 use Rattle.agv_order.specs.Trips.{node_at}
-use Rattle.agv_order.specs.WellFormed.{IsWellFormed}
+use Rattle.agv_order.specs.WellFormed.{IsEdgeOf, IsWellFormed}
 use Rattle.agv_order.specs.declared.trip.Trip.{Trip}
-use Rattle.agv_world.specs.GoodOrder.{HasTrip, InGoodOrder, IsOfLayout}
+use Rattle.agv_world.specs.GoodOrder.{HasTrip, InGoodOrder}
 use Rattle.agv_world.specs.Kept.{Keeps}
 use Rattle.agv_world.specs.KeyOrders.{leg_cmp-total, leg_cmp-IsAntisymmetric}
 use Rattle.agv_world.specs.Keys.{leg_cmp}
 use Rattle.agv_world.specs.Lawful.{HasLawfulVehicles, IsTripOf, picks}
-use Rattle.agv_world.specs.LawfulTests.{are_in_turn, are_lawful_vehicles, are_legs, are_trips, are_vehicles, has_trip_row, is_borne, is_borne_by, is_first, is_name_of, is_trip_row, is_used_order, is_vehicle_row}
+use Rattle.agv_world.specs.LawfulTests.{are_in_turn, are_lawful_vehicles, are_legs, are_trips, are_vehicles, has_trip_row, is_trip_of, is_trip_of_row, is_first, is_name_of, is_trip_row, is_used_order, is_vehicle_row}
 use Rattle.agv_world.specs.Rows.{legs_of_trip}
 use Rattle.agv_world.specs.Told.{is_of_order, layout_of_tables, names_of, trip_in, vehicle_in, world_of}
 use Rattle.agv_world.specs.Worlds.{Vehicle, World, empty_layout}
@@ -46,9 +46,9 @@ use Rattle.agv_world.proofs.vehicle_tests.VehicleRowTests.{vehicle_row_again}
 use Rattle.agv_world.proofs.told_worlds.WorldTold.{told_world}
 
 -- ---- a world with lawful vehicles is in good order
-each_edge : (layout : Layout) (edges : List Edge) → All (IsOfLayout layout) edges → AllByRecursion (IsOfLayout layout) edges
+each_edge : (layout : Layout) (edges : List Edge) → All (IsEdgeOf layout) edges → AllByRecursion (IsEdgeOf layout) edges
 each_edge layout [] each = tt
-each_edge layout (edge ∷ edges) each = (All-head (IsOfLayout layout) edge edges each, each_edge layout edges (All-tail (IsOfLayout layout) edge edges each))
+each_edge layout (edge ∷ edges) each = (All-head (IsEdgeOf layout) edge edges each, each_edge layout edges (All-tail (IsEdgeOf layout) edge edges each))
 
 pub good_order : (seats : ℕ) (world : World) → HasLawfulVehicles seats world → InGoodOrder world
 good_order seats world lawful = record {
@@ -60,10 +60,10 @@ good_order seats world lawful = record {
 name_again : (o : Option (List ℕ)) (name : List ℕ) → o ≡ Some name → is_name_of o name ≡ true
 name_again o name is = ap (λ other. is_name_of other name) is ∙ name_same name name refl
 
-borne_again : (o : Option VehicleRow) (row : VehicleRow) (trip : Trip) → o ≡ Some row → is_borne_by row trip ≡ true → is_borne o trip ≡ true
-borne_again o row trip is passes = ap (λ other. is_borne other trip) is ∙ passes
+trip_of_again : (o : Option VehicleRow) (row : VehicleRow) (trip : Trip) → o ≡ Some row → is_trip_of_row row trip ≡ true → is_trip_of o trip ≡ true
+trip_of_again o row trip is passes = ap (λ other. is_trip_of other trip) is ∙ passes
 
-known_edges : (tables : Tables) (edges : List Edge) → AllByRecursion (IsOfLayout (layout_of_tables tables)) edges → AllByRecursion (λ (edge : Edge). is_some (get tables.edges edge.id) ≡ true) edges
+known_edges : (tables : Tables) (edges : List Edge) → AllByRecursion (IsEdgeOf (layout_of_tables tables)) edges → AllByRecursion (λ (edge : Edge). is_some (get tables.edges edge.id) ≡ true) edges
 known_edges tables [] each = tt
 known_edges tables (edge ∷ edges) each = (is_there (get tables.edges edge.id) _ each.0, known_edges tables edges each.1)
 
@@ -122,7 +122,7 @@ module _ (below : Below) (seats : ℕ) (tables : Tables) (keeps : Keeps tables (
       turns tables trip.order 0 trip.edges (known_edges tables trip.edges ((good_order seats (world_of tables) lawful).known key trip has)) (finite.entries tables.legs) (rows_again key trip has)
 
   -- ---- trips
-  trip_passes : (key : VehicleKey) (vehicle : Vehicle) (trip : Trip) → IsTripOf (layout_of_tables tables) key vehicle.row trip → is_borne_by vehicle.row trip ≡ true
+  trip_passes : (key : VehicleKey) (vehicle : Vehicle) (trip : Trip) → IsTripOf (layout_of_tables tables) key vehicle.row trip → is_trip_of_row vehicle.row trip ≡ true
   trip_passes key vehicle trip is =
       and_from _ _ (le-leb (count_by picks trip.acts) vehicle.row.capacity is.seated)
       (and_from _ _ (lt-ltb 0 vehicle.row.orders.count is.sent)
@@ -134,14 +134,14 @@ module _ (below : Below) (seats : ℕ) (tables : Tables) (keeps : Keeps tables (
       let by = key_again order row is in
       let vehicle = vehicle_told tables is.key is.has.0 is.has.1 in
       let owner : get tables.vehicles row.vehicle ≡ Some is.has.0.row = ap (get tables.vehicles) by ∙ vehicle.1 ∙ ap (λ (v : Vehicle). Some v.row) vehicle.2 in
-      let borne = trip_passes is.key is.has.0 is.trip (lawful.trips is.key is.has.0 is.trip is.has.1 is.has.2) in
+      let of_row = trip_passes is.key is.has.0 is.trip (lawful.trips is.key is.has.0 is.trip is.has.1 is.has.2) in
       let first : is_first tables row.vehicle order ≡ true = subst (λ k. is_first tables k order ≡ true) (sym by) (subst (λ o. is_first tables is.key o ≡ true) (sym is.order_is) is.told.first) in
       let used : is_used_order tables order ≡ true = ap (λ o. is_used_order tables o) is.order_is ∙ sym (contains-names_of tables Order is.trip.order) ∙ lawful.used is.key is.trip is.has in
       let turn : are_in_turn tables order 0 (finite.entries tables.legs) ≡ true = ap (λ o. are_in_turn tables o 0 (finite.entries tables.legs)) is.order_is ∙ turn_again is.key is.trip is.has in
       and_from _ _ first
       (and_from _ _ used
       (and_from _ _ turn
-      (borne_again (get tables.vehicles row.vehicle) is.has.0.row (trip_in tables (order, row)) owner (ap (is_borne_by is.has.0.row) (trip_again order row is) ∙ borne))))
+      (trip_of_again (get tables.vehicles row.vehicle) is.has.0.row (trip_in tables (order, row)) owner (ap (is_trip_of_row is.has.0.row) (trip_again order row is) ∙ of_row))))
 
   trips_pass : are_trips tables ≡ true
   trips_pass = all-entries names_total names_apart (is_trip_row tables) tables.trips row_passes

@@ -13,7 +13,7 @@ use Rattle.agv_order.specs.declared.trip.Trip.{Trip}
 use Rattle.agv_world.specs.GoodOrder.{HasTrip, IsVehicle}
 use Rattle.agv_world.specs.Kept.{Keeps}
 use Rattle.agv_world.specs.Lawful.{HasLawfulVehicles, IsTripOf, IsVehicleOf, picks}
-use Rattle.agv_world.specs.LawfulTests.{are_apart, are_few, are_fit, are_lawful_vehicles, are_legs, are_trips, are_vehicles, is_borne_by, is_laid, is_name_of, is_vehicle_row}
+use Rattle.agv_world.specs.LawfulTests.{are_apart, are_few, are_fit, are_lawful_vehicles, are_legs, are_trips, are_vehicles, is_trip_of_row, is_laid, is_name_of, is_vehicle_row}
 use Rattle.agv_world.specs.Told.{layout_of_tables, names_of, trip_in, world_of}
 use Rattle.agv_world.specs.Values.{HasValues}
 use Rattle.agv_world.specs.Worlds.{Vehicle}
@@ -83,8 +83,8 @@ module _ (below : Below) (seats : ℕ) (tables : Tables) (values : HasValues tab
       let told = trip_told tables key trip (vehicle, at, opened) in
       let is = trip_row_is key trip told in
       let owner : is.owner ≡ vehicle.row = owner_is key vehicle at told.row is.owner told.by is.there in
-      let borne : is_borne_by vehicle.row trip ≡ true = subst (λ (t : Trip). is_borne_by vehicle.row t ≡ true) told.is (subst (λ (r : VehicleRow). is_borne_by r (trip_in tables (trip.order, told.row)) ≡ true) owner is.borne) in
-      let one = and_parts _ _ borne in
+      let of_row : is_trip_of_row vehicle.row trip ≡ true = subst (λ (t : Trip). is_trip_of_row vehicle.row t ≡ true) told.is (subst (λ (r : VehicleRow). is_trip_of_row r (trip_in tables (trip.order, told.row)) ≡ true) owner is.of_row) in
+      let one = and_parts _ _ of_row in
       let two = and_parts _ _ one.1 in
       let three = and_parts _ _ two.1 in
       record {

@@ -10,8 +10,9 @@ use Rattle.agv_header.specs.declared.key.VehicleKey.{VehicleKey}
 use Rattle.agv_layout.specs.Layout.{Layout}
 use Rattle.agv_layout.specs.declared.edge.Edge.{Edge}
 use Rattle.agv_layout.specs.declared.edge.EdgeEnds.{EdgeEnds}
+use Rattle.agv_order.specs.WellFormed.{IsEdgeOf}
 use Rattle.agv_order.specs.declared.trip.Trip.{Trip}
-use Rattle.agv_world.specs.GoodOrder.{InGoodOrder, HasTrip, IsOfLayout}
+use Rattle.agv_world.specs.GoodOrder.{InGoodOrder, HasTrip}
 use Rattle.agv_world.specs.KeyOrders.{leg_cmp-total}
 use Rattle.agv_world.specs.Keys.{leg_cmp}
 use Rattle.agv_world.specs.Rows.{Rows, rows_of, vehicle_rows, trip_rows, rows_of_trip, trip_row, leg_rows, legs_of_trip}
@@ -37,7 +38,7 @@ pub legs_of : (world : World) → InGoodOrder world → IsSpread leg_cmp leg_row
 legs_of world good = spread_is key_cmp-total key_cmp-IsAntisymmetric leg_cmp leg_cmp-total leg_rows world.vehicles (legs_apart world good.one_trip)
 
 -- ---- edges
-one_edge : (layout : Layout) (x y : Edge) → IsOfLayout layout x → IsOfLayout layout y → x.id ≡ y.id → x ≡ y
+one_edge : (layout : Layout) (x y : Edge) → IsEdgeOf layout x → IsEdgeOf layout y → x.id ≡ y.id → x ≡ y
 one_edge layout x y p q e =
     let ends : ◌≡◌ {A = EdgeEnds} (record { start = x.start; finish = x.finish }) (record { start = y.start; finish = y.finish }) = same_Some _ _ (sym p ∙ ap (get layout.edges) e ∙ q) in
     λ i. record { id = e i; start = (ends i).start; finish = (ends i).finish }
@@ -45,7 +46,7 @@ one_edge layout x y p q e =
 abbrev Among : List ℕ → ℕ → List Edge → List Edge → Type 0
 Among order i xs ys = (q : LegKey) (id : List ℕ) → find leg_cmp q (numbered order i xs) ≡ Some id → find leg_cmp q (numbered order i ys) ≡ Some id
 
-same_edges : (layout : Layout) (order : List ℕ) (i : ℕ) (xs ys : List Edge) → AllByRecursion (IsOfLayout layout) xs → AllByRecursion (IsOfLayout layout) ys → Among order i xs ys → Among order i ys xs → xs ≡ ys
+same_edges : (layout : Layout) (order : List ℕ) (i : ℕ) (xs ys : List Edge) → AllByRecursion (IsEdgeOf layout) xs → AllByRecursion (IsEdgeOf layout) ys → Among order i xs ys → Among order i ys xs → xs ≡ ys
 same_edges layout order i [] [] h k f g = refl
 same_edges layout order i [] (y ∷ ys) h k f g = absurd (no_more y.id (g (leg_at order i) y.id (first_leg order i y ys)))
 same_edges layout order i (x ∷ xs) [] h k f g = absurd (no_more x.id (f (leg_at order i) x.id (first_leg order i x xs)))

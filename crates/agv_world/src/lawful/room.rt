@@ -6,13 +6,14 @@ ghost use Rattle.agv_world.specs.LoadTests.{acts_of, are_within_capacity, are_wi
 
 use super::jobs::is_to_drop;
 use crate::{ByName, JobRow, VehicleRow, World};
+use agv_header::limits::MAX_STATION_CAPACITY;
 use agv_header::{Memory, Name, VehicleKey};
 use agv_order::Act;
 use agv_stock::Place;
 use std::alloc::Global;
 
 // More than any station has room for.
-const MORE_THAN_FITS: usize = 1000;
+const MORE_THAN_FITS: usize = MAX_STATION_CAPACITY as usize + 1;
 
 impl World {
     // Whether each station has room for the loads there and for those to come.
@@ -137,7 +138,7 @@ fn add_one(tally: &mut ByName<usize>, name: Name) -> Result<(), Memory>
     tally.insert(name, count)
 }
 
-// One more, up to 1000.
+// One more, up to one more than any station has room for.
 fn one_on(n: usize) -> usize
     ensures { result ≡ one_on n }
 {

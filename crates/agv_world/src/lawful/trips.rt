@@ -2,7 +2,7 @@
 ghost use Rattle.std.specs.Prelude.{◌≡◌, count_by, IfOk, Some};
 ghost use Rattle.std.specs.FinMap as map;
 ghost use Rattle.agv_world.specs.Lawful.{picks};
-ghost use Rattle.agv_world.specs.LawfulTests.{are_fit, are_fit_on, is_fit, are_in_turn, are_legs, are_trips, first_order, has_trip_row, is_borne, is_borne_by, is_first, is_name_of, is_trip_row, is_used_order};
+ghost use Rattle.agv_world.specs.LawfulTests.{are_fit, are_fit_on, is_fit, are_in_turn, are_legs, are_trips, first_order, has_trip_row, is_trip_of, is_trip_of_row, is_first, is_name_of, is_trip_row, is_used_order};
 
 use crate::{LegKey, TripRow, UseKey, UseKind, VehicleRow, World};
 use agv_header::{Memory, Name, VehicleKey};
@@ -46,7 +46,7 @@ impl World {
             return Ok(false);
         }
         let trip = self.trip_in(alloc, order, row)?;
-        Ok(self.is_borne(row.vehicle, &trip))
+        Ok(self.is_trip_of(row.vehicle, &trip))
     }
 
     // Whether the first row that names the vehicle is that of this order.
@@ -83,11 +83,11 @@ impl World {
     }
 
     // Whether the trip is one of the vehicle that it names.
-    fn is_borne(&self, key: VehicleKey, trip: &Trip) -> bool
-        ensures { result ≡ is_borne (map.get self.now.vehicles key) trip.now }
+    fn is_trip_of(&self, key: VehicleKey, trip: &Trip) -> bool
+        ensures { result ≡ is_trip_of (map.get self.now.vehicles key) trip.now }
     {
         match self.vehicles.get(key) {
-            Some(row) => is_borne_by(row, trip),
+            Some(row) => is_trip_of_row(row, trip),
             None => false,
         }
     }
@@ -158,8 +158,8 @@ fn is_name_of(other: Option<Name>, name: Name) -> bool
 
 // Whether the trip is one of this vehicle: it has places enough, was sent an order, and stands where the
 // trip has seen it, without a rest.
-fn is_borne_by(row: &VehicleRow, trip: &Trip) -> bool
-    ensures { result ≡ is_borne_by row.now trip.now }
+fn is_trip_of_row(row: &VehicleRow, trip: &Trip) -> bool
+    ensures { result ≡ is_trip_of_row row.now trip.now }
 {
     pick_count(trip.acts.as_slice()) <= row.capacity as usize
         && 0 < row.orders.count
