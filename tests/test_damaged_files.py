@@ -126,7 +126,34 @@ BREAKS = [
     "UPDATE job SET load = 'L5', origin = 'A', phase = 'waiting' WHERE id = 'J4'",
     "DELETE FROM hold WHERE id = 'N4'", "DELETE FROM hold WHERE kind = 'edge'", "INSERT INTO hold VALUES ('node', 'N1', 'KIT', '0003')",
     "UPDATE hold SET serial = '0003' WHERE id = 'N4'", "UPDATE hold SET kind = 'place' WHERE id = 'N6'", "UPDATE hold SET id = 'N5' WHERE id = 'N6'",
-    "DELETE FROM used WHERE id = 'O2'", "UPDATE used SET kind = 'name' WHERE id = 'R1'", "INSERT INTO used VALUES ('ref', 'a,b')"]
+    "DELETE FROM used WHERE id = 'O2'", "UPDATE used SET kind = 'name' WHERE id = 'R1'", "INSERT INTO used VALUES ('ref', 'a,b')",
+    "UPDATE meta SET id = 0", "UPDATE node SET id = 'no name' WHERE id = 'N7'", "UPDATE edge SET start = '' WHERE id = 'E21'",
+    "UPDATE edge SET finish = 'N 1' WHERE id = 'E21'", "INSERT INTO edge VALUES ('E9', 'N1', 'N9')", "UPDATE station SET node = '' WHERE id = 'C'",
+    "UPDATE station SET capacity = -1 WHERE id = 'C'", "UPDATE station SET capacity = 4294967296 WHERE id = 'C'",
+    "INSERT INTO station VALUES ('E', 'N9', 1)", "UPDATE vehicle SET last_header = 4294967296 WHERE serial = '0003'",
+    "UPDATE vehicle SET rest_edge = 'E12' WHERE serial = '0003'", "UPDATE vehicle SET instant_header = 0, instant_at = 0 WHERE serial = '0003'",
+    "UPDATE vehicle SET pending = 'pause' WHERE serial = '0003'", "DELETE FROM vehicle", "UPDATE journey SET start = ''",
+    "UPDATE journey SET seen = 5", "INSERT INTO journey VALUES ('R9', 'KIT', '0009', 'N1', 0, 0, 0, NULL, 0)",
+    "UPDATE act SET status = 'finished' WHERE n = 0", "UPDATE act SET status = 'NULL' WHERE n = 1", "UPDATE act SET kind = 'load' WHERE n = 0",
+    "UPDATE act SET place_at = -1 WHERE n = 0", "INSERT INTO act VALUES ('O9', 0, 'J2', 'pick', 0, 'WAITING')",
+    "UPDATE leg SET edge = '' WHERE k = 1", "UPDATE leg SET k = -1 WHERE k = 1", "UPDATE load SET serial = NULL WHERE id = 'L1'",
+    "UPDATE load SET kind = 'lost' WHERE id = 'L2'", "INSERT INTO load VALUES ('L9', 'vehicle', NULL, 'KIT', '0001')",
+    "INSERT INTO load VALUES ('L9', 'station', 'Z', NULL, NULL)", "UPDATE job SET phase = '' WHERE id = 'J2'",
+    "UPDATE job SET id = 'J 1' WHERE id = 'J1'", "DELETE FROM job", "INSERT INTO job VALUES ('J9', 'L1', 'A', 'C', 'waiting')",
+    "INSERT INTO job VALUES ('J9', 'L3', 'A', 'C', 'waiting')", "INSERT INTO job VALUES ('J9', 'L99', 'A', 'C', 'done')",
+    "UPDATE hold SET kind = 'station' WHERE id = 'N6'", "UPDATE hold SET id = 'N/1' WHERE id = 'N6'", "UPDATE hold SET serial = '' WHERE id = 'N6'",
+    "INSERT INTO hold VALUES ('node', 'N2', 'KIT', '0009')", "INSERT INTO hold VALUES ('edge', 'E9', 'KIT', '0001')",
+    "INSERT INTO hold VALUES ('edge', 'E12', 'KIT', '0001')"]
+
+# Tables that aren't a desk's: one is missing, has another column or another rule, or is another's foreign key; or all is as in the first schema.
+SHAPES = [
+    'DROP TABLE used', 'DROP TABLE trip', 'DROP TABLE act',
+    'DROP TABLE capacity; CREATE TABLE capacity (manufacturer TEXT, serial TEXT, capacity INTEGER, PRIMARY KEY (manufacturer, serial)) STRICT',
+    "DROP TABLE capacity; DROP TABLE journey; DROP TABLE act; UPDATE meta SET schema = 1; "
+    "INSERT INTO trip VALUES ('O2', 'KIT', '0001', 'J2', 'N3', 0, 1, 0, 0, 0, 0, 2, 'FINISHED', 'WAITING')",
+    'DROP TABLE used; CREATE TABLE used (kind TEXT, id TEXT, PRIMARY KEY (kind, id))',
+    'DROP TABLE used; CREATE TABLE used (kind TEXT, id TEXT, at INTEGER, PRIMARY KEY (kind, id)) STRICT',
+    'CREATE TABLE other (a TEXT REFERENCES load (id))']
 
 
 class FilesTest(unittest.TestCase):
@@ -239,18 +266,32 @@ class Damaged(FilesTest):
                 self.assertEqual(broken(rows), [], name)
         return found
 
+    def check_damaged(self, files, statements):
+        """The files are damaged once these statements were carried out, and stay as they are then."""
+        self.put(files)
+        base = sqlite3.connect(self.db)
+        base.executescript(statements)
+        base.close()
+        changed = self.files()
+        self.assertNotEqual(changed, files)
+        self.assertEqual(self.replay(request('GET /report/stock')), ([], 'fault: Damaged'))
+        self.assertEqual(run('report', '--db', self.db, 'stock'), (1, b'', b'fault: Damaged\n'))
+        self.assertEqual(self.files()[''], changed[''])
+        self.assertEqual(self.files().get('-wal', b''), b'')
+
     def test_rows_that_break_a_rule(self):
         """Of each the desk tells, and so do the rules as they stand in `records.py`."""
         files, _ = self.kinds_of(self.played()['a row of each kind'])['the database']
         for statement in BREAKS:
             with self.subTest(statement):
-                self.put(files)
-                base = sqlite3.connect(self.db)
-                base.execute(statement)
-                base.commit()
-                base.close()
+                self.check_damaged(files, statement)
                 self.assertNotEqual(broken(rows_of(self.db)), [])
-                self.assertEqual(self.replay(request('GET /report/stock')), ([], 'fault: Damaged'))
+
+    def test_tables_of_another_shape(self):
+        files, _ = self.kinds_of(self.played()['a row of each kind'])['the database']
+        for statements in SHAPES:
+            with self.subTest(statements):
+                self.check_damaged(files, statements)
 
     def test_fronts(self):
         """Each front of each script, with nothing changed: what the desk tells is what `records.py` says of the rows."""

@@ -22,16 +22,8 @@ pub(crate) fn blank(alloc: Global, log: u64, db: u64) -> Files<FailingDisk> {
     }
 }
 
-/// Two empty files that don't fail.
-pub(crate) fn no_fuse(alloc: Global) -> Files<Memory> {
-    Files {
-        log: Memory::new(alloc),
-        db: Memory::new(alloc),
-    }
-}
-
 /// The database that the files have.
-pub(crate) fn open<D: Disk + Drop>(
+fn open<D: Disk + Drop>(
     rt: &impl Abort,
     alloc: Global,
     files: Files<D>,
@@ -47,14 +39,6 @@ pub(crate) fn open<D: Disk + Drop>(
 /// An empty database on files in memory, behind fuses that aren't reached.
 pub(crate) fn unreached(rt: &impl Abort, alloc: Global) -> Connection<FileStore<FailingDisk>> {
     open(rt, alloc, blank(alloc, u64::MAX, u64::MAX))
-}
-
-/// The files of a database that was closed.
-pub(crate) fn close<D: Disk + Drop>(rt: &impl Abort, conn: Connection<FileStore<D>>) -> Files<D> {
-    match conn.close_files() {
-        Ok(files) => files,
-        Err(_) => panic!(rt; "the files close"),
-    }
 }
 
 /// The files of a database, and whether all that the log has was copied into the database file.

@@ -9,7 +9,6 @@
 //!   kind of call in `warehouse`, with few loads and with many.
 //! - `unlawful` has worlds that are not lawful: `alters` writes some of their rows by hand. `most` has the most rows of a lawful
 //!   world.
-//! - `damaged_files` damages a database in many ways: there is no desk then, and its files stay as they are.
 //! - `desks` opens databases and makes desks in them, `tables` reads their rows, and `cases` compares what is found with what is
 //!   wanted.
 #![tactic(auto)]
@@ -20,8 +19,6 @@ mod alters;
 mod bytes;
 #[cfg(test)]
 mod cases;
-#[cfg(test)]
-mod damaged_files;
 #[cfg(test)]
 mod desks;
 #[cfg(test)]

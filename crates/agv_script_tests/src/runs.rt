@@ -2,6 +2,7 @@
 
 use crate::cases::{check, check_bytes, moment};
 use crate::desks::{adopted, after_a_stop, blank, copied_out, made, no_tables, reopen, unreached};
+use crate::fakes::{Drip, Trickle};
 use crate::memory::{InMemory, MOMENT, asked, in_memory, moment_after};
 use crate::scripts::cancels::{CANCELLED, PLACED, STOPPED};
 use crate::scripts::starts::{A_TO_B, BOTH_EDGES, LAYOUT, ONE_EDGE, READY};
@@ -10,7 +11,8 @@ use crate::scripts::trips::DELIVERED;
 use crate::steps::{Step, steps_of};
 use crate::tables::{told_text, world_text};
 use agv_desk::{Answer, Call};
-use agv_header::Moment;
+use agv_face::{Ended, StreamSummary, serve_stream};
+use agv_header::{Moment, Refusal};
 use agv_http::{Routes, answer_bytes};
 use agv_reports::names_report;
 use agv_store::{Desk, OpenFault};
@@ -22,8 +24,8 @@ use std::process::Abort;
 
 /// The calls of a script.
 #[derive(Drop)]
-pub(crate) struct List {
-    pub(crate) calls: Vec<(Moment, Call)>,
+struct List {
+    calls: Vec<(Moment, Call)>,
     /// The bytes of each answer.
     answers: Vec<String>,
     /// The texts of the world before the first call, and after each.
@@ -65,7 +67,7 @@ fn put_step(
 }
 
 /// The calls of a script.
-pub(crate) fn list_of(rt: &impl Abort, alloc: Global, steps: &[Step]) -> List {
+fn list_of(rt: &impl Abort, alloc: Global, steps: &[Step]) -> List {
     let routes = Routes::new(alloc).expect(rt, "memory");
     let mut memory = in_memory(alloc, 4);
     let mut at = moment(rt, MOMENT);
@@ -225,11 +227,46 @@ fn check_goes_on<S: Alter + Drop>(
     check_whole(rt, alloc, list, next, adopted(rt, alloc, conn));
 }
 
-/// Each call is answered `Storage`.
-fn check_stays_failed<S: Alter + Drop>(rt: &impl Abort, list: &List, desk: &mut Desk<S>) {
+/// The refusal for a fault of the store.
+const STORAGE: &str =
+    "HTTP/1.1 503 Service Unavailable\r\nContent-Length: 31\r\nContent-Type: application/json\r\nConnection: close\r\n\r\n{\"name\":\"Storage\",\"refusal\":91}";
+
+/// Streams that a desk refuses whose store has failed, whatever they ask.
+const REFUSED: [&str; 3] = [
+    "POST /loads HTTP/1.1\r\nContent-Length: 13\r\n\r\n{\"load\":\"L7\"}POST /loads HTTP/1.1\r\nContent-Length: 13\r\n\r\n{\"load\":\"L8\"}",
+    "GET /report/stock HTTP/1.1\r\n\r\n",
+    "GET /vehicles/KIT/0001 HTTP/1.0\r\n\r\nGET",
+];
+
+/// A stream is refused with its first call.
+fn check_refused<S: Alter + Drop>(rt: &impl Abort, alloc: Global, desk: &mut Desk<S>, input: &str) {
+    let mut reader = Drip::counting(input.as_bytes(), 4096);
+    let mut writer = Trickle::counting(alloc, 4096);
+    let at = moment(rt, MOMENT);
+    let served = serve_stream(alloc, desk, at, &mut reader, &mut writer);
+    let end = Ok(StreamSummary {
+        answers: 1,
+        ended: Ended::Refused(Refusal::Storage),
+    });
+    check(rt, served == end, input);
+    let taken = writer.inner().taken.as_slice();
+    check(rt, taken == STORAGE.as_bytes(), input);
+}
+
+/// Each call is answered `Storage`, and so is the first one of each stream.
+fn check_stays_failed<S: Alter + Drop>(
+    rt: &impl Abort,
+    alloc: Global,
+    list: &List,
+    desk: &mut Desk<S>,
+) {
     for (at, call) in &list.calls {
         let ended = desk.serve(*at, call);
         check(rt, ended.err() == Some(Fault::Storage), "it fails again");
+        check(rt, desk.failed(), "it has failed still");
+    }
+    for input in &REFUSED {
+        check_refused(rt, alloc, desk, input);
         check(rt, desk.failed(), "it has failed still");
     }
 }
@@ -247,7 +284,7 @@ fn serve_until_it_fails<S: Alter + Drop>(
     check(rt, desk.failed() == fault.is_some(), "it has failed");
     if let Some(why) = fault {
         check(rt, why == Fault::Storage, "the store fails");
-        check_stays_failed(rt, list, desk);
+        check_stays_failed(rt, alloc, list, desk);
     } else {
         let whole = answers.len() == list.calls.len();
         check(rt, whole, "an answer to each call");

@@ -6,17 +6,14 @@
 //!   whether each row of them has a number of its own.
 //! - `asked` asks the desk's tables in a file with 1,000 loads and with 100,000, and counts at a station with 300 loads and
 //!   300 jobs to come.
-//! - `written` has a desk serve a worked example, on a disk and in a file too, and reads the rows back.
+//! - `written` has a desk serve a worked example, in a file too, and reads the rows back.
 //! - `two_vehicles` does so with an example of two vehicles, of which one is cancelled on its way.
 //! - `kept_desks` changes the database of the worked example in lawful ways, and the desk is taken over.
 //! - `desks` makes, opens and adopts a desk, has it serve calls without a break, and asks and is refused.
-//! - `failing_stores` has a desk serve the worked example over files that fail from some call on.
-//! - `failing_streams` has it serve streams over such files.
-//! - `large_streams` asks for the reports and the export of 500 stations and 100,000 loads.
 //! - `refused_changes` writes a list of changes of which SQL refuses one, and `rows_written_again` one that writes a row of each
 //!   table twice.
-//! - `moving` moves databases of the first schema, on files that fail, too.
-//! - `table_cases` makes and takes over desks, serves and reads for these, and `disks` has files in memory that fail.
+//! - `moving` moves databases of the first schema.
+//! - `table_cases` makes and takes over desks, serves and reads for these.
 //! - `streams` has a desk serve requests as bytes, of which `examples` has some: in pieces, with a reader or a writer of `fakes`
 //!   that fails, to each kind of end, a thousand in one input, and one of the greatest length.
 //! - `beginnings` shows which beginnings of a request are waited for and which are refused at once.
@@ -32,19 +29,11 @@ mod cases;
 #[cfg(test)]
 mod desks;
 #[cfg(test)]
-mod disks;
-#[cfg(test)]
 mod examples;
-#[cfg(test)]
-mod failing_stores;
-#[cfg(test)]
-mod failing_streams;
 #[cfg(test)]
 mod fakes;
 #[cfg(test)]
 mod kept_desks;
-#[cfg(test)]
-mod large_streams;
 #[cfg(test)]
 mod moving;
 #[cfg(test)]

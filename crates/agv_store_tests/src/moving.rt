@@ -1,12 +1,10 @@
-//! Databases of the first schema, whose rows are written here by SQL, are moved to the second one: what they have then, those that
-//! are refused and stay as they are, and what a stop leaves at each call of their files.
+//! Databases of the first schema, whose rows are written here by SQL, are moved to the second one: what they have then, and those that
+//! are refused and stay as they are.
 
 use crate::cases::check;
-use crate::disks::{after_a_stop, close, copied_files, copied_out, open};
 use crate::table_cases::{adopted, check_rows, rows_text};
 use agv_store::{Desk, OpenFault};
-use sqlite::{Alter, Connection, Files, MemStore, Options};
-use sqlite_disk::{Crash, Memory};
+use sqlite::{Alter, Connection, MemStore};
 use std::alloc::Global;
 use std::process::Abort;
 
@@ -113,19 +111,6 @@ fn first_in_memory(rt: &impl Abort, alloc: Global, rows: &str) -> Connection<Mem
     conn
 }
 
-/// The same on files in memory.
-fn first_files(rt: &impl Abort, alloc: Global, rows: &str) -> Files<Memory> {
-    let files = Files {
-        log: Memory::new(alloc),
-        db: Memory::new(alloc),
-    };
-    let mut conn = open(rt, alloc, files);
-    execute(rt, &mut conn, FIRST);
-    execute(rt, &mut conn, LAYOUT);
-    execute(rt, &mut conn, rows);
-    close(rt, conn)
-}
-
 /// It is damaged, and has the rows that it had.
 fn check_stays<S: Alter + Drop>(
     rt: &impl Abort,
@@ -191,108 +176,4 @@ fn not_moved(rt: HostRuntime) {
         execute(&rt, &mut conn, texts);
         check_stays(&rt, alloc, conn, texts);
     }
-}
-
-/// A database, after a stop of its move, has the rows from before it or those after it; then it is moved, or the desk is adopted.
-fn check_left<S: Alter + Drop>(
-    rt: &impl Abort,
-    alloc: Global,
-    conn: Connection<S>,
-    before: &str,
-    after: &str,
-) {
-    let mut conn = conn;
-    let rows = rows_text(rt, alloc, &mut conn);
-    if rows.as_str() == before {
-        check_moved(rt, alloc, conn, after);
-    } else {
-        check(rt, rows.as_str() == after, rows.as_str());
-        adopted(rt, alloc, conn);
-    }
-}
-
-/// Moves a database, and gives it back, whether it is moved, and else that its store has failed.
-fn moved_or_not<S: Alter + Drop>(
-    rt: &impl Abort,
-    alloc: Global,
-    conn: Connection<S>,
-) -> (Connection<S>, bool) {
-    assert!(rt; conn.is_autocommit(), "idle");
-    match Desk::migrate(alloc, conn) {
-        Ok(desk) => (desk.release_conn(), true),
-        Err((conn, why)) => {
-            check(rt, why == OpenFault::Storage, "the store fails");
-            (conn, false)
-        }
-    }
-}
-
-/// Moves a database on files that fail from some call on, and closes it. It gives whether none failed.
-fn check_failing<D: Crash + Drop>(
-    rt: &impl Abort,
-    alloc: Global,
-    files: Files<D>,
-    before: &str,
-    after: &str,
-) -> bool {
-    assert!(rt; files.log.may_be_used(), "the log");
-    assert!(rt; files.db.may_be_used(), "the database file");
-    match Connection::open_files(alloc, files, Options::new(7)) {
-        Ok(conn) => {
-            let (conn, moved) = moved_or_not(rt, alloc, conn);
-            let (files, copied) = copied_out(conn);
-            let before = if moved { "" } else { before };
-            check_left(rt, alloc, after_a_stop(rt, alloc, files), before, after);
-            moved && copied
-        }
-        Err((_, left)) => {
-            check_moved(rt, alloc, after_a_stop(rt, alloc, left.into_files()), after);
-            false
-        }
-    }
-}
-
-/// The most calls of a file until the moved database is closed.
-const MOST: u64 = 1000;
-
-/// The log fails from each of its calls on, or the database file does, while a database is opened, moved and closed.
-fn check_stops(rt: &impl Abort, alloc: Global, rows: &str, after: &str, of_log: bool) {
-    let mut conn = first_in_memory(rt, alloc, rows);
-    let before = rows_text(rt, alloc, &mut conn);
-    let first = first_files(rt, alloc, rows);
-    for calls in 0..MOST {
-        let (log, db) = if of_log {
-            (calls, u64::MAX)
-        } else {
-            (u64::MAX, calls)
-        };
-        let files = copied_files(rt, alloc, &first, log, db);
-        if check_failing(rt, alloc, files, before.as_str(), after) {
-            return;
-        }
-    }
-    panic!(rt; "it never ends");
-}
-
-/// A stop at a call of the log, in the middle of a move, leaves the rows of the first schema or those of the second one.
-#[test]
-fn stops_at_the_log(rt: HostRuntime) {
-    check_stops(&rt, rt.alloc(), BEGUN, BEGUN_ROWS, true);
-}
-
-/// So does a stop at a call of the database file.
-#[test]
-fn stops_at_the_file(rt: HostRuntime) {
-    check_stops(&rt, rt.alloc(), BEGUN, BEGUN_ROWS, false);
-}
-
-/// The same of a database without a vehicle.
-#[test]
-fn stops_at_the_log_without_a_vehicle(rt: HostRuntime) {
-    check_stops(&rt, rt.alloc(), "", LAYOUT_ROWS, true);
-}
-
-#[test]
-fn stops_at_the_file_without_a_vehicle(rt: HostRuntime) {
-    check_stops(&rt, rt.alloc(), "", LAYOUT_ROWS, false);
 }

@@ -4,9 +4,8 @@
 //! Each answer, and what is read of the tables as a world after each call, is what is decided in memory, with who holds what.
 //!
 //! The database is new, or has another table and other indexes on the desk's tables, or has none of the desk's indexes; it is
-//! in memory, on a disk in memory or in a file, which are closed and opened again.
+//! in memory, or in a file, which is closed and opened again.
 
-use crate::disks::{blank, close, open};
 use crate::table_cases::{
     LAYOUT, Request, adopted, check_read, check_rows, made, opened, serve_calls, write_calls,
 };
@@ -194,22 +193,6 @@ fn without_indexes(rt: HostRuntime) {
         "DROP INDEX job_target",
     ];
     check_beside(&rt, rt.alloc(), &[], &after);
-}
-
-/// On a disk, which is closed and opened again between the calls.
-#[test]
-fn on_a_disk(rt: HostRuntime) {
-    let alloc = rt.alloc();
-    let conn = open(&rt, alloc, blank(alloc, u64::MAX, u64::MAX));
-    let conn = made(&rt, alloc, conn).release_conn();
-    let conn = open(&rt, alloc, close(&rt, conn));
-    let mut world = World::empty(alloc);
-    let conn = write_calls(&rt, alloc, &mut world, conn, PICKED);
-    let mut conn = open(&rt, alloc, close(&rt, conn));
-    check_rows(&rt, alloc, &mut conn, PICKED_ROWS);
-    let conn = write_calls(&rt, alloc, &mut world, conn, DROPPED);
-    let mut conn = open(&rt, alloc, close(&rt, conn));
-    check_rows(&rt, alloc, &mut conn, DROPPED_ROWS);
 }
 
 /// Compares the rows, has the calls served and compares the rows again.
