@@ -18,7 +18,7 @@ use Rattle.agv_world.specs.Told.{world_of}
 use Rattle.agv_world.specs.Worlds.{World}
 use Rattle.agv_world.specs.declared.floor.Counted.{Counted}
 use Rattle.agv_world.specs.declared.world.World.{World as Tables}
-use Rattle.agv_tables.specs.queries.KnownCapacities.{AreCapacities, CapacitiesOf}
+use Rattle.agv_store.specs.KeptVehicles.{AreVehicles, VehiclesOf}
 use Rattle.agv_tables.specs.queries.KnownWays.{AreWays, WaysOf}
 use Rattle.agv_tables.specs.queries.WorldAnswers.{AgreesWith, HasNoWorld, HasWorld, AnswersQuery}
 use Rattle.agv_tables.specs.readings.Rowids.{AreTablesKeyed, TellsKeyed}
@@ -175,8 +175,8 @@ module _ {S : Type 0} (g : Ghosts S) where
   -- ---- the desk that was found
 
   pub found_kept : (old new : Held S) (counts : Counts) (layout : Option Layout) → Finds g old new (Ok (counts, layout)) → old.in_transaction ≡ false → (rooms : RoomsLeft) → ((rows : Rows) → AreLeft rooms rows) → (ways : WaysOf) → ((rows : Rows) → AreWays ways rows)
-      → (capacities : CapacitiesOf) → ((rows : Rows) → AreCapacities capacities rows) → IsKept g new counts layout rooms ways capacities false false
-  found_kept old new counts layout finds idle rooms none ways no_ways capacities no_capacities = record {
+      → (vehicles : VehiclesOf) → ((rows : Rows) → AreVehicles vehicles rows) → IsKept g new counts layout rooms ways vehicles false false
+  found_kept old new counts layout finds idle rooms none ways no_ways vehicles no_vehicles = record {
     idle = finds.asked.idle idle;
     opens = λ clean _ _. (finds.found clean).1.is_open;
     knows = λ clean _. (finds.found clean).1;
@@ -184,5 +184,5 @@ module _ {S : Type 0} (g : Ghosts S) where
     agrees = λ clean _. (finds.found clean).3;
     fits = λ clean _. none (rows_of (world_at g new));
     ways_are = λ clean _. no_ways (rows_of (world_at g new));
-    capacities_are = λ clean _. no_capacities (rows_of (world_at g new));
+    vehicles_are = λ clean _. no_vehicles (rows_of (world_at g new));
   }

@@ -29,7 +29,7 @@ use Rattle.agv_world.proofs.lists.Orders.{names_apart, names_total}
 use Rattle.agv_desk.specs.JobSteps.{station_in}
 use Rattle.agv_desk.proofs.lists.SameNames.{same_name}
 use Rattle.agv_desk.proofs.lists.Writes.{is_written, one_if, tally, tally-written}
-use Rattle.agv_tables.specs.queries.KnownCapacities.{CapacitiesOf}
+use Rattle.agv_store.specs.KeptVehicles.{VehiclesOf}
 use Rattle.agv_tables.specs.queries.KnownWays.{WaysOf}
 use Rattle.agv_tables.specs.sql.Connections.{IsClean, IsOpen}
 use Rattle.agv_store.specs.Floors.{IsKept, world_at}
@@ -191,8 +191,8 @@ still_left rooms (row.Used key) laid none rows left other room there = left othe
 
 -- ---- a floor that keeps them
 
-module _ {S : Type 0} (g : Ghosts S) (held : Held S) (counts : Counts) (layout : Option Layout) (rooms more : RoomsLeft) (ways : WaysOf) (capacities : CapacitiesOf) (failed in_doubt : Bool) (is : IsKept g held counts layout rooms ways capacities failed in_doubt) where
-  pub keeps_rooms : (IsClean g held → IsOpen g held → AreLeft rooms (rows_of (world_at g held)) → AreLeft more (rows_of (world_at g held))) → IsKept g held counts layout more ways capacities failed in_doubt
+module _ {S : Type 0} (g : Ghosts S) (held : Held S) (counts : Counts) (layout : Option Layout) (rooms more : RoomsLeft) (ways : WaysOf) (vehicles : VehiclesOf) (failed in_doubt : Bool) (is : IsKept g held counts layout rooms ways vehicles failed in_doubt) where
+  pub keeps_rooms : (IsClean g held → IsOpen g held → AreLeft rooms (rows_of (world_at g held)) → AreLeft more (rows_of (world_at g held))) → IsKept g held counts layout more ways vehicles failed in_doubt
   keeps_rooms left = record {
     idle = is.idle;
     opens = is.opens;
@@ -201,5 +201,5 @@ module _ {S : Type 0} (g : Ghosts S) (held : Held S) (counts : Counts) (layout :
     agrees = is.agrees;
     fits = λ clean still. left clean still (is.fits clean still);
     ways_are = is.ways_are;
-    capacities_are = is.capacities_are;
+    vehicles_are = is.vehicles_are;
   }

@@ -20,7 +20,7 @@ use Rattle.agv_world.specs.Told.{edge_named, edges_of, is_of_order}
 use Rattle.agv_world.specs.declared.change.Change.{Change}
 use Rattle.agv_world.specs.declared.change.Change.TheVariants as row
 use Rattle.agv_world.specs.declared.key.LegKey.{LegKey}
-use Rattle.agv_tables.specs.queries.KnownCapacities.{CapacitiesOf}
+use Rattle.agv_store.specs.KeptVehicles.{VehiclesOf}
 use Rattle.agv_tables.specs.queries.KnownWays.{AreWays, WaysOf}
 use Rattle.agv_tables.specs.rows.DecodedTrips.{tables_of}
 use Rattle.agv_tables.specs.sql.Connections.{IsClean, IsOpen}
@@ -101,8 +101,8 @@ ways_stay ways (row.Used key) laid none rows are = are
 
 -- ---- a way that is kept
 
-module _ {S : Type 0} (g : Ghosts S) (held : Held S) (counts : Counts) (layout : Option Layout) (rooms : RoomsLeft) (ways more : WaysOf) (capacities : CapacitiesOf) (failed in_doubt : Bool) (is : IsKept g held counts layout rooms ways capacities failed in_doubt) where
-  pub keeps_ways : (IsClean g held → IsOpen g held → AreWays ways (rows_of (world_at g held)) → AreWays more (rows_of (world_at g held))) → IsKept g held counts layout rooms more capacities failed in_doubt
+module _ {S : Type 0} (g : Ghosts S) (held : Held S) (counts : Counts) (layout : Option Layout) (rooms : RoomsLeft) (ways more : WaysOf) (vehicles : VehiclesOf) (failed in_doubt : Bool) (is : IsKept g held counts layout rooms ways vehicles failed in_doubt) where
+  pub keeps_ways : (IsClean g held → IsOpen g held → AreWays ways (rows_of (world_at g held)) → AreWays more (rows_of (world_at g held))) → IsKept g held counts layout rooms more vehicles failed in_doubt
   keeps_ways so = record {
     idle = is.idle;
     opens = is.opens;
@@ -111,5 +111,5 @@ module _ {S : Type 0} (g : Ghosts S) (held : Held S) (counts : Counts) (layout :
     agrees = is.agrees;
     fits = is.fits;
     ways_are = λ clean still. so clean still (is.ways_are clean still);
-    capacities_are = is.capacities_are;
+    vehicles_are = is.vehicles_are;
   }

@@ -5,7 +5,7 @@ mod Crashes
 mod Deciding
 mod Found
 mod InTurn
-mod KeptCapacities
+mod KeptVehicles
 mod KeptLayout
 mod KeptMaps
 mod KeptRooms

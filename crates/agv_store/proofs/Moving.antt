@@ -19,7 +19,7 @@ use Rattle.agv_world.specs.declared.world.World.{World as Tables}
 use Rattle.agv_tables.specs.first_schema.FirstFound.{FindsFirst}
 use Rattle.agv_tables.specs.first_schema.Moved.{CanBeAdded, LeavesMoved, MovesTables, MovesWorld}
 use Rattle.agv_tables.proofs.sql.Later.{later_by}
-use Rattle.agv_tables.specs.queries.KnownCapacities.{AreCapacities, CapacitiesOf}
+use Rattle.agv_store.specs.KeptVehicles.{AreVehicles, VehiclesOf}
 use Rattle.agv_tables.specs.queries.KnownWays.{AreWays, WaysOf}
 use Rattle.agv_tables.specs.queries.WorldAnswers.{AgreesWith}
 use Rattle.agv_tables.specs.sql.Connections.{IsClean, IsOpen}
@@ -200,8 +200,8 @@ module _ {S : Type 0} (g : Ghosts S) where
         told clean = let it = knows clean in tells_its_world it.at (state g new).now (had (clean_mid clean)).world it.has
 
         pub moved_kept : (rooms : RoomsLeft) → ((rows : Rows) → AreLeft rooms rows) → (ways : WaysOf) → ((rows : Rows) → AreWays ways rows)
-            → (capacities : CapacitiesOf) → ((rows : Rows) → AreCapacities capacities rows) → IsKept g new counts layout rooms ways capacities false false
-        moved_kept rooms none ways no_ways capacities no_capacities = record {
+            → (vehicles : VehiclesOf) → ((rows : Rows) → AreVehicles vehicles rows) → IsKept g new counts layout rooms ways vehicles false false
+        moved_kept rooms none ways no_ways vehicles no_vehicles = record {
           idle = idle;
           opens = λ clean _ _. (opens clean).1;
           knows = λ clean _. subst (λ (world : World). Knows g new world) (sym (told clean)) (knows clean);
@@ -209,7 +209,7 @@ module _ {S : Type 0} (g : Ghosts S) where
           agrees = λ clean _. subst (AgreesWith layout) (sym (told clean)) (agreed (clean_mid clean));
           fits = λ clean _. none (rows_of (world_at g new));
           ways_are = λ clean _. no_ways (rows_of (world_at g new));
-          capacities_are = λ clean _. no_capacities (rows_of (world_at g new));
+          vehicles_are = λ clean _. no_vehicles (rows_of (world_at g new));
         }
 
   -- the names of the three tables are not free, or a key refers to one of them

@@ -1,7 +1,7 @@
 pub mod Counts
 pub mod Flags
 pub mod Floors
-pub mod KeptCapacities
+pub mod KeptVehicles
 pub mod KeptLayouts
 pub mod KeptRooms
 pub mod Migration

@@ -9,8 +9,8 @@ ghost use Rattle.agv_store.specs.Floors.{Knows, facts_of, world_at};
 use crate::counts::Counts;
 use crate::flags::note;
 use crate::kept_rooms::RoomsLeft;
+use crate::kept_vehicles::KeptVehicles;
 use agv_layout::Layout;
-use agv_tables::queries::known_capacities::KnownCapacities;
 use agv_tables::queries::known_ways::KnownWays;
 use agv_tables::readings::hold_reading::query_meta;
 use agv_world::Fault;
@@ -33,8 +33,8 @@ pub struct KeyedFloor<S: Alter> {
     pub(crate) rooms: RoomsLeft,
     // The edges of open orders, once they were read.
     pub(crate) ways: KnownWays,
-    // The capacities of vehicles, once their rows were read.
-    pub(crate) capacities: KnownCapacities,
+    // The rows of vehicles, once they were read or written.
+    pub(crate) vehicles: KeptVehicles,
     pub(crate) failed: bool,
     // Memory was refused since the connection was last known to be open.
     pub(crate) in_doubt: bool,
@@ -50,7 +50,7 @@ impl<S: Alter> Model for KeyedFloor<S> {
 
     ghost view = { λ floor. record { held = floor.conn; failed = floor.failed } };
 
-    ghost invariant = { λ floor. IsKept S.Store floor.conn floor.counts floor.layout floor.rooms floor.ways floor.capacities floor.failed floor.in_doubt };
+    ghost invariant = { λ floor. IsKept S.Store floor.conn floor.counts floor.layout floor.rooms floor.ways floor.vehicles floor.failed floor.in_doubt };
 }
 
 impl<S: Alter + Drop> KeyedFloor<S> {

@@ -9,9 +9,9 @@ ghost use Rattle.agv_store.specs.Opening.{IsDamaged, left_by};
 
 use crate::counts::Counts;
 use crate::desk::Desk;
-use crate::kept_capacities::no_capacities;
 use crate::kept_layout::layout_told;
 use crate::kept_rooms::no_rooms;
+use crate::kept_vehicles::no_vehicles;
 use crate::kept_ways::no_ways;
 use crate::keyed_floor::KeyedFloor;
 use crate::open_fault::OpenFault;
@@ -69,7 +69,7 @@ impl<S: Alter + Drop> Desk<S> {
                     layout,
                     rooms: no_rooms(alloc),
                     ways: no_ways(alloc),
-                    capacities: no_capacities(alloc),
+                    vehicles: no_vehicles(alloc),
                     failed: false,
                     in_doubt: false,
                     alloc,

@@ -1,6 +1,5 @@
 pub mod QueriedRows
 pub mod FirstRow
-pub mod KnownCapacities
 pub mod KnownWays
 pub mod ReadingFault
 pub mod WorldAnswers

@@ -1,15 +1,13 @@
 //! What a floor is asked is asked of the tables: by a key (`key_queries`), for the open trip of a vehicle
 //! (`trip_queries`), about loads and live jobs (`load_queries`, `station_loads`), and for the layout (`layout_reading`).
 //! Who knows the layout already gives it to the queries of a trip and of the room of a station (`known_layout`), and who
-//! knows the ways of orders, or the capacities of vehicles, gives them to the query of a trip (`known_ways`) or of a vehicle
-//! (`known_capacities`).
+//! knows the ways of orders gives them to the query of a trip (`known_ways`).
 //!
 //! Each answers what the lawful world says whose rows the tables have (`specs/queries/WorldAnswers.antt`);
 //! [`reading_fault::ReadingFault`] says why there is no answer. Whatever the database has, an answer changes nothing, and a failure
 //! that leaves the store open nothing but that it may end the transaction and so undo it.
 
 pub mod key_queries;
-pub mod known_capacities;
 pub mod known_layout;
 pub mod known_ways;
 pub mod layout_reading;

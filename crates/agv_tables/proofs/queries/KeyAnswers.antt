@@ -102,11 +102,6 @@ joined (Some row) vehicle room one two =
     let same_room : room ≡ room_for row = same_Some _ _ two in
     ap₂ (λ (v : VehicleRow) (r : CapacityRow). Some (record v { capacity = r.capacity })) same same_room
 
--- and so is the one with the room that it is known to have
-pub joined_known : (o : Option VehicleRow) (vehicle : VehicleRow) (capacity : ℕ) → Some vehicle ≡ option_map single o → ((row : VehicleRow) → o ≡ Some row → capacity ≡ row.capacity) → Some (record vehicle { capacity = capacity }) ≡ o
-joined_known None vehicle capacity one has = absurd (cc one)
-joined_known (Some row) vehicle capacity one has = ap₂ (λ (v : VehicleRow) (n : ℕ). Some (record v { capacity = n })) (same_Some _ _ one) (has row refl)
-
 -- the key of what is held is of the kinds of its columns
 pub fits_hold : (thing : Thing) → FitsColumns the.Hold (table_for the.Hold).primary (hold_key thing)
 fits_hold (thing.Node id) = refl

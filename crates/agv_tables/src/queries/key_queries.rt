@@ -6,15 +6,12 @@ ghost use Rattle.std.specs.FinMap as map;
 ghost use Rattle.std.specs.FinSet as set;
 ghost use Rattle.std.specs.Option.{option_map};
 ghost use Rattle.agv_world.specs.Questions.{row_of, holder_of, is_used};
-ghost use Rattle.agv_world.specs.Rows.{rows_of};
 ghost use Rattle.agv_world.specs.declared.row.VehicleRow.{VehicleRow as RowOfVehicle};
 ghost use Rattle.agv_tables.specs.rows.Columns.{capacity_in, edge_in, hold_in, job_in, load_in, station_in, vehicle_in};
 ghost use Rattle.agv_tables.specs.queries.FirstRow.{first_in};
-ghost use Rattle.agv_tables.specs.queries.KnownCapacities.{AreCapacities};
 ghost use Rattle.agv_tables.specs.rows.TypedRows.{IsThing};
 ghost use Rattle.agv_tables.specs.queries.WorldAnswers.{AnswersQuery};
 
-use crate::queries::known_capacities::{KnownCapacities, known_capacity};
 use crate::queries::queried_rows::query_rows;
 use crate::rows::decode_row::{
     decode_capacity, decode_edge, decode_hold, decode_job, decode_load, decode_station,
@@ -30,27 +27,19 @@ use agv_stock::Place;
 use agv_world::{JobRow, UseKey, VehicleRow};
 use sqlite::{Alter, Connection, Row};
 
-/// The row of a vehicle, with its capacity; none where there is no such vehicle. Where capacities are given that are those
-/// of the world, its own isn't asked for if it is among them.
+/// The row of a vehicle, with its capacity; none where there is no such vehicle.
 ///
 /// It fails as [`ReadingFault`] says.
 pub fn query_vehicle<S: Alter>(
     conn: &mut Connection<S>,
-    known: &KnownCapacities,
     key: &VehicleKey,
 ) -> Result<Option<VehicleRow>, ReadingFault>
-    ensures { AnswersQuery S.Store conn.old conn.new result (λ world row. AreCapacities known.now (rows_of world) → row ≡ row_of world key.now) }
+    ensures { AnswersQuery S.Store conn.old conn.new result (λ world row. row ≡ row_of world key.now) }
 {
     let vehicle = query_vehicle_row(conn, key)?;
     match vehicle {
         None => Ok(None),
         Some(vehicle) => {
-            if let Some(capacity) = known_capacity(known, key) {
-                return Ok(Some(VehicleRow {
-                    capacity,
-                    ..vehicle
-                }));
-            }
             let room = query_capacity(conn, key)?;
             match room {
                 None => Err(ReadingFault::Damaged),

@@ -13,13 +13,13 @@ use Rattle.agv_store.proofs.keyed_floor.KeyedFloor.keep_way.Goals as goal
 
 pub invariant_of-self : goal.invariant_of-self
 invariant_of-self g c =
-    keeps_ways g.S.Store c.self.inside.conn c.self.inside.counts c.self.inside.layout c.self.inside.rooms c.self.inside.ways c.insert.new.self c.self.inside.capacities c.self.inside.failed c.self.inside.in_doubt c.self.invariant
+    keeps_ways g.S.Store c.self.inside.conn c.self.inside.counts c.self.inside.layout c.self.inside.rooms c.self.inside.ways c.insert.new.self c.self.inside.vehicles c.self.inside.failed c.self.inside.in_doubt c.self.invariant
     (λ clean still are. same_entries name_cmp names_apart (λ order edges. edges ≡ edges_of (tables_of (rows_of (world_at g.S.Store c.self.inside.conn))) order) c.self.inside.ways c.insert.new.self c.in_err-insert.ensures.err are)
 
 pub invariant_of-self-2 : goal.invariant_of-self-2
 invariant_of-self-2 g c =
     let there = subst (λ (desk : Keyed g.row.S.Denot). IsClean g.S.Store desk.held → IsOpen g.S.Store desk.held → Some c.args.trip.now ≡ trip_of (world_at g.S.Store desk.held) c.args.key.now) (sym c.self.view_is) c.requires in
-    keeps_ways g.S.Store c.self.inside.conn c.self.inside.counts c.self.inside.layout c.self.inside.rooms c.self.inside.ways c.insert.new.self c.self.inside.capacities c.self.inside.failed c.self.inside.in_doubt c.self.invariant
+    keeps_ways g.S.Store c.self.inside.conn c.self.inside.counts c.self.inside.layout c.self.inside.rooms c.self.inside.ways c.insert.new.self c.self.inside.vehicles c.self.inside.failed c.self.inside.in_doubt c.self.invariant
     (λ clean still are.
     let world = world_at g.S.Store c.self.inside.conn in
     one_more_entry name_cmp names_apart (λ order edges. edges ≡ edges_of (tables_of (rows_of world)) order) c.self.inside.ways c.insert.new.self c.args.trip.now.order c.in_ok-edges.edges c.in_ok-insert.ensures.updates.0

@@ -1,9 +1,7 @@
 use Rattle.std.proofs.Common.{Err, None, Ok, sym, ◌∙◌}
 use Rattle.agv_world.specs.Questions.{row_of}
-use Rattle.agv_world.specs.Rows.{rows_of}
 use Rattle.agv_tables.proofs.queries.Asking.{follows, passes, then_follows, then_passes}
-use Rattle.agv_tables.proofs.queries.KeyAnswers.{joined, joined_known, neither, not_one}
-use Rattle.agv_tables.proofs.rows.LawfulValues.{row_at}
+use Rattle.agv_tables.proofs.queries.KeyAnswers.{joined, neither, not_one}
 use Rattle.agv_tables.proofs.queries.key_queries.query_vehicle.Goals as goal
 
 pub returns-in_err-vehicle : goal.returns-in_err-vehicle
@@ -12,13 +10,7 @@ returns-in_err-vehicle g c = passes g.S.Store c.args.conn.now c.query_vehicle_ro
 pub returns-in-None : goal.returns-in-None
 returns-in-None g c =
     follows g.S.Store c.args.conn.now c.query_vehicle_row.new.conn c.in_ok-vehicle.vehicle _ _ (Ok None)
-    (λ world lawful one _. neither (row_of world c.args.key.now) (sym c.in-None.is ∙ one)) c.in_ok-vehicle.ensures
-
-pub returns-in-Some-known_capacity : goal.returns-in-Some-known_capacity
-returns-in-Some-known_capacity g c =
-    follows g.S.Store c.args.conn.now c.query_vehicle_row.new.conn c.in_ok-vehicle.vehicle _ _ (Ok _)
-    (λ world lawful one are. joined_known (row_of world c.args.key.now) c.in-Some.vehicle c.in-Some-known_capacity.capacity (sym c.in-Some.is ∙ one)
-    (λ row there. c.in-Some-known_capacity.ensures (rows_of world) are row (row_at world c.args.key.now ∙ there))) c.in_ok-vehicle.ensures
+    (λ world lawful one. neither (row_of world c.args.key.now) (sym c.in-None.is ∙ one)) c.in_ok-vehicle.ensures
 
 pub returns-in_err-room-in-Some : goal.returns-in_err-room-in-Some
 returns-in_err-room-in-Some g c =
@@ -35,4 +27,4 @@ pub returns-in-Some-room : goal.returns-in-Some-room
 returns-in-Some-room g c =
     then_follows g.S.Store c.args.conn.now c.query_vehicle_row.new.conn c.query_capacity.new.conn c.in_ok-vehicle.vehicle _ c.in_ok-vehicle.ensures
     c.in_ok-room-in-Some.room _ _ (Ok _)
-    (λ world lawful one two _. joined (row_of world c.args.key.now) c.in-Some.vehicle c.in-Some-room.room (sym c.in-Some.is ∙ one) (sym c.in-Some-room.is ∙ two)) c.in_ok-room-in-Some.ensures
+    (λ world lawful one two. joined (row_of world c.args.key.now) c.in-Some.vehicle c.in-Some-room.room (sym c.in-Some.is ∙ one) (sym c.in-Some-room.is ∙ two)) c.in_ok-room-in-Some.ensures

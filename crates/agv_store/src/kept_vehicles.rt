@@ -1,0 +1,93 @@
+//! The rows of vehicles, kept beside the connection once they were read or written, so that none is read twice. A row that is
+//! written takes the place of the one that is kept; none of a vehicle is removed.
+ghost use Rattle.std.specs.Prelude.{◌≡◌, IfSome, Some};
+ghost use Rattle.agv_world.specs.Asks.{Asks};
+ghost use Rattle.agv_world.specs.Changes.{change, changed};
+ghost use Rattle.agv_world.specs.Questions.{row_of};
+ghost use Rattle.agv_world.specs.Rows.{Rows};
+ghost use Rattle.agv_tables.specs.sql.Connections.{IsClean, IsOpen};
+ghost use Rattle.agv_store.specs.Floors.{facts_of, world_at};
+ghost use Rattle.agv_store.specs.KeptVehicles.{AreVehicles, IsVehicleRow};
+
+use crate::flags::note;
+use crate::keyed_floor::KeyedFloor;
+use agv_header::{Memory, VehicleKey};
+use agv_tables::queries::key_queries::query_vehicle;
+use agv_tables::rows::trip_laws::rows_have_vehicles;
+use agv_world::change_laws::changes_in_turn;
+use agv_world::{Change, Fault, VehicleRow};
+use sqlite::Alter;
+use std::alloc::Global;
+use std::collections::BTreeMap;
+
+/// Vehicles, each with its row.
+pub(crate) type KeptVehicles = BTreeMap<VehicleKey, VehicleRow>;
+
+impl<S: Alter + Drop> KeyedFloor<S> {
+    // The row of a vehicle, where it is kept.
+    pub(crate) fn kept_vehicle(&self, key: &VehicleKey) -> Option<VehicleRow>
+        ensures { IfSome result (λ vehicle. IsClean S.Store self.now.held → IsOpen S.Store self.now.held → Some vehicle ≡ row_of (world_at S.Store self.now.held) key.now) }
+    {
+        rows_have_vehicles();
+        kept_row(&self.vehicles, key)
+    }
+
+    // The row of a vehicle, asked of the tables.
+    pub(crate) fn vehicle_asked(&mut self, key: &VehicleKey) -> Result<Option<VehicleRow>, Fault>
+        ensures { Asks (facts_of S.Store) self.old self.new result (λ world row. row ≡ row_of world key.now) }
+    {
+        let asked = query_vehicle(&mut self.conn, key);
+        note(&mut self.failed, &mut self.in_doubt, asked)
+    }
+
+    // The row of a vehicle is kept.
+    pub(crate) fn keep_vehicle(
+        &mut self,
+        key: &VehicleKey,
+        vehicle: &VehicleRow,
+    ) -> Result<(), Memory>
+        requires { IsClean S.Store self.old.held → IsOpen S.Store self.old.held → Some vehicle.now ≡ row_of (world_at S.Store self.old.held) key.now }
+        ensures { self.new ≡ self.old }
+    {
+        rows_have_vehicles();
+        self.vehicles.insert(*key, *vehicle)?;
+        Ok(())
+    }
+}
+
+// None is kept.
+pub(crate) fn no_vehicles(alloc: Global) -> KeptVehicles
+    ensures { (rows : Rows) → AreVehicles result rows }
+{
+    BTreeMap::new(alloc)
+}
+
+// The row that is kept of a vehicle.
+fn kept_row(vehicles: &KeptVehicles, key: &VehicleKey) -> Option<VehicleRow>
+    ensures { IfSome result (λ vehicle. (rows : Rows) → AreVehicles vehicles.now rows → IsVehicleRow rows key.now vehicle) }
+{
+    match vehicles.get(key) {
+        None => None,
+        Some(vehicle) => Some(*vehicle),
+    }
+}
+
+// The rows that are kept once the changes were made.
+pub(crate) fn keep_written_through(vehicles: &mut KeptVehicles, changes: &[Change])
+    ensures { (rows : Rows) → AreVehicles vehicles.old rows → AreVehicles vehicles.new (changed changes.now rows) }
+{
+    changes_in_turn();
+    for change in changes {
+        keep_written(vehicles, change);
+    }
+}
+
+// The rows that are kept once the change was made. Only where none of the vehicle was kept may there be no memory for its row,
+// and none of it is kept then.
+fn keep_written(vehicles: &mut KeptVehicles, one: &Change)
+    ensures { (rows : Rows) → AreVehicles vehicles.old rows → AreVehicles vehicles.new (change rows one.now) }
+{
+    if let Change::Vehicle(key, vehicle) = one {
+        let _kept = vehicles.insert(*key, *vehicle);
+    }
+}
