@@ -135,7 +135,7 @@ BREAKS = [
     "UPDATE vehicle SET pending = 'pause' WHERE serial = '0003'", "DELETE FROM vehicle", "UPDATE journey SET start = ''",
     "UPDATE journey SET seen = 5", "INSERT INTO journey VALUES ('R9', 'KIT', '0009', 'N1', 0, 0, 0, NULL, 0)",
     "UPDATE act SET status = 'finished' WHERE n = 0", "UPDATE act SET status = 'NULL' WHERE n = 1", "UPDATE act SET kind = 'load' WHERE n = 0",
-    "UPDATE act SET place_at = -1 WHERE n = 0", "INSERT INTO act VALUES ('O9', 0, 'J2', 'pick', 0, 'WAITING')",
+    "UPDATE act SET place_at = -1 WHERE n = 0",
     "UPDATE leg SET edge = '' WHERE k = 1", "UPDATE leg SET k = -1 WHERE k = 1", "UPDATE load SET serial = NULL WHERE id = 'L1'",
     "UPDATE load SET kind = 'lost' WHERE id = 'L2'", "INSERT INTO load VALUES ('L9', 'vehicle', NULL, 'KIT', '0001')",
     "INSERT INTO load VALUES ('L9', 'station', 'Z', NULL, NULL)", "UPDATE job SET phase = '' WHERE id = 'J2'",
@@ -277,7 +277,7 @@ class Damaged(FilesTest):
         self.assertEqual(self.replay(request('GET /report/stock')), ([], 'fault: Damaged'))
         self.assertEqual(run('report', '--db', self.db, 'stock'), (1, b'', b'fault: Damaged\n'))
         self.assertEqual(self.files()[''], changed[''])
-        self.assertEqual(self.files().get('-wal', b''), b'')
+        self.assertEqual(committed(self.files()['-wal']), b'')
 
     def test_rows_that_break_a_rule(self):
         """Of each the desk tells, and so do the rules as they stand in `records.py`."""

@@ -44,13 +44,13 @@ class LargeReports(unittest.TestCase):
             base.execute('COMMIT')
             base.close()
             asked = ['/report/stock', '/report/holds', '/export/loads']
-            status, out, said = run('replay', '--db', db, '--at', AT, stdin=b''.join(request('GET ' + one) for one in asked))
+            status, out, said = run('replay', '--db', db, '--at', AT, stdin=b''.join(request('GET ' + one) for one in asked), limit=300)
             self.assertEqual((status, said), (0, b''))
             found, left = answers_of(out)
             self.assertEqual((left, [answer.status for answer in found]), (b'', [200] * 3))
             for answer, wanted in zip(found, (stock(), b'held 0 of 1\n', export())):
                 self.assertTrue(answer.body == wanted)
-            self.assertTrue(run('report', '--db', db, 'stock') == (0, stock(), b''))
+            self.assertTrue(run('report', '--db', db, 'stock', limit=300) == (0, stock(), b''))
 
 
 if __name__ == '__main__':
