@@ -1,11 +1,8 @@
 -- The rows of vehicles that are kept beside the connection, and that they are the vehicles' once one was written.
-use Rattle.std.proofs.Common.{◌≡◌, ◌≢◌, Bool, true, false, cond, Option, Some, None, Result, Ok, Err, OnOk, OnErr, refl, sym, ap, subst, ◌∙◌}
-use Rattle.std.specs.BTreeMap as tree
-use Rattle.std.specs.Cmp.{Equal-is, tied_itself}
+use Rattle.std.proofs.Common.{◌≡◌, Bool, true, false, cond, Option, Some, None, IfSome, Result, Ok, Err, OnOk, OnErr, refl, sym, ap, subst, ◌∙◌}
+use Rattle.std.specs.Cmp.{Equal-is}
 use Rattle.std.specs.FinMap as finite
-use Rattle.std.specs.Map.{lookup}
-use Rattle.std.specs.Ordering.{eq_by_cmp, is_eq}
-use Rattle.std.proofs.lemmas.Option.{same_Some}
+use Rattle.std.specs.Ordering.{eq_by_cmp}
 use Rattle.sqlite.specs.Held.{Held}
 use Rattle.sqlite_trees.specs.declared.store.Store.{Ghosts}
 use Rattle.agv_header.specs.Key.{key_cmp}
@@ -20,8 +17,17 @@ use Rattle.agv_tables.specs.queries.KnownWays.{WaysOf}
 use Rattle.agv_tables.specs.sql.Connections.{IsClean, IsOpen}
 use Rattle.agv_store.specs.Floors.{IsKept, world_at}
 use Rattle.agv_store.specs.KeptRooms.{RoomsLeft}
-use Rattle.agv_store.specs.KeptVehicles.{AreVehicles, IsVehicleRow, VehiclesOf}
+use Rattle.agv_store.specs.KeptVehicles.{AreVehicles, VehiclesOf}
 use Rattle.agv_store.specs.declared.counts.Counts.{Counts}
+
+-- what holds of each value that is there
+pub if_there : {A : Type 0} (P : A → Type 0) (o : Option A) → ((a : A) → o ≡ Some a → P a) → IfSome o P
+if_there P None so = tt
+if_there P (Some a) so = so a refl
+
+-- none is kept
+pub none_kept : (rows : Rows) → AreVehicles finite.empty rows
+none_kept rows key vehicle there = absurd (cc (sym (finite.get-empty key_cmp key) ∙ there))
 
 -- ---- the row of a vehicle is written
 
@@ -29,39 +35,45 @@ module _ (key : VehicleKey) (vehicle : VehicleRow) (rows : Rows) where
   abbrev after : Rows
   after = change rows (row.Vehicle key vehicle)
 
-  written_row : IsVehicleRow after key vehicle
-  written_row = finite.get-insert key_cmp-total rows.vehicles key vehicle key ∙ ap (λ o. cond (is_eq o) (Some vehicle) (finite.get rows.vehicles key)) (tied_itself key_cmp-total key)
+  row_after : (other : VehicleKey) → finite.get after.vehicles other ≡ cond (eq_by_cmp key_cmp other key) (Some vehicle) (finite.get rows.vehicles other)
+  row_after other = finite.get-insert key_cmp-total rows.vehicles key vehicle other
 
-  -- a row of another vehicle stays
-  other_row : (other : VehicleKey) (known : VehicleRow) → (tree.is_at (key_cmp key) other ≡ true → ⊥) → IsVehicleRow rows other known → IsVehicleRow after other known
-  other_row other known apart there =
-      elim (eq_by_cmp key_cmp other key) as (λ b. eq_by_cmp key_cmp other key ≡ b → IsVehicleRow after other known) [
-        | true ↦ λ tied. absurd (apart (ap (tree.is_at (key_cmp key)) (key_cmp-IsAntisymmetric other key ((Equal-is (key_cmp other key)).0 tied)) ∙ ap is_eq (tied_itself key_cmp-total key)))
-        | false ↦ λ untied. finite.get-insert key_cmp-total rows.vehicles key vehicle other ∙ ap (λ b. cond b (Some vehicle) (finite.get rows.vehicles other)) untied ∙ there
-      ] refl
+  -- without that of the vehicle the others stay
+  others_stay : (old : VehiclesOf) → AreVehicles old rows → AreVehicles (finite.remove old key) after
+  others_stay old are other known there =
+      elim (eq_by_cmp key_cmp other key) as (λ b. eq_by_cmp key_cmp other key ≡ b → cond b None (finite.get old other) ≡ Some known → finite.get after.vehicles other ≡ Some known) [
+        | true ↦ λ tied is. absurd (cc is)
+        | false ↦ λ untied is. row_after other ∙ ap (λ b. cond b (Some vehicle) (finite.get rows.vehicles other)) untied ∙ are other known is
+      ] refl (sym (finite.get-remove key_cmp-total old key other) ∙ there)
 
-  -- the written row is kept in the place of the one before
-  row_put : (old new : VehiclesOf) → ((other : VehicleKey) → tree.get key_cmp new other ≡ cond (tree.is_at (key_cmp key) other) (Some vehicle) (tree.get key_cmp old other)) → AreVehicles old rows → AreVehicles new after
-  row_put old new puts are other known there =
-      elim (tree.is_at (key_cmp key) other) as (λ b. tree.is_at (key_cmp key) other ≡ b → cond b (Some vehicle) (tree.get key_cmp old other) ≡ Some known → IsVehicleRow after other known) [
-        | true ↦ λ tied is. subst (λ k. IsVehicleRow after k known) (key_cmp-IsAntisymmetric key other ((Equal-is (key_cmp key other)).0 tied)) (subst (IsVehicleRow after key) (same_Some vehicle known is) written_row)
-        | false ↦ λ untied is. other_row other known (λ tied. absurd (cc (sym untied ∙ tied))) (are other known is)
-      ] refl (sym (puts other) ∙ there)
+  -- with the written one too
+  one_more : (mid : VehiclesOf) → AreVehicles mid after → AreVehicles (finite.insert mid key vehicle) after
+  one_more mid are other known there =
+      elim (eq_by_cmp key_cmp other key) as (λ b. eq_by_cmp key_cmp other key ≡ b → cond b (Some vehicle) (finite.get mid other) ≡ Some known → finite.get after.vehicles other ≡ Some known) [
+        | true ↦ λ tied is. row_after other ∙ ap (λ b. cond b (Some vehicle) (finite.get rows.vehicles other)) tied ∙ is
+        | false ↦ λ untied is. are other known is
+      ] refl (sym (finite.get-insert key_cmp-total mid key vehicle other) ∙ there)
 
-  -- or none of it is kept, as before
-  row_left : (old new : VehiclesOf) → tree.get key_cmp old key ≡ None → tree.IsUnchanged old new → AreVehicles old rows → AreVehicles new after
-  row_left old new absent same are other known there =
-      let was : tree.get key_cmp old other ≡ Some known = sym (ap (λ es. lookup (tree.is_at (key_cmp other)) es) same) ∙ there in
-      other_row other known (λ tied. absurd (cc (sym absent ∙ ap (tree.get key_cmp old) (key_cmp-IsAntisymmetric key other ((Equal-is (key_cmp key other)).0 tied)) ∙ was))) (are other known was)
-
--- so what is kept are the vehicles' rows once that of one was put there, or there was no memory for it
-pub vehicle_written : {E : Type 0} (old new : VehiclesOf) (key : VehicleKey) (vehicle : VehicleRow) (r : Result (Option VehicleRow) E)
-    → OnOk r (tree.Updates key_cmp old new key (Some vehicle)) → OnErr r (tree.get key_cmp old key ≡ None) → OnErr r (tree.IsUnchanged old new)
-    → (rows : Rows) → AreVehicles old rows → AreVehicles new (change rows (row.Vehicle key vehicle))
-vehicle_written old new key vehicle (Ok before) puts absent same rows = row_put key vehicle rows old new puts.0
-vehicle_written old new key vehicle (Err back) puts absent same rows = row_left key vehicle rows old new absent same
+  -- so what is kept is right whether there was memory for it or not
+  pub vehicle_written : {A E : Type 0} (old mid new : VehiclesOf) → mid ≡ finite.remove old key → (r : Result A E) → OnOk r (new ≡ finite.insert mid key vehicle) → OnErr r (new ≡ mid) → AreVehicles old rows → AreVehicles new after
+  vehicle_written old mid new taken (Ok done) put same are = subst (λ kept. AreVehicles kept after) (sym (put ∙ ap (λ kept. finite.insert kept key vehicle) taken)) (one_more (finite.remove old key) (others_stay old are))
+  vehicle_written old mid new taken (Err why) put same are = subst (λ kept. AreVehicles kept after) (sym (same ∙ taken)) (others_stay old are)
 
 -- ---- a row that is kept
+
+-- one more row that is the vehicle's
+row_kept : (vehicles : VehiclesOf) (rows : Rows) (key : VehicleKey) (vehicle : VehicleRow) → finite.get rows.vehicles key ≡ Some vehicle → AreVehicles vehicles rows → AreVehicles (finite.insert vehicles key vehicle) rows
+row_kept vehicles rows key vehicle own are other known there =
+    elim (eq_by_cmp key_cmp other key) as (λ b. eq_by_cmp key_cmp other key ≡ b → cond b (Some vehicle) (finite.get vehicles other) ≡ Some known → finite.get rows.vehicles other ≡ Some known) [
+      | true ↦ λ tied is. ap (finite.get rows.vehicles) (key_cmp-IsAntisymmetric other key ((Equal-is (key_cmp other key)).0 tied)) ∙ own ∙ is
+      | false ↦ λ untied is. are other known is
+    ] refl (sym (finite.get-insert key_cmp-total vehicles key vehicle other) ∙ there)
+
+-- where there is memory for it
+pub row_kept_or_not : {A E : Type 0} (vehicles more : VehiclesOf) (rows : Rows) (key : VehicleKey) (vehicle : VehicleRow) (r : Result A E) → OnOk r (more ≡ finite.insert vehicles key vehicle) → OnErr r (more ≡ vehicles)
+    → finite.get rows.vehicles key ≡ Some vehicle → AreVehicles vehicles rows → AreVehicles more rows
+row_kept_or_not vehicles more rows key vehicle (Ok done) put same own are = subst (λ kept. AreVehicles kept rows) (sym put) (row_kept vehicles rows key vehicle own are)
+row_kept_or_not vehicles more rows key vehicle (Err why) put same own are = subst (λ kept. AreVehicles kept rows) (sym same) are
 
 module _ {S : Type 0} (g : Ghosts S) (held : Held S) (counts : Counts) (layout : Option Layout) (rooms : RoomsLeft) (ways : WaysOf) (vehicles more : VehiclesOf) (failed in_doubt : Bool) (is : IsKept g held counts layout rooms ways vehicles failed in_doubt) where
   pub keeps_vehicles : (IsClean g held → IsOpen g held → AreVehicles vehicles (rows_of (world_at g held)) → AreVehicles more (rows_of (world_at g held))) → IsKept g held counts layout rooms ways more failed in_doubt

@@ -1,13 +1,14 @@
 //! The rows of vehicles, kept beside the connection once they were read or written, so that none is read twice. A row that is
 //! written takes the place of the one that is kept; none of a vehicle is removed.
 ghost use Rattle.std.specs.Prelude.{◌≡◌, IfSome, Some};
+ghost use Rattle.std.specs.FinMap as map;
 ghost use Rattle.agv_world.specs.Asks.{Asks};
 ghost use Rattle.agv_world.specs.Changes.{change, changed};
 ghost use Rattle.agv_world.specs.Questions.{row_of};
 ghost use Rattle.agv_world.specs.Rows.{Rows};
 ghost use Rattle.agv_tables.specs.sql.Connections.{IsClean, IsOpen};
 ghost use Rattle.agv_store.specs.Floors.{facts_of, world_at};
-ghost use Rattle.agv_store.specs.KeptVehicles.{AreVehicles, IsVehicleRow};
+ghost use Rattle.agv_store.specs.KeptVehicles.{AreVehicles};
 
 use crate::flags::note;
 use crate::keyed_floor::KeyedFloor;
@@ -15,13 +16,12 @@ use agv_header::{Memory, VehicleKey};
 use agv_tables::queries::key_queries::query_vehicle;
 use agv_tables::rows::trip_laws::rows_have_vehicles;
 use agv_world::change_laws::changes_in_turn;
-use agv_world::{Change, Fault, VehicleRow};
+use agv_world::{ByVehicle, Change, Fault, VehicleRow};
 use sqlite::Alter;
 use std::alloc::Global;
-use std::collections::BTreeMap;
 
 /// Vehicles, each with its row.
-pub(crate) type KeptVehicles = BTreeMap<VehicleKey, VehicleRow>;
+pub(crate) type KeptVehicles = ByVehicle<VehicleRow>;
 
 impl<S: Alter + Drop> KeyedFloor<S> {
     // The row of a vehicle, where it is kept.
@@ -50,8 +50,7 @@ impl<S: Alter + Drop> KeyedFloor<S> {
         ensures { self.new ≡ self.old }
     {
         rows_have_vehicles();
-        self.vehicles.insert(*key, *vehicle)?;
-        Ok(())
+        self.vehicles.insert(*key, *vehicle)
     }
 }
 
@@ -59,14 +58,14 @@ impl<S: Alter + Drop> KeyedFloor<S> {
 pub(crate) fn no_vehicles(alloc: Global) -> KeptVehicles
     ensures { (rows : Rows) → AreVehicles result rows }
 {
-    BTreeMap::new(alloc)
+    ByVehicle::new(alloc)
 }
 
 // The row that is kept of a vehicle.
 fn kept_row(vehicles: &KeptVehicles, key: &VehicleKey) -> Option<VehicleRow>
-    ensures { IfSome result (λ vehicle. (rows : Rows) → AreVehicles vehicles.now rows → IsVehicleRow rows key.now vehicle) }
+    ensures { result ≡ map.get vehicles.now key.now }
 {
-    match vehicles.get(key) {
+    match vehicles.get(*key) {
         None => None,
         Some(vehicle) => Some(*vehicle),
     }
@@ -82,12 +81,21 @@ pub(crate) fn keep_written_through(vehicles: &mut KeptVehicles, changes: &[Chang
     }
 }
 
-// The rows that are kept once the change was made. Only where none of the vehicle was kept may there be no memory for its row,
-// and none of it is kept then.
+// The rows that are kept once the change was made.
 fn keep_written(vehicles: &mut KeptVehicles, one: &Change)
     ensures { (rows : Rows) → AreVehicles vehicles.old rows → AreVehicles vehicles.new (change rows one.now) }
 {
     if let Change::Vehicle(key, vehicle) = one {
-        let _kept = vehicles.insert(*key, *vehicle);
+        put_row(vehicles, key, vehicle);
     }
+}
+
+// The row of a vehicle is kept in the place of the one before; none is kept where there is no memory for it.
+fn put_row(vehicles: &mut KeptVehicles, key: &VehicleKey, vehicle: &VehicleRow)
+    ensures { (rows : Rows) → AreVehicles vehicles.old rows → AreVehicles vehicles.new (record rows { vehicles = map.insert rows.vehicles key.now vehicle.now }) }
+{
+    vehicles.remove(*key);
+    // The prover asks for the types of a row's parts.
+    let _reported = vehicle.reported;
+    let _kept = vehicles.insert(*key, *vehicle);
 }
