@@ -218,7 +218,7 @@ fn write_full<S: Alter>(rt: &impl Abort, alloc: Global, conn: &mut Connection<S>
 
 /// Asks by each key for what is there.
 fn ask_known<S: Alter>(rt: &impl Abort, alloc: Global, conn: &mut Connection<S>, number: u32) {
-    let row = query_vehicle(conn, &BTreeMap::new(alloc), &vehicle_key(rt, "0001"));
+    let row = query_vehicle(conn, &vehicle_key(rt, "0001"));
     check(rt, row == Ok(Some(vehicle_row(rt))), "the vehicle");
     let load = numbered(rt, alloc, 'L', number);
     let place = query_place(conn, &load);
@@ -262,7 +262,7 @@ fn ask_unknown<S: Alter>(rt: &impl Abort, alloc: Global, conn: &mut Connection<S
         manufacturer: name(rt, "0001"),
         serial: name(rt, "KIT"),
     };
-    let row = query_vehicle(conn, &BTreeMap::new(alloc), &other);
+    let row = query_vehicle(conn, &other);
     check(rt, row == Ok(None), "a vehicle");
     let load = name(rt, "J1");
     check(rt, query_place(conn, &load) == Ok(None), "a place");
