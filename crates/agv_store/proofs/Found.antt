@@ -19,7 +19,7 @@ use Rattle.agv_world.specs.Worlds.{World}
 use Rattle.agv_world.specs.declared.floor.Counted.{Counted}
 use Rattle.agv_world.specs.declared.world.World.{World as Tables}
 use Rattle.agv_store.specs.KeptVehicles.{AreVehicles, VehiclesOf}
-use Rattle.agv_tables.specs.queries.KnownWays.{AreWays, WaysOf}
+use Rattle.agv_store.specs.KeptTrips.{AreTrips, TripsOf}
 use Rattle.agv_tables.specs.queries.WorldAnswers.{AgreesWith, HasNoWorld, HasWorld, AnswersQuery}
 use Rattle.agv_tables.specs.readings.Rowids.{AreTablesKeyed, TellsKeyed}
 use Rattle.agv_tables.specs.readings.TablesRead.{HaveAll, TellsAll}
@@ -174,15 +174,15 @@ module _ {S : Type 0} (g : Ghosts S) where
 
   -- ---- the desk that was found
 
-  pub found_kept : (old new : Held S) (counts : Counts) (layout : Option Layout) → Finds g old new (Ok (counts, layout)) → old.in_transaction ≡ false → (rooms : RoomsLeft) → ((rows : Rows) → AreLeft rooms rows) → (ways : WaysOf) → ((rows : Rows) → AreWays ways rows)
-      → (vehicles : VehiclesOf) → ((rows : Rows) → AreVehicles vehicles rows) → IsKept g new counts layout rooms ways vehicles false false
-  found_kept old new counts layout finds idle rooms none ways no_ways vehicles no_vehicles = record {
+  pub found_kept : (old new : Held S) (counts : Counts) (layout : Option Layout) → Finds g old new (Ok (counts, layout)) → old.in_transaction ≡ false → (rooms : RoomsLeft) → ((rows : Rows) → AreLeft rooms rows) → (trips : TripsOf) → ((rows : Rows) → AreTrips trips rows)
+      → (vehicles : VehiclesOf) → ((rows : Rows) → AreVehicles vehicles rows) → IsKept g new counts layout rooms trips vehicles false false
+  found_kept old new counts layout finds idle rooms none trips no_trips vehicles no_vehicles = record {
     idle = finds.asked.idle idle;
     opens = λ clean _ _. (finds.found clean).1.is_open;
     knows = λ clean _. (finds.found clean).1;
     counted = λ clean _. (finds.found clean).2;
     agrees = λ clean _. (finds.found clean).3;
     fits = λ clean _. none (rows_of (world_at g new));
-    ways_are = λ clean _. no_ways (rows_of (world_at g new));
+    trips_are = λ clean _. no_trips (rows_of (world_at g new));
     vehicles_are = λ clean _. no_vehicles (rows_of (world_at g new));
   }

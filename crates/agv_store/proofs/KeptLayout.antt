@@ -16,7 +16,7 @@ use Rattle.agv_world.specs.Worlds.{World, empty_layout}
 use Rattle.agv_world.specs.declared.change.Change.{Change}
 use Rattle.agv_world.specs.declared.change.Change.TheVariants as row
 use Rattle.agv_store.specs.KeptVehicles.{VehiclesOf}
-use Rattle.agv_tables.specs.queries.KnownWays.{WaysOf}
+use Rattle.agv_store.specs.KeptTrips.{TripsOf}
 use Rattle.agv_tables.specs.queries.WorldAnswers.{AgreesWith}
 use Rattle.agv_tables.specs.sql.Connections.{IsClean, IsOpen}
 use Rattle.agv_store.specs.Floors.{IsKept, world_at}
@@ -63,16 +63,16 @@ agrees_set gives needs world laid None is = tt
 agrees_set gives needs world laid (Some layout) is = set_is gives needs world laid layout is
 
 -- so it can be kept
-pub keeps_set : {S : Type 0} (g : Ghosts S) → GivesItself → NeedsANode → (held : Held S) (counts : Counts) (before : Option Layout) (rooms : RoomsLeft) (ways : WaysOf) (vehicles : VehiclesOf) (failed in_doubt : Bool) → IsKept g held counts before rooms ways vehicles failed in_doubt
-    → (layout : Option Layout) → (IsClean g held → IsOpen g held → layout ≡ layout_set (world_at g held)) → IsKept g held counts layout rooms ways vehicles failed in_doubt
-keeps_set g gives needs held counts before rooms ways vehicles failed in_doubt is layout is_set = record {
+pub keeps_set : {S : Type 0} (g : Ghosts S) → GivesItself → NeedsANode → (held : Held S) (counts : Counts) (before : Option Layout) (rooms : RoomsLeft) (trips : TripsOf) (vehicles : VehiclesOf) (failed in_doubt : Bool) → IsKept g held counts before rooms trips vehicles failed in_doubt
+    → (layout : Option Layout) → (IsClean g held → IsOpen g held → layout ≡ layout_set (world_at g held)) → IsKept g held counts layout rooms trips vehicles failed in_doubt
+keeps_set g gives needs held counts before rooms trips vehicles failed in_doubt is layout is_set = record {
   idle = is.idle;
   opens = is.opens;
   knows = is.knows;
   counted = is.counted;
   agrees = λ clean still. agrees_set gives needs (world_at g held) (is.knows clean still).has.lawful.vehicles.laid layout (is_set clean still);
   fits = is.fits;
-  ways_are = is.ways_are;
+  trips_are = is.trips_are;
   vehicles_are = is.vehicles_are;
 }
 

@@ -30,7 +30,7 @@ use Rattle.agv_desk.specs.JobSteps.{station_in}
 use Rattle.agv_desk.proofs.lists.SameNames.{same_name}
 use Rattle.agv_desk.proofs.lists.Writes.{is_written, one_if, tally, tally-written}
 use Rattle.agv_store.specs.KeptVehicles.{VehiclesOf}
-use Rattle.agv_tables.specs.queries.KnownWays.{WaysOf}
+use Rattle.agv_store.specs.KeptTrips.{TripsOf}
 use Rattle.agv_tables.specs.sql.Connections.{IsClean, IsOpen}
 use Rattle.agv_store.specs.Floors.{IsKept, world_at}
 use Rattle.agv_store.specs.KeptLayouts.{is_of_layout}
@@ -191,8 +191,8 @@ still_left rooms (row.Used key) laid none rows left other room there = left othe
 
 -- ---- a floor that keeps them
 
-module _ {S : Type 0} (g : Ghosts S) (held : Held S) (counts : Counts) (layout : Option Layout) (rooms more : RoomsLeft) (ways : WaysOf) (vehicles : VehiclesOf) (failed in_doubt : Bool) (is : IsKept g held counts layout rooms ways vehicles failed in_doubt) where
-  pub keeps_rooms : (IsClean g held → IsOpen g held → AreLeft rooms (rows_of (world_at g held)) → AreLeft more (rows_of (world_at g held))) → IsKept g held counts layout more ways vehicles failed in_doubt
+module _ {S : Type 0} (g : Ghosts S) (held : Held S) (counts : Counts) (layout : Option Layout) (rooms more : RoomsLeft) (trips : TripsOf) (vehicles : VehiclesOf) (failed in_doubt : Bool) (is : IsKept g held counts layout rooms trips vehicles failed in_doubt) where
+  pub keeps_rooms : (IsClean g held → IsOpen g held → AreLeft rooms (rows_of (world_at g held)) → AreLeft more (rows_of (world_at g held))) → IsKept g held counts layout more trips vehicles failed in_doubt
   keeps_rooms left = record {
     idle = is.idle;
     opens = is.opens;
@@ -200,6 +200,6 @@ module _ {S : Type 0} (g : Ghosts S) (held : Held S) (counts : Counts) (layout :
     counted = is.counted;
     agrees = is.agrees;
     fits = λ clean still. left clean still (is.fits clean still);
-    ways_are = is.ways_are;
+    trips_are = is.trips_are;
     vehicles_are = is.vehicles_are;
   }

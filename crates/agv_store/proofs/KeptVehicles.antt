@@ -13,7 +13,7 @@ use Rattle.agv_world.specs.Changes.{change}
 use Rattle.agv_world.specs.Rows.{Rows, rows_of}
 use Rattle.agv_world.specs.declared.change.Change.TheVariants as row
 use Rattle.agv_world.specs.declared.row.VehicleRow.{VehicleRow}
-use Rattle.agv_tables.specs.queries.KnownWays.{WaysOf}
+use Rattle.agv_store.specs.KeptTrips.{TripsOf}
 use Rattle.agv_tables.specs.sql.Connections.{IsClean, IsOpen}
 use Rattle.agv_store.specs.Floors.{IsKept, world_at}
 use Rattle.agv_store.specs.KeptRooms.{RoomsLeft}
@@ -75,8 +75,8 @@ pub row_kept_or_not : {A E : Type 0} (vehicles more : VehiclesOf) (rows : Rows) 
 row_kept_or_not vehicles more rows key vehicle (Ok done) put same own are = subst (λ kept. AreVehicles kept rows) (sym put) (row_kept vehicles rows key vehicle own are)
 row_kept_or_not vehicles more rows key vehicle (Err why) put same own are = subst (λ kept. AreVehicles kept rows) (sym same) are
 
-module _ {S : Type 0} (g : Ghosts S) (held : Held S) (counts : Counts) (layout : Option Layout) (rooms : RoomsLeft) (ways : WaysOf) (vehicles more : VehiclesOf) (failed in_doubt : Bool) (is : IsKept g held counts layout rooms ways vehicles failed in_doubt) where
-  pub keeps_vehicles : (IsClean g held → IsOpen g held → AreVehicles vehicles (rows_of (world_at g held)) → AreVehicles more (rows_of (world_at g held))) → IsKept g held counts layout rooms ways more failed in_doubt
+module _ {S : Type 0} (g : Ghosts S) (held : Held S) (counts : Counts) (layout : Option Layout) (rooms : RoomsLeft) (trips : TripsOf) (vehicles more : VehiclesOf) (failed in_doubt : Bool) (is : IsKept g held counts layout rooms trips vehicles failed in_doubt) where
+  pub keeps_vehicles : (IsClean g held → IsOpen g held → AreVehicles vehicles (rows_of (world_at g held)) → AreVehicles more (rows_of (world_at g held))) → IsKept g held counts layout rooms trips more failed in_doubt
   keeps_vehicles so = record {
     idle = is.idle;
     opens = is.opens;
@@ -84,6 +84,6 @@ module _ {S : Type 0} (g : Ghosts S) (held : Held S) (counts : Counts) (layout :
     counted = is.counted;
     agrees = is.agrees;
     fits = is.fits;
-    ways_are = is.ways_are;
+    trips_are = is.trips_are;
     vehicles_are = λ clean still. so clean still (is.vehicles_are clean still);
   }

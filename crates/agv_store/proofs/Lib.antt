@@ -10,7 +10,7 @@ mod KeptLayout
 mod KeptMaps
 mod KeptRooms
 mod KeptThrough
-mod KeptWays
+mod KeptTrips
 mod Moving
 mod ReportLists
 mod Reporting

@@ -20,7 +20,7 @@ use Rattle.agv_tables.specs.first_schema.FirstFound.{FindsFirst}
 use Rattle.agv_tables.specs.first_schema.Moved.{CanBeAdded, LeavesMoved, MovesTables, MovesWorld}
 use Rattle.agv_tables.proofs.sql.Later.{later_by}
 use Rattle.agv_store.specs.KeptVehicles.{AreVehicles, VehiclesOf}
-use Rattle.agv_tables.specs.queries.KnownWays.{AreWays, WaysOf}
+use Rattle.agv_store.specs.KeptTrips.{AreTrips, TripsOf}
 use Rattle.agv_tables.specs.queries.WorldAnswers.{AgreesWith}
 use Rattle.agv_tables.specs.sql.Connections.{IsClean, IsOpen}
 use Rattle.agv_tables.specs.declared.queries.reading_fault.ReadingFault.{ReadingFault}
@@ -199,16 +199,16 @@ module _ {S : Type 0} (g : Ghosts S) where
         told : (clean : IsClean g new) → world_at g new ≡ (had (clean_mid clean)).world
         told clean = let it = knows clean in tells_its_world it.at (state g new).now (had (clean_mid clean)).world it.has
 
-        pub moved_kept : (rooms : RoomsLeft) → ((rows : Rows) → AreLeft rooms rows) → (ways : WaysOf) → ((rows : Rows) → AreWays ways rows)
-            → (vehicles : VehiclesOf) → ((rows : Rows) → AreVehicles vehicles rows) → IsKept g new counts layout rooms ways vehicles false false
-        moved_kept rooms none ways no_ways vehicles no_vehicles = record {
+        pub moved_kept : (rooms : RoomsLeft) → ((rows : Rows) → AreLeft rooms rows) → (trips : TripsOf) → ((rows : Rows) → AreTrips trips rows)
+            → (vehicles : VehiclesOf) → ((rows : Rows) → AreVehicles vehicles rows) → IsKept g new counts layout rooms trips vehicles false false
+        moved_kept rooms none trips no_trips vehicles no_vehicles = record {
           idle = idle;
           opens = λ clean _ _. (opens clean).1;
           knows = λ clean _. subst (λ (world : World). Knows g new world) (sym (told clean)) (knows clean);
           counted = λ clean _ what. counted (clean_mid clean) what ∙ ap (λ (w : World). count_of w what) (sym (told clean));
           agrees = λ clean _. subst (AgreesWith layout) (sym (told clean)) (agreed (clean_mid clean));
           fits = λ clean _. none (rows_of (world_at g new));
-          ways_are = λ clean _. no_ways (rows_of (world_at g new));
+          trips_are = λ clean _. no_trips (rows_of (world_at g new));
           vehicles_are = λ clean _. no_vehicles (rows_of (world_at g new));
         }
 

@@ -21,7 +21,7 @@ use Rattle.agv_desk.specs.declared.answer.Decision.{Decision}
 use Rattle.agv_desk.specs.declared.call.Call.{Call}
 use Rattle.agv_tables.specs.changes.ChangesMade.{ChangesWorlds, LeavesChanges, MakesChanges}
 use Rattle.agv_store.specs.KeptVehicles.{AreVehicles, VehiclesOf}
-use Rattle.agv_tables.specs.queries.KnownWays.{AreWays, WaysOf}
+use Rattle.agv_store.specs.KeptTrips.{AreTrips, TripsOf}
 use Rattle.agv_tables.specs.queries.WorldAnswers.{AgreesWith, HasWorld}
 use Rattle.agv_tables.specs.readings.WorldIn.{world_in}
 use Rattle.agv_tables.specs.rows.DeskRows.{Holds, KeepsOthers, Placing}
@@ -73,9 +73,9 @@ AddsBelow = (seats : ℕ) (world : World) (at : ℕ) (call : Call) (what : Count
 abbrev pub LeavesRooms : List Change → RoomsLeft → RoomsLeft → Type 0
 LeavesRooms changes rooms rooms_now = (rows : Rows) → AreLeft rooms rows → AreLeft rooms_now (changed changes rows)
 
--- and of the ways
-abbrev pub LeavesWays : List Change → WaysOf → WaysOf → Type 0
-LeavesWays changes ways ways_now = (rows : Rows) → AreWays ways rows → AreWays ways_now (changed changes rows)
+-- and of the trips
+abbrev pub LeavesTrips : List Change → TripsOf → TripsOf → Type 0
+LeavesTrips changes trips trips_now = (rows : Rows) → AreTrips trips rows → AreTrips trips_now (changed changes rows)
 
 -- and of the vehicles
 abbrev pub LeavesVehicles : List Change → VehiclesOf → VehiclesOf → Type 0
@@ -172,11 +172,11 @@ module _ {S : Type 0} (g : Ghosts S) (law : DatabaseTells) where
           subst (λ (world : World). AreLeft rooms_now (rows_of world)) (sym (world_next ok clean))
           (subst (AreLeft rooms_now) (rows_next clean) (leaves (rows_of (world_at g old)) was))
 
-      ways_next : (ways ways_now : WaysOf) → (IsClean g old → IsOpen g old → AreWays ways (rows_of (world_at g old))) → LeavesWays changes ways ways_now → r ≡ Ok tt → IsClean g new → AreWays ways_now (rows_of (world_at g new))
-      ways_next ways ways_now ways_are leads ok clean =
-          let was = ways_are (clean_old clean) (knows (clean_old clean)).is_open in
-          subst (λ (world : World). AreWays ways_now (rows_of world)) (sym (world_next ok clean))
-          (subst (AreWays ways_now) (rows_next clean) (leads (rows_of (world_at g old)) was))
+      trips_next : (trips trips_now : TripsOf) → (IsClean g old → IsOpen g old → AreTrips trips (rows_of (world_at g old))) → LeavesTrips changes trips trips_now → r ≡ Ok tt → IsClean g new → AreTrips trips_now (rows_of (world_at g new))
+      trips_next trips trips_now trips_are leads ok clean =
+          let was = trips_are (clean_old clean) (knows (clean_old clean)).is_open in
+          subst (λ (world : World). AreTrips trips_now (rows_of world)) (sym (world_next ok clean))
+          (subst (AreTrips trips_now) (rows_next clean) (leads (rows_of (world_at g old)) was))
 
       vehicles_next : (vehicles vehicles_now : VehiclesOf) → (IsClean g old → IsOpen g old → AreVehicles vehicles (rows_of (world_at g old))) → LeavesVehicles changes vehicles vehicles_now → r ≡ Ok tt → IsClean g new → AreVehicles vehicles_now (rows_of (world_at g new))
       vehicles_next vehicles vehicles_now vehicles_are leaves ok clean =
@@ -186,17 +186,17 @@ module _ {S : Type 0} (g : Ghosts S) (law : DatabaseTells) where
 
       pub written_kept : (layout layout_now : Option Layout) → (IsClean g old → IsOpen g old → AgreesWith layout (world_at g old)) → layout_now ≡ kept_through changes layout
           → (rooms rooms_now : RoomsLeft) → (IsClean g old → IsOpen g old → AreLeft rooms (rows_of (world_at g old))) → LeavesRooms changes rooms rooms_now
-          → (ways ways_now : WaysOf) → (IsClean g old → IsOpen g old → AreWays ways (rows_of (world_at g old))) → LeavesWays changes ways ways_now
+          → (trips trips_now : TripsOf) → (IsClean g old → IsOpen g old → AreTrips trips (rows_of (world_at g old))) → LeavesTrips changes trips trips_now
           → (vehicles vehicles_now : VehiclesOf) → (IsClean g old → IsOpen g old → AreVehicles vehicles (rows_of (world_at g old))) → LeavesVehicles changes vehicles vehicles_now
-          → (failed_now in_doubt_now : Bool) → r ≡ Ok tt → IsKept g new counts_now layout_now rooms_now ways_now vehicles_now failed_now in_doubt_now
-      written_kept layout layout_now agrees now_is rooms rooms_now fits leaves ways ways_now ways_are leads vehicles vehicles_now vehicles_are stays failed_now in_doubt_now ok = record {
+          → (failed_now in_doubt_now : Bool) → r ≡ Ok tt → IsKept g new counts_now layout_now rooms_now trips_now vehicles_now failed_now in_doubt_now
+      written_kept layout layout_now agrees now_is rooms rooms_now fits leaves trips trips_now trips_are leads vehicles vehicles_now vehicles_are stays failed_now in_doubt_now ok = record {
         idle = writes.idle;
         opens = λ clean _ _. (knows_next ok clean).is_open;
         knows = λ clean still. subst (λ world. Knows g new world) (sym (world_next ok clean)) (knows_next ok clean);
         counted = λ clean still. counted_next ok clean;
         agrees = λ clean still. agrees_next layout layout_now agrees now_is ok clean;
         fits = λ clean still. fits_next rooms rooms_now fits leaves ok clean;
-        ways_are = λ clean still. ways_next ways ways_now ways_are leads ok clean;
+        trips_are = λ clean still. trips_next trips trips_now trips_are leads ok clean;
         vehicles_are = λ clean still. vehicles_next vehicles vehicles_now vehicles_are stays ok clean;
       }
 
@@ -229,16 +229,16 @@ module _ {S : Type 0} (g : Ghosts S) (law : DatabaseTells) where
         let wrong : true ≡ false = sym (ap (λ (q : Result (Unit {0}) WriteFault). failed_by (read_as q) failed) is_err) ∙ sym failed_is ∙ not_failed in cc wrong
 
     pub refused_kept : (layout : Option Layout) → (IsClean g old → IsOpen g old → AgreesWith layout (world_at g old)) → (rooms : RoomsLeft) → (IsClean g old → IsOpen g old → AreLeft rooms (rows_of (world_at g old)))
-        → (ways : WaysOf) → (IsClean g old → IsOpen g old → AreWays ways (rows_of (world_at g old))) → (vehicles : VehiclesOf) → (IsClean g old → IsOpen g old → AreVehicles vehicles (rows_of (world_at g old)))
-        → (why : WriteFault) → r ≡ Err why → (failed failed_now in_doubt_now : Bool) → failed_now ≡ failed_by (read_as r) failed → in_doubt_now ≡ doubted_by (read_as r) in_doubt → IsKept g new counts layout rooms ways vehicles failed_now in_doubt_now
-    refused_kept layout agrees rooms fits ways ways_are vehicles vehicles_are why is_err failed failed_now in_doubt_now failed_is doubt_is = record {
+        → (trips : TripsOf) → (IsClean g old → IsOpen g old → AreTrips trips (rows_of (world_at g old))) → (vehicles : VehiclesOf) → (IsClean g old → IsOpen g old → AreVehicles vehicles (rows_of (world_at g old)))
+        → (why : WriteFault) → r ≡ Err why → (failed failed_now in_doubt_now : Bool) → failed_now ≡ failed_by (read_as r) failed → in_doubt_now ≡ doubted_by (read_as r) in_doubt → IsKept g new counts layout rooms trips vehicles failed_now in_doubt_now
+    refused_kept layout agrees rooms fits trips trips_are vehicles vehicles_are why is_err failed failed_now in_doubt_now failed_is doubt_is = record {
       idle = writes.idle;
       opens = λ clean not_failed no_doubt. absurd (flags_raised why is_err failed failed_now in_doubt_now failed_is doubt_is not_failed no_doubt);
       knows = λ clean still. subst (λ world. Knows g new world) (sym (ap world_in (left_all why is_err clean still))) (knows_still why is_err clean still);
       counted = λ clean still what. counted (clean_old clean) (knows (clean_old clean)).is_open what ∙ ap (λ (world : World). count_of world what) (sym (ap world_in (left_all why is_err clean still)));
       agrees = λ clean still. subst (AgreesWith layout) (sym (ap world_in (left_all why is_err clean still))) (agrees (clean_old clean) (knows (clean_old clean)).is_open);
       fits = λ clean still. subst (λ (world : World). AreLeft rooms (rows_of world)) (sym (ap world_in (left_all why is_err clean still))) (fits (clean_old clean) (knows (clean_old clean)).is_open);
-      ways_are = λ clean still. subst (λ (world : World). AreWays ways (rows_of world)) (sym (ap world_in (left_all why is_err clean still))) (ways_are (clean_old clean) (knows (clean_old clean)).is_open);
+      trips_are = λ clean still. subst (λ (world : World). AreTrips trips (rows_of world)) (sym (ap world_in (left_all why is_err clean still))) (trips_are (clean_old clean) (knows (clean_old clean)).is_open);
       vehicles_are = λ clean still. subst (λ (world : World). AreVehicles vehicles (rows_of world)) (sym (ap world_in (left_all why is_err clean still))) (vehicles_are (clean_old clean) (knows (clean_old clean)).is_open);
     }
 
@@ -280,7 +280,7 @@ module _ {S : Type 0} (g : Ghosts S) (law : DatabaseTells) where
 
   -- ---- told of the floor as its callers see it
 
-  module _ (old new : Held S) (counts : Counts) (layout : Option Layout) (rooms : RoomsLeft) (ways : WaysOf) (vehicles : VehiclesOf) (failed in_doubt : Bool) (is : IsKept g old counts layout rooms ways vehicles failed in_doubt) (seen : Keyed S) (view_is : record { held = old; failed = failed } ≡ seen)
+  module _ (old new : Held S) (counts : Counts) (layout : Option Layout) (rooms : RoomsLeft) (trips : TripsOf) (vehicles : VehiclesOf) (failed in_doubt : Bool) (is : IsKept g old counts layout rooms trips vehicles failed in_doubt) (seen : Keyed S) (view_is : record { held = old; failed = failed } ≡ seen)
       (at : ℕ) (call : Call) (decision : Decision)
       (knows : IsClean g seen.held → Knows g seen.held (world_at g seen.held))
       (decides : IsClean g seen.held → Decides (world_at g seen.held) at call decision)
@@ -295,17 +295,17 @@ module _ {S : Type 0} (g : Ghosts S) (law : DatabaseTells) where
     decides_old = subst (λ (held : Held S). IsClean g held → Decides (world_at g held) at call decision) (sym held_is) decides
 
     pub kept_refused : (f : Fault) → noted (read_as r) ≡ Err f → (failed_now in_doubt_now : Bool) → failed_now ≡ failed_by (read_as r) failed → in_doubt_now ≡ doubted_by (read_as r) in_doubt
-        → IsKept g new counts layout rooms ways vehicles failed_now in_doubt_now
+        → IsKept g new counts layout rooms trips vehicles failed_now in_doubt_now
     kept_refused f is_err =
         let why = write_failed r f is_err in
-        refused_kept old new counts in_doubt is.counted at call decision knows_old decides_old changes changes_are r writes layout is.agrees rooms is.fits ways is.ways_are vehicles is.vehicles_are why.0 why.1 failed
+        refused_kept old new counts in_doubt is.counted at call decision knows_old decides_old changes changes_are r writes layout is.agrees rooms is.fits trips is.trips_are vehicles is.vehicles_are why.0 why.1 failed
 
     pub kept_written : CountsFollow → AddsBelow → (counts_now : Counts) (kind : Option Counted) → kind ≡ counted_by call decision.answer
         → ((what : Counted) → (one_more kind what ≢ 0 → count_in counts what < limit_of what) → count_in counts_now what ≡ count_in counts what + one_more kind what)
-        → (layout_now : Option Layout) → layout_now ≡ kept_through changes layout → (rooms_now : RoomsLeft) → LeavesRooms changes rooms rooms_now → (ways_now : WaysOf) → LeavesWays changes ways ways_now
-        → (vehicles_now : VehiclesOf) → LeavesVehicles changes vehicles vehicles_now → (failed_now in_doubt_now : Bool) → noted (read_as r) ≡ Ok tt → IsKept g new counts_now layout_now rooms_now ways_now vehicles_now failed_now in_doubt_now
-    kept_written follow below counts_now kind kind_is adds layout_now now_is rooms_now leaves ways_now leads vehicles_now stays failed_now in_doubt_now ok =
-        written_kept old new counts in_doubt is.counted at call decision knows_old decides_old changes changes_are r writes follow below counts_now kind kind_is adds layout layout_now is.agrees now_is rooms rooms_now is.fits leaves ways ways_now is.ways_are leads vehicles vehicles_now is.vehicles_are stays failed_now in_doubt_now (write_done r ok)
+        → (layout_now : Option Layout) → layout_now ≡ kept_through changes layout → (rooms_now : RoomsLeft) → LeavesRooms changes rooms rooms_now → (trips_now : TripsOf) → LeavesTrips changes trips trips_now
+        → (vehicles_now : VehiclesOf) → LeavesVehicles changes vehicles vehicles_now → (failed_now in_doubt_now : Bool) → noted (read_as r) ≡ Ok tt → IsKept g new counts_now layout_now rooms_now trips_now vehicles_now failed_now in_doubt_now
+    kept_written follow below counts_now kind kind_is adds layout_now now_is rooms_now leaves trips_now leads vehicles_now stays failed_now in_doubt_now ok =
+        written_kept old new counts in_doubt is.counted at call decision knows_old decides_old changes changes_are r writes follow below counts_now kind kind_is adds layout layout_now is.agrees now_is rooms rooms_now is.fits leaves trips trips_now is.trips_are leads vehicles vehicles_now is.vehicles_are stays failed_now in_doubt_now (write_done r ok)
 
     pub serves_written : noted (read_as r) ≡ Ok tt → IsClean g new → IsServedBy g seen.held new at call decision.answer
     serves_written ok clean =

@@ -12,7 +12,7 @@ use Rattle.agv_world.specs.Rows.{rows_of}
 use Rattle.agv_world.specs.Worlds.{World}
 use Rattle.agv_world.specs.declared.floor.Counted.{Counted}
 use Rattle.agv_store.specs.KeptVehicles.{AreVehicles, VehiclesOf}
-use Rattle.agv_tables.specs.queries.KnownWays.{AreWays, WaysOf}
+use Rattle.agv_store.specs.KeptTrips.{AreTrips, TripsOf}
 use Rattle.agv_tables.specs.queries.WorldAnswers.{AgreesWith, HasWorld}
 use Rattle.agv_tables.specs.readings.WorldIn.{world_in}
 use Rattle.agv_tables.specs.rows.DeskRows.{Placing}
@@ -52,7 +52,7 @@ module _ {S : Type 0} (g : Ghosts S) where
 
   -- ---- what it keeps true
 
-  pub record IsKept (held : Held S) (counts : Counts) (layout : Option Layout) (rooms : RoomsLeft) (ways : WaysOf) (vehicles : VehiclesOf) (failed in_doubt : Bool) : Type 0 where
+  pub record IsKept (held : Held S) (counts : Counts) (layout : Option Layout) (rooms : RoomsLeft) (trips : TripsOf) (vehicles : VehiclesOf) (failed in_doubt : Bool) : Type 0 where
     pub idle : held.in_transaction ≡ false
     -- it is open, unless a fault was noted that may have shut it
     pub opens : IsClean g held → failed ≡ false → in_doubt ≡ false → IsOpen g held
@@ -64,8 +64,8 @@ module _ {S : Type 0} (g : Ghosts S) where
     pub agrees : IsClean g held → IsOpen g held → AgreesWith layout (world_at held)
     -- and so much room as is kept is left at its stations
     pub fits : IsClean g held → IsOpen g held → AreLeft rooms (rows_of (world_at held))
-    -- and a way that is kept is that of its order
-    pub ways_are : IsClean g held → IsOpen g held → AreWays ways (rows_of (world_at held))
+    -- and they have the rows of each trip that is kept
+    pub trips_are : IsClean g held → IsOpen g held → AreTrips trips (rows_of (world_at held))
     -- and a row that is kept is that of its vehicle
     pub vehicles_are : IsClean g held → IsOpen g held → AreVehicles vehicles (rows_of (world_at held))
 

@@ -4,6 +4,7 @@ pub mod Floors
 pub mod KeptVehicles
 pub mod KeptLayouts
 pub mod KeptRooms
+pub mod KeptTrips
 pub mod Migration
 pub mod OpenFaults
 pub mod Opening

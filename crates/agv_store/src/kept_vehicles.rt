@@ -1,5 +1,5 @@
-//! The rows of vehicles, kept beside the connection once they were read or written, so that none is read twice. A row that is
-//! written takes the place of the one that is kept; none of a vehicle is removed.
+//! The rows of vehicles, kept beside the connection once they were read or written, so that none is asked for again while
+//! there is memory for it. A row that is written takes the place of the one that is kept; none of a vehicle is removed.
 ghost use Rattle.std.specs.Prelude.{◌≡◌, IfSome, Some};
 ghost use Rattle.std.specs.FinMap as map;
 ghost use Rattle.agv_world.specs.Asks.{Asks};

@@ -9,9 +9,9 @@ ghost use Rattle.agv_store.specs.Floors.{Knows, facts_of, world_at};
 use crate::counts::Counts;
 use crate::flags::note;
 use crate::kept_rooms::RoomsLeft;
+use crate::kept_trips::{KeptOrders, KeptTrips};
 use crate::kept_vehicles::KeptVehicles;
 use agv_layout::Layout;
-use agv_tables::queries::known_ways::KnownWays;
 use agv_tables::readings::hold_reading::query_meta;
 use agv_world::Fault;
 use sqlite::{Alter, Connection};
@@ -31,8 +31,10 @@ pub struct KeyedFloor<S: Alter> {
     pub(crate) layout: Option<Layout>,
     // Stations whose room was counted, each with so many loads as still fit there at least.
     pub(crate) rooms: RoomsLeft,
-    // The edges of open orders, once they were read.
-    pub(crate) ways: KnownWays,
+    // The open trips of orders, once they were read.
+    pub(crate) trips: KeptTrips,
+    // Under which order the trip of a vehicle is looked for.
+    pub(crate) orders: KeptOrders,
     // The rows of vehicles, once they were read or written.
     pub(crate) vehicles: KeptVehicles,
     pub(crate) failed: bool,
@@ -50,7 +52,7 @@ impl<S: Alter> Model for KeyedFloor<S> {
 
     ghost view = { λ floor. record { held = floor.conn; failed = floor.failed } };
 
-    ghost invariant = { λ floor. IsKept S.Store floor.conn floor.counts floor.layout floor.rooms floor.ways floor.vehicles floor.failed floor.in_doubt };
+    ghost invariant = { λ floor. IsKept S.Store floor.conn floor.counts floor.layout floor.rooms floor.trips floor.vehicles floor.failed floor.in_doubt };
 }
 
 impl<S: Alter + Drop> KeyedFloor<S> {

@@ -6,7 +6,7 @@
 //!   schema is moved to the second, and its desk taken over (`migration`).
 //! - `keyed_floor` has a connection to the desk's tables that is asked by keys and indexes, as `agv_desk` asks a floor.
 //!   Beside the connection it keeps five counts, the layout (`kept_layout`), the room at stations (`kept_rooms`), the
-//!   edges of open orders (`kept_ways`), the rows of vehicles (`kept_vehicles`), and whether the store has failed.
+//!   open trips of orders (`kept_trips`), the rows of vehicles (`kept_vehicles`), and whether the store has failed.
 //!   `serving` serves one call over it.
 //! - An answer that names a report doesn't hold it: [`Desk::report`] gives its bytes (`reports`). What a report lists is
 //!   gathered from whole tables (`report_lists`, `whole_tables`), and `agv_count` writes the text.
@@ -22,8 +22,8 @@ mod flags;
 mod floor_questions;
 mod kept_layout;
 mod kept_rooms;
+mod kept_trips;
 mod kept_vehicles;
-mod kept_ways;
 mod keyed_floor;
 pub mod laws;
 mod migration;

@@ -11,8 +11,8 @@ use crate::counts::Counts;
 use crate::desk::Desk;
 use crate::kept_layout::layout_told;
 use crate::kept_rooms::no_rooms;
+use crate::kept_trips::no_trips;
 use crate::kept_vehicles::no_vehicles;
-use crate::kept_ways::no_ways;
 use crate::keyed_floor::KeyedFloor;
 use crate::open_fault::OpenFault;
 use agv_layout::Layout;
@@ -20,9 +20,9 @@ use agv_layout::laws::{gives_itself, needs_a_node};
 use agv_tables::first_schema::table_moving::move_tables;
 use agv_tables::first_schema::world_finding::find_first_world;
 use agv_tables::readings::world_laws::a_database_tells_its_world;
-use agv_world::World;
 use agv_world::lawful_laws::is_in_good_order;
 use agv_world::laws::tables_tell_the_world;
+use agv_world::{ByVehicle, World};
 use sqlite::{Alter, Connection};
 use std::alloc::Global;
 
@@ -68,7 +68,8 @@ impl<S: Alter + Drop> Desk<S> {
                     counts,
                     layout,
                     rooms: no_rooms(alloc),
-                    ways: no_ways(alloc),
+                    trips: no_trips(alloc),
+                    orders: ByVehicle::new(alloc),
                     vehicles: no_vehicles(alloc),
                     failed: false,
                     in_doubt: false,

@@ -16,8 +16,8 @@ use crate::counts::Counts;
 use crate::desk::Desk;
 use crate::kept_layout::layout_told;
 use crate::kept_rooms::no_rooms;
+use crate::kept_trips::no_trips;
 use crate::kept_vehicles::no_vehicles;
-use crate::kept_ways::no_ways;
 use crate::keyed_floor::KeyedFloor;
 use crate::open_fault::OpenFault;
 use agv_header::Memory;
@@ -32,9 +32,9 @@ use agv_tables::schema::making_laws::{made_desks_stand, new_desks_know_nothing};
 use agv_tables::schema::standing_tables::tables_stand;
 use agv_tables::schema::table_room::leaves_room;
 use agv_tables::{DESK_SEATS, HeldThings};
-use agv_world::World;
 use agv_world::lawful_laws::is_in_good_order;
 use agv_world::laws::tables_tell_the_world;
+use agv_world::{ByVehicle, World};
 use sqlite::{Alter, Connection};
 use std::alloc::Global;
 
@@ -73,7 +73,8 @@ impl<S: Alter + Drop> Desk<S> {
                     counts: Counts::none(),
                     layout: None,
                     rooms: no_rooms(alloc),
-                    ways: no_ways(alloc),
+                    trips: no_trips(alloc),
+                    orders: ByVehicle::new(alloc),
                     vehicles: no_vehicles(alloc),
                     failed: false,
                     in_doubt: false,
@@ -111,7 +112,8 @@ impl<S: Alter + Drop> Desk<S> {
                     counts,
                     layout,
                     rooms: no_rooms(alloc),
-                    ways: no_ways(alloc),
+                    trips: no_trips(alloc),
+                    orders: ByVehicle::new(alloc),
                     vehicles: no_vehicles(alloc),
                     failed: false,
                     in_doubt: false,

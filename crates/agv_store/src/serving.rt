@@ -15,8 +15,8 @@ ghost use Rattle.agv_store.specs.Serving.{Decides, IsServedBy, LeavesAll, Leaves
 use crate::flags::{note, read_as};
 use crate::kept_layout::keep_through;
 use crate::kept_rooms::lower_through;
+use crate::kept_trips::follow_through;
 use crate::kept_vehicles::keep_written_through;
-use crate::kept_ways::forget_through;
 use crate::keyed_floor::KeyedFloor;
 use agv_desk::laws::counts::{adds_below_the_limit, counts_follow};
 use agv_desk::laws::lawful::{keeps_lawful, serves_lawful_worlds};
@@ -70,9 +70,9 @@ impl<S: Alter + Drop> KeyedFloor<S> {
         Ok(decision)
     }
 
-    // The changes of the decision are made in one transaction. The counts follow the answer. A layout, and the edges of an
-    // order, of which a row was written are kept no more; the rooms that are kept are lowered; and the row of a vehicle that
-    // was written is kept.
+    // The changes of the decision are made in one transaction. The counts follow the answer. A layout of which a row was
+    // written is kept no more; the rooms that are kept are lowered; and the trips and the rows of vehicles that are kept
+    // follow the changes.
     fn write(&mut self, decision: Decision, at: Moment, call: &Call) -> Result<Answer, Fault>
         requires knows { IsClean S.Store self.old.held → Knows S.Store self.old.held (world_at S.Store self.old.held) }
         requires decides { IsClean S.Store self.old.held → Decides (world_at S.Store self.old.held) at call.now decision }
@@ -92,7 +92,7 @@ impl<S: Alter + Drop> KeyedFloor<S> {
         self.counts.add(counted_by(call, &decision.answer));
         keep_through(&mut self.layout, decision.changes.as_slice());
         lower_through(&mut self.rooms, decision.changes.as_slice());
-        forget_through(&mut self.ways, decision.changes.as_slice());
+        follow_through(&mut self.trips, decision.changes.as_slice());
         keep_written_through(&mut self.vehicles, decision.changes.as_slice());
         Ok(decision.answer)
     }

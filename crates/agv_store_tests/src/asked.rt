@@ -23,7 +23,6 @@ use agv_tables::schema::desk_tables::make_desk_tables;
 use agv_world::{Change, JobRow, LegKey, Sent, TripRow, UseKey, UseKind, VehicleRow};
 use sqlite::{Alter, Connection};
 use std::alloc::Global;
-use std::collections::BTreeMap;
 use std::process::Abort;
 
 /// The most rows of one transaction.
@@ -244,10 +243,7 @@ fn ask_known<S: Alter>(rt: &impl Abort, alloc: Global, conn: &mut Connection<S>,
 
 /// Asks for the trip of the vehicle, and for the layout.
 fn ask_whole<S: Alter>(rt: &impl Abort, alloc: Global, conn: &mut Connection<S>) {
-    let ways = BTreeMap::new(alloc);
-    let trip = query_trip(alloc, conn, &None, &ways, &vehicle_key(rt, "0001")).expect(
-        rt, "the trip",
-    );
+    let trip = query_trip(alloc, conn, &None, &vehicle_key(rt, "0001")).expect(rt, "the trip");
     let trip = trip.expect(rt, "a trip");
     check(rt, trip.order == name(rt, "O1"), "its order");
     check(rt, trip.edges.as_slice().len() == 10, "its edges");
@@ -275,8 +271,7 @@ fn ask_unknown<S: Alter>(rt: &impl Abort, alloc: Global, conn: &mut Connection<S
     let used = query_used(conn, &order_key(rt, "J1"));
     check(rt, used == Ok(false), "an order");
     check(rt, query_edge(conn, &node) == Ok(None), "an edge");
-    let ways = BTreeMap::new(alloc);
-    let trip = query_trip(alloc, conn, &None, &ways, &other).expect(rt, "no trip");
+    let trip = query_trip(alloc, conn, &None, &other).expect(rt, "no trip");
     check(rt, trip.is_none(), "no trip");
 }
 

@@ -18,7 +18,6 @@ use http::Method;
 use sqlite::types::ValueRef;
 use sqlite::{Alter, Connection, Row};
 use std::alloc::Global;
-use std::collections::BTreeMap;
 use std::fmt::Debug;
 use std::process::Abort;
 use std::str;
@@ -321,14 +320,9 @@ fn check_trip<S: Alter>(
     let wanted = floor.trip(vehicle_key(rt, serial)).expect(rt, "memory");
     let has_trip = query_has_trip(conn, &vehicle_key(rt, serial));
     check(rt, has_trip == Ok(wanted.is_some()), serial);
-    let ways = BTreeMap::new(alloc);
-    let trip = query_trip(alloc, conn, layout, &ways, &vehicle_key(rt, serial)).expect(
-        rt, "the trip",
-    );
+    let trip = query_trip(alloc, conn, layout, &vehicle_key(rt, serial)).expect(rt, "the trip");
     check(rt, trip == wanted, serial);
-    let trip = query_trip(alloc, conn, &None, &ways, &vehicle_key(rt, serial)).expect(
-        rt, "the trip",
-    );
+    let trip = query_trip(alloc, conn, &None, &vehicle_key(rt, serial)).expect(rt, "the trip");
     check(rt, trip == wanted, serial);
 }
 

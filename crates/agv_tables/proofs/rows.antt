@@ -14,4 +14,5 @@ pub mod ListsHeld
 pub mod ListsTell
 pub mod SpreadRows
 pub mod TripRowLaws
+pub mod TripsHaveRows
 pub mod TripsTell

@@ -1,5 +1,4 @@
 pub mod QueriedRows
 pub mod FirstRow
-pub mod KnownWays
 pub mod ReadingFault
 pub mod WorldAnswers

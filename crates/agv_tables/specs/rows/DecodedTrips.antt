@@ -1,5 +1,5 @@
 -- The vehicles and the open trips, as the tables of rows tell them: a vehicle with its room, and a trip with its journey, its acts, the rows of their jobs and its edges.
-use Rattle.std.specs.Prelude.{Bool, List, ℕ, Option, Some, filter, map}
+use Rattle.std.specs.Prelude.{◌≡◌, Bool, List, ℕ, Option, Some, filter, map}
 use Rattle.std.specs.FinMap as finite
 use Rattle.std.specs.List.{filter_map, find}
 use Rattle.std.specs.Option.{option_map}
@@ -16,8 +16,8 @@ use Rattle.agv_trip_rows.specs.TripsTold.{acts_told, trip_told}
 use Rattle.agv_trip_rows.specs.declared.act_row.ActRow.{ActRow}
 use Rattle.agv_trip_rows.specs.declared.journey_row.JourneyRow.{JourneyRow}
 use Rattle.agv_world.specs.Keys.{leg_cmp}
-use Rattle.agv_world.specs.Rows.{Rows}
-use Rattle.agv_world.specs.Told.{trip_in}
+use Rattle.agv_world.specs.Rows.{Rows, trip_row}
+use Rattle.agv_world.specs.Told.{edges_of, trip_in}
 use Rattle.agv_world.specs.declared.row.JobRow.{JobRow}
 use Rattle.agv_world.specs.declared.row.TripRow.{TripRow}
 use Rattle.agv_world.specs.declared.row.VehicleRow.{VehicleRow}
@@ -90,3 +90,8 @@ trip_told_by journey edges acts = record {
   seen = journey.1.seen;
   acts = acts;
 }
+
+-- the row of the order of this trip, and the rows of its edges, are those of the trip
+abbrev pub HasTripRows : Rows → Trip → Type 0
+HasTripRows rows trip =
+    (finite.get rows.trips trip.order ≡ Some (trip_row trip.vehicle trip)) × (trip.edges ≡ edges_of (tables_of rows) trip.order)

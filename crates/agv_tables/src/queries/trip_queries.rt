@@ -1,9 +1,8 @@
-//! The open trip of a vehicle, asked of the tables: its journey, its acts with the rows of their jobs, and its edges, but
-//! for those of an order whose way is known. Where the layout is known, it says where an edge leads, and the table of edges
-//! is asked only for one that it lacks.
+//! The open trip of a vehicle, asked of the tables: its journey, its acts with the rows of their jobs, and its edges. Where
+//! the layout is known, it says where an edge leads, and the table of edges is asked only for one that it lacks.
 //!
 //! Each query answers what the lawful world says whose rows the tables have (`specs/queries/WorldAnswers.antt`), where a
-//! layout and ways that are given are those of this world.
+//! layout that is given is that of this world.
 ghost use Rattle.std.specs.Prelude.{◌≡◌, is_some, Some, filter};
 ghost use Rattle.std.specs.FinMap as map;
 ghost use Rattle.agv_trip_rows.specs.TripRows.{acts_of, is_of};
@@ -13,14 +12,12 @@ ghost use Rattle.agv_world.specs.Rows.{rows_of};
 ghost use Rattle.agv_world.specs.Told.{edges_of};
 ghost use Rattle.agv_tables.specs.rows.Columns.{journey_in};
 ghost use Rattle.agv_tables.specs.queries.FirstRow.{first_whole_in};
-ghost use Rattle.agv_tables.specs.queries.KnownWays.{AreWays};
 ghost use Rattle.agv_tables.specs.rows.DecodedTrips.{journey_for, tables_of, told_by_journey, trip_told_by};
 ghost use Rattle.agv_tables.specs.queries.WorldAnswers.{AgreesWith, AnswersQuery};
 
 use crate::ReadingFault;
 use crate::queries::key_queries::{query_edge, query_job};
 use crate::queries::known_layout::known_edge;
-use crate::queries::known_ways::{KnownWays, known_way};
 use crate::queries::queried_rows::query_rows_by;
 use crate::readings::row_tables::{acts_in_rows, legs_in_rows};
 use crate::rows::decode_row::decode_journey;
@@ -37,25 +34,23 @@ use sqlite::{Alter, Connection, Row};
 use std::alloc::Global;
 
 /// The open trip of a vehicle, with its edges and its acts; none where it has none, or there is no such vehicle. Where a
-/// layout is given that is the world's, it says where the edges lead, and they aren't asked for; and where the edges of the
-/// order are given, its rows in `leg` aren't asked for either.
+/// layout is given that is the world's, it says where the edges lead, and they aren't asked for.
 ///
 /// It fails as [`ReadingFault`] says.
 pub fn query_trip<S: Alter>(
     alloc: Global,
     conn: &mut Connection<S>,
     known: &Option<Layout>,
-    ways: &KnownWays,
     key: &VehicleKey,
 ) -> Result<Option<Trip>, ReadingFault>
-    ensures { AnswersQuery S.Store conn.old conn.new result (λ world trip. AgreesWith known.now world → AreWays ways.now (rows_of world) → trip ≡ trip_of world key.now) }
+    ensures { AnswersQuery S.Store conn.old conn.new result (λ world trip. AgreesWith known.now world → trip ≡ trip_of world key.now) }
 {
     rows_tell_trips();
     let journey = query_journey(conn, key)?;
     match journey {
         None => Ok(None),
         Some(journey) => {
-            let trip = query_told_trip(alloc, conn, known, ways, &journey)?;
+            let trip = query_told_trip(alloc, conn, known, &journey)?;
             Ok(Some(trip))
         }
     }
@@ -91,16 +86,11 @@ fn query_told_trip<S: Alter>(
     alloc: Global,
     conn: &mut Connection<S>,
     known: &Option<Layout>,
-    ways: &KnownWays,
     journey: &(Name, JourneyRow),
 ) -> Result<Trip, ReadingFault>
-    ensures { AnswersQuery S.Store conn.old conn.new result (λ world trip. AgreesWith known.now world → AreWays ways.now (rows_of world) → told_by_journey (rows_of world) journey.now ≡ Some trip) }
+    ensures { AnswersQuery S.Store conn.old conn.new result (λ world trip. AgreesWith known.now world → told_by_journey (rows_of world) journey.now ≡ Some trip) }
 {
     let acts = query_acts(alloc, conn, &journey.0)?;
-    let known_edges = known_way(ways, journey.0)?;
-    if let Some(edges) = known_edges {
-        return Ok(trip_told(journey, edges, acts));
-    }
     let edges = query_way(alloc, conn, known, &journey.0)?;
     Ok(trip_told(journey, edges, acts))
 }

@@ -1,5 +1,5 @@
 //! What the rows of a lawful world tell of its open trips and its vehicles. The functions do nothing: their clauses are the law.
-ghost use Rattle.std.specs.Prelude.{◌≡◌, ℕ, List, Some, filter, true};
+ghost use Rattle.std.specs.Prelude.{◌≡◌, ◌↔◌, ℕ, List, Some, filter, true};
 ghost use Rattle.std.specs.FinMap as finite;
 ghost use Rattle.std.specs.Option.{option_and_then};
 ghost use Rattle.agv_header.specs.Name.{IsName};
@@ -17,7 +17,7 @@ ghost use Rattle.agv_world.specs.Told.{edges_of};
 ghost use Rattle.agv_world.specs.Worlds.{World};
 ghost use Rattle.agv_world.specs.declared.key.LegKey.{LegKey};
 ghost use Rattle.agv_tables.specs.schema.SchemaNumbers.{desk_seats};
-ghost use Rattle.agv_tables.specs.rows.DecodedTrips.{is_driven_by, journey_for, tables_of, told_by_journey, trips_with};
+ghost use Rattle.agv_tables.specs.rows.DecodedTrips.{HasTripRows, is_driven_by, journey_for, tables_of, told_by_journey, trips_with};
 ghost use Rattle.agv_tables.specs.rows.TypedRows.{IsActRow, IsJourneyRow, IsLegKey};
 
 use agv_trip_rows::row_laws::{rows_are_of_trips, rows_have_keys, tables_have_rows};
@@ -56,6 +56,15 @@ pub fn rows_tell_trips()
     lawful_rows_have_values();
     is_in_good_order();
     tables_tell_the_world();
+}
+
+/// In a lawful world the open trip of a vehicle is the one that names the vehicle, and whose rows the world has.
+pub fn rows_have_trips()
+    ensures { (world : World) → IsLawful desk_seats world → (key : VehicleKey) (trip : Trip)
+        → (trip_of world key ≡ Some trip) ↔ ((trip.vehicle ≡ key) × HasTripRows (rows_of world) trip) }
+{
+    is_in_good_order();
+    rows_tell_trips();
 }
 
 /// The row of a vehicle is the row of its key.

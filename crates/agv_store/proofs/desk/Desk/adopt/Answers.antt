@@ -18,4 +18,4 @@ pub returns-in-Err-clause-damaged : goal.returns-in-Err-clause-damaged
 returns-in-Err-clause-damaged g c clean is = c.in-Err.ensures.damaged clean (damaged_only c.find_desk.new.conn c.in-Err.why is)
 
 pub invariant_of-result : goal.invariant_of-result
-invariant_of-result g c = found_kept g.S.Store c.args.conn c.find_desk.new.conn c.in-Ok.counts c.in-Ok.layout c.in-Ok.ensures c.requires c.no_rooms.result c.no_rooms.ensures c.no_ways.result c.no_ways.ensures c.no_vehicles.result c.no_vehicles.ensures
+invariant_of-result g c = found_kept g.S.Store c.args.conn c.find_desk.new.conn c.in-Ok.counts c.in-Ok.layout c.in-Ok.ensures c.requires c.no_rooms.result c.no_rooms.ensures c.no_trips.result c.no_trips.ensures c.no_vehicles.result c.no_vehicles.ensures

@@ -7,7 +7,7 @@ use Rattle.agv_world.specs.Rows.{Rows, rows_of}
 use Rattle.agv_world.specs.Worlds.{World, empty_world}
 use Rattle.agv_world.specs.declared.floor.Counted.{Counted}
 use Rattle.agv_store.specs.KeptVehicles.{AreVehicles, VehiclesOf}
-use Rattle.agv_tables.specs.queries.KnownWays.{AreWays, WaysOf}
+use Rattle.agv_store.specs.KeptTrips.{AreTrips, TripsOf}
 use Rattle.agv_tables.specs.schema.DeskTables.{MakesDesk}
 use Rattle.agv_tables.specs.schema.NewDesk.{KnowsNothing, LeavesRoom, MadeDesksStand, StandsNew}
 use Rattle.agv_tables.specs.sql.Connections.{IsClean, IsOpen}
@@ -40,16 +40,16 @@ module _ {S : Type 0} (g : Ghosts S) (made_stand : MadeDesksStand) (knows_nothin
     nothing_told : IsClean g new → world_at g new ≡ empty_world
     nothing_told clean = let it = knows clean in tells_its_world it.at (state g new).now empty_world it.has
 
-    new_kept : (counts : Counts) → ((what : Counted) → count_in counts what ≡ count_of empty_world what) → (rooms : RoomsLeft) → ((rows : Rows) → AreLeft rooms rows) → (ways : WaysOf) → ((rows : Rows) → AreWays ways rows)
-        → (vehicles : VehiclesOf) → ((rows : Rows) → AreVehicles vehicles rows) → IsKept g new counts None rooms ways vehicles false false
-    new_kept counts none rooms none_left ways no_ways vehicles no_vehicles = record {
+    new_kept : (counts : Counts) → ((what : Counted) → count_in counts what ≡ count_of empty_world what) → (rooms : RoomsLeft) → ((rows : Rows) → AreLeft rooms rows) → (trips : TripsOf) → ((rows : Rows) → AreTrips trips rows)
+        → (vehicles : VehiclesOf) → ((rows : Rows) → AreVehicles vehicles rows) → IsKept g new counts None rooms trips vehicles false false
+    new_kept counts none rooms none_left trips no_trips vehicles no_vehicles = record {
       idle = idle;
       opens = λ clean _ _. (opens clean).1;
       knows = λ clean _. subst (λ (world : World). Knows g new world) (sym (nothing_told clean)) (knows clean);
       counted = λ clean _ what. none what ∙ ap (λ (world : World). count_of world what) (sym (nothing_told clean));
       agrees = λ clean still. tt;
       fits = λ clean _. none_left (rows_of (world_at g new));
-      ways_are = λ clean _. no_ways (rows_of (world_at g new));
+      trips_are = λ clean _. no_trips (rows_of (world_at g new));
       vehicles_are = λ clean _. no_vehicles (rows_of (world_at g new));
     }
 
@@ -57,7 +57,7 @@ pub invariant_of-result : goal.invariant_of-result
 invariant_of-result g c =
     let its = c.in-Ok.ensures in
     let room = subst LeavesRoom c.schema.ensures.value (c.if-not-leaves_room.ensures.0 refl) in
-    new_kept g.S.Store c.made_desks_stand.ensures c.new_desks_know_nothing.ensures.world c.args.conn c.make_desk_tables.new.conn room its.idle its.open its.all_committed its.made c.a_database_tells_its_world.ensures c.none.result c.none.ensures c.no_rooms.result c.no_rooms.ensures c.no_ways.result c.no_ways.ensures c.no_vehicles.result c.no_vehicles.ensures
+    new_kept g.S.Store c.made_desks_stand.ensures c.new_desks_know_nothing.ensures.world c.args.conn c.make_desk_tables.new.conn room its.idle its.open its.all_committed its.made c.a_database_tells_its_world.ensures c.none.result c.none.ensures c.no_rooms.result c.no_rooms.ensures c.no_trips.result c.no_trips.ensures c.no_vehicles.result c.no_vehicles.ensures
 
 pub returns-in-Ok-clause-made : goal.returns-in-Ok-clause-made
 returns-in-Ok-clause-made g c =

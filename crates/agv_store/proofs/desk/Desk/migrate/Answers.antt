@@ -9,7 +9,7 @@ pub invariant_of-result : goal.invariant_of-result
 invariant_of-result g c =
     let its = c.in-Ok-move_tables.ensures in
     moved_kept g.S.Store c.args.conn c.find_first_desk.new.conn c.move_tables.new.conn c.in-Ok.found.0 c.in-Ok.found.1 c.in-Ok.found.2 c.in-Ok.ensures
-    (c.is_autocommit-settled.ensures.settled (c.is_autocommit-settled.ensures.value ∙ ap not c.requires)) its.crash its.idle its.open its.all_committed its.made c.a_database_tells_its_world.ensures c.no_rooms.result c.no_rooms.ensures c.no_ways.result c.no_ways.ensures c.no_vehicles.result c.no_vehicles.ensures
+    (c.is_autocommit-settled.ensures.settled (c.is_autocommit-settled.ensures.value ∙ ap not c.requires)) its.crash its.idle its.open its.all_committed its.made c.a_database_tells_its_world.ensures c.no_rooms.result c.no_rooms.ensures c.no_trips.result c.no_trips.ensures c.no_vehicles.result c.no_vehicles.ensures
 
 pub returns-in-Ok-move_tables-clause-migrated : goal.returns-in-Ok-move_tables-clause-migrated
 returns-in-Ok-move_tables-clause-migrated g c =

@@ -7,6 +7,6 @@ use Rattle.agv_store.proofs.keyed_floor.KeyedFloor.keep_layout.Goals as goal
 
 pub invariant_of-self : goal.invariant_of-self
 invariant_of-self g c =
-    keeps_set g.S.Store c.gives_itself.ensures c.needs_a_node.ensures c.self.inside.conn c.self.inside.counts c.self.inside.layout c.self.inside.rooms c.self.inside.ways c.self.inside.vehicles c.self.inside.failed c.self.inside.in_doubt c.self.invariant c.in_ok-copy.copy
+    keeps_set g.S.Store c.gives_itself.ensures c.needs_a_node.ensures c.self.inside.conn c.self.inside.counts c.self.inside.layout c.self.inside.rooms c.self.inside.trips c.self.inside.vehicles c.self.inside.failed c.self.inside.in_doubt c.self.invariant c.in_ok-copy.copy
     (λ clean still. c.in_ok-copy.ensures
     ∙ subst (λ (desk : Keyed g.row.S.Denot). IsClean g.S.Store desk.held → IsOpen g.S.Store desk.held → c.args.layout.now ≡ layout_set (world_at g.S.Store desk.held)) (sym c.self.view_is) c.requires clean still)

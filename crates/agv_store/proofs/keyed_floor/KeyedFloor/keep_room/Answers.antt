@@ -12,12 +12,12 @@ use Rattle.agv_store.proofs.keyed_floor.KeyedFloor.keep_room.Goals as goal
 
 pub invariant_of-self : goal.invariant_of-self
 invariant_of-self g c =
-    keeps_rooms g.S.Store c.self.inside.conn c.self.inside.counts c.self.inside.layout c.self.inside.rooms c.insert.new.self c.self.inside.ways c.self.inside.vehicles c.self.inside.failed c.self.inside.in_doubt c.self.invariant
+    keeps_rooms g.S.Store c.self.inside.conn c.self.inside.counts c.self.inside.layout c.self.inside.rooms c.insert.new.self c.self.inside.trips c.self.inside.vehicles c.self.inside.failed c.self.inside.in_doubt c.self.invariant
     (λ clean still left. same_entries name_cmp names_apart (IsRoomLeft (rows_of (world_at g.S.Store c.self.inside.conn))) c.self.inside.rooms c.insert.new.self c.in_err-insert.ensures.err left)
 
 pub invariant_of-self-2 : goal.invariant_of-self-2
 invariant_of-self-2 g c =
     let counted = subst (λ (desk : Keyed g.row.S.Denot). IsClean g.S.Store desk.held → IsOpen g.S.Store desk.held → Some c.args.room ≡ room_at (world_at g.S.Store desk.held) c.args.station) (sym c.self.view_is) c.requires.counted in
-    keeps_rooms g.S.Store c.self.inside.conn c.self.inside.counts c.self.inside.layout c.self.inside.rooms c.insert.new.self c.self.inside.ways c.self.inside.vehicles c.self.inside.failed c.self.inside.in_doubt c.self.invariant
+    keeps_rooms g.S.Store c.self.inside.conn c.self.inside.counts c.self.inside.layout c.self.inside.rooms c.insert.new.self c.self.inside.trips c.self.inside.vehicles c.self.inside.failed c.self.inside.in_doubt c.self.invariant
     (λ clean still left. one_more_entry name_cmp names_apart (IsRoomLeft (rows_of (world_at g.S.Store c.self.inside.conn))) c.self.inside.rooms c.insert.new.self c.args.station c.args.room c.in_ok-insert.ensures.updates.0
     (counted_left (world_at g.S.Store c.self.inside.conn) c.args.station c.args.room c.requires.some (counted clean still)) left)

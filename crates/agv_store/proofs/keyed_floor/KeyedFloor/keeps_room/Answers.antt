@@ -8,4 +8,4 @@ pub returns : goal.returns
 returns g c has clean still =
     let world = world_at g.S.Store c.args.self.now.held in
     one_fits world c.args.station (c.is_some_left.ensures has (rows_of world)
-    (fits_seen g.S.Store c.self.inside.conn c.self.inside.counts c.self.inside.layout c.self.inside.rooms c.self.inside.ways c.self.inside.vehicles c.self.inside.failed c.self.inside.in_doubt c.self.invariant c.args.self.now c.self.view_is clean still))
+    (fits_seen g.S.Store c.self.inside.conn c.self.inside.counts c.self.inside.layout c.self.inside.rooms c.self.inside.trips c.self.inside.vehicles c.self.inside.failed c.self.inside.in_doubt c.self.invariant c.args.self.now c.self.view_is clean still))

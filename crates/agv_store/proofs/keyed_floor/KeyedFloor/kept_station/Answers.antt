@@ -6,4 +6,4 @@ use Rattle.agv_store.proofs.keyed_floor.KeyedFloor.kept_station.Goals as goal
 pub returns : goal.returns
 returns g c =
     IfSome_then c.known_station.result c.known_station.ensures.agrees (λ site so clean still. so (world_at g.S.Store c.args.self.now.held)
-    (agrees_seen g.S.Store c.self.inside.conn c.self.inside.counts c.self.inside.layout c.self.inside.rooms c.self.inside.ways c.self.inside.vehicles c.self.inside.failed c.self.inside.in_doubt c.self.invariant c.args.self.now c.self.view_is clean still))
+    (agrees_seen g.S.Store c.self.inside.conn c.self.inside.counts c.self.inside.layout c.self.inside.rooms c.self.inside.trips c.self.inside.vehicles c.self.inside.failed c.self.inside.in_doubt c.self.invariant c.args.self.now c.self.view_is clean still))

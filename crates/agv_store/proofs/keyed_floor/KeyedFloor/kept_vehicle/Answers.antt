@@ -7,6 +7,6 @@ use Rattle.agv_store.proofs.keyed_floor.KeyedFloor.kept_vehicle.Goals as goal
 pub returns : goal.returns
 returns g c =
     if_there _ c.kept_row.result (λ vehicle is clean still.
-    sym (vehicles_seen g.S.Store c.self.inside.conn c.self.inside.counts c.self.inside.layout c.self.inside.rooms c.self.inside.ways c.self.inside.vehicles c.self.inside.failed c.self.inside.in_doubt c.self.invariant c.args.self.now c.self.view_is clean still
+    sym (vehicles_seen g.S.Store c.self.inside.conn c.self.inside.counts c.self.inside.layout c.self.inside.rooms c.self.inside.trips c.self.inside.vehicles c.self.inside.failed c.self.inside.in_doubt c.self.invariant c.args.self.now c.self.view_is clean still
     c.args.key.now vehicle (sym c.kept_row.ensures ∙ is))
     ∙ c.rows_have_vehicles.ensures (world_at g.S.Store c.args.self.now.held) c.args.key.now)

@@ -11,7 +11,7 @@ returns-in_err-journey g c = passes g.S.Store c.args.conn.now c.query_journey.ne
 pub returns-in-None : goal.returns-in-None
 returns-in-None g c =
     follows g.S.Store c.args.conn.now c.query_journey.new.conn c.in_ok-journey.journey _ _ (Ok None)
-    (λ world lawful one _ _. sym (c.rows_tell_trips.ensures.trip world lawful c.args.key.now ∙ ap (option_and_then (told_by_journey (rows_of world))) (sym one ∙ c.in-None.is))) c.in_ok-journey.ensures
+    (λ world lawful one _. sym (c.rows_tell_trips.ensures.trip world lawful c.args.key.now ∙ ap (option_and_then (told_by_journey (rows_of world))) (sym one ∙ c.in-None.is))) c.in_ok-journey.ensures
 
 pub returns-in_err-trip-in-Some : goal.returns-in_err-trip-in-Some
 returns-in_err-trip-in-Some g c =
@@ -22,7 +22,7 @@ pub returns-in_ok-trip-in-Some : goal.returns-in_ok-trip-in-Some
 returns-in_ok-trip-in-Some g c =
     then_follows g.S.Store c.args.conn.now c.query_journey.new.conn c.query_told_trip.new.conn c.in_ok-journey.journey _ c.in_ok-journey.ensures
     c.in_ok-trip-in-Some.trip _ _ (Ok (Some c.in_ok-trip-in-Some.trip))
-    (λ world lawful one two agrees ways.
-    sym (two agrees ways)
+    (λ world lawful one two agrees.
+    sym (two agrees)
     ∙ sym (c.rows_tell_trips.ensures.trip world lawful c.args.key.now ∙ ap (option_and_then (told_by_journey (rows_of world))) (sym one ∙ c.in-Some.is)))
     c.in_ok-trip-in-Some.ensures

@@ -1,0 +1,180 @@
+-- The open trips that are kept beside the connection, and that the rows have them once rows were written.
+use Rattle.std.proofs.Common.{◌≡◌, ℕ, Bool, true, false, not, cond, nat_eq, List, [], ◌∷◌, filter, Option, None, Some, Result, Ok, Err, OnOk, OnErr, Ordering, Less, Equal, Greater, is_eq, refl, sym, ap, subst, ◌∙◌}
+use Rattle.std.specs.BTreeMap as tree
+use Rattle.std.specs.Cmp.{Equal-is, tied_itself}
+use Rattle.std.specs.Cmp.Lexicographic.{pointwise, texts_ties}
+use Rattle.std.specs.FinMap as finite
+use Rattle.std.specs.FinMap.Entries.{by_order, where_key}
+use Rattle.std.specs.List.{filter_map}
+use Rattle.std.specs.Ordering.{eq_by_cmp}
+use Rattle.sqlite.specs.Held.{Held}
+use Rattle.sqlite_trees.specs.declared.store.Store.{Ghosts}
+use Rattle.agv_header.specs.Name.{name_cmp}
+use Rattle.agv_layout.specs.Layout.{Layout}
+use Rattle.agv_order.specs.declared.trip.Trip.{Trip}
+use Rattle.agv_world.specs.Changes.{change}
+use Rattle.agv_world.specs.KeyOrders.{leg_cmp-IsAntisymmetric, leg_cmp-total}
+use Rattle.agv_world.specs.Keys.{leg_cmp}
+use Rattle.agv_world.specs.Rows.{Rows, rows_of}
+use Rattle.agv_world.specs.Spread.{edit}
+use Rattle.agv_world.specs.Told.{edge_named, edges_of, is_of_order}
+use Rattle.agv_world.specs.declared.change.Change.{Change}
+use Rattle.agv_world.specs.declared.change.Change.TheVariants as row
+use Rattle.agv_world.specs.declared.key.LegKey.{LegKey}
+use Rattle.agv_world.specs.declared.row.TripRow.{TripRow}
+use Rattle.agv_world.proofs.lists.Orders.{names_apart, names_total}
+use Rattle.agv_store.specs.KeptVehicles.{VehiclesOf}
+use Rattle.agv_store.specs.KeptTrips.{AreTrips, IsTripOf, TripsOf, with_row}
+use Rattle.agv_store.proofs.KeptMaps.{one_more_entry, same_entries}
+use Rattle.agv_tables.specs.rows.DecodedTrips.{HasTripRows}
+use Rattle.agv_tables.specs.sql.Connections.{IsClean, IsOpen}
+use Rattle.agv_tables.proofs.sql.MapEntries.{entries-remove}
+use Rattle.agv_store.specs.Floors.{IsKept, world_at}
+use Rattle.agv_store.specs.KeptLayouts.{is_of_layout}
+use Rattle.agv_store.specs.KeptRooms.{RoomsLeft}
+use Rattle.agv_store.specs.declared.counts.Counts.{Counts}
+
+-- ---- entries that don't pass a test
+
+module _ {K X : Type 0} (R : K → K → Ordering) (p : K × X → Bool) (k : K) (out : (q : K) (x : X) → eq_by_cmp R k q ≡ true → p (q, x) ≡ false) where
+  left_out : (e : K × X) (es : List (K × X)) → p e ≡ false → filter p (e ∷ es) ≡ filter p es
+  left_out e es fails = ap (λ b. cond b (e ∷ filter p es) (filter p es)) fails
+
+  -- one that is put
+  filter-put : (x : X) (es : List (K × X)) → p (k, x) ≡ false → filter p (finite.put R k x es) ≡ filter p es
+  filter-put x [] fails = left_out (k, x) [] fails
+  filter-put x (e ∷ es) fails =
+      elim (R k e.0) as (λ r. R k e.0 ≡ r → filter p (by_order r ((k, x) ∷ e ∷ es) ((e.0, x) ∷ es) (e ∷ finite.put R k x es)) ≡ filter p (e ∷ es)) [
+        | Less ↦ λ _. left_out (k, x) (e ∷ es) fails
+        | Equal ↦ λ tied. left_out (e.0, x) es (out e.0 x (ap is_eq tied)) ∙ sym (left_out e es (out e.0 e.1 (ap is_eq tied)))
+        | Greater ↦ λ _. ap (λ (rest : List (K × X)). cond (p e) (e ∷ rest) rest) (filter-put x es fails)
+      ] refl
+
+  -- one that is taken out
+  filter-taken : (es : List (K × X)) → filter p (where_key R (λ q. not (eq_by_cmp R k q)) es) ≡ filter p es
+  filter-taken [] = refl
+  filter-taken (e ∷ es) =
+      let rest = where_key R (λ q. not (eq_by_cmp R k q)) es in
+      elim (eq_by_cmp R k e.0) as (λ b. eq_by_cmp R k e.0 ≡ b → filter p (cond (not b) (e ∷ rest) rest) ≡ filter p (e ∷ es)) [
+        | true ↦ λ tied. filter-taken es ∙ sym (left_out e es (out e.0 e.1 tied))
+        | false ↦ λ _. ap (λ (l : List (K × X)). cond (p e) (e ∷ l) l) (filter-taken es)
+      ] refl
+
+-- ---- rows of edges
+
+-- a row of another order is none of this one
+not_its : (leg : LegKey) (order : List ℕ) → pointwise nat_eq leg.order order ≡ false → (q : LegKey) (edge : List ℕ) → eq_by_cmp leg_cmp leg q ≡ true → is_of_order order (q, edge) ≡ false
+not_its leg order other q edge tied = ap (λ (key : LegKey). pointwise nat_eq key.order order) (sym (leg_cmp-IsAntisymmetric leg q ((Equal-is (leg_cmp leg q)).0 tied))) ∙ other
+
+-- it changes none of this one's
+same_legs : (legs : finite.FinMap leg_cmp (List ℕ)) (leg : LegKey) (edge : Option (List ℕ)) (order : List ℕ) → pointwise nat_eq leg.order order ≡ false
+    → filter (is_of_order order) (finite.entries (edit legs leg edge)) ≡ filter (is_of_order order) (finite.entries legs)
+same_legs legs leg None order other =
+    ap (filter (is_of_order order)) (entries-remove leg_cmp-total leg_cmp-IsAntisymmetric legs leg)
+    ∙ filter-taken leg_cmp (is_of_order order) leg (not_its leg order other) (finite.entries legs)
+same_legs legs leg (Some edge) order other =
+    ap (filter (is_of_order order)) (finite.entries-insert leg_cmp-total legs leg edge)
+    ∙ filter-put leg_cmp (is_of_order order) leg (not_its leg order other) edge (finite.entries legs) other
+
+-- ---- rows that are written
+
+-- what is kept but for one order is as it was, where the change leaves the rows of trips of other orders
+pub others_stay : (trips new : TripsOf) (order : List ℕ) (one : Change)
+    → ((trip : Trip) (rows : Rows) → tree.is_at (name_cmp order) trip.order ≡ false → HasTripRows rows trip → HasTripRows (change rows one) trip)
+    → ((other : List ℕ) → tree.get name_cmp new other ≡ cond (tree.is_at (name_cmp order) other) None (tree.get name_cmp trips other))
+    → (rows : Rows) → AreTrips trips rows → AreTrips new (change rows one)
+others_stay trips new order one stay takes rows are other trip there =
+    elim (tree.is_at (name_cmp order) other) as (λ b. tree.is_at (name_cmp order) other ≡ b → cond b None (tree.get name_cmp trips other) ≡ Some trip → IsTripOf (change rows one) other trip) [
+      | true ↦ λ tied is. absurd (cc is)
+      | false ↦ λ untied is.
+          let its = are other trip is in
+          (its.0, stay trip rows (ap (tree.is_at (name_cmp order)) its.0 ∙ untied) its.1)
+    ] refl (sym (takes other) ∙ there)
+
+-- a row of an edge of another order
+leg_of_another : (leg : LegKey) (edge : Option (List ℕ)) (trip : Trip) (rows : Rows) → tree.is_at (name_cmp leg.order) trip.order ≡ false → HasTripRows rows trip → HasTripRows (change rows (row.Leg leg edge)) trip
+unfolding edges_of
+leg_of_another leg edge trip rows untied has = (
+  has.0,
+  has.1 ∙ ap (λ legs. filter_map (λ (leg : LegKey × List ℕ). edge_named rows.edges leg.1) legs) (sym (same_legs rows.legs leg edge trip.order (texts_ties leg.order trip.order ∙ untied))),
+)
+
+-- where the trip of its order is forgotten, the rows have those that are kept
+pub leg_forgotten : (trips new : TripsOf) (leg : LegKey) (edge : Option (List ℕ)) → ((other : List ℕ) → tree.get name_cmp new other ≡ cond (tree.is_at (name_cmp leg.order) other) None (tree.get name_cmp trips other))
+    → (rows : Rows) → AreTrips trips rows → AreTrips new (change rows (row.Leg leg edge))
+leg_forgotten trips new leg edge = others_stay trips new leg.order (row.Leg leg edge) (leg_of_another leg edge)
+
+another : (order other : List ℕ) → tree.is_at (name_cmp order) other ≡ false → eq_by_cmp name_cmp other order ≡ false
+another order other untied =
+    elim (eq_by_cmp name_cmp other order) as (λ b. eq_by_cmp name_cmp other order ≡ b → b ≡ false) [
+      | true ↦ λ tied. absurd (cc (sym untied ∙ ap (tree.is_at (name_cmp order)) (names_apart other order ((Equal-is (name_cmp other order)).0 tied)) ∙ ap is_eq (tied_itself names_total order)))
+      | false ↦ λ _. refl
+    ] refl
+
+edit_elsewhere : (table : finite.FinMap name_cmp TripRow) (order : List ℕ) (its : Option TripRow) (other : List ℕ) → eq_by_cmp name_cmp other order ≡ false → finite.get (edit table order its) other ≡ finite.get table other
+edit_elsewhere table order None other untied = finite.get-remove names_total table order other ∙ ap (λ b. cond b None (finite.get table other)) untied
+edit_elsewhere table order (Some its) other untied = finite.get-insert names_total table order its other ∙ ap (λ b. cond b (Some its) (finite.get table other)) untied
+
+-- a row of the trip of another order
+trip_of_another : (order : List ℕ) (its : Option TripRow) (trip : Trip) (rows : Rows) → tree.is_at (name_cmp order) trip.order ≡ false → HasTripRows rows trip → HasTripRows (change rows (row.Trip order its)) trip
+unfolding edges_of
+trip_of_another order its trip rows untied has = (edit_elsewhere rows.trips order its trip.order (another order trip.order untied) ∙ has.0, has.1)
+
+pub trip_forgotten : (trips new : TripsOf) (order : List ℕ) (its : Option TripRow) → ((other : List ℕ) → tree.get name_cmp new other ≡ cond (tree.is_at (name_cmp order) other) None (tree.get name_cmp trips other))
+    → (rows : Rows) → AreTrips trips rows → AreTrips new (change rows (row.Trip order its))
+trip_forgotten trips new order its = others_stay trips new order (row.Trip order its) (trip_of_another order its)
+
+-- the trip is as the row says that is written
+row_put : (order : List ℕ) (trip : Trip) (its : TripRow) (rows : Rows) → IsTripOf rows order trip → IsTripOf (change rows (row.Trip order (Some its))) order (with_row trip its)
+unfolding edges_of
+row_put order trip its rows is = (
+  is.0,
+  (
+    ap (finite.get (finite.insert rows.trips order its)) is.0
+        ∙ finite.get-insert names_total rows.trips order its order
+        ∙ ap (λ o. cond (is_eq o) (Some its) (finite.get rows.trips order)) (tied_itself names_total order),
+    is.1.1,
+  ),
+)
+
+-- so it can be kept in the place of the one before, where there is memory for it
+pub trip_put : {E : Type 0} (trips mid new : TripsOf) (order : List ℕ) (trip written : Trip) (its : TripRow) → tree.get name_cmp trips order ≡ Some trip → written ≡ with_row trip its
+    → ((other : List ℕ) → tree.get name_cmp mid other ≡ cond (tree.is_at (name_cmp order) other) None (tree.get name_cmp trips other))
+    → (r : Result (Option Trip) E) → OnOk r (tree.Updates name_cmp mid new order (Some written)) → OnErr r (tree.IsUnchanged mid new)
+    → (rows : Rows) → AreTrips trips rows → AreTrips new (change rows (row.Trip order (Some its)))
+trip_put trips mid new order trip written its was is takes (Ok before) puts same rows are =
+    one_more_entry name_cmp names_apart (IsTripOf (change rows (row.Trip order (Some its)))) mid new order written puts.0
+    (subst (IsTripOf (change rows (row.Trip order (Some its))) order) (sym is) (row_put order trip its rows (are order trip was)))
+    (trip_forgotten trips mid order (Some its) takes rows are)
+trip_put trips mid new order trip written its was is takes (Err back) puts same rows are =
+    same_entries name_cmp names_apart (IsTripOf (change rows (row.Trip order (Some its)))) mid new same (trip_forgotten trips mid order (Some its) takes rows are)
+
+-- a row that is none of an edge, of a trip or of the layout leaves each
+pub trips_stay : (trips : TripsOf) (one : Change) → is_of_layout one ≡ false → ((leg : LegKey) (edge : Option (List ℕ)) → one ≡ row.Leg leg edge → ⊥) → ((order : List ℕ) (its : Option TripRow) → one ≡ row.Trip order its → ⊥)
+    → (rows : Rows) → AreTrips trips rows → AreTrips trips (change rows one)
+unfolding edges_of
+trips_stay trips (row.Node id) laid leg trip rows are = absurd (cc laid)
+trips_stay trips (row.Edge id ends) laid leg trip rows are = absurd (cc laid)
+trips_stay trips (row.Station id site) laid leg trip rows are = absurd (cc laid)
+trips_stay trips (row.Vehicle key vehicle) laid leg trip rows are = are
+trips_stay trips (row.Trip order its) laid leg trip rows are = absurd (trip order its refl)
+trips_stay trips (row.Leg key edge) laid leg trip rows are = absurd (leg key edge refl)
+trips_stay trips (row.Load id to) laid leg trip rows are = are
+trips_stay trips (row.Job id job) laid leg trip rows are = are
+trips_stay trips (row.Hold thing key) laid leg trip rows are = are
+trips_stay trips (row.Used key) laid leg trip rows are = are
+
+-- ---- a trip that is kept
+
+module _ {S : Type 0} (g : Ghosts S) (held : Held S) (counts : Counts) (layout : Option Layout) (rooms : RoomsLeft) (trips more : TripsOf) (vehicles : VehiclesOf) (failed in_doubt : Bool) (is : IsKept g held counts layout rooms trips vehicles failed in_doubt) where
+  pub keeps_trips : (IsClean g held → IsOpen g held → AreTrips trips (rows_of (world_at g held)) → AreTrips more (rows_of (world_at g held))) → IsKept g held counts layout rooms more vehicles failed in_doubt
+  keeps_trips so = record {
+    idle = is.idle;
+    opens = is.opens;
+    knows = is.knows;
+    counted = is.counted;
+    agrees = is.agrees;
+    fits = is.fits;
+    trips_are = λ clean still. so clean still (is.trips_are clean still);
+    vehicles_are = is.vehicles_are;
+  }

@@ -1,0 +1,14 @@
+use Rattle.std.proofs.Common.{◌≡◌, Some}
+use Rattle.agv_order.specs.declared.trip.Trip.{Trip}
+use Rattle.agv_world.specs.Questions.{trip_of}
+use Rattle.agv_tables.specs.sql.Connections.{IsClean, IsOpen}
+use Rattle.agv_store.specs.Floors.{world_at}
+use Rattle.agv_store.proofs.Asked.{answered_open}
+use Rattle.agv_store.proofs.KeptLayout.{if_some}
+use Rattle.agv_store.proofs.floor_questions.KeyedFloorFloor.trip.Goals as goal
+
+pub returns-in-Some : goal.returns-in-Some
+returns-in-Some g c =
+    answered_open g.S.Store c.args.self.now c.settle.new.self c.in_ok-settle.ensures.asks c.in_ok-settle.ensures.knows
+    (if_some (λ (trip : Trip). IsClean g.S.Store c.args.self.now.held → IsOpen g.S.Store c.args.self.now.held → Some trip ≡ trip_of (world_at g.S.Store c.args.self.now.held) c.args.key)
+    c.in_ok-kept.kept c.in-Some.kept c.in-Some.is c.in_ok-kept.ensures)

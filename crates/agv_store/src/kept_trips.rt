@@ -1,0 +1,150 @@
+//! The open trips of orders, kept beside the connection once they were read, so that no state of a vehicle has its trip read
+//! anew. Where a write has the row of a trip that is kept, this has what the row says; where it takes the row away, or has
+//! one of the order's edges or of the layout, the trip is kept no more.
+ghost use Rattle.std.specs.Prelude.{◌≡◌, IfOk, IfSome, Some};
+ghost use Rattle.agv_world.specs.Asks.{Asks};
+ghost use Rattle.agv_world.specs.Changes.{change, changed};
+ghost use Rattle.agv_world.specs.Questions.{trip_of};
+ghost use Rattle.agv_world.specs.Rows.{Rows};
+ghost use Rattle.agv_world.specs.Spread.{edit};
+ghost use Rattle.agv_tables.specs.sql.Connections.{IsClean, IsOpen};
+ghost use Rattle.agv_store.specs.Floors.{facts_of, world_at};
+ghost use Rattle.agv_store.specs.KeptTrips.{AreTrips, IsTripOf, with_row};
+
+use crate::flags::note;
+use crate::kept_layout::is_of_layout;
+use crate::keyed_floor::KeyedFloor;
+use agv_header::{Memory, Name, VehicleKey};
+use agv_order::Trip;
+use agv_tables::queries::trip_queries::query_trip;
+use agv_tables::rows::trip_laws::rows_have_trips;
+use agv_world::change_laws::changes_in_turn;
+use agv_world::{ByVehicle, Change, Fault, TripRow};
+use sqlite::Alter;
+use std::alloc::Global;
+use std::collections::BTreeMap;
+
+/// Orders, each with its open trip.
+pub(crate) type KeptTrips = BTreeMap<Name, Trip>;
+
+/// Vehicles, each with the order of its trip that was kept last. Nothing rests on it: a trip that is found so is taken where
+/// it names the vehicle.
+pub(crate) type KeptOrders = ByVehicle<Name>;
+
+impl<S: Alter + Drop> KeyedFloor<S> {
+    // A copy of the open trip of a vehicle, where it is kept.
+    pub(crate) fn kept_trip(&self, key: &VehicleKey) -> Result<Option<Trip>, Memory>
+        ensures { IfOk result (λ kept. IfSome kept (λ trip. IsClean S.Store self.now.held → IsOpen S.Store self.now.held → Some trip ≡ trip_of (world_at S.Store self.now.held) key.now)) }
+    {
+        rows_have_trips();
+        self.knows();
+        let Some(order) = self.orders.get(*key) else {
+            return Ok(None);
+        };
+        trip_of_vehicle(&self.trips, *order, key)
+    }
+
+    // The open trip of a vehicle, asked of the tables.
+    pub(crate) fn trip_asked(&mut self, key: &VehicleKey) -> Result<Option<Trip>, Fault>
+        ensures { Asks (facts_of S.Store) self.old self.new result (λ world trip. trip ≡ trip_of world key.now) }
+    {
+        let asked = query_trip(self.alloc, &mut self.conn, &self.layout, key);
+        note(&mut self.failed, &mut self.in_doubt, asked)
+    }
+
+    // A copy of the open trip of a vehicle is kept.
+    pub(crate) fn keep_trip(&mut self, key: &VehicleKey, trip: &Trip) -> Result<(), Memory>
+        requires { IsClean S.Store self.old.held → IsOpen S.Store self.old.held → Some trip.now ≡ trip_of (world_at S.Store self.old.held) key.now }
+        ensures { self.new ≡ self.old }
+    {
+        rows_have_trips();
+        let copy = trip.copy()?;
+        self.trips.insert(trip.order, copy)?;
+        self.orders.insert(*key, trip.order)
+    }
+}
+
+// None is kept.
+pub(crate) fn no_trips(alloc: Global) -> KeptTrips
+    ensures { (rows : Rows) → AreTrips result rows }
+{
+    BTreeMap::new(alloc)
+}
+
+// A copy of the trip that is kept of an order, where it is one of the vehicle.
+fn trip_of_vehicle(trips: &KeptTrips, order: Name, key: &VehicleKey) -> Result<Option<Trip>, Memory>
+    ensures { IfOk result (λ kept. IfSome kept (λ trip. (trip.vehicle ≡ key.now) × ((rows : Rows) → AreTrips trips.now rows → IsTripOf rows order trip))) }
+{
+    match trips.get(&order) {
+        None => Ok(None),
+        Some(trip) => {
+            if trip.vehicle == *key {
+                let copy = trip.copy()?;
+                return Ok(Some(copy));
+            }
+            Ok(None)
+        }
+    }
+}
+
+// The trips that are kept once the changes were made.
+pub(crate) fn follow_through(trips: &mut KeptTrips, changes: &[Change])
+    ensures { (rows : Rows) → AreTrips trips.old rows → AreTrips trips.new (changed changes.now rows) }
+{
+    changes_in_turn();
+    for change in changes {
+        follow(trips, change);
+    }
+}
+
+// The trips that are kept once the change was made: none where it is one of the layout, that of an order no more where it is
+// one of the order's edges, and as its row says where it is that.
+fn follow(trips: &mut KeptTrips, one: &Change)
+    ensures { (rows : Rows) → AreTrips trips.old rows → AreTrips trips.new (change rows one.now) }
+{
+    if is_of_layout(one) {
+        trips.clear();
+        return;
+    }
+    if let Change::Leg(leg, _) = one {
+        trips.remove(&leg.order);
+    } else if let Change::Trip(order, row) = one {
+        put_row(trips, *order, row);
+    }
+}
+
+// The trip that is kept of an order is as this row says; it is kept no more where the row is taken away, or there is no memory
+// for what the row says.
+fn put_row(trips: &mut KeptTrips, order: Name, row: &Option<TripRow>)
+    ensures { (rows : Rows) → AreTrips trips.old rows → AreTrips trips.new (record rows { trips = edit rows.trips order row.now }) }
+{
+    let Some(trip) = trips.remove(&order) else {
+        return;
+    };
+    let Some(row) = row else {
+        return;
+    };
+    if let Ok(trip) = with_row(trip, row) {
+        let _kept = trips.insert(order, trip);
+    }
+}
+
+// The trip with what this row says.
+fn with_row(trip: Trip, row: &TripRow) -> Result<Trip, Memory>
+    ensures { IfOk result (λ written. written ≡ with_row trip row.now) }
+{
+    let acts = row.acts.copy()?;
+    let Trip { order, edges, .. } = trip;
+    Ok(Trip {
+        order,
+        vehicle: row.vehicle,
+        start: row.start,
+        edges,
+        first: row.first,
+        base: row.base,
+        sent: row.sent,
+        confirmed: row.confirmed,
+        seen: row.seen,
+        acts,
+    })
+}
