@@ -1,2 +1,3 @@
+pub mod ActRows
 pub mod ChangesMade
 pub mod WriteFaults

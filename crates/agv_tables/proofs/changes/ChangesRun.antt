@@ -10,7 +10,7 @@ use Rattle.agv_trip_rows.specs.TripRows.{act_key, act_row, act_rows_from}
 use Rattle.agv_world.specs.declared.change.Change.{Change}
 use Rattle.agv_tables.specs.changes.ChangesMade.{ChangesWorlds, MakesChanges}
 use Rattle.agv_tables.specs.rows.Columns.{act_columns}
-use Rattle.agv_tables.specs.rows.DeskRows.{FitsTable, Makes, with_put_by, with_row, with_rows}
+use Rattle.agv_tables.specs.rows.DeskRows.{FitsTable, Makes, table_for, with_put_by, with_row, with_rows}
 use Rattle.agv_tables.specs.rows.RowLists.{listed, listed_all, rows_of_acts}
 use Rattle.agv_tables.specs.statements.RowTexts.{columns_deleted, table_written}
 use Rattle.agv_tables.specs.statements.RowUpdates.{IsKeyOf, table_updated}
@@ -40,14 +40,15 @@ puts table given_key key given row a b r keyed valued fit made =
     (subst (λ (v : Row). FitsTable (table_written table) v → OnOk r (Makes (with_put_by (table_written table) (columns_deleted table) given_key v) a b)) valued made fit)
 
 -- and so is what is written over the row of its key
-pub puts_over : (table : UpdatedTable) (given_key key given row : Row) (a b : State) (r : Result ℕ Error) → given_key ≡ key → given ≡ row → FitsTable (table_written (table_updated table)) row → IsKeyOf (columns_deleted (table_updated table)) key row
-    → (FitsTable (table_written (table_updated table)) given → IsKeyOf (columns_deleted (table_updated table)) given_key given → OnOk r (Makes (with_put_by (table_written (table_updated table)) (columns_deleted (table_updated table)) given_key given) a b))
+pub puts_over : (table : UpdatedTable) (given_key key given row : Row) (a b : State) (r : Result ℕ Error) → given_key ≡ key → given ≡ row → FitsTable (table_written (table_updated table)) row
+    → columns_deleted (table_updated table) ≡ (table_for (table_written (table_updated table))).primary → IsKeyOf (columns_deleted (table_updated table)) key row
+    → (FitsTable (table_written (table_updated table)) given → columns_deleted (table_updated table) ≡ (table_for (table_written (table_updated table))).primary → IsKeyOf (columns_deleted (table_updated table)) given_key given → OnOk r (Makes (with_put_by (table_written (table_updated table)) (columns_deleted (table_updated table)) given_key given) a b))
     → OnOk r (Makes (with_put_by (table_written (table_updated table)) (columns_deleted (table_updated table)) key row) a b)
-puts_over table given_key key given row a b r keyed valued fit is_key made =
+puts_over table given_key key given row a b r keyed valued fit same is_key made =
     let name = table_written (table_updated table) in
     let columns = columns_deleted (table_updated table) in
     subst (λ (k : Row). IsKeyOf columns k row → OnOk r (Makes (with_put_by name columns k row) a b)) keyed
-    (subst (λ (v : Row). FitsTable name v → IsKeyOf columns given_key v → OnOk r (Makes (with_put_by name columns given_key v) a b)) valued made fit) is_key
+    (subst (λ (v : Row). FitsTable name v → IsKeyOf columns given_key v → OnOk r (Makes (with_put_by name columns given_key v) a b)) valued (λ fits keys. made fits same keys) fit) is_key
 
 -- ---- the acts of an order
 

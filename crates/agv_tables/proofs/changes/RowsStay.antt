@@ -36,7 +36,7 @@ changed-alike zero f (rows ∷ lists) h = (h, alike_itself lists)
 changed-alike (suc at) f (rows ∷ lists) h = (IsPermutation-refl rows, changed-alike at f lists h)
 
 -- where the rows that go are those that come, the tables have the same rows
-stay-alike : (name : TableName) (columns : List ℕ) (key : Row) (more : List Row) (lists : List (List Row))
+pub stay-alike : (name : TableName) (columns : List ℕ) (key : Row) (more : List Row) (lists : List (List Row))
     → IsPermutation (filter (has_columns columns key) (table_at (place_of name) lists)) more → AreAlike lists (with_rows name more (without_rows name columns key lists))
 stay-alike name columns key more lists h =
     let at = place_of name in

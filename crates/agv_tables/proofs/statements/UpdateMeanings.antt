@@ -9,7 +9,7 @@ use Rattle.sqlite_tied.specs.Compute.{everything}
 use Rattle.sqlite.specs.declared.error.Error.{Error}
 use Rattle.sqlite.specs.State.{State, Executes}
 use Rattle.agv_tables.specs.rows.DeskRows.{Placing, FitsTable, Holds, IsDesk, Makes, has_columns, on_table, place_of, table_at, table_for, with_put_by, with_row}
-use Rattle.agv_tables.specs.statements.RowTexts.{columns_deleted, table_written}
+use Rattle.agv_tables.specs.statements.RowTexts.{table_written}
 use Rattle.agv_tables.specs.statements.RowUpdates.{Counts, IsKeyOf, table_updated, update_text, with_each}
 use Rattle.agv_tables.specs.declared.schema.table_name.TableName.{TableName}
 use Rattle.agv_tables.specs.declared.schema.table_name.TableName.TheVariants as the
@@ -19,16 +19,16 @@ use Rattle.agv_tables.proofs.rows.KeyedRows.{on_table-twice}
 use Rattle.agv_tables.proofs.schema.DeskPlaces.{is_in}
 use Rattle.agv_tables.proofs.sql.OneTable.{IsIn, Means, parsed, query_by, update_sets, update_test}
 use Rattle.agv_tables.proofs.sql.OneTableWrites.{update_means}
-use Rattle.agv_tables.proofs.statements.DeskStatements.{RunsInside, deleted_passes, deleted_within, makes, makes_then}
+use Rattle.agv_tables.proofs.statements.DeskStatements.{RunsInside, key_passes, makes, makes_then, within}
 use Rattle.agv_tables.proofs.statements.RowForms.{Lands, rows_updated}
-use Rattle.agv_tables.proofs.statements.RowMeanings.{deleted_terms, key_terms, over_terms, with_tree}
+use Rattle.agv_tables.proofs.statements.RowMeanings.{key_terms, over_terms, with_tree}
 
 -- ---- the texts
 
 abbrev Updates : UpdatedTable → Type 0
 Updates table =
     let name = table_written (table_updated table) in
-    (s : Schema) (at tree : ℕ) → IsIn s (table_for name).name (with_tree name tree) at → Means s (update_text table) (Update at (record { lets = []; body = query_by tree (deleted_terms (table_updated table)) (over_terms name) }))
+    (s : Schema) (at tree : ℕ) → IsIn s (table_for name).name (with_tree name tree) at → Means s (update_text table) (Update at (record { lets = []; body = query_by tree (key_terms name) (over_terms name) }))
 
 updates : (table : UpdatedTable) → Updates table
 unfolding everything
@@ -44,6 +44,9 @@ updates updated.Load s at tree stands =
 updates updated.Job s at tree stands =
     let p = parsed (update_text updated.Job) in
     update_means s (codes "job") (with_tree the.Job tree) at stands (update_text updated.Job) p refl refl (update_sets p.statement) (update_test p.statement) (key_terms the.Job) (over_terms the.Job) refl refl refl refl refl
+updates updated.Act s at tree stands =
+    let p = parsed (update_text updated.Act) in
+    update_means s (codes "act") (with_tree the.Act tree) at stands (update_text updated.Act) p refl refl (update_sets p.statement) (update_test p.statement) (key_terms the.Act) (over_terms the.Act) refl refl refl refl refl
 
 -- ---- inside a transaction
 
@@ -53,7 +56,7 @@ module _ (table : UpdatedTable) (sql : List ℕ) (text : sql ≡ update_text tab
   name = table_written (table_updated table)
 
   abbrev columns : List ℕ
-  columns = columns_deleted (table_updated table)
+  columns = (table_for name).primary
 
   abbrev SetsRows : Placing → (Row → Bool) → ℕ → Type 0
   SetsRows desk p count =
@@ -62,8 +65,8 @@ module _ (table : UpdatedTable) (sql : List ℕ) (text : sql ≡ update_text tab
 
   sets_rows : (desk : Placing) → IsDesk desk → old.now.schema ≡ desk.schema → (count : ℕ) → Executes (update_text table) row old new (Ok count) → SetsRows desk (has_columns columns row) count
   sets_rows desk is has count done =
-      subst (λ p. SetsRows desk p count) (deleted_passes (table_updated table) row)
-      (rows_updated desk is name old new has (update_text table) row fit (deleted_terms (table_updated table)) (deleted_within (table_updated table))
+      subst (λ p. SetsRows desk p count) (key_passes name row)
+      (rows_updated desk is name old new has (update_text table) row fit (key_terms name) (within name)
       (updates table desk.schema (is.stands name).at (desk.tree name) (is_in desk is name)) count done)
 
   pub updates_row : OnOk r (Makes (with_each name columns row) old new)

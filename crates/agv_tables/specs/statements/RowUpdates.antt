@@ -19,6 +19,7 @@ table_updated updated.Vehicle = world.Vehicle
 table_updated updated.Journey = world.Journey
 table_updated updated.Load = world.Load
 table_updated updated.Job = world.Job
+table_updated updated.Act = world.Act
 
 -- the parameters are the columns of the row, and those of its key are the first
 abbrev pub update_text : UpdatedTable → List ℕ
@@ -26,6 +27,7 @@ update_text updated.Vehicle = codes "UPDATE vehicle SET manufacturer = ?1, seria
 update_text updated.Journey = codes "UPDATE journey SET order_id = ?1, manufacturer = ?2, serial = ?3, start = ?4, first = ?5, base = ?6, sent = ?7, confirmed = ?8, seen = ?9 WHERE order_id = ?1"
 update_text updated.Load = codes "UPDATE load SET id = ?1, kind = ?2, station = ?3, manufacturer = ?4, serial = ?5 WHERE id = ?1"
 update_text updated.Job = codes "UPDATE job SET id = ?1, load = ?2, origin = ?3, target = ?4, phase = ?5 WHERE id = ?1"
+update_text updated.Act = codes "UPDATE act SET order_id = ?1, n = ?2, job = ?3, kind = ?4, place_at = ?5, status = ?6 WHERE order_id = ?1 AND n = ?2"
 
 -- with the row in the place of each that is equal to it in these columns
 abbrev pub with_each : TableName → List ℕ → Row → List (List Row) → List (List Row)

@@ -1,8 +1,8 @@
 //! Whether rows that are shown are those that would be written: then nothing has to be.
 ghost use Rattle.std.specs.Prelude.{◌≡◌, ◌+◌, ◌<◌, ◌^◌, [], ◌∷◌, length, IsTrue};
-ghost use Rattle.agv_trip_rows.specs.TripRows.{act_key, act_row, act_rows_from};
+ghost use Rattle.agv_trip_rows.specs.TripRows.{act_key, act_row};
+ghost use Rattle.agv_tables.specs.changes.ActRows.{AreOfOrder, IsOfOrder};
 ghost use Rattle.agv_tables.specs.rows.Columns.{act_columns, room_columns};
-ghost use Rattle.agv_tables.specs.rows.RowLists.{rows_of_acts};
 
 use crate::rows::decode_row::{decode_act, decode_capacity};
 use crate::rows::row_laws::a_row_told_writes_its_columns;
@@ -32,22 +32,36 @@ fn is_room(row: &Row, key: &VehicleKey, vehicle: &VehicleRow) -> bool
     }
 }
 
-/// Whether the rows, in their order, are those of these acts of the order, which are numbered from `n` on.
-pub(crate) fn are_acts(rows: &[Row], order: &Name, n: usize, acts: &[Act]) -> bool
+/// Whether the rows, in their order, are those of the picks and drops of these jobs, which are numbered from `n` on: they
+/// may say another node and another status.
+pub(crate) fn are_of_acts(rows: &[Row], order: &Name, n: usize, acts: &[Act]) -> bool
     requires { n + length acts.now < 2 ^ 64 }
-    ensures { IsTrue result → rows.now ≡ rows_of_acts (act_rows_from order.now n acts.now) }
+    ensures { IsTrue result → (length rows.now ≡ length acts.now) × AreOfOrder order.now n rows.now }
 {
     match (rows, acts) {
         ([], []) => true,
         ([row, rows @ ..], [act, acts @ ..]) => {
-            is_act(row, order, n, act) && are_acts(rows, order, n + 1, acts)
+            is_of_act(row, order, n, act) && are_of_acts(rows, order, n + 1, acts)
         }
         _ => false,
     }
 }
 
-// Whether the row is that of this act of the order, at this number.
-fn is_act(row: &Row, order: &Name, n: usize, act: &Act) -> bool
+// Whether the row is that of the order's act of this number, and of this job's pick or drop.
+fn is_of_act(row: &Row, order: &Name, n: usize, act: &Act) -> bool
+    ensures { IsTrue result → IsOfOrder order.now n row.now }
+{
+    a_row_told_writes_its_columns();
+    match decode_act(row) {
+        None => false,
+        Some((key, told)) => {
+            key.order == *order && key.k as usize == n && told.job == act.job && told.kind == act.kind
+        }
+    }
+}
+
+/// Whether the row is that of this act of the order, at this number.
+pub(crate) fn is_act(row: &Row, order: &Name, n: usize, act: &Act) -> bool
     ensures { IsTrue result → row.now ≡ act_columns (act_key order.now n) (act_row act.now) }
 {
     a_row_told_writes_its_columns();

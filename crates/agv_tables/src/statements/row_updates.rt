@@ -6,7 +6,7 @@ ghost use Rattle.std.specs.Prelude.{◌≡◌, IfOk, OnOk};
 ghost use Rattle.sqlite.specs.State.{HasCleanDisk, KeepsCommit, Survives};
 ghost use Rattle.sqlite.specs.Held.{state};
 ghost use Rattle.sqlite.specs.Values.{bound};
-ghost use Rattle.agv_tables.specs.rows.DeskRows.{FitsTable, Makes, with_put_by};
+ghost use Rattle.agv_tables.specs.rows.DeskRows.{FitsTable, Makes, table_for, with_put_by};
 ghost use Rattle.agv_tables.specs.statements.RowTexts.{columns_deleted, table_written};
 ghost use Rattle.agv_tables.specs.statements.RowUpdates.{Counts, IsKeyOf, table_updated, update_text, with_each};
 
@@ -16,7 +16,8 @@ use crate::statements::updated_table::UpdatedTable;
 use sqlite::types::ValueRef;
 use sqlite::{Alter, Error, Transaction};
 
-/// Puts the row in the place of that of its key, if there is one: it is written over that.
+/// Puts the row in the place of that of its key, if there is one: it is written over that. Not for acts, which are taken
+/// out by their order.
 pub(crate) fn put_over<S: Alter>(
     tx: &mut Transaction<'_, S>,
     table: UpdatedTable,
@@ -27,7 +28,7 @@ pub(crate) fn put_over<S: Alter>(
     ensures survives { Survives (state S.Store tx.old.conn.now) (state S.Store tx.new.conn.now) (λ _. ⊥) }
     ensures kept { HasCleanDisk (state S.Store tx.new.conn.now) → KeepsCommit (state S.Store tx.old.conn.now) (state S.Store tx.new.conn.now) }
     ensures made { HasCleanDisk (state S.Store tx.new.conn.now) → FitsTable (table_written (table_updated table)) (bound row.now)
-        → IsKeyOf (columns_deleted (table_updated table)) (bound key.now) (bound row.now)
+        → columns_deleted (table_updated table) ≡ (table_for (table_written (table_updated table))).primary → IsKeyOf (columns_deleted (table_updated table)) (bound key.now) (bound row.now)
         → OnOk result (Makes (with_put_by (table_written (table_updated table)) (columns_deleted (table_updated table)) (bound key.now) (bound row.now)) (state S.Store tx.old.conn.now) (state S.Store tx.new.conn.now)) }
 {
     let count = update_row(tx, table, row)?;
@@ -38,8 +39,8 @@ pub(crate) fn put_over<S: Alter>(
     }
 }
 
-// Writes the row over each of its key, and says how many there were.
-fn update_row<S: Alter>(
+/// Writes the row over each of its key, and says how many there were.
+pub(crate) fn update_row<S: Alter>(
     tx: &mut Transaction<'_, S>,
     table: UpdatedTable,
     row: &[ValueRef<'_>],
@@ -48,9 +49,9 @@ fn update_row<S: Alter>(
     ensures survives { Survives (state S.Store tx.old.conn.now) (state S.Store tx.new.conn.now) (λ _. ⊥) }
     ensures kept { HasCleanDisk (state S.Store tx.new.conn.now) → KeepsCommit (state S.Store tx.old.conn.now) (state S.Store tx.new.conn.now) }
     ensures made { HasCleanDisk (state S.Store tx.new.conn.now) → FitsTable (table_written (table_updated table)) (bound row.now)
-        → OnOk result (Makes (with_each (table_written (table_updated table)) (columns_deleted (table_updated table)) (bound row.now)) (state S.Store tx.old.conn.now) (state S.Store tx.new.conn.now)) }
+        → OnOk result (Makes (with_each (table_written (table_updated table)) (table_for (table_written (table_updated table))).primary (bound row.now)) (state S.Store tx.old.conn.now) (state S.Store tx.new.conn.now)) }
     ensures counted { HasCleanDisk (state S.Store tx.new.conn.now) → FitsTable (table_written (table_updated table)) (bound row.now)
-        → IfOk result (Counts (table_written (table_updated table)) (columns_deleted (table_updated table)) (bound row.now) (state S.Store tx.old.conn.now)) }
+        → IfOk result (Counts (table_written (table_updated table)) (table_for (table_written (table_updated table))).primary (bound row.now) (state S.Store tx.old.conn.now)) }
 {
     tx.execute(update(table), row)
 }
@@ -69,6 +70,8 @@ fn update(table: UpdatedTable) -> &'static str
             "UPDATE load SET id = ?1, kind = ?2, station = ?3, manufacturer = ?4, serial = ?5 WHERE id = ?1",
         UpdatedTable::Job =>
             "UPDATE job SET id = ?1, load = ?2, origin = ?3, target = ?4, phase = ?5 WHERE id = ?1",
+        UpdatedTable::Act =>
+            "UPDATE act SET order_id = ?1, n = ?2, job = ?3, kind = ?4, place_at = ?5, status = ?6 WHERE order_id = ?1 AND n = ?2",
     }
 }
 
@@ -81,5 +84,6 @@ fn world_table(table: UpdatedTable) -> WorldTable
         UpdatedTable::Journey => WorldTable::Journey,
         UpdatedTable::Load => WorldTable::Load,
         UpdatedTable::Job => WorldTable::Job,
+        UpdatedTable::Act => WorldTable::Act,
     }
 }

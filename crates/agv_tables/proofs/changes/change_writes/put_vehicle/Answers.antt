@@ -1,3 +1,4 @@
+use Rattle.std.proofs.Common.{refl}
 use Rattle.sqlite.specs.Held.{state}
 use Rattle.agv_tables.specs.declared.statements.updated_table.UpdatedTable.TheVariants as updated
 use Rattle.agv_tables.proofs.changes.ChangesRun.{puts_over}
@@ -8,4 +9,4 @@ use Rattle.agv_tables.proofs.changes.change_writes.put_vehicle.Goals as goal
 pub returns-clause-made : goal.returns-clause-made
 returns-clause-made g c clean =
     puts_over updated.Vehicle _ _ _ _ (state g.S.Store c.args.tx.now.conn.now) (state g.S.Store c.put_over.new.tx.conn.now) c.put_over.result
-    c.vehicle_key_values.ensures c.vehicle_values.ensures (vehicle_fits c.args.key.now c.args.vehicle.now) (vehicle_key_is c.args.key.now c.args.vehicle.now) (c.put_over.ensures.made clean)
+    c.vehicle_key_values.ensures c.vehicle_values.ensures (vehicle_fits c.args.key.now c.args.vehicle.now) refl (vehicle_key_is c.args.key.now c.args.vehicle.now) (c.put_over.ensures.made clean)

@@ -1,3 +1,4 @@
+use Rattle.std.proofs.Common.{refl}
 use Rattle.sqlite.specs.Held.{state}
 use Rattle.agv_tables.specs.declared.statements.updated_table.UpdatedTable.TheVariants as updated
 use Rattle.agv_tables.proofs.changes.ChangesRun.{puts_over}
@@ -8,4 +9,4 @@ use Rattle.agv_tables.proofs.changes.change_writes.write_load.Goals as goal
 pub returns-clause-made : goal.returns-clause-made
 returns-clause-made g c clean =
     puts_over updated.Load _ _ _ _ (state g.S.Store c.args.tx.now.conn.now) (state g.S.Store c.put_over.new.tx.conn.now) c.put_over.result
-    c.name_key_values.ensures c.load_values.ensures (load_fits c.args.id.now c.args.place.now) (load_key_is c.args.id.now c.args.place.now) (c.put_over.ensures.made clean)
+    c.name_key_values.ensures c.load_values.ensures (load_fits c.args.id.now c.args.place.now) refl (load_key_is c.args.id.now c.args.place.now) (c.put_over.ensures.made clean)
