@@ -55,7 +55,10 @@ fn is_of_act(row: &Row, order: &Name, n: usize, act: &Act) -> bool
     match decode_act(row) {
         None => false,
         Some((key, told)) => {
-            key.order == *order && key.k as usize == n && told.job == act.job && told.kind == act.kind
+            key.order == *order
+                && key.k as usize == n
+                && told.job == act.job
+                && told.kind == act.kind
         }
     }
 }

@@ -24,9 +24,9 @@ loop-n-preserved g c =
     let act = c.index-acts-n.result in
     let before = c.loop-n.invariant in
     let goes_on = λ (tx : Transaction g.row.S.Denot).
-        (tx.conn.ghost_name ≡ c.args.tx.now.conn.ghost_name) × Survives first (state g.S.Store tx.conn.now) (λ _. ⊥)
-        × (HasCleanDisk (state g.S.Store tx.conn.now) → KeepsCommit first (state g.S.Store tx.conn.now)
-          × (IsTrue first.in_transaction → AreOfOrder order 0 rows → Answers (acts_listed order) first rows → Makes (so_far order acts rows (n + 1)) first (state g.S.Store tx.conn.now))) in
+    (tx.conn.ghost_name ≡ c.args.tx.now.conn.ghost_name) × Survives first (state g.S.Store tx.conn.now) (λ _. ⊥)
+    × (HasCleanDisk (state g.S.Store tx.conn.now) → KeepsCommit first (state g.S.Store tx.conn.now)
+    × (IsTrue first.in_transaction → AreOfOrder order 0 rows → Answers (acts_listed order) first rows → Makes (so_far order acts rows (n + 1)) first (state g.S.Store tx.conn.now))) in
     elim c.if-not-is_act.branch [
       | then-not-is_act+in_ok-put_act w ↦
           let now = state g.S.Store w.put_act.new.tx.conn.now in
