@@ -6,6 +6,6 @@ pub mod CountedStations
 pub mod CountedWhole
 pub mod FoundLoads
 pub mod PlacedLoads
-pub mod SettledLoads
+pub mod StandingLoads
 pub mod StockLaws
 pub mod StockMoved

@@ -2,7 +2,7 @@
 use Rattle.std.specs.Prelude.{◌≡◌, ℕ, ◌+◌, ◌&&◌, if◌then◌else◌, nat_eq, nat_le, nat_lt, not, length, Bool, true, false, count_by, List, [], ◌∷◌, ◌++◌, map, filter_map, flat_map, Option, None, Some}
 use Rattle.std.specs.Cmp.Lexicographic.{pointwise}
 use Rattle.std.specs.FinMap as finite
-use Rattle.std.specs.List.{list_all, list_any}
+use Rattle.std.specs.List.{AllByRecursion, list_all, list_any}
 use Rattle.std.specs.Option.{option_map}
 use Rattle.agv_header.specs.declared.refusal.Refusal.TheVariants as refusal
 use Rattle.agv_header.specs.Name.{name_cmp}
@@ -118,10 +118,18 @@ standing_at station loads = map (λ (load : List ℕ). (load, place.Station stat
 abbrev pub standing : World → List (List ℕ × StationSite) → List (List ℕ × Place)
 standing world stations = flat_map (λ (station : List ℕ × StationSite). standing_at station.0 (loads_at world station.0)) stations
 
+-- each load that is noted is at that place
+abbrev pub Tells : World → finite.FinMap name_cmp Place → Type 0
+Tells world places = (load : List ℕ) (at : Place) → finite.get places load ≡ Some at → finite.get world.places load ≡ Some at
+
+-- each of these loads is at that place
+abbrev pub AreThere : World → List (List ℕ × Place) → Type 0
+AreThere world loads = AllByRecursion (λ (load : List ℕ × Place). finite.get world.places load.0 ≡ Some load.1) loads
+
 -- where all loads go: those that were found, and those that stand at counted stations
-unfoldable pub moves_in : World → finite.FinMap name_cmp StationSite → finite.FinMap name_cmp (List ℕ) → List CountedLoad → finite.FinMap name_cmp Place
-moves_in world stations found counted_list =
-    settled (finite.contains_key stations) found (settled (finite.contains_key stations) found finite.empty (recorded counted_list)) (standing world (finite.entries stations))
+unfoldable pub moves_in : finite.FinMap name_cmp StationSite → finite.FinMap name_cmp (List ℕ) → List CountedLoad → List (List ℕ × Place) → finite.FinMap name_cmp Place
+moves_in stations found counted_list standing =
+    settled (finite.contains_key stations) found (settled (finite.contains_key stations) found finite.empty (recorded counted_list)) standing
 
 -- ---- whether they fit
 
@@ -136,18 +144,18 @@ all_have_room world counted_list stations = list_all (λ (station : List ℕ × 
 -- ---- the whole
 
 -- the loads that move, and their new places
-abbrev pub moves_list : World → finite.FinMap name_cmp StationSite → finite.FinMap name_cmp (List ℕ) → List CountedLoad → List (List ℕ × Place)
-moves_list world stations found counted_list = finite.entries (moves_in world stations found counted_list)
+abbrev pub moves_list : finite.FinMap name_cmp StationSite → finite.FinMap name_cmp (List ℕ) → List CountedLoad → List (List ℕ × Place) → List (List ℕ × Place)
+moves_list stations found counted_list standing = finite.entries (moves_in stations found counted_list standing)
 
 -- what is done with such moves
 abbrev pub counted_effect : List ℕ → List (List ℕ × Place) → List CountedLoad → Effect
 counted_effect reference moves counted_list = record (answer_only (answer.Counted (length moves) (filter_map unknown_one counted_list))) { moves = map count_move moves; uses = reference_key reference ∷ [] }
 
 -- what a stocktake is answered once its stations and found loads are known, by these parts
-abbrev pub count_by_parts : World → List ℕ → finite.FinMap name_cmp StationSite → finite.FinMap name_cmp (List ℕ) → List CountedLoad → Outcome
-count_by_parts world reference stations found counted_list =
+abbrev pub count_by_parts : World → List ℕ → finite.FinMap name_cmp StationSite → finite.FinMap name_cmp (List ℕ) → List CountedLoad → List (List ℕ × Place) → Outcome
+count_by_parts world reference stations found counted_list standing =
     refuse_unless (not (list_any (λ (one : CountedLoad). is_on_vehicle one.place) counted_list)) refusal.OnVehicle
-    (refuse_unless (not (list_any (λ (load : List ℕ × Place). is_in_job world load.0) (moves_list world stations found counted_list))) refusal.InJob
+    (refuse_unless (not (list_any (λ (load : List ℕ × Place). is_in_job world load.0) (moves_list stations found counted_list standing))) refusal.InJob
     (refuse_unless (all_have_room world counted_list (finite.entries stations)) refusal.Full
     (refuse_unless (nat_lt (count_of world counted.References) most) refusal.Limit
-    (Made (counted_effect reference (moves_list world stations found counted_list) counted_list)))))
+    (Made (counted_effect reference (moves_list stations found counted_list standing) counted_list)))))

@@ -13,6 +13,7 @@ mod counted_load_list;
 mod found;
 mod moves;
 mod room;
+mod standing;
 mod stations;
 
 use crate::decisions::{accepted_with, refused};
@@ -22,6 +23,7 @@ use crate::stocktake::counted_load_list::{look_up, some_on_vehicle, unknown};
 use crate::stocktake::found::found_loads;
 use crate::stocktake::moves::{Count, moves_in_job};
 use crate::stocktake::room::all_fit;
+use crate::stocktake::standing::{by_load, standing_loads};
 use crate::stocktake::stations::counted_stations;
 use crate::{Answer, Decision};
 use agv_header::limits::MAX_RECORDS;
@@ -34,8 +36,9 @@ use std::alloc::Global;
 /// Takes stock: each known load that was found at a counted station is there from now on, and each one that
 /// stood there and was not found is at the checking place.
 ///
-/// The floor is asked once for each counted station, each found load and each load that moves. All else takes time
-/// in proportion to the rows and to the loads at the counted stations, times the logarithm of their number.
+/// The floor is asked twice for each counted station, and once for each found load that doesn't stand at one and for each
+/// load that moves. All else takes time in proportion to the rows and to the loads at the counted stations, times the
+/// logarithm of their number.
 pub(crate) fn take_stock<F: Floor>(
     alloc: Global,
     floor: &mut F,
@@ -53,8 +56,14 @@ pub(crate) fn take_stock<F: Floor>(
     let Some(found) = found_loads(alloc, rows)? else {
         return Ok(refused(alloc, Refusal::CountTwice));
     };
-    let counted_list = look_up(alloc, floor, rows)?;
-    let count = Count { stations, found };
+    let standing = standing_loads(alloc, floor, &stations)?;
+    let places = by_load(alloc, &standing)?;
+    let counted_list = look_up(alloc, floor, &places, rows)?;
+    let count = Count {
+        stations,
+        found,
+        standing,
+    };
     count_loads(alloc, floor, reference, &count, &counted_list)
 }
 
@@ -66,12 +75,12 @@ fn count_loads<F: Floor>(
     count: &Count,
     counted_list: &[CountedLoad],
 ) -> Result<Decision, Fault>
-    ensures { Asks F.facts floor.old floor.new result (λ world decision. decision ≡ decided (count_by_parts world reference count.now.stations count.now.found counted_list.now)) }
+    ensures { Asks F.facts floor.old floor.new result (λ world decision. decision ≡ decided (count_by_parts world reference count.now.stations count.now.found counted_list.now count.now.standing.items)) }
 {
     if some_on_vehicle(counted_list) {
         return Ok(refused(alloc, Refusal::OnVehicle));
     }
-    let moves = count.moves(alloc, floor, counted_list)?;
+    let moves = count.moves(alloc, counted_list)?;
     if moves_in_job(floor, &moves)? {
         return Ok(refused(alloc, Refusal::InJob));
     }

@@ -3,7 +3,7 @@ use Rattle.std.proofs.Common.{◌≡◌, ℕ, Bool, true, false, cond, ◌||◌,
 use Rattle.std.specs.Cmp.Lexicographic.{pointwise}
 use Rattle.std.specs.FinMap as finite
 use Rattle.std.specs.FinMap.Entries.{find}
-use Rattle.std.specs.List.{AllByRecursion, list_all, list_any, cons_option}
+use Rattle.std.specs.List.{list_all, list_any, cons_option}
 use Rattle.std.specs.Map.{keys_of}
 use Rattle.std.specs.Option.{option_and_then, unwrap_or}
 use Rattle.std.specs.Ordering.{eq_by_cmp}
@@ -18,7 +18,7 @@ use Rattle.agv_world.specs.Questions.{loads_at}
 use Rattle.agv_world.specs.Worlds.{World}
 use Rattle.agv_world.proofs.lists.Entries.{entries_found}
 use Rattle.agv_world.proofs.lists.Orders.{names_total, names_apart}
-use Rattle.agv_desk.specs.CountParts.{moves_in, moves_list, found_in, recorded, recorded_at, counted_loads, standing, standing_at, stations_in}
+use Rattle.agv_desk.specs.CountParts.{AreThere, moves_in, moves_list, found_in, recorded, recorded_at, counted_loads, standing, standing_at, stations_in}
 use Rattle.agv_desk.specs.StocktakeSteps.{Row, are_known, found_at, from_station, has_load, is_counted, new_place, new_places, recounted}
 use Rattle.agv_desk.proofs.stocktakes.FoundLoads.{get-found_in}
 use Rattle.agv_desk.proofs.stocktakes.PlacedLoads.{Loads, goes_from, is_in, moves_listed, settled_both}
@@ -52,17 +52,14 @@ pub has-stations_in : (world : World) (rows : List Row) → are_known world rows
 has-stations_in world rows known id = ap is_some (get-stations_in world rows id) ∙ is_there (is_counted rows id) (finite.get world.layout.stations id) (counted_known world.layout.stations rows id known)
 
 module _ (world : World) where
-  There : Loads → Type 0
-  There loads = AllByRecursion (λ (load : List ℕ × Place). finite.get world.places load.0 ≡ Some load.1) loads
-
   -- ---- the found loads are where it is recorded
-  found_there : (rows : List Row) → There (recorded (counted_loads world rows))
-  unfolding counted_loads There
+  found_there : (rows : List Row) → AreThere world (recorded (counted_loads world rows))
+  unfolding counted_loads
   found_there [] = tt
   found_there (row ∷ rows) =
-      elim row.1 as (λ load. There (recorded (counted_loads world ((row.0, load) ∷ rows)))) [
+      elim row.1 as (λ load. AreThere world (recorded (counted_loads world ((row.0, load) ∷ rows)))) [
         | None ↦ found_there rows
-        | Some load ↦ elim (finite.get world.places load) as (λ o. finite.get world.places load ≡ o → There (cons_option (recorded_at load o) (recorded (counted_loads world rows)))) [
+        | Some load ↦ elim (finite.get world.places load) as (λ o. finite.get world.places load ≡ o → AreThere world (cons_option (recorded_at load o) (recorded (counted_loads world rows)))) [
           | None ↦ λ none. found_there rows
           | Some at ↦ λ is. (is, found_there rows)
         ] refl
@@ -97,23 +94,21 @@ module _ (world : World) where
   abbrev kept_at : List ℕ → Loads → Loads
   kept_at id loads = filter (λ (load : List ℕ × Place). is_at id load.1) loads
 
-  standing_of : (id : List ℕ) (loads : Loads) → There loads → There (standing_at id (keys_of (kept_at id loads)))
-  unfolding There
+  standing_of : (id : List ℕ) (loads : Loads) → AreThere world loads → AreThere world (standing_at id (keys_of (kept_at id loads)))
   standing_of id [] there = tt
   standing_of id (load ∷ loads) there =
       let rest = standing_of id loads there.1 in
-      elim (is_at id load.1) as (λ b. is_at id load.1 ≡ b → There (standing_at id (keys_of (cond b (load ∷ kept_at id loads) (kept_at id loads))))) [
+      elim (is_at id load.1) as (λ b. is_at id load.1 ≡ b → AreThere world (standing_at id (keys_of (cond b (load ∷ kept_at id loads) (kept_at id loads))))) [
         | true ↦ λ here. (there.0 ∙ ap (λ (at : Place). Some at) (at_station id load.1 here), rest)
         | false ↦ λ _. rest
       ] refl
 
-  there-append : (one other : Loads) → There one → There other → There (one ++ other)
-  unfolding There
+  there-append : (one other : Loads) → AreThere world one → AreThere world other → AreThere world (one ++ other)
   there-append [] other a b = b
   there-append (x ∷ one) other a b = (a.0, there-append one other a.1 b)
 
-  standing_there : (stations : List (List ℕ × StationSite)) → There (standing world stations)
-  unfolding There loads_at
+  pub standing_there : (stations : List (List ℕ × StationSite)) → AreThere world (standing world stations)
+  unfolding loads_at
   standing_there [] = tt
   standing_there (station ∷ stations) =
       there-append (standing_at station.0 (loads_at world station.0)) (standing world stations)
@@ -180,8 +175,8 @@ module _ (world : World) where
         ] refl
 
     -- the loads that move are those of the whole of the rows
-    pub moves_are : are_known world rows ≡ true → moves_list world (stations_in world rows) (found_in rows) (counted_loads world rows) ≡ new_places world rows
-    unfolding moves_in There stations
+    pub moves_are : are_known world rows ≡ true → moves_list (stations_in world rows) (found_in rows) (counted_loads world rows) (standing world (finite.entries (stations_in world rows))) ≡ new_places world rows
+    unfolding moves_in stations
     moves_are known =
         let has = has-stations_in world rows known in
         moves_listed (recounted rows) world.places _

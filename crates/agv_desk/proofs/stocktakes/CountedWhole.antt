@@ -17,8 +17,8 @@ use Rattle.agv_world.specs.Worlds.{World}
 use Rattle.agv_world.specs.declared.floor.Counted.TheVariants as counted
 use Rattle.agv_world.proofs.lists.Entries.{entries_found}
 use Rattle.agv_world.proofs.lists.Orders.{names_total}
-use Rattle.agv_desk.specs.CountParts.{all_have_room, count_by_parts, found_in, has_room_for, is_found_at, moves_list, count_at, counted_loads, stations_in, unknown_one}
-use Rattle.agv_desk.specs.Outcomes.{Outcome, Made, Move, refuse_unless, answer_only}
+use Rattle.agv_desk.specs.CountParts.{all_have_room, count_by_parts, found_in, has_room_for, is_found_at, moves_list, count_at, counted_loads, standing, stations_in, unknown_one}
+use Rattle.agv_desk.specs.Outcomes.{Outcome, Made, Move, Refused, refuse_unless, answer_only}
 use Rattle.agv_desk.specs.Shared.{most, is_in_job, reference_key}
 use Rattle.agv_desk.specs.StocktakeSteps.{Row, are_known, count_loads, count_move, some_on_vehicle, finds_known, fits, found_here, is_on_vehicle, is_counted, is_here, new_places, unknown_in, unknown_on}
 use Rattle.agv_desk.specs.declared.answer.Answer.TheVariants as answer
@@ -126,9 +126,9 @@ module _ (world : World) where
   jobs_of (load ∷ moves) = ap (λ b. is_in_job world load.0 || b) (jobs_of moves)
 
   -- ---- the whole
-  pub by_parts : (reference : List ℕ) (rows : List Row) → are_known world rows ≡ true → count_by_parts world reference (stations_in world rows) (found_in rows) (counted_loads world rows) ≡ count_loads world reference rows
+  pub by_parts : (reference : List ℕ) (rows : List Row) → are_known world rows ≡ true → count_by_parts world reference (stations_in world rows) (found_in rows) (counted_loads world rows) (standing world (finite.entries (stations_in world rows))) ≡ count_loads world reference rows
   by_parts reference rows known =
-      let moves : moves_list world (stations_in world rows) (found_in rows) (counted_loads world rows) ≡ new_places world rows = moves_are world rows known in
+      let moves : moves_list (stations_in world rows) (found_in rows) (counted_loads world rows) (standing world (finite.entries (stations_in world rows))) ≡ new_places world rows = moves_are world rows known in
       let in_job = ap (λ (moves : List (List ℕ × Place)). list_any (λ (load : List ℕ × Place). is_in_job world load.0) moves) moves ∙ jobs_of (new_places world rows) in
       let count = ap (λ (moves : List (List ℕ × Place)). length moves) moves ∙ sym (length-map (new_places world rows) count_move) in
       λ i.
@@ -148,6 +148,13 @@ pub passed : (aboard in_job room few : Bool) (rest : Outcome) → aboard ≡ fal
     → rest ≡ refuse_unless (not aboard) refusal.OnVehicle (refuse_unless (not in_job) refusal.InJob (refuse_unless room refusal.Full (refuse_unless few refusal.Limit rest)))
 unfolding refuse_unless
 passed aboard in_job room few rest a b c d =
+    λ i. refuse_unless (not (sym a i)) refusal.OnVehicle (refuse_unless (not (sym b i)) refusal.InJob (refuse_unless (sym c i) refusal.Full (refuse_unless (sym d i) refusal.Limit rest)))
+
+-- all but the last
+pub limited : (aboard in_job room few : Bool) (rest : Outcome) → aboard ≡ false → in_job ≡ false → room ≡ true → few ≡ false
+    → Refused refusal.Limit ≡ refuse_unless (not aboard) refusal.OnVehicle (refuse_unless (not in_job) refusal.InJob (refuse_unless room refusal.Full (refuse_unless few refusal.Limit rest)))
+unfolding refuse_unless
+limited aboard in_job room few rest a b c d =
     λ i. refuse_unless (not (sym a i)) refusal.OnVehicle (refuse_unless (not (sym b i)) refusal.InJob (refuse_unless (sym c i) refusal.Full (refuse_unless (sym d i) refusal.Limit rest)))
 
 pub opened : (new known twice : Bool) (rest : Outcome) → new ≡ true → known ≡ true → twice ≡ false → rest ≡ refuse_unless new refusal.RefUsed (refuse_unless known refusal.NoStation (refuse_unless (not twice) refusal.CountTwice rest))

@@ -4,25 +4,27 @@ ghost use Rattle.std.specs.FinMap as map;
 ghost use Rattle.std.specs.List.{list_any, filter_map};
 ghost use Rattle.std.specs.Option.{unwrap_or};
 ghost use Rattle.agv_world.specs.Asks.{Asks};
-ghost use Rattle.agv_desk.specs.CountParts.{counted_loads, unknown_one, counted_up, count_at, with_counted_load};
+ghost use Rattle.agv_desk.specs.CountParts.{Tells, counted_loads, unknown_one, counted_up, count_at, with_counted_load};
 ghost use Rattle.agv_desk.specs.StocktakeSteps.{is_on_vehicle};
 
 use crate::stocktake::counted_load::CountedLoad;
 use agv_header::{Memory, Name};
+use agv_stock::Place;
 use agv_world::{ByName, Fault, Floor};
 use std::alloc::Global;
 
-/// Looks up the loads of the rows, in their order.
+/// Looks up the loads of the rows, in their order; the places of some are known.
 pub(crate) fn look_up<F: Floor>(
     alloc: Global,
     floor: &mut F,
+    places: &ByName<Place>,
     rows: &[(Name, Option<Name>)],
 ) -> Result<Vec<CountedLoad>, Fault>
-    ensures { Asks F.facts floor.old floor.new result (λ world counted_list. counted_list.items ≡ counted_loads world rows.now) }
+    ensures { Asks F.facts floor.old floor.new result (λ world counted_list. Tells world places.now → counted_list.items ≡ counted_loads world rows.now) }
 {
     let mut counted_list = Vec::new(alloc);
     for (station, load) in rows {
-        note_counted_load(floor, &mut counted_list, *station, *load)?;
+        note_counted_load(floor, places, &mut counted_list, *station, *load)?;
     }
     Ok(counted_list)
 }
@@ -30,14 +32,15 @@ pub(crate) fn look_up<F: Floor>(
 // Looks up the load of a row, if one was found.
 fn note_counted_load<F: Floor>(
     floor: &mut F,
+    places: &ByName<Place>,
     counted_list: &mut Vec<CountedLoad>,
     station: Name,
     load: Option<Name>,
 ) -> Result<(), Fault>
-    ensures { Asks F.facts floor.old floor.new result (λ world done. counted_list.new.items ≡ with_counted_load world counted_list.old.items station load) }
+    ensures { Asks F.facts floor.old floor.new result (λ world done. Tells world places.now → counted_list.new.items ≡ with_counted_load world counted_list.old.items station load) }
 {
     if let Some(load) = load {
-        let place = floor.place(load)?;
+        let place = place_of(floor, places, load)?;
         counted_list.push(CountedLoad {
             station,
             load,
@@ -45,6 +48,20 @@ fn note_counted_load<F: Floor>(
         })?;
     }
     Ok(())
+}
+
+// Where the load is recorded. The floor is asked for one whose place is not known.
+fn place_of<F: Floor>(
+    floor: &mut F,
+    places: &ByName<Place>,
+    load: Name,
+) -> Result<Option<Place>, Fault>
+    ensures { Asks F.facts floor.old floor.new result (λ world place. Tells world places.now → place ≡ map.get world.places load) }
+{
+    if let Some(place) = places.get(load) {
+        return Ok(Some(*place));
+    }
+    floor.place(load)
 }
 
 /// Whether one of the loads is recorded on a vehicle.

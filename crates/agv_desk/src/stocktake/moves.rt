@@ -1,9 +1,9 @@
 //! Where a stocktake puts the loads.
-ghost use Rattle.std.specs.Prelude.{◌≡◌, List, OnOk};
+ghost use Rattle.std.specs.Prelude.{◌≡◌, List, IfOk, OnOk};
 ghost use Rattle.std.specs.FinMap as map;
 ghost use Rattle.std.specs.List.{list_any};
 ghost use Rattle.agv_world.specs.Asks.{Asks};
-ghost use Rattle.agv_desk.specs.CountParts.{moves_in, with_new_place, recorded, settled, standing, standing_at};
+ghost use Rattle.agv_desk.specs.CountParts.{moves_in, with_new_place, recorded, settled};
 ghost use Rattle.agv_desk.specs.Shared.{is_in_job};
 ghost use Rattle.agv_desk.specs.StocktakeSteps.{from_station, new_place};
 
@@ -21,24 +21,24 @@ pub(crate) struct Count {
     pub(crate) stations: ByName<StationSite>,
     /// The station where each found load was found.
     pub(crate) found: ByName<Name>,
+    /// The loads that stand at these stations, and their places.
+    pub(crate) standing: Vec<(Name, Place)>,
 }
 
 impl Count {
     /// The loads that move, and their new places, in the order of the loads' names.
     #[tactic(auto, unfolding(crate::specs::CountParts::moves_in))]
-    pub(crate) fn moves<F: Floor>(
+    pub(crate) fn moves(
         &self,
         alloc: Global,
-        floor: &mut F,
         counted_list: &[CountedLoad],
-    ) -> Result<Vec<(Name, Place)>, Fault>
-        ensures { Asks F.facts floor.old floor.new result (λ world moves. moves.items ≡ map.entries (moves_in world self.now.stations self.now.found counted_list.now)) }
+    ) -> Result<Vec<(Name, Place)>, Memory>
+        ensures { IfOk result (λ moves. moves.items ≡ map.entries (moves_in self.now.stations self.now.found counted_list.now self.now.standing.items)) }
     {
         let mut moves = ByName::new(alloc);
         self.settle_found(&mut moves, counted_list)?;
-        let stations = self.stations.list(alloc)?;
-        self.settle_standing(floor, &mut moves, &stations)?;
-        Ok(moves.list(alloc)?)
+        self.settle_standing(&mut moves, self.standing.as_slice())?;
+        moves.list(alloc)
     }
 
     // Notes where the found loads go.
@@ -91,34 +91,17 @@ impl Count {
         }
     }
 
-    // Notes where the loads go that stand at these stations.
-    fn settle_standing<F: Floor>(
-        &self,
-        floor: &mut F,
-        moves: &mut ByName<Place>,
-        stations: &[(Name, StationSite)],
-    ) -> Result<(), Fault>
-        ensures { Asks F.facts floor.old floor.new result (λ world done. moves.new ≡ settled (map.contains_key self.now.stations) self.now.found moves.old (standing world stations.now)) }
-    {
-        for (station, _) in stations {
-            let loads = floor.loads_at(*station)?;
-            self.settle_station(moves, *station, loads.as_slice())?;
-        }
-        Ok(())
-    }
-
-    // Notes where loads go that stand at this station.
+    // Notes where the loads go that stand at these places.
     #[tactic(auto, unfolding(crate::specs::CountParts::settled))]
-    fn settle_station(
+    fn settle_standing(
         &self,
         moves: &mut ByName<Place>,
-        station: Name,
-        loads: &[Name],
+        standing: &[(Name, Place)],
     ) -> Result<(), Memory>
-        ensures { OnOk result (moves.new ≡ settled (map.contains_key self.now.stations) self.now.found moves.old (standing_at station loads.now)) }
+        ensures { OnOk result (moves.new ≡ settled (map.contains_key self.now.stations) self.now.found moves.old standing.now) }
     {
-        for load in loads {
-            self.settle(moves, *load, Place::Station(station))?;
+        for (load, place) in standing {
+            self.settle(moves, *load, *place)?;
         }
         Ok(())
     }

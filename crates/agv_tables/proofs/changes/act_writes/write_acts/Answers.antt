@@ -1,11 +1,9 @@
-use Rattle.std.proofs.Common.{◌≡◌, ◌∙◌, IsTrue, List, length, sym, subst, arith}
-use Rattle.sqlite_value.specs.Order.{Row}
+use Rattle.std.proofs.Common.{◌≡◌, ◌∙◌, IsTrue, sym, subst, arith}
 use Rattle.sqlite.specs.State.{HasCleanDisk}
 use Rattle.sqlite.specs.Held.{state}
 use Rattle.agv_trip_rows.specs.TripRows.{act_rows_from}
 use Rattle.agv_tables.specs.changes.ActRows.{AreOfOrder, acts_listed}
 use Rattle.agv_tables.specs.rows.DeskRows.{Answers, with_rows}
-use Rattle.agv_tables.specs.rows.RowKeys.{name_key}
 use Rattle.agv_tables.specs.rows.RowLists.{rows_of_acts, without_acts}
 use Rattle.agv_tables.specs.statements.RowQueries.{rows_asked}
 use Rattle.agv_tables.specs.declared.rows.rows_by.RowsBy.TheVariants as by
