@@ -1,8 +1,8 @@
 """Measures each kind of call over `serve` on a file with 1,000, 100,000 and 999,000 loads at the checking place and as many jobs that have
 ended: the wall time from the last byte of the request written to the answer read, the median of some rounds, and the instructions of the
 program for it, by `replay` on the file. Beside, in the same run and on copies of the same files, the statements that the desk carries out
-for the call (bench/statements.txt; the layout, the room at stations, the edges of open orders and the capacities of vehicles are kept in
-memory) by the SQLite of C (bench/plain_calls.c; WAL, synchronous=FULL, each text prepared once). Besides the time and the memory of an
+for the call (bench/statements.txt; the layout, the room at stations, open trips and the rows of vehicles are kept in memory, so that some
+calls have none) by the SQLite of C (bench/plain_calls.c; WAL, synchronous=FULL, each text prepared once). Besides the time and the memory of an
 opening, and the time in which C reads all rows of the tables. The layout and the vehicle are set once, and reports are in
 bench/many_loads.py. Python's standard library, gcc with SQLite's header and library, and valgrind.
 
@@ -137,7 +137,20 @@ def plain_instructions(plain, name, folder):
     return found
 
 
+def with_statements():
+    """The kinds of call that have a statement."""
+    found, what = set(), None
+    with open(os.path.join(HERE, 'statements.txt')) as lines:
+        for line in lines:
+            if line.startswith('= '):
+                what = line[2:].strip()
+            elif line.strip():
+                found.add(what)
+    return found
+
+
 def main():
+    stated = with_statements()
     sizes = [int(word) for word in sys.argv[1:]] or [1_000, 100_000, 999_000]
     with tempfile.TemporaryDirectory() as folder:
         plain = os.path.join(folder, 'plain')
@@ -159,8 +172,9 @@ def main():
             print('%d loads and ended jobs: opened in %.2f s, %d MB; SQLite reads the rows in %.2f s' % (size, opened, memory // 1024, read))
             print('%-34s %10s %10s %6s %12s %12s' % ('', 'desk, us', 'SQLite, us', 'times', 'desk, instr.', 'SQLite'))
             for what in ours:
-                print('%-34s %10.0f %10.0f %6.2f %12d %12d' % (what, ours[what] * 1e6, theirs[what] * 1e6, ours[what] / theirs[what],
-                                                              counts[what], plain_counts.get(what, 0)), flush=True)
+                print('%-34s %10.0f %10.0f %6s %12d %12d' % (what, ours[what] * 1e6, theirs[what] * 1e6,
+                                                            '%.2f' % (ours[what] / theirs[what]) if what in stated else '-',
+                                                            counts[what], plain_counts.get(what, 0)), flush=True)
             remove(run)
 
 
