@@ -162,7 +162,7 @@ fn ask_each(rt: &impl Abort, alloc: Global, loads: u32) {
         alloc,
         &routes,
         &mut floor,
-        (stocktake.as_str(), 101, 502),
+        (stocktake.as_str(), 101, 402),
     );
     ask_all(rt, alloc, &routes, &mut floor, QUESTIONS);
     ask_all(rt, alloc, &routes, &mut floor, IDLE);
