@@ -1,6 +1,7 @@
 -- The open trips that are kept beside the connection, and that the rows have them once rows were written.
 use Rattle.std.proofs.Common.{◌≡◌, ℕ, Bool, true, false, not, cond, nat_eq, List, [], ◌∷◌, filter, Option, None, Some, Result, Ok, Err, OnOk, OnErr, Ordering, Less, Equal, Greater, is_eq, refl, sym, ap, subst, ◌∙◌}
 use Rattle.std.specs.BTreeMap as tree
+use Rattle.std.specs.BTreeSet as trees
 use Rattle.std.specs.Cmp.{Equal-is, tied_itself}
 use Rattle.std.specs.Cmp.Lexicographic.{pointwise, texts_ties}
 use Rattle.std.specs.FinMap as finite
@@ -9,13 +10,16 @@ use Rattle.std.specs.List.{filter_map}
 use Rattle.std.specs.Ordering.{eq_by_cmp}
 use Rattle.sqlite.specs.Held.{Held}
 use Rattle.sqlite_trees.specs.declared.store.Store.{Ghosts}
+use Rattle.agv_header.specs.Key.{key_cmp}
+use Rattle.agv_header.specs.KeyOrder.{key_cmp-IsAntisymmetric, key_cmp-total}
 use Rattle.agv_header.specs.Name.{name_cmp}
+use Rattle.agv_header.specs.declared.key.VehicleKey.{VehicleKey}
 use Rattle.agv_layout.specs.Layout.{Layout}
 use Rattle.agv_order.specs.declared.trip.Trip.{Trip}
 use Rattle.agv_world.specs.Changes.{change}
 use Rattle.agv_world.specs.KeyOrders.{leg_cmp-IsAntisymmetric, leg_cmp-total}
 use Rattle.agv_world.specs.Keys.{leg_cmp}
-use Rattle.agv_world.specs.Rows.{Rows, rows_of}
+use Rattle.agv_world.specs.Rows.{Rows, rows_of, trip_row}
 use Rattle.agv_world.specs.Spread.{edit}
 use Rattle.agv_world.specs.Told.{edge_named, edges_of, is_of_order}
 use Rattle.agv_world.specs.declared.change.Change.{Change}
@@ -24,9 +28,9 @@ use Rattle.agv_world.specs.declared.key.LegKey.{LegKey}
 use Rattle.agv_world.specs.declared.row.TripRow.{TripRow}
 use Rattle.agv_world.proofs.lists.Orders.{names_apart, names_total}
 use Rattle.agv_store.specs.KeptVehicles.{VehiclesOf}
-use Rattle.agv_store.specs.KeptTrips.{AreTrips, IsTripOf, TripsOf, with_row}
+use Rattle.agv_store.specs.KeptTrips.{AreAtRest, AreOpen, AreTrips, AtRest, HasNone, IsTripOf, OpenTrips, TripsOf, with_row}
 use Rattle.agv_store.proofs.KeptMaps.{one_more_entry, same_entries}
-use Rattle.agv_tables.specs.rows.DecodedTrips.{HasTripRows}
+use Rattle.agv_tables.specs.rows.DecodedTrips.{HasTripRows, tables_of}
 use Rattle.agv_tables.specs.sql.Connections.{IsClean, IsOpen}
 use Rattle.agv_tables.proofs.sql.MapEntries.{entries-remove}
 use Rattle.agv_store.specs.Floors.{IsKept, world_at}
@@ -79,10 +83,10 @@ same_legs legs leg (Some edge) order other =
 -- ---- rows that are written
 
 -- what is kept but for one order is as it was, where the change leaves the rows of trips of other orders
-pub others_stay : (trips new : TripsOf) (order : List ℕ) (one : Change)
+pub others_stay : (trips new : OpenTrips) (order : List ℕ) (one : Change)
     → ((trip : Trip) (rows : Rows) → tree.is_at (name_cmp order) trip.order ≡ false → HasTripRows rows trip → HasTripRows (change rows one) trip)
     → ((other : List ℕ) → tree.get name_cmp new other ≡ cond (tree.is_at (name_cmp order) other) None (tree.get name_cmp trips other))
-    → (rows : Rows) → AreTrips trips rows → AreTrips new (change rows one)
+    → (rows : Rows) → AreOpen trips rows → AreOpen new (change rows one)
 others_stay trips new order one stay takes rows are other trip there =
     elim (tree.is_at (name_cmp order) other) as (λ b. tree.is_at (name_cmp order) other ≡ b → cond b None (tree.get name_cmp trips other) ≡ Some trip → IsTripOf (change rows one) other trip) [
       | true ↦ λ tied is. absurd (cc is)
@@ -100,8 +104,8 @@ leg_of_another leg edge trip rows untied has = (
 )
 
 -- where the trip of its order is forgotten, the rows have those that are kept
-pub leg_forgotten : (trips new : TripsOf) (leg : LegKey) (edge : Option (List ℕ)) → ((other : List ℕ) → tree.get name_cmp new other ≡ cond (tree.is_at (name_cmp leg.order) other) None (tree.get name_cmp trips other))
-    → (rows : Rows) → AreTrips trips rows → AreTrips new (change rows (row.Leg leg edge))
+pub leg_forgotten : (trips new : OpenTrips) (leg : LegKey) (edge : Option (List ℕ)) → ((other : List ℕ) → tree.get name_cmp new other ≡ cond (tree.is_at (name_cmp leg.order) other) None (tree.get name_cmp trips other))
+    → (rows : Rows) → AreOpen trips rows → AreOpen new (change rows (row.Leg leg edge))
 leg_forgotten trips new leg edge = others_stay trips new leg.order (row.Leg leg edge) (leg_of_another leg edge)
 
 another : (order other : List ℕ) → tree.is_at (name_cmp order) other ≡ false → eq_by_cmp name_cmp other order ≡ false
@@ -120,8 +124,8 @@ trip_of_another : (order : List ℕ) (its : Option TripRow) (trip : Trip) (rows 
 unfolding edges_of
 trip_of_another order its trip rows untied has = (edit_elsewhere rows.trips order its trip.order (another order trip.order untied) ∙ has.0, has.1)
 
-pub trip_forgotten : (trips new : TripsOf) (order : List ℕ) (its : Option TripRow) → ((other : List ℕ) → tree.get name_cmp new other ≡ cond (tree.is_at (name_cmp order) other) None (tree.get name_cmp trips other))
-    → (rows : Rows) → AreTrips trips rows → AreTrips new (change rows (row.Trip order its))
+pub trip_forgotten : (trips new : OpenTrips) (order : List ℕ) (its : Option TripRow) → ((other : List ℕ) → tree.get name_cmp new other ≡ cond (tree.is_at (name_cmp order) other) None (tree.get name_cmp trips other))
+    → (rows : Rows) → AreOpen trips rows → AreOpen new (change rows (row.Trip order its))
 trip_forgotten trips new order its = others_stay trips new order (row.Trip order its) (trip_of_another order its)
 
 -- the trip is as the row says that is written
@@ -138,10 +142,10 @@ row_put order trip its rows is = (
 )
 
 -- so it can be kept in the place of the one before, where there is memory for it
-pub trip_put : {E : Type 0} (trips mid new : TripsOf) (order : List ℕ) (trip written : Trip) (its : TripRow) → tree.get name_cmp trips order ≡ Some trip → written ≡ with_row trip its
+pub trip_put : {E : Type 0} (trips mid new : OpenTrips) (order : List ℕ) (trip written : Trip) (its : TripRow) → tree.get name_cmp trips order ≡ Some trip → written ≡ with_row trip its
     → ((other : List ℕ) → tree.get name_cmp mid other ≡ cond (tree.is_at (name_cmp order) other) None (tree.get name_cmp trips other))
     → (r : Result (Option Trip) E) → OnOk r (tree.Updates name_cmp mid new order (Some written)) → OnErr r (tree.IsUnchanged mid new)
-    → (rows : Rows) → AreTrips trips rows → AreTrips new (change rows (row.Trip order (Some its)))
+    → (rows : Rows) → AreOpen trips rows → AreOpen new (change rows (row.Trip order (Some its)))
 trip_put trips mid new order trip written its was is takes (Ok before) puts same rows are =
     one_more_entry name_cmp names_apart (IsTripOf (change rows (row.Trip order (Some its)))) mid new order written puts.0
     (subst (IsTripOf (change rows (row.Trip order (Some its))) order) (sym is) (row_put order trip its rows (are order trip was)))
@@ -150,8 +154,8 @@ trip_put trips mid new order trip written its was is takes (Err back) puts same 
     same_entries name_cmp names_apart (IsTripOf (change rows (row.Trip order (Some its)))) mid new same (trip_forgotten trips mid order (Some its) takes rows are)
 
 -- a row that is none of an edge, of a trip or of the layout leaves each
-pub trips_stay : (trips : TripsOf) (one : Change) → is_of_layout one ≡ false → ((leg : LegKey) (edge : Option (List ℕ)) → one ≡ row.Leg leg edge → ⊥) → ((order : List ℕ) (its : Option TripRow) → one ≡ row.Trip order its → ⊥)
-    → (rows : Rows) → AreTrips trips rows → AreTrips trips (change rows one)
+pub trips_stay : (trips : OpenTrips) (one : Change) → is_of_layout one ≡ false → ((leg : LegKey) (edge : Option (List ℕ)) → one ≡ row.Leg leg edge → ⊥) → ((order : List ℕ) (its : Option TripRow) → one ≡ row.Trip order its → ⊥)
+    → (rows : Rows) → AreOpen trips rows → AreOpen trips (change rows one)
 unfolding edges_of
 trips_stay trips (row.Node id) laid leg trip rows are = absurd (cc laid)
 trips_stay trips (row.Edge id ends) laid leg trip rows are = absurd (cc laid)
@@ -163,6 +167,75 @@ trips_stay trips (row.Load id to) laid leg trip rows are = are
 trips_stay trips (row.Job id job) laid leg trip rows are = are
 trips_stay trips (row.Hold thing key) laid leg trip rows are = are
 trips_stay trips (row.Used key) laid leg trip rows are = are
+
+-- ---- vehicles that are known to have no trip
+
+-- a row that is none of a trip leaves each
+pub rests_stay : (at_rest : AtRest) (one : Change) → ((order : List ℕ) (its : Option TripRow) → one ≡ row.Trip order its → ⊥) → (rows : Rows) → AreAtRest at_rest rows → AreAtRest at_rest (change rows one)
+rests_stay at_rest (row.Node id) trip rows are = are
+rests_stay at_rest (row.Edge id ends) trip rows are = are
+rests_stay at_rest (row.Station id site) trip rows are = are
+rests_stay at_rest (row.Vehicle key vehicle) trip rows are = are
+rests_stay at_rest (row.Trip order its) trip rows are = absurd (trip order its refl)
+rests_stay at_rest (row.Leg key edge) trip rows are = are
+rests_stay at_rest (row.Load id to) trip rows are = are
+rests_stay at_rest (row.Job id job) trip rows are = are
+rests_stay at_rest (row.Hold thing key) trip rows are = are
+rests_stay at_rest (row.Used key) trip rows are = are
+
+-- nor does the row of a trip that is taken away
+pub trip_taken : (at_rest : AtRest) (order : List ℕ) (its : Option TripRow) → its ≡ None → (rows : Rows) → AreAtRest at_rest rows → AreAtRest at_rest (record rows { trips = edit rows.trips order its })
+trip_taken at_rest order None none rows are key has other other_row there =
+    elim (eq_by_cmp name_cmp other order) as (λ b. cond b None (finite.get rows.trips other) ≡ Some other_row → other_row.vehicle ≡ key → ⊥) [ true ↦ λ is _. absurd (cc is) | false ↦ λ is same. are key has other other_row is same ]
+    (sym (finite.get-remove names_total rows.trips order other) ∙ there)
+trip_taken at_rest order (Some its) none rows are key has other other_row there = absurd (cc none)
+
+-- without the vehicle whose trip is written they are right
+pub trip_written : (at_rest new : AtRest) (order : List ℕ) (its : Option TripRow) (written : TripRow) → its ≡ Some written
+    → ((q : VehicleKey) → trees.contains key_cmp new q ≡ cond (tree.is_at (key_cmp written.vehicle) q) false (trees.contains key_cmp at_rest q))
+    → (rows : Rows) → AreAtRest at_rest rows → AreAtRest new (record rows { trips = edit rows.trips order its })
+trip_written at_rest new order None written is takes rows are key has other other_row there same = absurd (cc is)
+trip_written at_rest new order (Some its) written is takes rows are key has other other_row there same =
+    elim (tree.is_at (key_cmp written.vehicle) key) as (λ b. tree.is_at (key_cmp written.vehicle) key ≡ b → cond b false (trees.contains key_cmp at_rest key) ≡ true → ⊥) [
+      | true ↦ λ _ rests. absurd (cc rests)
+      | false ↦ λ untied rests.
+          elim (eq_by_cmp name_cmp other order) as (λ b. cond b (Some its) (finite.get rows.trips other) ≡ Some other_row → ⊥) [
+            | true ↦ λ this.
+                let that : written ≡ other_row = cc (is, this) in
+                absurd (cc (sym untied ∙ ap (λ (k : VehicleKey). tree.is_at (key_cmp k) key) (ap (λ (row : TripRow). row.vehicle) that ∙ same) ∙ ap is_eq (tied_itself key_cmp-total key)))
+            | false ↦ λ that. are key rests other other_row that same
+          ] (sym (finite.get-insert names_total rows.trips order its other) ∙ there)
+    ] refl (sym (takes key) ∙ has)
+
+-- one vehicle more that has none
+pub one_more_rests : (at_rest new : AtRest) (key : VehicleKey) (rows : Rows) → ((q : VehicleKey) → trees.contains key_cmp new q ≡ cond (tree.is_at (key_cmp key) q) true (trees.contains key_cmp at_rest q)) → HasNone rows key → AreAtRest at_rest rows → AreAtRest new rows
+one_more_rests at_rest new key rows puts none are other has =
+    elim (tree.is_at (key_cmp key) other) as (λ b. tree.is_at (key_cmp key) other ≡ b → cond b true (trees.contains key_cmp at_rest other) ≡ true → HasNone rows other) [
+      | true ↦ λ tied _. subst (HasNone rows) (key_cmp-IsAntisymmetric key other ((Equal-is (key_cmp key other)).0 tied)) none
+      | false ↦ λ untied rests. are other rests
+    ] refl (sym (puts other) ∙ has)
+
+-- a vehicle has no open trip where no row of one is its
+pub no_trip : (rows : Rows) (key : VehicleKey) (o : Option Trip) → ((trip : Trip) → o ≡ Some trip → (trip.vehicle ≡ key) × HasTripRows rows trip) → HasNone rows key → o ≡ None
+no_trip rows key None has none = refl
+no_trip rows key (Some trip) has none = let its = has trip refl in absurd (none trip.order (trip_row trip.vehicle trip) its.1.0 its.0)
+
+-- and so it is the other way round
+pub no_row : (rows : Rows) (key : VehicleKey) (o : Option Trip) → ((trip : Trip) → (trip.vehicle ≡ key) × HasTripRows rows trip → o ≡ Some trip) → o ≡ None → HasNone rows key
+no_row rows key o opens none order its there same =
+    let trip : Trip = record {
+      order = order;
+      vehicle = its.vehicle;
+      start = its.start;
+      edges = edges_of (tables_of rows) order;
+      first = its.first;
+      base = its.base;
+      sent = its.sent;
+      confirmed = its.confirmed;
+      seen = its.seen;
+      acts = its.acts;
+    } in
+    absurd (cc (sym none ∙ opens trip (same, (there, refl))))
 
 -- ---- a trip that is kept
 

@@ -1,23 +1,48 @@
 -- The open trips that are kept beside a connection.
-use Rattle.std.specs.Prelude.{◌≡◌, ℕ, List, Some}
+use Rattle.std.specs.Prelude.{◌≡◌, ℕ, List, Some, true}
 use Rattle.std.specs.BTreeMap as tree
+use Rattle.std.specs.BTreeSet as trees
+use Rattle.std.specs.FinMap as finite
+use Rattle.agv_header.specs.Key.{key_cmp}
 use Rattle.agv_header.specs.Name.{name_cmp}
+use Rattle.agv_header.specs.declared.key.VehicleKey.{VehicleKey}
 use Rattle.agv_order.specs.declared.trip.Trip.{Trip}
 use Rattle.agv_world.specs.Rows.{Rows}
 use Rattle.agv_world.specs.declared.row.TripRow.{TripRow}
 use Rattle.agv_tables.specs.rows.DecodedTrips.{HasTripRows}
+use Rattle.agv_store.specs.declared.kept_trips.KeptTrips.{KeptTrips}
 
 -- orders, each with a trip
-abbrev pub TripsOf : Type 0
-TripsOf = tree.BTreeMap (List ℕ) Trip
+abbrev pub OpenTrips : Type 0
+OpenTrips = tree.BTreeMap (List ℕ) Trip
+
+-- vehicles
+abbrev pub AtRest : Type 0
+AtRest = trees.BTreeSet VehicleKey
 
 -- it is a trip of the order, and the rows have it
 abbrev pub IsTripOf : Rows → List ℕ → Trip → Type 0
 IsTripOf rows order trip = (trip.order ≡ order) × HasTripRows rows trip
 
 -- so it is with each that is kept
+abbrev pub AreOpen : OpenTrips → Rows → Type 0
+AreOpen trips rows = (order : List ℕ) (trip : Trip) → tree.get name_cmp trips order ≡ Some trip → IsTripOf rows order trip
+
+-- no row of a trip is one of the vehicle's
+abbrev pub HasNone : Rows → VehicleKey → Type 0
+HasNone rows key = (order : List ℕ) (row : TripRow) → finite.get rows.trips order ≡ Some row → row.vehicle ≡ key → ⊥
+
+-- so it is with each of these vehicles
+abbrev pub AreAtRest : AtRest → Rows → Type 0
+AreAtRest vehicles rows = (key : VehicleKey) → trees.contains key_cmp vehicles key ≡ true → HasNone rows key
+
+-- trips of orders, and vehicles that have none
+abbrev pub TripsOf : Type 0
+TripsOf = KeptTrips
+
+-- the rows have these trips, and none of these vehicles
 abbrev pub AreTrips : TripsOf → Rows → Type 0
-AreTrips trips rows = (order : List ℕ) (trip : Trip) → tree.get name_cmp trips order ≡ Some trip → IsTripOf rows order trip
+AreTrips trips rows = AreOpen trips.by_order rows × AreAtRest trips.at_rest rows
 
 -- the trip with what this row says
 abbrev pub with_row : Trip → TripRow → Trip

@@ -18,7 +18,6 @@ use agv_tables::queries::key_queries::{
 };
 use agv_tables::queries::load_queries::{query_job_of, query_loads_on, query_reserved, query_room};
 use agv_tables::queries::station_loads::query_loads_at;
-use agv_tables::queries::trip_queries::query_has_trip;
 use agv_world::{Counted, Fault, Floor, JobRow, UseKey, UseKind, VehicleRow};
 use sqlite::Alter;
 
@@ -63,16 +62,25 @@ impl<S: Alter + Drop> Floor for KeyedFloor<S> {
             self.settle()?;
             return Ok(Some(kept));
         }
+        if self.rests(&key) {
+            self.settle()?;
+            return Ok(None);
+        }
         let trip = self.trip_asked(&key)?;
         if let Some(trip) = &trip {
             let _kept = self.keep_trip(&key, trip);
+        } else {
+            let _kept = self.keep_rest(&key);
         }
         Ok(trip)
     }
 
     fn has_trip(&mut self, key: VehicleKey) -> Result<bool, Fault> {
-        let asked = query_has_trip(&mut self.conn, &key);
-        note(&mut self.failed, &mut self.in_doubt, asked)
+        if self.rests(&key) {
+            self.settle()?;
+            return Ok(false);
+        }
+        self.has_trip_asked(&key)
     }
 
     fn place(&mut self, load: Name) -> Result<Option<Place>, Fault> {

@@ -1,35 +1,45 @@
 //! The open trips of orders, kept beside the connection once they were read, so that no state of a vehicle has its trip read
-//! anew. Where a write has the row of a trip that is kept, this has what the row says; where it takes the row away, or has
-//! one of the order's edges or of the layout, the trip is kept no more.
-ghost use Rattle.std.specs.Prelude.{◌≡◌, IfOk, IfSome, Some};
+//! anew, and the vehicles that are known to have none. Where a write has the row of a trip that is kept, this has what the row
+//! says; where it takes the row away, or has one of the order's edges or of the layout, the trip is kept no more. A vehicle
+//! whose trip is written is no longer one of those without.
+ghost use Rattle.std.specs.Prelude.{◌≡◌, IfOk, IfSome, IsTrue, None, OnOk, Some, is_some};
 ghost use Rattle.agv_world.specs.Asks.{Asks};
 ghost use Rattle.agv_world.specs.Changes.{change, changed};
 ghost use Rattle.agv_world.specs.Questions.{trip_of};
 ghost use Rattle.agv_world.specs.Rows.{Rows};
 ghost use Rattle.agv_world.specs.Spread.{edit};
+ghost use Rattle.agv_tables.specs.rows.DecodedTrips.{HasTripRows};
 ghost use Rattle.agv_tables.specs.sql.Connections.{IsClean, IsOpen};
 ghost use Rattle.agv_store.specs.Floors.{facts_of, world_at};
-ghost use Rattle.agv_store.specs.KeptTrips.{AreTrips, IsTripOf, with_row};
+ghost use Rattle.agv_store.specs.KeptTrips.{AreAtRest, AreOpen, AreTrips, HasNone, IsTripOf, with_row};
 
 use crate::flags::note;
 use crate::kept_layout::is_of_layout;
 use crate::keyed_floor::KeyedFloor;
 use agv_header::{Memory, Name, VehicleKey};
 use agv_order::Trip;
-use agv_tables::queries::trip_queries::query_trip;
+use agv_tables::queries::trip_queries::{query_has_trip, query_trip};
 use agv_tables::rows::trip_laws::rows_have_trips;
 use agv_world::change_laws::changes_in_turn;
 use agv_world::{ByVehicle, Change, Fault, TripRow};
 use sqlite::Alter;
 use std::alloc::Global;
-use std::collections::BTreeMap;
+use std::collections::{BTreeMap, BTreeSet};
 
 /// Orders, each with its open trip.
-pub(crate) type KeptTrips = BTreeMap<Name, Trip>;
+type OpenTrips = BTreeMap<Name, Trip>;
 
-/// Vehicles, each with the order of its trip that was kept last. Nothing rests on it: a trip that is found so is taken where
-/// it names the vehicle.
-pub(crate) type KeptOrders = ByVehicle<Name>;
+/// What is known of open trips.
+#[derive(Drop)]
+pub(crate) struct KeptTrips {
+    /// The open trips of orders.
+    pub(crate) by_order: OpenTrips,
+    /// Vehicles, each with the order of its trip that was kept last. Nothing rests on it: a trip that is found so is taken
+    /// where it names the vehicle.
+    pub(crate) order_of: ByVehicle<Name>,
+    /// Vehicles without an open trip.
+    pub(crate) at_rest: BTreeSet<VehicleKey>,
+}
 
 impl<S: Alter + Drop> KeyedFloor<S> {
     // A copy of the open trip of a vehicle, where it is kept.
@@ -38,10 +48,19 @@ impl<S: Alter + Drop> KeyedFloor<S> {
     {
         rows_have_trips();
         self.knows();
-        let Some(order) = self.orders.get(*key) else {
+        let Some(order) = self.trips.order_of.get(*key) else {
             return Ok(None);
         };
-        trip_of_vehicle(&self.trips, *order, key)
+        trip_of_vehicle(&self.trips.by_order, *order, key)
+    }
+
+    // Whether the vehicle is known to have no open trip.
+    pub(crate) fn rests(&self, key: &VehicleKey) -> bool
+        ensures { IsTrue result → IsClean S.Store self.now.held → IsOpen S.Store self.now.held → trip_of (world_at S.Store self.now.held) key.now ≡ None }
+    {
+        rows_have_trips();
+        self.knows();
+        self.trips.at_rest.contains(key)
     }
 
     // The open trip of a vehicle, asked of the tables.
@@ -52,6 +71,14 @@ impl<S: Alter + Drop> KeyedFloor<S> {
         note(&mut self.failed, &mut self.in_doubt, asked)
     }
 
+    // Whether a vehicle has an open trip, asked of the tables.
+    pub(crate) fn has_trip_asked(&mut self, key: &VehicleKey) -> Result<bool, Fault>
+        ensures { Asks (facts_of S.Store) self.old self.new result (λ world has. has ≡ is_some (trip_of world key.now)) }
+    {
+        let asked = query_has_trip(&mut self.conn, key);
+        note(&mut self.failed, &mut self.in_doubt, asked)
+    }
+
     // A copy of the open trip of a vehicle is kept.
     pub(crate) fn keep_trip(&mut self, key: &VehicleKey, trip: &Trip) -> Result<(), Memory>
         requires { IsClean S.Store self.old.held → IsOpen S.Store self.old.held → Some trip.now ≡ trip_of (world_at S.Store self.old.held) key.now }
@@ -59,21 +86,53 @@ impl<S: Alter + Drop> KeyedFloor<S> {
     {
         rows_have_trips();
         let copy = trip.copy()?;
-        self.trips.insert(trip.order, copy)?;
-        self.orders.insert(*key, trip.order)
+        put_trip(&mut self.trips, *key, copy)
     }
+
+    // That a vehicle has no open trip is known from now on, where its row is kept.
+    pub(crate) fn keep_rest(&mut self, key: &VehicleKey) -> Result<(), Memory>
+        requires { IsClean S.Store self.old.held → IsOpen S.Store self.old.held → trip_of (world_at S.Store self.old.held) key.now ≡ None }
+        ensures { self.new ≡ self.old }
+    {
+        rows_have_trips();
+        if self.vehicles.get(*key).is_some() {
+            put_rest(&mut self.trips, *key)?;
+        }
+        Ok(())
+    }
+}
+
+// The trip is kept of its order.
+fn put_trip(trips: &mut KeptTrips, key: VehicleKey, trip: Trip) -> Result<(), Memory>
+    ensures { (rows : Rows) → HasTripRows rows trip → AreTrips trips.old rows → AreTrips trips.new rows }
+{
+    let order = trip.order;
+    trips.by_order.insert(order, trip)?;
+    trips.order_of.insert(key, order)
+}
+
+// The vehicle is one of those without an open trip.
+fn put_rest(trips: &mut KeptTrips, key: VehicleKey) -> Result<(), Memory>
+    ensures { (rows : Rows) → HasNone rows key → AreTrips trips.old rows → AreTrips trips.new rows }
+{
+    trips.at_rest.insert(key)?;
+    Ok(())
 }
 
 // None is kept.
 pub(crate) fn no_trips(alloc: Global) -> KeptTrips
     ensures { (rows : Rows) → AreTrips result rows }
 {
-    BTreeMap::new(alloc)
+    KeptTrips {
+        by_order: BTreeMap::new(alloc),
+        order_of: ByVehicle::new(alloc),
+        at_rest: BTreeSet::new(alloc),
+    }
 }
 
 // A copy of the trip that is kept of an order, where it is one of the vehicle.
-fn trip_of_vehicle(trips: &KeptTrips, order: Name, key: &VehicleKey) -> Result<Option<Trip>, Memory>
-    ensures { IfOk result (λ kept. IfSome kept (λ trip. (trip.vehicle ≡ key.now) × ((rows : Rows) → AreTrips trips.now rows → IsTripOf rows order trip))) }
+fn trip_of_vehicle(trips: &OpenTrips, order: Name, key: &VehicleKey) -> Result<Option<Trip>, Memory>
+    ensures { IfOk result (λ kept. IfSome kept (λ trip. (trip.vehicle ≡ key.now) × ((rows : Rows) → AreOpen trips.now rows → IsTripOf rows order trip))) }
 {
     match trips.get(&order) {
         None => Ok(None),
@@ -87,9 +146,17 @@ fn trip_of_vehicle(trips: &KeptTrips, order: Name, key: &VehicleKey) -> Result<O
     }
 }
 
-// The trips that are kept once the changes were made.
+// What is known of open trips once the changes were made.
 pub(crate) fn follow_through(trips: &mut KeptTrips, changes: &[Change])
     ensures { (rows : Rows) → AreTrips trips.old rows → AreTrips trips.new (changed changes.now rows) }
+{
+    follow_each(&mut trips.by_order, changes);
+    wake_each(&mut trips.at_rest, changes);
+}
+
+// The trips that are kept once the changes were made.
+fn follow_each(trips: &mut OpenTrips, changes: &[Change])
+    ensures { (rows : Rows) → AreOpen trips.old rows → AreOpen trips.new (changed changes.now rows) }
 {
     changes_in_turn();
     for change in changes {
@@ -99,8 +166,8 @@ pub(crate) fn follow_through(trips: &mut KeptTrips, changes: &[Change])
 
 // The trips that are kept once the change was made: none where it is one of the layout, that of an order no more where it is
 // one of the order's edges, and as its row says where it is that.
-fn follow(trips: &mut KeptTrips, one: &Change)
-    ensures { (rows : Rows) → AreTrips trips.old rows → AreTrips trips.new (change rows one.now) }
+fn follow(trips: &mut OpenTrips, one: &Change)
+    ensures { (rows : Rows) → AreOpen trips.old rows → AreOpen trips.new (change rows one.now) }
 {
     if is_of_layout(one) {
         trips.clear();
@@ -115,8 +182,8 @@ fn follow(trips: &mut KeptTrips, one: &Change)
 
 // The trip that is kept of an order is as this row says; it is kept no more where the row is taken away, or there is no memory
 // for what the row says.
-fn put_row(trips: &mut KeptTrips, order: Name, row: &Option<TripRow>)
-    ensures { (rows : Rows) → AreTrips trips.old rows → AreTrips trips.new (record rows { trips = edit rows.trips order row.now }) }
+fn put_row(trips: &mut OpenTrips, order: Name, row: &Option<TripRow>)
+    ensures { (rows : Rows) → AreOpen trips.old rows → AreOpen trips.new (record rows { trips = edit rows.trips order row.now }) }
 {
     let Some(trip) = trips.remove(&order) else {
         return;
@@ -147,4 +214,33 @@ fn with_row(trip: Trip, row: &TripRow) -> Result<Trip, Memory>
         seen: row.seen,
         acts,
     })
+}
+
+// The vehicles that are known to have no open trip once the changes were made.
+fn wake_each(at_rest: &mut BTreeSet<VehicleKey>, changes: &[Change])
+    ensures { (rows : Rows) → AreAtRest at_rest.old rows → AreAtRest at_rest.new (changed changes.now rows) }
+{
+    changes_in_turn();
+    for change in changes {
+        wake(at_rest, change);
+    }
+}
+
+// The vehicles that are known to have no open trip once the change was made: without the one whose trip is written.
+fn wake(at_rest: &mut BTreeSet<VehicleKey>, one: &Change)
+    ensures { (rows : Rows) → AreAtRest at_rest.old rows → AreAtRest at_rest.new (change rows one.now) }
+{
+    if let Change::Trip(order, row) = one {
+        wake_vehicle(at_rest, *order, row);
+    }
+}
+
+// The vehicles that are known to have no open trip once the trip of this order is as this row says.
+fn wake_vehicle(at_rest: &mut BTreeSet<VehicleKey>, _order: Name, row: &Option<TripRow>)
+    ensures { (rows : Rows) → AreAtRest at_rest.old rows → AreAtRest at_rest.new (record rows { trips = edit rows.trips _order row.now }) }
+{
+    let Some(row) = row else {
+        return;
+    };
+    at_rest.remove(&row.vehicle);
 }

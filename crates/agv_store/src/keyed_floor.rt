@@ -9,7 +9,7 @@ ghost use Rattle.agv_store.specs.Floors.{Knows, facts_of, world_at};
 use crate::counts::Counts;
 use crate::flags::note;
 use crate::kept_rooms::RoomsLeft;
-use crate::kept_trips::{KeptOrders, KeptTrips};
+use crate::kept_trips::KeptTrips;
 use crate::kept_vehicles::KeptVehicles;
 use agv_layout::Layout;
 use agv_tables::readings::hold_reading::query_meta;
@@ -31,10 +31,8 @@ pub struct KeyedFloor<S: Alter> {
     pub(crate) layout: Option<Layout>,
     // Stations whose room was counted, each with so many loads as still fit there at least.
     pub(crate) rooms: RoomsLeft,
-    // The open trips of orders, once they were read.
+    // The open trips of orders, once they were read, and the vehicles that are known to have none.
     pub(crate) trips: KeptTrips,
-    // Under which order the trip of a vehicle is looked for.
-    pub(crate) orders: KeptOrders,
     // The rows of vehicles, once they were read or written.
     pub(crate) vehicles: KeptVehicles,
     pub(crate) failed: bool,

@@ -20,9 +20,9 @@ use agv_layout::laws::{gives_itself, needs_a_node};
 use agv_tables::first_schema::table_moving::move_tables;
 use agv_tables::first_schema::world_finding::find_first_world;
 use agv_tables::readings::world_laws::a_database_tells_its_world;
+use agv_world::World;
 use agv_world::lawful_laws::is_in_good_order;
 use agv_world::laws::tables_tell_the_world;
-use agv_world::{ByVehicle, World};
 use sqlite::{Alter, Connection};
 use std::alloc::Global;
 
@@ -69,7 +69,6 @@ impl<S: Alter + Drop> Desk<S> {
                     layout,
                     rooms: no_rooms(alloc),
                     trips: no_trips(alloc),
-                    orders: ByVehicle::new(alloc),
                     vehicles: no_vehicles(alloc),
                     failed: false,
                     in_doubt: false,

@@ -32,9 +32,9 @@ use agv_tables::schema::making_laws::{made_desks_stand, new_desks_know_nothing};
 use agv_tables::schema::standing_tables::tables_stand;
 use agv_tables::schema::table_room::leaves_room;
 use agv_tables::{DESK_SEATS, HeldThings};
+use agv_world::World;
 use agv_world::lawful_laws::is_in_good_order;
 use agv_world::laws::tables_tell_the_world;
-use agv_world::{ByVehicle, World};
 use sqlite::{Alter, Connection};
 use std::alloc::Global;
 
@@ -74,7 +74,6 @@ impl<S: Alter + Drop> Desk<S> {
                     layout: None,
                     rooms: no_rooms(alloc),
                     trips: no_trips(alloc),
-                    orders: ByVehicle::new(alloc),
                     vehicles: no_vehicles(alloc),
                     failed: false,
                     in_doubt: false,
@@ -113,7 +112,6 @@ impl<S: Alter + Drop> Desk<S> {
                     layout,
                     rooms: no_rooms(alloc),
                     trips: no_trips(alloc),
-                    orders: ByVehicle::new(alloc),
                     vehicles: no_vehicles(alloc),
                     failed: false,
                     in_doubt: false,

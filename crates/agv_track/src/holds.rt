@@ -1,6 +1,7 @@
 //! Who holds what.
 ghost use Rattle.std.specs.Prelude.{◌≡◌, ◌↔◌, None, Some, OnOk, OnErr, IfOk, Err, cond, not, ◌&&◌, true, false};
 ghost use Rattle.std.specs.FinMap as map;
+ghost use Rattle.std.specs.Option.{is_none};
 ghost use Rattle.agv_header.specs.declared.key.Thing.{Thing as Held};
 ghost use Rattle.agv_header.specs.declared.key.VehicleKey.{VehicleKey as Vehicle};
 ghost use Rattle.agv_track.specs.declared.claim_fault.ClaimFault.TheVariants as fault;
@@ -125,18 +126,20 @@ impl HoldTable {
         ensures err { OnErr result ((thing : Held) → is_in thing things.now ≡ false → map.get self.new thing ≡ map.get self.old thing) }
     {
         for thing in things {
-            self.put(*thing, *key)?;
+            self.give(*thing, *key)?;
         }
         Ok(())
     }
 
-    // The vehicle holds the thing from now on, whoever held it.
-    fn put(&mut self, thing: Thing, key: VehicleKey) -> Result<(), Memory>
-        ensures ok { OnOk result (self.new ≡ map.insert self.old thing key) }
+    /// The vehicle holds the thing from now on, whoever held it; the answer says whether nobody did.
+    ///
+    /// `Memory` where an allocation was refused; then nothing has changed.
+    pub fn give(&mut self, thing: Thing, key: VehicleKey) -> Result<bool, Memory>
+        ensures ok { IfOk result (λ free. (free ≡ is_none (map.get self.old thing)) × (self.new ≡ map.insert self.old thing key)) }
         ensures err { OnErr result (self.new ≡ self.old) }
     {
-        self.holders.insert(thing, key)?;
-        Ok(())
+        let before = self.holders.insert(thing, key)?;
+        Ok(before.is_none())
     }
 
     // Nobody holds any of the things from now on.

@@ -1,5 +1,5 @@
 -- What vehicles of a lawful world hold has names that are names.
-use Rattle.std.proofs.Common.{◌≡◌, ℕ, zero, suc, ◌-◌, not, true, false, cond, List, [], ◌∷◌, drop, map, take, Option, None, Some, refl, sym, ap, subst, ◌∙◌}
+use Rattle.std.proofs.Common.{◌≡◌, ℕ, zero, suc, ◌-◌, not, true, false, cond, List, [], ◌∷◌, drop, map, take, Option, None, Some, refl, sym, subst}
 use Rattle.std.proofs.lemmas.Option.{same_Some}
 use Rattle.std.specs.Cmp.{Equal-is}
 use Rattle.std.specs.FinMap as finite
@@ -17,7 +17,6 @@ use Rattle.agv_order.specs.Trips.{node_at}
 use Rattle.agv_order.specs.WellFormed.{IsEdgeOf}
 use Rattle.agv_order.specs.declared.trip.Trip.{Trip}
 use Rattle.agv_track.specs.Footprints.{along, footprint_of, from_node, once, rest_things, things_by}
-use Rattle.agv_track.specs.Holds.{Holds, first_held, or_further, other_holder}
 use Rattle.agv_world.specs.GoodOrder.{InGoodOrder}
 use Rattle.agv_world.specs.Lawful.{IsLawful}
 use Rattle.agv_world.specs.Rows.{hold_rows, rows_of, standing_of}
@@ -27,13 +26,6 @@ use Rattle.agv_tables.specs.rows.TypedRows.{IsThing}
 use Rattle.agv_tables.proofs.rows.LawfulValues.{edge_named, ends_value, node_named, rest_value}
 use Rattle.agv_tables.proofs.rows.SpreadRows.{spread_from}
 use Rattle.sqlite_trees.proofs.ListLemmas.{all-filter}
-
--- what nobody holds is held by no other vehicle
-pub held_by_none : (table : Holds) (key : VehicleKey) (thing : Thing) → finite.get table thing ≡ None → (held : Thing × VehicleKey) → first_held table key (thing ∷ []) ≡ Some held → ⊥
-held_by_none table key thing free held found =
-    let none : first_held table key (thing ∷ []) ≡ None = ap (λ (o : Option VehicleKey). or_further thing (other_holder key o) None) free in
-    let wrong : ◌≡◌ {A = Option (Thing × VehicleKey)} None (Some held) = sym none ∙ found in
-    cc wrong
 
 -- ---- lists
 

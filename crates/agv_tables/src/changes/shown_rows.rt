@@ -1,5 +1,5 @@
 //! Whether rows that are shown are those that would be written: then nothing has to be.
-ghost use Rattle.std.specs.Prelude.{◌≡◌, ◌+◌, ◌<◌, ◌^◌, [], ◌∷◌, length, IsTrue};
+ghost use Rattle.std.specs.Prelude.{◌≡◌, ◌+◌, ◌<◌, ◌^◌, [], ◌∷◌, length, IfSome, IsTrue};
 ghost use Rattle.agv_trip_rows.specs.TripRows.{act_key, act_row};
 ghost use Rattle.agv_tables.specs.changes.ActRows.{AreOfOrder, IsOfOrder};
 ghost use Rattle.agv_tables.specs.rows.Columns.{act_columns, room_columns};
@@ -8,6 +8,7 @@ use crate::rows::decode_row::{decode_act, decode_capacity};
 use crate::rows::row_laws::a_row_told_writes_its_columns;
 use agv_header::{Name, VehicleKey};
 use agv_order::Act;
+use agv_trip_rows::ActRow;
 use agv_world::VehicleRow;
 use sqlite::Row;
 
@@ -51,15 +52,9 @@ pub(crate) fn are_of_acts(rows: &[Row], order: &Name, n: usize, acts: &[Act]) ->
 fn is_of_act(row: &Row, order: &Name, n: usize, act: &Act) -> bool
     ensures { IsTrue result → IsOfOrder order.now n row.now }
 {
-    a_row_told_writes_its_columns();
-    match decode_act(row) {
+    match told_act(row, order, n) {
         None => false,
-        Some((key, told)) => {
-            key.order == *order
-                && key.k as usize == n
-                && told.job == act.job
-                && told.kind == act.kind
-        }
+        Some(told) => told.job == act.job && told.kind == act.kind,
     }
 }
 
@@ -67,16 +62,26 @@ fn is_of_act(row: &Row, order: &Name, n: usize, act: &Act) -> bool
 pub(crate) fn is_act(row: &Row, order: &Name, n: usize, act: &Act) -> bool
     ensures { IsTrue result → row.now ≡ act_columns (act_key order.now n) (act_row act.now) }
 {
-    a_row_told_writes_its_columns();
-    match decode_act(row) {
+    match told_act(row, order, n) {
         None => false,
-        Some((key, told)) => {
-            key.order == *order
-                && key.k as usize == n
-                && told.job == act.job
+        Some(told) => {
+            told.job == act.job
                 && told.kind == act.kind
                 && told.place_at == act.place_at
                 && told.status == act.status
         }
+    }
+}
+
+// What the row of the order's act of this number tells.
+fn told_act(row: &Row, order: &Name, n: usize) -> Option<ActRow>
+    ensures { IfSome result (λ told. row.now ≡ act_columns (act_key order.now n) told) }
+{
+    a_row_told_writes_its_columns();
+    let (key, told) = decode_act(row)?;
+    if key.order == *order && key.k as usize == n {
+        Some(told)
+    } else {
+        None
     }
 }

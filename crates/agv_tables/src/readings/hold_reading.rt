@@ -1,7 +1,7 @@
 //! What is held, and the row of `meta`, are read whole.
 //!
 //! They answer as the other readings do (`specs/readings/TablesRead.antt`).
-ghost use Rattle.std.specs.Prelude.{◌≡◌, None, IfErr, IsPermutation, OnOk};
+ghost use Rattle.std.specs.Prelude.{◌≡◌, IsPermutation};
 ghost use Rattle.std.specs.FinMap as map;
 ghost use Rattle.agv_world.specs.Rows.{rows_of};
 ghost use Rattle.agv_tables.specs.rows.Columns.{hold_columns, hold_in, meta_columns, meta_in};
@@ -18,8 +18,7 @@ use crate::readings::held_things::HeldThings;
 use crate::rows::decode_row::{decode_hold, decode_meta};
 use crate::schema::schema_numbers::SCHEMA_NUMBER;
 use crate::schema::table_name::TableName;
-use agv_header::{Thing, VehicleKey};
-use agv_track::{ClaimFault, HoldTable};
+use agv_track::HoldTable;
 use agv_world::lawful_laws::is_in_good_order;
 use sqlite::{Alter, Connection, Row};
 use std::alloc::Global;
@@ -48,28 +47,14 @@ pub(crate) fn holds_in_rows(alloc: Global, rows: &[Row]) -> Result<HeldThings, R
         match decode_hold(row) {
             None => return Err(ReadingFault::Damaged),
             Some((thing, key)) => {
-                if table.holder(&thing).is_some() {
+                if !table.give(thing, key)? {
                     return Err(ReadingFault::Damaged);
                 }
-                note_hold(&mut table, &thing, &key)?;
                 pairs.push((thing, key))?;
             }
         }
     }
     Ok(HeldThings { table, pairs })
-}
-
-// Notes that the vehicle holds the thing, which nobody holds so far.
-fn note_hold(holds: &mut HoldTable, thing: &Thing, key: &VehicleKey) -> Result<(), ReadingFault>
-    requires { map.get holds.old thing.now ≡ None }
-    ensures noted { OnOk result (holds.new ≡ map.insert holds.old thing.now key.now) }
-    ensures memory { IfErr result (λ why. why ≡ fault.Memory) }
-{
-    match holds.claim(*key, &[*thing]) {
-        Ok(()) => Ok(()),
-        Err(ClaimFault::Held { .. }) => Err(ReadingFault::Damaged),
-        Err(ClaimFault::Memory) => Err(ReadingFault::Memory),
-    }
 }
 
 /// The table `meta` has just the row of the second schema. An answer comes only from an open store, so this asks whether it is

@@ -50,10 +50,9 @@ pub(crate) fn edges_in_rows(alloc: Global, rows: &[Row]) -> Result<ByName<EdgeEn
         match decode_edge(row) {
             None => return Err(ReadingFault::Damaged),
             Some((id, value)) => {
-                if table.get(id).is_some() {
+                if !table.insert_new(id, value)? {
                     return Err(ReadingFault::Damaged);
                 }
-                table.insert(id, value)?;
             }
         }
     }
@@ -72,10 +71,9 @@ pub(crate) fn stations_in_rows(
         match decode_station(row) {
             None => return Err(ReadingFault::Damaged),
             Some((id, value)) => {
-                if table.get(id).is_some() {
+                if !table.insert_new(id, value)? {
                     return Err(ReadingFault::Damaged);
                 }
-                table.insert(id, value)?;
             }
         }
     }
@@ -165,10 +163,9 @@ pub(crate) fn journeys_in_rows(
         match decode_journey(row) {
             None => return Err(ReadingFault::Damaged),
             Some((id, value)) => {
-                if table.get(id).is_some() {
+                if !table.insert_new(id, value)? {
                     return Err(ReadingFault::Damaged);
                 }
-                table.insert(id, value)?;
             }
         }
     }
@@ -235,10 +232,9 @@ pub(crate) fn take_place(table: &mut ByName<Place>, row: &Row) -> Result<(), Rea
     match decode_load(row) {
         None => Err(ReadingFault::Damaged),
         Some((id, place)) => {
-            if table.get(id).is_some() {
+            if !table.insert_new(id, place)? {
                 return Err(ReadingFault::Damaged);
             }
-            table.insert(id, place)?;
             Ok(())
         }
     }
@@ -264,10 +260,9 @@ pub(crate) fn jobs_in_rows(alloc: Global, rows: &[Row]) -> Result<ByName<JobRow>
         match decode_job(row) {
             None => return Err(ReadingFault::Damaged),
             Some((id, value)) => {
-                if table.get(id).is_some() {
+                if !table.insert_new(id, value)? {
                     return Err(ReadingFault::Damaged);
                 }
-                table.insert(id, value)?;
             }
         }
     }

@@ -1,7 +1,7 @@
 //! Tables with names for keys.
 ghost use Rattle.std.specs.Prelude.{◌≡◌, ℕ, List, Some, IfOk, OnOk, OnErr};
 ghost use Rattle.std.specs.FinMap as map;
-ghost use Rattle.std.specs.Option.{option_copied};
+ghost use Rattle.std.specs.Option.{is_none, option_copied};
 ghost use Rattle.agv_header.specs.Name.{IsName};
 
 use crate::{JobRow, TripRow, VehicleRow};
@@ -116,6 +116,17 @@ impl<V: Row> ByName<V> {
     {
         self.kept.insert(key, row)?;
         Ok(())
+    }
+
+    /// Writes the row of a key, and says whether there was none; one that is there is written over.
+    ///
+    /// `Memory` where an allocation was refused; then nothing has changed.
+    pub fn insert_new(&mut self, key: Name, row: V) -> Result<bool, Memory>
+        ensures ok { IfOk result (λ new. (new ≡ is_none (map.get self.old key)) × (self.new ≡ map.insert self.old key row)) }
+        ensures err { OnErr result (self.new ≡ self.old) }
+    {
+        let before = self.kept.insert(key, row)?;
+        Ok(before.is_none())
     }
 
     /// Removes the row of a key, if there is one.

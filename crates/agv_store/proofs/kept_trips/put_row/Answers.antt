@@ -1,7 +1,7 @@
 use Rattle.std.proofs.Common.{subst, sym, ◌∙◌}
 use Rattle.agv_world.specs.Changes.{change}
 use Rattle.agv_world.specs.declared.change.Change.TheVariants as row
-use Rattle.agv_store.specs.KeptTrips.{AreTrips}
+use Rattle.agv_store.specs.KeptTrips.{AreOpen}
 use Rattle.agv_store.proofs.KeptTrips.{trip_forgotten, trip_put}
 use Rattle.agv_store.proofs.kept_trips.put_row.Goals as goal
 
@@ -13,7 +13,7 @@ returns-in_default-row c = trip_forgotten c.args.trips.now c.remove.new.self c.a
 
 pub returns-in-Ok : goal.returns-in-Ok
 returns-in-Ok c rows =
-    subst (λ its. AreTrips c.args.trips.now rows → AreTrips c.insert-kept.new.self (change rows (row.Trip c.args.order its))) (sym c.in-Some-row.is)
+    subst (λ its. AreOpen c.args.trips.now rows → AreOpen c.insert-kept.new.self (change rows (row.Trip c.args.order its))) (sym c.in-Some-row.is)
     (trip_put c.args.trips.now c.remove.new.self c.insert-kept.new.self c.args.order c.in-Some.trip c.in-Ok.trip c.in-Some-row.row (sym c.remove.ensures.value ∙ c.in-Some.is) c.in-Ok.ensures
     c.remove.ensures.updates.0 c.insert-kept.result c.insert-kept.ensures.updates c.insert-kept.ensures.err rows)
 

@@ -1,8 +1,7 @@
-use Rattle.agv_store.proofs.Asked.{asked_asks, asked_kept}
+use Rattle.std.proofs.Common.{ap, is_some, sym}
+use Rattle.agv_store.proofs.Asked.{answered_open}
 use Rattle.agv_store.proofs.floor_questions.KeyedFloorFloor.has_trip.Goals as goal
 
-pub invariant_of-self : goal.invariant_of-self
-invariant_of-self g c = asked_kept g.S.Store c.self.inside.conn c.query_has_trip-asked.new.conn c.self.inside.counts c.self.inside.layout c.self.inside.rooms c.self.inside.trips c.self.inside.vehicles c.self.inside.failed c.self.inside.in_doubt c.self.invariant c.query_has_trip-asked.result _ c.query_has_trip-asked.ensures c.note.new.failed c.note.new.in_doubt c.note.ensures.failed c.note.ensures.in_doubt
-
-pub returns : goal.returns
-returns g c = asked_asks g.S.Store c.self.inside.conn c.query_has_trip-asked.new.conn c.self.inside.counts c.self.inside.layout c.self.inside.rooms c.self.inside.trips c.self.inside.vehicles c.self.inside.failed c.self.inside.in_doubt c.self.invariant c.query_has_trip-asked.result _ c.query_has_trip-asked.ensures c.note.new.failed c.args.self.now c.self.view_is c.note.result c.note.ensures.is c.note.ensures.failed
+pub returns-then-rests : goal.returns-then-rests
+returns-then-rests g c =
+    answered_open g.S.Store c.args.self.now c.settle.new.self c.in_ok-settle.ensures.asks c.in_ok-settle.ensures.knows (λ clean still. ap is_some (sym (c.rests.ensures c.if-rests.true clean still)))

@@ -1,4 +1,4 @@
-use Rattle.std.proofs.Common.{◌≡◌, Some}
+use Rattle.std.proofs.Common.{◌≡◌, Some, sym}
 use Rattle.agv_order.specs.declared.trip.Trip.{Trip}
 use Rattle.agv_world.specs.Questions.{trip_of}
 use Rattle.agv_tables.specs.sql.Connections.{IsClean, IsOpen}
@@ -12,3 +12,7 @@ returns-in-Some g c =
     answered_open g.S.Store c.args.self.now c.settle.new.self c.in_ok-settle.ensures.asks c.in_ok-settle.ensures.knows
     (if_some (λ (trip : Trip). IsClean g.S.Store c.args.self.now.held → IsOpen g.S.Store c.args.self.now.held → Some trip ≡ trip_of (world_at g.S.Store c.args.self.now.held) c.args.key)
     c.in_ok-kept.kept c.in-Some.kept c.in-Some.is c.in_ok-kept.ensures)
+
+pub returns-then-rests : goal.returns-then-rests
+returns-then-rests g c =
+    answered_open g.S.Store c.args.self.now c.settle-then-rests.new.self c.in_ok-settle-2.ensures.asks c.in_ok-settle-2.ensures.knows (λ clean still. sym (c.rests.ensures c.if-rests.true clean still))

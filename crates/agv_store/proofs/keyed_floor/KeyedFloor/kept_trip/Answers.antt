@@ -13,5 +13,5 @@ pub returns : goal.returns
 returns g c =
     found_then c.trip_of_vehicle.result c.trip_of_vehicle.ensures (λ kept found. IfSome_then kept found (λ trip is clean still.
     let world = world_at g.S.Store c.args.self.now.held in
-    let its = is.1 (rows_of world) (trips_seen g.S.Store c.self.inside.conn c.self.inside.counts c.self.inside.layout c.self.inside.rooms c.self.inside.trips c.self.inside.vehicles c.self.inside.failed c.self.inside.in_doubt c.self.invariant c.args.self.now c.self.view_is clean still) in
+    let its = is.1 (rows_of world) (trips_seen g.S.Store c.self.inside.conn c.self.inside.counts c.self.inside.layout c.self.inside.rooms c.self.inside.trips c.self.inside.vehicles c.self.inside.failed c.self.inside.in_doubt c.self.invariant c.args.self.now c.self.view_is clean still).0 in
     sym ((c.rows_have_trips.ensures world (c.knows.ensures clean still).has.lawful c.args.key.now trip).1 (is.0, its.1))))

@@ -15,9 +15,9 @@ loop-row-preserved c =
     let free : map.get c.loop-row.table c.in-Some.thing ≡ None = search rules in
     let low : c.loop-row.row-index < length c.args.rows.now = search rules in
     let told : hold_in c.row-item.result ≡ Some (c.in-Some.thing, c.in-Some.key) = search rules in
-    let noted : c.note_hold.new.holds ≡ map.insert c.loop-row.table c.in-Some.thing c.in-Some.key = search rules in (
-      sym (reads_on c.loop-row.table c.args.rows.now c.loop-row.row-index c.row-item.result c.in-Some.thing c.in-Some.key low c.row-item.is told free c.note_hold.new.holds noted) ∙ c.loop-row.invariant.0,
-      one_more_listed c.loop-row.table c.loop-row.pairs.items c.in-Some.thing c.in-Some.key free c.loop-row.invariant.1 c.note_hold.new.holds noted c.push.new.self.items c.in_ok-push-in-Some.ensures.items,
+    let noted : c.give.new.self ≡ map.insert c.loop-row.table c.in-Some.thing c.in-Some.key = search rules in (
+      sym (reads_on c.loop-row.table c.args.rows.now c.loop-row.row-index c.row-item.result c.in-Some.thing c.in-Some.key low c.row-item.is told free c.give.new.self noted) ∙ c.loop-row.invariant.0,
+      one_more_listed c.loop-row.table c.loop-row.pairs.items c.in-Some.thing c.in-Some.key free c.loop-row.invariant.1 c.give.new.self noted c.push.new.self.items c.in_ok-push-in-Some.ensures.items,
     )
 
 pub invariant_of-result : goal.invariant_of-result
