@@ -119,12 +119,23 @@ fn put(bytes: &mut Vec<u8>, at: usize, new: &[u8]) -> Result<(), AllocError>
     ensures written { OnOk result (Holds bytes.new.items at new.now) }
     ensures others { Torn at (length new.now) bytes.old.items bytes.new.items }
 {
+    if at == bytes.len() {
+        return append(bytes, new);
+    }
     let end = at.checked_add(new.len()).ok_or(AllocError)?;
     if end > bytes.len() {
         resize(bytes, end)?;
     }
     bytes[at..end].copy_from_slice(new);
     Ok(())
+}
+
+/// Puts these bytes behind the end.
+fn append(bytes: &mut Vec<u8>, new: &[u8]) -> Result<(), AllocError>
+    ensures written { OnOk result (Holds bytes.new.items (length bytes.old.items) new.now) }
+    ensures others { Torn (length bytes.old.items) (length new.now) bytes.old.items bytes.new.items }
+{
+    bytes.extend_from_slice(new)
 }
 
 /// Sets the length, with zeros behind the old end.

@@ -32,6 +32,14 @@ pub fn write_whole<W: Write>(writer: &mut CountingIo<W>, bytes: &[u8]) -> bool
     true
 }
 
+/// The bytes behind the first `n`.
+pub(crate) fn behind(buf: &Vec<u8>, n: usize) -> &[u8]
+    requires { n ≤ vec_len buf.now }
+    ensures { result.now ≡ drop n buf.now.items }
+{
+    &buf[n..]
+}
+
 /// Drops the first bytes.
 pub(crate) fn drop_front(buf: &mut Vec<u8>, n: usize)
     requires { n ≤ vec_len buf.old }
@@ -53,7 +61,7 @@ pub(crate) fn read_some<R: Read>(
     ensures read { IfOk result (IsRead R.remaining reader.old reader.new buf.old.items buf.new.items) }
     ensures failed { OnErr result (FailedOnce reader.old reader.new × Keeps (R.remaining (inner_of reader.old)) (R.remaining (inner_of reader.new))) }
     ensures kept { OnErr result (buf.new.items ≡ buf.old.items) }
-    ensures room { vec_capacity buf.new ≡ vec_capacity buf.old }
+    ensures room { vec_capacity buf.old ≤ vec_capacity buf.new }
     ensures calls { HadCall reader.old reader.new }
 {
     let mut chunk = [0; ONE_READ];
@@ -71,9 +79,10 @@ pub(crate) fn read_some<R: Read>(
 fn put_reserved(buf: &mut Vec<u8>, bytes: &[u8])
     requires { vec_len buf.old + length bytes.now ≤ vec_capacity buf.old }
     ensures items { buf.new.items ≡ buf.old.items ++ bytes.now }
-    ensures room { vec_capacity buf.new ≡ vec_capacity buf.old }
+    ensures room { vec_capacity buf.old ≤ vec_capacity buf.new }
 {
-    for byte in bytes {
-        buf.push_reserved(*byte);
+    match buf.extend_from_slice(bytes) {
+        Ok(()) => (),
+        Err(_) => unreachable!(),
     }
 }

@@ -6,7 +6,7 @@ ghost use Rattle.agv_face.specs.Replies.{IsLaterDesk};
 ghost use Rattle.agv_face.specs.CountingIo.{HadCallsAtMost};
 ghost use Rattle.agv_http.specs.answers.Sizes.{most_answer};
 
-use crate::bytes::{LONGEST_REQUEST, drop_front, read_some, write_whole};
+use crate::bytes::{LONGEST_REQUEST, behind, drop_front, read_some, write_whole};
 use crate::counting_io::CountingIo;
 use crate::next::{Next, serve_next};
 use crate::stream_end::{Ended, StreamFault, StreamSummary};
@@ -137,13 +137,15 @@ fn serve_requests<S: Alter + Drop, R: Read, W: Write>(
     let mut ended = false;
     let mut reads = 0;
     let mut answers = 0;
+    // Of the bytes that have come, so many are served; they are dropped before the next read.
+    let mut served = 0;
     loop {
         let next = serve_next(
             alloc,
             &room.routes,
             desk,
             at,
-            &room.input,
+            behind(&room.input, served),
             ended,
             &mut room.output,
         );
@@ -160,6 +162,8 @@ fn serve_requests<S: Alter + Drop, R: Read, W: Write>(
                     return Err(StreamFault::Read { answers });
                 }
                 reads += 1;
+                drop_front(&mut room.input, served);
+                served = 0;
                 match read_some(reader, &mut room.input) {
                     Ok(more) => ended = !more,
                     Err(_) => return Err(StreamFault::Read { answers }),
@@ -176,7 +180,7 @@ fn serve_requests<S: Alter + Drop, R: Read, W: Write>(
                         ended: Ended::Close,
                     });
                 }
-                drop_front(&mut room.input, len);
+                served += len;
             }
             Ok(Next::Fault(why)) => {
                 if !write_whole(writer, &room.output) {
