@@ -7,17 +7,21 @@ import os
 import re
 import shutil
 import subprocess
+import sys
 import tempfile
 import time
 
 HERE = os.path.dirname(os.path.abspath(__file__))
+sys.path.insert(0, os.path.join(HERE, '..', 'tests'))
+
+import calls  # noqa: E402
+
 DESK = os.path.abspath(os.environ.get('DESK', os.path.join(HERE, '..', 'build', 'desk')))
 AT = '1700000000000'
 
 
 def load(number):
-    body = b'{"load":"L%07d"}' % number
-    return b'POST /loads HTTP/1.1\r\nContent-Length: %d\r\n\r\n%s' % (len(body), body)
+    return calls.load('L%07d' % number).to_bytes()
 
 
 def copied(source, name):

@@ -11,6 +11,7 @@ import subprocess
 import tempfile
 
 import rounds
+from rounds import calls
 
 HERE = os.path.dirname(os.path.abspath(__file__))
 DESK = os.path.abspath(os.environ.get('DESK', os.path.join(HERE, '..', 'build', 'desk')))
@@ -40,20 +41,19 @@ def orders(count):
     layout = 'kind,id,from,to\n' + ''.join('node,%s,,\n' % name for name in nodes) + ''.join(
         'edge,E%03d,%s,%s\n' % (i, nodes[2 * i], nodes[2 * i + 1]) for i in range(count)) + ''.join(
         'station,A%03d,%s,1\nstation,B%03d,%s,1\n' % (i, nodes[2 * i], i, nodes[2 * i + 1]) for i in range(count))
-    before, orders_ = [rounds.request('PUT', '/layout', layout)], []
+    before, orders_ = [calls.layout(layout)], []
     for i in range(count):
-        key = {'manufacturer': 'KIT', 'serialNumber': '%04d' % i}
-        state = rounds.state(1, node=nodes[2 * i]).replace(b'"0001"', b'"%04d"' % i).replace(b'/0001/', b'/%04d/' % i)
-        before += [rounds.request('POST', '/vehicles', {**key, 'node': nodes[2 * i]}), state,
-                   rounds.request('POST', '/loads', {'load': 'L%03d' % i, 'station': 'A%03d' % i}),
-                   rounds.request('POST', '/jobs', {'job': 'J%03d' % i, 'load': 'L%03d' % i, 'to': 'B%03d' % i})]
-        orders_.append(rounds.request('POST', '/orders', {'order': 'O%03d' % i, 'job': 'J%03d' % i, **key, 'edges': 1}))
+        serial, job = '%04d' % i, 'J%03d' % i
+        before += [calls.vehicle(serial, nodes[2 * i]), calls.state(1, node=nodes[2 * i], serial=serial),
+                   calls.load('L%03d' % i, 'A%03d' % i), calls.job(job, 'L%03d' % i, 'B%03d' % i)]
+        orders_.append(calls.order('O%03d' % i, job, 1, serial))
+    before, orders_ = ([call.to_bytes() for call in some] for some in (before, orders_))
     return before, orders_
 
 
 def main():
-    loads = [rounds.request('POST', '/loads', {'load': 'L%07d' % i}) for i in range(2 * COUNT)]
-    states = [rounds.state(i + 2) for i in range(2 * COUNT)]
+    loads = [calls.load('L%07d' % i).to_bytes() for i in range(2 * COUNT)]
+    states = [calls.state(i + 2).to_bytes() for i in range(2 * COUNT)]
     with tempfile.TemporaryDirectory() as folder:
         for name, before, requests in (('a registration', rounds.START, loads), ('a state', rounds.START, states), ('an order', *orders(2 * COUNT))):
             few = counted(b''.join(before + requests[:COUNT]), folder)

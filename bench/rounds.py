@@ -1,33 +1,23 @@
 """Rounds of requests for the measuring scripts: in each a load is registered, moved by an order from station A to B and gone, so that
 the desk ends a round as it began it, but for names that are used and the count of what has ended. Each request is answered 200, a
 question for a message that isn't there 204."""
-import json
+import os
 import sqlite3
+import sys
+
+sys.path.insert(0, os.path.join(os.path.dirname(os.path.abspath(__file__)), '..', 'tests'))
+
+import calls  # noqa: E402
 
 AT = '1700000000000'
 LAYOUT = ('kind,id,from,to\nnode,N1,,\nnode,N2,,\nnode,N3,,\nedge,E12,N1,N2\nedge,E21,N2,N1\nedge,E23,N2,N3\nedge,E32,N3,N2\n'
           'station,A,N1,999\nstation,B,N3,999\n')
-VEHICLE = {'manufacturer': 'KIT', 'serialNumber': '0001'}
+START = [calls.layout(LAYOUT).to_bytes(), calls.vehicle('0001', 'N1').to_bytes(), calls.state(1).to_bytes()]
 
 
-def request(method, target, body=b''):
-    if not isinstance(body, bytes):
-        body = (body if isinstance(body, str) else json.dumps(body, separators=(',', ':'))).encode()
-    length = b'Content-Length: %d\r\n' % len(body) if method != 'GET' else b''
-    return b'%s %s HTTP/1.1\r\n%s\r\n%s' % (method.encode(), target.encode(), length, body)
-
-
-def state(header, order='', update=0, node='N1', seq=0, nodes=(), actions=(), edges=()):
-    return request('POST', '/uagv/v2/KIT/0001/state', {
-        'headerId': header, 'timestamp': '2023-11-14T22:13:19.50Z', 'version': '2.0.0', **VEHICLE, 'orderId': order, 'orderUpdateId': update,
-        'lastNodeId': node, 'lastNodeSequenceId': seq, 'driving': False,
-        'nodeStates': [{'nodeId': name, 'sequenceId': at, 'released': True} for name, at in nodes], 'edgeStates': list(edges),
-        'actionStates': [{'actionId': name, 'actionStatus': status} for name, status in actions],
-        'batteryState': {'batteryCharge': 80, 'charging': False}, 'operatingMode': 'AUTOMATIC', 'errors': [],
-        'safetyState': {'eStop': 'NONE', 'fieldViolation': False}})
-
-
-START = [request('PUT', '/layout', LAYOUT), request('POST', '/vehicles', {**VEHICLE, 'node': 'N1'}), state(1)]
+def nodes_ahead(*nodes):
+    """The nodes that a vehicle has ahead, as pairs of a name and its number on the way."""
+    return [{'nodeId': name, 'sequenceId': at, 'released': True} for name, at in nodes]
 
 
 class Rounds:
@@ -36,50 +26,55 @@ class Rounds:
     def __init__(self):
         self.number, self.header, self.instant = 0, 1, 0
 
-    def next_state(self, **members):
+    def next_state(self, order='', update=0, node='N1', sequence=0, statuses=(), ahead=()):
         self.header += 1
-        return state(self.header, **members)
+        return calls.state(self.header, order, update, node, sequence, statuses, nodeStates=nodes_ahead(*ahead))
 
     def next_instant(self):
         self.instant += 1
         return 'instant-%d' % self.instant
 
     def round(self):
+        for what, call in self.calls():
+            yield what, call.to_bytes()
+
+    def calls(self):
         self.number += 1
         n = self.number
         load, job, stopped, back = 'A%06d' % n, 'P%06d' % n, 'Q%06d' % n, 'R%06d' % n
         order, second = 'O%06d' % n, 'T%06d' % n
-        pick, drop = order + '.0', order + '.1'
-        yield 'register a load', request('POST', '/loads', {'load': load, 'station': 'A'})
-        yield 'add a job', request('POST', '/jobs', {'job': stopped, 'load': load, 'to': 'B'})
-        yield 'stop a job', request('DELETE', '/jobs/' + stopped)
-        yield 'add a job', request('POST', '/jobs', {'job': job, 'load': load, 'to': 'B'})
-        yield 'start an order', request('POST', '/orders', {'order': order, 'job': job, **VEHICLE, 'edges': 1})
-        yield 'get an order message', request('GET', '/uagv/v2/KIT/0001/order')
-        yield 'a state: picked', self.next_state(order=order, nodes=[('N2', 2)], actions=[(pick, 'FINISHED')])
-        yield 'release an edge more', request('POST', '/vehicles/KIT/0001/advance', {'order': order, 'orderUpdateId': 1, 'edges': 1})
-        yield 'a state: at the next node', self.next_state(order=order, update=1, node='N2', seq=2, nodes=[('N3', 4)],
-                                                            actions=[(pick, 'FINISHED'), (drop, 'WAITING')])
-        dropped = self.next_state(order=order, update=1, node='N3', seq=4, actions=[(pick, 'FINISHED'), (drop, 'FINISHED')])
-        yield 'a state: dropped, the order ends', dropped
-        yield 'the same state again', dropped
-        yield 'add a job', request('POST', '/jobs', {'job': back, 'load': load, 'to': 'A'})
-        yield 'start an order', request('POST', '/orders', {'order': second, 'job': back, **VEHICLE, 'edges': 1})
-        yield 'cancel an order', request('POST', '/vehicles/KIT/0001/cancel')
-        yield 'a state: the cancel is done', self.next_state(order=second, node='N3', nodes=[('N2', 2)], actions=[(self.next_instant(), 'FINISHED')])
-        yield 'correct a load', request('POST', '/loads/%s/correct' % load, {'ref': 'C%06d' % n})
-        yield 'get a load', request('GET', '/loads/' + load)
-        yield 'get a vehicle', request('GET', '/vehicles/KIT/0001')
-        yield 'a load leaves', request('POST', '/loads/%s/leave' % load, {'ref': 'D%06d' % n})
-        yield 'place a vehicle', request('POST', '/vehicles/KIT/0001/place', {'ref': 'E%06d' % n, 'node': 'N1'})
-        yield 'pause', request('POST', '/vehicles/KIT/0001/pause')
-        yield 'get an instantActions message', request('GET', '/uagv/v2/KIT/0001/instantActions')
-        yield 'a state: the pause is done', self.next_state(order=second, actions=[(self.next_instant(), 'FINISHED')])
-        yield 'resume', request('POST', '/vehicles/KIT/0001/resume')
-        yield 'a state: resumed', self.next_state(order=second, actions=[(self.next_instant(), 'FINISHED')])
-        yield 'begin anew', request('POST', '/vehicles/KIT/0001/resync')
+        picked, dropped = (order + '.0', 'FINISHED'), (order + '.1', 'FINISHED')
+        yield 'register a load', calls.load(load, 'A')
+        yield 'add a job', calls.job(stopped, load, 'B')
+        yield 'stop a job', calls.stop_job(stopped)
+        yield 'add a job', calls.job(job, load, 'B')
+        yield 'start an order', calls.order(order, job, 1)
+        yield 'get an order message', calls.get_order()
+        yield 'a state: picked', self.next_state(order, statuses=[picked], ahead=[('N2', 2)])
+        yield 'release an edge more', calls.advance(order, 1, 1)
+        waits = order + '.1', 'WAITING'
+        yield 'a state: at the next node', self.next_state(order, 1, 'N2', 2, [picked, waits], [('N3', 4)])
+        ended = self.next_state(order, 1, 'N3', 4, [picked, dropped])
+        yield 'a state: dropped, the order ends', ended
+        yield 'the same state again', ended
+        yield 'add a job', calls.job(back, load, 'A')
+        yield 'start an order', calls.order(second, back, 1)
+        yield 'cancel an order', calls.instant('cancel')
+        cancelled = self.next_instant(), 'FINISHED'
+        yield 'a state: the cancel is done', self.next_state(second, node='N3', statuses=[cancelled], ahead=[('N2', 2)])
+        yield 'correct a load', calls.correct(load, 'C%06d' % n)
+        yield 'get a load', calls.get_load(load)
+        yield 'get a vehicle', calls.get_vehicle()
+        yield 'a load leaves', calls.leave(load, 'D%06d' % n)
+        yield 'place a vehicle', calls.place('E%06d' % n, 'N1')
+        yield 'pause', calls.instant('pause')
+        yield 'get an instantActions message', calls.get_instant()
+        yield 'a state: the pause is done', self.next_state(second, statuses=[(self.next_instant(), 'FINISHED')])
+        yield 'resume', calls.instant('resume')
+        yield 'a state: resumed', self.next_state(second, statuses=[(self.next_instant(), 'FINISHED')])
+        yield 'begin anew', calls.resync()
         yield 'a state without an order', self.next_state()
-        yield 'stocktake of two stations', request('POST', '/stocktakes/F%06d' % n, 'station,load\nA,\nB,\n')
+        yield 'stocktake of two stations', calls.stocktake('F%06d' % n, [('A', ''), ('B', '')])
 
 
 def fill(name, count):

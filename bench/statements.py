@@ -178,4 +178,5 @@ def main():
             remove(run)
 
 
-main()
+if __name__ == '__main__':
+    main()

@@ -13,32 +13,25 @@ import time
 import http.client
 
 HERE = os.path.dirname(os.path.abspath(__file__))
+sys.path.insert(0, os.path.join(HERE, '..', 'tests'))
+
+import calls  # noqa: E402
+
 DESK = os.path.abspath(os.environ.get('DESK', os.path.join(HERE, '..', 'build', 'desk')))
 PLAIN = os.path.join(HERE, 'plain_desk.py')
 AT = '1700000000000'
-LAYOUT = b'kind,id,from,to\nnode,N1,,\nnode,N2,,\nnode,N3,,\nedge,E12,N1,N2\nedge,E21,N2,N1\nedge,E23,N2,N3\nedge,E32,N3,N2\nstation,A,N1,999\nstation,B,N3,999\n'
-
-
-def request(method, target, body=b''):
-    if not isinstance(body, bytes):
-        body = json.dumps(body, separators=(',', ':')).encode()
-    length = b'Content-Length: %d\r\n' % len(body) if method != 'GET' else b''
-    return b'%s %s HTTP/1.1\r\n%s\r\n%s' % (method.encode(), target.encode(), length, body)
+LAYOUT = 'kind,id,from,to\nnode,N1,,\nnode,N2,,\nnode,N3,,\nedge,E12,N1,N2\nedge,E21,N2,N1\nedge,E23,N2,N3\nedge,E32,N3,N2\nstation,A,N1,999\nstation,B,N3,999\n'
 
 
 def load(number):
-    return request('POST', '/loads', {'load': 'L%07d' % number})
+    return calls.load('L%07d' % number).to_bytes()
 
 
 def state(number):
-    return request('POST', '/uagv/v2/KIT/0001/state', {
-        'headerId': number, 'timestamp': '2023-11-14T22:13:19.50Z', 'version': '2.0.0', 'manufacturer': 'KIT', 'serialNumber': '0001',
-        'orderId': '', 'orderUpdateId': 0, 'lastNodeId': 'N1', 'lastNodeSequenceId': 0, 'driving': False, 'nodeStates': [], 'edgeStates': [],
-        'actionStates': [], 'batteryState': {'batteryCharge': 80, 'charging': False}, 'operatingMode': 'AUTOMATIC', 'errors': [],
-        'safetyState': {'eStop': 'NONE', 'fieldViolation': False}})
+    return calls.state(number).to_bytes()
 
 
-START = request('PUT', '/layout', LAYOUT) + request('POST', '/vehicles', {'manufacturer': 'KIT', 'serialNumber': '0001', 'node': 'N1'})
+START = calls.layout(LAYOUT).to_bytes() + calls.vehicle('0001', 'N1').to_bytes()
 
 
 def mixed(count):
@@ -114,8 +107,8 @@ with tempfile.TemporaryDirectory() as folder:
     print('%6d registrations over one connection, file: desk %d requests a second, plain desk %d' % (2_000, 2_000 / ours, 2_000 / theirs), flush=True)
     counted('registration', START, [load(i) for i in range(200)], folder)
     counted('state', START, [state(i + 1) for i in range(200)], folder)
-    orders = START + state(1) + request('POST', '/loads', {'load': 'L1', 'station': 'A'}) + request('POST', '/jobs', {'job': 'J1', 'load': 'L1', 'to': 'B'}) + request(
-        'POST', '/orders', {'order': 'O1', 'job': 'J1', 'manufacturer': 'KIT', 'serialNumber': '0001', 'edges': 1})
-    counted('order message', orders, [request('GET', '/uagv/v2/KIT/0001/order')] * 200, folder)
-    counted('question for a load', orders, [request('GET', '/loads/L1')] * 200, folder)
-    counted('stock report, one load', orders, [request('GET', '/report/stock')] * 200, folder)
+    begun = calls.load('L1', 'A'), calls.job('J1', 'L1', 'B'), calls.order('O1', 'J1', 1)
+    orders = START + state(1) + b''.join(call.to_bytes() for call in begun)
+    counted('order message', orders, [calls.get_order().to_bytes()] * 200, folder)
+    counted('question for a load', orders, [calls.get_load('L1').to_bytes()] * 200, folder)
+    counted('stock report, one load', orders, [calls.STOCK_REPORT.to_bytes()] * 200, folder)

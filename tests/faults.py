@@ -13,9 +13,11 @@ import sqlite3
 import tempfile
 
 import test_migrate
-from records import COLUMNS, FOLDER, copied, rows_of
+from records import FOLDER, copied, rows_of
 from test_program import AT, DESK, HERE, read_all, run
 from test_scripts import AT_A, CUT, SCRIPTS, accepted, answers_of, bytes_of, holds, load, ok, order, refused, stands, state
+
+from nulvrader.rows import columns
 
 ALL = os.environ.get('FAULTS') == 'all'
 PART, PARTS = map(int, os.environ.get('FAULTS_PART', '0/1').split('/'))
@@ -250,7 +252,7 @@ def asks(port, request):
 
 def without_clock(rows):
     """The rows with no moments of messages, which are the clock's."""
-    places = {COLUMNS['vehicle'].split().index(name) for name in ('order_at', 'instant_at')}
+    places = {columns('vehicle').index(name) for name in ('order_at', 'instant_at')}
     return {**rows, 'vehicle': [
         tuple(value > 0 if at in places else value for at, value in enumerate(row)) for row in rows['vehicle']]}
 

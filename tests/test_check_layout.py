@@ -1,33 +1,20 @@
-"""`examples/check-layout`: each fault of a layout file once, with its line, and the stations between which no walk
+"""`tools/check-layout`: each fault of a layout file once, with its line, and the stations between which no walk
 leads. Each file that it takes is set by a desk, and each that it refuses is refused by the desk with the refusal that
 it names."""
-import importlib.machinery
-import importlib.util
 import json
 import os
 import random
-import subprocess
-import sys
 import tempfile
 import unittest
 
+import calls
+from programs import ran
+from nulvrader.layouts import LayoutFile
+from nulvrader.tables import Fault
 from test_program import AT, run
 from test_scripts import LAYOUT, answers_of
 
-HERE = os.path.dirname(os.path.abspath(__file__))
-CHECK = os.path.join(HERE, '..', 'examples', 'check-layout')
 FILES = int(os.environ.get('FILES', '300'))
-
-
-def module():
-    """`examples/check-layout` as a module."""
-    loader = importlib.machinery.SourceFileLoader('check_layout', CHECK)
-    found = importlib.util.module_from_spec(importlib.util.spec_from_loader('check_layout', loader))
-    loader.exec_module(found)
-    return found
-
-
-check_layout = module()
 
 HEAD = 'kind,id,from,to\n'
 N1, N2 = 'node,N1,,\n', 'node,N2,,\n'
@@ -121,10 +108,6 @@ TAKEN = [
 BYTES = [b'', b'"', b'""', b',', b'\n', b'\r', b'\r\n', b' ', b'0', b'N', b'1', b'\xff', b'\0']
 
 
-def request(data):
-    return b'PUT /layout HTTP/1.1\r\nContent-Length: %d\r\n\r\n' % len(data) + data
-
-
 def name_of(body):
     """The name of a refusal, or none."""
     return None if body in ('{}', b'{}') else json.loads(body)['name']
@@ -134,35 +117,35 @@ class CheckLayout(unittest.TestCase):
     def test_each_fault(self):
         for text, (line, refusal, rule) in FAULTS.items():
             with self.subTest(text[:80]):
-                layout = check_layout.Layout(text.encode())
-                self.assertEqual(layout.faults, [(line, refusal, rule)])
+                layout = LayoutFile(text.encode())
+                self.assertEqual(layout.faults, [Fault(line, refusal, rule)])
                 self.assertEqual(layout.answer(), refusal)
 
     def test_files_that_are_taken(self):
         for text in TAKEN:
             with self.subTest(text[:80]):
-                layout = check_layout.Layout(text.encode())
+                layout = LayoutFile(text.encode())
                 self.assertEqual((layout.faults, layout.answer(), layout.lacking_walks()), ([], None, []))
-        self.assertEqual(check_layout.Layout(largest(7).encode()).size, 65015)
-        self.assertEqual(check_layout.Layout(largest(8).encode()).answer(), 'TooLarge')
+        self.assertEqual(LayoutFile(largest(7).encode()).size, 65015)
+        self.assertEqual(LayoutFile(largest(8).encode()).answer(), 'TooLarge')
 
     def test_several_faults(self):
         """In the order of the lines, with those of the whole file first; the answer is the first that a desk looks
         for. A row of a name that is taken, or that has another fault, still says that there is such a node."""
         text = HEAD + 'node,N1,x,\nedge,E1,N1,N2\nedge,E2,N1,N 2\nstation,A,N1,0\n' + N1
-        layout = check_layout.Layout(text.encode())
-        self.assertEqual([line for line, _, _ in layout.faults], [2, 3, 4, 5, 6])
+        layout = LayoutFile(text.encode())
+        self.assertEqual([fault.line for fault in layout.faults], [2, 3, 4, 5, 6])
         self.assertEqual(layout.answer(), 'BadCsv')
-        many = check_layout.Layout((TWO + 'edge,E,N1,N3\n' * 1501).encode())
-        self.assertEqual((many.faults[0][1], many.answer()), ('Limit', 'Limit'))
+        many = LayoutFile((TWO + 'edge,E,N1,N3\n' * 1501).encode())
+        self.assertEqual((many.faults[0].refusal, many.answer()), ('Limit', 'Limit'))
 
     def test_bytes_that_are_no_text(self):
-        layout = check_layout.Layout(TWO.encode() + b'node,N\xff,,\n')
-        self.assertEqual(layout.faults, [(4, 'BadCsv', "the name of the node is 'N\\xff'" + NO_NAME)])
+        layout = LayoutFile(TWO.encode() + b'node,N\xff,,\n')
+        self.assertEqual(layout.faults, [Fault(4, 'BadCsv', "the name of the node is 'N\\xff'" + NO_NAME)])
 
     def test_stations_that_no_walk_reaches(self):
         text = TWO + 'node,N3,,\nedge,E1,N1,N2\nstation,A,N1,1\nstation,B,N2,1\nstation,B2,N2,1\nstation,C,N3,1\n'
-        layout = check_layout.Layout(text.encode())
+        layout = LayoutFile(text.encode())
         self.assertEqual(layout.faults, [])
         self.assertEqual(
             layout.lacking_walks(),
@@ -180,7 +163,7 @@ class CheckLayout(unittest.TestCase):
         alone = TWO + ''.join('station,A%d,N1,1\n' % n for n in range(8)) + 'station,B,N2,1\n'
         self.assertIn(
             (12, 'station B: no walk leads from it to A0, A1, A2, A3, A4 and 3 more'),
-            check_layout.Layout(alone.encode()).lacking_walks(),
+            LayoutFile(alone.encode()).lacking_walks(),
         )
 
     def test_what_it_prints(self):
@@ -204,9 +187,9 @@ class CheckLayout(unittest.TestCase):
                 else:
                     with open(name, 'w', newline='') as file:
                         file.write(text)
-                done = subprocess.run([sys.executable, CHECK, name], capture_output=True, text=True, timeout=60)
-                self.assertEqual((done.returncode, done.stdout), (status, wanted))
-                self.assertEqual(done.stderr[:14], 'check-layout: ' if status == 2 else '')
+                ends, out, said = ran('check-layout', name)
+                self.assertEqual((ends, out), (status, wanted))
+                self.assertEqual(said[:14], 'check-layout: ' if status == 2 else '')
 
 
 class OverADesk(unittest.TestCase):
@@ -214,7 +197,7 @@ class OverADesk(unittest.TestCase):
 
     def answers(self, *files):
         """The answers to these bodies, in one stream."""
-        stdin = b''.join(map(request, files))
+        stdin = b''.join(calls.layout(data).to_bytes() for data in files)
         status, out, said = run('replay', '--db', 'memory', '--at', AT, stdin=stdin)
         self.assertEqual((status, said), (0, b''))
         return [name_of(body) for _, body in answers_of(out)]
@@ -237,7 +220,7 @@ class OverADesk(unittest.TestCase):
             for _ in range(chance.choice((1, 1, 1, 2, 3))):
                 at = chance.randrange(len(data))
                 data[at : at + chance.randrange(3)] = chance.choice(BYTES)
-            wanted = check_layout.Layout(bytes(data)).answer()
+            wanted = LayoutFile(bytes(data)).answer()
             (taken if wanted is None else refused).append((bytes(data), wanted))
         self.assertGreater(len({wanted for _, wanted in refused}), 1)
         self.assertGreater(len(taken), 10)

@@ -9,13 +9,17 @@ import sqlite3
 import tempfile
 import unittest
 
+from breaks import BREAKS
+from calls import request
 from faults import ALL, STORAGE, Script, full_log, lines, remove, scripts
-from records import COLUMNS, FOLDER, answer_of, broken, copied, rows_of
-from test_hostile_bytes import answers_of, request
-from test_migrate import BEGUN, FIRST, NEW, committed
+from records import FOLDER, answers_of_rows, broken, copied, rows_of
+from test_hostile_bytes import answers_of
+from test_migrate import BEGUN, FIRST, committed
 from test_migrate import LAYOUT as NO_VEHICLE
 from test_program import AT, run
 from test_scripts import accepted, advance, job, load, ok, order, state, vehicle
+
+from nulvrader.rows import SECOND, TABLES
 
 DAMAGES = int(os.environ.get('DAMAGES', '28'))
 SECONDS = 10
@@ -79,71 +83,6 @@ def damaged(data, chance, used=0):
         del data[at // size * size:]
     return bytes(data)
 
-
-# Rows of others in the filled file, each set breaking a rule.
-BREAKS = [
-    "UPDATE meta SET schema = 1", "UPDATE meta SET schema = 3", "INSERT INTO meta VALUES (2, 2)", "DELETE FROM meta", "DELETE FROM node WHERE id = 'N2'", "DELETE FROM node",
-    "INSERT INTO node VALUES ('a b')", "UPDATE edge SET start = 'N9' WHERE id = 'E12'", "UPDATE edge SET start = finish WHERE id = 'E12'",
-    "UPDATE edge SET finish = 'N7' WHERE id = 'E45'", "DELETE FROM edge WHERE id = 'E78'", "UPDATE station SET node = 'N9' WHERE id = 'A'",
-    "UPDATE station SET node = 'N4' WHERE id = 'C'", "UPDATE station SET capacity = 0 WHERE id = 'A'",
-    "UPDATE station SET capacity = 1000 WHERE id = 'A'", "UPDATE station SET capacity = 1 WHERE id = 'B'",
-    "UPDATE vehicle SET node = 'N9' WHERE serial = '0003'", "UPDATE vehicle SET node = 'N4' WHERE serial = '0001'",
-    "UPDATE vehicle SET node = 'N5' WHERE serial = '0003'", "UPDATE vehicle SET rest_node = NULL WHERE serial = '0002'",
-    "UPDATE vehicle SET rest_edge = 'E12' WHERE serial = '0002'", "UPDATE vehicle SET rest_edge = 'E34', rest_node = 'N4' WHERE serial = '0001'",
-    "UPDATE vehicle SET reported = '' WHERE serial = '0001'", "UPDATE vehicle SET order_at = 1 WHERE serial = '0003'",
-    "UPDATE vehicle SET order_header = 0, order_at = 0 WHERE serial = '0001'", "UPDATE vehicle SET ready = 2 WHERE serial = '0003'",
-    "UPDATE vehicle SET instant_at = 4102444800000 WHERE serial = '0003'", "UPDATE vehicle SET last_header = -1 WHERE serial = '0003'",
-    "UPDATE vehicle SET pending = 'stop' WHERE serial = '0003'", "UPDATE vehicle SET pending = 'startPause' WHERE serial = '0001'",
-    "UPDATE vehicle SET order_header = 4294967296 WHERE serial = '0003'", "UPDATE vehicle SET serial = '0004' WHERE serial = '0001'",
-    "DELETE FROM capacity", "DELETE FROM capacity WHERE serial = '0002'", "INSERT INTO capacity VALUES ('KIT', '0009', 1)",
-    "UPDATE capacity SET capacity = 0 WHERE serial = '0003'", "UPDATE capacity SET capacity = 5 WHERE serial = '0003'",
-    "UPDATE capacity SET capacity = 4294967297 WHERE serial = '0003'", "UPDATE capacity SET serial = '0009' WHERE serial = '0003'",
-    "UPDATE journey SET base = 3", "UPDATE journey SET base = 2", "UPDATE journey SET base = 0", "UPDATE journey SET seen = 1",
-    "UPDATE journey SET seen = 2", "UPDATE journey SET first = 1", "UPDATE journey SET sent = 2", "UPDATE journey SET confirmed = 1",
-    "UPDATE journey SET confirmed = NULL", "UPDATE journey SET start = 'N2'", "UPDATE journey SET serial = '0002'",
-    "UPDATE journey SET serial = '0009'", "UPDATE journey SET order_id = 'O9'", "DELETE FROM journey",
-    "INSERT INTO journey VALUES ('O9', 'KIT', '0003', 'N6', 0, 0, 0, NULL, 0)",
-    "INSERT INTO trip VALUES ('O2', 'KIT', '0001', 'J2', 'N3', 0, 1, 0, 0, 0, 0, 2, 'FINISHED', 'WAITING')",
-    "UPDATE act SET place_at = 1 WHERE n = 0", "UPDATE act SET place_at = 1 WHERE n = 1", "UPDATE act SET place_at = 3 WHERE n = 1",
-    "UPDATE act SET status = 'FINISHED' WHERE n = 1", "UPDATE act SET status = 'WAITING' WHERE n = 0",
-    "UPDATE act SET status = 'DONE' WHERE n = 0", "UPDATE act SET kind = 'move' WHERE n = 0", "UPDATE act SET job = 'J5'",
-    "UPDATE act SET job = 'J5' WHERE n = 1", "UPDATE act SET job = 'J9'", "UPDATE act SET n = 2 WHERE n = 1", "UPDATE act SET n = 2 WHERE n = 0",
-    "UPDATE act SET order_id = 'O9'", "DELETE FROM act", "DELETE FROM act WHERE n = 0", "DELETE FROM act WHERE n = 1",
-    "INSERT INTO act VALUES ('O2', 2, 'J5', 'pick', 2, 'WAITING')", "INSERT INTO act VALUES ('O1', 0, 'J5', 'pick', 0, 'WAITING')",
-    "DELETE FROM leg WHERE k = 0", "DELETE FROM leg WHERE k = 1", "DELETE FROM leg", "UPDATE leg SET edge = 'E12' WHERE k = 0",
-    "UPDATE leg SET k = 3 WHERE k = 1", "INSERT INTO leg VALUES ('O1', 0, 'E12')", "INSERT INTO leg VALUES ('O2', 2, 'E56')",
-    "UPDATE load SET station = 'Z' WHERE id = 'L5'", "UPDATE load SET station = NULL WHERE id = 'L5'",
-    "UPDATE load SET kind = 'shelf' WHERE id = 'L3'", "UPDATE load SET station = 'A' WHERE id = 'L3'",
-    "UPDATE load SET kind = 'station', station = 'B' WHERE id = 'L3'", "UPDATE load SET serial = '0009' WHERE id = 'L1'",
-    "UPDATE load SET serial = '0002' WHERE id = 'L1'", "UPDATE load SET kind = 'checking', manufacturer = NULL, serial = NULL WHERE id = 'L1'",
-    "UPDATE load SET kind = 'vehicle', manufacturer = 'KIT', serial = '0001' WHERE id = 'L3'", "DELETE FROM load WHERE id = 'L6'",
-    "UPDATE load SET station = 'D' WHERE id = 'L5'", "INSERT INTO load VALUES ('a/b', 'checking', NULL, NULL, NULL)",
-    "UPDATE job SET load = 'L9' WHERE id = 'J1'", "UPDATE job SET origin = 'Z' WHERE id = 'J1'", "UPDATE job SET target = 'Z' WHERE id = 'J1'",
-    "UPDATE job SET target = 'D' WHERE id = 'J2'", "UPDATE job SET origin = 'A' WHERE id = 'J5' OR id = 'J2'",
-    "UPDATE job SET phase = 'riding' WHERE id = 'J5'", "UPDATE job SET phase = 'done' WHERE id = 'J2'",
-    "UPDATE job SET phase = 'waiting' WHERE id = 'J2'", "UPDATE job SET phase = 'stopped' WHERE id = 'J2'",
-    "UPDATE job SET phase = 'waiting' WHERE id = 'J1'", "UPDATE job SET phase = 'over' WHERE id = 'J1'", "DELETE FROM job WHERE id = 'J2'",
-    "UPDATE job SET load = 'L5', origin = 'A', phase = 'waiting' WHERE id = 'J4'",
-    "DELETE FROM hold WHERE id = 'N4'", "DELETE FROM hold WHERE kind = 'edge'", "INSERT INTO hold VALUES ('node', 'N1', 'KIT', '0003')",
-    "UPDATE hold SET serial = '0003' WHERE id = 'N4'", "UPDATE hold SET kind = 'place' WHERE id = 'N6'", "UPDATE hold SET id = 'N5' WHERE id = 'N6'",
-    "DELETE FROM used WHERE id = 'O2'", "UPDATE used SET kind = 'name' WHERE id = 'R1'", "INSERT INTO used VALUES ('ref', 'a,b')",
-    "UPDATE meta SET id = 0", "UPDATE node SET id = 'no name' WHERE id = 'N7'", "UPDATE edge SET start = '' WHERE id = 'E21'",
-    "UPDATE edge SET finish = 'N 1' WHERE id = 'E21'", "INSERT INTO edge VALUES ('E9', 'N1', 'N9')", "UPDATE station SET node = '' WHERE id = 'C'",
-    "UPDATE station SET capacity = -1 WHERE id = 'C'", "UPDATE station SET capacity = 4294967296 WHERE id = 'C'",
-    "INSERT INTO station VALUES ('E', 'N9', 1)", "UPDATE vehicle SET last_header = 4294967296 WHERE serial = '0003'",
-    "UPDATE vehicle SET rest_edge = 'E12' WHERE serial = '0003'", "UPDATE vehicle SET instant_header = 0, instant_at = 0 WHERE serial = '0003'",
-    "UPDATE vehicle SET pending = 'pause' WHERE serial = '0003'", "DELETE FROM vehicle", "UPDATE journey SET start = ''",
-    "UPDATE journey SET seen = 5", "INSERT INTO journey VALUES ('R9', 'KIT', '0009', 'N1', 0, 0, 0, NULL, 0)",
-    "UPDATE act SET status = 'finished' WHERE n = 0", "UPDATE act SET status = 'NULL' WHERE n = 1", "UPDATE act SET kind = 'load' WHERE n = 0",
-    "UPDATE act SET place_at = -1 WHERE n = 0",
-    "UPDATE leg SET edge = '' WHERE k = 1", "UPDATE leg SET k = -1 WHERE k = 1", "UPDATE load SET serial = NULL WHERE id = 'L1'",
-    "UPDATE load SET kind = 'lost' WHERE id = 'L2'", "INSERT INTO load VALUES ('L9', 'vehicle', NULL, 'KIT', '0001')",
-    "INSERT INTO load VALUES ('L9', 'station', 'Z', NULL, NULL)", "UPDATE job SET phase = '' WHERE id = 'J2'",
-    "UPDATE job SET id = 'J 1' WHERE id = 'J1'", "DELETE FROM job", "INSERT INTO job VALUES ('J9', 'L1', 'A', 'C', 'waiting')",
-    "INSERT INTO job VALUES ('J9', 'L3', 'A', 'C', 'waiting')", "INSERT INTO job VALUES ('J9', 'L99', 'A', 'C', 'done')",
-    "UPDATE hold SET kind = 'station' WHERE id = 'N6'", "UPDATE hold SET id = 'N/1' WHERE id = 'N6'", "UPDATE hold SET serial = '' WHERE id = 'N6'",
-    "INSERT INTO hold VALUES ('node', 'N2', 'KIT', '0009')", "INSERT INTO hold VALUES ('edge', 'E9', 'KIT', '0001')",
-    "INSERT INTO hold VALUES ('edge', 'E12', 'KIT', '0001')"]
 
 # Tables that aren't a desk's: one is missing, has another column or another rule, or is another's foreign key; or all is as in the first schema.
 SHAPES = [
@@ -215,9 +154,9 @@ class FilesTest(unittest.TestCase):
         rows = self.checked()
         fit = known if rows is None else [rows]
         for one in fit:
-            if found == [answer_of(one, target) for target in reads[:len(found)]]:
+            if found == answers_of_rows(one, reads[:len(found)]):
                 return said, one, rows is not None
-        wanted = [answer_of(fit[-1], target) for target in reads[:len(found)]]
+        wanted = answers_of_rows(fit[-1], reads[:len(found)])
         self.fail('%s: %s' % ('no rows' if rows is None else 'other rows', [
             (target, *pair) for target, *pair in zip(reads, found, wanted) if pair[0] != pair[1]]))
 
@@ -257,7 +196,7 @@ class Damaged(FilesTest):
     def played(self):
         filled = Script(lines(FILLED)).play(self.folder.name)
         self.assertEqual({answer.status for answer in answers_of(filled.out)[0]}, {200})
-        self.assertEqual({table for table in COLUMNS if not filled.rows[-1][table]}, {'trip'})
+        self.assertEqual({table for table in TABLES if not filled.rows[-1][table]}, {'trip'})
         found = {'a row of each kind': filled, 'a new desk': Script([]), **scripts(), 'a full log': full_log()}
         for name, script in found.items():
             with tempfile.TemporaryDirectory(dir=FOLDER) as folder:
@@ -280,12 +219,11 @@ class Damaged(FilesTest):
         self.assertEqual(committed(self.files()['-wal']), b'')
 
     def test_rows_that_break_a_rule(self):
-        """Of each the desk tells, and so do the rules as they stand in `records.py`."""
+        """Of each the desk tells."""
         files, _ = self.kinds_of(self.played()['a row of each kind'])['the database']
-        for statement in BREAKS:
+        for statement, _, _ in BREAKS:
             with self.subTest(statement):
                 self.check_damaged(files, statement)
-                self.assertNotEqual(broken(rows_of(self.db)), [])
 
     def test_tables_of_another_shape(self):
         files, _ = self.kinds_of(self.played()['a row of each kind'])['the database']
@@ -294,7 +232,7 @@ class Damaged(FilesTest):
                 self.check_damaged(files, statements)
 
     def test_fronts(self):
-        """Each front of each script, with nothing changed: what the desk tells is what `records.py` says of the rows."""
+        """Each front of each script, with nothing changed: what the desk tells is what the model says of the rows."""
         looked = 0
         for name, script in self.played().items():
             script.start(self.db)
@@ -352,7 +290,7 @@ class BeforeAMove(FilesTest):
             base = sqlite3.connect(copied(self.db, folder))
             try:
                 return {table: sorted(base.execute('SELECT * FROM %s NOT INDEXED' % table), key=repr)
-                        for table in COLUMNS if table not in NEW}
+                        for table in TABLES if table not in SECOND}
             except (sqlite3.DatabaseError, UnicodeDecodeError):
                 return None
             finally:

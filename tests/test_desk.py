@@ -1,174 +1,204 @@
-"""The script `desk`, in a small tree of its own, over a stand-in for `rt` that notes its calls and makes a program."""
+"""What the script `desk` does with its words where the program is there, and the script `check`: in a small tree, over a stand-in for `rt`."""
 import os
 import shutil
+import signal
+import sqlite3
 import subprocess
-import tempfile
-import time
 import unittest
 
-DESK = os.path.join(os.path.dirname(os.path.abspath(__file__)), '..', 'desk')
-TOOLS = ('awk', 'cat', 'cmp', 'cp', 'date', 'dirname', 'find', 'flock', 'head', 'mkdir', 'mktemp', 'mv', 'rm', 'sed', 'sh', 'sleep', 'tail', 'touch', 'wc')
+from desk_tree import HERE, TOP, Tree
 
-CRATES = """# a comment
-agv_app: agv_middle kit_crate agv_first
-agv_first:
-agv_middle: agv_first
-agv_middle_tests: agv_app
-"""
-
-# It notes the crate that it is in and its words; for `run` it makes a program that prints its words and exits with 3.
-RT = """#!/bin/sh
-crate=${PWD##*/}
-echo "$crate $*" >>"$NOTES/calls"
-if [ -e "$NOTES/slow" ]; then
-    echo 'so far: 0 of 210 functions checked; the verdict comes last'
-    echo 'so far: 15 of 210 functions checked'
-    sleep 2
-fi
-if [ -e "$NOTES/fails" ] && [ "$crate" = "$(cat "$NOTES/fails")" ]; then
-    echo 'fn agv_middle::one: not proved'
-    echo 'logic=not-proved'
-    exit 1
-fi
-echo 'logic=proved functions=1'
-[ "$1" = run ] || exit 0
-mkdir -p out
-printf '%s\\n' '#!/bin/sh' 'printf "%s|" "$@"' 'exit 3' >out/agv_app
-chmod +x out/agv_app
-"""
-
-# The calls of a build: each library behind those that it uses, and then the program.
-BUILD = ['agv_first lib', 'agv_middle lib', 'agv_app run -- replay --db memory --at 0']
+PROGRAM = os.path.abspath(os.environ.get('DESK', os.path.join(TOP, 'build', 'desk')))
+HELP: dict[str, list[str]] = {'alone': [], 'desk': ['--help'], **{it: [it, '--help'] for it in ('replay', 'serve', 'report', 'migrate')}}
+NOT_PROVED = 'desk: not proved: this program was built without its proofs\n'
 
 
-class DeskScript(unittest.TestCase):
-    def setUp(self):
-        folder = tempfile.TemporaryDirectory()
-        self.addCleanup(folder.cleanup)
-        self.top, self.bin, self.notes = (os.path.join(folder.name, name) for name in ('top', 'bin', 'notes'))
-        for name in (self.top, self.bin, self.notes):
-            os.mkdir(name)
-        for tool in (*TOOLS, 'chmod', 'sort'):
-            if shutil.which(tool):
-                os.symlink(shutil.which(tool), os.path.join(self.bin, tool))
-        self.write(os.path.join(self.bin, 'rt'), RT)
-        os.chmod(os.path.join(self.bin, 'rt'), 0o755)
-        shutil.copy(DESK, self.top)
-        self.write('crates.txt', CRATES)
-        self.write('HANDLES', 'Handles allowed: Net.\n')
-        for crate in ('agv_first', 'agv_middle', 'agv_app', 'agv_middle_tests'):
-            for part in ('src/lib.rt', 'specs/Lib.antt', 'proofs/Lib.antt', 'must-fail/one.edit', 'out/old'):
-                self.write('crates/%s/%s' % (crate, part), 'text')
-        self.write('crates/agv_app/stdin', 'text')
+class Built(Tree):
+    """What the script does where the program is there."""
 
-    def write(self, path, text):
-        path = os.path.join(self.top, path)
-        os.makedirs(os.path.dirname(path), exist_ok=True)
-        with open(path, 'w') as file:
-            file.write(text)
+    def setUp(self) -> None:
+        super().setUp()
+        self.run_desk('replay')
 
-    def read(self, path):
-        with open(path) as file:
-            return file.read()
+    def make_database(self, name: str, *statements: str, journal: str = 'delete') -> str:
+        path = os.path.join(self.work, name)
+        with sqlite3.connect(path) as db:
+            db.execute('PRAGMA journal_mode = %s' % journal)
+            for statement in statements:
+                db.execute(statement)
+        db.close()
+        return name
 
-    def start(self, *words, stderr=subprocess.PIPE):
-        env = {'PATH': self.bin, 'NOTES': self.notes}
-        return subprocess.Popen([os.path.join(self.top, 'desk'), *words], env=env, text=True, stdout=subprocess.PIPE, stderr=stderr)
+    def test_help_is_told_at_once(self) -> None:
+        """With a program, and where there is none and none could be built."""
+        for is_built in (True, False):
+            for name, words in HELP.items():
+                with self.subTest(words=words, is_built=is_built):
+                    told = (2, '', self.read('docs/help/%s.txt' % name))
+                    self.assertEqual(self.run_desk(*words), told)
+                    self.assertEqual(self.run_desk('--unproved', *words), told)
+            shutil.rmtree(os.path.join(self.top, 'build'), ignore_errors=True)
+        self.assertEqual(self.run_desk('-h'), self.run_desk('--help'))
+        self.assertEqual(self.run_desk('help', 'serve'), self.run_desk('serve', '-h'))
 
-    def run_desk(self, *words):
-        process = self.start(*words)
-        out, said = process.communicate(timeout=120)
-        return process.returncode, out, said
+    @unittest.skipUnless(os.path.exists(PROGRAM), 'there is no program')
+    def test_help_is_the_programs_own(self) -> None:
+        for name, words in HELP.items():
+            with self.subTest(words=words):
+                done = subprocess.run([PROGRAM, *words], capture_output=True, text=True)
+                self.assertEqual((done.returncode, done.stdout, done.stderr), (2, '', self.read('docs/help/%s.txt' % name)))
 
-    def calls(self):
-        path = os.path.join(self.notes, 'calls')
-        return self.read(path).splitlines() if os.path.exists(path) else []
+    def test_reports_and_moves_are_of_a_desks_file_alone(self) -> None:
+        """Each mistake is told in one line, and nothing is made."""
+        os.mkdir(os.path.join(self.work, 'folder'))
+        self.write(os.path.join(self.work, 'empty'), '')
+        self.write(os.path.join(self.work, 'letter'), 'Dear SQLite format 3\n')
+        self.make_database('erp.db', 'CREATE TABLE hold (id)', 'CREATE TABLE holder (id)', 'CREATE TABLE legs (id)')
+        self.make_database('none.db', journal='wal')
+        stands = sorted(os.listdir(self.work))
+        for file, why in (('misspelt.db', 'there is no file'), ('folder', 'is a folder'), ('empty', 'is no database'),
+                          ('letter', 'is no database'), ('erp.db', 'no tables of a desk'), ('none.db', 'no tables of a desk')):
+            for words in (['report', '--db', file, 'stock'], ['report', 'holds', '--db=' + file], ['migrate', '--db', file],
+                          ['--unproved', 'report', '--db', file, 'stock']):
+                with self.subTest(words=words):
+                    status, out, said = self.run_desk(*words)
+                    self.assertEqual((status, out, said.count('\n')), (1, '', 1))
+                    self.assertIn(why, said)
+                    self.assertIn(file, said)
+        self.assertEqual(sorted(os.listdir(self.work)), stands)
+        self.assertEqual(len(self.calls()), 3, 'nothing was built for these')
 
-    def test_it_builds_what_is_missing_and_runs_it(self):
-        """The words and the exit status are handed on; what is built is what agv_app uses, the lowest first, and agv_app."""
-        status, out, said = self.run_desk('report', '--db', 'a b', '')
-        self.assertEqual((status, out), (3, 'report|--db|a b||'))
-        for number, crate in enumerate(('agv_first', 'agv_middle', 'agv_app'), 1):
-            self.assertIn('desk: %s, %d of 3 crates, after 0 min ' % (crate, number), said)
-        self.assertIn('proved and built', said)
-        self.assertEqual(self.calls(), BUILD)
-        self.assertEqual(self.read(os.path.join(self.top, 'build', 'log')), 'logic=proved functions=1\n' * 3)
-        self.assertEqual(sorted(os.listdir(os.path.join(self.top, 'build'))), ['crates.txt', 'desk', 'lock', 'log', 'started'])
-        self.assertEqual(self.run_desk(), (3, '|', ''))
-        self.assertEqual(self.calls(), BUILD)
+    def test_a_desks_file_is_reported(self) -> None:
+        """Its tables may be in the file or still in the log beside it, as made by the desk or by another SQLite."""
+        self.make_database('plain.db', 'CREATE TABLE hold (kind TEXT, id TEXT)', 'CREATE TABLE leg (order_id TEXT)')
+        self.make_database('other.db', 'create table "hold"(kind TEXT)', "CREATE TABLE 'leg' (order_id TEXT)")
+        with open(os.path.join(self.work, 'plain.db'), 'rb') as file:
+            whole = file.read()
+        with open(os.path.join(self.work, 'young.db'), 'wb') as file:
+            file.write(whole[:100])
+        with open(os.path.join(self.work, 'young.db-wal'), 'wb') as file:
+            file.write(b'\x37\x7f\x06\x82' + whole)
+        for name in ('plain.db', 'other.db', 'young.db'):
+            self.assertEqual(self.run_desk('report', '--db', name, 'stock'), (3, 'report|--db|%s|stock|' % name, ''))
+            self.assertEqual(self.run_desk('migrate', '--db=' + name), (3, 'migrate|--db=%s|' % name, ''))
 
-    def test_a_terminal_shows_how_far_it_is(self):
-        self.write(os.path.join(self.notes, 'slow'), '')
-        ours, theirs = os.openpty()
-        process = self.start('report', stderr=theirs)
-        os.close(theirs)
-        self.assertEqual((process.communicate(timeout=120)[0], process.returncode), ('report|', 3))
-        said = os.read(ours, 65536).decode()
-        os.close(ours)
-        for number, crate in enumerate(('agv_first', 'agv_middle', 'agv_app'), 1):
-            self.assertIn('\r\x1b[Kdesk: %s, %d of 3 crates, 15 of 210 functions, 0 min ' % (crate, number), said)
-        self.assertRegex(said, r'\r\x1b\[Kdesk: proved and built in 0 min \d+ s\r\n$')
+    @unittest.skipUnless(os.path.exists(PROGRAM), 'there is no program')
+    def test_the_programs_own_files_are_a_desks(self) -> None:
+        db = os.path.join(self.work, 'real.db')
+        served = subprocess.run([PROGRAM, 'serve', '--db', db, '--port', '0', '--connections', '0'], stdout=subprocess.DEVNULL)
+        self.assertEqual(served.returncode, 0)
+        self.assertEqual(self.run_desk('report', '--db', 'real.db', 'stock')[0], 3)
+        with sqlite3.connect(db) as other:
+            self.assertEqual(other.execute('PRAGMA wal_checkpoint(truncate)').fetchone()[0], 0)
+            other.execute('VACUUM')
+        other.close()
+        self.assertEqual(self.run_desk('report', '--db', 'real.db', 'stock')[0], 3)
 
-    def test_it_builds_anew_where_a_source_is_newer(self):
-        self.run_desk()
-        later = time.time() + 10
-        watched = ['crates/agv_app/src/lib.rt', 'crates/agv_first/specs/Lib.antt', 'crates/agv_middle/proofs/Lib.antt']
-        others = ['crates.txt', 'crates/agv_first/must-fail/one.edit', 'crates/agv_middle_tests/src/lib.rt', 'crates/agv_first/out/old', 'desk']
-        for path in others:
-            os.utime(os.path.join(self.top, path), (later, later))
-        self.assertEqual(self.run_desk(), (3, '|', ''))
-        self.assertEqual(self.calls(), BUILD)
-        for number, path in enumerate(watched, 2):
-            path = os.path.join(self.top, path)
-            os.utime(path, (later, later))
-            self.assertEqual(self.run_desk()[0], 3)
-            self.assertEqual(self.calls(), BUILD * number, path)
-            os.utime(path, (0, 0))
+    def test_a_new_warehouse_is_told(self) -> None:
+        """On a file that isn't there, one that is empty, and one with other tables; not on a desk's, nor where there is no folder, nor for
+        `replay`."""
+        self.write(os.path.join(self.work, 'empty'), '')
+        self.make_database('erp.db', 'CREATE TABLE item (id)')
+        self.make_database('plain.db', 'CREATE TABLE hold (kind TEXT, id TEXT)', 'CREATE TABLE leg (order_id TEXT)')
+        for name, said in (('new.db', 'desk: new.db is not there: a new warehouse begins in it\n'), ('plain.db', ''), ('no/new.db', ''),
+                           ('empty', "desk: empty has no tables of a desk's: a new warehouse begins in it\n"),
+                           ('erp.db', "desk: erp.db has no tables of a desk's: a new warehouse begins in it\n")):
+            words = ['serve', '--db', name, '--port', '0', '--connections', '1']
+            self.assertEqual(self.run_desk(*words), (3, '|'.join(words) + '|', said))
+        self.assertEqual(self.run_desk('replay', '--db', 'new.db')[2], '')
 
-    def test_it_builds_anew_where_a_line_of_its_crates_is_another(self):
-        self.run_desk()
-        self.write('crates.txt', CRATES + 'agv_more: agv_app\n')
-        self.assertEqual(self.run_desk(), (3, '|', ''))
-        self.assertEqual(self.calls(), BUILD)
-        self.write('crates.txt', CRATES.replace('agv_middle: agv_first', 'agv_middle: agv_first kit_crate'))
-        self.assertEqual(self.run_desk()[0], 3)
-        self.assertEqual(self.calls(), BUILD * 2)
+    def test_it_serves_without_end(self) -> None:
+        """Without `--connections` the program is run again after each end with 0, until it ends otherwise."""
+        self.set_program('#!/bin/sh\necho "$*"\necho >>"$NOTES/runs"\n[ "$(grep -c "" "$NOTES/runs")" -lt 3 ] || exit 7\n')
+        line = 'serve --db f --port 8 --connections 4294967295\n'
+        self.assertEqual(self.run_desk('serve', '--db', 'f', '--port', '8')[:2], (7, line * 3))
+        for words in (['--connections', '5'], ['--connections=5']):
+            os.remove(os.path.join(self.notes, 'runs'))
+            self.assertEqual(self.run_desk('serve', '--db', 'f', *words)[:2], (0, 'serve --db f %s\n' % ' '.join(words)))
 
-    def test_a_failed_build_is_told_and_nothing_is_run(self):
-        self.write(os.path.join(self.notes, 'fails'), 'agv_middle')
-        status, out, said = self.run_desk('report')
-        self.assertEqual((status, out), (1, ''))
-        self.assertEqual(self.calls(), BUILD[:2])
-        log = os.path.join(self.top, 'build', 'log')
-        self.assertIn('the build of agv_middle failed', said)
-        self.assertIn(log, said)
-        ending = 'logic=proved functions=1\nfn agv_middle::one: not proved\nlogic=not-proved\n'
-        self.assertTrue(said.endswith(ending), said)
-        self.assertEqual(self.read(log), ending)
-        os.remove(os.path.join(self.notes, 'fails'))
-        self.assertEqual(self.run_desk('report')[:2], (3, 'report|'))
+    def test_after_a_fault_it_names_what_tells_why(self) -> None:
+        self.set_program('#!/bin/sh\necho "fault: Net" >&2\nexit "${STATUS-1}"\n')
+        why = os.path.join(self.top, 'tools', 'why')
+        self.assertEqual(self.run_desk('replay', '--db', 'f'), (1, '', 'fault: Net\n'))
+        self.write(why, '')
+        told = 'fault: Net\ndesk: what is wrong is told by: %s --db f' % why
+        self.assertEqual(self.run_desk('replay', '--db', 'f'), (1, '', told + '\n'))
+        self.make_database('f', 'CREATE TABLE hold (kind TEXT, id TEXT)', 'CREATE TABLE leg (order_id TEXT)')
+        for words in (['serve', '--db', 'f', '--port', '8'], ['serve', '--db', 'f', '--port=8', '--connections', '5']):
+            self.assertEqual(self.run_desk(*words), (1, '', told + ' --port 8\n'))
+        self.assertEqual(self.run_desk('serve', '--db', 'f', '--port', '0'), (1, '', told + '\n'))
+        self.assertEqual(self.run_desk('replay', '--db', 'memory'), (1, '', 'fault: Net\n'))
+        for status in (0, 2, 7):
+            self.set_program('#!/bin/sh\nexit %d\n' % status)
+            self.assertEqual(self.run_desk('replay', '--db', 'f'), (status, '', ''))
 
-    def test_a_program_whose_sources_no_longer_prove_is_not_run(self):
-        self.run_desk()
-        self.write(os.path.join(self.notes, 'fails'), 'agv_app')
-        later = time.time() + 10
-        os.utime(os.path.join(self.top, 'crates/agv_first/src/lib.rt'), (later, later))
-        self.assertEqual(self.run_desk()[:2], (1, ''))
+    def test_input_is_handed_on(self) -> None:
+        self.set_program('#!/bin/sh\ncat || exit 5\n')
+        for make_why in (False, True):
+            if make_why:
+                self.write('tools/why', '')
+            process = self.start('replay', '--db', 'f', stdin=subprocess.PIPE)
+            self.assertEqual((process.communicate('some\nlines', timeout=30)[0], process.returncode), ('some\nlines', 0))
+            closed = subprocess.run(['sh', '-c', 'exec "$0" replay --db f <&-', os.path.join(self.top, 'desk')], cwd=self.work,
+                                    env={'PATH': self.bin, 'NOTES': self.notes}, capture_output=True, timeout=30)
+            self.assertEqual(closed.returncode, 5)
 
-    def test_no_rt(self):
-        os.remove(os.path.join(self.bin, 'rt'))
-        status, out, said = self.run_desk('report')
-        self.assertEqual((status, out, said.count('\n')), (1, '', 1))
-        self.assertIn('`rt`', said)
+    def test_signals_end_the_program(self) -> None:
+        """Whether the script has become the program, or waits for it: both end, and by the signal that came."""
+        self.set_program('#!/bin/sh\necho "$$" >"$NOTES/pid.new"\nmv "$NOTES/pid.new" "$NOTES/pid"\nexec sleep 60\n')
+        os.symlink(str(shutil.which('mv')), os.path.join(self.bin, 'mv'))
+        for make_why in (False, True):
+            if make_why:
+                self.write('tools/why', '')
+            for number in (signal.SIGTERM, signal.SIGINT, signal.SIGHUP, signal.SIGQUIT):
+                with self.subTest(signal=number, waits=make_why):
+                    process = self.start('serve', '--db', 'f', '--port', '8', '--connections', '1')
+                    pid = os.path.join(self.notes, 'pid')
+                    self.wait_for(pid)
+                    program = int(self.read(pid))
+                    os.remove(pid)
+                    process.send_signal(number)
+                    process.communicate(timeout=30)
+                    self.assertEqual(process.returncode, -number)
+                    self.assertFalse(os.path.exists('/proc/%d' % program))
+
+    def test_a_program_that_a_signal_ends_is_told(self) -> None:
+        self.write('tools/why', '')
+        self.set_program('#!/bin/sh\nkill -9 "$$"\n')
+        self.assertEqual(self.run_desk('replay', '--db', 'f')[0], 128 + signal.SIGKILL)
+
+
+class Check(Tree):
+    """The script `check`, over the stand-in, and tests that pass."""
+
+    def setUp(self) -> None:
+        super().setUp()
+        for name in ('check', '.ci/run'):
+            os.makedirs(os.path.dirname(os.path.join(self.top, name)), exist_ok=True)
+            shutil.copy(os.path.join(TOP, name), os.path.join(self.top, name))
+        for tool in ('nproc', 'tee', 'tail', 'mktemp'):
+            os.symlink(str(shutil.which(tool)), os.path.join(self.bin, tool))
+        self.write(os.path.join(self.kit, 'bin', 'rt'), '#!/bin/sh\necho "$* $RT_JOBS"; echo "2 passed, 0 failed"\n', 0o755)
+        self.write('tests/run.py', 'print("3 passed, 0 failed")\n')
+
+    def check(self, name: str, **more: str) -> list[str]:
+        env = {'PATH': self.bin, 'NOTES': self.notes, **more}
+        done = subprocess.run([os.path.join(self.top, name)], env=env, capture_output=True, text=True)
+        self.assertEqual((done.returncode, done.stderr), (0, ''))
+        return done.stdout.splitlines()
+
+    def test_there_are_as_many_jobs_as_the_machine_has_room_for(self) -> None:
+        memory = os.sysconf('SC_PHYS_PAGES') * os.sysconf('SC_PAGE_SIZE')
+        jobs = max(1, min(len(os.sched_getaffinity(0)), int(memory / 5e9)))
+        for name in ('check', '.ci/run'):
+            self.assertEqual(self.check(name), ['ci %d' % jobs, '2 passed, 0 failed', '3 passed, 0 failed', '5 passed, 0 failed'])
+            self.assertEqual(self.check(name, RT_JOBS='7')[0], 'ci 7')
 
     @unittest.skipUnless(shutil.which('flock'), 'flock is not here')
-    def test_two_at_once_build_once(self):
-        self.write(os.path.join(self.notes, 'slow'), '')
-        both = [self.start('a'), self.start('b')]
-        told = [process.communicate(timeout=120) for process in both]
-        self.assertEqual([process.returncode for process in both], [3, 3])
-        self.assertEqual([out for out, _ in told], ['a|', 'b|'])
-        self.assertEqual(self.calls(), BUILD)
+    def test_it_removes_what_a_killed_build_has_left(self) -> None:
+        self.write('build/rooms/agv_first/crates/agv_first/src/lib.rt', 'text')
+        self.check('check')
+        self.assertEqual(os.listdir(os.path.join(self.top, 'build')), ['lock'])
 
 
 if __name__ == '__main__':

@@ -1,10 +1,8 @@
-"""`examples/gateway`: what it makes of a vehicle's states; what it posts, publishes, repeats and drops between a
+"""`tools/gateway`: what it makes of a vehicle's states; what it posts, publishes, repeats and drops between a
 stand-in broker and a stand-in desk, and over a stand-in of the library paho-mqtt of either version; and a whole
 transport between a vehicle on a stand-in broker and a desk."""
 import contextlib
 import enum
-import importlib.machinery
-import importlib.util
 import io
 import json
 import os
@@ -15,22 +13,15 @@ import types
 import unittest
 import unittest.mock
 
+from programs import module, ran
+from nulvrader.client import Answer, Desk, NoAnswer
+from nulvrader.refusals import BY_NAME
 from test_program import Serving, over_sockets
 from test_scripts import LAYOUT
 
-HERE = os.path.dirname(os.path.abspath(__file__))
 
 
-def program(name):
-    """A program of examples/ as a module."""
-    path = os.path.join(HERE, '..', 'examples', name)
-    loader = importlib.machinery.SourceFileLoader(name, path)
-    module = importlib.util.module_from_spec(importlib.util.spec_from_loader(name, loader))
-    loader.exec_module(module)
-    return module
-
-
-gateway, vehicle = program('gateway'), program('vehicle')
+gateway, vehicle = module('gateway'), module('vehicle', 'examples')
 
 # Each member that the public schema of a state has, in VDA 5050 2.0.
 STATE = {
@@ -321,7 +312,7 @@ class OnBroker(vehicle.Vehicle):
         return 200, None
 
 
-ACCEPTED, OLD = (200, b'{"accepted":true}'), (200, b'{"accepted":false}')
+ACCEPTED, OLD = Answer(200, b'{"accepted":true}'), Answer(200, b'{"accepted":false}')
 
 
 class StandInDesk:
@@ -336,14 +327,14 @@ class StandInDesk:
 
     def ask(self, method, target, body=None):
         if self.is_down:
-            raise ConnectionRefusedError('no desk')
+            raise NoAnswer('no desk', False)
         if not self.knows:
-            return 404, b'{"name":"NoVehicle","refusal":20}'
+            return Answer(404, b'{"name":"NoVehicle","refusal":20}')
         if method == 'POST':
             self.told.append((target, json.loads(body)['headerId']))
             return self.answer
         message = self.has.get(target.split('/')[-1])
-        return (200, json.dumps(message).encode()) if message else (204, b'')
+        return Answer(200, json.dumps(message).encode()) if message else Answer(204, b'')
 
 
 def order(name='O1', update=0):
@@ -505,7 +496,7 @@ class States(BetweenStandIns):
     def test_what_the_desk_refuses(self):
         """It is said once, until the desk answers otherwise; a state stays where a fault of the machine is told, and
         only there."""
-        memory, there = (503, b'{"name":"Memory","refusal":90}'), (409, b'{"name":"NotThere","refusal":71}')
+        memory, there = Answer(503, b'{"name":"Memory","refusal":90}'), Answer(409, b'{"name":"NotThere","refusal":71}')
         self.come()
         for answer, told, said in (
             (memory, 1, 1),
@@ -522,8 +513,9 @@ class States(BetweenStandIns):
                 self.come()
             self.turn()
             self.assertEqual((len(self.desk.told), len(self.said)), (told, said))
-        lines = ['503 {"name":"Memory","refusal":90}'] + ['409 {"name":"NotThere","refusal":71}'] * 2
-        self.assertEqual(self.said, ['KIT/0001: state: ' + line for line in lines])
+        lines = ['Memory (90): Out of memory. '] + ["NotThere (71): The vehicle isn't where the desk has it. "] * 2
+        for said, line in zip(self.said, lines, strict=True):
+            self.assertTrue(said.startswith('KIT/0001: state: ' + line), said)
 
     def test_names(self):
         """A name that is none to the desk is said once, and nothing is asked about it."""
@@ -579,8 +571,7 @@ class States(BetweenStandIns):
             lines.append(len(self.said))
         self.assertEqual(lines, [0, 0, 0, 0, 0, 1, 1, 1, 1, 1, 1, 2])
         self.assertTrue(self.said[0].startswith('KIT/0001: 3 states in a row are old to the desk'))
-        self.assertIn('POST /vehicles/KIT/0001/resync', self.said[0])
-        self.assertTrue(self.said[0].endswith(" curl -d '' http://127.0.0.1:8080/vehicles/KIT/0001/resync"))
+        self.assertTrue(self.said[0].endswith('tools/ask --desk 127.0.0.1:8080 resync KIT/0001'))
 
     def test_a_vehicle_that_the_desk_does_not_know(self):
         """It is said once; and once more where the desk has known it in the meantime."""
@@ -588,7 +579,7 @@ class States(BetweenStandIns):
         for _ in range(3):
             self.come()
             self.turn()
-        line = 'KIT/0001: unknown to the desk: 404 {"name":"NoVehicle","refusal":20}'
+        line = 'KIT/0001: unknown to the desk: NoVehicle (20): No vehicle of that key. %s' % BY_NAME['NoVehicle'].advice
         self.assertEqual(self.said, [line])
         for knows in (True, False, False):
             self.desk.knows = knows
@@ -908,7 +899,8 @@ class Words(unittest.TestCase):
             with open(path, 'w') as file:
                 file.write('a secret \n')
             words = ['--broker', '[::1]:8883', '--user', 'desk', '--password-file', path, '--ca', 'ca.pem', '--front']
-            ends = self.run_main(*words, 'w/v2', '--vehicle', 'KIT/0001', '--every', '0.5', turn=turn)
+            words += ['w/v2', '--vehicle', 'KIT/0001', '--every', '0.5', '--desk', 'https://desk.example']
+            ends = self.run_main(*words, turn=turn)
         self.assertEqual(ends, (None, ''))
         (client,), ((between, seconds),) = library.clients, made
         calls = [call for call in client.calls if call[0] != 'delay']
@@ -917,14 +909,15 @@ class Words(unittest.TestCase):
             client.connected()
         self.assertEqual(client.subscribed(), ['w/v2/+/+/state', 'w/v2/+/+/connection'])
         self.assertEqual((between.front, list(between.vehicles), seconds), ('w/v2', ['KIT/0001'], 0.5))
+        self.assertEqual(between.desk.address, 'https://desk.example')
 
     def test_those_that_are_refused(self):
         for words, fault in (
             (['--broker', 'nowhere'], "'nowhere' is not HOST:PORT"),
             (['--broker', 'here:0'], "'here:0' is not HOST:PORT"),
-            (['--vehicle', 'KIT 1/0001'], "'KIT 1/0001' is not MANUFACTURER/SERIAL"),
+            (['--vehicle', 'KIT 1/0001'], "'KIT 1/0001' is no vehicle: write MANUFACTURER/SERIAL"),
             (['--front', 'uagv/#'], "'uagv/#' is no front of a topic"),
-            (['--every', '0'], '0 is no such time'),
+            (['--every', '0'], '0 is no number of seconds between 0 and 3600'),
             (['--password-file', 'x'], '--password-file needs --user'),
         ):
             with self.subTest(words), Paho(2) as library:
@@ -976,9 +969,7 @@ class Transport(unittest.TestCase):
         self.folder = tempfile.TemporaryDirectory()
         self.desk = Serving(os.path.join(self.folder.name, 'desk.db'))
         self.broker, self.said = StandIn(), []
-        self.gateway = gateway.Gateway(
-            gateway.Desk('127.0.0.1:%d' % self.desk.port), self.broker, said=self.said.append
-        )
+        self.gateway = gateway.Gateway(Desk('127.0.0.1:%d' % self.desk.port), self.broker, said=self.said.append)
         self.vehicle = OnBroker(self.broker, 'N1')
 
     def tearDown(self):
@@ -1048,7 +1039,7 @@ class Transport(unittest.TestCase):
         self.assertEqual(len(self.said), 1)
         self.assertIn('can not be asked', self.said[0])
         self.desk = Serving(os.path.join(self.folder.name, 'desk.db'))
-        self.gateway.desk = gateway.Desk('127.0.0.1:%d' % self.desk.port)
+        self.gateway.desk = Desk('127.0.0.1:%d' % self.desk.port)
         self.assertNotEqual(self.desk.port, port)
         self.gateway.turn(0)
         self.assertEqual(self.vehicle_row()['headerId'], self.vehicle.header)
@@ -1066,8 +1057,8 @@ class Transport(unittest.TestCase):
         self.assertTrue(self.said[0].startswith('uagv/v2/KIT/0001/state: '))
         self.assertTrue(self.said[1].startswith("'uagv/v2/KIT 1/0001/state' is passed over"))
         self.assertTrue(self.said[2].startswith("'uagv/v2/K\\xd6T/0001/state' is passed over"))
-        self.assertEqual(self.said[3], 'KIT/0009: state: 422 {"name":"WrongVehicle","refusal":14}')
-        self.assertEqual(self.said[4], 'KIT/0009: unknown to the desk: 404 {"name":"NoVehicle","refusal":20}')
+        self.assertTrue(self.said[3].startswith('KIT/0009: state: WrongVehicle (14)'))
+        self.assertTrue(self.said[4].startswith('KIT/0009: unknown to the desk: NoVehicle (20)'))
 
     def test_messages_that_are_lost(self):
         """An order and an instant action that do not arrive are published again, and the vehicle carries them out."""
@@ -1096,9 +1087,9 @@ class Transport(unittest.TestCase):
         self.vehicle.header = 0
         self.turns(5)
         self.assertEqual(len(self.said), 1)
-        call = self.said[0].split('/vehicles/')[-1]
-        self.assertEqual(call, 'KIT/0001/resync')
-        self.call('POST', '/vehicles/' + call, '')
+        words = self.said[0].split('tools/ask ')[-1].split()
+        self.assertEqual(words[2:], ['resync', 'KIT/0001'])
+        self.assertEqual(ran('ask', *words)[0], 0)
         self.turns(1)
         self.assertEqual((self.vehicle_row()['headerId'], len(self.said)), (6, 1))
 
@@ -1106,7 +1097,7 @@ class Transport(unittest.TestCase):
         """Without a gateway; its states are accepted, though it has sent more than one a second."""
         self.begin()
         for _ in range(2):
-            direct = vehicle.Vehicle('127.0.0.1:%d' % self.desk.port, 'KIT', '0001', 'N1')
+            direct = vehicle.Vehicle(Desk('127.0.0.1:%d' % self.desk.port), 'KIT', '0001', 'N1')
             direct.go_on()
             for _ in range(5):
                 direct.turn()

@@ -11,8 +11,8 @@ import socket
 import tempfile
 import unittest
 
+from calls import request, state
 from test_program import AT, HERE, Serving, over_sockets, run
-from test_scripts import state
 
 LONG = os.environ.get('NULVRADER_LONG') == '1'
 NOISE = 10_000_000 if LONG else 100_000  # bytes that each test of noise sends, at least
@@ -77,13 +77,6 @@ CALLS = [
 ]
 # Where a body has a number of 32 bits, by the name of the member.
 NUMBERS = {'headerId', 'orderUpdateId', 'lastNodeSequenceId', 'edges', 'capacity'}
-
-
-def request(line, body=None, more=''):
-    """A request as bytes."""
-    data = body if isinstance(body, bytes) else (body or '').encode()
-    length = '' if body is None else 'Content-Length: %d\r\n' % len(data)
-    return ('%s HTTP/1.1\r\n%s%s\r\n' % (line, length, more)).encode() + data
 
 
 def refusal(name):

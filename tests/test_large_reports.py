@@ -5,8 +5,9 @@ import sqlite3
 import tempfile
 import unittest
 
+from calls import request
 from records import FOLDER
-from test_hostile_bytes import answers_of, request
+from test_hostile_bytes import answers_of
 from test_program import AT, run
 
 STATIONS, LOADS = 500, 100_000

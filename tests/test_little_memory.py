@@ -6,9 +6,10 @@ import subprocess
 import tempfile
 import unittest
 
+from calls import request
 from faults import ALL, MEMORY, asks
 from records import FOLDER
-from test_hostile_bytes import answers_of, request
+from test_hostile_bytes import answers_of
 from test_program import AT, DESK, over_sockets, run
 
 LOADS = 20_000

@@ -1,13 +1,12 @@
-"""`examples/map` draws what the file of a desk has, and the same of a running desk; docs/map.svg is what README's
+"""`tools/map` draws what the file of a desk has, and the same of a running desk; docs/map.svg is what README's
 commands make. Where the built program isn't what is tried, `bench/plain_desk.py` makes the file and is the desk."""
 import collections
 import contextlib
 import csv
-import importlib.machinery
-import importlib.util
 import os
 import re
 import shlex
+import signal
 import socket
 import sqlite3
 import subprocess
@@ -17,13 +16,15 @@ import unittest
 from unittest import mock
 import xml.etree.ElementTree as ElementTree
 
+import programs  # noqa: F401: it puts tools/ on the path
+from nulvrader import drawing, layouts, positions, warehouse
 from test_openapi import Asked
 from test_program import AT, Serving, over_sockets, requests_of, run
 from test_scripts import FIRST_EDGE, LAYOUT, accepted, bytes_of, load, state, vehicle
 
 HERE = os.path.dirname(os.path.abspath(__file__))
 ROOT = os.path.join(HERE, '..')
-MAP = os.path.join(ROOT, 'examples', 'map')
+MAP = os.path.join(ROOT, 'tools', 'map')
 PLAIN = os.path.join(ROOT, 'bench', 'plain_desk.py')
 SVG = '{http://www.w3.org/2000/svg}'
 
@@ -78,13 +79,6 @@ def check_the_picture_of_the_page(test, db):
         test.assertEqual((one.tag, one.text, set(one.attrib)), (other.tag, other.text, set(other.attrib)))
         for name in one.attrib:
             test.assertLess(apart(one.get(name), other.get(name)), 1, (one.tag, name))
-
-
-def module():
-    loader = importlib.machinery.SourceFileLoader('map', MAP)
-    made = importlib.util.module_from_spec(importlib.util.spec_from_loader('map', loader))
-    loader.exec_module(made)
-    return made
 
 
 class Picture:
@@ -211,7 +205,7 @@ class Map(unittest.TestCase):
         with open(os.path.join(ROOT, 'README.md')) as file:
             text = file.read()
         serve, draw = re.search(
-            r'^(\./desk replay .* < examples/map\.http) > /dev/null\n(examples/map .* > docs/map\.svg)$', text, re.M
+            r'^(\./desk replay .* < examples/map\.http) > /dev/null\n(tools/map .* > docs/map\.svg)$', text, re.M
         ).groups()
         words, source = serve.split(' < ')
         words = [self.db if word == 'map.db' else word for word in shlex.split(words)]
@@ -219,7 +213,7 @@ class Map(unittest.TestCase):
             data = file.read()
         status, out, said = run(*words[1:], stdin=data)
         self.assertEqual((status, said, out.count(b'HTTP/1.1 200 OK')), (0, b'', len(requests_of(data))))
-        self.assertEqual(draw.split()[:3], ['examples/map', '--db', 'map.db'])
+        self.assertEqual(draw.split()[:3], ['tools/map', '--db', 'map.db'])
         check_the_picture_of_the_page(self, self.db)
 
     def test_parts_that_nothing_joins(self):
@@ -273,7 +267,7 @@ class OfAFile(unittest.TestCase):
             base.execute('BEGIN EXCLUSIVE')
             self.assertEqual(
                 refused('--db', self.db),
-                self.db + ': database is locked: ask the desk that has it open, by --desk and --layout, or stop it first',
+                self.db + ': database is locked: ask the desk that has it open, or stop it first',
             )
             base.execute('ROLLBACK')
         self.assertIn(b'</svg>', drawn('--db', self.db))
@@ -321,6 +315,26 @@ class OfADesk(unittest.TestCase):
         self.assertEqual(running, drawn('--db', self.db))
         self.assertEqual(len(Picture(running).vehicles), 2)
 
+    def test_a_page_that_refreshes_itself(self):
+        """The page has the picture, and says to the browser when to load it again; while no desk answers, the last one
+        stands."""
+        page = os.path.join(self.folder.name, 'map.html')
+        with self.serving() as port:
+            words = ['--desk', '127.0.0.1:%d' % port, '--layout', self.layout, '--watch', page, '--every', '0.2']
+            with subprocess.Popen([sys.executable, MAP, *words], stderr=subprocess.PIPE, text=True) as watching:
+                try:
+                    lines = [watching.stderr.readline() for _ in range(2)]
+                finally:
+                    watching.send_signal(signal.SIGINT)
+                self.assertEqual((watching.wait(30), watching.stderr.read()), (0, ''))
+        self.assertEqual(lines[0], 'map: %s shows 127.0.0.1:%d; stop it with Ctrl-C\n' % (page, port))
+        self.assertRegex(lines[1], '^map: 127.0.0.1:%d: no program listens there' % port)
+        with open(page) as file:
+            text = file.read()
+        self.assertIn('<meta http-equiv="refresh" content="0.2">', text)
+        picture = re.search('<svg.*</svg>\n', text, re.S).group(0)
+        self.assertEqual(picture.encode(), drawn('--db', self.db))
+
     def test_another_layout(self):
         with open(self.layout, 'w') as file:
             file.write('kind,id,from,to\nnode,N7,,\n')
@@ -335,7 +349,8 @@ class OfADesk(unittest.TestCase):
         with open(self.layout, 'a') as file:
             file.write('node,N4\n')
         self.assertEqual(
-            refused('--desk', '127.0.0.1:1', '--layout', self.layout), self.layout + ': it is no layout file'
+            refused('--desk', '127.0.0.1:1', '--layout', self.layout),
+            self.layout + ': it is no layout file: line 12: BadCsv: 2 fields, and not the four of kind,id,from,to',
         )
 
     def test_no_desk(self):
@@ -343,41 +358,37 @@ class OfADesk(unittest.TestCase):
             taken.bind(('127.0.0.1', 0))
             address = '127.0.0.1:%d' % taken.getsockname()[1]
             said = refused('--desk', address, '--layout', self.layout)
-        self.assertRegex(said, '^%s: .*refused' % address)
-        self.assertRegex(refused('--desk', 'desk:port', '--layout', self.layout), '^desk:port: nonnumeric port')
+        self.assertRegex(said, '^%s: no program listens there' % address)
+        self.assertRegex(refused('--desk', 'desk:port', '--layout', self.layout), '^.desk:port. is no address of a desk: write HOST:PORT')
 
 
 class Places(unittest.TestCase):
     """Where nodes and labels are put, and how much is done for that."""
 
-    def setUp(self):
-        self.map = module()
-
     def grid(self, width, height):
         """A layout of two-way streets, with a station at each node and a vehicle at every fifth."""
-        found = self.map.Warehouse()
-        found.nodes = ['N%02d-%02d' % (y, x) for y in range(height) for x in range(width)]
+        nodes = ['N%02d-%02d' % (y, x) for y in range(height) for x in range(width)]
+        edges = []
         for y in range(height):
             for x in range(width):
                 for there in ((y, x + 1), (y + 1, x)):
                     ends = 'N%02d-%02d' % (y, x), 'N%02d-%02d' % there
-                    if ends[1] in found.nodes:
-                        found.edges += [('%s.%s' % ends, *ends), ('%s.%s' % ends[::-1], *ends[::-1])]
-        found.edges = found.edges[:1500]
-        found.stations = [('S' + node, node, 2) for node in found.nodes]
-        found.vehicles = {'KIT/%04d' % number: node for number, node in enumerate(found.nodes[::5])}
-        return found
+                    if ends[1] in nodes:
+                        edges += [layouts.Edge('%s.%s' % way, *way) for way in (ends, ends[::-1])]
+        stations = [layouts.Station('S' + node, node, 2) for node in nodes]
+        vehicles = {'KIT/%04d' % number: node for number, node in enumerate(nodes[::5])}
+        return warehouse.Warehouse(layouts.of_parts(nodes, edges[:1500], stations), vehicles)
 
     def plain_box(self, node, width, height, at, edges, boxes):
         """The box beside a node, chosen by looking at all edges, nodes and boxes."""
-        radius, x, y = self.map.RADIUS, *at[node]
+        radius, x, y = drawing.RADIUS, *at[node]
         best = None
         for turn, (right, down) in enumerate(((0, 1), (0, -1), (1, 0), (-1, 0), (1, 1), (-1, 1), (1, -1), (-1, -1))):
             gap = radius + 7 if right == 0 or down == 0 else radius * 0.75
             left = x - width / 2 if right == 0 else x + gap if right > 0 else x - gap - width
             top = y - height / 2 if down == 0 else y + gap if down > 0 else y - gap - height
             box = (left, top, left + width, top + height)
-            price = sum(3 * self.map.crosses(box, at[start], at[finish]) for _, start, finish in edges)
+            price = sum(3 * drawing.crosses(box, at[edge.start], at[edge.finish]) for edge in edges)
             price += 10 * sum(
                 left - radius <= u <= box[2] + radius and top - radius <= v <= box[3] + radius
                 for name, (u, v) in at.items()
@@ -392,17 +403,17 @@ class Places(unittest.TestCase):
 
     def test_boxes(self):
         """They are those that are found by looking at everything."""
-        warehouse = self.grid(7, 5)
-        labels, at, boxes = self.map.labels_of(warehouse), self.map.places_of(warehouse), []
+        grid = self.grid(7, 5)
+        labels, at, boxes = drawing.labels_of(grid), positions.positions(grid.layout), []
         for node, lines in labels.items():
-            width = max(len(words) for _, _, words, _ in lines) * self.map.LETTER + 12
-            height = self.map.LINE * len(lines) + 8
-            boxes.append(self.plain_box(node, width, height, at, warehouse.edges, boxes))
-        self.assertEqual(self.map.boxes_of(labels, at, warehouse.edges), boxes)
+            width = max(len(line.words) for line in lines) * drawing.LETTER + 12
+            height = drawing.LINE * len(lines) + 8
+            boxes.append(self.plain_box(node, width, height, at, grid.layout.edges.values(), boxes))
+        self.assertEqual(drawing.boxes_of(labels, at, grid.layout.edges.values()), boxes)
         self.assertGreater(len({box[0] < at[node][0] < box[2] for node, box in zip(labels, boxes)}), 1)
 
     def test_things_near_a_box(self):
-        grid = self.map.Grid()
+        grid = drawing.Grid()
         for number in range(20):
             grid.add((number * 60, -500, number * 60 + 30, 500), number)
         self.assertEqual(grid.near((500, 0, 501, 1)) & {8}, {8})
@@ -411,23 +422,24 @@ class Places(unittest.TestCase):
 
     def test_turns(self):
         """Forty for the layouts that most warehouses have, and eight for the largest."""
-        self.assertEqual([self.map.turns_for(nodes * (nodes - 1) // 2) for nodes in (1, 2, 120, 200, 500)], [40, 40, 40, 40, 8])
+        self.assertEqual([positions.turns_for(nodes * (nodes - 1) // 2) for nodes in (1, 2, 120, 200, 500)], [40, 40, 40, 40, 8])
 
     def test_the_largest_layout(self):
-        warehouse = self.grid(25, 20)
-        self.assertEqual((len(warehouse.nodes), len(warehouse.edges), len(warehouse.stations)), (500, 1500, 500))
+        grid = self.grid(25, 20)
+        layout = grid.layout
+        self.assertEqual((len(layout.nodes), len(layout.edges), len(layout.stations)), (500, 1500, 500))
         looked = collections.Counter()
-        crosses = self.map.crosses
-        with mock.patch.object(self.map, 'crosses', lambda *words: looked.update('x') or crosses(*words)):
-            picture = Picture(self.map.drawing(warehouse))
-        self.assertEqual(set(picture.nodes), set(warehouse.nodes))
-        self.assertEqual(set(picture.edges), {name for name, _, _ in warehouse.edges})
+        crosses = drawing.crosses
+        with mock.patch.object(drawing, 'crosses', lambda *words: looked.update('x') or crosses(*words)):
+            picture = Picture(drawing.drawing(grid))
+        self.assertEqual(set(picture.nodes), set(layout.nodes))
+        self.assertEqual(set(picture.edges), set(layout.edges))
         self.assertEqual(len(picture.labels), 500)
         self.assertLess(looked['x'], 8 * 500 * 1500 / 50)
         place = {name: where for name, (where, _, _) in picture.nodes.items()}
-        lengths = [length(place[start], place[finish]) for _, start, finish in warehouse.edges]
-        self.assertGreater(min(lengths), 0.8 * self.map.LENGTH)
-        self.assertLess(max(lengths), 1.6 * self.map.LENGTH)
+        lengths = [length(place[edge.start], place[edge.finish]) for edge in layout.edges.values()]
+        self.assertGreater(min(lengths), 0.8 * positions.LENGTH)
+        self.assertLess(max(lengths), 1.6 * positions.LENGTH)
 
 
 if __name__ == '__main__':

@@ -7,9 +7,12 @@ import sqlite3
 import tempfile
 import unittest
 
-from records import COLUMNS, FOLDER, broken, copied, rows_of
+from calls import request
+from records import FOLDER, broken, copied, rows_of
 from test_program import AT, run
 from test_scripts import FIRST_EDGE, SCRIPTS, accepted, advance, answers_of, bytes_of, holds, load, ok, stands, state
+
+from nulvrader.rows import SECOND, TABLES, columns
 
 # The first schema, as its desk has made it.
 FIRST = '''
@@ -56,7 +59,6 @@ INSERT INTO job VALUES ('J1', 'L1', 'A', 'B', 'stopped');
 INSERT INTO hold VALUES ('node', 'N1', 'KIT', '0001'), ('edge', 'E12', 'KIT', '0001'), ('node', 'N2', 'KIT', '0001');
 INSERT INTO used VALUES ('order', 'O1');
 '''
-NEW = ('capacity', 'journey', 'act')
 BEGUN_MOVED = {
     'capacity': [('KIT', '0001', 1)],
     'journey': [('O1', 'KIT', '0001', 'N1', 0, 1, 0, None, 0)],
@@ -165,7 +167,7 @@ class Migrate(unittest.TestCase):
     def rows(self):
         """The rows of the first schema."""
         with self.other() as base:
-            return {table: sorted(base.execute('SELECT * FROM ' + table), key=repr) for table in COLUMNS if table not in NEW}
+            return {table: sorted(base.execute('SELECT * FROM ' + table), key=repr) for table in TABLES if table not in SECOND}
 
     def moved(self):
         """The file is moved: what the old tables had is there still but for `trip` and `meta`, and breaks no rule."""
@@ -178,7 +180,7 @@ class Migrate(unittest.TestCase):
             if table not in ('meta', 'trip'):
                 self.assertEqual(after[table], before[table], table)
         self.assertEqual((rows['meta'], rows['trip']), ([(1, 2)], []))
-        return {table: rows[table] for table in NEW}
+        return {table: rows[table] for table in SECOND}
 
     def refused(self):
         """The file is damaged to `migrate`, and stays the same to the byte. So does the log beside it, but for a byte behind its frames, the ninth,
@@ -287,8 +289,8 @@ class Migrate(unittest.TestCase):
     def take_back(self, second):
         """Writes a file of the first schema with the rows of one of the second, in which each vehicle has room for one load. It gives its trips."""
         rows, base = {}, sqlite3.connect(second)
-        for table in COLUMNS:
-            if table not in ('meta', 'trip') + NEW:
+        for table in TABLES:
+            if table not in ('meta', 'trip') + SECOND:
                 rows[table] = base.execute('SELECT * FROM ' + table).fetchall()
         rows['trip'] = base.execute(OLD_TRIPS).fetchall()
         self.assertEqual(len(rows['trip']), base.execute('SELECT count(*) FROM journey').fetchone()[0])
@@ -300,7 +302,7 @@ class Migrate(unittest.TestCase):
                 base.execute('INSERT INTO %s VALUES (%s)' % (table, ', '.join('?' * len(row))), row)
         base.commit()
         base.close()
-        return [dict(zip(COLUMNS['trip'].split(), row)) for row in rows['trip']]
+        return [dict(zip(columns('trip'), row)) for row in rows['trip']]
 
     def tells_all(self, lines):
         """All that can be asked is answered over the file as in memory after these requests."""
@@ -329,9 +331,7 @@ class Migrate(unittest.TestCase):
 
     def answers_as_in_memory(self, lines, requests, statuses):
         """Requests are answered over the file as in memory after these lines, with no other statuses."""
-        asked = b''.join(
-            b'%s %s HTTP/1.1\r\n%s\r\n%s' % (method.encode(), path.encode(), b'' if method == 'GET' else b'Content-Length: %d\r\n' % len(body), body)
-            for method, path, body in requests)
+        asked = b''.join(request('%s %s' % (method, path), None if method == 'GET' else body) for method, path, body in requests)
         of_file = run('replay', '--db', self.db, '--at', AT, stdin=asked)
         in_memory = run('replay', '--db', 'memory', '--at', AT, stdin=b''.join(map(bytes_of, lines)) + asked)
         self.assertEqual((of_file[0], of_file[2], in_memory[0], in_memory[2]), (0, b'', 0, b''))

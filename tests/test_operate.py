@@ -13,13 +13,14 @@ import sys
 import tempfile
 import unittest
 
-from records import broken, copied, loads_export, named, rows_of
+import calls
+from records import broken, copied, export_of_rows, rows_of
 from test_program import AT, DESK, Serving, over_sockets, run
-from test_scripts import LAYOUT, advance, bytes_of, job, load, new_vehicle, ok, order, order_of, state, vehicle
+from test_scripts import LAYOUT, advance, bytes_of, job, load, ok, order, state, vehicle
 
 HERE = os.path.dirname(os.path.abspath(__file__))
 ROOT = os.path.join(HERE, '..')
-EXAMPLES = os.path.join(ROOT, 'examples')
+TOOLS = os.path.join(ROOT, 'tools')
 PICKED = [('O1.0', 'FINISHED')]
 # Three nodes in a row as in the other tests, and a siding N4 at N2.
 SIDING = 'kind,id,from,to\n%s%sstation,A,N1,3\nstation,B,N3,3\nstation,C,N4,3\n' % (
@@ -58,9 +59,9 @@ class Page(unittest.TestCase):
     def test_the_faults(self):
         """The faults are those of the program, in the order of docs/MODEL.md."""
         told = re.findall(r'^- \*\*`fault: (\w+)`\*\*', section('docs/OPERATE.md', 'Each fault line'), re.M)
-        source = text_of('crates', 'agv_app', 'src', 'outcome.rt')
+        source = text_of('crates', 'agv_program', 'src', 'outcome.rt')
         self.assertEqual(set(told), set(re.findall(r'"fault: (\w+)\\n"', source)))
-        model = section('docs/MODEL.md', 'The program (`agv_app`)')
+        model = section('docs/MODEL.md', 'The program (`agv_command_line`, `agv_program`)')
         model = model[model.index('The faults, as the code') :]
         self.assertEqual(told, re.findall(r'^- \*\*`(\w+)`\*\*: ', model, re.M))
 
@@ -84,13 +85,13 @@ class Page(unittest.TestCase):
     def test_the_files(self):
         """What the page and README name of this tree is there."""
         for page in (PAGE, text_of('README.md')):
-            names = set(re.findall(r'\b(?:examples|docs|tests|bench)/[\w./-]*\w', page))
+            names = set(re.findall(r'\b(?:examples|docs|tests|bench|tools)/[\w./-]*\w', page))
             self.assertGreater(len(names), 8)
             self.assertEqual([name for name in names if not os.path.exists(os.path.join(ROOT, name))], [])
 
     def test_the_texts_of_the_help(self):
         """docs/HTTP.md has the text of the program and of each subcommand, in their order, as the source has them."""
-        source = text_of('crates', 'agv_app', 'src', 'line.rt')
+        source = text_of('crates', 'agv_command_line', 'src', 'line.rt')
         texts = re.findall(r'Command::new\(alloc, "(\w+)"\)\s*\.about\("([^"]*)"\)', source)
         self.assertEqual([name for name, _ in texts], ['desk', 'replay', 'serve', 'report', 'migrate'])
         self.assertEqual(texts_of_the_help(), texts)
@@ -175,7 +176,7 @@ class Backup(Program):
         os.chmod(self.path('systemctl'), 0o755)
 
     def back_up(self, *words, db=None):
-        line = [sys.executable, os.path.join(EXAMPLES, 'backup'), '--db', db or self.db, '--to', self.path('copies')]
+        line = [sys.executable, os.path.join(TOOLS, 'backup'), '--db', db or self.db, '--to', self.path('copies')]
         done = subprocess.run(
             [*line, '--program', DESK, *words],
             capture_output=True,
@@ -235,8 +236,8 @@ class Backup(Program):
             base.execute("UPDATE load SET station = 'Z' WHERE id = 'L1'")
             base.commit()
         for name, wanted in (
-            ('none.db', 'none.db can not be copied to .*: unable to open database file'),
-            ('others.db', 'others.db can not be copied to .*: no such table: meta'),
+            ('none.db', 'it can not be copied to .*none.db: there is no such file'),
+            ('others.db', 'it can not be copied to .*others.db: it has no tables of a desk'),
             ('unlawful.db', 'the desk does not open the copy .*/unlawful.new: fault: Damaged'),
         ):
             self.systemctl('active')
@@ -251,17 +252,7 @@ class Backup(Program):
         with Serving(self.db):
             status, out, said, _ = self.back_up()
         self.assertEqual((status, out, self.copies()), (1, '', []))
-        self.assertRegex(said, '^backup: .*: database is locked\n$')
-
-    def test_what_tells_the_rules_that_rows_break(self):
-        """The line of the page that is for `fault: Damaged`."""
-        line = re.search(r"python3 -c '(import records; .*)'", PAGE).group(1)
-        with contextlib.closing(sqlite3.connect(self.db)) as base:
-            base.execute("UPDATE load SET station = 'Z' WHERE id = 'L1'")
-            base.commit()
-        line = line.replace('/var/lib/desk/warehouse.db', self.db)
-        done = subprocess.run([sys.executable, '-c', line], capture_output=True, text=True, timeout=60, cwd=HERE)
-        self.assertEqual((done.returncode, done.stdout, done.stderr), (0, "['places: station L1']\n", ''))
+        self.assertRegex(said, '^backup: .*: database is locked: ask the desk that has it open, or stop it first\n$')
 
 
 @over_sockets
@@ -377,7 +368,7 @@ class AskedAgain(Program):
     # Each call of the page's table as it stands there, or none for what is asked once between them.
     STEPS = [
         ('PUT /layout', 'PUT /layout', LAYOUT),
-        ('POST /vehicles', 'POST /vehicles', new_vehicle('0001', 'N1')),
+        ('POST /vehicles', *calls.vehicle('0001', 'N1')),
         ('POST /uagv/v2/../state', *state(1)),
         ('POST /loads', 'POST /loads', {'load': 'L1', 'station': 'A'}),
         (None, 'POST /loads', {'load': 'L2'}),
@@ -386,7 +377,7 @@ class AskedAgain(Program):
         ('POST /jobs', 'POST /jobs', {'job': 'J0', 'load': 'L1', 'to': 'C'}),
         ('DELETE /jobs/..', 'DELETE /jobs/J0', None),
         (None, 'POST /jobs', {'job': 'J1', 'load': 'L1', 'to': 'B'}),
-        ('POST /orders', 'POST /orders', order_of('O1', 'J1', 1)),
+        ('POST /orders', *calls.order('O1', 'J1', 1)),
         (None, *state(2, 'O1', statuses=PICKED)),
         ('POST /vehicles/../advance', *advance('O1', 1, 1)),
         ('POST /vehicles/../pause', 'POST %s/pause' % VEHICLE, ''),
@@ -514,7 +505,7 @@ class NewFile(Program):
 
     def carry(self, desk):
         old = self.path('old.db')
-        line = [sys.executable, os.path.join(EXAMPLES, 'new-file'), '--from', old, '--desk', '127.0.0.1:%d' % desk.port]
+        line = [sys.executable, os.path.join(TOOLS, 'new-file'), '--from', old, '--desk', '127.0.0.1:%d' % desk.port]
         done = subprocess.run(line, capture_output=True, text=True, timeout=120)
         return done.returncode, done.stdout, done.stderr
 
@@ -536,8 +527,8 @@ class NewFile(Program):
         for table in ('node', 'edge', 'station', 'capacity'):
             self.assertEqual(new[table], old[table])
         self.assertEqual([row[:3] for row in new['vehicle']], [row[:3] for row in old['vehicle']])
-        wanted = loads_export(named(old)).replace('L5,left,\n', 'L9,checking,\n')
-        self.assertEqual(loads_export(named(new)), wanted)
+        wanted = export_of_rows(old).replace('L5,left,\n', 'L9,checking,\n')
+        self.assertEqual(export_of_rows(new), wanted)
         self.assertEqual([row[0] for row in new['job']], ['J2'])
 
     def test_what_is_in_the_way(self):

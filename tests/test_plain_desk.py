@@ -1,8 +1,6 @@
-"""The program beside `bench/plain_desk.py`, which is another desk, in plain Python over another SQLite: both answer
+"""The program beside `bench/plain_desk.py`, which is the model of the rules in `tests/model` over another SQLite: both answer
 the same bytes to the scripts, to the examples of docs/openapi.json, to random lawful traffic as `bench/soak`
 makes it, and to loads and jobs at small stations. And the streams by which `bench/each_call` times the two have each call of the table."""
-import importlib.machinery
-import importlib.util
 import os
 import random
 import re
@@ -11,9 +9,16 @@ import sys
 import tempfile
 import unittest
 
-from test_openapi import body_of, operations, requests_before, SETUPS
+import calls
+import records
+from calls import request
+from model.desk import Model
+from programs import module
+from streets import Streets
+from test_openapi import SETUPS, body_of, operations, requests_before
 from test_program import AT, HERE, requests_of, run
 from test_scripts import SCRIPTS, answers_of, bytes_of
+from traffic import Traffic
 
 ROOT = os.path.join(HERE, '..')
 PLAIN = os.path.join(ROOT, 'bench', 'plain_desk.py')
@@ -21,15 +26,7 @@ REQUESTS = int(os.environ.get('REQUESTS', '1500'))
 
 
 def as_bytes(method, path, body):
-    return bytes_of(('%s %s' % (method, path), body, None, None))
-
-
-def bench(name):
-    """A script of `bench` as a module."""
-    loader = importlib.machinery.SourceFileLoader(name, os.path.join(ROOT, 'bench', name))
-    module = importlib.util.module_from_spec(importlib.util.spec_from_loader(name, loader))
-    loader.exec_module(module)
-    return module
+    return request('%s %s' % (method, path), body)
 
 
 class BesideAPlainDesk(unittest.TestCase):
@@ -74,38 +71,33 @@ class BesideAPlainDesk(unittest.TestCase):
                     self.assertEqual(len(self.check(b''.join(front + lines))), len(front) + len(lines))
 
     def traffic(self, seed, vehicles, count):
-        """Random requests, as the model of the soak makes them."""
-        module = bench('soak')
-        model = module.Model(module.Layout(6, 5))
-        traffic = module.Traffic(model, random.Random(seed))
+        """Random requests, and the model after them."""
+        model = Model()
+        traffic = Traffic(model, Streets(6, 5), random.Random(seed))
         asked = [*traffic.begin(vehicles), *(traffic.next() for _ in range(count))]
-        return [as_bytes(*request[:3]) for request in asked], model
+        return [call.to_bytes() for call, _ in asked], model
 
     def test_random_traffic(self):
         for seed, vehicles in ((1, 1), (2, 3), (3, 9)):
             data, model = self.traffic(seed, vehicles, REQUESTS // 3)
             self.assertEqual(len(self.check(b''.join(data))), len(data))
-            self.assertIn('done', {job['phase'] for job in model.jobs.values()})
+            self.assertIn('done', {row[-1] for row in model.rows()['job']})
+            self.assertEqual(records.broken(model.rows()), [])
 
     def test_random_loads_at_small_stations(self):
         """Loads are put at small stations and taken away again, and jobs to them are added and taken back, so that each
         station is now full and now not: the program keeps the room that it counted, the other desk counts each time."""
         chance = random.Random(5)
         rows = ['kind,id,from,to', 'node,N1,,', *('station,S%d,N1,%d' % (n, n) for n in range(1, 6))]
-        lines = [as_bytes('PUT', '/layout', '\n'.join(rows) + '\n')]
-        lines += [as_bytes('POST', '/loads', {'load': 'L%d' % n}) for n in range(16)]
+        asked = [calls.layout('\n'.join(rows) + '\n'), *(calls.load('L%d' % n) for n in range(16))]
         for n in range(REQUESTS):
             load, to = 'L%d' % chance.randrange(16), 'S%d' % chance.randint(1, 6)
-            method, path, body = (
-                ('POST', '/loads/%s/correct' % load, {'ref': 'R%d' % n, 'station': to}),
-                ('POST', '/jobs', {'job': 'J%d' % n, 'load': load, 'to': to}),
-                ('DELETE', '/jobs/J%d' % (n - 31), None),
-                ('POST', '/loads', {'load': 'M%d' % n, 'station': to}),
-                ('POST', '/loads/M%d/leave' % (n - 37), {'ref': 'R%d' % n}),
-                ('POST', '/loads/%s/correct' % load, {'ref': 'R%d' % n}),
-            )[n % 6]
-            lines.append(as_bytes(method, path, body))
-        lines.append(as_bytes('GET', '/report/stock', None))
+            asked.append((
+                calls.correct(load, 'R%d' % n, to), calls.job('J%d' % n, load, to), calls.stop_job('J%d' % (n - 31)),
+                calls.load('M%d' % n, to), calls.leave('M%d' % (n - 37), 'R%d' % n), calls.correct(load, 'R%d' % n),
+            )[n % 6])  # fmt: skip
+        asked.append(calls.STOCK_REPORT)
+        lines = [call.to_bytes() for call in asked]
         answers = self.check(b''.join(lines))
         self.assertGreater(sum(b'"Full"' in answer for answer in answers), REQUESTS // 20)
         self.assertGreater(sum(answer.startswith(b'200') for answer in answers), REQUESTS // 5)
@@ -118,16 +110,17 @@ class BesideAPlainDesk(unittest.TestCase):
             ours, theirs = os.path.join(folder, 'ours.db'), os.path.join(folder, 'theirs.db')
             self.check(b''.join(data[:half]), ours, theirs)
             self.check(b''.join(data[half:]), theirs, ours)
-            module = bench('soak')
-            self.assertEqual(module.differences(model, ours), [])
-            self.assertEqual(module.differences(model, theirs), [])
+            for db in (ours, theirs):
+                found = records.rows_of(db)
+                for table, rows in model.rows().items():
+                    self.assertEqual(set(found[table]), set(rows), table)
 
 
 class KindsOfCalls(unittest.TestCase):
     def test_each_call_is_timed_and_none_is_refused(self):
         """But for those whose name says that they are. So the figures are of the calls, and of all of them."""
         left = {(method, path): re.sub('{[^}]*}', '[^/]+', path) for method, path, _, _ in operations()}
-        for name, (front, stream) in bench('each_call').kinds(0.01).items():
+        for name, (front, stream) in module('each_call', 'bench').kinds(0.01).items():
             with self.subTest(name):
                 status, out, said = run('replay', '--db', 'memory', '--at', AT, stdin=front + b''.join(stream))
                 self.assertEqual((status, said), (0, b''))

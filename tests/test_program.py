@@ -546,20 +546,19 @@ class Full(ProgramTest):
 
 @over_sockets
 class Demo(ProgramTest):
-    def test_three_vehicles_on_one_ring(self):
-        """Each load ends at the station to which its job goes, as the report at the end has it; and no node or edge is held by two
-        vehicles at a time."""
+    def test_a_small_plant(self):
+        """It names the page of the board, gives each job by an order, and ends with all jobs done, in the words of the plant that
+        looks at every place."""
         demo = os.path.join(HERE, '..', 'examples', 'demo')
-        done = subprocess.run([sys.executable, demo, '--program', DESK, '--step', '0.01'], capture_output=True, timeout=120)
-        self.assertEqual((done.returncode, done.stderr), (0, b''))
-        lines = [line for line in done.stdout.decode().splitlines() if ' s  ' in line]
-        self.assertGreater(len(lines), 10)
-        for line in lines:
-            things = [thing for thing in re.sub(r'KIT/\d+:', '', line.split(' s  ')[1]).split()]
-            self.assertEqual(len(things), len(set(things)), line)
-        wanted = ''.join('station T%d at S%d: 1 of 9, reserved 0\n  L-000%d-%d\n' % (n, n, (n - 1) % 3 + 1, n <= 3) for n in range(1, 7))
-        wanted += 'checking: 0\n' + ''.join('vehicle KIT/000%d: 0\n' % n for n in (1, 2, 3)) + 'left: 0\n'
-        self.assertTrue(done.stdout.decode().endswith(wanted), done.stdout.decode())
+        words = ['--program', DESK, '--jobs', '3', '--pace', '20']
+        done = subprocess.run([sys.executable, demo, *words], capture_output=True, timeout=300, text=True)
+        self.assertEqual(done.returncode, 0, done.stdout + done.stderr)
+        self.assertRegex(done.stdout, r'the board is at http://127\.0\.0\.1:\d+\n')
+        self.assertRegex(done.stdout, r'\n3 jobs done and 0 stopped, in \d+ minutes of the plant')
+        orders = [order for order in re.findall(r'takes job-\d .*by order (\S+)', done.stdout)]
+        self.assertGreaterEqual(len(orders), 1)
+        for order in orders:
+            self.assertIn('order %s has ended' % order, done.stdout)
 
 
 @over_sockets

@@ -5,6 +5,8 @@ import os
 import tempfile
 import unittest
 
+import calls
+from calls import advance, state
 from records import broken, rows_of
 from test_program import AT, Serving, over_sockets, requests_of, run
 
@@ -12,18 +14,6 @@ HERE = os.path.dirname(os.path.abspath(__file__))
 
 LAYOUT = ('kind,id,from,to\nnode,N1,,\nnode,N2,,\nnode,N3,,\nedge,E12,N1,N2\nedge,E21,N2,N1\nedge,E23,N2,N3\nedge,E32,N3,N2\n'
           'station,A,N1,1\nstation,B,N3,1\nstation,C,N3,2\n')
-
-
-def state(number, order='', update=0, node='N1', sequence=0, statuses=(), serial='0001', **others):
-    """A state of a vehicle that is ready; `statuses` are pairs of an action's id and its status."""
-    body = {
-        'headerId': number, 'timestamp': '2023-11-14T22:13:19.50Z', 'version': '2.0.0', 'manufacturer': 'KIT', 'serialNumber': serial,
-        'orderId': order, 'orderUpdateId': update, 'lastNodeId': node, 'lastNodeSequenceId': sequence, 'driving': False,
-        'nodeStates': [], 'edgeStates': [], 'actionStates': [{'actionId': a, 'actionStatus': s} for a, s in statuses],
-        'batteryState': {'batteryCharge': 80, 'charging': False}, 'operatingMode': 'AUTOMATIC', 'errors': [],
-        'safetyState': {'eStop': 'NONE', 'fieldViolation': False}}
-    body.update(others)
-    return 'POST /uagv/v2/KIT/%s/state' % serial, body
 
 
 def ok(request, body=None, told='{}'):
@@ -42,39 +32,25 @@ def refused_state(said, status, name, number):
     return refused(said[0], said[1], status, name, number)
 
 
-def new_vehicle(serial, node, capacity=None):
-    body = {'manufacturer': 'KIT', 'serialNumber': serial, 'node': node}
-    return body if capacity is None else {**body, 'capacity': capacity}
-
-
 def vehicle(serial, node, capacity=None):
-    return ok('POST /vehicles', new_vehicle(serial, node, capacity))
+    return ok(*calls.vehicle(serial, node, capacity))
 
 
 def load(name, station=None):
-    return ok('POST /loads', {'load': name, 'station': station} if station else {'load': name})
+    return ok(*calls.load(name, station))
 
 
 def job(name, of, to):
-    return ok('POST /jobs', {'job': name, 'load': of, 'to': to})
-
-
-def order_of(name, of, edges, serial='0001'):
-    return {'order': name, 'job': of, 'manufacturer': 'KIT', 'serialNumber': serial, 'edges': edges}
+    return ok(*calls.job(name, of, to))
 
 
 def order(name, of, edges, serial='0001'):
-    return ok('POST /orders', order_of(name, of, edges, serial), '{"orderUpdateId":0}')
+    return ok(*calls.order(name, of, edges, serial), '{"orderUpdateId":0}')
 
 
 def order_over(name, stops, edges, serial):
     """An order over several jobs; `stops` are words as `pick J1`."""
-    body = {'order': name, 'stops': [dict(zip(('action', 'job'), stop.split())) for stop in stops]}
-    return {**body, 'manufacturer': 'KIT', 'serialNumber': serial, 'edges': edges}
-
-
-def advance(name, update, edges, serial='0001'):
-    return 'POST /vehicles/KIT/%s/advance' % serial, {'order': name, 'orderUpdateId': update, 'edges': edges}
+    return calls.order_of_stops(name, [stop.split() for stop in stops], edges, serial)
 
 
 def stands(name, place, of=None):
@@ -94,7 +70,7 @@ FINISHED = [('O1.0', 'FINISHED'), ('O1.1', 'FINISHED')]
 FOR_TWO = [ok('PUT /layout', LAYOUT), vehicle('0003', 'N1', 2), accepted(state(1, serial='0003'))]
 TWO_LOADS = FOR_TWO + [
     load('L1', 'A'), load('L2', 'C'), job('J1', 'L1', 'C'), job('J2', 'L2', 'B'),
-    ok('POST /orders', order_over('O5', ['pick J1', 'pick J2', 'drop J1', 'drop J2'], 2, '0003'), '{"orderUpdateId":0}'),
+    ok(*order_over('O5', ['pick J1', 'pick J2', 'drop J1', 'drop J2'], 2, '0003'), '{"orderUpdateId":0}'),
     accepted(state(2, 'O5', node='N3', sequence=4, serial='0003',
                    statuses=[('O5.0', 'FINISHED'), ('O5.1', 'FINISHED'), ('O5.2', 'FINISHED'), ('O5.3', 'RUNNING')])),
     stands('L1', 'station C'), stands('L2', 'vehicle KIT/0003', 'J2'), job('J3', 'L1', 'A')]
@@ -139,7 +115,7 @@ SCRIPTS = {
     'an order is cancelled on its way': CANCELLED + [
         accepted(state(2, 'O1', statuses=[('instant-1', 'FINISHED')])),
         holds('node N1 KIT/0001', 'node N2 KIT/0001', 'edge E12 KIT/0001'), job('J2', 'L1', 'B'),
-        refused('POST /orders', order_of('O2', 'J2', 1), 409, 'Astray', 39),
+        refused(*calls.order('O2', 'J2', 1), 409, 'Astray', 39),
         ok('POST /vehicles/KIT/0001/place', {'ref': 'R1', 'node': 'N2'}), holds('node N2 KIT/0001')],
     'a cancel ends once everything has stopped': CANCELLED + [
         refused_state(state(2, 'O1', statuses=[('O1.0', 'RUNNING'), ('instant-1', 'FINISHED')]), 409, 'CancelEarly', 70),
@@ -173,13 +149,13 @@ SCRIPTS = {
     'a load that is not dropped keeps its place': TWO_LOADS + [
         accepted(state(3, 'O5', node='N3', sequence=4, statuses=[('O5.3', 'FAILED')], serial='0003')), stands('L2', 'vehicle KIT/0003'),
         load('L5', 'C'), job('J4', 'L5', 'B'),
-        refused('POST /orders', order_over('O6', ['pick J3', 'drop J3', 'pick J4', 'drop J4'], 0, '0003'), 409, 'Loaded', 40),
-        ok('POST /orders', order_over('O6', ['pick J3', 'drop J3'], 0, '0003'), '{"orderUpdateId":0}'),
-        refused('POST /orders', order_over('O7', ['pick J4', 'pick J4', 'drop J4'], 0, '0003'), 409, 'BadStops', 53),
-        refused('POST /orders', order_over('O7', [], 0, '0003'), 409, 'BadStops', 53)],
+        refused(*order_over('O6', ['pick J3', 'drop J3', 'pick J4', 'drop J4'], 0, '0003'), 409, 'Loaded', 40),
+        ok(*order_over('O6', ['pick J3', 'drop J3'], 0, '0003'), '{"orderUpdateId":0}'),
+        refused(*order_over('O7', ['pick J4', 'pick J4', 'drop J4'], 0, '0003'), 409, 'BadStops', 53),
+        refused(*order_over('O7', [], 0, '0003'), 409, 'BadStops', 53)],
     'a vehicle is for one load to four': [
-        ok('PUT /layout', LAYOUT), refused('POST /vehicles', new_vehicle('0003', 'N1', 0), 409, 'Limit', 51),
-        refused('POST /vehicles', new_vehicle('0003', 'N1', 5), 409, 'Limit', 51), vehicle('0003', 'N1', 4)],
+        ok('PUT /layout', LAYOUT), refused(*calls.vehicle('0003', 'N1', 0), 409, 'Limit', 51),
+        refused(*calls.vehicle('0003', 'N1', 5), 409, 'Limit', 51), vehicle('0003', 'N1', 4)],
     'a layout is set once': READY + [refused('PUT /layout', LAYOUT, 409, 'LayoutSet', 31)],
     'a layout with an edge to nowhere': [refused('PUT /layout', 'kind,id,from,to\nnode,N1,,\nedge,E1,N1,N2\n', 409, 'LayoutBad', 32)],
     'a hundred vehicles': [
@@ -193,11 +169,7 @@ SCRIPTS = {
 
 
 def bytes_of(line):
-    request, body, _, _ = line
-    if body is None:
-        return ('%s HTTP/1.1\r\n\r\n' % request).encode()
-    data = body if isinstance(body, str) else json.dumps(body, separators=(',', ':'))
-    return ('%s HTTP/1.1\r\nContent-Length: %d\r\n\r\n%s' % (request, len(data), data)).encode()
+    return calls.request(*line[:2])
 
 
 # Two registrations, and a third of whose body of 13 bytes there are 5.

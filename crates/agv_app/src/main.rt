@@ -1,22 +1,16 @@
-//! The program of the desk. `main` reads its words and hands over the real streams. The module
-//! `line` says what the words ask for (`line_of`), `run` does it (`run_line`), and `outcome` says
-//! how a run ends; all else is in the crates below.
+//! The program of the desk. `main` reads its words and hands over the real streams. `agv_command_line` says what the words ask
+//! for (`line_of`), and `agv_program` does it (`run_line`) and says how a run ends.
 //!
 //! It exits with 0; with 1 after one line `fault: ..` on standard error; and with 2 where the words
 //! are refused, also at `--help`, with the text on standard error.
 #![tactic(auto)]
 
 ghost use Rattle.std.specs.Prelude.{◌≡◌, drop, IfErr};
-ghost use Rattle.agv_app.specs.Runs.{IsWithoutWords};
+ghost use Rattle.agv_program.specs.Runs.{IsWithoutWords};
 
-mod line;
-mod outcome;
-mod run;
-
-use crate::line::line_of;
-use crate::outcome::NoLine;
-use crate::run::run_line;
+use agv_command_line::line_of;
 use agv_face::CountingIo;
+use agv_program::{NoLine, run_line};
 use std::alloc::Global;
 use std::env::{self, Env};
 use std::io::{self, ErrorKind};

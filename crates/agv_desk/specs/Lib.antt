@@ -24,3 +24,4 @@ pub mod Histories
 pub mod ActedMoves
 pub mod FoundJobs
 pub mod Counts
+pub mod DecisionEnds

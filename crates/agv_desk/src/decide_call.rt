@@ -3,6 +3,7 @@ ghost use Rattle.std.specs.Prelude.{◌≡◌};
 ghost use Rattle.agv_world.specs.Changes.{changed};
 ghost use Rattle.agv_world.specs.Asks.{Asks};
 ghost use Rattle.agv_world.specs.Rows.{rows_of};
+ghost use Rattle.agv_desk.specs.DecisionEnds.{LeavesWorld, failed_by};
 ghost use Rattle.agv_desk.specs.InOrder.{IsInOrder};
 ghost use Rattle.agv_desk.specs.Outcomes.{after, decided};
 ghost use Rattle.agv_desk.specs.Sizes.{IsWithinTripLimits};
@@ -32,10 +33,10 @@ use std::alloc::Global;
 /// edges and eight acts, and no more updates than released edges, as every trip of a lawful world.
 ///
 /// The floor is only asked (`Asks`). So after an answer its world is the same, and after a fault too where the floor is
-/// still open; that holds, and the answer is so, where the floor's store has given back what was written to it.
+/// still open (`world`); that holds, and the answer is so, where the floor's store has given back what was written to it.
 ///
-/// `Memory` where an allocation was refused, `Storage` where the floor has failed.
-#[tactic(auto, using(crate::proofs::outcomes::Deciding::of_size))]
+/// `Memory` where an allocation was refused, `Storage` where the floor has failed: then it says so as the call ends
+/// (`failed`), and over a world in memory it never does ([`laws::calls::never_fails_in_memory`](crate::laws::calls::never_fails_in_memory)).
 pub fn decide<F: Floor>(
     alloc: Global,
     floor: &mut F,
@@ -46,6 +47,9 @@ pub fn decide<F: Floor>(
         IsWithinTripLimits world call.now → decision ≡ decided (step (F.facts.seats floor.old) world at call.now)) }
     ensures changes { Asks F.facts floor.old floor.new result (λ world decision.
         IsInOrder world → changed decision.changes (rows_of world) ≡ rows_of (after world (step (F.facts.seats floor.old) world at call.now))) }
+    ensures failed { F.facts.failed floor.new ≡ failed_by result (F.facts.failed floor.old) }
+    ensures seats { F.facts.seats floor.new ≡ F.facts.seats floor.old }
+    ensures world { LeavesWorld F.facts floor.old floor.new result }
 {
     leads_to_the_rows();
     decide_each(alloc, floor, at, call)

@@ -15,7 +15,7 @@ use Rattle.agv_http.specs.routing.Table.{route_at}
 use Rattle.agv_http.specs.declared.request.heard.Heard.{Heard}
 use Rattle.agv_http.specs.declared.request.heard.RequestRef.{RequestRef}
 use Rattle.agv_reports.specs.Reports.{report_of}
-use Rattle.agv_tables.specs.schema.SchemaNumbers.{desk_seats}
+use Rattle.agv_schema.specs.SchemaNumbers.{desk_seats}
 use Rattle.agv_world.specs.Worlds.{World}
 use Rattle.agv_face.specs.Replies.{call_of, outcome_in, text_for}
 
@@ -82,6 +82,12 @@ no_calls at = refl
 none_made : (at : ℕ) (read : Result Call Refusal) → IsErr read → cons_option (timed_call at read) [] ≡ []
 none_made at (Ok made) is = absurd (let e : false ≡ true = is in cc)
 none_made at (Err why) is = refl
+
+-- the calls with one request more
+pub calls_more : (at : ℕ) (requests : List Request) (request : Request) (lent : RequestRef) → IsLent request lent → CallsInTurn
+    → calls_of (requests ++ request ∷ []) at ≡ calls_of requests at ++ cons_option (timed_call at (call_of lent)) []
+calls_more at requests request lent is turn =
+    turn requests (request ∷ []) at ∙ ap (λ (read : Result Call Refusal). calls_of requests at ++ cons_option (timed_call at read) []) (sym (call_is request lent is))
 
 -- a request more that is none
 pub next_no_call : (at : ℕ) (requests : List Request) (request : Request) (lent : RequestRef) → IsLent request lent → CallsInTurn

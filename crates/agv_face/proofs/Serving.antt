@@ -1,8 +1,10 @@
 -- A call is served, and then its report is asked for.
-use Rattle.std.proofs.Common.{◌≡◌, ◌≤◌, ◌⊎◌, ℕ, Bool, true, false, List, [], length, Result, Ok, Err, OnErr, inl, inr, refl, sym, ap, ◌∙◌, subst}
+use Rattle.std.proofs.Common.{◌≡◌, ◌≤◌, ◌⊎◌, ℕ, Bool, true, false, List, [], length, Result, Ok, Err, OnErr, OnOk, inl, inr, refl, sym, ap, ◌∙◌, subst, arith}
 use Rattle.std.proofs.lemmas.Bool.{both_ways}
 use Rattle.sqlite.specs.Effect.{Database}
 use Rattle.sqlite.specs.Held.{Held, state}
+use Rattle.sqlite.specs.State.{State, Survives}
+use Rattle.sqlite_trees.specs.Tree.{Trees}
 use Rattle.sqlite_trees.specs.declared.store.Store.{Ghosts}
 use Rattle.agv_desk.specs.Outcomes.{after, answer_of}
 use Rattle.agv_desk.specs.Step.{step}
@@ -21,18 +23,18 @@ use Rattle.agv_http.specs.declared.request.heard.RequestRef.{RequestRef}
 use Rattle.agv_http.specs.declared.routing.route.Route.{Route}
 use Rattle.agv_reports.specs.Reports.{names_report, report_of}
 use Rattle.agv_store.specs.Floors.{Keyed, Knows, world_at}
-use Rattle.agv_store.specs.Serving.{world_after}
-use Rattle.agv_tables.specs.queries.WorldAnswers.{HasWorld}
-use Rattle.agv_tables.specs.readings.WorldIn.{world_in}
-use Rattle.agv_tables.specs.rows.DeskRows.{Placing}
-use Rattle.agv_tables.specs.schema.SchemaNumbers.{desk_seats}
+use Rattle.agv_store.specs.Serving.{LeavesCall, world_after}
+use Rattle.agv_row_reading.specs.WorldAnswers.{HasWorld}
+use Rattle.agv_world_reading.specs.WorldIn.{world_in}
+use Rattle.agv_schema.specs.DeskRows.{Placing}
+use Rattle.agv_schema.specs.SchemaNumbers.{desk_seats}
 use Rattle.agv_world.specs.Worlds.{World}
 use Rattle.agv_http.specs.request.Heard.{IsHeard}
 use Rattle.agv_http.specs.declared.request.heard.Heard.TheVariants as heard
 use Rattle.agv_world.specs.declared.fault.Fault.{Fault}
 use Rattle.agv_world.specs.declared.fault.Fault.TheVariants as machine
 use Rattle.agv_face.specs.Nexts.{IsNextFault}
-use Rattle.agv_face.specs.Replies.{ComesOfCall, IsLaterDesk, IsCallAnswered, call_of, outcome_in}
+use Rattle.agv_face.specs.Replies.{ComesOfCall, IsCallAnswered, IsLaterDesk, IsReached, LeavesRequest, call_of, outcome_in}
 use Rattle.agv_face.specs.declared.reply.Reply.{Reply}
 
 -- ---- the laws that are cited
@@ -142,10 +144,27 @@ later_then {S = S} g desk now then first second = record {
   stopped = λ failed. let same = first.stopped failed in second.stopped (ap (λ (d : Keyed S). d.failed) same ∙ failed) ∙ same;
 }
 
+-- at one moment
+pub survives_still : (now : State) (P : Trees → Type 0) → Survives now now P
+survives_still now P = record { clean = omega arith; shield = λ is. is; counts = omega arith; limit = refl; closes = λ _ is. inl is; crash = λ _ db before. inl before }
+
+-- a request that was read as a call
+module _ {S : Type 0} (g : Ghosts S) (desk desk_then : Keyed S) (read : Result Call Refusal) (call : Call) (is : read ≡ Ok call) where
+  pub reached_by : {A : Type 0} (r : Result A Fault) → OnOk r (IsReached g desk desk_then (Ok call)) → OnOk r (IsReached g desk desk_then read)
+  reached_by r reached = let So : Result Call Refusal → Type 0 = λ c. OnOk r (IsReached g desk desk_then c) in subst So (sym is) reached
+
+  pub crash_by : (at : ℕ) → Survives (state g desk.held) (state g desk_then.held) (LeavesCall g desk.held at call)
+      → Survives (state g desk.held) (state g desk_then.held) (LeavesRequest g desk.held at read)
+  crash_by at survives = let So : Result Call Refusal → Type 0 = λ c. Survives (state g desk.held) (state g desk_then.held) (LeavesRequest g desk.held at c) in subst So (sym is) survives
+
+-- one that is refused leaves the desk as it is
+pub reached_none : {S : Type 0} (g : Ghosts S) (desk : Keyed S) (read : Result Call Refusal) (why : Refusal) → read ≡ Err why → IsReached g desk desk read
+reached_none g desk read why is = let So : Result Call Refusal → Type 0 = λ c. IsReached g desk desk c in subst So (sym is) refl
+
 -- ---- a fault before there is an answer
 
 pub comes_of_next : (buf : List ℕ) (ended : Bool) (lent : RequestRef) → IsHeard buf ended (heard.Request lent) → (why : Fault) → ComesOfCall (call_of lent) why → IsNextFault buf ended why
-comes_of_next buf ended lent told machine.Memory comes = tt
+comes_of_next buf ended lent told machine.Memory comes = (lent.len, (told.0, told.1, told.2, told.3, tt))
 comes_of_next buf ended lent told machine.Storage comes = (lent, told, comes)
 
 -- ---- in general

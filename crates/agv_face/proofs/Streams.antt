@@ -8,15 +8,15 @@ use Rattle.agv_header.specs.declared.refusal.Refusal.TheVariants as refusal
 use Rattle.agv_desk.specs.Outcomes.{after}
 use Rattle.agv_http.specs.request.Cut.{Cut, at_end, closed, faulty, no_more}
 use Rattle.agv_http.specs.request.Fronts.{Begins, GoesOnBy, HasNext, IsSoFar}
-use Rattle.agv_http.specs.request.Heard.{IsHeard}
+use Rattle.agv_http.specs.request.Heard.{HasRequest, IsHeard}
 use Rattle.agv_http.specs.Output.{answers_to, calls_of, refusal_text, world_after}
 use Rattle.agv_http.specs.request.Requests.{Request}
-use Rattle.agv_http.specs.StreamEnds.{HasCallNext, HasMachineFault, IsLastRefusal, IsNextAnswer, IsOfMachine, IsReadFault, IsWriteFault}
+use Rattle.agv_http.specs.StreamEnds.{HasCallNext, HasMachineFault, HasRequestNext, IsLastRefusal, IsNextAnswer, IsOfMachine, IsReadFault, IsWriteFault}
 use Rattle.agv_http.specs.declared.request.heard.Heard.TheVariants as heard
 use Rattle.agv_http.specs.declared.request.heard.RequestRef.{RequestRef}
 use Rattle.agv_store.specs.Floors.{Keyed, Knows, world_at}
-use Rattle.agv_tables.specs.schema.SchemaNumbers.{desk_seats}
-use Rattle.agv_tables.specs.sql.Connections.{IsClean, IsOpen}
+use Rattle.agv_schema.specs.SchemaNumbers.{desk_seats}
+use Rattle.agv_schema.specs.Connections.{IsClean, IsOpen}
 use Rattle.agv_world.specs.Worlds.{World}
 use Rattle.agv_face.specs.Bytes.{IsCut, IsRead}
 use Rattle.agv_face.specs.StreamEnd.{HaveCome, IsEnd, IsInput, Leaves}
@@ -25,6 +25,7 @@ use Rattle.agv_face.specs.CountingIo.{inner_of, FailedNever}
 use Rattle.agv_face.specs.declared.stream_end.Ended.TheVariants as ended_by
 use Rattle.agv_face.specs.declared.counting_io.CountingIo.{CountingIo}
 use Rattle.agv_face.proofs.Serving.{later_still, later_then}
+use Rattle.agv_face.proofs.Kept.{HasKept, kept_none}
 use Rattle.agv_face.proofs.InTurn.{AnswersInTurn, CallsInTurn, WorldsInTurn, is_call, next_answers, next_no_call, next_text, next_world, no_answer, no_calls, no_change, whole}
 
 -- the desk, the reader and the writer, each at the start and now; whether the input has ended, what has come and isn't served, and how many answers were written
@@ -50,6 +51,7 @@ module _ {S R W : Type 0} (g : Ghosts S) (remaining : R → Option (List ℕ)) (
     pub failed : now.failed ≡ desk.failed
     pub read : FailedNever reader reader_now
     pub put : FailedNever writer writer_now
+    pub kept : HasKept g at desk now requests
 
   -- ---- at the start
 
@@ -70,7 +72,12 @@ module _ {S R W : Type 0} (g : Ghosts S) (remaining : R → Option (List ℕ)) (
     failed = refl;
     read = refl;
     put = refl;
+    kept = kept_none g at desk;
   }
+
+  pub none_yet : none_served.requests ≡ []
+  unfolding none_served
+  none_yet = refl
 
   -- ---- from one moment to the next
 
@@ -102,8 +109,23 @@ module _ {S R W : Type 0} (g : Ghosts S) (remaining : R → Option (List ℕ)) (
     has_call lent request goes made = let HasNextSo : List ℕ → Type 0 = λ bytes. HasNext bytes s.requests request in (request, subst HasNextSo (sym parts) (goes.next more), is_call request lent goes.is_lent made)
 
     -- there is a fault of the machine
-    pub machine_fault : (why : Refusal) → IsOfMachine why → (why ≡ refusal.Storage → HasCallNext input s.requests) → HasMachineFault input s.requests why
-    machine_fault why of_machine of_call = record { begins = begins; of_machine = of_machine; of_call = of_call }
+    pub machine_fault : (why : Refusal) → IsOfMachine why → (why ≡ refusal.Storage → HasCallNext input s.requests) → (why ≡ refusal.Memory → (s.requests ≡ []) ⊎ HasRequestNext input s.requests)
+        → HasMachineFault input s.requests why
+    machine_fault why of_machine of_call of_request = record { begins = begins; of_machine = of_machine; of_call = of_call; of_request = of_request }
+
+    -- the buffer begins with another request
+    pub has_request : (len : ℕ) → HasRequest buf len (λ request. Unit {0}) → HasRequestNext input s.requests
+    has_request len found =
+        let request : Request = found.2 in (
+          request,
+          record {
+            front = s.front;
+            rest = buf ++ more;
+            parts = parts;
+            cut = s.cut;
+            rest_is = (take len buf, drop len buf ++ more, ap (λ (bytes : List ℕ). bytes ++ more) (sym (take-append-drop len buf)) ∙ append_assoc (take len buf) (drop len buf) more, found.3);
+          },
+        )
 
     -- what was written
     wrote_answers : IsClean g now.held → Appends (contents (inner_of writer)) (contents (inner_of writer_now)) written
@@ -273,7 +295,7 @@ module _ {S R W : Type 0} (g : Ghosts S) (remaining : R → Option (List ℕ)) (
       all_written : IsClean g then.held → written ++ out ≡ answers_to desk_seats start at (s.requests ++ request ∷ [])
       all_written clean = ap (λ (text : List ℕ). written ++ text) (out_is clean) ∙ next_answers start at s.requests request lent goes.is_lent answers_turn
 
-      world_then : IsClean g then.held → world_at g then.held ≡ world_after desk_seats start at (s.requests ++ request ∷ [])
+      pub world_then : IsClean g then.held → world_at g then.held ≡ world_after desk_seats start at (s.requests ++ request ∷ [])
       world_then clean =
           (answered clean).world_is ∙ ap (λ (world : World). after world (outcome_in world at (call_of lent))) (s.world_is (later clean)) ∙ next_world start at s.requests request lent goes.is_lent worlds_turn
 
@@ -291,8 +313,9 @@ module _ {S R W : Type 0} (g : Ghosts S) (remaining : R → Option (List ℕ)) (
 
       -- the stream goes on
       pub serves_on : lent.close ≡ false → Appends (contents (inner_of writer_now)) (contents (inner_of writer_then)) out → FailedNever writer_now writer_then
-          → (desk.failed ≡ true → calls_of (s.requests ++ request ∷ []) at ≡ []) → HasServed then reader_now writer_then ended (drop lent.len buf) (answers + 1)
-      serves_on stays wrote worked none_asked =
+          → (desk.failed ≡ true → calls_of (s.requests ++ request ∷ []) at ≡ []) → HasKept g at desk then (s.requests ++ request ∷ [])
+          → HasServed then reader_now writer_then ended (drop lent.len buf) (answers + 1)
+      serves_on stays wrote worked none_asked kept =
           let here : s.front ++ buf ≡ (s.front ++ take lent.len buf) ++ drop lent.len buf =
           ap (λ (l : List ℕ). s.front ++ l) (sym (take-append-drop lent.len buf)) ∙ sym (append_assoc s.front (take lent.len buf) (drop lent.len buf)) in
           let Come : List ℕ → Type 0 = λ bytes. Consumes (remaining (inner_of reader)) (remaining (inner_of reader_now)) bytes in
@@ -312,6 +335,7 @@ module _ {S R W : Type 0} (g : Ghosts S) (remaining : R → Option (List ℕ)) (
             failed = failed ∙ s.failed;
             read = s.read;
             put = worked ∙ s.put;
+            kept = kept;
           }
 
       module _ (knows : IsClean g then.held → IsOpen g then.held → Knows g then.held (world_at g then.held)) where
@@ -380,4 +404,5 @@ module _ {S R W : Type 0} (g : Ghosts S) (remaining : R → Option (List ℕ)) (
         failed = s.failed;
         read = r.worked ∙ s.read;
         put = s.put;
+        kept = s.kept;
       }

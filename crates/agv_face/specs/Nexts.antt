@@ -1,15 +1,17 @@
 -- What became of the next request of a buffer. No public clause cites this.
 use Rattle.std.specs.Prelude.{◌≡◌, ℕ, Bool, true, List, IsErr}
 use Rattle.sqlite_trees.specs.declared.store.Store.{Ghosts}
-use Rattle.agv_http.specs.request.Heard.{IsHeard}
+use Rattle.agv_http.specs.request.Heard.{HasRequest, IsHeard}
 use Rattle.agv_http.specs.Output.{refusal_text}
 use Rattle.agv_http.specs.declared.request.heard.Heard.TheVariants as heard
 use Rattle.agv_http.specs.declared.request.heard.RequestRef.{RequestRef}
 use Rattle.agv_store.specs.Floors.{Keyed, world_at}
-use Rattle.agv_tables.specs.sql.Connections.{IsClean}
+use Rattle.agv_schema.specs.Connections.{IsClean}
 use Rattle.agv_world.specs.declared.fault.Fault.{Fault}
 use Rattle.agv_world.specs.declared.fault.Fault.TheVariants as machine
-use Rattle.agv_face.specs.Replies.{ComesOfCall, IsAnswered, call_of}
+use Rattle.sqlite_trees.specs.Tree.{Trees}
+use Rattle.sqlite.specs.Held.{Held}
+use Rattle.agv_face.specs.Replies.{ComesOfCall, IsAnswered, IsReached, LeavesRequest, call_of}
 use Rattle.agv_face.specs.declared.next.Next.{Next}
 use Rattle.agv_face.specs.declared.next.Next.TheVariants as next
 
@@ -23,6 +25,7 @@ module _ {S : Type 0} (g : Ghosts S) (at : ℕ) (desk desk_then : Keyed S) (buf 
     -- where the store had failed before, the request is no call
     pub no_call : desk.failed ≡ true → IsErr (call_of request)
     pub answered : IsClean g desk_then.held → IsAnswered (world_at g desk.held) (world_at g desk_then.held) at request out
+    pub reached : IsReached g desk desk_then (call_of request)
 
   abbrev pub IsNext : Next → Type 0
   IsNext next.Need = IsHeard buf ended heard.Need × (desk_then ≡ desk)
@@ -30,7 +33,11 @@ module _ {S : Type 0} (g : Ghosts S) (at : ℕ) (desk desk_then : Keyed S) (buf 
   IsNext (next.Fault why) = IsHeard buf ended (heard.Fault why) × (out ≡ refusal_text why) × (desk_then ≡ desk)
   IsNext (next.Request len close) = IsRequestServed len close
 
--- a fault of the machine, before there is an answer to the next request; one of the store comes of a request of the buffer that is a call
+-- a crash while the next request of the buffer is served can leave these trees
+abbrev pub LeavesNext : {S : Type 0} → Ghosts S → Held S → ℕ → List ℕ → Bool → Trees → Type 0
+LeavesNext g held at buf ended trees = (request : RequestRef) × IsHeard buf ended (heard.Request request) × LeavesRequest g held at (call_of request) trees
+
+-- a fault of the machine, before there is an answer to the next request: the buffer begins with one; where the fault is of the store, that is a call
 abbrev pub IsNextFault : List ℕ → Bool → Fault → Type 0
-IsNextFault buf ended machine.Memory = Unit {0}
+IsNextFault buf ended machine.Memory = (len : ℕ) × HasRequest buf len (λ request. Unit {0})
 IsNextFault buf ended machine.Storage = (request : RequestRef) × IsHeard buf ended (heard.Request request) × ComesOfCall (call_of request) machine.Storage

@@ -9,7 +9,7 @@ use Rattle.agv_world.specs.declared.fault.Fault.TheVariants as machine
 use Rattle.agv_face.specs.Bytes.{IsCut}
 use Rattle.agv_face.specs.CountingIo.{inner_of, FailedOnce, FailedNever}
 use Rattle.agv_face.specs.declared.stream_end.Ended.TheVariants as ended
-use Rattle.agv_face.specs.declared.stream_end.StreamSummary.{StreamSummary}
+use Rattle.agv_face.specs.declared.stream_end.Served.{Served}
 use Rattle.agv_face.specs.declared.stream_end.StreamFault.{StreamFault}
 use Rattle.agv_face.specs.declared.stream_end.StreamFault.TheVariants as fault
 use Rattle.agv_face.specs.declared.counting_io.CountingIo.{CountingIo}
@@ -21,7 +21,7 @@ refusal_for machine.Storage = refusal.Storage
 
 -- behind so many answers it was written, as one answer more, or cut
 module _ {W : Type 0} (contents : W → Option (List ℕ)) (writer writer_then : CountingIo W) (why : Fault) (answers : ℕ) where
-  abbrev pub IsRefused : Result StreamSummary StreamFault → Type 0
+  abbrev pub IsRefused : Result Served StreamFault → Type 0
   IsRefused (Ok served) =
       (served ≡ record { answers = answers + 1; ended = ended.Refused (refusal_for why) })
       × Appends (contents (inner_of writer)) (contents (inner_of writer_then)) (refusal_text (refusal_for why)) × FailedNever writer writer_then

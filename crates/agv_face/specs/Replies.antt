@@ -3,9 +3,12 @@ use Rattle.std.specs.Prelude.{◌≡◌, ℕ, Bool, true, List, Result, Ok, Err,
 use Rattle.sqlite_trees.specs.declared.store.Store.{Ghosts}
 use Rattle.agv_header.specs.declared.refusal.Refusal.{Refusal}
 use Rattle.agv_reports.specs.Reports.{report_of}
-use Rattle.agv_store.specs.Floors.{Keyed}
-use Rattle.agv_tables.specs.schema.SchemaNumbers.{desk_seats}
-use Rattle.agv_tables.specs.sql.Connections.{IsClean, IsOpen}
+use Rattle.sqlite_trees.specs.Tree.{Trees}
+use Rattle.sqlite.specs.Held.{Held}
+use Rattle.agv_store.specs.Floors.{Keyed, Knows, world_at}
+use Rattle.agv_store.specs.Serving.{LeavesCall}
+use Rattle.agv_schema.specs.SchemaNumbers.{desk_seats}
+use Rattle.agv_schema.specs.Connections.{IsClean, IsOpen}
 use Rattle.agv_world.specs.Worlds.{World}
 use Rattle.agv_world.specs.declared.fault.Fault.{Fault}
 use Rattle.agv_world.specs.declared.fault.Fault.TheVariants as machine
@@ -45,6 +48,16 @@ pub record IsLaterDesk {S : Type 0} (g : Ghosts S) (desk desk_then : Keyed S) : 
   pub clean : IsClean g desk_then.held → IsClean g desk.held
   pub was_open : IsClean g desk_then.held → IsOpen g desk_then.held → IsOpen g desk.held
   pub stopped : desk.failed ≡ true → desk_then ≡ desk
+
+-- a call is answered only by a desk that knew a world, and knows one then; a request that is none leaves the desk as it was
+abbrev pub IsReached : {S : Type 0} → Ghosts S → Keyed S → Keyed S → Result Call Refusal → Type 0
+IsReached g desk desk_then (Ok call) = IsClean g desk_then.held → Knows g desk.held (world_at g desk.held) × Knows g desk_then.held (world_at g desk_then.held)
+IsReached g desk desk_then (Err why) = desk_then ≡ desk
+
+-- a crash within a call can leave these trees
+abbrev pub LeavesRequest : {S : Type 0} → Ghosts S → Held S → ℕ → Result Call Refusal → Trees → Type 0
+LeavesRequest g held at (Ok call) trees = LeavesCall g held at call trees
+LeavesRequest g held at (Err why) trees = ⊥
 
 -- a fault of the store comes of a call
 abbrev pub ComesOfCall : Result Call Refusal → Fault → Type 0

@@ -9,13 +9,14 @@ use Rattle.agv_http.specs.Output.{calls_of, refusal_text}
 use Rattle.agv_http.specs.request.Requests.{Request}
 use Rattle.agv_http.specs.StreamEnds.{HasCallNext, HasMachineFault, IsReadFault, IsRefusedByMachine, IsServedToEnd, IsWriteFault}
 use Rattle.agv_store.specs.Floors.{Keyed, Knows, world_at}
-use Rattle.agv_tables.specs.schema.SchemaNumbers.{desk_seats}
-use Rattle.agv_tables.specs.sql.Connections.{IsClean, IsOpen}
+use Rattle.agv_schema.specs.SchemaNumbers.{desk_seats}
+use Rattle.agv_schema.specs.Connections.{IsClean, IsOpen}
 use Rattle.agv_world.specs.Worlds.{World}
 use Rattle.agv_face.specs.CountingIo.{inner_of, FailedOnce, FailedNever, RanOut}
+use Rattle.agv_face.specs.StreamCalls.{AreDone, AreDoneBy, AreDoneOrNext}
 use Rattle.agv_face.specs.declared.stream_end.Ended.{Ended}
 use Rattle.agv_face.specs.declared.stream_end.Ended.TheVariants as ended
-use Rattle.agv_face.specs.declared.stream_end.StreamSummary.{StreamSummary}
+use Rattle.agv_face.specs.declared.stream_end.Served.{Served}
 use Rattle.agv_face.specs.declared.stream_end.StreamFault.{StreamFault}
 use Rattle.agv_face.specs.declared.stream_end.StreamFault.TheVariants as fault
 use Rattle.agv_face.specs.declared.counting_io.CountingIo.{CountingIo}
@@ -36,7 +37,7 @@ failed_by (ended.Refused refusal.Storage) before = true
 failed_by _ before = before
 
 -- as a stream ends; where an answer was cut, that may have been the refusal that says so
-abbrev pub EndsFailed : Bool → Bool → Result StreamSummary StreamFault → Type 0
+abbrev pub EndsFailed : Bool → Bool → Result Served StreamFault → Type 0
 EndsFailed before then (Ok served) = then ≡ failed_by served.ended before
 EndsFailed before then (Err (fault.Read answers)) = then ≡ before
 EndsFailed before then (Err (fault.Write answers)) = (then ≡ before) ⊎ (then ≡ true)
@@ -75,7 +76,7 @@ pub record Leaves {S W : Type 0} (g : Ghosts S) (contents : W → Option (List �
 -- the desk, the reader and the writer, each before and after
 module _ {S R W : Type 0} (g : Ghosts S) (remaining : R → Option (List ℕ)) (contents : W → Option (List ℕ)) (at reads : ℕ)
     (desk desk_then : Keyed S) (reader reader_then : CountingIo R) (writer writer_then : CountingIo W) where
-  abbrev pub IsStreamEnd : Result StreamSummary StreamFault → Type 0
+  abbrev pub IsStreamEnd : Result Served StreamFault → Type 0
   -- the input was served to its end, or up to a fault of the machine
   IsStreamEnd (Ok served) =
       (IsClean g desk_then.held → (input : List ℕ) × IsInput remaining reader input × Leaves g contents desk desk_then writer writer_then (IsEnd input at served.answers served.ended))
@@ -112,23 +113,25 @@ last_bytes ended.Close = []
 last_bytes (ended.Refused why) = refusal_text why
 
 -- the desk, the reader and the writer, each before and after
-module _ {S R W : Type 0} (remaining : R → Option (List ℕ)) (contents : W → Option (List ℕ)) (at : ℕ)
+module _ {S R W : Type 0} (g : Ghosts S) (remaining : R → Option (List ℕ)) (contents : W → Option (List ℕ)) (at : ℕ)
     (desk desk_then : Keyed S) (reader reader_then : CountingIo R) (writer writer_then : CountingIo W) where
   -- none of the requests is a call, where the store had failed before
   abbrev pub AskNothing : List Request → Type 0
   AskNothing requests = desk.failed ≡ true → calls_of requests at ≡ []
 
-  -- the requests that were answered are the first ones of the input, as many as is said; a last refusal is whole
-  abbrev pub IsCounted : Result StreamSummary StreamFault → Type 0
+  -- the requests that were answered are the first ones of the input, as many as is said; a last refusal is whole. Their calls are done
+  abbrev pub IsCounted : Result Served StreamFault → Type 0
   IsCounted (Ok served) =
       (input : List ℕ) × IsInput remaining reader input × (requests : List Request) × GoesOnTo input requests served.ended
       × (served.answers ≡ length requests + last_answers served.ended) × AskNothing requests
-      × (sent : List ℕ) × Appends (contents (inner_of writer)) (contents (inner_of writer_then)) (sent ++ last_bytes served.ended)
+      × ((sent : List ℕ) × Appends (contents (inner_of writer)) (contents (inner_of writer_then)) (sent ++ last_bytes served.ended))
+      × AreDoneBy g at desk desk_then input requests served.ended
   -- they are all those that had come whole
   IsCounted (Err (fault.Read answers)) =
       (bytes : List ℕ) × HaveCome remaining reader reader_then bytes × (requests : List Request) × IsSoFar bytes requests
-      × (answers ≡ length requests) × AskNothing requests
+      × (answers ≡ length requests) × AskNothing requests × AreDone g at desk desk_then requests
   -- the store can have failed at the request whose answer was cut
   IsCounted (Err (fault.Write answers)) =
       (input : List ℕ) × IsInput remaining reader input × (requests : List Request) × Begins input requests
       × (answers ≡ length requests) × AskNothing requests × ((desk_then.failed ≡ desk.failed) ⊎ HasCallNext input requests)
+      × AreDoneOrNext g at desk desk_then input requests

@@ -2,15 +2,17 @@
 ghost use Rattle.std.specs.Prelude.{◌≡◌, ◌≤◌, [], IfErr, IfOk, OnErr, OnOk, vec_capacity};
 ghost use Rattle.agv_http.specs.Output.{refusal_text};
 ghost use Rattle.agv_http.specs.answers.Sizes.{most_answer};
+ghost use Rattle.sqlite.specs.Held.{state};
+ghost use Rattle.sqlite.specs.State.{Survives};
 ghost use Rattle.agv_store.specs.Floors.{world_at};
-ghost use Rattle.agv_tables.specs.sql.Connections.{IsClean, IsOpen};
-ghost use Rattle.agv_face.specs.Nexts.{IsNext, IsNextFault};
+ghost use Rattle.agv_schema.specs.Connections.{IsClean, IsOpen};
+ghost use Rattle.agv_face.specs.Nexts.{IsNext, IsNextFault, LeavesNext};
 ghost use Rattle.agv_face.specs.Replies.{IsLaterDesk, failed_after};
 
 use crate::reply::answer_request;
 use agv_desk::Answer;
-use agv_header::{Memory, Moment, Refusal};
-use agv_http::laws::sizes::bodies_fit;
+use agv_header::{Moment, Refusal};
+use agv_http::laws::sizes::{bodies_fit, refusals_fit};
 use agv_http::{Heard, Routes, put_answer, read_request};
 use agv_store::Desk;
 use agv_world::Fault;
@@ -48,6 +50,7 @@ pub(crate) fn serve_next<S: Alter + Drop>(
     ensures failed { desk.new.failed ≡ failed_after result desk.old.failed }
     ensures fault { IfErr result (IsNextFault buf.now ended) }
     ensures grown { vec_capacity out.old ≤ vec_capacity out.new }
+    ensures crash { Survives (state S.Store desk.old.held) (state S.Store desk.new.held) (LeavesNext S.Store desk.old.held at buf.now ended) }
 {
     bodies_fit();
     out.clear();
@@ -55,7 +58,7 @@ pub(crate) fn serve_next<S: Alter + Drop>(
         Heard::Need => Ok(Next::Need),
         Heard::End => Ok(Next::End),
         Heard::Fault(why) => {
-            refuse(&why, out)?;
+            refuse(&why, out);
             Ok(Next::Fault(why))
         }
         Heard::Request(request) => {
@@ -66,11 +69,16 @@ pub(crate) fn serve_next<S: Alter + Drop>(
     }
 }
 
-/// Puts the bytes of the refusal after which the stream ends into `out`.
-fn refuse(why: &Refusal, out: &mut Vec<u8>) -> Result<(), Memory>
-    requires { out.old.items ≡ [] }
-    ensures text { OnOk result (out.new.items ≡ refusal_text why.now) }
+/// Puts the bytes of the refusal after which the stream ends into `out`, which has memory for them.
+fn refuse(why: &Refusal, out: &mut Vec<u8>)
+    requires empty { out.old.items ≡ [] }
+    requires room { most_answer ≤ vec_capacity out.old }
+    ensures text { out.new.items ≡ refusal_text why.now }
     ensures grown { vec_capacity out.old ≤ vec_capacity out.new }
 {
-    put_answer(&Answer::Refused(*why), &[], true, out)
+    refusals_fit(why);
+    match put_answer(&Answer::Refused(*why), &[], true, out) {
+        Ok(()) => {}
+        Err(_) => unreachable!(),
+    }
 }

@@ -1,11 +1,14 @@
 //! The answer to one request.
-ghost use Rattle.std.specs.Prelude.{◌≡◌, ◌≤◌, [], true, Err, IfErr, IfOk, IsErr, OnErr, OnOk, length, vec_capacity};
+ghost use Rattle.std.specs.Prelude.{◌≡◌, ◌≤◌, [], true, Err, Ok, IfErr, IfOk, IsErr, OnErr, OnOk, length, vec_capacity};
 ghost use Rattle.agv_http.specs.request.Requests.{most_body};
 ghost use Rattle.agv_http.specs.answers.Sizes.{most_answer};
+ghost use Rattle.sqlite.specs.Held.{state};
+ghost use Rattle.sqlite.specs.State.{Survives};
 ghost use Rattle.agv_store.specs.Floors.{world_at};
-ghost use Rattle.agv_tables.specs.sql.Connections.{IsClean, IsOpen};
+ghost use Rattle.agv_store.specs.Serving.{LeavesCall};
+ghost use Rattle.agv_schema.specs.Connections.{IsClean, IsOpen};
 ghost use Rattle.agv_world.specs.declared.fault.Fault.TheVariants as fault;
-ghost use Rattle.agv_face.specs.Replies.{ComesOfCall, IsAnswered, IsLaterDesk, IsCallAnswered, call_of, failed_after};
+ghost use Rattle.agv_face.specs.Replies.{ComesOfCall, IsAnswered, IsLaterDesk, IsCallAnswered, IsReached, LeavesRequest, call_of, failed_after};
 
 use crate::call::call_in;
 use agv_desk::laws::calls::tells_without_change;
@@ -16,8 +19,8 @@ use agv_http::{RequestRef, Routes, put_answer};
 use agv_message::BodyFault;
 use agv_reports::laws::gives_only_what_is_named;
 use agv_store::Desk;
-use agv_tables::readings::world_laws::a_database_tells_its_world;
 use agv_world::Fault;
+use agv_world_reading::world_laws::a_database_tells_its_world;
 use sqlite::Alter;
 use std::alloc::Global;
 
@@ -48,6 +51,8 @@ pub(crate) fn answer_request<S: Alter + Drop>(
     ensures stopped { desk.old.failed ≡ true → OnOk result (IsErr (call_of request.now)) }
     ensures fault { IfErr result (ComesOfCall (call_of request.now)) }
     ensures grown { vec_capacity out.old ≤ vec_capacity out.new }
+    ensures reached { OnOk result (IsReached S.Store desk.old desk.new (call_of request.now)) }
+    ensures crash { Survives (state S.Store desk.old.held) (state S.Store desk.new.held) (LeavesRequest S.Store desk.old.held at (call_of request.now)) }
 {
     tells_without_change();
     let reply = reply_to(alloc, routes, desk, at, request)?;
@@ -70,6 +75,8 @@ fn reply_to<S: Alter + Drop>(
     ensures failed { desk.new.failed ≡ failed_after result desk.old.failed }
     ensures stopped { desk.old.failed ≡ true → OnOk result (IsErr (call_of request.now)) }
     ensures fault { IfErr result (ComesOfCall (call_of request.now)) }
+    ensures reached { OnOk result (IsReached S.Store desk.old desk.new (call_of request.now)) }
+    ensures crash { Survives (state S.Store desk.old.held) (state S.Store desk.new.held) (LeavesRequest S.Store desk.old.held at (call_of request.now)) }
 {
     match call_in(alloc, routes, request) {
         Ok(call) => serve_call(desk, at, &call),
@@ -88,6 +95,8 @@ fn serve_call<S: Alter + Drop>(desk: &mut Desk<S>, at: Moment, call: &Call) -> R
     ensures unchanged_on_err { IsClean S.Store desk.new.held → IsOpen S.Store desk.new.held → OnErr result (world_at S.Store desk.new.held ≡ world_at S.Store desk.old.held) }
     ensures failed { desk.new.failed ≡ failed_after result desk.old.failed }
     ensures stopped { desk.old.failed ≡ true → result ≡ Err fault.Storage }
+    ensures reached { OnOk result (IsReached S.Store desk.old desk.new (Ok call.now)) }
+    ensures crash { Survives (state S.Store desk.old.held) (state S.Store desk.new.held) (LeavesCall S.Store desk.old.held at call.now) }
 {
     tells_outcomes();
     tells_without_change();

@@ -9,11 +9,13 @@ ghost use Rattle.agv_http.specs.answers.Sizes.{most_answer};
 use crate::bytes::{LONGEST_REQUEST, behind, drop_front, read_some, write_whole};
 use crate::counting_io::CountingIo;
 use crate::next::{Next, serve_next};
-use crate::stream_end::{Ended, StreamFault, StreamSummary};
+use crate::stream_end::{Ended, Served, StreamFault};
+use agv_creation::making_laws::trees_tell_schemas;
 use agv_header::{Memory, Moment, Refusal};
 use agv_http::laws::streams::{answers_in_turn, hears_how_it_goes_on};
 use agv_http::{Routes, memory_answer, storage_answer};
 use agv_store::Desk;
+use agv_store::laws::crashes_leave_before_or_after;
 use agv_world::Fault;
 use sqlite::Alter;
 use std::alloc::{AllocError, Global};
@@ -44,9 +46,9 @@ pub fn serve_stream<S: Alter + Drop, R: Read, W: Write>(
     at: Moment,
     reader: &mut CountingIo<R>,
     writer: &mut CountingIo<W>,
-) -> Result<StreamSummary, StreamFault>
+) -> Result<Served, StreamFault>
     ensures ends { IsStreamEnd S.Store R.remaining W.contents at 16777216 desk.old desk.new reader.old reader.new writer.old writer.new result }
-    ensures counts { IsCounted R.remaining W.contents at desk.old desk.new reader.old reader.new writer.old writer.new result }
+    ensures counts { IsCounted S.Store R.remaining W.contents at desk.old desk.new reader.old reader.new writer.old writer.new result }
     ensures later { IsLaterDesk S.Store desk.old desk.new }
     ensures failed { EndsFailed desk.old.failed desk.new.failed result }
     ensures reads { HadCallsAtMost 16777216 reader.old reader.new }
@@ -66,8 +68,12 @@ pub fn serve_stream<S: Alter + Drop, R: Read, W: Write>(
 /// machine. Where the store has failed as the stream ends, `failed` says by which end. No clause says that an answer is
 /// written before more is read; a test does.
 ///
-/// Which requests were answered, and how many, holds whatever the disk answers (`counts`). Where the store is open as the
-/// stream ends it was open before, so another stream goes on from the world that is known (`later`). A desk that had failed
+/// Which requests were answered, and how many, holds whatever the disk answers (`counts`). It says besides what their calls
+/// have made of the desk (`specs/StreamCalls.antt`): a call is answered only by a desk that knew a lawful world, the store is
+/// then open and the desk knows the world that is left, and a crash leaves the rows of the world after the requests that
+/// were answered; behind a fault of the machine or a cut answer it may leave those after one request more.
+///
+/// Where the store is open as the stream ends it was open before, so another stream goes on from the world that is known (`later`). A desk that had failed
 /// before stays as it is and serves no call: the first one is answered `Storage`, and the stream ends.
 ///
 /// # Errors
@@ -80,14 +86,17 @@ pub fn serve_stream_within<S: Alter + Drop, R: Read, W: Write>(
     reader: &mut CountingIo<R>,
     writer: &mut CountingIo<W>,
     max_reads: u64,
-) -> Result<StreamSummary, StreamFault>
+) -> Result<Served, StreamFault>
     ensures ends { IsStreamEnd S.Store R.remaining W.contents at max_reads desk.old desk.new reader.old reader.new writer.old writer.new result }
-    ensures counts { IsCounted R.remaining W.contents at desk.old desk.new reader.old reader.new writer.old writer.new result }
+    ensures counts { IsCounted S.Store R.remaining W.contents at desk.old desk.new reader.old reader.new writer.old writer.new result }
     ensures later { IsLaterDesk S.Store desk.old desk.new }
     ensures failed { EndsFailed desk.old.failed desk.new.failed result }
     ensures reads { HadCallsAtMost (most_reads max_reads) reader.old reader.new }
 {
     hears_how_it_goes_on();
+    answers_in_turn();
+    crashes_leave_before_or_after::<S>();
+    trees_tell_schemas();
     desk.knows();
     let _calls = reader.calls();
     match reserve(alloc) {
@@ -121,18 +130,20 @@ fn serve_requests<S: Alter + Drop, R: Read, W: Write>(
     reader: &mut CountingIo<R>,
     writer: &mut CountingIo<W>,
     max_reads: u64,
-) -> Result<StreamSummary, StreamFault>
+) -> Result<Served, StreamFault>
     requires none { room.old.input.items ≡ [] }
     requires input { 73728 ≤ vec_capacity room.old.input }
     requires output { most_answer ≤ vec_capacity room.old.output }
     ensures ends { IsStreamEnd S.Store R.remaining W.contents at max_reads desk.old desk.new reader.old reader.new writer.old writer.new result }
-    ensures counts { IsCounted R.remaining W.contents at desk.old desk.new reader.old reader.new writer.old writer.new result }
+    ensures counts { IsCounted S.Store R.remaining W.contents at desk.old desk.new reader.old reader.new writer.old writer.new result }
     ensures later { IsLaterDesk S.Store desk.old desk.new }
     ensures failed { EndsFailed desk.old.failed desk.new.failed result }
     ensures reads { HadCallsAtMost (most_reads max_reads) reader.old reader.new }
 {
     hears_how_it_goes_on();
     answers_in_turn();
+    crashes_leave_before_or_after::<S>();
+    trees_tell_schemas();
     let most = max_reads.min(READS_AT_ALL);
     let mut ended = false;
     let mut reads = 0;
@@ -152,7 +163,7 @@ fn serve_requests<S: Alter + Drop, R: Read, W: Write>(
         desk.knows();
         match next {
             Ok(Next::End) => {
-                return Ok(StreamSummary {
+                return Ok(Served {
                     answers,
                     ended: Ended::End,
                 });
@@ -175,7 +186,7 @@ fn serve_requests<S: Alter + Drop, R: Read, W: Write>(
                 }
                 answers += 1;
                 if close {
-                    return Ok(StreamSummary {
+                    return Ok(Served {
                         answers,
                         ended: Ended::Close,
                     });
@@ -186,7 +197,7 @@ fn serve_requests<S: Alter + Drop, R: Read, W: Write>(
                 if !write_whole(writer, &room.output) {
                     return Err(StreamFault::Write { answers });
                 }
-                return Ok(StreamSummary {
+                return Ok(Served {
                     answers: answers + 1,
                     ended: Ended::Refused(why),
                 });
@@ -201,7 +212,7 @@ fn refuse<W: Write>(
     writer: &mut CountingIo<W>,
     fault: Fault,
     answers: u64,
-) -> Result<StreamSummary, StreamFault>
+) -> Result<Served, StreamFault>
     requires { answers < 18446744073709551615 }
     ensures { IsRefused W.contents writer.old writer.new fault answers result }
 {
@@ -210,7 +221,7 @@ fn refuse<W: Write>(
         Fault::Storage => (storage_answer(), Refusal::Storage),
     };
     if write_whole(writer, bytes) {
-        Ok(StreamSummary {
+        Ok(Served {
             answers: answers + 1,
             ended: Ended::Refused(why),
         })

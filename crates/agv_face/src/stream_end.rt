@@ -18,7 +18,7 @@ pub enum Ended {
 
 /// What a stream came to that was served to its end.
 #[derive(Clone, Copy, Debug, PartialEq, Eq)]
-pub struct StreamSummary {
+pub struct Served {
     /// How many answers were written, the last refusal among them.
     pub answers: u64,
     pub ended: Ended,

@@ -8,7 +8,7 @@ use Rattle.agv_http.specs.request.Fronts.{Begins, HasFaultNext, HasNext, IsSoFar
 use Rattle.agv_http.specs.Output.{IsOutput, answer_to, answers_to, call_of_request, refusal_text, world_after}
 use Rattle.agv_http.specs.request.Requests.{Request}
 
--- a fault of the machine: memory is wanting, or the store has failed
+-- a fault of the machine: memory ran out, or the store has failed
 abbrev pub IsOfMachine : Refusal → Type 0
 IsOfMachine why = (why ≡ refusal.Memory) ⊎ (why ≡ refusal.Storage)
 
@@ -16,11 +16,16 @@ IsOfMachine why = (why ≡ refusal.Memory) ⊎ (why ≡ refusal.Storage)
 abbrev pub HasCallNext : List ℕ → List Request → Type 0
 HasCallNext input requests = (request : Request) × HasNext input requests request × IsOk (call_of_request request)
 
--- behind these requests there is a fault of the machine; one of the store comes of a call
+-- behind these requests there is another one
+abbrev pub HasRequestNext : List ℕ → List Request → Type 0
+HasRequestNext input requests = (request : Request) × HasNext input requests request
+
+-- behind these requests there is a fault of the machine. One of the store comes of a call, and where memory ran out a request comes next; or the stream's own memory was refused, before the first request
 pub record HasMachineFault (input : List ℕ) (requests : List Request) (why : Refusal) : Type 0 where
   pub begins : Begins input requests
   pub of_machine : IsOfMachine why
   pub of_call : why ≡ refusal.Storage → HasCallNext input requests
+  pub of_request : why ≡ refusal.Memory → (requests ≡ []) ⊎ HasRequestNext input requests
 
 -- how many answers are written behind those to the requests, at an end of the input: the refusal of a fault is one
 abbrev pub last_answers : Ending → ℕ

@@ -1,11 +1,9 @@
-//! How a case is tried: what is found is compared with what is wanted, and a test that fails prints the
-//! case. These are functions, so that their code is proved once and not at each of their calls.
+//! Lines of tables, and how what is found is compared with what is wanted: a test that fails prints the line.
 
-use agv_header::{Name, VehicleKey};
+use agv_header::Name;
 use std::alloc::Global;
 use std::fmt::Debug;
 use std::process::Abort;
-use std::str;
 
 /// Fails the test unless this holds of the case.
 pub(crate) fn check(rt: &impl Abort, holds: bool, case: &str) {
@@ -17,41 +15,32 @@ pub(crate) fn check_text(rt: &impl Abort, found: &str, wanted: &str, case: &str)
     assert!(rt; found == wanted, "`{case}`: {found}, and not {wanted}");
 }
 
-/// Compares bytes with the text that is wanted.
-pub(crate) fn check_bytes(rt: &impl Abort, found: &[u8], wanted: &str, case: &str) {
-    let text = str::from_utf8(found).expect(rt, case);
-    check_text(rt, text, wanted, case);
+/// A value as it is printed.
+pub(crate) fn shown(rt: &impl Abort, alloc: Global, value: &impl Debug) -> String {
+    format!(in alloc; "{value:?}").expect(rt, "memory")
 }
 
-/// Fails the test unless the value that is found for the case is printed as the text that is wanted.
-pub(crate) fn check_debug(
-    rt: &impl Abort,
-    alloc: Global,
-    value: &impl Debug,
-    wanted: &str,
-    case: &str,
-) {
-    let found = format!(in alloc; "{value:?}").expect(rt, "memory");
-    check_text(rt, found.as_str(), wanted, case);
+/// What stands before and behind the first such mark.
+pub(crate) fn parts<'a>(rt: &impl Abort, text: &'a str, mark: &str) -> (&'a str, &'a str) {
+    text.split_once(mark).expect(rt, text)
+}
+
+/// A line's case, and what is wanted of it.
+pub(crate) fn row<'a>(rt: &impl Abort, line: &'a str) -> (&'a str, &'a str) {
+    parts(rt, line, " => ")
+}
+
+/// The part with this number, from 0, of a text whose parts are separated so.
+pub(crate) fn part<'a>(rt: &impl Abort, text: &'a str, mark: char, i: usize) -> &'a str {
+    text.split(mark).nth(i).expect(rt, text)
+}
+
+/// A text in which such a mark stands for other characters.
+pub(crate) fn unmarked(rt: &impl Abort, alloc: Global, text: &str, mark: char, to: &str) -> String {
+    text.replace(alloc, mark, to).expect(rt, "memory")
 }
 
 /// The name that the text is.
 pub(crate) fn name(rt: &impl Abort, text: &str) -> Name {
     Name::read(text).expect(rt, text)
-}
-
-pub(crate) fn vehicle(rt: &impl Abort, manufacturer: &str, serial: &str) -> VehicleKey {
-    VehicleKey {
-        manufacturer: name(rt, manufacturer),
-        serial: name(rt, serial),
-    }
-}
-
-/// The texts one behind the other.
-pub(crate) fn joined(rt: &impl Abort, alloc: Global, parts: &[&str]) -> String {
-    let mut text = String::new(alloc);
-    for part in parts {
-        text.push_str(part).expect(rt, "memory");
-    }
-    text
 }

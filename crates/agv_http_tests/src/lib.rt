@@ -1,10 +1,11 @@
-//! The tests of the desk's HTTP, as bytes in and bytes out. They stand in a crate of their own, since a crate
-//! with tests is proved twice. The expected values are written out or worked out by hand.
+//! The tests of the desk's HTTP, as bytes in and bytes out. They stand in a crate of their own, since a crate with tests
+//! is proved twice. The expected values are written out or worked out by hand.
 //!
-//! - `cases` compares what is found with what is wanted.
+//! Each case is a line of a table: what is tried, ` => `, and what is wanted, as it is printed.
+//!
+//! - `cases` reads such lines, and compares.
 //! - `requests` has requests as their bytes come, one at a time.
-//! - `routes` has paths and methods, and the line of the table of calls that each is.
-//! - `bodies` has the bodies of requests, and the calls that they say.
+//! - `calls` has paths and methods, the line of the table of calls that each is, and the calls that bodies say there.
 //! - `answers` has the bytes of answers.
 //! - `repeated` reads one request often, and puts one answer often, for `bench/requests`.
 #![tactic(auto)]
@@ -12,12 +13,10 @@
 #[cfg(test)]
 mod answers;
 #[cfg(test)]
-mod bodies;
+mod calls;
 #[cfg(test)]
 mod cases;
 #[cfg(test)]
 mod repeated;
 #[cfg(test)]
 mod requests;
-#[cfg(test)]
-mod routes;

@@ -1,13 +1,14 @@
-//! Requests as their bytes come, with what is heard of each worked out by hand.
+//! Requests as their bytes come, with what is heard of each worked out by hand. In a line `~` stands for the end of a line
+//! of the head, CR LF.
 
-use crate::cases::check_text;
+use crate::cases::{check_text, row, unmarked};
 use agv_http::{Heard, RequestRef, read_request};
 use std::alloc::Global;
 use std::process::Abort;
 use std::str;
 
-/// The method and the target, the body between two marks, whether the stream ends by the request, and how many
-/// bytes it takes.
+/// The method and the target, the body between two marks, whether the stream ends by the request, and how many bytes it
+/// takes.
 fn request_text(rt: &impl Abort, alloc: Global, request: &RequestRef<'_>) -> String {
     let method = request.method.as_str();
     let target = str::from_utf8(request.target).expect(rt, "target");
@@ -17,249 +18,132 @@ fn request_text(rt: &impl Abort, alloc: Global, request: &RequestRef<'_>) -> Str
 }
 
 fn heard_text(rt: &impl Abort, alloc: Global, heard: &Heard<'_>) -> String {
-    match heard {
-        Heard::Need => String::from_str(alloc, "need").expect(rt, "memory"),
-        Heard::End => String::from_str(alloc, "end").expect(rt, "memory"),
-        Heard::Request(request) => request_text(rt, alloc, request),
-        Heard::Fault(refusal) => String::from_str(alloc, refusal.name()).expect(rt, "memory"),
-    }
+    let said = match heard {
+        Heard::Need => "need",
+        Heard::End => "end",
+        Heard::Request(request) => return request_text(rt, alloc, request),
+        Heard::Fault(refusal) => refusal.name(),
+    };
+    String::from_str(alloc, said).expect(rt, "memory")
 }
 
-/// Compares what is heard of the bytes with what is wanted.
-fn check_heard(
-    rt: &impl Abort,
-    alloc: Global,
-    bytes: &[u8],
-    ended: bool,
-    wanted: &str,
-    case: &str,
-) {
-    let heard = read_request(alloc, bytes, ended).expect(rt, "memory");
-    let found = heard_text(rt, alloc, &heard);
-    check_text(rt, found.as_str(), wanted, case);
+/// What is heard of the bytes, where more may come or the input has ended.
+fn heard(rt: &impl Abort, alloc: Global, bytes: &str, ended: bool) -> String {
+    let heard = read_request(alloc, bytes.as_bytes(), ended).expect(rt, "memory");
+    heard_text(rt, alloc, &heard)
+}
+
+fn check_line(rt: &impl Abort, alloc: Global, line: &str, ended: bool) {
+    let (text, wanted) = row(rt, line);
+    let bytes = unmarked(rt, alloc, text, '~', "\r\n");
+    check_text(
+        rt,
+        heard(rt, alloc, bytes.as_str(), ended).as_str(),
+        wanted,
+        text,
+    );
+}
+
+/// Compares what is heard of the bytes of each line of a table.
+fn check_rows(rt: &impl Abort, alloc: Global, table: &str, ended: bool) {
+    for line in table.lines() {
+        check_line(rt, alloc, line, ended);
+    }
 }
 
 /// Requests of each form, one of them with a method that takes memory, and then Connection lines.
-const REQUESTS: [(&str, &str); 23] = [
-    ("GET /loads/L1 HTTP/1.1\r\n\r\n", "GET /loads/L1 `` open 26"),
-    (
-        "POST /loads HTTP/1.1\r\nContent-Length: 13\r\n\r\n{\"load\":\"L1\"}GET /lo",
-        "POST /loads `{\"load\":\"L1\"}` open 57",
-    ),
-    (
-        "POST /loads?a=b%20 HTTP/1.1\r\nCONTENT-length:  00000000000000000013\t\r\n\r\n{\"load\":\"L1\"}",
-        "POST /loads?a=b%20 `{\"load\":\"L1\"}` open 84",
-    ),
-    (
-        "DELETE /jobs/J1 HTTP/1.1\r\nContent-Length: 2\r\n\r\n{}",
-        "DELETE /jobs/J1 `{}` open 49",
-    ),
-    ("post / HTTP/1.1\r\n\r\n", "post / `` open 19"),
-    (
-        "SIXTEEN-LETTERS- / HTTP/1.1\r\n\r\n",
-        "SIXTEEN-LETTERS- / `` open 31",
-    ),
-    ("GET / HTTP/1.0\r\n\r\n", "GET / `` close 18"),
-    (
-        "GET / HTTP/1.0\r\nConnection: keep-alive\r\n\r\n",
-        "GET / `` close 42",
-    ),
-    (
-        "GET /loads/L1 HTTP/1.1\r\nConnection: close\r\n\r\n",
-        "GET /loads/L1 `` close 45",
-    ),
-    (
-        "GET /loads/L1 HTTP/1.1\r\nConnection: Close\r\n\r\n",
-        "GET /loads/L1 `` close 45",
-    ),
-    (
-        "GET /loads/L1 HTTP/1.1\r\nConnection: keep-alive, \tCLOSE ,upgrade\r\n\r\n",
-        "GET /loads/L1 `` close 67",
-    ),
-    (
-        "GET /loads/L1 HTTP/1.1\r\nConnection: ,close\r\n\r\n",
-        "GET /loads/L1 `` close 46",
-    ),
-    (
-        "GET /loads/L1 HTTP/1.1\r\nConnection: close,\r\n\r\n",
-        "GET /loads/L1 `` close 46",
-    ),
-    (
-        "GET /loads/L1 HTTP/1.1\r\nConnection: keep-alive\r\n\r\n",
-        "GET /loads/L1 `` open 50",
-    ),
-    (
-        "GET /loads/L1 HTTP/1.1\r\nConnection: closed\r\n\r\n",
-        "GET /loads/L1 `` open 46",
-    ),
-    (
-        "GET /loads/L1 HTTP/1.1\r\nConnection: clos\r\n\r\n",
-        "GET /loads/L1 `` open 44",
-    ),
-    (
-        "GET /loads/L1 HTTP/1.1\r\nConnection: not close\r\n\r\n",
-        "GET /loads/L1 `` open 49",
-    ),
-    (
-        "GET /loads/L1 HTTP/1.1\r\nConnection: close;\r\n\r\n",
-        "GET /loads/L1 `` open 46",
-    ),
-    (
-        "GET /loads/L1 HTTP/1.1\r\nConnection: \"close\"\r\n\r\n",
-        "GET /loads/L1 `` open 47",
-    ),
-    (
-        "GET /loads/L1 HTTP/1.1\r\nConnection: \r\n\r\n",
-        "GET /loads/L1 `` open 40",
-    ),
-    (
-        "GET /loads/L1 HTTP/1.1\r\nConnection: ,\r\n\r\n",
-        "GET /loads/L1 `` open 41",
-    ),
-    (
-        "GET /loads/L1 HTTP/1.1\r\nconnection: keep-alive\r\nCONNECTION:close\r\n\r\n",
-        "GET /loads/L1 `` close 68",
-    ),
-    (
-        "GET /loads/L1 HTTP/1.1\r\nConnection: keep-alive\r\nProxy-Connection: close\r\n\r\n",
-        "GET /loads/L1 `` open 75",
-    ),
-];
-
-#[test]
-fn whole(rt: HostRuntime) {
-    for (bytes, wanted) in &REQUESTS {
-        check_heard(&rt, rt.alloc(), bytes.as_bytes(), false, wanted, bytes);
-        check_heard(&rt, rt.alloc(), bytes.as_bytes(), true, wanted, bytes);
-    }
-}
+const WHOLE: &str = "\
+GET /loads/L1 HTTP/1.1~~ => GET /loads/L1 `` open 26
+POST /loads HTTP/1.1~Content-Length: 13~~{\"load\":\"L1\"}GET /lo => POST /loads `{\"load\":\"L1\"}` open 57
+POST /loads?a=b%20 HTTP/1.1~CONTENT-length:  00000000000000000013\t~~{\"load\":\"L1\"} => POST /loads?a=b%20 `{\"load\":\"L1\"}` open 84
+DELETE /jobs/J1 HTTP/1.1~Content-Length: 2~~{} => DELETE /jobs/J1 `{}` open 49
+post / HTTP/1.1~~ => post / `` open 19
+SIXTEEN-LETTERS- / HTTP/1.1~~ => SIXTEEN-LETTERS- / `` open 31
+GET / HTTP/1.0~~ => GET / `` close 18
+GET / HTTP/1.0~Connection: keep-alive~~ => GET / `` close 42
+GET /loads/L1 HTTP/1.1~Connection: close~~ => GET /loads/L1 `` close 45
+GET /loads/L1 HTTP/1.1~Connection: Close~~ => GET /loads/L1 `` close 45
+GET /loads/L1 HTTP/1.1~Connection: keep-alive, \tCLOSE ,upgrade~~ => GET /loads/L1 `` close 67
+GET /loads/L1 HTTP/1.1~Connection: ,close~~ => GET /loads/L1 `` close 46
+GET /loads/L1 HTTP/1.1~Connection: close,~~ => GET /loads/L1 `` close 46
+GET /loads/L1 HTTP/1.1~Connection: keep-alive~~ => GET /loads/L1 `` open 50
+GET /loads/L1 HTTP/1.1~Connection: closed~~ => GET /loads/L1 `` open 46
+GET /loads/L1 HTTP/1.1~Connection: clos~~ => GET /loads/L1 `` open 44
+GET /loads/L1 HTTP/1.1~Connection: not close~~ => GET /loads/L1 `` open 49
+GET /loads/L1 HTTP/1.1~Connection: close;~~ => GET /loads/L1 `` open 46
+GET /loads/L1 HTTP/1.1~Connection: \"close\"~~ => GET /loads/L1 `` open 47
+GET /loads/L1 HTTP/1.1~Connection: ~~ => GET /loads/L1 `` open 40
+GET /loads/L1 HTTP/1.1~Connection: ,~~ => GET /loads/L1 `` open 41
+GET /loads/L1 HTTP/1.1~connection: keep-alive~CONNECTION:close~~ => GET /loads/L1 `` close 68
+GET /loads/L1 HTTP/1.1~Connection: keep-alive~Proxy-Connection: close~~ => GET /loads/L1 `` open 75
+";
 
 /// No head, a head with a wrong length, and then the faults that come behind that: each is met before the next.
-const FAULTS: [(&str, &str); 17] = [
-    ("\r\nGET /loads", "BadHead"),
-    ("GET /loads HTTP/1.1\r\n", "BadHead"),
-    ("GET  /loads HTTP/1.1\r\n\r\n", "BadHead"),
-    ("GET /loads HTTP/2.0\r\n\r\n", "BadHead"),
-    ("GET /loads\r\n\r\n", "BadHead"),
-    (
-        "POST /loads HTTP/1.1\r\nContent-Length: 13\r\n\r\n{\"loa",
-        "BadHead",
-    ),
-    (
-        "POST / HTTP/1.1\r\nContent-Length: 2\r\nContent-Length: 2\r\n\r\n{}",
-        "BadHead",
-    ),
-    ("GET / HTTP/1.1\r\nContent-Length:\r\n\r\n", "BadHead"),
-    ("GET / HTTP/1.1\r\nContent-Length: +2\r\n\r\n{}", "BadHead"),
-    (
-        "GET / HTTP/1.1\r\nContent-Length: 2, 2\r\n\r\n{}",
-        "BadHead",
-    ),
-    (
-        "GET / HTTP/1.1\r\nContent-Length: x\r\nTransfer-Encoding: chunked\r\n\r\n",
-        "BadHead",
-    ),
-    (
-        "POST / HTTP/1.1\r\ntransfer-encoding: chunked\r\n\r\n",
-        "Coding",
-    ),
-    (
-        "POST / HTTP/1.1\r\nTransfer-Encoding: identity\r\nContent-Length: 65537\r\n\r\n",
-        "Coding",
-    ),
-    ("POST / HTTP/1.1\r\n\r\n", "NoLength"),
-    ("PUT / HTTP/1.0\r\n\r\n", "NoLength"),
-    (
-        "PUT / HTTP/1.1\r\nContent-Length: 65537\r\n\r\n",
-        "TooLarge",
-    ),
-    (
-        "GET / HTTP/1.1\r\nContent-Length: 18446744073709551617\r\n\r\n",
-        "TooLarge",
-    ),
-];
-
-#[test]
-fn faulty(rt: HostRuntime) {
-    for (bytes, wanted) in &FAULTS {
-        check_heard(&rt, rt.alloc(), bytes.as_bytes(), true, wanted, bytes);
-    }
-}
+const FAULTY: &str = r#"POST /load => BadHead
+GET /loads HTTP/1.1~ => BadHead
+GET  /loads HTTP/1.1~~ => BadHead
+GET /loads HTTP/2.0~~ => BadHead
+GET /loads~~ => BadHead
+~GET /loads => BadHead
+POST /loads HTTP/1.1~Content-Length: 13~~{"loa => BadHead
+POST / HTTP/1.1~Content-Length: 2~Content-Length: 2~~{} => BadHead
+GET / HTTP/1.1~Content-Length:~~ => BadHead
+GET / HTTP/1.1~Content-Length: +2~~{} => BadHead
+GET / HTTP/1.1~Content-Length: 2, 2~~{} => BadHead
+GET / HTTP/1.1~Content-Length: x~Transfer-Encoding: chunked~~ => BadHead
+POST / HTTP/1.1~transfer-encoding: chunked~~ => Coding
+POST / HTTP/1.1~Transfer-Encoding: identity~Content-Length: 65537~~ => Coding
+POST / HTTP/1.1~~ => NoLength
+PUT / HTTP/1.0~~ => NoLength
+PUT / HTTP/1.1~Content-Length: 65537~~ => TooLarge
+GET / HTTP/1.1~Content-Length: 18446744073709551617~~ => TooLarge
+ => end
+"#;
 
 /// Bytes to which more may come.
-const OPEN: [&str; 6] = [
-    "",
-    "G",
-    "GET /loads HTTP/1.1\r\n",
-    "GET /loads HTTP/1.1\r\n\r",
-    "POST /loads HTTP/1.1\r\nContent-Length: 13\r\n\r\n{\"load\":\"L1\"",
-    "POST / HTTP/1.1\r\nContent-Length: 65536\r\n\r\n",
-];
+const OPEN: &str = r#"POST /load => need
+ => need
+G => need
+GET /loads HTTP/1.1~ => need
+POST /loads HTTP/1.1~Content-Length: 13~~{"load":"L1" => need
+POST / HTTP/1.1~Content-Length: 65536~~ => need
+"#;
 
 #[test]
-fn waiting(rt: HostRuntime) {
-    for bytes in &OPEN {
-        check_heard(&rt, rt.alloc(), bytes.as_bytes(), false, "need", bytes);
-    }
-    check_heard(&rt, rt.alloc(), b"", true, "end", "no byte");
+fn heard_as_they_come(rt: HostRuntime) {
+    check_rows(&rt, rt.alloc(), WHOLE, false);
+    check_rows(&rt, rt.alloc(), WHOLE, true);
+    check_rows(&rt, rt.alloc(), FAULTY, true);
+    check_rows(&rt, rt.alloc(), OPEN, false);
 }
 
-/// The parts one behind the other: the first, the second so many times, and the third.
-fn repeated(
+/// Two parts with a third between them, so many times.
+fn check_large(
     rt: &impl Abort,
     alloc: Global,
-    first: &[u8],
-    second: &[u8],
+    parts: (&str, &str, &str),
     times: usize,
-    third: &[u8],
-) -> Vec<u8> {
-    let mut bytes = Vec::from_slice(alloc, first).expect(rt, "memory");
-    for _ in 0..times {
-        bytes.extend_from_slice(second).expect(rt, "memory");
-    }
-    bytes.extend_from_slice(third).expect(rt, "memory");
-    bytes
+    wanted: &str,
+) {
+    let (first, item, last) = parts;
+    let items = item.repeat(alloc, times).expect(rt, "memory");
+    let text = format!(in alloc; "{first}{items}{last}").expect(rt, "memory");
+    let found = heard(rt, alloc, text.as_str(), false);
+    check_text(rt, found.as_str(), wanted, first);
 }
 
-/// A head of so many header lines.
-fn check_lines(rt: &impl Abort, alloc: Global, times: usize, wanted: &str) {
-    let bytes = repeated(
-        rt,
-        alloc,
-        b"GET / HTTP/1.1\r\n",
-        b"A: b\r\n",
-        times,
-        b"\r\n",
-    );
-    check_heard(rt, alloc, &bytes, false, wanted, "lines");
-}
-
-/// A head with a value of so many bytes.
-fn check_value(rt: &impl Abort, alloc: Global, times: usize, wanted: &str) {
-    let bytes = repeated(rt, alloc, b"GET / HTTP/1.1\r\nA:", b"b", times, b"\r\n\r\n");
-    check_heard(rt, alloc, &bytes, false, wanted, "value");
-}
-
-/// A request with a body of so many bytes, which is the length that it says.
-fn check_body(rt: &impl Abort, alloc: Global, head: &[u8], times: usize, wanted: usize) {
-    let bytes = repeated(rt, alloc, head, b" ", times, b"");
-    let Heard::Request(request) = read_request(alloc, &bytes, false).expect(rt, "memory") else {
-        panic!(rt; "a request");
-    };
-    assert!(rt; request.len == wanted, "{}", request.len);
-}
-
+/// A head of 32 header lines and one of 33, a head of 8,192 bytes and a longer one, and the largest body.
 #[test]
 fn largest(rt: HostRuntime) {
-    check_lines(&rt, rt.alloc(), 32, "GET / `` open 210");
-    check_lines(&rt, rt.alloc(), 33, "BadHead");
-    check_value(&rt, rt.alloc(), 8170, "GET / `` open 8192");
-    check_value(&rt, rt.alloc(), 8171, "BadHead");
-    check_body(
-        &rt,
-        rt.alloc(),
-        b"PUT / HTTP/1.1\r\nContent-Length: 65536\r\n\r\n",
-        65536,
-        65577,
-    );
+    let alloc = rt.alloc();
+    let lines = ("GET / HTTP/1.1\r\n", "A: b\r\n", "\r\n");
+    check_large(&rt, alloc, lines, 32, "GET / `` open 210");
+    check_large(&rt, alloc, lines, 33, "BadHead");
+    let value = ("GET / HTTP/1.1\r\nA:", "b", "\r\n\r\n");
+    check_large(&rt, alloc, value, 8170, "GET / `` open 8192");
+    check_large(&rt, alloc, value, 8171, "BadHead");
+    let body = " ".repeat(alloc, 65536).expect(&rt, "memory");
+    let wanted = format!(in alloc; "PUT / `{body}` open 65577").expect(&rt, "memory");
+    let head = ("PUT / HTTP/1.1\r\nContent-Length: 65536\r\n\r\n", " ", "");
+    check_large(&rt, alloc, head, 65536, wanted.as_str());
 }

@@ -1,5 +1,4 @@
-//! How a case is tried: what is found is compared with what is wanted, and a test that fails prints the
-//! case. These are functions, so that their code is proved once and not at each of their calls.
+//! Lines of tables, and how what is found is compared with what is wanted: a test that fails prints the line.
 
 use agv_header::{Name, VehicleKey};
 use std::alloc::Global;
@@ -16,16 +15,29 @@ pub(crate) fn check_text(rt: &impl Abort, found: &str, wanted: &str, case: &str)
     assert!(rt; found == wanted, "`{case}`: {found}, and not {wanted}");
 }
 
-/// Fails the test unless the value that is found for the case is printed as the text that is wanted.
-pub(crate) fn check_debug(
-    rt: &impl Abort,
-    alloc: Global,
-    value: &impl Debug,
-    wanted: &str,
-    case: &str,
-) {
-    let found = format!(in alloc; "{value:?}").expect(rt, "memory");
-    check_text(rt, found.as_str(), wanted, case);
+/// A value as it is printed.
+pub(crate) fn shown(rt: &impl Abort, alloc: Global, value: &impl Debug) -> String {
+    format!(in alloc; "{value:?}").expect(rt, "memory")
+}
+
+/// What stands before and behind the first such mark.
+pub(crate) fn parts<'a>(rt: &impl Abort, text: &'a str, mark: &str) -> (&'a str, &'a str) {
+    text.split_once(mark).expect(rt, text)
+}
+
+/// The call of a line, and the answer that is wanted.
+pub(crate) fn row<'a>(rt: &impl Abort, line: &'a str) -> (&'a str, &'a str) {
+    parts(rt, line, " => ")
+}
+
+/// The part with this number, from 0, of a text whose parts are separated so.
+pub(crate) fn part<'a>(rt: &impl Abort, text: &'a str, mark: char, i: usize) -> &'a str {
+    text.split(mark).nth(i).expect(rt, text)
+}
+
+/// The word with this number, from 0.
+pub(crate) fn word<'a>(rt: &impl Abort, text: &'a str, i: usize) -> &'a str {
+    part(rt, text, ' ', i)
 }
 
 /// The name that the text is.
@@ -33,9 +45,23 @@ pub(crate) fn name(rt: &impl Abort, text: &str) -> Name {
     Name::read(text).expect(rt, text)
 }
 
-pub(crate) fn vehicle(rt: &impl Abort, manufacturer: &str, serial: &str) -> VehicleKey {
+/// The vehicle of KIT with this serial number.
+pub(crate) fn kit(rt: &impl Abort, serial: &str) -> VehicleKey {
     VehicleKey {
-        manufacturer: name(rt, manufacturer),
+        manufacturer: name(rt, "KIT"),
         serial: name(rt, serial),
     }
+}
+
+/// The number that the text is.
+pub(crate) fn number(rt: &impl Abort, text: &str) -> u32 {
+    text.parse::<u32>().expect(rt, text)
+}
+
+/// The number that the text is, or none where it is `-`.
+pub(crate) fn number_or_none(rt: &impl Abort, text: &str) -> Option<u32> {
+    if text == "-" {
+        return None;
+    }
+    Some(number(rt, text))
 }

@@ -1,12 +1,14 @@
-//! Layouts: what they say of a name, and each reason why rows give none.
+//! Layout files, the layouts that they give, and the ways there, worked out by hand. In a line `|` ends a line of the
+//! file.
 
-use crate::cases::{check, check_debug, name};
+use crate::cases::{check_text, name, parts, row, shown, word};
 use agv_count::read_layout;
-use agv_layout::{Layout, LayoutFault, LayoutRow};
+use agv_header::Name;
+use agv_layout::{Layout, LayoutRow};
 use std::alloc::Global;
 use std::process::Abort;
 
-/// A layout file: three nodes in a row, with an edge each way between neighbours, and three stations.
+/// Three nodes in a row, with an edge each way between neighbours, and three stations.
 pub(crate) const WAREHOUSE: &str = "kind,id,from,to
 node,N1,,
 node,N2,,
@@ -21,184 +23,192 @@ station,C,N3,2
 ";
 
 /// The rows of a layout file.
-pub(crate) fn rows(rt: &impl Abort, alloc: Global, file: &str) -> Vec<LayoutRow> {
+fn rows(rt: &impl Abort, alloc: Global, file: &str) -> Vec<LayoutRow> {
     read_layout(alloc, file.as_bytes()).expect(rt, file)
-}
-
-pub(crate) fn layout_of(rt: &impl Abort, alloc: Global, rows: &[LayoutRow]) -> Layout {
-    Layout::of_rows(alloc, rows).expect(rt, "a layout")
 }
 
 /// The layout of a layout file.
 pub(crate) fn layout(rt: &impl Abort, alloc: Global, file: &str) -> Layout {
-    layout_of(rt, alloc, &rows(rt, alloc, file))
+    Layout::of_rows(alloc, &rows(rt, alloc, file)).expect(rt, file)
 }
 
-/// Compares what a layout says of a name, whether it is a node, the edge and the station, with what is
-/// wanted.
-fn check_said(rt: &impl Abort, alloc: Global, layout: &Layout, text: &str, wanted: &str) {
-    let id = name(rt, text);
-    let said = (layout.node(id), layout.edge(id), layout.station(id));
-    check_debug(rt, alloc, &said, wanted, text);
+/// A text whose lines end as those of a file do.
+pub(crate) fn lines(rt: &impl Abort, alloc: Global, text: &str) -> String {
+    text.replace(alloc, '|', "\n").expect(rt, "memory")
 }
 
-/// What the layout of the examples says of names.
-const SAID: [(&str, &str); 14] = [
-    ("N1", "(true, None, None)"),
-    ("N2", "(true, None, None)"),
-    ("N3", "(true, None, None)"),
-    (
-        "E12",
-        "(false, Some(Edge { id: E12, start: N1, finish: N2 }), None)",
-    ),
-    (
-        "E21",
-        "(false, Some(Edge { id: E21, start: N2, finish: N1 }), None)",
-    ),
-    (
-        "E23",
-        "(false, Some(Edge { id: E23, start: N2, finish: N3 }), None)",
-    ),
-    (
-        "E32",
-        "(false, Some(Edge { id: E32, start: N3, finish: N2 }), None)",
-    ),
-    (
-        "A",
-        "(false, None, Some(Station { id: A, node: N1, capacity: 1 }))",
-    ),
-    (
-        "B",
-        "(false, None, Some(Station { id: B, node: N3, capacity: 1 }))",
-    ),
-    (
-        "C",
-        "(false, None, Some(Station { id: C, node: N3, capacity: 2 }))",
-    ),
-    ("N4", "(false, None, None)"),
-    ("n1", "(false, None, None)"),
-    ("E13", "(false, None, None)"),
-    ("D", "(false, None, None)"),
-];
-
-fn check_names(rt: &impl Abort, alloc: Global, layout: &Layout) {
-    for (id, wanted) in &SAID {
-        check_said(rt, alloc, layout, id, wanted);
-    }
-}
-
-/// Compares what the layout of the rows says, and what its copy says.
-fn check_layout(rt: &impl Abort, alloc: Global, rows: &[LayoutRow]) {
-    let layout = layout_of(rt, alloc, rows);
-    check_names(rt, alloc, &layout);
-    let copy = layout.copy().expect(rt, "memory");
-    check_names(rt, alloc, &copy);
-}
-
-/// The layout of the examples, its rows in order and in reverse, and a copy of each.
-#[test]
-fn in_any_order(rt: HostRuntime) {
-    let mut rows = rows(&rt, rt.alloc(), WAREHOUSE);
-    check_layout(&rt, rt.alloc(), &rows);
-    rows.reverse();
-    check_layout(&rt, rt.alloc(), &rows);
-}
-
-/// What the layout of the examples prints, in the order of names.
-const SHOWN: &str = concat!(
-    "Layout { nodes: {N1, N2, N3}, edges: {E12: EdgeEnds { start: N1, finish: N2 }, ",
-    "E21: EdgeEnds { start: N2, finish: N1 }, E23: EdgeEnds { start: N2, finish: N3 }, ",
-    "E32: EdgeEnds { start: N3, finish: N2 }}, stations: {A: StationSite { node: N1, capacity: 1 }, ",
-    "B: StationSite { node: N3, capacity: 1 }, C: StationSite { node: N3, capacity: 2 }} }",
-);
-
-#[test]
-fn shown_in_order(rt: HostRuntime) {
-    let mut rows = rows(&rt, rt.alloc(), WAREHOUSE);
-    rows.reverse();
-    let layout = layout_of(&rt, rt.alloc(), &rows);
-    check_debug(&rt, rt.alloc(), &layout, SHOWN, "the layout");
-}
-
-/// A node, an edge and a station of one name.
-const ONE_NAME: &str = "kind,id,from,to
-node,X,,
-node,Y,,
-edge,X,X,Y
-station,X,Y,999
+/// The warehouse as  with lines that end in LF, with a byte order mark and lines that end in CR LF, and with quotes
+/// and an empty line. Then no rows, rows that give no layout, and files that say none.
+const FILES: &str = "\
+kind,id,from,to|node,N1,,|node,N2,,|node,N3,,|edge,E12,N1,N2|edge,E21,N2,N1|edge,E23,N2,N3|edge,E32,N3,N2|station,A,N1,1|station,B,N3,1|station,C,N3,2| => Ok([Node { id: N1 }, Node { id: N2 }, Node { id: N3 }, Edge { id: E12, start: N1, finish: N2 }, Edge { id: E21, start: N2, finish: N1 }, Edge { id: E23, start: N2, finish: N3 }, Edge { id: E32, start: N3, finish: N2 }, Station { id: A, node: N1, capacity: 1 }, Station { id: B, node: N3, capacity: 1 }, Station { id: C, node: N3, capacity: 2 }])
+\u{feff}kind,id,from,to\r|node,N1,,\r|edge,E12,N1,N2\r|station,C,N3,2\r| => Ok([Node { id: N1 }, Edge { id: E12, start: N1, finish: N2 }, Station { id: C, node: N3, capacity: 2 }])
+\"kind\",id,from,to|\"node\",N1,,||node,\"N2\",\"\",|edge,E12,N1,N2|station,A,N1,001|station,B,N2,01|station,C,N2,\"2\" => Ok([Node { id: N1 }, Node { id: N2 }, Edge { id: E12, start: N1, finish: N2 }, Station { id: A, node: N1, capacity: 1 }, Station { id: B, node: N2, capacity: 1 }, Station { id: C, node: N2, capacity: 2 }])
+kind,id,from,to| => Ok([])
+kind,id,from,to|station,A,N1,000|node,N1,, => Ok([Station { id: A, node: N1, capacity: 0 }, Node { id: N1 }])
+ => Err(BadCsv)
+| => Err(BadCsv)
+node,N1,,| => Err(BadCsv)
+kind,id,from| => Err(BadCsv)
+kind,id,from,to,| => Err(BadCsv)
+Kind,id,from,to| => Err(BadCsv)
+kind,id, from,to| => Err(BadCsv)
+\u{feff}\u{feff}kind,id,from,to| => Err(BadCsv)
+kind,id,from,to|zone,Z1,,| => Err(BadCsv)
+kind,id,from,to|node,N1,,N2| => Err(BadCsv)
+kind,id,from,to|node,N1,N2,| => Err(BadCsv)
+kind,id,from,to|node,,,| => Err(BadCsv)
+kind,id,from,to|node,N 1,,| => Err(BadCsv)
+kind,id,from,to|node,N1,| => Err(BadCsv)
+kind,id,from,to|node,N1,,,| => Err(BadCsv)
+kind,id,from,to|edge,E12,N1,| => Err(BadCsv)
+kind,id,from,to|station,A,N1,1000| => Err(BadCsv)
+kind,id,from,to|station,A,N1,x| => Err(BadCsv)
+kind,id,from,to|station,A,N1,+1| => Err(BadCsv)
+kind,id,from,to|station,A,N1,| => Err(BadCsv)
+kind,id,from,to|station,A,,1| => Err(BadCsv)
+kind,id,from,to|node,N1,,|zone,Z1,,|node,N2,,| => Err(BadCsv)
 ";
 
 #[test]
-fn one_id_in_three_kinds(rt: HostRuntime) {
-    check_said(
+fn files(rt: HostRuntime) {
+    for line in FILES.lines() {
+        let (text, wanted) = row(&rt, line);
+        let file = lines(&rt, rt.alloc(), text);
+        let found = read_layout(rt.alloc(), file.as_bytes());
+        check_text(&rt, shown(&rt, rt.alloc(), &found).as_str(), wanted, text);
+    }
+    let found = read_layout(rt.alloc(), b"kind,id,from,to\nnode,N\xff,,\n");
+    check_text(
         &rt,
-        rt.alloc(),
-        &layout(&rt, rt.alloc(), ONE_NAME),
-        "X",
-        "(true, Some(Edge { id: X, start: X, finish: Y }), Some(Station { id: X, node: Y, capacity: 999 }))",
+        shown(&rt, rt.alloc(), &found).as_str(),
+        "Err(BadCsv)",
+        "no text",
     );
 }
 
-fn fault_of(alloc: Global, rows: &[LayoutRow]) -> Option<LayoutFault> {
-    Layout::of_rows(alloc, rows).err()
+/// Why a file gives no layout, if it gives none.
+fn fault(rt: &impl Abort, alloc: Global, file: &str) -> String {
+    let fault = Layout::of_rows(alloc, &rows(rt, alloc, file)).err();
+    shown(rt, alloc, &fault)
 }
 
-/// Why a layout file gives no layout if there are these lines after it.
-fn fault_with(rt: &impl Abort, alloc: Global, file: &str, more: &str) -> Option<LayoutFault> {
-    let all = format!(in alloc; "{file}{more}").expect(rt, "memory");
-    fault_of(alloc, &rows(rt, alloc, all.as_str()))
+/// Rows beside those of the warehouse.
+const FAULTS: &str = "\
+node,N2,,| => Some(Bad)
+edge,E12,N2,N3| => Some(Bad)
+station,A,N2,1| => Some(Bad)
+edge,E14,N1,N4| => Some(Bad)
+edge,E41,N4,N1| => Some(Bad)
+edge,E11,N1,N1| => Some(Bad)
+station,D,N4,1| => Some(Bad)
+station,D,N1,0| => Some(Bad)
+node,N4,,| => None
+edge,F,N1,N2| => None
+station,D,N1,999| => None
+";
+
+fn check_fault(rt: &impl Abort, alloc: Global, first: &str, more: &str, wanted: &str) {
+    let file = format!(in alloc; "{first}{more}").expect(rt, "memory");
+    check_text(rt, fault(rt, alloc, file.as_str()).as_str(), wanted, more);
 }
 
-fn check_faults(rt: &impl Abort, alloc: Global, file: &str, cases: &[(&str, Option<LayoutFault>)]) {
-    for (more, wanted) in cases {
-        check(rt, fault_with(rt, alloc, file, more) == *wanted, more);
+/// Of too many nodes the layout is refused before it is asked whether they repeat a name.
+#[test]
+fn faults(rt: HostRuntime) {
+    for line in FAULTS.lines() {
+        let (text, wanted) = row(&rt, line);
+        let more = lines(&rt, rt.alloc(), text);
+        check_fault(&rt, rt.alloc(), WAREHOUSE, more.as_str(), wanted);
+    }
+    let nodes = "node,N0,,\n".repeat(rt.alloc(), 500).expect(&rt, "memory");
+    let head = "kind,id,from,to\n";
+    check_fault(&rt, rt.alloc(), head, nodes.as_str(), "Some(Bad)");
+    let head = "kind,id,from,to\nnode,N1,,\n";
+    check_fault(&rt, rt.alloc(), head, nodes.as_str(), "Some(Limit)");
+}
+
+/// What the layout says of a name: whether it is a node, the edge and the station.
+fn said(rt: &impl Abort, alloc: Global, layout: &Layout, text: &str) -> String {
+    let id = name(rt, text);
+    let said = (layout.node(id), layout.edge(id), layout.station(id));
+    shown(rt, alloc, &said)
+}
+
+/// How many edges the way from one node to another has, and which.
+fn way(rt: &impl Abort, alloc: Global, layout: &Layout, from: Name, to: Name) -> String {
+    let hops = layout.hops(alloc, from, to).expect(rt, "memory");
+    let route = layout.route(alloc, from, to).expect(rt, "memory");
+    format!(in alloc; "{hops:?} {route:?}").expect(rt, "memory")
+}
+
+/// What a call answers.
+fn answer(rt: &impl Abort, alloc: Global, layout: &Layout, call: &str) -> String {
+    let first = word(rt, call, 1);
+    match word(rt, call, 0) {
+        "copy" => shown(rt, alloc, &layout.copy().expect(rt, "memory")),
+        "says" => said(rt, alloc, layout, first),
+        _ => way(
+            rt,
+            alloc,
+            layout,
+            name(rt, first),
+            name(rt, word(rt, call, 2)),
+        ),
     }
 }
 
-/// One row more than those of the examples.
-const ONE_MORE: [(&str, Option<LayoutFault>); 11] = [
-    ("node,N2,,\n", Some(LayoutFault::Bad)),
-    ("edge,E12,N2,N3\n", Some(LayoutFault::Bad)),
-    ("station,A,N2,1\n", Some(LayoutFault::Bad)),
-    ("edge,E14,N1,N4\n", Some(LayoutFault::Bad)),
-    ("edge,E41,N4,N1\n", Some(LayoutFault::Bad)),
-    ("edge,E11,N1,N1\n", Some(LayoutFault::Bad)),
-    ("station,D,N4,1\n", Some(LayoutFault::Bad)),
-    ("station,D,N1,0\n", Some(LayoutFault::Bad)),
-    ("node,N4,,\n", None),
-    ("edge,F,N1,N2\n", None),
-    ("station,D,N1,999\n", None),
-];
-
-const NO_ROWS: [(&str, Option<LayoutFault>); 1] = [("", Some(LayoutFault::Bad))];
-
-#[test]
-fn bad_rows(rt: HostRuntime) {
-    check_faults(&rt, rt.alloc(), "kind,id,from,to\n", &NO_ROWS);
-    check_faults(&rt, rt.alloc(), WAREHOUSE, &ONE_MORE);
-    // A layout file has no capacity of four digits.
-    let mut rows = rows(&rt, rt.alloc(), WAREHOUSE);
-    let id = name(&rt, "D");
-    let node = name(&rt, "N1");
-    let capacity = 1000;
-    let station = LayoutRow::Station { id, node, capacity };
-    rows.push(station).expect(&rt, "memory");
-    let fault = fault_of(rt.alloc(), &rows);
-    check(&rt, fault == Some(LayoutFault::Bad), "a capacity of 1000");
+fn check_answer(rt: &impl Abort, alloc: Global, layout: &Layout, call: &str, wanted: &str) {
+    let found = answer(rt, alloc, layout, call);
+    check_text(rt, found.as_str(), wanted, call);
 }
 
-/// Rows beside 500 nodes. `Limit` goes before `Bad`: the last of these repeats an id.
-const TOO_MANY: [(&str, Option<LayoutFault>); 3] = [
-    ("", None),
-    ("node,N500,,\n", Some(LayoutFault::Limit)),
-    ("node,N0,,\n", Some(LayoutFault::Limit)),
-];
+/// The warehouse copied, what it says of names, and ways there.
+const SAID: &str = "\
+copy - => Layout { nodes: {N1, N2, N3}, edges: {E12: EdgeEnds { start: N1, finish: N2 }, E21: EdgeEnds { start: N2, finish: N1 }, E23: EdgeEnds { start: N2, finish: N3 }, E32: EdgeEnds { start: N3, finish: N2 }}, stations: {A: StationSite { node: N1, capacity: 1 }, B: StationSite { node: N3, capacity: 1 }, C: StationSite { node: N3, capacity: 2 }} }
+says N1 => (true, None, None)
+says N3 => (true, None, None)
+says E12 => (false, Some(Edge { id: E12, start: N1, finish: N2 }), None)
+says E32 => (false, Some(Edge { id: E32, start: N3, finish: N2 }), None)
+says A => (false, None, Some(Station { id: A, node: N1, capacity: 1 }))
+says C => (false, None, Some(Station { id: C, node: N3, capacity: 2 }))
+says N4 => (false, None, None)
+says n1 => (false, None, None)
+way N1 N3 => Some(2) Some([E12, E23])
+way N2 N2 => Some(0) Some([])
+way N1 N9 => None None
+way N9 N1 => None None
+";
+
+/// Layouts in the order of names, whatever the order of their rows, and a name in each kind; and ways: where the first edge
+/// decides, by one of two edges side by side, and against an edge of one way.
+const LAYOUTS: &str = "\
+copy -:kind,id,from,to|station,C,N3,2|station,A,N1,1|edge,E23,N2,N3|edge,E12,N1,N2|node,N3,,|node,N2,,|node,N1,,| => Layout { nodes: {N1, N2, N3}, edges: {E12: EdgeEnds { start: N1, finish: N2 }, E23: EdgeEnds { start: N2, finish: N3 }}, stations: {A: StationSite { node: N1, capacity: 1 }, C: StationSite { node: N3, capacity: 2 }} }
+copy -:kind,id,from,to|node,X,,|node,Y,,|edge,X,X,Y|station,X,Y,999| => Layout { nodes: {X, Y}, edges: {X: EdgeEnds { start: X, finish: Y }}, stations: {X: StationSite { node: Y, capacity: 999 }} }
+way P S:kind,id,from,to|node,P,,|node,Q,,|node,R,,|node,S,,|edge,a1,P,Q|edge,a2,P,R|edge,b1,Q,S|edge,b0,R,S| => Some(2) Some([a1, b1])
+way P Q:kind,id,from,to|node,P,,|node,Q,,|edge,x2,P,Q|edge,x1,P,Q| => Some(1) Some([x1])
+way Q P:kind,id,from,to|node,P,,|node,Q,,|edge,a1,P,Q| => None None
+";
 
 #[test]
-fn too_many_rows(rt: HostRuntime) {
-    let mut file = String::from_str(rt.alloc(), "kind,id,from,to\n").expect(&rt, "memory");
-    for k in 0..500 {
-        write!(file, "node,N{k},,\n").expect(&rt, "memory");
+fn layouts(rt: HostRuntime) {
+    let warehouse = layout(&rt, rt.alloc(), WAREHOUSE);
+    for line in SAID.lines() {
+        let (call, wanted) = row(&rt, line);
+        check_answer(&rt, rt.alloc(), &warehouse, call, wanted);
     }
-    check_faults(&rt, rt.alloc(), file.as_str(), &TOO_MANY);
+}
+
+fn check_layout(rt: &impl Abort, alloc: Global, line: &str) {
+    let (question, wanted) = row(rt, line);
+    let (call, text) = parts(rt, question, ":");
+    let file = lines(rt, alloc, text);
+    let layout = layout(rt, alloc, file.as_str());
+    check_answer(rt, alloc, &layout, call, wanted);
+}
+
+#[test]
+fn other_layouts(rt: HostRuntime) {
+    for line in LAYOUTS.lines() {
+        check_layout(&rt, rt.alloc(), line);
+    }
 }

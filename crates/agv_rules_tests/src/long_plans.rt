@@ -1,140 +1,120 @@
-//! Plans of trips on long ways: at most 200 edges are taken.
+//! Plans of trips on long ways: at most 200 edges are taken. The longest trip, its message, and the 401 things that its
+//! vehicle holds.
 
-use crate::cases::{check, check_debug, name};
-use crate::layouts::layout_of;
-use crate::plans::{J1, JobCase, ONE_JOB, StopCase, act_texts, plan};
-use crate::routes::{add_node, numbered, path_rows};
-use agv_header::Name;
-use agv_layout::{Edge, Layout, LayoutRow};
-use agv_message::ActKind;
-use agv_order::PlanFault;
+use crate::cases::{check, check_text, kit, number, row, shown, word};
+use crate::layouts::layout;
+use crate::messages::header;
+use crate::plans::plan;
+use crate::routes::path_file;
+use crate::trips::{held, message};
+use agv_header::{Thing, VehicleKey};
+use agv_layout::Layout;
+use agv_message::order_text;
+use agv_order::{PlanFault, Trip};
+use agv_track::HoldTable;
 use std::alloc::Global;
 use std::process::Abort;
 
-fn add_station(rt: &impl Abort, rows: &mut Vec<LayoutRow>, id: &str, node: Name) {
-    let id = name(rt, id);
-    let capacity = 1;
-    rows.push(LayoutRow::Station { id, node, capacity })
-        .expect(rt, "memory");
-}
-
-/// A path of so many edges, there and back, with A at its start and B at its end; and C at a node
-/// apart.
+/// A path of so many edges, there and back, with A at its start and B at its end; and C at a node apart.
 fn path_layout(rt: &impl Abort, alloc: Global, path: u32) -> Layout {
-    let mut rows = path_rows(rt, alloc, path);
-    let apart = name(rt, "Q");
-    add_node(rt, &mut rows, apart);
-    add_station(rt, &mut rows, "A", numbered(rt, alloc, 'P', 0));
-    add_station(rt, &mut rows, "B", numbered(rt, alloc, 'P', path));
-    add_station(rt, &mut rows, "C", apart);
-    layout_of(rt, alloc, &rows)
+    let mut file = path_file(rt, alloc, path);
+    let more = "node,Q,,\nstation,A,P000,1\nstation,C,Q,1\n";
+    write!(file, "{more}station,B,P{path:03},1\n").expect(rt, "memory");
+    layout(rt, alloc, file.as_str())
 }
 
-/// The edges of least name from the start of such a path to its end.
-fn path_edges(rt: &impl Abort, alloc: Global, path: u32) -> Vec<Edge> {
-    let mut edges = Vec::new(alloc);
-    for k in 0..path {
-        let edge = Edge {
-            id: numbered(rt, alloc, 'F', k),
-            start: numbered(rt, alloc, 'P', k),
-            finish: numbered(rt, alloc, 'P', k + 1),
-        };
-        edges.push(edge).expect(rt, "memory");
-    }
-    edges
-}
-
-/// The acts of the trip along a path of so many edges.
-fn path_acts(rt: &impl Abort, alloc: Global, path: u32) -> String {
-    format!(in alloc; "[(Pick, J1, L1, A, 0), (Drop, J1, L1, B, {path})]").expect(rt, "memory")
-}
-
-/// Compares the trip along a path of so many edges, with a pick at its start and a drop at its end.
-fn check_path(rt: &impl Abort, alloc: Global, path: u32) {
+/// The trip along a path of so many edges, with so many of them released.
+fn path_trip(rt: &impl Abort, alloc: Global, path: u32, edges: u32) -> Trip {
     let layout = path_layout(rt, alloc, path);
-    let start = numbered(rt, alloc, 'P', 0);
-    let trip = plan(rt, alloc, &layout, &ONE_JOB, &J1, start, path).expect(rt, "a trip");
-    let edges = path_edges(rt, alloc, path);
-    check(rt, trip.edges.as_slice() == edges.as_slice(), "the path");
-    check(rt, trip.base == path, "all is released");
-    let acts = act_texts(rt, alloc, trip.acts.as_slice());
-    check_debug(
-        rt,
-        alloc,
-        &acts,
-        path_acts(rt, alloc, path).as_str(),
-        "the path",
-    );
+    let call = format!(in alloc; "plan P000 {edges} J1:L1:A:B pick:J1,drop:J1");
+    plan(rt, alloc, &layout, call.expect(rt, "memory").as_str()).expect(rt, "a trip")
+}
+
+/// How many bytes, and their FNV-1a of 64 bits.
+fn digest(bytes: &[u8]) -> (usize, u64) {
+    let mut hash: u64 = 0xcbf2_9ce4_8422_2325;
+    for byte in bytes {
+        hash = (hash ^ u64::from(*byte)).wrapping_mul(0x0100_0000_01b3);
+    }
+    (bytes.len(), hash)
+}
+
+/// Compares the message of a trip with the digest of what another program writes of it: Python's `json.dumps` with sorted
+/// members and no blanks.
+fn check_digest(rt: &impl Abort, alloc: Global, trip: &Trip, wanted: &str) {
+    let order = message(rt, alloc, trip);
+    let text = order_text(alloc, &header(rt, 1), &order).expect(rt, "memory");
+    let found = shown(rt, alloc, &digest(&text));
+    check_text(rt, found.as_str(), wanted, "the message");
 }
 
 #[test]
 fn takes_200_edges(rt: HostRuntime) {
-    check_path(&rt, rt.alloc(), 200);
+    let trip = path_trip(&rt, rt.alloc(), 200, 77);
+    check_digest(&rt, rt.alloc(), &trip, "(34406, 1801904630059447310)");
 }
 
 #[test]
 fn takes_100_edges(rt: HostRuntime) {
-    check_path(&rt, rt.alloc(), 100);
+    let trip = path_trip(&rt, rt.alloc(), 100, 100);
+    check_digest(&rt, rt.alloc(), &trip, "(17360, 11826832062027732926)");
 }
 
-/// There, to a node apart, and there and back.
-const LONG_JOBS: [JobCase; 3] = [
-    ("J1", "L1", "A", "B"),
-    ("J2", "L2", "A", "C"),
-    ("J3", "L3", "B", "A"),
-];
+/// Of the jobs one leads there, one to a node apart, and one there and back. A call says how long the path is, and then as in
+/// `plans`. `NoWalk` goes before `TooLong`, and that before `Beyond`; no part of a way is too long, but the whole may be.
+const FAULTS: &str = "\
+200 P000 200 J1:L1:A:B pick:J1,drop:J1 => None
+200 P000 201 J1:L1:A:B pick:J1,drop:J1 => Some(Beyond)
+201 P000 0 J1:L1:A:B pick:J1,drop:J1 => Some(TooLong)
+201 P000 201 J1:L1:A:B pick:J1,drop:J1 => Some(TooLong)
+201 P000 202 J1:L1:A:B pick:J1,drop:J1 => Some(TooLong)
+100 P000 300 J1:L1:A:B,J2:L2:A:C pick:J1,drop:J1,pick:J2,drop:J2 => Some(NoWalk)
+201 P000 900 J1:L1:A:B,J2:L2:A:C pick:J1,drop:J1,pick:J2,drop:J2 => Some(NoWalk)
+100 P000 200 J3:L3:B:A pick:J3,drop:J3 => None
+100 P000 201 J3:L3:B:A pick:J3,drop:J3 => Some(Beyond)
+101 P000 0 J3:L3:B:A pick:J3,drop:J3 => Some(TooLong)
+";
 
-const J1_J2: [StopCase; 4] = [
-    (ActKind::Pick, "J1"),
-    (ActKind::Drop, "J1"),
-    (ActKind::Pick, "J2"),
-    (ActKind::Drop, "J2"),
-];
-
-const J3: [StopCase; 2] = [(ActKind::Pick, "J3"), (ActKind::Drop, "J3")];
-
-/// How long the path is, how many edges are released, and the fault.
-type LongCase = (u32, u32, Option<PlanFault>);
-
-fn check_fault(rt: &impl Abort, alloc: Global, stops: &[StopCase], case: &LongCase) {
-    let (path, edges, wanted) = case;
-    let layout = path_layout(rt, alloc, *path);
-    let start = numbered(rt, alloc, 'P', 0);
-    let fault = plan(rt, alloc, &layout, &LONG_JOBS, stops, start, *edges).err();
-    check(rt, fault == *wanted, "a long way");
+fn fault(rt: &impl Abort, alloc: Global, call: &str) -> Option<PlanFault> {
+    let layout = path_layout(rt, alloc, number(rt, word(rt, call, 0)));
+    plan(rt, alloc, &layout, call).err()
 }
-
-fn check_faults(rt: &impl Abort, alloc: Global, stops: &[StopCase], cases: &[LongCase]) {
-    for case in cases {
-        check_fault(rt, alloc, stops, case);
-    }
-}
-
-/// `TooLong` goes before `Beyond`.
-const THERE: [LongCase; 5] = [
-    (200, 200, None),
-    (200, 201, Some(PlanFault::Beyond)),
-    (201, 0, Some(PlanFault::TooLong)),
-    (201, 201, Some(PlanFault::TooLong)),
-    (201, 202, Some(PlanFault::TooLong)),
-];
-
-/// `NoWalk` goes before both.
-const APART: [LongCase; 2] = [
-    (100, 300, Some(PlanFault::NoWalk)),
-    (201, 900, Some(PlanFault::NoWalk)),
-];
-
-/// No part of the way is too long, but the whole may be.
-const THERE_AND_BACK: [LongCase; 3] = [
-    (100, 200, None),
-    (100, 201, Some(PlanFault::Beyond)),
-    (101, 0, Some(PlanFault::TooLong)),
-];
 
 #[test]
 fn refuses_a_long_way(rt: HostRuntime) {
-    check_faults(&rt, rt.alloc(), &J1, &THERE);
-    check_faults(&rt, rt.alloc(), &J1_J2, &APART);
-    check_faults(&rt, rt.alloc(), &J3, &THERE_AND_BACK);
+    for line in FAULTS.lines() {
+        let (call, wanted) = row(&rt, line);
+        let found = shown(&rt, rt.alloc(), &fault(&rt, rt.alloc(), call));
+        check_text(&rt, found.as_str(), wanted, call);
+    }
+}
+
+/// Whether this is the holder of each of the things.
+fn all_have(table: &HoldTable, things: &[Thing], by: &Option<VehicleKey>) -> bool {
+    for thing in things {
+        if table.holder(thing) != *by {
+            return false;
+        }
+    }
+    true
+}
+
+/// The footprint of a vehicle that has 200 edges before it.
+#[test]
+fn the_longest_footprint(rt: HostRuntime) {
+    let trip = path_trip(&rt, rt.alloc(), 200, 200);
+    let things = held(&rt, rt.alloc(), &trip);
+    check(&rt, things.len() == 401, "401 things");
+    let one = Some(kit(&rt, "0001"));
+    let mut table = HoldTable::new(rt.alloc());
+    let first = table.claim(kit(&rt, "0001"), &things);
+    check(&rt, first == Ok(()), "all given");
+    check(&rt, all_have(&table, &things, &one), "all held");
+    let second = shown(&rt, rt.alloc(), &table.claim(kit(&rt, "0002"), &things));
+    let wanted =
+        "Err(Held { what: Node(P000), by: VehicleKey { manufacturer: KIT, serial: 0001 } })";
+    check_text(&rt, second.as_str(), wanted, "another's");
+    check(&rt, all_have(&table, &things, &one), "still held");
+    table.shed(kit(&rt, "0001"), &things, &[]);
+    check(&rt, all_have(&table, &things, &None), "free again");
 }

@@ -4,7 +4,7 @@ use crate::cases::moment;
 use crate::desks::{made, no_tables, unreached};
 use crate::memory::MOMENT;
 use crate::streams::{Exchange, Stream, check_stream, check_streams};
-use agv_face::{Ended, StreamSummary};
+use agv_face::{Ended, Served};
 use agv_header::Refusal;
 use sqlite::{Alter, Connection};
 use std::alloc::Global;
@@ -267,7 +267,7 @@ const DONE_AND_BAD_HEAD: &str = concat!(
 );
 
 /// What is written where so many bytes come, how many answers that is, and how the stream ends.
-fn cut_at(n: usize) -> (&'static str, StreamSummary) {
+fn cut_at(n: usize) -> (&'static str, Served) {
     let refused = Ended::Refused(Refusal::BadHead);
     let (answers, count, ended) = if n == 0 {
         ("", 0, Ended::End)
@@ -280,7 +280,7 @@ fn cut_at(n: usize) -> (&'static str, StreamSummary) {
     } else {
         (DONE_TWICE, 2, Ended::End)
     };
-    let end = StreamSummary {
+    let end = Served {
         answers: count,
         ended,
     };

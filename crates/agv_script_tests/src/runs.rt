@@ -11,7 +11,7 @@ use crate::scripts::trips::DELIVERED;
 use crate::steps::{Step, steps_of};
 use crate::tables::{told_text, world_text};
 use agv_desk::{Answer, Call};
-use agv_face::{Ended, StreamSummary, serve_stream};
+use agv_face::{Ended, Served, serve_stream};
 use agv_header::{Moment, Refusal};
 use agv_http::{Routes, answer_bytes};
 use agv_reports::names_report;
@@ -244,7 +244,7 @@ fn check_refused<S: Alter + Drop>(rt: &impl Abort, alloc: Global, desk: &mut Des
     let mut writer = Trickle::counting(alloc, 4096);
     let at = moment(rt, MOMENT);
     let served = serve_stream(alloc, desk, at, &mut reader, &mut writer);
-    let end = Ok(StreamSummary {
+    let end = Ok(Served {
         answers: 1,
         ended: Ended::Refused(Refusal::Storage),
     });

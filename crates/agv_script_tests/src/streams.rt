@@ -5,7 +5,7 @@ use crate::desks::{made, no_tables, unreached};
 use crate::fakes::{Drip, Trickle};
 use crate::memory::MOMENT;
 use crate::steps::Step;
-use agv_face::{Ended, StreamSummary, serve_stream};
+use agv_face::{Ended, Served, serve_stream};
 use agv_header::Moment;
 use agv_store::Desk;
 use sqlite::{Alter, Connection};
@@ -25,7 +25,7 @@ pub(crate) struct Exchange<'s> {
     pub(crate) pace: Pace,
     pub(crate) input: &'s str,
     pub(crate) answers: &'s str,
-    pub(crate) end: StreamSummary,
+    pub(crate) end: Served,
 }
 
 /// Serves a stream, and compares how it ends and what is written.
@@ -77,7 +77,7 @@ impl Part {
             pace,
             input: self.input.as_str(),
             answers: self.answers.as_str(),
-            end: StreamSummary {
+            end: Served {
                 answers: self.count,
                 ended: Ended::End,
             },
@@ -151,7 +151,7 @@ fn streams_at<S: Alter + Drop>(
             pace,
             input,
             answers,
-            end: StreamSummary {
+            end: Served {
                 answers: *count,
                 ended: *ended,
             },

@@ -1,8 +1,8 @@
 //! The desk's tables: their rows as text, and the world that is read of them.
 
 use crate::cases::check;
-use agv_tables::readings::world_reading::read_world;
 use agv_world::World;
+use agv_world_reading::world_reading::read_world;
 use sqlite::types::ValueRef;
 use sqlite::{Alter, Connection, Row};
 use std::alloc::Global;

@@ -15,13 +15,13 @@ use Rattle.agv_world.specs.declared.fault.Fault.TheVariants as machine
 use Rattle.agv_world.proofs.lists.Asking.{answers, fault_after, faults, retold, stays, still_here}
 use Rattle.agv_store.specs.KeptVehicles.{AreVehicles, VehiclesOf}
 use Rattle.agv_store.specs.KeptTrips.{AreTrips, TripsOf}
-use Rattle.agv_tables.specs.queries.WorldAnswers.{AgreesWith, HasWorld, AnswersQuery}
-use Rattle.agv_tables.specs.readings.WorldIn.{world_in}
-use Rattle.agv_tables.specs.rows.DeskRows.{Placing}
-use Rattle.agv_tables.specs.sql.Connections.{IsClean, IsOpen}
-use Rattle.agv_tables.specs.declared.queries.reading_fault.ReadingFault.{ReadingFault}
-use Rattle.agv_tables.specs.declared.queries.reading_fault.ReadingFault.TheVariants as fault
-use Rattle.agv_tables.proofs.sql.Later.{later_by}
+use Rattle.agv_row_reading.specs.WorldAnswers.{AgreesWith, HasWorld, AnswersQuery}
+use Rattle.agv_world_reading.specs.WorldIn.{world_in}
+use Rattle.agv_schema.specs.DeskRows.{Placing}
+use Rattle.agv_schema.specs.Connections.{IsClean, IsOpen}
+use Rattle.agv_row_reading.specs.declared.reading_fault.ReadingFault.{ReadingFault}
+use Rattle.agv_row_reading.specs.declared.reading_fault.ReadingFault.TheVariants as fault
+use Rattle.agv_schema.proofs.Later.{later_by}
 use Rattle.agv_store.specs.Flags.{doubted_by, failed_by, noted}
 use Rattle.agv_store.specs.Floors.{IsAsked, IsKept, Keyed, Knows, facts_of, world_at}
 use Rattle.agv_store.specs.KeptRooms.{AreLeft, RoomsLeft}

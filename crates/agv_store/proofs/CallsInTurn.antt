@@ -13,12 +13,12 @@ use Rattle.agv_desk.specs.Outcomes.{answer_of}
 use Rattle.agv_desk.specs.Step.{answers, step, steps}
 use Rattle.agv_desk.specs.declared.answer.Answer.{Answer}
 use Rattle.agv_desk.specs.declared.call.Call.{Call}
-use Rattle.agv_tables.specs.readings.WorldIn.{world_in}
-use Rattle.agv_tables.specs.rows.DeskRows.{IsDesk, KeepsOthers, Placing}
-use Rattle.agv_tables.specs.schema.NewDesk.{TreesTellSchemas}
-use Rattle.agv_tables.specs.schema.SchemaNumbers.{desk_seats}
-use Rattle.agv_tables.specs.sql.Connections.{IsClean, IsOpen}
-use Rattle.agv_tables.proofs.sql.Later.{later_by}
+use Rattle.agv_world_reading.specs.WorldIn.{world_in}
+use Rattle.agv_schema.specs.DeskRows.{IsDesk, KeepsOthers, Placing}
+use Rattle.agv_creation.specs.NewDesk.{TreesTellSchemas}
+use Rattle.agv_schema.specs.SchemaNumbers.{desk_seats}
+use Rattle.agv_schema.specs.Connections.{IsClean, IsOpen}
+use Rattle.agv_schema.proofs.Later.{later_by}
 use Rattle.agv_store.specs.Floors.{Keyed, Knows, world_at}
 use Rattle.agv_store.specs.Running.{IsRun, LeavesLast, world_till}
 use Rattle.agv_store.specs.Serving.{FoundIn, IsServedBy, LeavesAll, LeavesCall, world_after}

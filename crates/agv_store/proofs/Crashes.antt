@@ -7,9 +7,10 @@ use Rattle.sqlite.specs.Held.{Held, state}
 use Rattle.sqlite.specs.State.{Survives}
 use Rattle.agv_world.specs.Worlds.{World, empty_world}
 use Rattle.agv_desk.specs.declared.call.Call.{Call}
-use Rattle.agv_tables.specs.schema.DeskTables.{LeavesDesk}
-use Rattle.agv_tables.specs.schema.NewDesk.{KnowsNothing, MadeDesksStand, StandsNew, TreesTellSchemas}
-use Rattle.agv_tables.specs.sql.Connections.{IsClean, IsOpen}
+use Rattle.agv_creation.specs.DeskTables.{LeavesDesk}
+use Rattle.agv_world_reading.specs.NewWorld.{KnowsNothing}
+use Rattle.agv_creation.specs.NewDesk.{MadeDesksStand, StandsNew, TreesTellSchemas}
+use Rattle.agv_schema.specs.Connections.{IsClean, IsOpen}
 use Rattle.agv_store.specs.Floors.{Knows, world_at}
 use Rattle.agv_store.specs.Migration.{FirstFound, LeavesMigrated}
 use Rattle.agv_store.specs.Opening.{CanBeMade}

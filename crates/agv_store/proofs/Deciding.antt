@@ -17,7 +17,7 @@ use Rattle.agv_desk.specs.Step.{step}
 use Rattle.agv_desk.specs.WellTyped.{IsSeats, IsWellTyped}
 use Rattle.agv_desk.specs.declared.answer.Decision.{Decision}
 use Rattle.agv_desk.specs.declared.call.Call.{Call}
-use Rattle.agv_tables.specs.schema.SchemaNumbers.{desk_seats}
+use Rattle.agv_schema.specs.SchemaNumbers.{desk_seats}
 use Rattle.agv_store.specs.Flags.{EndsAs}
 use Rattle.agv_store.specs.Floors.{Keyed, facts_of, world_at}
 use Rattle.agv_store.specs.Serving.{Decides, outcome_in, world_after}

@@ -20,19 +20,19 @@ use Rattle.agv_world.specs.declared.floor.Counted.{Counted}
 use Rattle.agv_world.specs.declared.world.World.{World as Tables}
 use Rattle.agv_store.specs.KeptVehicles.{AreVehicles, VehiclesOf}
 use Rattle.agv_store.specs.KeptTrips.{AreTrips, TripsOf}
-use Rattle.agv_tables.specs.queries.WorldAnswers.{AgreesWith, HasNoWorld, HasWorld, AnswersQuery}
-use Rattle.agv_tables.specs.readings.Rowids.{AreTablesKeyed, TellsKeyed}
-use Rattle.agv_tables.specs.readings.TablesRead.{HaveAll, TellsAll}
-use Rattle.agv_tables.specs.readings.WorldIn.{world_in}
-use Rattle.agv_tables.specs.rows.DeskRows.{AreKeyed, HaveRows, Holds, Placing, columns_in, table_names, width_of}
-use Rattle.agv_tables.specs.rows.RowLists.{HoldsWorld}
-use Rattle.agv_tables.specs.schema.SchemaNumbers.{desk_seats}
-use Rattle.agv_tables.specs.schema.StandingTables.{TablesStand}
-use Rattle.agv_tables.specs.sql.Connections.{IsClean, IsOpen}
-use Rattle.agv_tables.specs.declared.queries.reading_fault.ReadingFault.{ReadingFault}
-use Rattle.agv_tables.specs.declared.queries.reading_fault.ReadingFault.TheVariants as reading
-use Rattle.agv_tables.specs.declared.readings.held_things.HeldThings.{HeldThings}
-use Rattle.agv_tables.specs.declared.schema.table_name.TableName.{TableName}
+use Rattle.agv_row_reading.specs.WorldAnswers.{AgreesWith, HasNoWorld, HasWorld, AnswersQuery}
+use Rattle.agv_rowids.specs.Rowids.{AreTablesKeyed, TellsKeyed}
+use Rattle.agv_row_reading.specs.TablesRead.{HaveAll, TellsAll}
+use Rattle.agv_world_reading.specs.WorldIn.{world_in}
+use Rattle.agv_schema.specs.DeskRows.{AreKeyed, HaveRows, Holds, Placing, columns_in, table_names, width_of}
+use Rattle.agv_rows.specs.RowLists.{HoldsWorld}
+use Rattle.agv_schema.specs.SchemaNumbers.{desk_seats}
+use Rattle.agv_creation.specs.StandingTables.{TablesStand}
+use Rattle.agv_schema.specs.Connections.{IsClean, IsOpen}
+use Rattle.agv_row_reading.specs.declared.reading_fault.ReadingFault.{ReadingFault}
+use Rattle.agv_row_reading.specs.declared.reading_fault.ReadingFault.TheVariants as reading
+use Rattle.agv_row_reading.specs.declared.held_things.HeldThings.{HeldThings}
+use Rattle.agv_schema.specs.declared.table_name.TableName.{TableName}
 use Rattle.agv_store.specs.Counts.{count_in}
 use Rattle.agv_store.specs.Floors.{IsAsked, IsKept, Knows, world_at}
 use Rattle.agv_store.specs.KeptRooms.{AreLeft, RoomsLeft}

@@ -17,8 +17,8 @@ use Rattle.agv_world.specs.declared.change.Change.{Change}
 use Rattle.agv_world.specs.declared.change.Change.TheVariants as row
 use Rattle.agv_store.specs.KeptVehicles.{VehiclesOf}
 use Rattle.agv_store.specs.KeptTrips.{TripsOf}
-use Rattle.agv_tables.specs.queries.WorldAnswers.{AgreesWith}
-use Rattle.agv_tables.specs.sql.Connections.{IsClean, IsOpen}
+use Rattle.agv_row_reading.specs.WorldAnswers.{AgreesWith}
+use Rattle.agv_schema.specs.Connections.{IsClean, IsOpen}
 use Rattle.agv_store.specs.Floors.{IsKept, world_at}
 use Rattle.agv_store.specs.declared.counts.Counts.{Counts}
 use Rattle.agv_store.specs.KeptLayouts.{is_of_layout, kept_through}

@@ -31,7 +31,7 @@ use Rattle.agv_desk.proofs.lists.SameNames.{same_name}
 use Rattle.agv_desk.proofs.lists.Writes.{is_written, one_if, tally, tally-written}
 use Rattle.agv_store.specs.KeptVehicles.{VehiclesOf}
 use Rattle.agv_store.specs.KeptTrips.{TripsOf}
-use Rattle.agv_tables.specs.sql.Connections.{IsClean, IsOpen}
+use Rattle.agv_schema.specs.Connections.{IsClean, IsOpen}
 use Rattle.agv_store.specs.Floors.{IsKept, world_at}
 use Rattle.agv_store.specs.KeptLayouts.{is_of_layout}
 use Rattle.agv_store.specs.KeptRooms.{AreLeft, IsLowered, IsRoomLeft, RoomsLeft, takes_room_at}

@@ -30,9 +30,9 @@ use Rattle.agv_world.proofs.lists.Orders.{names_apart, names_total}
 use Rattle.agv_store.specs.KeptVehicles.{VehiclesOf}
 use Rattle.agv_store.specs.KeptTrips.{AreAtRest, AreOpen, AreTrips, AtRest, HasNone, IsTripOf, OpenTrips, TripsOf, with_row}
 use Rattle.agv_store.proofs.KeptMaps.{one_more_entry, same_entries}
-use Rattle.agv_tables.specs.rows.DecodedTrips.{HasTripRows, tables_of}
-use Rattle.agv_tables.specs.sql.Connections.{IsClean, IsOpen}
-use Rattle.agv_tables.proofs.sql.MapEntries.{entries-remove}
+use Rattle.agv_rows.specs.DecodedTrips.{HasTripRows, tables_of}
+use Rattle.agv_schema.specs.Connections.{IsClean, IsOpen}
+use Rattle.agv_schema.proofs.MapEntries.{entries-remove}
 use Rattle.agv_store.specs.Floors.{IsKept, world_at}
 use Rattle.agv_store.specs.KeptLayouts.{is_of_layout}
 use Rattle.agv_store.specs.KeptRooms.{RoomsLeft}

@@ -14,7 +14,7 @@ use Rattle.agv_world.specs.Rows.{Rows, rows_of}
 use Rattle.agv_world.specs.declared.change.Change.TheVariants as row
 use Rattle.agv_world.specs.declared.row.VehicleRow.{VehicleRow}
 use Rattle.agv_store.specs.KeptTrips.{TripsOf}
-use Rattle.agv_tables.specs.sql.Connections.{IsClean, IsOpen}
+use Rattle.agv_schema.specs.Connections.{IsClean, IsOpen}
 use Rattle.agv_store.specs.Floors.{IsKept, world_at}
 use Rattle.agv_store.specs.KeptRooms.{RoomsLeft}
 use Rattle.agv_store.specs.KeptVehicles.{AreVehicles, VehiclesOf}

@@ -16,16 +16,16 @@ use Rattle.agv_world.specs.Told.{world_of}
 use Rattle.agv_world.specs.Worlds.{World}
 use Rattle.agv_world.specs.declared.floor.Counted.{Counted}
 use Rattle.agv_world.specs.declared.world.World.{World as Tables}
-use Rattle.agv_tables.specs.first_schema.FirstFound.{FindsFirst}
-use Rattle.agv_tables.specs.first_schema.Moved.{CanBeAdded, LeavesMoved, MovesTables, MovesWorld}
-use Rattle.agv_tables.proofs.sql.Later.{later_by}
+use Rattle.agv_first_schema.specs.FirstFound.{FindsFirst}
+use Rattle.agv_first_schema.specs.Moved.{CanBeAdded, LeavesMoved, MovesTables, MovesWorld}
+use Rattle.agv_schema.proofs.Later.{later_by}
 use Rattle.agv_store.specs.KeptVehicles.{AreVehicles, VehiclesOf}
 use Rattle.agv_store.specs.KeptTrips.{AreTrips, TripsOf}
-use Rattle.agv_tables.specs.queries.WorldAnswers.{AgreesWith}
-use Rattle.agv_tables.specs.sql.Connections.{IsClean, IsOpen}
-use Rattle.agv_tables.specs.declared.queries.reading_fault.ReadingFault.{ReadingFault}
-use Rattle.agv_tables.specs.declared.schema.making_fault.MakingFault.{MakingFault}
-use Rattle.agv_tables.specs.declared.schema.making_fault.MakingFault.TheVariants as making
+use Rattle.agv_row_reading.specs.WorldAnswers.{AgreesWith}
+use Rattle.agv_schema.specs.Connections.{IsClean, IsOpen}
+use Rattle.agv_row_reading.specs.declared.reading_fault.ReadingFault.{ReadingFault}
+use Rattle.agv_creation.specs.declared.making_fault.MakingFault.{MakingFault}
+use Rattle.agv_creation.specs.declared.making_fault.MakingFault.TheVariants as making
 use Rattle.agv_store.specs.Counts.{count_in}
 use Rattle.agv_store.specs.Floors.{IsAsked, IsKept, Knows, world_at}
 use Rattle.agv_store.specs.KeptRooms.{AreLeft, RoomsLeft}

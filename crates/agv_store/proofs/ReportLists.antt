@@ -33,8 +33,8 @@ use Rattle.agv_world.specs.Worlds.{Vehicle, World, empty_layout}
 use Rattle.agv_world.specs.declared.row.JobRow.{JobRow}
 use Rattle.agv_world.specs.declared.row.VehicleRow.{VehicleRow}
 use Rattle.agv_reports.specs.Reports.{station_named}
-use Rattle.agv_tables.specs.readings.HeldThings.{HasEach, are_entries}
-use Rattle.agv_tables.specs.schema.SchemaNumbers.{desk_seats}
+use Rattle.agv_row_reading.specs.HeldThings.{HasEach, are_entries}
+use Rattle.agv_schema.specs.SchemaNumbers.{desk_seats}
 use Rattle.agv_store.specs.ReportLists.{entered}
 
 -- ---- lists in order

@@ -19,18 +19,18 @@ use Rattle.agv_desk.specs.Outcomes.{Outcome, Made, Refused, after, answer_of, de
 use Rattle.agv_desk.specs.Step.{step}
 use Rattle.agv_desk.specs.declared.answer.Decision.{Decision}
 use Rattle.agv_desk.specs.declared.call.Call.{Call}
-use Rattle.agv_tables.specs.changes.ChangesMade.{ChangesWorlds, LeavesChanges, MakesChanges}
+use Rattle.agv_changes.specs.ChangesMade.{ChangesWorlds, LeavesChanges, MakesChanges}
 use Rattle.agv_store.specs.KeptVehicles.{AreVehicles, VehiclesOf}
 use Rattle.agv_store.specs.KeptTrips.{AreTrips, TripsOf}
-use Rattle.agv_tables.specs.queries.WorldAnswers.{AgreesWith, HasWorld}
-use Rattle.agv_tables.specs.readings.WorldIn.{world_in}
-use Rattle.agv_tables.specs.rows.DeskRows.{Holds, KeepsOthers, Placing}
-use Rattle.agv_tables.specs.rows.RowLists.{row_lists}
-use Rattle.agv_tables.specs.schema.SchemaNumbers.{desk_seats}
-use Rattle.agv_tables.specs.sql.Connections.{IsClean, IsOpen}
-use Rattle.agv_tables.specs.declared.changes.write_fault.WriteFault.{WriteFault}
-use Rattle.agv_tables.specs.declared.changes.write_fault.WriteFault.TheVariants as write
-use Rattle.agv_tables.proofs.sql.Later.{later_by}
+use Rattle.agv_row_reading.specs.WorldAnswers.{AgreesWith, HasWorld}
+use Rattle.agv_world_reading.specs.WorldIn.{world_in}
+use Rattle.agv_schema.specs.DeskRows.{Holds, KeepsOthers, Placing}
+use Rattle.agv_rows.specs.RowLists.{row_lists}
+use Rattle.agv_schema.specs.SchemaNumbers.{desk_seats}
+use Rattle.agv_schema.specs.Connections.{IsClean, IsOpen}
+use Rattle.agv_changes.specs.declared.write_fault.WriteFault.{WriteFault}
+use Rattle.agv_changes.specs.declared.write_fault.WriteFault.TheVariants as write
+use Rattle.agv_schema.proofs.Later.{later_by}
 use Rattle.agv_store.specs.Counts.{count_in}
 use Rattle.agv_store.specs.Flags.{doubted_by, failed_by, noted, read_as}
 use Rattle.agv_store.specs.Floors.{IsKept, Keyed, Knows, world_at}

@@ -2,10 +2,10 @@
 use Rattle.std.specs.Prelude.{◌≡◌, Bool, true, false, Result, Ok, Err}
 use Rattle.agv_world.specs.declared.fault.Fault.{Fault}
 use Rattle.agv_world.specs.declared.fault.Fault.TheVariants as machine
-use Rattle.agv_tables.specs.declared.changes.write_fault.WriteFault.{WriteFault}
-use Rattle.agv_tables.specs.declared.changes.write_fault.WriteFault.TheVariants as write
-use Rattle.agv_tables.specs.declared.queries.reading_fault.ReadingFault.{ReadingFault}
-use Rattle.agv_tables.specs.declared.queries.reading_fault.ReadingFault.TheVariants as fault
+use Rattle.agv_changes.specs.declared.write_fault.WriteFault.{WriteFault}
+use Rattle.agv_changes.specs.declared.write_fault.WriteFault.TheVariants as write
+use Rattle.agv_row_reading.specs.declared.reading_fault.ReadingFault.{ReadingFault}
+use Rattle.agv_row_reading.specs.declared.reading_fault.ReadingFault.TheVariants as fault
 
 -- how a question ends, as a floor has it: tables that tell no world are a fault of the store
 abbrev pub noted : {A : Type 0} → Result A ReadingFault → Result A Fault

@@ -13,11 +13,11 @@ use Rattle.agv_world.specs.Worlds.{World}
 use Rattle.agv_world.specs.declared.floor.Counted.{Counted}
 use Rattle.agv_store.specs.KeptVehicles.{AreVehicles, VehiclesOf}
 use Rattle.agv_store.specs.KeptTrips.{AreTrips, TripsOf}
-use Rattle.agv_tables.specs.queries.WorldAnswers.{AgreesWith, HasWorld}
-use Rattle.agv_tables.specs.readings.WorldIn.{world_in}
-use Rattle.agv_tables.specs.rows.DeskRows.{Placing}
-use Rattle.agv_tables.specs.schema.SchemaNumbers.{desk_seats}
-use Rattle.agv_tables.specs.sql.Connections.{IsClean, IsOpen}
+use Rattle.agv_row_reading.specs.WorldAnswers.{AgreesWith, HasWorld}
+use Rattle.agv_world_reading.specs.WorldIn.{world_in}
+use Rattle.agv_schema.specs.DeskRows.{Placing}
+use Rattle.agv_schema.specs.SchemaNumbers.{desk_seats}
+use Rattle.agv_schema.specs.Connections.{IsClean, IsOpen}
 use Rattle.agv_store.specs.Counts.{count_in}
 use Rattle.agv_store.specs.KeptRooms.{AreLeft, RoomsLeft}
 use Rattle.agv_store.specs.declared.counts.Counts.{Counts}

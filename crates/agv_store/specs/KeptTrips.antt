@@ -9,7 +9,7 @@ use Rattle.agv_header.specs.declared.key.VehicleKey.{VehicleKey}
 use Rattle.agv_order.specs.declared.trip.Trip.{Trip}
 use Rattle.agv_world.specs.Rows.{Rows}
 use Rattle.agv_world.specs.declared.row.TripRow.{TripRow}
-use Rattle.agv_tables.specs.rows.DecodedTrips.{HasTripRows}
+use Rattle.agv_rows.specs.DecodedTrips.{HasTripRows}
 use Rattle.agv_store.specs.declared.kept_trips.KeptTrips.{KeptTrips}
 
 -- orders, each with a trip

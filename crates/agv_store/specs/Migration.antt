@@ -10,11 +10,11 @@ use Rattle.agv_world.specs.Questions.{count_of}
 use Rattle.agv_world.specs.Worlds.{World}
 use Rattle.agv_world.specs.declared.floor.Counted.{Counted}
 use Rattle.agv_world.specs.declared.world.World.{World as Tables}
-use Rattle.agv_tables.specs.first_schema.FirstRows.{HasFirstWorld, HasNoFirstWorld}
-use Rattle.agv_tables.specs.first_schema.Moved.{CanBeAdded, MovesWorld}
-use Rattle.agv_tables.specs.queries.WorldAnswers.{AgreesWith}
-use Rattle.agv_tables.specs.rows.DeskRows.{Placing}
-use Rattle.agv_tables.specs.sql.Connections.{IsClean, IsOpen}
+use Rattle.agv_first_schema.specs.FirstRows.{HasFirstWorld, HasNoFirstWorld}
+use Rattle.agv_first_schema.specs.Moved.{CanBeAdded, MovesWorld}
+use Rattle.agv_row_reading.specs.WorldAnswers.{AgreesWith}
+use Rattle.agv_schema.specs.DeskRows.{Placing}
+use Rattle.agv_schema.specs.Connections.{IsClean, IsOpen}
 use Rattle.agv_store.specs.Counts.{count_in}
 use Rattle.agv_store.specs.Floors.{IsAsked, Keyed, Knows}
 use Rattle.agv_store.specs.declared.counts.Counts.{Counts}

@@ -1,8 +1,8 @@
 -- Which fault of an opening a fault of a reading or of a making is.
-use Rattle.agv_tables.specs.declared.queries.reading_fault.ReadingFault.{ReadingFault}
-use Rattle.agv_tables.specs.declared.queries.reading_fault.ReadingFault.TheVariants as reading
-use Rattle.agv_tables.specs.declared.schema.making_fault.MakingFault.{MakingFault}
-use Rattle.agv_tables.specs.declared.schema.making_fault.MakingFault.TheVariants as making
+use Rattle.agv_row_reading.specs.declared.reading_fault.ReadingFault.{ReadingFault}
+use Rattle.agv_row_reading.specs.declared.reading_fault.ReadingFault.TheVariants as reading
+use Rattle.agv_creation.specs.declared.making_fault.MakingFault.{MakingFault}
+use Rattle.agv_creation.specs.declared.making_fault.MakingFault.TheVariants as making
 use Rattle.agv_store.specs.declared.open_fault.OpenFault.{OpenFault}
 use Rattle.agv_store.specs.declared.open_fault.OpenFault.TheVariants as fault
 

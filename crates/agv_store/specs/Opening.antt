@@ -7,11 +7,11 @@ use Rattle.agv_layout.specs.Layout.{Layout}
 use Rattle.agv_world.specs.Questions.{count_of}
 use Rattle.agv_world.specs.Worlds.{empty_world}
 use Rattle.agv_world.specs.declared.floor.Counted.{Counted}
-use Rattle.agv_tables.specs.queries.WorldAnswers.{AgreesWith, HasNoWorld}
-use Rattle.agv_tables.specs.schema.DeskSchema.{is_name_taken}
-use Rattle.agv_tables.specs.schema.DeskTables.{MakesDesk}
-use Rattle.agv_tables.specs.schema.NewDesk.{LeavesRoom}
-use Rattle.agv_tables.specs.sql.Connections.{IsClean, IsOpen}
+use Rattle.agv_row_reading.specs.WorldAnswers.{AgreesWith, HasNoWorld}
+use Rattle.agv_creation.specs.DeskSchema.{is_name_taken}
+use Rattle.agv_creation.specs.DeskTables.{MakesDesk}
+use Rattle.agv_creation.specs.NewDesk.{LeavesRoom}
+use Rattle.agv_schema.specs.Connections.{IsClean, IsOpen}
 use Rattle.agv_store.specs.Counts.{count_in}
 use Rattle.agv_store.specs.Floors.{IsAsked, Keyed, Knows, world_at}
 use Rattle.agv_store.specs.declared.counts.Counts.{Counts}

@@ -1,5 +1,5 @@
 -- What a desk makes of a list of calls.
-use Rattle.std.specs.Prelude.{◌≡◌, ◌<◌, ◌+◌, ◌⊎◌, ℕ, Bool, true, false, List, length, take, Option, None, Some}
+use Rattle.std.specs.Prelude.{◌≡◌, ◌<◌, ◌≤◌, ◌+◌, ◌⊎◌, ℕ, Bool, true, false, List, [], length, take, Option, None, Some}
 use Rattle.sqlite_trees.specs.declared.store.Store.{Ghosts}
 use Rattle.sqlite.specs.Effect.{Database, IsDatabase}
 use Rattle.sqlite.specs.Held.{Held, state}
@@ -9,10 +9,10 @@ use Rattle.agv_world.specs.declared.fault.Fault.TheVariants as machine
 use Rattle.agv_desk.specs.Step.{answers, steps}
 use Rattle.agv_desk.specs.declared.answer.Answer.{Answer}
 use Rattle.agv_desk.specs.declared.call.Call.{Call}
-use Rattle.agv_tables.specs.rows.DeskRows.{IsDesk, KeepsOthers, Placing}
-use Rattle.agv_tables.specs.schema.SchemaNumbers.{desk_seats}
-use Rattle.agv_tables.specs.sql.Connections.{IsOpen}
-use Rattle.agv_store.specs.Floors.{Knows, world_at}
+use Rattle.agv_schema.specs.DeskRows.{IsDesk, KeepsOthers, Placing}
+use Rattle.agv_schema.specs.SchemaNumbers.{desk_seats}
+use Rattle.agv_schema.specs.Connections.{IsOpen}
+use Rattle.agv_store.specs.Floors.{Keyed, Knows, world_at}
 use Rattle.agv_store.specs.Serving.{FoundIn}
 
 -- the world after the first calls of the list
@@ -29,6 +29,11 @@ abbrev pub RunEndsAs : Option Fault → Bool → Type 0
 RunEndsAs None failed = failed ≡ false
 RunEndsAs (Some machine.Memory) failed = failed ≡ false
 RunEndsAs (Some machine.Storage) failed = failed ≡ true
+
+-- there is memory for an answer to each call; else no call was served, and the desk is as it was
+abbrev pub HasReserved : {S : Type 0} → Keyed S → Keyed S → List (ℕ × Call) → ℕ → List Answer → Option Fault → Type 0
+HasReserved desk desk_then calls capacity given ended =
+    (length calls ≤ capacity) ⊎ ((desk_then ≡ desk) × (given ≡ []) × (ended ≡ Some machine.Memory))
 
 -- an opening after a crash finds the rows of the world after the calls that were answered; where there was a fault, it may find those after one call more
 abbrev pub FoundAfter : Database → World → List (ℕ × Call) → ℕ → Option Fault → Type 0

@@ -13,9 +13,9 @@ use Rattle.agv_desk.specs.Step.{step}
 use Rattle.agv_desk.specs.declared.answer.Answer.{Answer}
 use Rattle.agv_desk.specs.declared.answer.Decision.{Decision}
 use Rattle.agv_desk.specs.declared.call.Call.{Call}
-use Rattle.agv_tables.specs.queries.WorldAnswers.{HasWorld}
-use Rattle.agv_tables.specs.rows.DeskRows.{IsDesk, KeepsOthers, Placing}
-use Rattle.agv_tables.specs.schema.SchemaNumbers.{desk_seats}
+use Rattle.agv_row_reading.specs.WorldAnswers.{HasWorld}
+use Rattle.agv_schema.specs.DeskRows.{IsDesk, KeepsOthers, Placing}
+use Rattle.agv_schema.specs.SchemaNumbers.{desk_seats}
 use Rattle.agv_store.specs.Floors.{Knows, world_at}
 
 -- what the table of calls gives for a call at a moment, in this world

@@ -2,7 +2,8 @@
 ghost use Rattle.std.specs.Prelude.{◌≡◌};
 ghost use Rattle.agv_store.specs.Flags.{doubted_by, failed_by, noted, read_as};
 
-use agv_tables::{ReadingFault, WriteFault};
+use agv_changes::WriteFault;
+use agv_row_reading::ReadingFault;
 use agv_world::Fault;
 
 // How a question ends, for who asks a floor. A fault of the store is noted, and so is want of memory: it may have shut the store.

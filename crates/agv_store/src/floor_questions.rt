@@ -11,13 +11,13 @@ use agv_header::{Name, Thing, VehicleKey};
 use agv_layout::{Layout, StationSite};
 use agv_message::Sequence;
 use agv_order::Trip;
-use agv_stock::Place;
-use agv_tables::DESK_SEATS;
-use agv_tables::queries::key_queries::{
+use agv_queries::key_queries::{
     query_holder, query_job, query_node, query_place, query_station, query_used,
 };
-use agv_tables::queries::load_queries::{query_job_of, query_loads_on, query_reserved, query_room};
-use agv_tables::queries::station_loads::query_loads_at;
+use agv_queries::load_queries::{query_job_of, query_loads_on, query_reserved, query_room};
+use agv_queries::station_loads::query_loads_at;
+use agv_schema::DESK_SEATS;
+use agv_stock::Place;
 use agv_world::{Counted, Fault, Floor, JobRow, UseKey, UseKind, VehicleRow};
 use sqlite::Alter;
 

@@ -7,7 +7,7 @@ ghost use Rattle.std.specs.List.{list_any};
 ghost use Rattle.agv_world.specs.Asks.{Asks};
 ghost use Rattle.agv_world.specs.Questions.{layout_set};
 ghost use Rattle.agv_world.specs.Told.{world_of};
-ghost use Rattle.agv_tables.specs.sql.Connections.{IsClean, IsOpen};
+ghost use Rattle.agv_schema.specs.Connections.{IsClean, IsOpen};
 ghost use Rattle.agv_store.specs.Floors.{facts_of, world_at};
 ghost use Rattle.agv_store.specs.KeptLayouts.{is_of_layout, kept_through};
 
@@ -16,9 +16,9 @@ use crate::keyed_floor::KeyedFloor;
 use agv_header::{Memory, Name};
 use agv_layout::laws::{gives_itself, needs_a_node};
 use agv_layout::{Layout, StationSite};
-use agv_tables::queries::known_layout::{known_station, knows_node};
-use agv_tables::queries::layout_reading::query_layout;
+use agv_queries::known_layout::{known_station, knows_node};
 use agv_world::{Change, Fault, Floor, PlainFloor, World};
+use agv_world_reading::layout_reading::query_layout;
 use sqlite::Alter;
 use std::alloc::Global;
 

@@ -5,7 +5,7 @@ ghost use Rattle.std.specs.Prelude.{◌≡◌, ◌≤◌, true, Some};
 ghost use Rattle.agv_world.specs.Changes.{change, changed};
 ghost use Rattle.agv_world.specs.Questions.{has_room_at, room_at};
 ghost use Rattle.agv_world.specs.Rows.{Rows};
-ghost use Rattle.agv_tables.specs.sql.Connections.{IsClean, IsOpen};
+ghost use Rattle.agv_schema.specs.Connections.{IsClean, IsOpen};
 ghost use Rattle.agv_store.specs.Floors.{world_at};
 ghost use Rattle.agv_store.specs.KeptRooms.{AreLeft, IsLowered, IsRoomLeft, takes_room_at};
 

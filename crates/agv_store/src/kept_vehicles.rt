@@ -6,15 +6,15 @@ ghost use Rattle.agv_world.specs.Asks.{Asks};
 ghost use Rattle.agv_world.specs.Changes.{change, changed};
 ghost use Rattle.agv_world.specs.Questions.{row_of};
 ghost use Rattle.agv_world.specs.Rows.{Rows};
-ghost use Rattle.agv_tables.specs.sql.Connections.{IsClean, IsOpen};
+ghost use Rattle.agv_schema.specs.Connections.{IsClean, IsOpen};
 ghost use Rattle.agv_store.specs.Floors.{facts_of, world_at};
 ghost use Rattle.agv_store.specs.KeptVehicles.{AreVehicles};
 
 use crate::flags::note;
 use crate::keyed_floor::KeyedFloor;
 use agv_header::{Memory, VehicleKey};
-use agv_tables::queries::key_queries::query_vehicle;
-use agv_tables::rows::trip_laws::rows_have_vehicles;
+use agv_queries::key_queries::query_vehicle;
+use agv_rows::trip_laws::rows_have_vehicles;
 use agv_world::change_laws::changes_in_turn;
 use agv_world::{ByVehicle, Change, Fault, VehicleRow};
 use sqlite::Alter;

@@ -2,7 +2,7 @@
 ghost use Rattle.std.specs.Prelude.{◌≡◌, true, Err, OnOk};
 ghost use Rattle.agv_world.specs.Asks.{Asks};
 ghost use Rattle.agv_world.specs.declared.fault.Fault.TheVariants as fault;
-ghost use Rattle.agv_tables.specs.sql.Connections.{IsClean, IsOpen};
+ghost use Rattle.agv_schema.specs.Connections.{IsClean, IsOpen};
 ghost use Rattle.agv_store.specs.Flags.{EndsAs};
 ghost use Rattle.agv_store.specs.Floors.{Knows, facts_of, world_at};
 
@@ -12,8 +12,8 @@ use crate::kept_rooms::RoomsLeft;
 use crate::kept_trips::KeptTrips;
 use crate::kept_vehicles::KeptVehicles;
 use agv_layout::Layout;
-use agv_tables::readings::hold_reading::query_meta;
 use agv_world::Fault;
+use agv_world_reading::hold_reading::query_meta;
 use sqlite::{Alter, Connection};
 use std::alloc::Global;
 use std::marker::Model;

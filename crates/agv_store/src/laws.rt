@@ -5,17 +5,16 @@ ghost use Rattle.sqlite.specs.Held.{Held, state};
 ghost use Rattle.sqlite.specs.State.{Survives};
 ghost use Rattle.agv_world.specs.Worlds.{World, empty_world};
 ghost use Rattle.agv_desk.specs.declared.call.Call.{Call};
-ghost use Rattle.agv_tables.specs.schema.DeskTables.{LeavesDesk};
-ghost use Rattle.agv_tables.specs.sql.Connections.{IsClean, IsOpen};
+ghost use Rattle.agv_creation.specs.DeskTables.{LeavesDesk};
+ghost use Rattle.agv_schema.specs.Connections.{IsClean, IsOpen};
 ghost use Rattle.agv_store.specs.Floors.{Knows, world_at};
 ghost use Rattle.agv_store.specs.Migration.{FirstFound, LeavesMigrated};
 ghost use Rattle.agv_store.specs.Opening.{CanBeMade};
 ghost use Rattle.agv_store.specs.Serving.{FoundIn, LeavesCall, world_after};
 
-use agv_tables::readings::world_laws::a_database_tells_its_world;
-use agv_tables::schema::making_laws::{
-    made_desks_stand, new_desks_know_nothing, trees_tell_schemas,
-};
+use agv_creation::making_laws::{made_desks_stand, trees_tell_schemas};
+use agv_world_reading::new_desk_laws::new_desks_know_nothing;
+use agv_world_reading::world_laws::a_database_tells_its_world;
 use sqlite::Alter;
 
 /// After a crash in the middle of a call, or after a fault, an opening finds the rows of the world before the call or of

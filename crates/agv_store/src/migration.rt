@@ -2,8 +2,8 @@
 ghost use Rattle.std.specs.Prelude.{◌≡◌, false, IfOk, OnErr};
 ghost use Rattle.sqlite.specs.Held.{state};
 ghost use Rattle.sqlite.specs.State.{Survives};
-ghost use Rattle.agv_tables.specs.first_schema.Moved.{CanBeAdded};
-ghost use Rattle.agv_tables.specs.sql.Connections.{IsClean, IsOpen};
+ghost use Rattle.agv_first_schema.specs.Moved.{CanBeAdded};
+ghost use Rattle.agv_schema.specs.Connections.{IsClean, IsOpen};
 ghost use Rattle.agv_store.specs.Migration.{CannotBeMigrated, FindsFirstDesk, LeavesMigrated, Migrates};
 ghost use Rattle.agv_store.specs.Opening.{IsDamaged, left_by};
 
@@ -15,14 +15,14 @@ use crate::kept_trips::no_trips;
 use crate::kept_vehicles::no_vehicles;
 use crate::keyed_floor::KeyedFloor;
 use crate::open_fault::OpenFault;
+use agv_first_schema::table_moving::move_tables;
+use agv_first_schema::world_finding::find_first_world;
 use agv_layout::Layout;
 use agv_layout::laws::{gives_itself, needs_a_node};
-use agv_tables::first_schema::table_moving::move_tables;
-use agv_tables::first_schema::world_finding::find_first_world;
-use agv_tables::readings::world_laws::a_database_tells_its_world;
 use agv_world::World;
 use agv_world::lawful_laws::is_in_good_order;
 use agv_world::laws::tables_tell_the_world;
+use agv_world_reading::world_laws::a_database_tells_its_world;
 use sqlite::{Alter, Connection};
 use std::alloc::Global;
 

@@ -2,8 +2,9 @@
 ghost use Rattle.std.specs.Prelude.{◌≡◌};
 ghost use Rattle.agv_store.specs.OpenFaults.{of_making, of_reading};
 
+use agv_creation::MakingFault;
 use agv_header::Memory;
-use agv_tables::{MakingFault, ReadingFault};
+use agv_row_reading::ReadingFault;
 use thiserror::Error;
 
 /// Why a database gives no desk.

@@ -1,22 +1,22 @@
 //! A list of calls is served, up to the first fault.
-ghost use Rattle.std.specs.Prelude.{◌≡◌, true, false, [], length};
-ghost use Rattle.agv_tables.specs.sql.Connections.{IsClean};
+ghost use Rattle.std.specs.Prelude.{◌≡◌, true, false, [], length, vec_capacity};
+ghost use Rattle.agv_schema.specs.Connections.{IsClean};
 ghost use Rattle.agv_store.specs.Floors.{Knows, world_at};
-ghost use Rattle.agv_store.specs.Running.{HasAnswered, IsRun, LeavesLast, RunEndsAs};
+ghost use Rattle.agv_store.specs.Running.{HasAnswered, HasReserved, IsRun, LeavesLast, RunEndsAs};
 
 use crate::desk::Desk;
+use agv_changes::change_laws::other_tables_stay;
+use agv_creation::making_laws::trees_tell_schemas;
 use agv_desk::laws::calls::serves_in_turn;
 use agv_desk::{Answer, Call};
 use agv_header::Moment;
-use agv_tables::changes::change_laws::other_tables_stay;
-use agv_tables::readings::world_laws::a_database_tells_its_world;
-use agv_tables::schema::making_laws::trees_tell_schemas;
 use agv_world::Fault;
+use agv_world_reading::world_laws::a_database_tells_its_world;
 use sqlite::Alter;
 
 impl<S: Alter + Drop> Desk<S> {
-    /// Serves the calls in turn, each at its moment, up to the first fault, which is given beside the answers. Room for the
-    /// answers is taken before the first call, so that none is served whose answer can't be given.
+    /// Serves the calls in turn, each at its moment, up to the first fault, which is given beside the answers. Memory for the
+    /// answers is reserved before the first call, so that none is served whose answer can't be given (`reserves`).
     ///
     /// The answers are those of the table of calls, from the desk's world on, and the tables then have the rows of the world
     /// after the calls that were answered (`runs`). Without a fault each call has its answer; with one there are fewer
@@ -26,7 +26,7 @@ impl<S: Alter + Drop> Desk<S> {
     /// world or of the one after one call more (`crash`).
     ///
     /// # Errors
-    /// `Memory` for want of memory; where there is no room for the answers no call is served. `Storage` where the store
+    /// `Memory` where memory runs out; where there is none for the answers no call is served. `Storage` where the store
     /// failed or had failed before. Of a store that hadn't failed before, the fault is `Storage` exactly where
     /// [`failed`](Desk::failed) is `true` in the end (`ends`). One that had failed before answers no call, and has failed
     /// still (`fails`).
@@ -36,6 +36,7 @@ impl<S: Alter + Drop> Desk<S> {
         ensures crash { IsClean S.Store self.new.held → Knows S.Store self.old.held (world_at S.Store self.old.held) → LeavesLast S.Store self.old.held self.new.held calls.now (length result.0.items) result.1 }
         ensures ends { self.old.failed ≡ false → RunEndsAs result.1 self.new.failed }
         ensures fails { self.old.failed ≡ true → (self.new.failed ≡ true) × (result.0.items ≡ []) }
+        ensures reserves { HasReserved self.old self.new calls.now (vec_capacity result.0) result.0.items result.1 }
     {
         serves_in_turn();
         a_database_tells_its_world();

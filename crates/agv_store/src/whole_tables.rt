@@ -7,13 +7,13 @@ ghost use Rattle.agv_store.specs.Floors.{facts_of};
 use crate::flags::note;
 use crate::keyed_floor::KeyedFloor;
 use agv_layout::{EdgeEnds, StationSite};
+use agv_row_reading::HeldThings;
 use agv_stock::Place;
-use agv_tables::HeldThings;
-use agv_tables::readings::hold_reading::query_holds;
-use agv_tables::readings::table_reading::{
+use agv_world::{ByName, ByVehicle, Fault, Names, VehicleRow};
+use agv_world_reading::hold_reading::query_holds;
+use agv_world_reading::table_reading::{
     query_edges, query_nodes, query_places, query_stations, query_vehicles,
 };
-use agv_world::{ByName, ByVehicle, Fault, Names, VehicleRow};
 use sqlite::Alter;
 
 impl<S: Alter + Drop> KeyedFloor<S> {

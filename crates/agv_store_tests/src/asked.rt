@@ -5,22 +5,22 @@
 //! loads A1 and A2, and A1 has a live job to B, which the trip is for.
 
 use crate::cases::{check, name, vehicle_key};
+use agv_changes::change_running::write_changes;
+use agv_creation::desk_tables::make_desk_tables;
 use agv_header::{Moment, Name, Thing, VehicleKey};
 use agv_layout::{EdgeEnds, StationSite};
 use agv_message::{ActKind, Sequence, Status};
 use agv_order::Act;
-use agv_stock::{Phase, Place};
-use agv_tables::changes::change_running::write_changes;
-use agv_tables::queries::key_queries::{
+use agv_queries::key_queries::{
     query_edge, query_holder, query_job, query_node, query_place, query_station, query_used,
     query_vehicle,
 };
-use agv_tables::queries::layout_reading::query_layout;
-use agv_tables::queries::load_queries::{query_job_of, query_loads_on, query_reserved, query_room};
-use agv_tables::queries::station_loads::query_loads_at;
-use agv_tables::queries::trip_queries::query_trip;
-use agv_tables::schema::desk_tables::make_desk_tables;
+use agv_queries::load_queries::{query_job_of, query_loads_on, query_reserved, query_room};
+use agv_queries::station_loads::query_loads_at;
+use agv_queries::trip_queries::query_trip;
+use agv_stock::{Phase, Place};
 use agv_world::{Change, JobRow, LegKey, Sent, TripRow, UseKey, UseKind, VehicleRow};
+use agv_world_reading::layout_reading::query_layout;
 use sqlite::{Alter, Connection};
 use std::alloc::Global;
 use std::process::Abort;

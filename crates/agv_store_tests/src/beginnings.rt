@@ -3,7 +3,7 @@
 use crate::cases::{check_stream, new_desk};
 use crate::examples::{FIRST, FIRST_ANSWERS, NO_LOAD};
 use crate::fakes::{Drip, Trickle};
-use agv_face::{Ended, StreamFault, StreamSummary};
+use agv_face::{Ended, Served, StreamFault};
 use agv_header::Refusal;
 use std::alloc::Global;
 use std::process::Abort;
@@ -15,7 +15,7 @@ fn check_beginning(
     alloc: Global,
     bytes: &[u8],
     reads: u32,
-    end: Result<StreamSummary, StreamFault>,
+    end: Result<Served, StreamFault>,
     answers: &[u8],
 ) {
     let mut desk = new_desk(rt, alloc);
@@ -25,13 +25,13 @@ fn check_beginning(
 }
 
 /// More was waited for behind so many answers.
-fn waited(answers: u64) -> Result<StreamSummary, StreamFault> {
+fn waited(answers: u64) -> Result<Served, StreamFault> {
     Err(StreamFault::Read { answers })
 }
 
 /// The stream ended behind so many answers.
-fn ended(answers: u64, ended: Ended) -> Result<StreamSummary, StreamFault> {
-    Ok(StreamSummary { answers, ended })
+fn ended(answers: u64, ended: Ended) -> Result<Served, StreamFault> {
+    Ok(Served { answers, ended })
 }
 
 /// The refusal of a head that is none.

@@ -3,7 +3,7 @@
 
 use crate::fakes::{Drip, Trickle};
 use crate::table_cases::{made, moment};
-use agv_face::{CountingIo, StreamFault, StreamSummary, serve_stream};
+use agv_face::{CountingIo, Served, StreamFault, serve_stream};
 use agv_header::{Name, VehicleKey};
 use agv_store::Desk;
 use sqlite::{Alter, Connection, MemStore};
@@ -40,7 +40,7 @@ pub(crate) fn check_stream<S: Alter + Drop>(
     desk: &mut Desk<S>,
     reader: &mut CountingIo<Drip<'_>>,
     writer: &mut CountingIo<Trickle>,
-    end: Result<StreamSummary, StreamFault>,
+    end: Result<Served, StreamFault>,
     answers: &[u8],
 ) {
     let served = serve_stream(alloc, desk, moment(rt), reader, writer);

@@ -4,10 +4,10 @@
 use crate::cases::check;
 use crate::table_cases::{call_in, check_read, check_rows, decided, make, write_calls};
 use crate::written::{PICKED, PICKED_ROWS};
+use agv_changes::WriteFault;
+use agv_changes::change_running::write_changes;
 use agv_desk::Decision;
 use agv_http::Routes;
-use agv_tables::WriteFault;
-use agv_tables::changes::change_running::write_changes;
 use agv_world::World;
 use sqlite::{Connection, MemStore};
 use std::alloc::Global;

@@ -2,12 +2,12 @@
 
 use crate::cases::{name, vehicle_key};
 use crate::table_cases::{check_rows, make};
+use agv_changes::change_running::write_changes;
 use agv_header::{Moment, Thing};
 use agv_layout::{EdgeEnds, StationSite};
 use agv_message::{ActKind, Sequence, Status};
 use agv_order::Act;
 use agv_stock::{Phase, Place};
-use agv_tables::changes::change_running::write_changes;
 use agv_world::{Change, JobRow, LegKey, Sent, TripRow, UseKey, UseKind, VehicleRow};
 use sqlite::Connection;
 use std::alloc::Global;

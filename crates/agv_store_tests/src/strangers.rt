@@ -13,10 +13,10 @@ mod trip_rules;
 
 use crate::cases::check;
 use crate::table_cases::make;
-use agv_tables::ReadingFault;
-use agv_tables::readings::rowid_reading::query_rowids;
-use agv_tables::schema::standing_tables::tables_stand;
-use agv_tables::schema::table_texts::creation_texts;
+use agv_creation::standing_tables::tables_stand;
+use agv_creation::table_texts::creation_texts;
+use agv_row_reading::ReadingFault;
+use agv_rowids::rowid_reading::query_rowids;
 use sqlite::{Connection, MemStore};
 use std::alloc::Global;
 use std::process::Abort;

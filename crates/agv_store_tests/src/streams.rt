@@ -4,7 +4,7 @@ use crate::cases::{check, check_stream, new_desk};
 use crate::examples::{AGAIN, AGAIN_ANSWERS, DONE, FIRST, FIRST_ANSWERS, NO_LOAD};
 use crate::fakes::{Drip, Patient, Tally, Trickle};
 use crate::table_cases::moment;
-use agv_face::{CountingIo, Ended, StreamFault, StreamSummary, serve_stream, serve_stream_within};
+use agv_face::{CountingIo, Ended, Served, StreamFault, serve_stream, serve_stream_within};
 use agv_header::Refusal;
 use agv_http::laws::requests::has_a_cut;
 use std::alloc::Global;
@@ -13,8 +13,8 @@ use std::io::Write;
 use std::process::Abort;
 
 /// The input is at its end behind so many answers.
-fn ended(answers: u64) -> Result<StreamSummary, StreamFault> {
-    Ok(StreamSummary {
+fn ended(answers: u64) -> Result<Served, StreamFault> {
+    Ok(Served {
         answers,
         ended: Ended::End,
     })
@@ -246,7 +246,7 @@ fn ends(rt: HostRuntime) {
         );
         let mut reader = Drip::counting(input, 4096, 1000);
         let mut writer = Trickle::counting(rt.alloc(), 4096, 1000);
-        let end = Ok(StreamSummary {
+        let end = Ok(Served {
             answers: *count,
             ended: *end,
         });

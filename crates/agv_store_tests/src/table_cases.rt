@@ -3,17 +3,17 @@
 //! what with the answers of the floor.
 
 use crate::cases::{check, name, vehicle_key};
+use agv_creation::desk_tables::make_desk_tables;
 use agv_desk::{Answer, Call, Decision, decide};
 use agv_header::{Moment, Thing};
 use agv_http::{Routes, call_of};
 use agv_layout::Layout;
+use agv_queries::trip_queries::{query_has_trip, query_trip};
 use agv_store::Desk;
-use agv_tables::queries::layout_reading::query_layout;
-use agv_tables::queries::trip_queries::{query_has_trip, query_trip};
-use agv_tables::readings::world_reading::read_world;
-use agv_tables::schema::desk_tables::make_desk_tables;
 use agv_track::HoldTable;
 use agv_world::{Floor, PlainFloor, World};
+use agv_world_reading::layout_reading::query_layout;
+use agv_world_reading::world_reading::read_world;
 use http::Method;
 use sqlite::types::ValueRef;
 use sqlite::{Alter, Connection, Row};

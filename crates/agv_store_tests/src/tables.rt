@@ -1,8 +1,8 @@
 //! The making of the desk's tables: in an empty database, beside others, and where a name is taken.
 
 use crate::cases::check;
-use agv_tables::MakingFault;
-use agv_tables::schema::desk_tables::make_desk_tables;
+use agv_creation::MakingFault;
+use agv_creation::desk_tables::make_desk_tables;
 use sqlite::{Connection, MemStore};
 use std::alloc::Global;
 use std::process::Abort;

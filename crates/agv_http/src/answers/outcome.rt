@@ -22,7 +22,7 @@ pub(crate) fn is_of_its_types(answer: &Answer)
     }
 }
 
-fn refusal_is_short(refusal: &Refusal)
+pub(crate) fn refusal_is_short(refusal: &Refusal)
     ensures { IsToldBriefly refusal.now }
 {
     match refusal {

@@ -20,13 +20,23 @@ ghost use Rattle.agv_http.specs.Output.{call_of_request, outcome_for};
 ghost use Rattle.agv_http.specs.request.Requests.{IsRequest, Request, most_body};
 ghost use Rattle.agv_http.specs.answers.Sizes.{IsBrief, IsNameIfAny, IsOrderShort, IsVehicleShort, is_outcome, most_answer, names_size, only_asks, outcome_room};
 
-use crate::answers::outcome::is_of_its_types;
+use crate::answers::outcome::{is_of_its_types, refusal_is_short};
 use agv_desk::Answer;
+use agv_header::Refusal;
 
 /// An answer that tells only what was done, or why not, has at most 1,024 bytes.
 pub fn answers_briefly()
     ensures { (a : AnswerOf) (report : List ℕ) (close : Bool) → IsBrief a → length (answer_text a report close) ≤ 1024 }
 {}
+
+/// The answer to a refused request has at most 1,024 bytes. It reads a name or a number of the refusal and goes over nothing: a
+/// proof calls it for its clause.
+pub fn refusals_fit(why: &Refusal)
+    ensures { (report : List ℕ) (close : Bool) → length (answer_text (answer.Refused why.now) report close) ≤ 1024 }
+{
+    answers_briefly();
+    refusal_is_short(why);
+}
 
 /// The answer to a stocktake has at most 1,024 bytes, and three for each unknown name besides its own bytes.
 pub fn counts_briefly()

@@ -2,7 +2,7 @@
 
 use crate::strangers::{NAMES, ROWS, check_rowids, check_stand, no_tables, run};
 use crate::table_cases::make;
-use agv_tables::schema::table_texts::creation_texts;
+use agv_creation::table_texts::creation_texts;
 use std::alloc::Global;
 use std::process::Abort;
 

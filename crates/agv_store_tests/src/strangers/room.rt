@@ -3,7 +3,7 @@
 use crate::cases::check;
 use crate::strangers::{NAMES, no_tables, run};
 use crate::table_cases::make;
-use agv_tables::schema::table_room::leaves_room;
+use agv_creation::table_room::leaves_room;
 use std::alloc::Global;
 use std::process::Abort;
 

@@ -1,8 +1,10 @@
-use Rattle.std.proofs.Common.{◌≡◌, true, arith, ap, ◌∙◌}
+use Rattle.std.proofs.Common.{◌≡◌, true, arith, ap, sym, subst, ◌∙◌}
+use Rattle.sqlite.proofs.StateLemmas.{survives_then}
+use Rattle.sqlite.specs.Held.{state}
 use Rattle.agv_reports.specs.Reports.{names_report, report_of}
-use Rattle.agv_store.specs.Floors.{Keyed, world_at}
-use Rattle.agv_tables.specs.sql.Connections.{IsClean}
-use Rattle.agv_tables.specs.readings.WorldIn.{world_in}
+use Rattle.agv_store.specs.Floors.{Keyed, Knows, world_at}
+use Rattle.agv_schema.specs.Connections.{IsClean}
+use Rattle.agv_world_reading.specs.WorldIn.{world_in}
 use Rattle.agv_world.specs.Worlds.{World}
 use Rattle.agv_face.proofs.Serving.{by_both, later_then, on_err, same_report, stays, true_where, world_known}
 use Rattle.agv_face.specs.Replies.{IsLaterDesk}
@@ -35,6 +37,30 @@ returns-clause-serves g c clean =
           (λ none. ap (λ (desk : Keyed g.row.S.Denot). world_at g.S.Store desk.held) (c.in_ok-report.ensures.silent none).1)
           ∙ known;
     }
+
+-- ---- what is known, and what a crash leaves
+
+pub returns-clause-reached : goal.returns-clause-reached
+returns-clause-reached g c clean =
+    let mid : IsClean g.S.Store c.serve.new.self.held = omega (arith, c.report.ensures.crash.clean, clean) in
+    let served = c.in_ok-answer.ensures.serves mid in
+    let known = world_known g.S.Store c.serve.new.self.held _ c.a_database_tells_its_world.ensures served.knows in
+    let Known : Keyed g.row.S.Denot → Type 0 = λ desk. Knows g.S.Store desk.held (world_at g.S.Store desk.held) in
+    let Mid : World → Type 0 = λ world. Knows g.S.Store c.serve.new.self.held world in
+    let Then : World → Type 0 = λ world. Knows g.S.Store c.report.new.self.held world in (
+      c.in_ok-answer.ensures.knew mid,
+      by_both (names_report c.in_ok-answer.answer)
+          (λ named. let told = c.in_ok-report.ensures.knows clean named in subst Then (sym (world_known g.S.Store c.report.new.self.held _ c.a_database_tells_its_world.ensures told)) told)
+          (λ none. subst Known (sym (c.in_ok-report.ensures.silent none).1) (subst Mid (sym known) served.knows)),
+    )
+
+pub returns-in_err-report-clause-crash : goal.returns-in_err-report-clause-crash
+returns-in_err-report-clause-crash g c =
+    survives_then (state g.S.Store c.args.desk.now.held) (state g.S.Store c.serve.new.self.held) (state g.S.Store c.report.new.self.held) _ (λ _. ⊥) _ (λ _ _ left. left) (λ _ _ never. absurd never) c.serve.ensures.crash c.report.ensures.crash
+
+pub returns-clause-crash : goal.returns-clause-crash
+returns-clause-crash g c =
+    survives_then (state g.S.Store c.args.desk.now.held) (state g.S.Store c.serve.new.self.held) (state g.S.Store c.report.new.self.held) _ (λ _. ⊥) _ (λ _ _ left. left) (λ _ _ never. absurd never) c.serve.ensures.crash c.report.ensures.crash
 
 -- ---- the desk at a later moment
 

@@ -8,9 +8,10 @@ use Rattle.agv_world.specs.Worlds.{World, empty_world}
 use Rattle.agv_world.specs.declared.floor.Counted.{Counted}
 use Rattle.agv_store.specs.KeptVehicles.{AreVehicles, VehiclesOf}
 use Rattle.agv_store.specs.KeptTrips.{AreTrips, TripsOf}
-use Rattle.agv_tables.specs.schema.DeskTables.{MakesDesk}
-use Rattle.agv_tables.specs.schema.NewDesk.{KnowsNothing, LeavesRoom, MadeDesksStand, StandsNew}
-use Rattle.agv_tables.specs.sql.Connections.{IsClean, IsOpen}
+use Rattle.agv_creation.specs.DeskTables.{MakesDesk}
+use Rattle.agv_world_reading.specs.NewWorld.{KnowsNothing}
+use Rattle.agv_creation.specs.NewDesk.{LeavesRoom, MadeDesksStand, StandsNew}
+use Rattle.agv_schema.specs.Connections.{IsClean, IsOpen}
 use Rattle.agv_store.specs.Counts.{count_in}
 use Rattle.agv_store.specs.Floors.{IsKept, Knows, world_at}
 use Rattle.agv_store.specs.KeptRooms.{AreLeft, RoomsLeft}

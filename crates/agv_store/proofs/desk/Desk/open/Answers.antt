@@ -3,8 +3,8 @@ use Rattle.sqlite_schema.specs.declared.schema.Schema.{Schema}
 use Rattle.sqlite_trees.specs.declared.store.Store.{Ghosts}
 use Rattle.sqlite.proofs.StateLemmas.{survives_weaker}
 use Rattle.sqlite.specs.Held.{Held, state}
-use Rattle.agv_tables.specs.queries.WorldAnswers.{HasNoWorld}
-use Rattle.agv_tables.specs.sql.Connections.{IsClean}
+use Rattle.agv_row_reading.specs.WorldAnswers.{HasNoWorld}
+use Rattle.agv_schema.specs.Connections.{IsClean}
 use Rattle.agv_store.specs.Opening.{Adopts, CanBeMade, IsDamaged, Makes, Opening}
 use Rattle.agv_store.specs.declared.open_fault.OpenFault.{OpenFault}
 use Rattle.agv_store.specs.declared.open_fault.OpenFault.TheVariants as fault

@@ -1,4 +1,4 @@
-use Rattle.std.proofs.Common.{inl, length, ap, arith}
+use Rattle.std.proofs.Common.{inl, inr, refl, length, ap, arith}
 use Rattle.agv_store.proofs.CallsInTurn.{crash_at_fault, found_at_end, longer_by_one, run_to_end, run_to_fault, served_more, served_none}
 use Rattle.agv_store.proofs.desk.Desk.run.Goals as goal
 
@@ -9,6 +9,9 @@ returns-in-Err-clause-crash g c clean knew found finds left =
     let old = c.args.self.now in
     let none = served_none g.S.Store c.other_tables_stay.ensures.itself old c.args.calls.now c.new.result.items c.new.ensures.items c.knows.ensures in
     inl (found_at_end g.S.Store old old c.args.calls.now c.new.result.items none c.trees_tell_schemas.ensures.schema g.met.S.Store.settled clean knew found finds left)
+
+pub returns-in-Err-clause-reserves : goal.returns-in-Err-clause-reserves
+returns-in-Err-clause-reserves g c = inr (refl, c.new.ensures.items, refl)
 
 -- ---- the calls in turn
 
@@ -52,6 +55,9 @@ returns-in-Err-served-clause-crash g c =
     c.loop-made.made-index so_far.0 c.made-item.result c.loop-made-test.true c.made-item.is its.crash
     c.trees_tell_schemas.ensures.schema g.met.S.Store.settled c.serves_in_turn.ensures.world c.in-Err-served.why
 
+pub returns-in-Err-served-clause-reserves : goal.returns-in-Err-served-clause-reserves
+returns-in-Err-served-clause-reserves g c = inl c.loop-made.invariant.2
+
 -- ---- all served
 
 pub returns-clause-runs : goal.returns-clause-runs
@@ -60,3 +66,6 @@ returns-clause-runs g c = run_to_end g.S.Store c.args.self.now c.loop-made.self 
 pub returns-clause-crash : goal.returns-clause-crash
 returns-clause-crash g c =
     found_at_end g.S.Store c.args.self.now c.loop-made.self c.args.calls.now c.loop-made.given.items c.loop-made.invariant.3 c.trees_tell_schemas.ensures.schema g.met.S.Store.settled
+
+pub returns-clause-reserves : goal.returns-clause-reserves
+returns-clause-reserves g c = inl c.loop-made.invariant.2

@@ -1,7 +1,7 @@
 use Rattle.std.proofs.Common.{◌≡◌, Some, ap, sym, ◌∙◌}
 use Rattle.agv_layout.specs.Layout.{Layout}
 use Rattle.agv_world.specs.Questions.{layout_set}
-use Rattle.agv_tables.specs.sql.Connections.{IsClean, IsOpen}
+use Rattle.agv_schema.specs.Connections.{IsClean, IsOpen}
 use Rattle.agv_store.specs.Floors.{world_at}
 use Rattle.agv_store.proofs.Asked.{answered_open}
 use Rattle.agv_store.proofs.KeptLayout.{if_some}

@@ -1,7 +1,7 @@
 use Rattle.std.proofs.Common.{◌≡◌, None, subst, sym}
 use Rattle.agv_world.specs.Questions.{trip_of}
 use Rattle.agv_world.specs.Rows.{rows_of}
-use Rattle.agv_tables.specs.sql.Connections.{IsClean, IsOpen}
+use Rattle.agv_schema.specs.Connections.{IsClean, IsOpen}
 use Rattle.agv_store.specs.Floors.{Keyed, world_at}
 use Rattle.agv_store.proofs.KeptTrips.{keeps_trips, no_row}
 use Rattle.agv_store.proofs.keyed_floor.KeyedFloor.keep_rest.Goals as goal

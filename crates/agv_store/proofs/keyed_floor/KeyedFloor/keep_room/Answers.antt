@@ -3,7 +3,7 @@ use Rattle.agv_header.specs.Name.{name_cmp}
 use Rattle.agv_world.specs.Questions.{room_at}
 use Rattle.agv_world.specs.Rows.{rows_of}
 use Rattle.agv_world.proofs.lists.Orders.{names_apart}
-use Rattle.agv_tables.specs.sql.Connections.{IsClean, IsOpen}
+use Rattle.agv_schema.specs.Connections.{IsClean, IsOpen}
 use Rattle.agv_store.specs.Floors.{Keyed, world_at}
 use Rattle.agv_store.specs.KeptRooms.{IsRoomLeft}
 use Rattle.agv_store.proofs.KeptMaps.{one_more_entry, same_entries}

@@ -1,8 +1,8 @@
 use Rattle.std.proofs.Common.{◌≡◌, Some, subst, sym}
 use Rattle.agv_world.specs.Questions.{trip_of}
 use Rattle.agv_world.specs.Rows.{rows_of}
-use Rattle.agv_tables.specs.rows.DecodedTrips.{HasTripRows}
-use Rattle.agv_tables.specs.sql.Connections.{IsClean, IsOpen}
+use Rattle.agv_rows.specs.DecodedTrips.{HasTripRows}
+use Rattle.agv_schema.specs.Connections.{IsClean, IsOpen}
 use Rattle.agv_store.specs.Floors.{Keyed, world_at}
 use Rattle.agv_store.proofs.KeptTrips.{keeps_trips}
 use Rattle.agv_store.proofs.keyed_floor.KeyedFloor.keep_trip.Goals as goal

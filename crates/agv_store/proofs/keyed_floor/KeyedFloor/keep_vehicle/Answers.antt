@@ -1,7 +1,7 @@
 use Rattle.std.proofs.Common.{◌≡◌, Some, subst, sym, ◌∙◌}
 use Rattle.agv_world.specs.Questions.{row_of}
 use Rattle.agv_world.specs.Rows.{rows_of}
-use Rattle.agv_tables.specs.sql.Connections.{IsClean, IsOpen}
+use Rattle.agv_schema.specs.Connections.{IsClean, IsOpen}
 use Rattle.agv_store.specs.Floors.{Keyed, world_at}
 use Rattle.agv_store.proofs.KeptVehicles.{keeps_vehicles, row_kept_or_not}
 use Rattle.agv_store.proofs.keyed_floor.KeyedFloor.keep_vehicle.Goals as goal

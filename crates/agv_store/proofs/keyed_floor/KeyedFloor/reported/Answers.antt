@@ -1,7 +1,7 @@
 use Rattle.std.proofs.Common.{◌≡◌}
 use Rattle.agv_world.specs.Lawful.{IsLawful}
 use Rattle.agv_reports.specs.Reports.{report_of}
-use Rattle.agv_tables.specs.schema.SchemaNumbers.{desk_seats}
+use Rattle.agv_schema.specs.SchemaNumbers.{desk_seats}
 use Rattle.agv_store.proofs.Deciding.{ends_faulted, err_of}
 use Rattle.agv_store.proofs.InTurn.{asked_between}
 use Rattle.agv_store.proofs.keyed_floor.KeyedFloor.reported.Goals as goal

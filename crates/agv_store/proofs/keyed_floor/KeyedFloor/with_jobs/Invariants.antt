@@ -1,7 +1,7 @@
 use Rattle.std.proofs.Common.{◌≡◌, ◌++◌, map, drop}
 use Rattle.agv_world.specs.Asks.{Answers}
 use Rattle.agv_world.specs.Lawful.{IsLawful}
-use Rattle.agv_tables.specs.schema.SchemaNumbers.{desk_seats}
+use Rattle.agv_schema.specs.SchemaNumbers.{desk_seats}
 use Rattle.agv_store.specs.Floors.{facts_of, world_at}
 use Rattle.agv_store.proofs.ReportLists.{with_jobs_to}
 use Rattle.agv_store.proofs.keyed_floor.KeyedFloor.with_jobs.Given as goal

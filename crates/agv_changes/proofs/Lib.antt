@@ -1,0 +1,5 @@
+pub mod ActsPut
+pub mod ChangesFound
+pub mod ChangesRun
+pub mod OwnKeys
+pub mod RowsStay

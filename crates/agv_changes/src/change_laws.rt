@@ -1,0 +1,42 @@
+//! Laws of a list of changes: what it makes of a world, what becomes of the other tables, and what an opening after a
+//! crash finds. Each function does nothing: its clauses are the law.
+ghost use Rattle.std.specs.Prelude.{◌≡◌, ◌⊎◌, List};
+ghost use Rattle.sqlite_value.specs.Order.{Row};
+ghost use Rattle.sqlite.specs.Effect.{Database, IsDatabase};
+ghost use Rattle.agv_world.specs.Changes.{changed};
+ghost use Rattle.agv_world.specs.Rows.{Rows};
+ghost use Rattle.agv_world.specs.declared.change.Change.{Change};
+ghost use Rattle.agv_changes.specs.ChangesMade.{ChangesWorlds, MakesChanges, MayFind};
+ghost use Rattle.agv_schema.specs.DeskRows.{Placing, Holds, IsDesk, KeepsOthers};
+ghost use Rattle.agv_rows.specs.RowLists.{listed_all, row_lists};
+
+use agv_rows::row_list_laws::lists_follow_changes;
+
+/// Where the desk's tables had the rows of a world, a list of changes that is made in them leaves the rows of the world
+/// after all of them.
+pub fn changes_make_the_next_world()
+    ensures { (changes : List Change) (old new : Database) → MakesChanges changes old new → ChangesWorlds changes old new }
+{
+    lists_follow_changes();
+}
+
+/// The other tables are as they were where nothing is done (`itself`), and after two steps that both leave them so
+/// (`next`): so after any number of lists of changes.
+pub fn other_tables_stay()
+    ensures itself { (desk : Placing) (db : Database) → KeepsOthers desk db db }
+    ensures next { (desk : Placing) (old mid new : Database) → KeepsOthers desk old mid → KeepsOthers desk mid new → KeepsOthers desk old new }
+{}
+
+/// After a crash of a list of changes an opening finds the rows from before it or those after all of it, and the
+/// other tables as they were (`either`). That the trees before it list their schema (`IsDatabase`) a caller has of
+/// the connection: it is the clause `live` of sqlite's `Connection::schema`.
+pub fn openings_find_rows_before_or_after()
+    ensures either { (changes : List Change) (desk : Placing) (old found : Database) → IsDesk desk → old.schema ≡ desk.schema → IsDatabase old
+        → MayFind changes old found → (found ≡ old) ⊎ MakesChanges changes old found }
+    ensures rows { (changes : List Change) (desk : Placing) (old found : Database) (lists : List (List Row)) → IsDesk desk → Holds desk old lists → IsDatabase old
+        → MayFind changes old found → Holds desk found lists ⊎ Holds desk found (listed_all changes lists) }
+    ensures worlds { (changes : List Change) (desk : Placing) (old found : Database) (rows : Rows) → IsDesk desk → Holds desk old (row_lists rows) → IsDatabase old
+        → MayFind changes old found → Holds desk found (row_lists rows) ⊎ Holds desk found (row_lists (changed changes rows)) }
+{
+    changes_make_the_next_world();
+}

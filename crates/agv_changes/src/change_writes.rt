@@ -1,0 +1,325 @@
+//! A change of the rows of a world is made in the desk's tables, inside a transaction.
+//!
+//! Each clause `made` says of one kind of change what the definition of all of them says, in any database in which
+//! the desk's tables stand. An error changes what the transaction's end undoes.
+ghost use Rattle.std.specs.Prelude.{◌≡◌, None, Some, OnOk};
+ghost use Rattle.sqlite.specs.State.{HasCleanDisk, KeepsCommit, Survives};
+ghost use Rattle.sqlite.specs.Held.{state};
+ghost use Rattle.agv_world.specs.declared.change.Change.TheVariants as row;
+ghost use Rattle.agv_rows.specs.Columns.{journey_columns, vehicle_columns};
+ghost use Rattle.agv_schema.specs.DeskRows.{Makes, with_put, without_key};
+ghost use Rattle.agv_rows.specs.RowKeys.{name_key, vehicle_key};
+ghost use Rattle.agv_rows.specs.RowLists.{listed};
+ghost use Rattle.agv_schema.specs.declared.table_name.TableName.TheVariants as the;
+
+use crate::act_writes::{drop_acts, write_acts};
+use crate::hold_rows::drop_hold;
+use crate::room_writes::write_room;
+use agv_header::{Name, Thing, VehicleKey};
+use agv_layout::{EdgeEnds, StationSite};
+use agv_rows::key_values::{hold_key_values, leg_key_values, name_key_values, vehicle_key_values};
+use agv_rows::row_values::{
+    edge_values, hold_values, job_values, journey_values, leg_values, load_values, node_values,
+    station_values, used_values, vehicle_values,
+};
+use agv_schema::world_table::WorldTable;
+use agv_statements::row_updates::put_over;
+use agv_statements::row_writes::{delete_row, put_new};
+use agv_statements::updated_table::UpdatedTable;
+use agv_stock::Place;
+use agv_trip_rows::JourneyRow;
+use agv_world::{Change, JobRow, LegKey, TripRow, UseKey, VehicleRow};
+use sqlite::{Alter, Error, Transaction};
+
+/// Makes the change: its row is written in place of that of its key, or that row is removed.
+pub(crate) fn write_change<S: Alter>(
+    tx: &mut Transaction<'_, S>,
+    change: &Change,
+) -> Result<usize, Error>
+    ensures same_reference { tx.new.conn.ghost_name ≡ tx.old.conn.ghost_name }
+    ensures survives { Survives (state S.Store tx.old.conn.now) (state S.Store tx.new.conn.now) (λ _. ⊥) }
+    ensures kept { HasCleanDisk (state S.Store tx.new.conn.now) → KeepsCommit (state S.Store tx.old.conn.now) (state S.Store tx.new.conn.now) }
+    ensures made { HasCleanDisk (state S.Store tx.new.conn.now)
+        → OnOk result (Makes (listed change.now) (state S.Store tx.old.conn.now) (state S.Store tx.new.conn.now)) }
+{
+    match change {
+        Change::Node(id) => write_node(tx, id),
+        Change::Edge(id, ends) => write_edge(tx, id, ends),
+        Change::Station(id, site) => write_station(tx, id, site),
+        Change::Vehicle(key, vehicle) => write_vehicle(tx, key, vehicle),
+        Change::Trip(order, trip) => write_trip(tx, order, trip),
+        Change::Leg(key, edge) => write_leg(tx, key, edge),
+        Change::Load(id, place) => write_load(tx, id, place),
+        Change::Job(id, job) => write_job(tx, id, job),
+        Change::Hold(thing, key) => write_hold(tx, thing, key),
+        Change::Used(key) => write_used(tx, key),
+    }
+}
+
+// The node is there.
+fn write_node<S: Alter>(tx: &mut Transaction<'_, S>, id: &Name) -> Result<usize, Error>
+    ensures same_reference { tx.new.conn.ghost_name ≡ tx.old.conn.ghost_name }
+    ensures survives { Survives (state S.Store tx.old.conn.now) (state S.Store tx.new.conn.now) (λ _. ⊥) }
+    ensures kept { HasCleanDisk (state S.Store tx.new.conn.now) → KeepsCommit (state S.Store tx.old.conn.now) (state S.Store tx.new.conn.now) }
+    ensures made { HasCleanDisk (state S.Store tx.new.conn.now)
+        → OnOk result (Makes (listed (row.Node id.now)) (state S.Store tx.old.conn.now) (state S.Store tx.new.conn.now)) }
+{
+    put_new(tx, WorldTable::Node, &name_key_values(id), &node_values(id))
+}
+
+// The edge has these ends.
+fn write_edge<S: Alter>(
+    tx: &mut Transaction<'_, S>,
+    id: &Name,
+    ends: &EdgeEnds,
+) -> Result<usize, Error>
+    ensures same_reference { tx.new.conn.ghost_name ≡ tx.old.conn.ghost_name }
+    ensures survives { Survives (state S.Store tx.old.conn.now) (state S.Store tx.new.conn.now) (λ _. ⊥) }
+    ensures kept { HasCleanDisk (state S.Store tx.new.conn.now) → KeepsCommit (state S.Store tx.old.conn.now) (state S.Store tx.new.conn.now) }
+    ensures made { HasCleanDisk (state S.Store tx.new.conn.now)
+        → OnOk result (Makes (listed (row.Edge id.now ends.now)) (state S.Store tx.old.conn.now) (state S.Store tx.new.conn.now)) }
+{
+    put_new(
+        tx,
+        WorldTable::Edge,
+        &name_key_values(id),
+        &edge_values(id, ends),
+    )
+}
+
+// The station is this.
+fn write_station<S: Alter>(
+    tx: &mut Transaction<'_, S>,
+    id: &Name,
+    site: &StationSite,
+) -> Result<usize, Error>
+    ensures same_reference { tx.new.conn.ghost_name ≡ tx.old.conn.ghost_name }
+    ensures survives { Survives (state S.Store tx.old.conn.now) (state S.Store tx.new.conn.now) (λ _. ⊥) }
+    ensures kept { HasCleanDisk (state S.Store tx.new.conn.now) → KeepsCommit (state S.Store tx.old.conn.now) (state S.Store tx.new.conn.now) }
+    ensures made { HasCleanDisk (state S.Store tx.new.conn.now)
+        → OnOk result (Makes (listed (row.Station id.now site.now)) (state S.Store tx.old.conn.now) (state S.Store tx.new.conn.now)) }
+{
+    put_new(
+        tx,
+        WorldTable::Station,
+        &name_key_values(id),
+        &station_values(id, site),
+    )
+}
+
+// The vehicle is this.
+fn write_vehicle<S: Alter>(
+    tx: &mut Transaction<'_, S>,
+    key: &VehicleKey,
+    vehicle: &VehicleRow,
+) -> Result<usize, Error>
+    ensures same_reference { tx.new.conn.ghost_name ≡ tx.old.conn.ghost_name }
+    ensures survives { Survives (state S.Store tx.old.conn.now) (state S.Store tx.new.conn.now) (λ _. ⊥) }
+    ensures kept { HasCleanDisk (state S.Store tx.new.conn.now) → KeepsCommit (state S.Store tx.old.conn.now) (state S.Store tx.new.conn.now) }
+    ensures made { HasCleanDisk (state S.Store tx.new.conn.now)
+        → OnOk result (Makes (listed (row.Vehicle key.now vehicle.now)) (state S.Store tx.old.conn.now) (state S.Store tx.new.conn.now)) }
+{
+    put_vehicle(tx, key, vehicle)?;
+    write_room(tx, key, vehicle)
+}
+
+// The row of the vehicle, but for its room for loads.
+fn put_vehicle<S: Alter>(
+    tx: &mut Transaction<'_, S>,
+    key: &VehicleKey,
+    vehicle: &VehicleRow,
+) -> Result<usize, Error>
+    ensures same_reference { tx.new.conn.ghost_name ≡ tx.old.conn.ghost_name }
+    ensures survives { Survives (state S.Store tx.old.conn.now) (state S.Store tx.new.conn.now) (λ _. ⊥) }
+    ensures kept { HasCleanDisk (state S.Store tx.new.conn.now) → KeepsCommit (state S.Store tx.old.conn.now) (state S.Store tx.new.conn.now) }
+    ensures made { HasCleanDisk (state S.Store tx.new.conn.now)
+        → OnOk result (Makes (with_put the.Vehicle (vehicle_key key.now) (vehicle_columns key.now vehicle.now)) (state S.Store tx.old.conn.now) (state S.Store tx.new.conn.now)) }
+{
+    put_over(
+        tx,
+        UpdatedTable::Vehicle,
+        &vehicle_key_values(key),
+        &vehicle_values(key, vehicle),
+    )
+}
+
+// The open trip of the order, if it has one.
+fn write_trip<S: Alter>(
+    tx: &mut Transaction<'_, S>,
+    order: &Name,
+    trip: &Option<TripRow>,
+) -> Result<usize, Error>
+    ensures same_reference { tx.new.conn.ghost_name ≡ tx.old.conn.ghost_name }
+    ensures survives { Survives (state S.Store tx.old.conn.now) (state S.Store tx.new.conn.now) (λ _. ⊥) }
+    ensures kept { HasCleanDisk (state S.Store tx.new.conn.now) → KeepsCommit (state S.Store tx.old.conn.now) (state S.Store tx.new.conn.now) }
+    ensures made { HasCleanDisk (state S.Store tx.new.conn.now)
+        → OnOk result (Makes (listed (row.Trip order.now trip.now)) (state S.Store tx.old.conn.now) (state S.Store tx.new.conn.now)) }
+{
+    match trip {
+        None => drop_trip(tx, order),
+        Some(trip) => write_open_trip(tx, order, trip),
+    }
+}
+
+// The order has no open trip.
+fn drop_trip<S: Alter>(tx: &mut Transaction<'_, S>, order: &Name) -> Result<usize, Error>
+    ensures same_reference { tx.new.conn.ghost_name ≡ tx.old.conn.ghost_name }
+    ensures survives { Survives (state S.Store tx.old.conn.now) (state S.Store tx.new.conn.now) (λ _. ⊥) }
+    ensures kept { HasCleanDisk (state S.Store tx.new.conn.now) → KeepsCommit (state S.Store tx.old.conn.now) (state S.Store tx.new.conn.now) }
+    ensures made { HasCleanDisk (state S.Store tx.new.conn.now)
+        → OnOk result (Makes (listed (row.Trip order.now None)) (state S.Store tx.old.conn.now) (state S.Store tx.new.conn.now)) }
+{
+    drop_journey(tx, order)?;
+    drop_acts(tx, order)
+}
+
+// The order has no journey.
+fn drop_journey<S: Alter>(tx: &mut Transaction<'_, S>, order: &Name) -> Result<usize, Error>
+    ensures same_reference { tx.new.conn.ghost_name ≡ tx.old.conn.ghost_name }
+    ensures survives { Survives (state S.Store tx.old.conn.now) (state S.Store tx.new.conn.now) (λ _. ⊥) }
+    ensures kept { HasCleanDisk (state S.Store tx.new.conn.now) → KeepsCommit (state S.Store tx.old.conn.now) (state S.Store tx.new.conn.now) }
+    ensures made { HasCleanDisk (state S.Store tx.new.conn.now)
+        → OnOk result (Makes (without_key the.Journey (name_key order.now)) (state S.Store tx.old.conn.now) (state S.Store tx.new.conn.now)) }
+{
+    delete_row(tx, WorldTable::Journey, &name_key_values(order))
+}
+
+// The order has this open trip.
+fn write_open_trip<S: Alter>(
+    tx: &mut Transaction<'_, S>,
+    order: &Name,
+    trip: &TripRow,
+) -> Result<usize, Error>
+    ensures same_reference { tx.new.conn.ghost_name ≡ tx.old.conn.ghost_name }
+    ensures survives { Survives (state S.Store tx.old.conn.now) (state S.Store tx.new.conn.now) (λ _. ⊥) }
+    ensures kept { HasCleanDisk (state S.Store tx.new.conn.now) → KeepsCommit (state S.Store tx.old.conn.now) (state S.Store tx.new.conn.now) }
+    ensures made { HasCleanDisk (state S.Store tx.new.conn.now)
+        → OnOk result (Makes (listed (row.Trip order.now (Some trip.now))) (state S.Store tx.old.conn.now) (state S.Store tx.new.conn.now)) }
+{
+    put_journey(tx, order, &JourneyRow::of(trip))?;
+    write_acts(tx, order, trip.acts.as_slice())
+}
+
+// The order has this journey.
+fn put_journey<S: Alter>(
+    tx: &mut Transaction<'_, S>,
+    order: &Name,
+    journey: &JourneyRow,
+) -> Result<usize, Error>
+    ensures same_reference { tx.new.conn.ghost_name ≡ tx.old.conn.ghost_name }
+    ensures survives { Survives (state S.Store tx.old.conn.now) (state S.Store tx.new.conn.now) (λ _. ⊥) }
+    ensures kept { HasCleanDisk (state S.Store tx.new.conn.now) → KeepsCommit (state S.Store tx.old.conn.now) (state S.Store tx.new.conn.now) }
+    ensures made { HasCleanDisk (state S.Store tx.new.conn.now)
+        → OnOk result (Makes (with_put the.Journey (name_key order.now) (journey_columns order.now journey.now)) (state S.Store tx.old.conn.now) (state S.Store tx.new.conn.now)) }
+{
+    put_over(
+        tx,
+        UpdatedTable::Journey,
+        &name_key_values(order),
+        &journey_values(order, journey),
+    )
+}
+
+// The edge on the way of an open trip, if it has one there.
+fn write_leg<S: Alter>(
+    tx: &mut Transaction<'_, S>,
+    key: &LegKey,
+    edge: &Option<Name>,
+) -> Result<usize, Error>
+    ensures same_reference { tx.new.conn.ghost_name ≡ tx.old.conn.ghost_name }
+    ensures survives { Survives (state S.Store tx.old.conn.now) (state S.Store tx.new.conn.now) (λ _. ⊥) }
+    ensures kept { HasCleanDisk (state S.Store tx.new.conn.now) → KeepsCommit (state S.Store tx.old.conn.now) (state S.Store tx.new.conn.now) }
+    ensures made { HasCleanDisk (state S.Store tx.new.conn.now)
+        → OnOk result (Makes (listed (row.Leg key.now edge.now)) (state S.Store tx.old.conn.now) (state S.Store tx.new.conn.now)) }
+{
+    match edge {
+        None => drop_leg(tx, key),
+        Some(edge) => put_new(
+            tx,
+            WorldTable::Leg,
+            &leg_key_values(key),
+            &leg_values(key, edge),
+        ),
+    }
+}
+
+// That edge is not on the way of an open trip.
+fn drop_leg<S: Alter>(tx: &mut Transaction<'_, S>, key: &LegKey) -> Result<usize, Error>
+    ensures same_reference { tx.new.conn.ghost_name ≡ tx.old.conn.ghost_name }
+    ensures survives { Survives (state S.Store tx.old.conn.now) (state S.Store tx.new.conn.now) (λ _. ⊥) }
+    ensures kept { HasCleanDisk (state S.Store tx.new.conn.now) → KeepsCommit (state S.Store tx.old.conn.now) (state S.Store tx.new.conn.now) }
+    ensures made { HasCleanDisk (state S.Store tx.new.conn.now)
+        → OnOk result (Makes (listed (row.Leg key.now None)) (state S.Store tx.old.conn.now) (state S.Store tx.new.conn.now)) }
+{
+    delete_row(tx, WorldTable::Leg, &leg_key_values(key))
+}
+
+// The load is there.
+fn write_load<S: Alter>(
+    tx: &mut Transaction<'_, S>,
+    id: &Name,
+    place: &Place,
+) -> Result<usize, Error>
+    ensures same_reference { tx.new.conn.ghost_name ≡ tx.old.conn.ghost_name }
+    ensures survives { Survives (state S.Store tx.old.conn.now) (state S.Store tx.new.conn.now) (λ _. ⊥) }
+    ensures kept { HasCleanDisk (state S.Store tx.new.conn.now) → KeepsCommit (state S.Store tx.old.conn.now) (state S.Store tx.new.conn.now) }
+    ensures made { HasCleanDisk (state S.Store tx.new.conn.now)
+        → OnOk result (Makes (listed (row.Load id.now place.now)) (state S.Store tx.old.conn.now) (state S.Store tx.new.conn.now)) }
+{
+    put_over(
+        tx,
+        UpdatedTable::Load,
+        &name_key_values(id),
+        &load_values(id, place),
+    )
+}
+
+// The job is this.
+fn write_job<S: Alter>(tx: &mut Transaction<'_, S>, id: &Name, job: &JobRow) -> Result<usize, Error>
+    ensures same_reference { tx.new.conn.ghost_name ≡ tx.old.conn.ghost_name }
+    ensures survives { Survives (state S.Store tx.old.conn.now) (state S.Store tx.new.conn.now) (λ _. ⊥) }
+    ensures kept { HasCleanDisk (state S.Store tx.new.conn.now) → KeepsCommit (state S.Store tx.old.conn.now) (state S.Store tx.new.conn.now) }
+    ensures made { HasCleanDisk (state S.Store tx.new.conn.now)
+        → OnOk result (Makes (listed (row.Job id.now job.now)) (state S.Store tx.old.conn.now) (state S.Store tx.new.conn.now)) }
+{
+    put_over(
+        tx,
+        UpdatedTable::Job,
+        &name_key_values(id),
+        &job_values(id, job),
+    )
+}
+
+// The vehicle that holds it, if one does.
+fn write_hold<S: Alter>(
+    tx: &mut Transaction<'_, S>,
+    thing: &Thing,
+    key: &Option<VehicleKey>,
+) -> Result<usize, Error>
+    ensures same_reference { tx.new.conn.ghost_name ≡ tx.old.conn.ghost_name }
+    ensures survives { Survives (state S.Store tx.old.conn.now) (state S.Store tx.new.conn.now) (λ _. ⊥) }
+    ensures kept { HasCleanDisk (state S.Store tx.new.conn.now) → KeepsCommit (state S.Store tx.old.conn.now) (state S.Store tx.new.conn.now) }
+    ensures made { HasCleanDisk (state S.Store tx.new.conn.now)
+        → OnOk result (Makes (listed (row.Hold thing.now key.now)) (state S.Store tx.old.conn.now) (state S.Store tx.new.conn.now)) }
+{
+    match key {
+        None => drop_hold(tx, thing),
+        Some(key) => put_new(
+            tx,
+            WorldTable::Hold,
+            &hold_key_values(thing),
+            &hold_values(thing, key),
+        ),
+    }
+}
+
+// The name was used.
+fn write_used<S: Alter>(tx: &mut Transaction<'_, S>, key: &UseKey) -> Result<usize, Error>
+    ensures same_reference { tx.new.conn.ghost_name ≡ tx.old.conn.ghost_name }
+    ensures survives { Survives (state S.Store tx.old.conn.now) (state S.Store tx.new.conn.now) (λ _. ⊥) }
+    ensures kept { HasCleanDisk (state S.Store tx.new.conn.now) → KeepsCommit (state S.Store tx.old.conn.now) (state S.Store tx.new.conn.now) }
+    ensures made { HasCleanDisk (state S.Store tx.new.conn.now)
+        → OnOk result (Makes (listed (row.Used key.now)) (state S.Store tx.old.conn.now) (state S.Store tx.new.conn.now)) }
+{
+    put_new(tx, WorldTable::Used, &used_values(key), &used_values(key))
+}

@@ -1,0 +1,87 @@
+//! Whether rows that are shown are those that would be written: then nothing has to be.
+ghost use Rattle.std.specs.Prelude.{◌≡◌, ◌+◌, ◌<◌, ◌^◌, [], ◌∷◌, length, IfSome, IsTrue};
+ghost use Rattle.agv_trip_rows.specs.TripRows.{act_key, act_row};
+ghost use Rattle.agv_changes.specs.ActRows.{AreOfOrder, IsOfOrder};
+ghost use Rattle.agv_rows.specs.Columns.{act_columns, room_columns};
+
+use agv_header::{Name, VehicleKey};
+use agv_order::Act;
+use agv_rows::decode_row::{decode_act, decode_capacity};
+use agv_rows::row_laws::a_row_told_writes_its_columns;
+use agv_trip_rows::ActRow;
+use agv_world::VehicleRow;
+use sqlite::Row;
+
+/// Whether the only row is that of this vehicle's room for loads.
+pub(crate) fn is_only_room(rows: &[Row], key: &VehicleKey, vehicle: &VehicleRow) -> bool
+    ensures { IsTrue result → rows.now ≡ room_columns key.now vehicle.now ∷ [] }
+{
+    match rows {
+        [row] => is_room(row, key, vehicle),
+        _ => false,
+    }
+}
+
+// Whether the row is that of this vehicle's room for loads.
+fn is_room(row: &Row, key: &VehicleKey, vehicle: &VehicleRow) -> bool
+    ensures { IsTrue result → row.now ≡ room_columns key.now vehicle.now }
+{
+    a_row_told_writes_its_columns();
+    match decode_capacity(row) {
+        None => false,
+        Some((told, room)) => told == *key && room.capacity == vehicle.capacity,
+    }
+}
+
+/// Whether the rows, in their order, are those of the picks and drops of these jobs, which are numbered from `n` on: they
+/// may say another node and another status.
+pub(crate) fn are_of_acts(rows: &[Row], order: &Name, n: usize, acts: &[Act]) -> bool
+    requires { n + length acts.now < 2 ^ 64 }
+    ensures { IsTrue result → (length rows.now ≡ length acts.now) × AreOfOrder order.now n rows.now }
+{
+    match (rows, acts) {
+        ([], []) => true,
+        ([row, rows @ ..], [act, acts @ ..]) => {
+            is_of_act(row, order, n, act) && are_of_acts(rows, order, n + 1, acts)
+        }
+        _ => false,
+    }
+}
+
+// Whether the row is that of the order's act of this number, and of this job's pick or drop.
+fn is_of_act(row: &Row, order: &Name, n: usize, act: &Act) -> bool
+    ensures { IsTrue result → IsOfOrder order.now n row.now }
+{
+    match told_act(row, order, n) {
+        None => false,
+        Some(told) => told.job == act.job && told.kind == act.kind,
+    }
+}
+
+/// Whether the row is that of this act of the order, at this number.
+pub(crate) fn is_act(row: &Row, order: &Name, n: usize, act: &Act) -> bool
+    ensures { IsTrue result → row.now ≡ act_columns (act_key order.now n) (act_row act.now) }
+{
+    match told_act(row, order, n) {
+        None => false,
+        Some(told) => {
+            told.job == act.job
+                && told.kind == act.kind
+                && told.place_at == act.place_at
+                && told.status == act.status
+        }
+    }
+}
+
+// What the row of the order's act of this number tells.
+fn told_act(row: &Row, order: &Name, n: usize) -> Option<ActRow>
+    ensures { IfSome result (λ told. row.now ≡ act_columns (act_key order.now n) told) }
+{
+    a_row_told_writes_its_columns();
+    let (key, told) = decode_act(row)?;
+    if key.order == *order && key.k as usize == n {
+        Some(told)
+    } else {
+        None
+    }
+}

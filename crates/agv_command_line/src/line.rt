@@ -1,0 +1,320 @@
+//! The command line: `replay --db FILE|memory --at MILLIS`, `serve --db FILE --port P
+//! --connections N`, `report --db FILE stock|holds`, and `migrate --db FILE`.
+ghost use Rattle.std.specs.Prelude.{◌≡◌, IfOk, IfErr, IfSome, IsSome, false, map, string_bytes, codes};
+ghost use Rattle.clap.specs.Words.{found_of, rows_of, rule_of};
+ghost use Rattle.clap.specs.declared.builder.command.Command.TheViews.{out-Command};
+ghost use Rattle.agv_command_line.specs.CommandLine.{AreKinds, Choice, Gives, HasValues, IsApp, IsLine, IsLineFault, IsOneOf, answering, db, desk, kind_word, migrate, name_of, number, replay, report, report_kind, required_option, serve};
+ghost use Rattle.agv_command_line.specs.declared.line.ReportKind.{ReportKind};
+
+use clap::error::ErrorKind;
+use clap::{Arg, ArgAction, ArgMatches, Command, Error, value_parser};
+use std::alloc::{AllocError, Global};
+
+/// A report of the desk.
+#[derive(Clone, Copy, Debug, PartialEq, Eq)]
+pub enum ReportKind {
+    /// The loads, each with its place.
+    Stock,
+    /// The nodes and edges that vehicles hold.
+    Holds,
+}
+
+/// What a line asks for.
+#[derive(Clone, Copy)]
+pub enum Line<'a> {
+    /// Answers the requests of standard input.
+    Replay {
+        /// The file of the records, or `memory`.
+        db: &'a str,
+        /// The moment of every request, in milliseconds since 1970-01-01T00:00:00Z, from 0 to
+        /// 4102444799999.
+        at: u64,
+    },
+    /// Answers the requests of a number of connections, one after another.
+    Serve {
+        /// The file of the records.
+        db: &'a str,
+        /// The port on this machine; at 0 the system picks one.
+        port: u16,
+        /// After so many connections the program ends.
+        connections: u32,
+    },
+    /// Prints a report.
+    Report {
+        /// The file of the records.
+        db: &'a str,
+        /// Which report.
+        kind: ReportKind,
+    },
+    /// Moves a file of the first schema to the second, in which a vehicle has room for several loads.
+    Migrate {
+        /// The file of the records.
+        db: &'a str,
+    },
+}
+
+/// Why a line asks for nothing.
+#[derive(Debug, Drop, thiserror::Error)]
+pub enum LineFault {
+    /// The words are refused, or ask for help; the error is the text to show.
+    #[error("{0}")]
+    Refused(Error),
+    /// Want of memory.
+    #[error("want of memory")]
+    Memory,
+}
+
+impl From<AllocError> for LineFault {
+    ghost use Rattle.agv_command_line.specs.declared.line.LineFault.TheVariants as LineFault;
+
+    ghost from_gives = { λ _ fault. fault ≡ LineFault.Memory };
+
+    fn from(_: AllocError) -> LineFault {
+        LineFault::Memory
+    }
+}
+
+/// The names of the reports.
+static KINDS: [&str; 2] = ["stock", "holds"];
+
+/// Reads the words after the program's name.
+pub fn line_of<'a>(alloc: Global, words: &'a [String]) -> Result<Line<'a>, LineFault>
+    ensures line { IfOk result (IsLine (map string_bytes words.now)) }
+    ensures fault { IfErr result (IsLineFault (map string_bytes words.now)) }
+{
+    let matches = match desk_command(alloc)?.try_get_matches_from(words) {
+        Ok(matches) => matches,
+        Err(error) if error.kind() == ErrorKind::OutOfMemory => return Err(LineFault::Memory),
+        Err(error) => return Err(LineFault::Refused(error)),
+    };
+    // Words in which `clap` finds no fault name a subcommand, with a value of each argument.
+    let Some((name, found)) = matches.subcommand() else {
+        unreachable!()
+    };
+    Ok(named_line(name, found))
+}
+
+/// The command, with its four subcommands.
+fn desk_command<'a>(alloc: Global) -> Result<Command<'a>, AllocError>
+    ensures { IfOk result (λ command. (kinds : Choice) × AreKinds kinds × IsApp (desk kinds) command) }
+{
+    let desk = answering_command(alloc)?;
+    desk.subcommand(report_command(alloc)?)?
+        .subcommand(migrate_command(alloc)?)
+}
+
+/// The command, with the two subcommands that answer requests.
+fn answering_command<'a>(alloc: Global) -> Result<Command<'a>, AllocError>
+    ensures { IfOk result (IsApp answering) }
+{
+    Command::new(alloc, "desk")
+        .about("The control desk of one warehouse: its vehicles, loads and orders")
+        .after_help("Example: desk replay --db memory --at 1700000000000 < requests.txt")
+        .no_binary_name(true)
+        .subcommand_required(true)
+        .subcommand(replay_command(alloc)?)?
+        .subcommand(serve_command(alloc)?)
+}
+
+/// The subcommand `replay`.
+fn replay_command<'a>(alloc: Global) -> Result<Command<'a>, AllocError>
+    ensures { IfOk result (IsApp replay) }
+{
+    Command::new(alloc, "replay")
+        .about("Reads requests from standard input and writes the answers to standard output")
+        .after_help("Example: desk replay --db memory --at 1700000000000 < requests.txt")
+        .arg(required_arg(
+            alloc,
+            "db",
+            "FILE|memory",
+            "The file that keeps the records; `memory` keeps them for this run alone",
+        ))?
+        .arg(number_arg(
+            alloc,
+            "at",
+            "MILLIS",
+            4_102_444_799_999,
+            "The moment of all requests, in milliseconds since the start of 1970 (UTC)",
+        ))
+}
+
+/// `--db FILE`.
+fn file_arg<'a>(alloc: Global) -> Arg<'a>
+    ensures rule { rule_of result ≡ db }
+    ensures local { result.global ≡ false }
+{
+    required_arg(alloc, "db", "FILE", "The file that keeps the records")
+}
+
+/// A required option with one value; `value` stands for it in the help.
+fn required_arg<'a>(alloc: Global, name: &'a str, value: &'a str, help: &'a str) -> Arg<'a>
+    ensures rule { rule_of result ≡ required_option name.now }
+    ensures local { result.global ≡ false }
+{
+    Arg::new(alloc, name)
+        .long(name)
+        .required(true)
+        .action(ArgAction::Set)
+        .value_name(value)
+        .help(help)
+}
+
+/// A required option whose value is a number from 0 to `most`.
+fn number_arg<'a>(alloc: Global, name: &'a str, value: &'a str, most: i64, help: &'a str) -> Arg<'a>
+    ensures rule { rule_of result ≡ number name.now most }
+    ensures local { result.global ≡ false }
+{
+    required_arg(alloc, name, value, help).value_parser(value_parser!(u64).range(..=most))
+}
+
+/// The subcommand `serve`.
+fn serve_command<'a>(alloc: Global) -> Result<Command<'a>, AllocError>
+    ensures { IfOk result (IsApp serve) }
+{
+    Command::new(alloc, "serve")
+        .about("Answers requests over the network, to programs on this machine (127.0.0.1)")
+        .after_help("Example: desk serve --db desk.db --port 8080 --connections 100")
+        .arg(file_arg(alloc))?
+        .arg(number_arg(
+            alloc,
+            "port",
+            "P",
+            65_535,
+            "The port on this machine, 0 to 65535; at 0 a free one is chosen and printed",
+        ))?
+        .arg(number_arg(
+            alloc,
+            "connections",
+            "N",
+            4_294_967_295,
+            "How many connections are served, one after another, before the program ends",
+        ))
+}
+
+/// The subcommand `report`.
+fn report_command<'a>(alloc: Global) -> Result<Command<'a>, AllocError>
+    ensures { IfOk result (λ command. (kinds : Choice) × AreKinds kinds × IsApp (report kinds) command) }
+{
+    Command::new(alloc, "report")
+        .about("Prints a report of the records: where the loads are, or what the vehicles hold")
+        .after_help("Example: desk report --db desk.db stock")
+        .arg(file_arg(alloc))?
+        .arg(kind_arg(alloc))
+}
+
+/// The name of a report, which stands by itself.
+fn kind_arg<'a>(alloc: Global) -> Arg<'a>
+    ensures rule { (kinds : Choice) × AreKinds kinds × (rule_of result ≡ report_kind kinds) }
+    ensures local { result.global ≡ false }
+{
+    Arg::new(alloc, "kind")
+        .required(true)
+        .action(ArgAction::Set)
+        .value_name("REPORT")
+        .value_parser(KINDS.as_slice())
+        .help("`stock`: each load and its place; `holds`: what each vehicle holds of the floor")
+}
+
+/// The subcommand `migrate`.
+fn migrate_command<'a>(alloc: Global) -> Result<Command<'a>, AllocError>
+    ensures { IfOk result (IsApp migrate) }
+{
+    Command::new(alloc, "migrate")
+        .about("Moves a file of the first schema (one load a vehicle) to the second")
+        .after_help("Example: sqlite3 desk.db '.backup before.db'; desk migrate --db desk.db")
+        .arg(file_arg(alloc))
+}
+
+/// The line of the subcommand `name`.
+fn named_line<'a>(name: &str, found: &ArgMatches<'a>) -> Line<'a>
+    requires named { (kinds : Choice) × AreKinds kinds × IsOneOf (desk kinds).subs name.now (rows_of (found_of found.now)) }
+    ensures name { name_of result ≡ name.now }
+    ensures values { Gives (rows_of (found_of found.now)) result }
+{
+    match name {
+        "replay" => replay_line(found),
+        "serve" => serve_line(found),
+        "report" => report_line(found),
+        "migrate" => migrate_line(found),
+        _ => unreachable!(),
+    }
+}
+
+/// The line of `replay`.
+fn replay_line<'a>(found: &ArgMatches<'a>) -> Line<'a>
+    requires values { HasValues (rows_of (found_of found.now)) replay.top.rules }
+    ensures name { name_of result ≡ codes "replay" }
+    ensures values { Gives (rows_of (found_of found.now)) result }
+{
+    let Some(db) = found.get_str("db") else {
+        unreachable!()
+    };
+    let Some(at) = found.get_one::<u64>("at") else {
+        unreachable!()
+    };
+    Line::Replay { db, at }
+}
+
+/// The line of `serve`.
+fn serve_line<'a>(found: &ArgMatches<'a>) -> Line<'a>
+    requires values { HasValues (rows_of (found_of found.now)) serve.top.rules }
+    ensures name { name_of result ≡ codes "serve" }
+    ensures values { Gives (rows_of (found_of found.now)) result }
+{
+    let Some(db) = found.get_str("db") else {
+        unreachable!()
+    };
+    let Some(port) = found.get_one::<u16>("port") else {
+        unreachable!()
+    };
+    let Some(connections) = found.get_one::<u32>("connections") else {
+        unreachable!()
+    };
+    Line::Serve {
+        db,
+        port,
+        connections,
+    }
+}
+
+/// The line of `report`.
+fn report_line<'a>(found: &ArgMatches<'a>) -> Line<'a>
+    requires values { (kinds : Choice) × AreKinds kinds × HasValues (rows_of (found_of found.now)) (report kinds).top.rules }
+    ensures name { name_of result ≡ codes "report" }
+    ensures values { Gives (rows_of (found_of found.now)) result }
+{
+    let Some(db) = found.get_str("db") else {
+        unreachable!()
+    };
+    let Some(word) = found.get_str("kind") else {
+        unreachable!()
+    };
+    let Some(kind) = kind_named(word) else {
+        unreachable!()
+    };
+    Line::Report { db, kind }
+}
+
+/// The report of this name.
+fn kind_named(word: &str) -> Option<ReportKind>
+    ensures named { IfSome result (λ kind. word.now ≡ kind_word kind) }
+    ensures known { (kind : ReportKind) → (word.now ≡ kind_word kind) → IsSome result }
+{
+    match word {
+        "stock" => Some(ReportKind::Stock),
+        "holds" => Some(ReportKind::Holds),
+        _ => None,
+    }
+}
+
+/// The line of `migrate`.
+fn migrate_line<'a>(found: &ArgMatches<'a>) -> Line<'a>
+    requires values { HasValues (rows_of (found_of found.now)) migrate.top.rules }
+    ensures name { name_of result ≡ codes "migrate" }
+    ensures values { Gives (rows_of (found_of found.now)) result }
+{
+    let Some(db) = found.get_str("db") else {
+        unreachable!()
+    };
+    Line::Migrate { db }
+}

@@ -1,0 +1,15 @@
+pub mod Creations
+pub mod DeskMade
+pub mod DeskStands
+pub mod Entries
+pub mod IndexTexts
+pub mod IndexesMade
+pub mod MetaRow
+pub mod NamesKept
+pub mod SchemasTold
+pub mod StepsRun
+pub mod TableRoom
+pub mod TableTexts
+pub mod TablesKept
+pub mod TablesMade
+pub mod TablesStand

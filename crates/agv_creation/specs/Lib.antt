@@ -1,0 +1,7 @@
+pub mod DeskSchema
+pub mod DeskTables
+pub mod MakingFault
+pub mod NewDesk
+pub mod SchemaTexts
+pub mod StandingTables
+pub mod TextsRun

@@ -1,0 +1,71 @@
+//! Whether the desk's tables stand in a database, whoever made them.
+ghost use Rattle.std.specs.Prelude.{◌≡◌, ◌↔◌, IfOk, IsTrue, List, Ok, map};
+ghost use Rattle.std.specs.List.{AllByRecursion, AllZip};
+ghost use Rattle.sqlite_schema.specs.declared.schema.Table.{Table};
+ghost use Rattle.sqlite_resolve.specs.Compile.{table_defined_by};
+ghost use Rattle.agv_creation.specs.StandingTables.{IsPlain, StandsAlike, TablesStand};
+
+use crate::table_match::same_table;
+use crate::table_room::leaves_room;
+use crate::table_texts::creation_texts;
+use agv_header::Memory;
+use sqlite_resolve::define_table;
+use sqlite_resolve::error::CompileError;
+use sqlite_schema::schema::{Schema, Table};
+use std::alloc::Global;
+
+// A table has a tree below this number.
+const MAX_TREES: u32 = 1 << 31;
+
+/// Whether the desk's fourteen tables stand in a database, in whatever trees: each with just its columns and keys and no rule
+/// more, no foreign key referring to one of them, and no two tables of the database in one tree. Tables of other names, views and
+/// plain indexes may stand beside them.
+///
+/// # Errors
+/// [`Memory`] for want of memory.
+pub fn tables_stand(alloc: Global, schema: &Schema) -> Result<bool, Memory>
+    ensures { IfOk result (λ stand. IsTrue stand ↔ TablesStand schema.now) }
+{
+    if !leaves_room(schema) {
+        return Ok(false);
+    }
+    stand_by(alloc, schema, &creation_texts())
+}
+
+// The same of each of the tables that the texts define.
+pub fn stand_by(alloc: Global, schema: &Schema, texts: &[&str]) -> Result<bool, Memory>
+    ensures { (tables : List Table) → AllZip (λ text (table : Table). table_defined_by text ≡ Ok table) (map (λ text. text.now) texts.now) tables → AllByRecursion IsPlain tables
+        → IfOk result (λ stand. IsTrue stand ↔ AllByRecursion (StandsAlike schema.now) tables) }
+{
+    let [text, others @ ..] = texts else {
+        return Ok(true);
+    };
+    if !stands_by(alloc, schema, text)? {
+        return Ok(false);
+    }
+    stand_by(alloc, schema, others)
+}
+
+// The same of the table that the text defines.
+fn stands_by(alloc: Global, schema: &Schema, text: &str) -> Result<bool, Memory>
+    ensures { (table : Table) → table_defined_by text.now ≡ Ok table → IsPlain table → IfOk result (λ stand. IsTrue stand ↔ StandsAlike schema.now table) }
+{
+    match define_table(alloc, text.as_bytes()) {
+        Ok(wanted) => Ok(stands_alike(schema, &wanted)),
+        Err(CompileError::OutOfMemory) => Err(Memory),
+        Err(_) => Ok(false),
+    }
+}
+
+// Whether under its name stands just this table.
+fn stands_alike(schema: &Schema, wanted: &Table) -> bool
+    ensures { IsPlain wanted.now → (IsTrue result ↔ StandsAlike schema.now wanted.now) }
+{
+    let Some(at) = schema.table_named(wanted.name.as_slice()) else {
+        return false;
+    };
+    let Some(found) = schema.tables.get(at) else {
+        return false;
+    };
+    found.tree < MAX_TREES && same_table(found, wanted)
+}

@@ -1,0 +1,159 @@
+-- What the calls of a stream make of the desk, request by request, and what a crash leaves.
+use Rattle.std.proofs.Common.{◌≡◌, ◌≢◌, ◌⊎◌, ◌++◌, ℕ, Bool, List, [], ◌∷◌, Result, Ok, Err, inl, inr, refl, sym, ap, ◌∙◌, subst, append-nil}
+use Rattle.std.specs.List.{cons_option}
+use Rattle.sqlite_trees.specs.declared.store.Store.{Ghosts}
+use Rattle.sqlite.specs.Effect.{Database, IsDatabase}
+use Rattle.sqlite.specs.Held.{Held, state}
+use Rattle.sqlite.specs.State.{Survives}
+use Rattle.agv_creation.specs.NewDesk.{TreesTellSchemas}
+use Rattle.agv_desk.specs.Outcomes.{after}
+use Rattle.agv_desk.specs.declared.call.Call.{Call}
+use Rattle.agv_header.specs.declared.refusal.Refusal.{Refusal}
+use Rattle.agv_http.specs.request.Fronts.{HasNext}
+use Rattle.agv_http.specs.request.Heard.{IsHeard, IsLent}
+use Rattle.agv_http.specs.request.Requests.{Request}
+use Rattle.agv_http.specs.Output.{calls_of, timed_call, world_after}
+use Rattle.agv_http.specs.declared.request.heard.Heard.TheVariants as heard
+use Rattle.agv_http.specs.declared.request.heard.RequestRef.{RequestRef}
+use Rattle.agv_schema.specs.Connections.{IsClean}
+use Rattle.agv_schema.specs.SchemaNumbers.{desk_seats}
+use Rattle.agv_store.specs.Floors.{Keyed, Knows, world_at}
+use Rattle.agv_store.specs.Serving.{FoundIn, LeavesCall}
+use Rattle.agv_world.specs.Worlds.{World}
+use Rattle.agv_face.specs.Nexts.{LeavesNext}
+use Rattle.agv_face.specs.Replies.{IsReached, LeavesRequest, call_of, outcome_in}
+use Rattle.agv_face.specs.StreamCalls.{AreDone, AreDoneOrNext}
+use Rattle.agv_face.proofs.InTurn.{CallsInTurn, WorldsInTurn, calls_more, next_world, no_calls}
+
+-- an opening finds the world of a desk that knows one
+abbrev pub FindsKnown : {S : Type 0} → Ghosts S → Type 0
+FindsKnown {S} g = (held : Held S) (world : World) → Knows g held world → (found : Database) → IsDatabase found → (state g held).may_leave found.trees → FoundIn found world
+
+not_nil : {X : Type 0} (l : List X) (x : X) → l ++ x ∷ [] ≢ []
+not_nil [] x is = absurd (cc is)
+not_nil (y ∷ l) x is = absurd (cc is)
+
+module _ {S : Type 0} (g : Ghosts S) (at : ℕ) (desk : Keyed S) where
+  abbrev start : World
+  start = world_at g desk.held
+
+  abbrev Known : Keyed S → Type 0
+  Known now = Knows g now.held (world_at g now.held)
+
+  -- ---- while requests are served
+
+  pub record HasKept (now : Keyed S) (requests : List Request) : Type 0 where
+    -- before the first call the desk is as it was
+    pub untouched : calls_of requests at ≡ [] → now ≡ desk
+    pub knew : IsClean g now.held → calls_of requests at ≢ [] → Knows g desk.held start
+    pub known : IsClean g now.held → calls_of requests at ≢ [] → Known now
+    pub still : IsClean g now.held → Knows g desk.held start → Known now
+
+  pub kept_none : HasKept desk []
+  kept_none = record {
+    untouched = λ _. refl;
+    knew = λ _ some. absurd (some (no_calls at));
+    known = λ _ some. absurd (some (no_calls at));
+    still = λ _ knows. knows;
+  }
+
+  -- one request more
+  module _ (now then : Keyed S) (requests : List Request) (kept : HasKept now requests) (later : IsClean g then.held → IsClean g now.held)
+      (lent : RequestRef) (request : Request) (lent_is : IsLent request lent) (turn : CallsInTurn) where
+    abbrev more : List Request
+    more = requests ++ request ∷ []
+
+    -- that is no call
+    kept_same : then ≡ now → calls_of more at ≡ calls_of requests at → HasKept then more
+    kept_same same none =
+        let Some : List (ℕ × Call) → Type 0 = λ calls. calls ≢ [] in
+        record {
+          untouched = λ is. same ∙ kept.untouched (sym none ∙ is);
+          knew = λ clean some. kept.knew (later clean) (subst Some none some);
+          known = λ clean some. subst Known (sym same) (kept.known (later clean) (subst Some none some));
+          still = λ clean knows. subst Known (sym same) (kept.still (later clean) knows);
+        }
+
+    -- that is a call
+    knew_start : (calls : List (ℕ × Call)) → calls_of requests at ≡ calls → IsClean g now.held → Known now → Knows g desk.held start
+    knew_start [] none clean knows = subst Known (kept.untouched none) knows
+    knew_start (call ∷ calls) is clean knows = kept.knew clean (λ none. let e : call ∷ calls ≡ [] = sym is ∙ none in absurd (cc))
+
+    kept_call : calls_of more at ≢ [] → (IsClean g then.held → Known now × Known then) → HasKept then more
+    kept_call some reached = record {
+      untouched = λ none. absurd (some none);
+      knew = λ clean _. knew_start (calls_of requests at) refl (later clean) (reached clean).0;
+      known = λ clean _. (reached clean).1;
+      still = λ clean _. (reached clean).1;
+    }
+
+    calls_so : (read : Result Call Refusal) → call_of lent ≡ read → calls_of more at ≡ calls_of requests at ++ cons_option (timed_call at read) []
+    calls_so read is = calls_more at requests request lent lent_is turn ∙ ap (λ (r : Result Call Refusal). calls_of requests at ++ cons_option (timed_call at r) []) is
+
+    kept_by : (read : Result Call Refusal) → call_of lent ≡ read → IsReached g now then read → HasKept then more
+    kept_by (Err why) is same = kept_same same (calls_so (Err why) is ∙ append-nil (calls_of requests at))
+    kept_by (Ok call) is reached = kept_call (λ none. not_nil (calls_of requests at) (at, call) (sym (calls_so (Ok call) is) ∙ none)) reached
+
+    pub kept_on : IsReached g now then (call_of lent) → HasKept then more
+    kept_on reached = kept_by (call_of lent) refl reached
+
+  -- ---- at an end
+
+  module _ (finds : FindsKnown g) (now : Keyed S) (requests : List Request) (kept : HasKept now requests) (world_is : IsClean g now.held → world_at g now.held ≡ world_after desk_seats start at requests) where
+    found_now : IsClean g now.held → Known now → (found : Database) → IsDatabase found → (state g now.held).may_leave found.trees → FoundIn found (world_after desk_seats start at requests)
+    found_now clean knows found listed left =
+        let Found : World → Type 0 = λ world. FoundIn found world in
+        subst Found (world_is clean) (finds now.held (world_at g now.held) knows found listed left)
+
+    pub are_done : AreDone g at desk now requests
+    are_done = record {
+      knew = kept.knew;
+      knows = λ clean some. let So : World → Type 0 = λ world. Knows g now.held world in subst So (world_is clean) (kept.known clean some);
+      crash = λ clean knew found listed left. found_now clean (kept.still clean knew) found listed left;
+    }
+
+    -- another request was begun, and has no answer
+    module _ (then : Keyed S) (schemas : TreesTellSchemas) (turn : WorldsInTurn) (input buf : List ℕ) (ended : Bool)
+        (crash : Survives (state g now.held) (state g then.held) (LeavesNext g now.held at buf ended)) (later : IsClean g then.held → IsClean g now.held)
+        (goes : (lent : RequestRef) → IsHeard buf ended (heard.Request lent) → (request : Request) × IsLent request lent × HasNext input requests request) where
+      abbrev FoundSo : Database → Type 0
+      FoundSo found = FoundIn found (world_after desk_seats start at requests)
+          ⊎ ((request : Request) × HasNext input requests request × FoundIn found (world_after desk_seats start at (requests ++ request ∷ [])))
+
+      found_next : IsClean g now.held → (found : Database) → IsDatabase found → (lent : RequestRef) → (request : Request) × IsLent request lent × HasNext input requests request
+          → (read : Result Call Refusal) → call_of lent ≡ read → LeavesRequest g now.held at read found.trees → FoundSo found
+      found_next clean found listed lent goes (Err why) is leaves = absurd leaves
+      found_next clean found listed lent goes (Ok call) is leaves =
+          let left : LeavesCall g now.held at call found.trees = leaves in
+          let trees_same : found.trees ≡ left.found.trees = sym left.trees_are in
+          let schema = schemas left.found found left.listed listed trees_same in
+          let found_is : found ≡ left.found = λ i. record { schema = schema i; trees = trees_same i } in
+          let world_then =
+          ap (λ (world : World). after world (outcome_in world at (Ok call))) (world_is clean)
+          ∙ ap (λ (r : Result Call Refusal). after (world_after desk_seats start at requests) (outcome_in (world_after desk_seats start at requests) at r)) (sym is)
+          ∙ next_world start at requests goes.0 lent goes.1 turn in
+          let In : Database → Type 0 = λ db. FoundIn db (after (world_at g now.held) (outcome_in (world_at g now.held) at (Ok call))) in
+          let Found : World → Type 0 = λ world. FoundIn found world in
+          inr (goes.0, goes.2, subst Found world_then (subst In (sym found_is) left.has))
+
+      found_either : IsClean g now.held → Known now → (found : Database) → IsDatabase found → (state g now.held).may_leave found.trees ⊎ LeavesNext g now.held at buf ended found.trees → FoundSo found
+      found_either clean knows found listed (inl before) = inl (found_now clean knows found listed before)
+      found_either clean knows found listed (inr next) = found_next clean found listed next.0 (goes next.0 next.1) (call_of next.0) refl next.2
+
+      pub are_done_or_next : AreDoneOrNext g at desk then input requests
+      are_done_or_next = record {
+        knew = λ clean some. kept.knew (later clean) some;
+        crash = λ clean knew found listed left. found_either (later clean) (kept.still (later clean) knew) found listed (crash.crash clean found.trees left);
+      }
+
+    -- or its answer was cut
+    pub or_next : (then : Keyed S) (input : List ℕ) (request : Request) → HasNext input requests request → (IsClean g then.held → IsClean g now.held) → AreDone g at desk then (requests ++ request ∷ [])
+        → AreDoneOrNext g at desk then input requests
+    or_next then input request next later done = record {
+      knew = λ clean some. kept.knew (later clean) some;
+      crash = λ clean knew found listed left. inr (request, next, done.crash clean knew found listed left);
+    }
+
+-- nothing more was begun
+pub none_next : {S : Type 0} (g : Ghosts S) (at : ℕ) (desk then : Keyed S) (input : List ℕ) (requests : List Request) → AreDone g at desk then requests → AreDoneOrNext g at desk then input requests
+none_next g at desk then input requests done = record { knew = done.knew; crash = λ clean knew found listed left. inl (done.crash clean knew found listed left) }

@@ -1,0 +1,4 @@
+use Rattle.agv_face.proofs.laws.streams_have_histories.Goals as goal
+
+pub returns-clause-start : goal.returns-clause-start
+returns-clause-start g c desk desk_then requests done clean some = (done.knew clean some).has.lawful

@@ -1,0 +1,47 @@
+-- What the calls of a stream make of the desk, and what a crash leaves of its tables.
+use Rattle.std.specs.Prelude.{◌≢◌, ◌⊎◌, ℕ, List, [], ◌∷◌, ◌++◌}
+use Rattle.sqlite_trees.specs.declared.store.Store.{Ghosts}
+use Rattle.sqlite.specs.Effect.{Database, IsDatabase}
+use Rattle.sqlite.specs.Held.{state}
+use Rattle.agv_http.specs.request.Fronts.{HasNext}
+use Rattle.agv_http.specs.request.Requests.{Request}
+use Rattle.agv_http.specs.Output.{calls_of, world_after}
+use Rattle.agv_http.specs.StreamEnds.{IsOfMachine}
+use Rattle.agv_schema.specs.Connections.{IsClean}
+use Rattle.agv_schema.specs.SchemaNumbers.{desk_seats}
+use Rattle.agv_store.specs.Floors.{Keyed, Knows, world_at}
+use Rattle.agv_store.specs.Serving.{FoundIn}
+use Rattle.agv_world.specs.Worlds.{World}
+use Rattle.agv_face.specs.declared.stream_end.Ended.{Ended}
+use Rattle.agv_face.specs.declared.stream_end.Ended.TheVariants as ended
+
+-- the desk before and after
+module _ {S : Type 0} (g : Ghosts S) (at : ℕ) (desk desk_then : Keyed S) where
+  -- the world after these requests
+  abbrev pub world_of : List Request → World
+  world_of requests = world_after desk_seats (world_at g desk.held) at requests
+
+  -- of a desk that knew a world, an opening after a crash finds a database that is so
+  abbrev pub CrashLeaves : (Database → Type 0) → Type 0
+  CrashLeaves IsSo = IsClean g desk_then.held → Knows g desk.held (world_at g desk.held)
+      → (found : Database) → IsDatabase found → (state g desk_then.held).may_leave found.trees → IsSo found
+
+  -- these requests were answered, and no other one was begun
+  pub record AreDone (requests : List Request) : Type 0 where
+    -- a call is answered only by a desk that knew a lawful world
+    pub knew : IsClean g desk_then.held → calls_of requests at ≢ [] → Knows g desk.held (world_at g desk.held)
+    -- then the store is open, and the desk knows the world that the requests have left
+    pub knows : IsClean g desk_then.held → calls_of requests at ≢ [] → Knows g desk_then.held (world_of requests)
+    pub crash : CrashLeaves (λ found. FoundIn found (world_of requests))
+
+  -- these requests were answered, and the next one of the input may have been begun
+  pub record AreDoneOrNext (input : List ℕ) (requests : List Request) : Type 0 where
+    pub knew : IsClean g desk_then.held → calls_of requests at ≢ [] → Knows g desk.held (world_at g desk.held)
+    pub crash : CrashLeaves (λ found. FoundIn found (world_of requests)
+        ⊎ ((request : Request) × HasNext input requests request × FoundIn found (world_of (requests ++ request ∷ []))))
+
+  -- as a stream is served to this end
+  abbrev pub AreDoneBy : List ℕ → List Request → Ended → Type 0
+  AreDoneBy input requests ended.End = AreDone requests
+  AreDoneBy input requests ended.Close = AreDone requests
+  AreDoneBy input requests (ended.Refused why) = AreDone requests ⊎ (IsOfMachine why × AreDoneOrNext input requests)

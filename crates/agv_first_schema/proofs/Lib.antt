@@ -1,0 +1,14 @@
+pub mod AddedTables
+pub mod AddingSteps
+pub mod CarriedSingly
+pub mod Found
+pub mod ListsRead
+pub mod MovedRows
+pub mod MovedWorld
+pub mod MovingEach
+pub mod MovingStatements
+pub mod NoList
+pub mod TablesStanding
+pub mod TripLineLemmas
+pub mod TripRows
+pub mod WorldTold

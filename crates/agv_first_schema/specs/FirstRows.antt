@@ -1,0 +1,81 @@
+-- The first schema: eleven of the desk's tables, and the rows that they have of a world in which each vehicle has room for one load.
+use Rattle.std.specs.Prelude.{◌≡◌, ◌≢◌, ℕ, Bool, true, false, List, [], ◌∷◌}
+use Rattle.std.specs.FinMap as finite
+use Rattle.std.specs.List.{AllZip, flat_map}
+use Rattle.sqlite_value.specs.Order.{Row}
+use Rattle.sqlite_trees.specs.Tree.{IsAscending}
+use Rattle.sqlite_schema.specs.declared.schema.Table.{Table}
+use Rattle.sqlite.specs.Effect.{Database}
+use Rattle.agv_header.specs.Name.{name_cmp}
+use Rattle.agv_world.specs.Lawful.{IsLawful}
+use Rattle.agv_world.specs.Rows.{Rows, rows_of}
+use Rattle.agv_world.specs.Worlds.{World}
+use Rattle.agv_world.specs.declared.row.TripRow.{TripRow}
+use Rattle.agv_rows.specs.Columns.{meta_columns, node_columns, edge_columns, station_columns, vehicle_columns, leg_columns, load_columns, job_columns, hold_columns, used_columns}
+use Rattle.agv_schema.specs.DeskRows.{Placing, HaveRows, TableStands, width_of}
+use Rattle.agv_rows.specs.RowLists.{row_if, rows_for, rows_in}
+use Rattle.agv_schema.specs.declared.table_name.TableName.{TableName}
+use Rattle.agv_schema.specs.declared.table_name.TableName.TheVariants as the
+use Rattle.agv_first_schema.specs.FirstColumns.{trip_columns}
+use Rattle.agv_first_schema.specs.TripLines.{line_of}
+
+-- ---- the tables
+
+-- the number of the first schema, in the one row of `meta`
+abbrev pub first_schema : ℕ
+first_schema = 1
+
+-- the eleven tables, in the order of the lists of their rows
+abbrev pub first_names : List TableName
+first_names = the.Meta ∷ the.Node ∷ the.Edge ∷ the.Station ∷ the.Vehicle ∷ the.Trip ∷ the.Leg ∷ the.Load ∷ the.Job ∷ the.Hold ∷ the.Used ∷ []
+
+-- the table is one of them: the three others came with the second schema
+abbrev pub is_first : TableName → Bool
+is_first the.Capacity = false
+is_first the.Journey = false
+is_first the.Act = false
+is_first _ = true
+
+-- the eleven stand in the schema, whatever other tables stand there, and whatever indexes there are
+pub record IsFirstDesk (desk : Placing) : Type 0 where
+  pub stands : (name : TableName) → is_first name ≡ true → TableStands desk name
+  -- no two tables have one tree
+  pub apart : IsAscending (λ (s t : Table). s.tree ≢ t.tree) desk.schema.tables
+
+-- ---- their rows
+
+-- the database has this schema, and the eleven tables have these rows, one list for each
+pub record FirstHolds (desk : Placing) (db : Database) (lists : List (List Row)) : Type 0 where
+  pub schema_is : db.schema ≡ desk.schema
+  pub rows : AllZip (λ name rows. HaveRows (width_of name) (db.trees (desk.tree name)) rows) first_names lists
+
+-- the row of each open trip of one job; no other trip has one
+abbrev pub trip_rows : finite.FinMap name_cmp TripRow → List Row
+trip_rows trips = flat_map (λ (entry : List ℕ × TripRow). row_if trip_columns (line_of entry.0 entry.1)) (finite.entries trips)
+
+-- the rows of a world, table by table
+unfoldable pub first_lists : Rows → List (List Row)
+first_lists rows =
+    (meta_columns 1 first_schema ∷ [])
+    ∷ rows_for node_columns rows.nodes
+    ∷ rows_in edge_columns rows.edges
+    ∷ rows_in station_columns rows.stations
+    ∷ rows_in vehicle_columns rows.vehicles
+    ∷ trip_rows rows.trips
+    ∷ rows_in leg_columns rows.legs
+    ∷ rows_in load_columns rows.loads
+    ∷ rows_in job_columns rows.jobs
+    ∷ rows_in hold_columns rows.holds
+    ∷ rows_for used_columns rows.used ∷ []
+
+-- ---- a database
+
+-- the eleven tables in the database have the rows of this lawful world, in which each vehicle has room for one load
+pub record HasFirstWorld (desk : Placing) (db : Database) (world : World) : Type 0 where
+  pub stands : IsFirstDesk desk
+  pub lawful : IsLawful 1 world
+  pub rows : FirstHolds desk db (first_lists (rows_of world))
+
+-- the database has the rows of no such world
+abbrev pub HasNoFirstWorld : Database → Type 0
+HasNoFirstWorld db = (desk : Placing) (world : World) → ¬ HasFirstWorld desk db world

@@ -1,0 +1,6 @@
+pub mod FirstColumns
+pub mod FirstFound
+pub mod FirstRows
+pub mod FirstTold
+pub mod Moved
+pub mod TripLines

@@ -1,0 +1,169 @@
+//! The rows of the first schema are written as the second has them, inside a transaction in which the fourteen tables stand.
+//!
+//! Each clause `made` says what becomes of the rows, whatever they are. An error changes what the transaction's end undoes.
+ghost use Rattle.std.specs.Prelude.{◌≡◌, IsTrue, OnOk};
+ghost use Rattle.std.specs.FinMap as finite;
+ghost use Rattle.sqlite.specs.State.{HasCleanDisk, KeepsCommit, Survives};
+ghost use Rattle.sqlite.specs.Held.{state};
+ghost use Rattle.sqlite.specs.Values.{bound};
+ghost use Rattle.agv_schema.specs.declared.table_name.TableName.TheVariants as the;
+ghost use Rattle.agv_first_schema.specs.Moved.{for_each, moved_lists, numbered_anew, with_journey, with_room, without_all};
+ghost use Rattle.agv_rows.specs.Columns.{journey_columns, meta_columns, room_columns};
+ghost use Rattle.agv_schema.specs.DeskRows.{Makes, with_row};
+ghost use Rattle.agv_schema.specs.SchemaNumbers.{schema_number};
+
+use agv_changes::act_writes::add_acts;
+use agv_header::{Name, VehicleKey};
+use agv_rows::row_values::{capacity_values, journey_values};
+use agv_schema::world_table::WorldTable;
+use agv_statements::row_writes::insert_row;
+use agv_trip_rows::JourneyRow;
+use agv_world::{ByName, ByVehicle, TripRow, VehicleRow, World};
+use sqlite::types::{ToSql, ValueRef};
+use sqlite::{Alter, Error, Transaction};
+
+/// The open trips stand as journeys and acts, each vehicle has a row of its room, and `meta` has the number of the second schema.
+pub(crate) fn move_rows<S: Alter>(tx: &mut Transaction<'_, S>, tables: &World) -> Result<(), Error>
+    ensures same_reference { tx.new.conn.ghost_name ≡ tx.old.conn.ghost_name }
+    ensures survives { Survives (state S.Store tx.old.conn.now) (state S.Store tx.new.conn.now) (λ _. ⊥) }
+    ensures kept { HasCleanDisk (state S.Store tx.new.conn.now) → KeepsCommit (state S.Store tx.old.conn.now) (state S.Store tx.new.conn.now) }
+    ensures made { HasCleanDisk (state S.Store tx.new.conn.now)
+        → OnOk result (Makes (moved_lists tables.now) (state S.Store tx.old.conn.now) (state S.Store tx.new.conn.now)) }
+{
+    empty_trips(tx)?;
+    number_anew(tx)?;
+    add_rooms(tx, &tables.vehicles)?;
+    add_trips(tx, &tables.trips)
+}
+
+// Takes out all rows of `trip`.
+fn empty_trips<S: Alter>(tx: &mut Transaction<'_, S>) -> Result<usize, Error>
+    ensures same_reference { tx.new.conn.ghost_name ≡ tx.old.conn.ghost_name }
+    ensures survives { Survives (state S.Store tx.old.conn.now) (state S.Store tx.new.conn.now) (λ _. ⊥) }
+    ensures kept { HasCleanDisk (state S.Store tx.new.conn.now) → KeepsCommit (state S.Store tx.old.conn.now) (state S.Store tx.new.conn.now) }
+    ensures made { HasCleanDisk (state S.Store tx.new.conn.now)
+        → OnOk result (Makes (without_all the.Trip) (state S.Store tx.old.conn.now) (state S.Store tx.new.conn.now)) }
+{
+    tx.execute("DELETE FROM trip", &[])
+}
+
+// The number of the second schema stands in `meta`.
+fn number_anew<S: Alter>(tx: &mut Transaction<'_, S>) -> Result<usize, Error>
+    ensures same_reference { tx.new.conn.ghost_name ≡ tx.old.conn.ghost_name }
+    ensures survives { Survives (state S.Store tx.old.conn.now) (state S.Store tx.new.conn.now) (λ _. ⊥) }
+    ensures kept { HasCleanDisk (state S.Store tx.new.conn.now) → KeepsCommit (state S.Store tx.old.conn.now) (state S.Store tx.new.conn.now) }
+    ensures made { HasCleanDisk (state S.Store tx.new.conn.now)
+        → OnOk result (Makes numbered_anew (state S.Store tx.old.conn.now) (state S.Store tx.new.conn.now)) }
+{
+    clear_number(tx)?;
+    write_number(tx)
+}
+
+// Takes out the row of `meta`.
+fn clear_number<S: Alter>(tx: &mut Transaction<'_, S>) -> Result<usize, Error>
+    ensures same_reference { tx.new.conn.ghost_name ≡ tx.old.conn.ghost_name }
+    ensures survives { Survives (state S.Store tx.old.conn.now) (state S.Store tx.new.conn.now) (λ _. ⊥) }
+    ensures kept { HasCleanDisk (state S.Store tx.new.conn.now) → KeepsCommit (state S.Store tx.old.conn.now) (state S.Store tx.new.conn.now) }
+    ensures made { HasCleanDisk (state S.Store tx.new.conn.now)
+        → OnOk result (Makes (without_all the.Meta) (state S.Store tx.old.conn.now) (state S.Store tx.new.conn.now)) }
+{
+    tx.execute("DELETE FROM meta", &[])
+}
+
+// Adds it.
+fn write_number<S: Alter>(tx: &mut Transaction<'_, S>) -> Result<usize, Error>
+    ensures same_reference { tx.new.conn.ghost_name ≡ tx.old.conn.ghost_name }
+    ensures survives { Survives (state S.Store tx.old.conn.now) (state S.Store tx.new.conn.now) (λ _. ⊥) }
+    ensures kept { HasCleanDisk (state S.Store tx.new.conn.now) → KeepsCommit (state S.Store tx.old.conn.now) (state S.Store tx.new.conn.now) }
+    ensures made { HasCleanDisk (state S.Store tx.new.conn.now)
+        → OnOk result (Makes (with_row the.Meta (meta_columns 1 schema_number)) (state S.Store tx.old.conn.now) (state S.Store tx.new.conn.now)) }
+{
+    tx.execute(
+        "INSERT INTO meta (id, schema) VALUES (?1, ?2)",
+        &number_values(),
+    )
+}
+
+// The row of `meta` of the second schema.
+fn number_values() -> [ValueRef<'static>; 2]
+    ensures { bound result ≡ meta_columns 1 schema_number }
+{
+    [1u32.to_sql(), 2u32.to_sql()]
+}
+
+// Adds the room of each vehicle.
+fn add_rooms<S: Alter>(
+    tx: &mut Transaction<'_, S>,
+    vehicles: &ByVehicle<VehicleRow>,
+) -> Result<(), Error>
+    ensures same_reference { tx.new.conn.ghost_name ≡ tx.old.conn.ghost_name }
+    ensures survives { Survives (state S.Store tx.old.conn.now) (state S.Store tx.new.conn.now) (λ _. ⊥) }
+    ensures kept { HasCleanDisk (state S.Store tx.new.conn.now) → KeepsCommit (state S.Store tx.old.conn.now) (state S.Store tx.new.conn.now) }
+    ensures made { HasCleanDisk (state S.Store tx.new.conn.now) → IsTrue (state S.Store tx.old.conn.now).in_transaction
+        → OnOk result (Makes (for_each with_room (finite.entries vehicles.now)) (state S.Store tx.old.conn.now) (state S.Store tx.new.conn.now)) }
+{
+    for (key, vehicle) in vehicles.iter() {
+        add_room(tx, key, vehicle)?;
+    }
+    Ok(())
+}
+
+// Adds the room of a vehicle.
+fn add_room<S: Alter>(
+    tx: &mut Transaction<'_, S>,
+    key: &VehicleKey,
+    vehicle: &VehicleRow,
+) -> Result<usize, Error>
+    ensures same_reference { tx.new.conn.ghost_name ≡ tx.old.conn.ghost_name }
+    ensures survives { Survives (state S.Store tx.old.conn.now) (state S.Store tx.new.conn.now) (λ _. ⊥) }
+    ensures kept { HasCleanDisk (state S.Store tx.new.conn.now) → KeepsCommit (state S.Store tx.old.conn.now) (state S.Store tx.new.conn.now) }
+    ensures made { HasCleanDisk (state S.Store tx.new.conn.now)
+        → OnOk result (Makes (with_row the.Capacity (room_columns key.now vehicle.now)) (state S.Store tx.old.conn.now) (state S.Store tx.new.conn.now)) }
+{
+    insert_row(tx, WorldTable::Capacity, &capacity_values(key, vehicle))
+}
+
+// Adds the journey and the acts of each open trip.
+fn add_trips<S: Alter>(tx: &mut Transaction<'_, S>, trips: &ByName<TripRow>) -> Result<(), Error>
+    ensures same_reference { tx.new.conn.ghost_name ≡ tx.old.conn.ghost_name }
+    ensures survives { Survives (state S.Store tx.old.conn.now) (state S.Store tx.new.conn.now) (λ _. ⊥) }
+    ensures kept { HasCleanDisk (state S.Store tx.new.conn.now) → KeepsCommit (state S.Store tx.old.conn.now) (state S.Store tx.new.conn.now) }
+    ensures made { HasCleanDisk (state S.Store tx.new.conn.now) → IsTrue (state S.Store tx.old.conn.now).in_transaction
+        → OnOk result (Makes (for_each with_journey (finite.entries trips.now)) (state S.Store tx.old.conn.now) (state S.Store tx.new.conn.now)) }
+{
+    for (order, trip) in trips.iter() {
+        add_trip(tx, order, trip)?;
+    }
+    Ok(())
+}
+
+// Adds the journey and the acts of an open trip.
+fn add_trip<S: Alter>(
+    tx: &mut Transaction<'_, S>,
+    order: &Name,
+    trip: &TripRow,
+) -> Result<(), Error>
+    ensures same_reference { tx.new.conn.ghost_name ≡ tx.old.conn.ghost_name }
+    ensures survives { Survives (state S.Store tx.old.conn.now) (state S.Store tx.new.conn.now) (λ _. ⊥) }
+    ensures kept { HasCleanDisk (state S.Store tx.new.conn.now) → KeepsCommit (state S.Store tx.old.conn.now) (state S.Store tx.new.conn.now) }
+    ensures made { HasCleanDisk (state S.Store tx.new.conn.now)
+        → OnOk result (Makes (with_journey (order.now, trip.now)) (state S.Store tx.old.conn.now) (state S.Store tx.new.conn.now)) }
+{
+    add_journey(tx, order, &JourneyRow::of(trip))?;
+    add_acts(tx, order, trip.acts.as_slice())
+}
+
+// Adds the journey of an open trip.
+fn add_journey<S: Alter>(
+    tx: &mut Transaction<'_, S>,
+    order: &Name,
+    journey: &JourneyRow,
+) -> Result<usize, Error>
+    ensures same_reference { tx.new.conn.ghost_name ≡ tx.old.conn.ghost_name }
+    ensures survives { Survives (state S.Store tx.old.conn.now) (state S.Store tx.new.conn.now) (λ _. ⊥) }
+    ensures kept { HasCleanDisk (state S.Store tx.new.conn.now) → KeepsCommit (state S.Store tx.old.conn.now) (state S.Store tx.new.conn.now) }
+    ensures made { HasCleanDisk (state S.Store tx.new.conn.now)
+        → OnOk result (Makes (with_row the.Journey (journey_columns order.now journey.now)) (state S.Store tx.old.conn.now) (state S.Store tx.new.conn.now)) }
+{
+    insert_row(tx, WorldTable::Journey, &journey_values(order, journey))
+}

@@ -1,0 +1,96 @@
+//! The open trips of the first schema, as its rows tell them.
+ghost use Rattle.std.specs.Prelude.{◌≡◌, IfOk};
+ghost use Rattle.std.specs.FinMap as map;
+ghost use Rattle.agv_first_schema.specs.FirstColumns.{trip_in, trip_with};
+ghost use Rattle.agv_row_reading.specs.ReadTables.{Reads, read_rows};
+
+use crate::trip_line::TripLine;
+use agv_header::{Memory, Name};
+use agv_row_reading::ReadingFault;
+use agv_rows::decode_row::key_at;
+use agv_rows::decode_value::{maybe_number_at, name_at, number_at, status_at};
+use agv_world::{ByName, JobRow, TripRow};
+use sqlite::Row;
+use std::alloc::Global;
+
+/// The table that these rows tell.
+pub(crate) fn trips_in_rows(
+    alloc: Global,
+    rows: &[Row],
+    jobs: &ByName<JobRow>,
+) -> Result<ByName<TripRow>, ReadingFault>
+    ensures { Reads result (read_rows (trip_with jobs.now) map.empty rows.now) }
+{
+    let mut table = ByName::new(alloc);
+    for row in rows {
+        let entry = trip_in_row(alloc, row, jobs)?;
+        match entry {
+            None => return Err(ReadingFault::Damaged),
+            Some((order, trip)) => {
+                if table.get(order).is_some() {
+                    return Err(ReadingFault::Damaged);
+                }
+                table.insert(order, trip)?;
+            }
+        }
+    }
+    Ok(table)
+}
+
+// The order and the trip that a row tells, where its job is one of these.
+fn trip_in_row(
+    alloc: Global,
+    row: &Row,
+    jobs: &ByName<JobRow>,
+) -> Result<Option<(Name, TripRow)>, Memory>
+    ensures { IfOk result (λ entry. entry ≡ trip_with jobs.now row.now) }
+{
+    match decode_trip(row) {
+        None => Ok(None),
+        Some(line) => match jobs.get(line.job) {
+            None => Ok(None),
+            Some(job) => {
+                let trip = line.trip(alloc, job)?;
+                Ok(Some((line.order, trip)))
+            }
+        },
+    }
+}
+
+// An open trip of one job.
+#[tactic(auto, unfolding(crate::specs::FirstColumns::trip_in))]
+fn decode_trip(row: &Row) -> Option<TripLine>
+    ensures { result ≡ trip_in row.now }
+{
+    if row.column_count() != 14 {
+        return None;
+    }
+    let order = name_at(row, 0)?;
+    let vehicle = key_at(row, 1, 2)?;
+    let job = name_at(row, 3)?;
+    let start = name_at(row, 4)?;
+    let first = number_at(row, 5)?;
+    let base = number_at(row, 6)?;
+    let sent = number_at(row, 7)?;
+    let confirmed = maybe_number_at(row, 8)?;
+    let seen = number_at(row, 9)?;
+    let pick_at = number_at(row, 10)?;
+    let drop_at = number_at(row, 11)?;
+    let pick_status = status_at(row, 12)?;
+    let drop_status = status_at(row, 13)?;
+    Some(TripLine {
+        order,
+        vehicle,
+        job,
+        start,
+        first,
+        base,
+        sent,
+        confirmed,
+        seen,
+        pick_at,
+        drop_at,
+        pick_status,
+        drop_status,
+    })
+}

@@ -1,0 +1,162 @@
+-- How a run of the program ends: which fault it tells, its exit status, and what it says.
+use Rattle.std.specs.Prelude.{◌≡◌, ◌⊎◌, ◌<◌, ◌≤◌, ℕ, ◌++◌, Bool, List, [], Option, Some, None, Result, Ok, Err, IfOk, codes}
+use Rattle.sqlite_trees.specs.declared.store.Store.{Ghosts}
+use Rattle.sqlite.specs.Held.{Held, state}
+use Rattle.sqlite.specs.Steps.{IsEmpty}
+use Rattle.sqlite.specs.declared.error.Error.{Error}
+use Rattle.agv_header.specs.declared.refusal.Refusal.TheVariants as refusal
+use Rattle.agv_world.specs.Worlds.{empty_world}
+use Rattle.agv_face.specs.Bytes.{IsPutWhole}
+use Rattle.agv_face.specs.StreamEnd.{IsStreamEnd}
+use Rattle.agv_face.specs.declared.stream_end.Ended.{Ended}
+use Rattle.agv_face.specs.declared.stream_end.Ended.TheVariants as ended
+use Rattle.agv_face.specs.declared.stream_end.Served.{Served}
+use Rattle.agv_face.specs.declared.stream_end.StreamFault.{StreamFault}
+use Rattle.agv_face.specs.declared.stream_end.StreamFault.TheVariants as stream
+use Rattle.agv_face.specs.declared.counting_io.CountingIo.{CountingIo}
+use Rattle.agv_database.specs.MemoryStores.{MemoryStore, over_memory_files}
+use Rattle.agv_schema.specs.Connections.{IsClean}
+use Rattle.agv_store.specs.Floors.{Keyed, world_at}
+use Rattle.agv_store.specs.declared.open_fault.OpenFault.{OpenFault}
+use Rattle.agv_store.specs.declared.open_fault.OpenFault.TheVariants as opening
+use Rattle.agv_command_line.specs.CommandLine.{last_moment}
+use Rattle.agv_command_line.specs.declared.line.Line.{Line}
+use Rattle.agv_command_line.specs.declared.line.Line.TheVariants as line
+use Rattle.agv_command_line.specs.declared.line.LineFault.{LineFault}
+use Rattle.agv_command_line.specs.declared.line.LineFault.TheVariants as words
+use Rattle.agv_program.specs.declared.outcome.NoLine.{NoLine}
+use Rattle.agv_program.specs.declared.outcome.NoLine.TheVariants as without
+use Rattle.agv_program.specs.declared.outcome.RunFault.{RunFault}
+use Rattle.agv_program.specs.declared.outcome.RunFault.TheVariants as fault
+
+-- ---- how a run ends
+
+-- all was done, or there was a fault
+abbrev pub RunEnd : Type 0
+RunEnd = Result (Unit {0}) RunFault
+
+-- the fault where no desk was opened
+abbrev pub opening_fault : OpenFault → RunFault
+opening_fault opening.Damaged = fault.Damaged
+opening_fault opening.Memory = fault.Memory
+opening_fault opening.Storage = fault.Storage
+
+-- the end of a run whose stream was served to this end: a fault of the machine that was its last answer is told
+abbrev pub end_by : Ended → RunEnd
+end_by (ended.Refused refusal.Memory) = Err fault.Memory
+end_by (ended.Refused refusal.Storage) = Err fault.Storage
+end_by _ = Ok tt
+
+-- the end of a run whose stream ended so
+abbrev pub end_of : Result Served StreamFault → RunEnd
+end_of (Ok served) = end_by served.ended
+end_of (Err (stream.Read answers)) = Err fault.Read
+end_of (Err (stream.Write answers)) = Err fault.Write
+
+-- ---- what it says, and its exit status
+
+-- the name of a fault
+abbrev pub fault_name : RunFault → List ℕ
+fault_name fault.Damaged = codes "Damaged"
+fault_name fault.Memory = codes "Memory"
+fault_name fault.Storage = codes "Storage"
+fault_name fault.Read = codes "Read"
+fault_name fault.Write = codes "Write"
+fault_name fault.Net = codes "Net"
+fault_name fault.Clock = codes "Clock"
+
+-- the line that says it
+abbrev pub fault_line : RunFault → List ℕ
+fault_line why = codes "fault: " ++ fault_name why ++ codes "\n"
+
+-- the exit status of a run
+abbrev pub status_of : RunEnd → ℕ
+status_of (Ok done) = 0
+status_of (Err why) = 1
+
+-- a fault was said in its line, whole, or cut where a write failed; where all was done nothing was said
+module _ {E : Type 0} (contents : E → Option (List ℕ)) (errors errors_then : CountingIo E) where
+  abbrev pub IsTold : RunEnd → Type 0
+  IsTold (Ok done) = errors_then ≡ errors
+  IsTold (Err why) = (whole : Bool) × IsPutWhole contents errors errors_then (fault_line why) whole
+
+-- ---- a desk is opened
+
+-- a database with no table was opened, whose store always gives back what was written; or none could be
+abbrev pub IsNewDatabase : {S : Type 0} → Ghosts S → Result (Held S) Error → Type 0
+IsNewDatabase {S = S} g opened = ((held : Held S) → IsClean g held) × IfOk opened (λ conn. IsEmpty (state g conn))
+
+-- the desk's world is the empty one
+abbrev pub KnowsNothing : {S : Type 0} → Ghosts S → Keyed S → Type 0
+KnowsNothing g desk = world_at g desk.held ≡ empty_world
+
+-- ---- a line that is carried out
+
+-- the most reads of a stream
+abbrev pub stream_reads : ℕ
+stream_reads = 16777216
+
+-- the reader of the input and the writer of the output, each before and after
+module _ {R W : Type 0} (remaining : R → Option (List ℕ)) (contents : W → Option (List ℕ)) (reader reader_then : CountingIo R) (writer writer_then : CountingIo W) where
+  -- nothing was read or written
+  abbrev pub IsUntouched : Type 0
+  IsUntouched = (reader_then ≡ reader) × (writer_then ≡ writer)
+
+  -- the input was served from this desk on, at a moment
+  pub record IsServedRun {S : Type 0} (g : Ghosts S) (at : ℕ) (desk : Keyed S) (end : RunEnd) : Type 0 where
+    pub desk_then : Keyed S
+    pub ended : Result Served StreamFault
+    pub stream : IsStreamEnd g remaining contents at stream_reads desk desk_then reader reader_then writer writer_then ended
+    pub end_is : end ≡ end_of ended
+
+  -- it was so at a number of milliseconds that is a moment; at another it is the clock's fault
+  abbrev pub IsReplayed : {S : Type 0} → Ghosts S → ℕ → Keyed S → RunEnd → Type 0
+  IsReplayed g at desk end = (at ≤ last_moment → IsServedRun g at desk end) × (last_moment < at → IsUntouched × (end ≡ Err fault.Clock))
+
+  -- no desk could be had in a new database, or the input was served from the world of a desk that knows nothing yet
+  abbrev pub IsReplayedAnew : {S : Type 0} → Ghosts S → ℕ → RunEnd → Type 0
+  IsReplayedAnew {S = S} g at end =
+      (IsUntouched × ((end ≡ Err fault.Memory) ⊎ (end ≡ Err fault.Storage)))
+      ⊎ ((desk : Keyed S) × KnowsNothing g desk × IsReplayed g at desk end)
+
+  -- so it was in memory
+  abbrev pub IsReplayedInMemory : ℕ → RunEnd → Type 0
+  IsReplayedInMemory = IsReplayedAnew over_memory_files
+
+  -- the end of a line; of files and sockets nothing is said here
+  abbrev pub IsCarriedOut : Line → RunEnd → Type 0
+  IsCarriedOut (line.Replay db at) end = db.now ≡ codes "memory" → IsReplayedInMemory at end
+  IsCarriedOut (line.Serve db port connections) end = Unit {0}
+  IsCarriedOut (line.Report db kind) end = Unit {0}
+  IsCarriedOut (line.Migrate db) end = Unit {0}
+
+-- a line was carried out to an end, which was told and gave the exit status
+pub record IsRun {R W E : Type 0} (remaining : R → Option (List ℕ)) (contents : W → Option (List ℕ)) (contents_of_errors : E → Option (List ℕ)) (asked : Line)
+    (reader reader_then : CountingIo R) (writer writer_then : CountingIo W) (errors errors_then : CountingIo E) (status : ℕ) : Type 0 where
+  pub end : RunEnd
+  pub carried_out : IsCarriedOut remaining contents reader reader_then writer writer_then asked end
+  pub told : IsTold contents_of_errors errors errors_then end
+  pub status_is : status ≡ status_of end
+
+-- ---- words that give no line
+
+-- why there is none
+abbrev pub without_line : LineFault → NoLine
+without_line (words.Refused error) = without.Refused error
+without_line words.Memory = without.Memory
+
+-- the exit status then
+abbrev pub status_without : NoLine → ℕ
+status_without (without.Refused error) = 2
+status_without without.NotText = 2
+status_without without.Memory = 1
+
+-- what is said then; of a refused line that is the text of `clap`, of which no clause says anything
+abbrev pub said_of : NoLine → Option (List ℕ)
+said_of (without.Refused error) = None
+said_of without.NotText = Some (codes "error: a word of the line is not UTF-8\n")
+said_of without.Memory = Some (fault_line fault.Memory)
+
+-- the words couldn't be had
+abbrev pub IsWithoutWords : NoLine → Type 0
+IsWithoutWords why = (why ≡ without.NotText) ⊎ (why ≡ without.Memory)

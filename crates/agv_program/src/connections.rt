@@ -1,0 +1,130 @@
+//! Connections over the network are served, one after another.
+ghost use Rattle.std.specs.Prelude.{IfOk};
+ghost use Rattle.sqlite.specs.Held.{IsNew};
+
+use crate::desks::desk_of;
+use crate::outcome::RunFault;
+use agv_face::{CountingIo, Served, StreamFault, serve_stream};
+use agv_header::Moment;
+use agv_store::Desk;
+use sqlite::{Alter, Connection, Error};
+use std::alloc::Global;
+use std::io::{self, Write};
+use std::net::{Ipv4Addr, SocketAddr, SocketAddrV4, TcpListener, TcpStream};
+use std::time::{Duration, SystemTime, UNIX_EPOCH};
+
+/// Why no connection was served.
+#[derive(Clone, Copy, Debug, PartialEq, Eq, thiserror::Error)]
+pub enum NextFault {
+    /// None could be had.
+    #[error("no connection could be had")]
+    Net,
+    /// The clock shows no moment from 1970 to 2099.
+    #[error("the clock shows no moment from 1970 to 2099")]
+    Clock,
+}
+
+/// How long a read or a write of a connection may wait for its client, in seconds.
+pub const MAX_WAIT_SECONDS: u64 = 10;
+
+/// Listens on the port of this machine, says on which, and serves connections by the desk of this database.
+pub(crate) fn serve<S: Alter + Drop, W: Write>(
+    rt: &HostRuntime,
+    alloc: Global,
+    opened: Result<Connection<S>, Error>,
+    port: u16,
+    connections: u32,
+    writer: &mut CountingIo<W>,
+) -> Result<(), RunFault>
+    requires { IfOk opened IsNew }
+{
+    let mut desk = desk_of(alloc, opened)?;
+    let mut listener = listener_at(rt, port, writer)?;
+    serve_connections(rt, alloc, &mut desk, &mut listener, connections)
+}
+
+/// Listens on the port of this machine, and says on which.
+fn listener_at<W: Write>(
+    rt: &HostRuntime,
+    port: u16,
+    writer: &mut CountingIo<W>,
+) -> Result<TcpListener, RunFault> {
+    let local = SocketAddr::V4(SocketAddrV4::new(Ipv4Addr::LOCALHOST, port));
+    let Ok(listener) = TcpListener::bind(rt, local) else {
+        return Err(RunFault::Net);
+    };
+    let Ok(bound) = listener.local_addr() else {
+        return Err(RunFault::Net);
+    };
+    let said = writeln!(writer, "listening on 127.0.0.1:{}", bound.port());
+    if said.is_err() || writer.flush().is_err() {
+        return Err(RunFault::Write);
+    }
+    Ok(listener)
+}
+
+/// Serves so many connections, one after another. A fault of a connection ends that connection; one of the store ends the
+/// program.
+fn serve_connections<S: Alter + Drop>(
+    rt: &HostRuntime,
+    alloc: Global,
+    desk: &mut Desk<S>,
+    listener: &mut TcpListener,
+    connections: u32,
+) -> Result<(), RunFault> {
+    for _ in 0..connections {
+        match serve_next(rt, alloc, desk, listener) {
+            Ok(_) => {}
+            Err(NextFault::Net) => return Err(RunFault::Net),
+            Err(NextFault::Clock) => return Err(RunFault::Clock),
+        }
+        if desk.failed() {
+            return Err(RunFault::Storage);
+        }
+    }
+    Ok(())
+}
+
+/// Accepts one connection, and serves its requests at the moment at which it is accepted. It ends where for
+/// `MAX_WAIT_SECONDS` nothing comes from its client, or the system takes nothing more of an answer to it: that is a fault of
+/// the connection.
+pub fn serve_next<S: Alter + Drop>(
+    rt: &HostRuntime,
+    alloc: Global,
+    desk: &mut Desk<S>,
+    listener: &mut TcpListener,
+) -> Result<Result<Served, StreamFault>, NextFault> {
+    let Ok((stream, _)) = listener.accept() else {
+        return Err(NextFault::Net);
+    };
+    let Some(at) = moment_now(rt) else {
+        return Err(NextFault::Clock);
+    };
+    if limit_waits(&stream).is_err() {
+        return Ok(Err(StreamFault::Read { answers: 0 }));
+    }
+    let mut reader = CountingIo::new(&stream);
+    let mut writer = CountingIo::new(&stream);
+    Ok(serve_stream(alloc, desk, at, &mut reader, &mut writer))
+}
+
+/// Limits how long a read and a write of the connection may wait.
+fn limit_waits(stream: &TcpStream) -> io::Result<()> {
+    let most = Some(Duration::from_secs(MAX_WAIT_SECONDS));
+    stream.set_read_timeout(most)?;
+    stream.set_write_timeout(most)
+}
+
+/// The moment that the clock shows.
+fn moment_now(rt: &HostRuntime) -> Option<Moment> {
+    let Ok(now) = SystemTime::now(rt) else {
+        return None;
+    };
+    let Ok(since) = now.duration_since(UNIX_EPOCH) else {
+        return None;
+    };
+    match i64::try_from(since.as_millis()) {
+        Ok(ms) => Moment::of(ms),
+        Err(_) => None,
+    }
+}

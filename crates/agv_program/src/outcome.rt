@@ -1,0 +1,143 @@
+//! How a run of the program ends, and what it says where it has no line to carry out.
+ghost use Rattle.std.specs.Prelude.{◌≡◌};
+ghost use Rattle.agv_program.specs.Runs.{end_by, end_of, fault_line, opening_fault, said_of, status_of, status_without};
+
+use agv_command_line::LineFault;
+use agv_face::{Ended, Served, StreamFault};
+use agv_header::Refusal;
+use agv_store::OpenFault;
+use clap::Error;
+use std::{error, fmt};
+
+/// Why a run came to no end, as the program says it.
+#[derive(Clone, Copy, Debug, PartialEq, Eq, thiserror::Error)]
+pub enum RunFault {
+    /// The file has no tables of a desk, or what they have breaks a rule of the desk.
+    #[error("the file has no desk's tables, or what they have breaks a rule of the desk")]
+    Damaged,
+    /// Want of memory.
+    #[error("want of memory")]
+    Memory,
+    /// A fault of the store: the file can't be opened, read or written.
+    #[error("the file can't be opened, read or written")]
+    Storage,
+    /// Standard input can't be read.
+    #[error("standard input can't be read")]
+    Read,
+    /// Standard output can't be written.
+    #[error("standard output can't be written")]
+    Write,
+    /// The port can't be listened on, or a connection can't be had.
+    #[error("the port can't be listened on, or a connection can't be had")]
+    Net,
+    /// The clock shows no moment from 1970 to 2099.
+    #[error("the clock shows no moment from 1970 to 2099")]
+    Clock,
+}
+
+impl RunFault {
+    ghost use Rattle.std.specs.Prelude.{◌≡◌};
+    ghost use Rattle.agv_program.specs.Runs.{fault_line};
+
+    /// The line that says it, with its line end: `fault: ` and its name.
+    pub fn line(self) -> &'static str
+        ensures { result.now ≡ fault_line self }
+    {
+        match self {
+            RunFault::Damaged => "fault: Damaged\n",
+            RunFault::Memory => "fault: Memory\n",
+            RunFault::Storage => "fault: Storage\n",
+            RunFault::Read => "fault: Read\n",
+            RunFault::Write => "fault: Write\n",
+            RunFault::Net => "fault: Net\n",
+            RunFault::Clock => "fault: Clock\n",
+        }
+    }
+}
+
+impl From<OpenFault> for RunFault {
+    ghost use Rattle.agv_program.specs.Runs.{opening_fault};
+
+    ghost from_gives = { λ why fault. fault ≡ opening_fault why };
+
+    fn from(why: OpenFault) -> RunFault {
+        match why {
+            OpenFault::Damaged => RunFault::Damaged,
+            OpenFault::Memory => RunFault::Memory,
+            OpenFault::Storage => RunFault::Storage,
+        }
+    }
+}
+
+/// Why there is no line to carry out. It is shown as the text that goes to standard error.
+#[derive(Debug, Drop)]
+pub enum NoLine {
+    /// The words are refused, or ask for help; the error is the text.
+    Refused(Error),
+    /// A word is no text.
+    NotText,
+    /// Want of memory.
+    Memory,
+}
+
+impl NoLine {
+    /// The exit status: 2 where the words are refused, 1 for want of memory.
+    pub fn status(&self) -> u8
+        ensures { result ≡ status_without self.now }
+    {
+        match self {
+            NoLine::Memory => 1,
+            _ => 2,
+        }
+    }
+}
+
+impl From<LineFault> for NoLine {
+    ghost use Rattle.agv_program.specs.Runs.{without_line};
+
+    ghost from_gives = { λ why without. without ≡ without_line why };
+
+    fn from(why: LineFault) -> NoLine {
+        match why {
+            LineFault::Refused(error) => NoLine::Refused(error),
+            LineFault::Memory => NoLine::Memory,
+        }
+    }
+}
+
+impl fmt::Display for NoLine {
+    ghost output = { said_of };
+
+    fn fmt<W: fmt::Write>(&self, f: &mut fmt::Formatter<W>) -> fmt::Result {
+        match self {
+            NoLine::Refused(error) => write!(f, "{error}"),
+            NoLine::NotText => write!(f, "error: a word of the line is not UTF-8\n"),
+            NoLine::Memory => write!(f, "{}", RunFault::Memory.line()),
+        }
+    }
+}
+
+impl error::Error for NoLine {}
+
+/// How a run ends whose stream has ended so: its last answer was the refusal for a fault of the machine, or it was served
+/// or refused as its requests had it.
+pub fn end_of(ended: Result<Served, StreamFault>) -> Result<(), RunFault>
+    ensures { result ≡ end_of ended }
+{
+    match ended {
+        Ok(served) => end_by(served.ended),
+        Err(StreamFault::Read { .. }) => Err(RunFault::Read),
+        Err(StreamFault::Write { .. }) => Err(RunFault::Write),
+    }
+}
+
+/// How a run ends whose stream was served to this end.
+fn end_by(ended: Ended) -> Result<(), RunFault>
+    ensures { result ≡ end_by ended }
+{
+    match ended {
+        Ended::Refused(Refusal::Memory) => Err(RunFault::Memory),
+        Ended::Refused(Refusal::Storage) => Err(RunFault::Storage),
+        _ => Ok(()),
+    }
+}

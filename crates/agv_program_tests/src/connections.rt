@@ -1,0 +1,51 @@
+//! A connection over the network is served.
+
+use agv_database::open_in_memory;
+use agv_face::{Ended, Served};
+use agv_program::serve_next;
+use agv_store::Desk;
+use sqlite::{Alter, Connection, Error};
+use std::io::{self, Write};
+use std::net::{TcpListener, TcpStream};
+use std::process::Abort;
+
+/// A load is asked for, by a client that wants one answer and no more.
+const REQUEST: &str = "GET /loads/L1 HTTP/1.0\r\n\r\n";
+
+/// There is none; it is the last answer of its connection.
+const ANSWER: &str = concat!(
+    "HTTP/1.1 404 Not Found\r\nContent-Length: 30\r\nContent-Type: application/json\r\n",
+    "Connection: close\r\n\r\n{\"name\":\"NoLoad\",\"refusal\":23}",
+);
+
+/// The desk of this database serves a connection on a free port.
+fn serve_one<S: Alter + Drop>(
+    rt: &HostRuntime,
+    ends: &impl Abort,
+    opened: Result<Connection<S>, Error>,
+) {
+    let conn = opened.expect(ends, "a database");
+    assert!(ends; conn.is_autocommit(), "idle");
+    let Ok(mut desk) = Desk::open(rt.alloc(), conn) else {
+        panic!(ends; "a desk is made");
+    };
+    let mut listener = TcpListener::bind(rt, "127.0.0.1:0").expect(ends, "a port");
+    let addr = listener.local_addr().expect(ends, "its address");
+    let mut client = TcpStream::connect(rt, addr).expect(ends, "a connection");
+    client
+        .write_all(REQUEST.as_bytes())
+        .expect(ends, "a request");
+    let served = serve_next(rt, rt.alloc(), &mut desk, &mut listener);
+    let wanted = Served {
+        answers: 1,
+        ended: Ended::Close,
+    };
+    assert!(ends; served == Ok(Ok(wanted)), "the end of the connection");
+    let answer = io::read_to_string(rt.alloc(), client).expect(ends, "an answer");
+    assert!(ends; answer.as_str() == ANSWER, "the answer");
+}
+
+#[test]
+fn a_connection_is_served(rt: HostRuntime) {
+    serve_one(&rt, &rt, open_in_memory(rt.alloc()));
+}

@@ -1,0 +1,30 @@
+use Rattle.std.proofs.Common.{Err, None, Ok, sym, ◌∙◌}
+use Rattle.agv_world.specs.Questions.{row_of}
+use Rattle.agv_row_reading.proofs.Asking.{follows, passes, then_follows, then_passes}
+use Rattle.agv_queries.proofs.KeyAnswers.{joined, neither, not_one}
+use Rattle.agv_queries.proofs.key_queries.query_vehicle.Goals as goal
+
+pub returns-in_err-vehicle : goal.returns-in_err-vehicle
+returns-in_err-vehicle g c = passes g.S.Store c.args.conn.now c.query_vehicle_row.new.conn c.in_err-vehicle.field-0.0 _ _ c.from_residual.result c.from_residual.ensures.1 c.in_err-vehicle.ensures
+
+pub returns-in-None : goal.returns-in-None
+returns-in-None g c =
+    follows g.S.Store c.args.conn.now c.query_vehicle_row.new.conn c.in_ok-vehicle.vehicle _ _ (Ok None)
+    (λ world lawful one. neither (row_of world c.args.key.now) (sym c.in-None.is ∙ one)) c.in_ok-vehicle.ensures
+
+pub returns-in_err-room-in-Some : goal.returns-in_err-room-in-Some
+returns-in_err-room-in-Some g c =
+    then_passes g.S.Store c.args.conn.now c.query_vehicle_row.new.conn c.query_capacity.new.conn c.in_ok-vehicle.vehicle _ c.in_ok-vehicle.ensures
+    c.in_err-room-in-Some.field-0.0 _ _ c.from_residual-in_err-room-in-Some.result c.from_residual-in_err-room-in-Some.ensures.1 c.in_err-room-in-Some.ensures
+
+pub returns-in-None-room : goal.returns-in-None-room
+returns-in-None-room g c =
+    then_follows g.S.Store c.args.conn.now c.query_vehicle_row.new.conn c.query_capacity.new.conn c.in_ok-vehicle.vehicle _ c.in_ok-vehicle.ensures
+    c.in_ok-room-in-Some.room _ _ (Err _)
+    (λ world lawful one two. not_one (row_of world c.args.key.now) c.in-Some.vehicle (sym c.in-Some.is ∙ one) (sym c.in-None-room.is ∙ two)) c.in_ok-room-in-Some.ensures
+
+pub returns-in-Some-room : goal.returns-in-Some-room
+returns-in-Some-room g c =
+    then_follows g.S.Store c.args.conn.now c.query_vehicle_row.new.conn c.query_capacity.new.conn c.in_ok-vehicle.vehicle _ c.in_ok-vehicle.ensures
+    c.in_ok-room-in-Some.room _ _ (Ok _)
+    (λ world lawful one two. joined (row_of world c.args.key.now) c.in-Some.vehicle c.in-Some-room.room (sym c.in-Some.is ∙ one) (sym c.in-Some-room.is ∙ two)) c.in_ok-room-in-Some.ensures

@@ -1,0 +1,267 @@
+//! Queries of the tables by a key: a vehicle, a load's place, a job, a station, an edge, a node, a holder, a used name.
+//!
+//! Each answers what the lawful world says whose rows the tables have (`WorldAnswers.antt` of agv_row_reading).
+ghost use Rattle.std.specs.Prelude.{◌≡◌};
+ghost use Rattle.std.specs.FinMap as map;
+ghost use Rattle.std.specs.FinSet as set;
+ghost use Rattle.std.specs.Option.{option_map};
+ghost use Rattle.agv_world.specs.Questions.{row_of, holder_of, is_used};
+ghost use Rattle.agv_world.specs.declared.row.VehicleRow.{VehicleRow as RowOfVehicle};
+ghost use Rattle.agv_rows.specs.Columns.{capacity_in, edge_in, hold_in, job_in, load_in, station_in, vehicle_in};
+ghost use Rattle.agv_row_reading.specs.FirstRow.{first_in};
+ghost use Rattle.agv_rows.specs.TypedRows.{IsThing};
+ghost use Rattle.agv_row_reading.specs.WorldAnswers.{AnswersQuery};
+
+use agv_header::{Name, Thing, VehicleKey};
+use agv_layout::{EdgeEnds, StationSite};
+use agv_row_reading::ReadingFault;
+use agv_row_reading::queried_rows::query_rows;
+use agv_rows::CapacityRow;
+use agv_rows::decode_row::{
+    decode_capacity, decode_edge, decode_hold, decode_job, decode_load, decode_station,
+    decode_vehicle,
+};
+use agv_rows::key_values::{hold_key_values, name_key_values, vehicle_key_values};
+use agv_rows::row_values::used_values;
+use agv_schema::row_of::RowOf;
+use agv_stock::Place;
+use agv_world::{JobRow, UseKey, VehicleRow};
+use sqlite::{Alter, Connection, Row};
+
+/// The row of a vehicle, with its capacity; none where there is no such vehicle.
+///
+/// It fails as [`ReadingFault`] says.
+pub fn query_vehicle<S: Alter>(
+    conn: &mut Connection<S>,
+    key: &VehicleKey,
+) -> Result<Option<VehicleRow>, ReadingFault>
+    ensures { AnswersQuery S.Store conn.old conn.new result (λ world row. row ≡ row_of world key.now) }
+{
+    let vehicle = query_vehicle_row(conn, key)?;
+    match vehicle {
+        None => Ok(None),
+        Some(vehicle) => {
+            let room = query_capacity(conn, key)?;
+            match room {
+                None => Err(ReadingFault::Damaged),
+                Some(room) => Ok(Some(VehicleRow {
+                    capacity: room.capacity,
+                    ..vehicle
+                })),
+            }
+        }
+    }
+}
+
+// The row of a vehicle, as if it had room for one load; none where there is no such vehicle.
+fn query_vehicle_row<S: Alter>(
+    conn: &mut Connection<S>,
+    key: &VehicleKey,
+) -> Result<Option<VehicleRow>, ReadingFault>
+    ensures { AnswersQuery S.Store conn.old conn.new result (λ world row. row ≡ option_map (λ (vehicle : RowOfVehicle). record vehicle { capacity = 1 }) (row_of world key.now)) }
+{
+    let rows = query_rows(conn, RowOf::Vehicle, &vehicle_key_values(key))?;
+    vehicle_in_rows(rows.as_slice())
+}
+
+// The row of a vehicle that the rows of its key tell, as if it had room for one load.
+fn vehicle_in_rows(rows: &[Row]) -> Result<Option<VehicleRow>, ReadingFault>
+    ensures { result ≡ first_in vehicle_in rows.now }
+{
+    match rows.first() {
+        None => Ok(None),
+        Some(row) => match decode_vehicle(row) {
+            None => Err(ReadingFault::Damaged),
+            Some((_, vehicle)) => Ok(Some(vehicle)),
+        },
+    }
+}
+
+// The room of a vehicle; none where there is no such vehicle.
+fn query_capacity<S: Alter>(
+    conn: &mut Connection<S>,
+    key: &VehicleKey,
+) -> Result<Option<CapacityRow>, ReadingFault>
+    ensures { AnswersQuery S.Store conn.old conn.new result (λ world room. room ≡ option_map (λ (vehicle : RowOfVehicle). record { capacity = vehicle.capacity }) (row_of world key.now)) }
+{
+    let rows = query_rows(conn, RowOf::Capacity, &vehicle_key_values(key))?;
+    capacity_in_rows(rows.as_slice())
+}
+
+// The room of a vehicle that the rows of its key tell.
+fn capacity_in_rows(rows: &[Row]) -> Result<Option<CapacityRow>, ReadingFault>
+    ensures { result ≡ first_in capacity_in rows.now }
+{
+    match rows.first() {
+        None => Ok(None),
+        Some(row) => match decode_capacity(row) {
+            None => Err(ReadingFault::Damaged),
+            Some((_, capacity)) => Ok(Some(capacity)),
+        },
+    }
+}
+
+/// Where a load is; none where it is unknown.
+///
+/// It fails as [`ReadingFault`] says.
+pub fn query_place<S: Alter>(
+    conn: &mut Connection<S>,
+    load: &Name,
+) -> Result<Option<Place>, ReadingFault>
+    ensures { AnswersQuery S.Store conn.old conn.new result (λ world place. place ≡ map.get world.places load.now) }
+{
+    let rows = query_rows(conn, RowOf::Load, &name_key_values(load))?;
+    place_in_rows(rows.as_slice())
+}
+
+// The place that the rows of a load tell.
+fn place_in_rows(rows: &[Row]) -> Result<Option<Place>, ReadingFault>
+    ensures { result ≡ first_in load_in rows.now }
+{
+    match rows.first() {
+        None => Ok(None),
+        Some(row) => match decode_load(row) {
+            None => Err(ReadingFault::Damaged),
+            Some((_, place)) => Ok(Some(place)),
+        },
+    }
+}
+
+/// The row of a job; none where it is unknown.
+///
+/// It fails as [`ReadingFault`] says.
+pub fn query_job<S: Alter>(
+    conn: &mut Connection<S>,
+    job: &Name,
+) -> Result<Option<JobRow>, ReadingFault>
+    ensures { AnswersQuery S.Store conn.old conn.new result (λ world row. row ≡ map.get world.jobs job.now) }
+{
+    let rows = query_rows(conn, RowOf::Job, &name_key_values(job))?;
+    job_in_rows(rows.as_slice())
+}
+
+// The row of a job that the rows of its name tell.
+fn job_in_rows(rows: &[Row]) -> Result<Option<JobRow>, ReadingFault>
+    ensures { result ≡ first_in job_in rows.now }
+{
+    match rows.first() {
+        None => Ok(None),
+        Some(row) => match decode_job(row) {
+            None => Err(ReadingFault::Damaged),
+            Some((_, job)) => Ok(Some(job)),
+        },
+    }
+}
+
+/// Where a station is, and how many loads fit there; none where it is unknown.
+///
+/// It fails as [`ReadingFault`] says.
+pub fn query_station<S: Alter>(
+    conn: &mut Connection<S>,
+    id: &Name,
+) -> Result<Option<StationSite>, ReadingFault>
+    ensures { AnswersQuery S.Store conn.old conn.new result (λ world site. site ≡ map.get world.layout.stations id.now) }
+{
+    let rows = query_rows(conn, RowOf::Station, &name_key_values(id))?;
+    station_in_rows(rows.as_slice())
+}
+
+// The site of a station that the rows of its name tell.
+fn station_in_rows(rows: &[Row]) -> Result<Option<StationSite>, ReadingFault>
+    ensures { result ≡ first_in station_in rows.now }
+{
+    match rows.first() {
+        None => Ok(None),
+        Some(row) => match decode_station(row) {
+            None => Err(ReadingFault::Damaged),
+            Some((_, site)) => Ok(Some(site)),
+        },
+    }
+}
+
+/// Where an edge leads; none where it is unknown.
+///
+/// It fails as [`ReadingFault`] says.
+pub fn query_edge<S: Alter>(
+    conn: &mut Connection<S>,
+    id: &Name,
+) -> Result<Option<EdgeEnds>, ReadingFault>
+    ensures { AnswersQuery S.Store conn.old conn.new result (λ world ends. ends ≡ map.get world.layout.edges id.now) }
+{
+    let rows = query_rows(conn, RowOf::Edge, &name_key_values(id))?;
+    ends_in_rows(rows.as_slice())
+}
+
+// The ends of an edge that the rows of its name tell.
+fn ends_in_rows(rows: &[Row]) -> Result<Option<EdgeEnds>, ReadingFault>
+    ensures { result ≡ first_in edge_in rows.now }
+{
+    match rows.first() {
+        None => Ok(None),
+        Some(row) => match decode_edge(row) {
+            None => Err(ReadingFault::Damaged),
+            Some((_, ends)) => Ok(Some(ends)),
+        },
+    }
+}
+
+/// The vehicle that holds a node or an edge; none where it is free.
+///
+/// It fails as [`ReadingFault`] says.
+pub fn query_holder<S: Alter>(
+    conn: &mut Connection<S>,
+    thing: &Thing,
+) -> Result<Option<VehicleKey>, ReadingFault>
+    ensures { AnswersQuery S.Store conn.old conn.new result (λ world key. key ≡ holder_of world thing.now) }
+{
+    thing_is_named(thing);
+    let rows = query_rows(conn, RowOf::Hold, &hold_key_values(thing))?;
+    holder_in_rows(rows.as_slice())
+}
+
+// What is held has a name that is one.
+fn thing_is_named(thing: &Thing)
+    ensures { IsThing thing.now }
+{
+    match thing {
+        Thing::Node(id) => {
+            let _ = id.as_bytes();
+        }
+        Thing::Edge(id) => {
+            let _ = id.as_bytes();
+        }
+    }
+}
+
+// The holder that the rows of a node or an edge tell.
+fn holder_in_rows(rows: &[Row]) -> Result<Option<VehicleKey>, ReadingFault>
+    ensures { result ≡ first_in hold_in rows.now }
+{
+    match rows.first() {
+        None => Ok(None),
+        Some(row) => match decode_hold(row) {
+            None => Err(ReadingFault::Damaged),
+            Some((_, key)) => Ok(Some(key)),
+        },
+    }
+}
+
+/// Whether it is a node of the layout.
+///
+/// It fails as [`ReadingFault`] says.
+pub fn query_node<S: Alter>(conn: &mut Connection<S>, id: &Name) -> Result<bool, ReadingFault>
+    ensures { AnswersQuery S.Store conn.old conn.new result (λ world known. known ≡ set.contains world.layout.nodes id.now) }
+{
+    let rows = query_rows(conn, RowOf::Node, &name_key_values(id))?;
+    Ok(!rows.is_empty())
+}
+
+/// Whether a name was used, in its kind.
+///
+/// It fails as [`ReadingFault`] says.
+pub fn query_used<S: Alter>(conn: &mut Connection<S>, key: &UseKey) -> Result<bool, ReadingFault>
+    ensures { AnswersQuery S.Store conn.old conn.new result (λ world known. known ≡ is_used world key.now.kind key.now.name) }
+{
+    let rows = query_rows(conn, RowOf::Used, &used_values(key))?;
+    Ok(!rows.is_empty())
+}

@@ -1,0 +1,186 @@
+//! The open trip of a vehicle, asked of the tables: its journey, its acts with the rows of their jobs, and its edges. Where
+//! the layout is known, it says where an edge leads, and the table of edges is asked only for one that it lacks.
+//!
+//! Each query answers what the lawful world says whose rows the tables have (`WorldAnswers.antt` of agv_row_reading), where a
+//! layout that is given is that of this world.
+ghost use Rattle.std.specs.Prelude.{◌≡◌, is_some, Some, filter};
+ghost use Rattle.std.specs.FinMap as map;
+ghost use Rattle.agv_trip_rows.specs.TripRows.{acts_of, is_of};
+ghost use Rattle.agv_trip_rows.specs.TripsTold.{acts_told};
+ghost use Rattle.agv_world.specs.Questions.{trip_of};
+ghost use Rattle.agv_world.specs.Rows.{rows_of};
+ghost use Rattle.agv_world.specs.Told.{edges_of};
+ghost use Rattle.agv_rows.specs.Columns.{journey_in};
+ghost use Rattle.agv_row_reading.specs.FirstRow.{first_whole_in};
+ghost use Rattle.agv_rows.specs.DecodedTrips.{journey_for, tables_of, told_by_journey, trip_told_by};
+ghost use Rattle.agv_row_reading.specs.WorldAnswers.{AgreesWith, AnswersQuery};
+
+use crate::key_queries::{query_edge, query_job};
+use crate::known_layout::known_edge;
+use agv_header::{Name, VehicleKey};
+use agv_layout::{Edge, Layout};
+use agv_message::Sequence;
+use agv_order::{Act, Trip};
+use agv_row_reading::ReadingFault;
+use agv_row_reading::queried_rows::query_rows_by;
+use agv_row_reading::row_tables::{acts_in_rows, legs_in_rows};
+use agv_rows::decode_row::decode_journey;
+use agv_rows::key_values::{name_key_values, vehicle_key_values};
+use agv_rows::trip_laws::rows_tell_trips;
+use agv_schema::rows_by::RowsBy;
+use agv_trip_rows::JourneyRow;
+use agv_world::lawful_laws::is_in_good_order;
+use sqlite::{Alter, Connection, Row};
+use std::alloc::Global;
+
+/// The open trip of a vehicle, with its edges and its acts; none where it has none, or there is no such vehicle. Where a
+/// layout is given that is the world's, it says where the edges lead, and they aren't asked for.
+///
+/// It fails as [`ReadingFault`] says.
+pub fn query_trip<S: Alter>(
+    alloc: Global,
+    conn: &mut Connection<S>,
+    known: &Option<Layout>,
+    key: &VehicleKey,
+) -> Result<Option<Trip>, ReadingFault>
+    ensures { AnswersQuery S.Store conn.old conn.new result (λ world trip. AgreesWith known.now world → trip ≡ trip_of world key.now) }
+{
+    rows_tell_trips();
+    let journey = query_journey(conn, key)?;
+    match journey {
+        None => Ok(None),
+        Some(journey) => {
+            let trip = query_told_trip(alloc, conn, known, &journey)?;
+            Ok(Some(trip))
+        }
+    }
+}
+
+// The journey of the open trip of a vehicle, with its order; none where it has none.
+fn query_journey<S: Alter>(
+    conn: &mut Connection<S>,
+    key: &VehicleKey,
+) -> Result<Option<(Name, JourneyRow)>, ReadingFault>
+    ensures { AnswersQuery S.Store conn.old conn.new result (λ world journey. journey ≡ journey_for (rows_of world) key.now) }
+{
+    rows_tell_trips();
+    let rows = query_rows_by(conn, RowsBy::VehicleJourney, &vehicle_key_values(key))?;
+    journey_in_rows(rows.as_slice())
+}
+
+// The journey that the first of the rows tells.
+fn journey_in_rows(rows: &[Row]) -> Result<Option<(Name, JourneyRow)>, ReadingFault>
+    ensures { result ≡ first_whole_in journey_in rows.now }
+{
+    match rows.first() {
+        None => Ok(None),
+        Some(row) => match decode_journey(row) {
+            None => Err(ReadingFault::Damaged),
+            Some(journey) => Ok(Some(journey)),
+        },
+    }
+}
+
+// The trip of a journey with its order, with its acts and its edges.
+fn query_told_trip<S: Alter>(
+    alloc: Global,
+    conn: &mut Connection<S>,
+    known: &Option<Layout>,
+    journey: &(Name, JourneyRow),
+) -> Result<Trip, ReadingFault>
+    ensures { AnswersQuery S.Store conn.old conn.new result (λ world trip. AgreesWith known.now world → told_by_journey (rows_of world) journey.now ≡ Some trip) }
+{
+    let acts = query_acts(alloc, conn, &journey.0)?;
+    let edges = query_way(alloc, conn, known, &journey.0)?;
+    Ok(trip_told(journey, edges, acts))
+}
+
+// The trip of a journey with its order, which has these edges and these acts.
+fn trip_told(journey: &(Name, JourneyRow), edges: Sequence<Edge>, acts: Sequence<Act>) -> Trip
+    ensures { result ≡ trip_told_by journey.now edges acts }
+{
+    let (order, journey) = journey;
+    Trip {
+        order: *order,
+        vehicle: journey.vehicle,
+        start: journey.start,
+        edges,
+        first: journey.first,
+        base: journey.base,
+        sent: journey.sent,
+        confirmed: journey.confirmed,
+        seen: journey.seen,
+        acts,
+    }
+}
+
+// The acts of an order, in the order of their numbers, each with the load and the station of its job, which is looked up.
+fn query_acts<S: Alter>(
+    alloc: Global,
+    conn: &mut Connection<S>,
+    order: &Name,
+) -> Result<Sequence<Act>, ReadingFault>
+    ensures { AnswersQuery S.Store conn.old conn.new result
+        (λ world acts. acts_told (rows_of world).jobs 0 (filter (is_of order.now) (map.entries (acts_of (rows_of world).trips))) ≡ Some acts) }
+{
+    rows_tell_trips();
+    let rows = query_rows_by(conn, RowsBy::OrderActs, &name_key_values(order))?;
+    let table = acts_in_rows(alloc, rows.as_slice())?;
+    let mut acts = Vec::new(alloc);
+    for (key, act) in table.iter() {
+        if key.k as usize != acts.len() {
+            return Err(ReadingFault::Damaged);
+        }
+        let job = query_job(conn, &act.job)?;
+        match job {
+            None => return Err(ReadingFault::Damaged),
+            Some(job) => acts.push(act.act(&job))?,
+        }
+    }
+    Ok(Sequence::from(acts))
+}
+
+// The edges of an order, by their places on the way; each is looked up in the layout.
+fn query_way<S: Alter>(
+    alloc: Global,
+    conn: &mut Connection<S>,
+    known: &Option<Layout>,
+    order: &Name,
+) -> Result<Sequence<Edge>, ReadingFault>
+    ensures { AnswersQuery S.Store conn.old conn.new result (λ world edges. AgreesWith known.now world → edges ≡ edges_of (tables_of (rows_of world)) order.now) }
+{
+    is_in_good_order();
+    let rows = query_rows_by(conn, RowsBy::OrderLegs, &name_key_values(order))?;
+    let legs = legs_in_rows(alloc, rows.as_slice())?;
+    let mut edges = Vec::new(alloc);
+    for (_, id) in legs.iter() {
+        if let Some(edge) = known_edge(known, *id) {
+            edges.push(edge)?;
+            continue;
+        }
+        let found = query_edge(conn, id)?;
+        match found {
+            None => return Err(ReadingFault::Damaged),
+            Some(ends) => edges.push(Edge {
+                id: *id,
+                start: ends.start,
+                finish: ends.finish,
+            })?,
+        }
+    }
+    Ok(Sequence::from(edges))
+}
+
+/// Whether a vehicle has an open trip; it has none where there is no such vehicle.
+///
+/// It fails as [`ReadingFault`] says.
+pub fn query_has_trip<S: Alter>(
+    conn: &mut Connection<S>,
+    key: &VehicleKey,
+) -> Result<bool, ReadingFault>
+    ensures { AnswersQuery S.Store conn.old conn.new result (λ world has. has ≡ is_some (trip_of world key.now)) }
+{
+    rows_tell_trips();
+    let rows = query_rows_by(conn, RowsBy::VehicleJourney, &vehicle_key_values(key))?;
+    Ok(!rows.is_empty())
+}

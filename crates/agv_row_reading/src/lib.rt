@@ -1,0 +1,18 @@
+//! Rows of the desk's tables that a query shows, read into what they tell.
+//!
+//! - [`queried_rows`] asks for rows and counts; [`ReadingFault`] says why there is no answer. Whatever the database has, an
+//!   answer changes nothing, and a failure that leaves the store open nothing but that it may end the transaction and so
+//!   undo it (`specs/WorldAnswers.antt`).
+//! - [`row_tables`]: the rows of each table are read into a table of the world in memory (`specs/ReadTables.antt`); a row
+//!   that tells nothing, or a key that is told twice, is damaged (`specs/TablesRead.antt`).
+//! - [`HeldThings`] is what is held, and tells whether that is what the vehicles of a world hold; [`held_rows`] reads it.
+#![tactic(auto)]
+
+pub mod held_rows;
+pub mod held_things;
+pub mod queried_rows;
+pub mod reading_fault;
+pub mod row_tables;
+
+pub use held_things::HeldThings;
+pub use reading_fault::ReadingFault;

@@ -1,0 +1,88 @@
+//! Rows that are asked for, in the words of the world: those of a key, those with some values or how many these are, and all
+//! of a table.
+ghost use Rattle.std.specs.Prelude.{◌≡◌, length, IsPermutation};
+ghost use Rattle.sqlite.specs.Values.{bound};
+ghost use Rattle.agv_world.specs.Rows.{rows_of};
+ghost use Rattle.agv_schema.specs.DeskRows.{rows_of_key, table_for};
+ghost use Rattle.agv_rows.specs.RowLists.{row_lists};
+ghost use Rattle.agv_statements.specs.CountQueries.{columns_counted, rows_counted, table_counted};
+ghost use Rattle.agv_statements.specs.RowQueries.{FitsColumns, all_rows_of, columns_asked, rows_asked, table_asked};
+ghost use Rattle.agv_schema.specs.RowTexts.{table_looked_up};
+ghost use Rattle.agv_row_reading.specs.TablesRead.{TellsAll};
+ghost use Rattle.agv_row_reading.specs.FirstRow.{first_number_in};
+ghost use Rattle.agv_row_reading.specs.WorldAnswers.{AnswersQuery};
+
+use crate::ReadingFault;
+use agv_rows::decode_value::number_at;
+use agv_schema::row_of::RowOf;
+use agv_schema::rows_by::RowsBy;
+use agv_schema::rows_counted::RowsCounted;
+use agv_schema::table_name::TableName;
+use agv_statements::row_reads::{find_all_rows, find_count, find_rows, find_rows_by};
+use sqlite::types::ValueRef;
+use sqlite::{Alter, Connection, Row};
+
+/// The rows of that key.
+pub fn query_rows<S: Alter>(
+    conn: &mut Connection<S>,
+    row: RowOf,
+    key: &[ValueRef<'_>],
+) -> Result<Vec<Row>, ReadingFault>
+    requires { FitsColumns (table_looked_up row) (table_for (table_looked_up row)).primary (bound key.now) }
+    ensures { AnswersQuery S.Store conn.old conn.new result (λ world rows. IsPermutation (rows_of_key (table_looked_up row) (bound key.now) (row_lists (rows_of world))) rows.items) }
+{
+    let rows = find_rows(conn, row, key)?;
+    Ok(rows)
+}
+
+/// The rows with these values in the columns that are asked by.
+pub fn query_rows_by<S: Alter>(
+    conn: &mut Connection<S>,
+    by: RowsBy,
+    values: &[ValueRef<'_>],
+) -> Result<Vec<Row>, ReadingFault>
+    requires { FitsColumns (table_asked by) (columns_asked by) (bound values.now) }
+    ensures { AnswersQuery S.Store conn.old conn.new result (λ world rows. IsPermutation (rows_asked by (bound values.now) (row_lists (rows_of world))) rows.items) }
+{
+    let rows = find_rows_by(conn, by, values)?;
+    Ok(rows)
+}
+
+/// How many rows have these values in the columns that are counted by.
+pub fn query_count<S: Alter>(
+    conn: &mut Connection<S>,
+    by: RowsCounted,
+    values: &[ValueRef<'_>],
+) -> Result<usize, ReadingFault>
+    requires { FitsColumns (table_counted by) (columns_counted by) (bound values.now) }
+    ensures { AnswersQuery S.Store conn.old conn.new result (λ world count. count ≡ length (rows_counted by (bound values.now) (row_lists (rows_of world)))) }
+{
+    let rows = find_count(conn, by, values)?;
+    number_in_rows(rows.as_slice())
+}
+
+// The number that the first of the rows tells.
+fn number_in_rows(rows: &[Row]) -> Result<usize, ReadingFault>
+    ensures { result ≡ first_number_in rows.now }
+{
+    match rows.first() {
+        None => Err(ReadingFault::Damaged),
+        Some(row) => match number_at(row, 0) {
+            None => Err(ReadingFault::Damaged),
+            Some(number) => Ok(number as usize),
+        },
+    }
+}
+
+/// All rows of a table.
+pub fn query_all_rows<S: Alter>(
+    conn: &mut Connection<S>,
+    table: TableName,
+) -> Result<Vec<Row>, ReadingFault>
+    ensures { TellsAll S.Store conn.old conn.new result
+        (λ world rows. IsPermutation (all_rows_of table (row_lists (rows_of world))) rows.items)
+        (λ lists rows. IsPermutation (all_rows_of table lists) rows.items) }
+{
+    let rows = find_all_rows(conn, table)?;
+    Ok(rows)
+}

@@ -1,0 +1,291 @@
+//! The tables that rows of SQL tell.
+//!
+//! Each row tells one entry, and no two rows tell one key: else the rows are damaged.
+ghost use Rattle.std.specs.Prelude.{◌≡◌, ◌∷◌, Err, IfErr, List, OnOk, is_some};
+ghost use Rattle.std.specs.FinMap as map;
+ghost use Rattle.std.specs.FinSet as set;
+ghost use Rattle.sqlite_value.specs.Order.{Row as SqlRow};
+ghost use Rattle.agv_rows.specs.Columns.{act_in, capacity_in, edge_in, job_in, journey_in, leg_in, load_in, node_in, station_in, used_in};
+ghost use Rattle.agv_rows.specs.DecodedTrips.{vehicle_with};
+ghost use Rattle.agv_row_reading.specs.ReadTables.{Reads, read_members, read_rows};
+
+use crate::ReadingFault;
+use agv_header::VehicleKey;
+use agv_layout::{EdgeEnds, StationSite};
+use agv_rows::CapacityRow;
+use agv_rows::decode_row::{
+    decode_act, decode_capacity, decode_edge, decode_job, decode_journey, decode_leg, decode_load,
+    decode_node, decode_station, decode_used, decode_vehicle,
+};
+use agv_stock::Place;
+use agv_trip_rows::{ByAct, JourneyRow};
+use agv_world::{ByLeg, ByName, ByVehicle, JobRow, LegKey, Names, UseKey, UsedNames, VehicleRow};
+use sqlite::Row;
+use std::alloc::Global;
+
+/// The table that these rows tell.
+pub fn nodes_in_rows(alloc: Global, rows: &[Row]) -> Result<Names, ReadingFault>
+    ensures { Reads result (read_members node_in set.empty rows.now) }
+{
+    let mut table = Names::new(alloc);
+    for row in rows {
+        match decode_node(row) {
+            None => return Err(ReadingFault::Damaged),
+            Some(key) => {
+                if table.contains(key) {
+                    return Err(ReadingFault::Damaged);
+                }
+                table.insert(key)?;
+            }
+        }
+    }
+    Ok(table)
+}
+
+/// The table that these rows tell.
+pub fn edges_in_rows(alloc: Global, rows: &[Row]) -> Result<ByName<EdgeEnds>, ReadingFault>
+    ensures { Reads result (read_rows edge_in map.empty rows.now) }
+{
+    let mut table = ByName::new(alloc);
+    for row in rows {
+        match decode_edge(row) {
+            None => return Err(ReadingFault::Damaged),
+            Some((id, value)) => {
+                if !table.insert_new(id, value)? {
+                    return Err(ReadingFault::Damaged);
+                }
+            }
+        }
+    }
+    Ok(table)
+}
+
+/// The table that these rows tell.
+pub fn stations_in_rows(alloc: Global, rows: &[Row]) -> Result<ByName<StationSite>, ReadingFault>
+    ensures { Reads result (read_rows station_in map.empty rows.now) }
+{
+    let mut table = ByName::new(alloc);
+    for row in rows {
+        match decode_station(row) {
+            None => return Err(ReadingFault::Damaged),
+            Some((id, value)) => {
+                if !table.insert_new(id, value)? {
+                    return Err(ReadingFault::Damaged);
+                }
+            }
+        }
+    }
+    Ok(table)
+}
+
+// Whether the table has a row of this key.
+pub fn has_vehicle(table: &ByVehicle<VehicleRow>, key: &VehicleKey) -> bool
+    ensures { result ≡ is_some (map.get table.now key.now) }
+{
+    table.get(*key).is_some()
+}
+
+/// The table that these rows tell, where these are the rooms of vehicles.
+pub fn vehicles_in_rows(
+    alloc: Global,
+    rows: &[Row],
+    capacities: &ByVehicle<CapacityRow>,
+) -> Result<ByVehicle<VehicleRow>, ReadingFault>
+    ensures { Reads result (read_rows (vehicle_with capacities.now) map.empty rows.now) }
+{
+    let mut table = ByVehicle::new(alloc);
+    for row in rows {
+        match vehicle_in_row(row, capacities) {
+            None => return Err(ReadingFault::Damaged),
+            Some((key, value)) => {
+                if has_vehicle(&table, &key) {
+                    return Err(ReadingFault::Damaged);
+                }
+                table.insert(key, value)?;
+            }
+        }
+    }
+    Ok(table)
+}
+
+// The vehicle that a row tells, with its room, if that is known.
+fn vehicle_in_row(
+    row: &Row,
+    capacities: &ByVehicle<CapacityRow>,
+) -> Option<(VehicleKey, VehicleRow)>
+    ensures { result ≡ vehicle_with capacities.now row.now }
+{
+    let (key, mut vehicle) = decode_vehicle(row)?;
+    vehicle.capacity = capacities.get(key)?.capacity;
+    Some((key, vehicle))
+}
+
+/// The table that these rows tell.
+pub fn capacities_in_rows(
+    alloc: Global,
+    rows: &[Row],
+) -> Result<ByVehicle<CapacityRow>, ReadingFault>
+    ensures { Reads result (read_rows capacity_in map.empty rows.now) }
+{
+    let mut table = ByVehicle::new(alloc);
+    for row in rows {
+        match decode_capacity(row) {
+            None => return Err(ReadingFault::Damaged),
+            Some((key, value)) => {
+                if has_capacity(&table, &key) {
+                    return Err(ReadingFault::Damaged);
+                }
+                table.insert(key, value)?;
+            }
+        }
+    }
+    Ok(table)
+}
+
+// Whether the table has a row of this key.
+fn has_capacity(table: &ByVehicle<CapacityRow>, key: &VehicleKey) -> bool
+    ensures { result ≡ is_some (map.get table.now key.now) }
+{
+    table.get(*key).is_some()
+}
+
+/// The table that these rows tell.
+pub fn journeys_in_rows(alloc: Global, rows: &[Row]) -> Result<ByName<JourneyRow>, ReadingFault>
+    ensures { Reads result (read_rows journey_in map.empty rows.now) }
+{
+    let mut table = ByName::new(alloc);
+    for row in rows {
+        match decode_journey(row) {
+            None => return Err(ReadingFault::Damaged),
+            Some((id, value)) => {
+                if !table.insert_new(id, value)? {
+                    return Err(ReadingFault::Damaged);
+                }
+            }
+        }
+    }
+    Ok(table)
+}
+
+/// The table that these rows tell.
+pub fn acts_in_rows(alloc: Global, rows: &[Row]) -> Result<ByAct, ReadingFault>
+    ensures { Reads result (read_rows act_in map.empty rows.now) }
+{
+    let mut table = ByAct::new(alloc);
+    for row in rows {
+        match decode_act(row) {
+            None => return Err(ReadingFault::Damaged),
+            Some((key, value)) => {
+                if has_act(&table, &key) {
+                    return Err(ReadingFault::Damaged);
+                }
+                table.insert(key, value)?;
+            }
+        }
+    }
+    Ok(table)
+}
+
+// Whether the table has a row of this key.
+fn has_act(table: &ByAct, key: &LegKey) -> bool
+    ensures { result ≡ is_some (map.get table.now key.now) }
+{
+    table.get(*key).is_some()
+}
+
+/// The table that these rows tell.
+pub fn legs_in_rows(alloc: Global, rows: &[Row]) -> Result<ByLeg, ReadingFault>
+    ensures { Reads result (read_rows leg_in map.empty rows.now) }
+{
+    let mut table = ByLeg::new(alloc);
+    for row in rows {
+        match decode_leg(row) {
+            None => return Err(ReadingFault::Damaged),
+            Some((key, edge)) => {
+                if has_leg(&table, &key) {
+                    return Err(ReadingFault::Damaged);
+                }
+                table.insert(key, edge)?;
+            }
+        }
+    }
+    Ok(table)
+}
+
+// Whether the table has a row of this key.
+fn has_leg(table: &ByLeg, key: &LegKey) -> bool
+    ensures { result ≡ is_some (map.get table.now key.now) }
+{
+    table.get(*key).is_some()
+}
+
+/// The table takes in what one more row tells.
+pub fn take_place(table: &mut ByName<Place>, row: &Row) -> Result<(), ReadingFault>
+    ensures taken { OnOk result ((rest : List SqlRow) → read_rows load_in table.old (row.now ∷ rest) ≡ read_rows load_in table.new rest) }
+    ensures refused { IfErr result (λ why. (rest : List SqlRow) → Reads (Err why) (read_rows load_in table.old (row.now ∷ rest))) }
+{
+    match decode_load(row) {
+        None => Err(ReadingFault::Damaged),
+        Some((id, place)) => {
+            if !table.insert_new(id, place)? {
+                return Err(ReadingFault::Damaged);
+            }
+            Ok(())
+        }
+    }
+}
+
+/// The table that these rows tell.
+pub fn places_in_rows(alloc: Global, rows: &[Row]) -> Result<ByName<Place>, ReadingFault>
+    ensures { Reads result (read_rows load_in map.empty rows.now) }
+{
+    let mut table = ByName::new(alloc);
+    for row in rows {
+        take_place(&mut table, row)?;
+    }
+    Ok(table)
+}
+
+/// The table that these rows tell.
+pub fn jobs_in_rows(alloc: Global, rows: &[Row]) -> Result<ByName<JobRow>, ReadingFault>
+    ensures { Reads result (read_rows job_in map.empty rows.now) }
+{
+    let mut table = ByName::new(alloc);
+    for row in rows {
+        match decode_job(row) {
+            None => return Err(ReadingFault::Damaged),
+            Some((id, value)) => {
+                if !table.insert_new(id, value)? {
+                    return Err(ReadingFault::Damaged);
+                }
+            }
+        }
+    }
+    Ok(table)
+}
+
+/// The table that these rows tell.
+pub fn used_in_rows(alloc: Global, rows: &[Row]) -> Result<UsedNames, ReadingFault>
+    ensures { Reads result (read_members used_in set.empty rows.now) }
+{
+    let mut table = UsedNames::new(alloc);
+    for row in rows {
+        match decode_used(row) {
+            None => return Err(ReadingFault::Damaged),
+            Some(key) => {
+                if has_used(&table, &key) {
+                    return Err(ReadingFault::Damaged);
+                }
+                table.insert(key)?;
+            }
+        }
+    }
+    Ok(table)
+}
+
+// Whether the table has this key.
+fn has_used(table: &UsedNames, key: &UseKey) -> bool
+    ensures { result ≡ set.contains table.now key.now }
+{
+    table.contains(*key)
+}

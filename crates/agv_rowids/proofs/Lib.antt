@@ -1,0 +1,4 @@
+pub mod RowidMeanings
+pub mod RowidsKeyed
+pub mod RowidsRead
+pub mod RowidsTold

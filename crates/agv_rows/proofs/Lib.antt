@@ -1,0 +1,17 @@
+pub mod CellLemmas
+pub mod ColumnsKept
+pub mod ColumnsTell
+pub mod ColumnsWritten
+pub mod FittingRows
+pub mod KeyTests
+pub mod KeyedRows
+pub mod LawfulHolds
+pub mod LawfulTrips
+pub mod LawfulValues
+pub mod ListsFollow
+pub mod ListsHeld
+pub mod ListsTell
+pub mod Members
+pub mod TripRowLaws
+pub mod TripsHaveRows
+pub mod TripsTell

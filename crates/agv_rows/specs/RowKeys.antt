@@ -1,0 +1,25 @@
+-- The keys of the tables, as the columns that a row of the key has first.
+use Rattle.std.specs.Prelude.{ℕ, List, [], ◌∷◌}
+use Rattle.sqlite_value.specs.declared.value.Value.TheVariants.{Text}
+use Rattle.sqlite_value.specs.Order.{Row}
+use Rattle.agv_header.specs.declared.key.Thing.{Thing}
+use Rattle.agv_header.specs.declared.key.Thing.TheVariants as thing
+use Rattle.agv_header.specs.declared.key.VehicleKey.{VehicleKey}
+use Rattle.agv_world.specs.declared.key.LegKey.{LegKey}
+use Rattle.agv_rows.specs.ValueEncodings.{number_cell, thing_name}
+use Rattle.agv_rows.specs.declared.words.ThingKind.TheVariants as held
+
+-- the key of a table with one name for it
+abbrev pub name_key : List ℕ → Row
+name_key id = Text id ∷ []
+
+abbrev pub vehicle_key : VehicleKey → Row
+vehicle_key key = Text key.manufacturer ∷ Text key.serial ∷ []
+
+-- of an edge of an open trip, and of an act
+abbrev pub leg_key : LegKey → Row
+leg_key key = Text key.order ∷ number_cell key.k ∷ []
+
+abbrev pub hold_key : Thing → Row
+hold_key (thing.Node id) = Text (thing_name held.Node) ∷ Text id ∷ []
+hold_key (thing.Edge id) = Text (thing_name held.Edge) ∷ Text id ∷ []

@@ -1,0 +1,149 @@
+-- The rows of a world as lists of SQL rows, one for each table in the order of the desk's tables, and what each change of rows does to them.
+use Rattle.std.specs.Prelude.{◌≡◌, ℕ, Bool, List, [], ◌∷◌, map, filter, Option, None, Some, IsPermutation}
+use Rattle.std.specs.FinMap as finite
+use Rattle.std.specs.FinSet as set
+use Rattle.std.specs.List.{AllByRecursion, AllZip}
+use Rattle.std.specs.declared.cmp.Ordering.{Ordering}
+use Rattle.sqlite_value.specs.Order.{Row}
+use Rattle.sqlite.specs.Effect.{Database}
+use Rattle.agv_header.specs.declared.key.VehicleKey.{VehicleKey}
+use Rattle.agv_world.specs.Rows.{Rows, rows_of}
+use Rattle.agv_world.specs.Worlds.{World}
+use Rattle.agv_world.specs.declared.change.Change.{Change}
+use Rattle.agv_world.specs.declared.change.Change.TheVariants as row
+use Rattle.agv_world.specs.declared.row.TripRow.{TripRow}
+use Rattle.agv_world.specs.declared.row.VehicleRow.{VehicleRow}
+use Rattle.agv_rows.specs.Columns.{meta_columns, node_columns, edge_columns, station_columns, vehicle_columns, room_columns, journey_columns, act_columns, leg_columns, load_columns, job_columns, hold_columns, used_columns}
+use Rattle.agv_schema.specs.DeskRows.{Placing, Holds, place_of, table_at, with_put, with_rows, without_key, without_rows}
+use Rattle.agv_rows.specs.RowKeys.{name_key, vehicle_key, leg_key, hold_key}
+use Rattle.agv_schema.specs.RowTexts.{columns_deleted}
+use Rattle.agv_schema.specs.declared.table_name.TableName.TheVariants as the
+use Rattle.agv_schema.specs.declared.world_table.WorldTable.TheVariants as table
+use Rattle.agv_trip_rows.specs.TripRows.{act_rows, acts_of, journey_of, journeys_of}
+use Rattle.agv_trip_rows.specs.TripsTold.{IsOfJob}
+use Rattle.agv_trip_rows.specs.declared.act_row.ActRow.{ActRow}
+use Rattle.agv_world.specs.declared.key.LegKey.{LegKey}
+
+-- ---- the rows of a world
+
+-- the columns of each entry of a table, in the order of the keys
+abbrev pub rows_in : {K X : Type 0} {R : K → K → Ordering} → (K → X → Row) → finite.FinMap R X → List Row
+rows_in {K} {X} columns table = map (λ (entry : K × X). columns entry.0 entry.1) (finite.entries table)
+
+-- the members of a set, as the keys of a map that has nothing at them: so each is there once, in their order
+abbrev pub marked : {K : Type 0} {R : K → K → Ordering} → set.FinSet R → finite.FinMap R (Unit {0})
+marked {K} members = finite.from_entries (map (λ (key : K). (key, tt)) (set.items members))
+
+-- the columns of each member
+abbrev pub rows_for : {K : Type 0} {R : K → K → Ordering} → (K → Row) → set.FinSet R → List Row
+rows_for columns members = rows_in (λ key nothing. columns key) (marked members)
+
+-- the columns of what is there, if anything is
+abbrev pub row_if : {X : Type 0} → (X → Row) → Option X → List Row
+row_if columns None = []
+row_if columns (Some x) = columns x ∷ []
+
+-- the rows of all tables
+unfoldable pub row_lists : Rows → List (List Row)
+row_lists rows =
+    rows_in meta_columns rows.meta
+    ∷ rows_for node_columns rows.nodes
+    ∷ rows_in edge_columns rows.edges
+    ∷ rows_in station_columns rows.stations
+    ∷ rows_in vehicle_columns rows.vehicles
+    ∷ []
+    ∷ rows_in leg_columns rows.legs
+    ∷ rows_in load_columns rows.loads
+    ∷ rows_in job_columns rows.jobs
+    ∷ rows_in hold_columns rows.holds
+    ∷ rows_for used_columns rows.used
+    ∷ rows_in room_columns rows.vehicles
+    ∷ rows_in journey_columns (journeys_of rows.trips)
+    ∷ rows_in act_columns (acts_of rows.trips) ∷ []
+
+-- the lists have the same rows, table by table, in some order
+abbrev pub AreAlike : List (List Row) → List (List Row) → Type 0
+AreAlike = AllZip IsPermutation
+
+-- the lists tell these rows of a world
+abbrev pub TellRows : List (List Row) → Rows → Type 0
+TellRows lists rows = AreAlike lists (row_lists rows)
+
+-- ---- what is seen of a table
+
+-- where a test of rows passes the columns of an entry just as a test of entries passes the entry, the rows that pass are the columns of the entries that do, in some order
+abbrev pub ShowEntries : {K X : Type 0} {R : K → K → Ordering} → List Row → (K → X → Row) → finite.FinMap R X → Type 0
+ShowEntries {K} {X} rows columns table =
+    (passes : Row → Bool) (is : K × X → Bool) → ((key : K) (x : X) → passes (columns key x) ≡ is (key, x))
+    → IsPermutation (filter passes rows) (map (λ (entry : K × X). columns entry.0 entry.1) (filter is (finite.entries table)))
+
+-- so it is of each table
+pub record ShowAll (lists : List (List Row)) (rows : Rows) : Type 0 where
+  pub nodes : ShowEntries (table_at (place_of the.Node) lists) (λ id nothing. node_columns id) (marked rows.nodes)
+  pub edges : ShowEntries (table_at (place_of the.Edge) lists) edge_columns rows.edges
+  pub stations : ShowEntries (table_at (place_of the.Station) lists) station_columns rows.stations
+  pub vehicles : ShowEntries (table_at (place_of the.Vehicle) lists) vehicle_columns rows.vehicles
+  pub trips : table_at (place_of the.Trip) lists ≡ []
+  pub legs : ShowEntries (table_at (place_of the.Leg) lists) leg_columns rows.legs
+  pub loads : ShowEntries (table_at (place_of the.Load) lists) load_columns rows.loads
+  pub jobs : ShowEntries (table_at (place_of the.Job) lists) job_columns rows.jobs
+  pub holds : ShowEntries (table_at (place_of the.Hold) lists) hold_columns rows.holds
+  pub used : ShowEntries (table_at (place_of the.Used) lists) (λ key nothing. used_columns key) (marked rows.used)
+  pub capacities : ShowEntries (table_at (place_of the.Capacity) lists) room_columns rows.vehicles
+  pub journeys : ShowEntries (table_at (place_of the.Journey) lists) journey_columns (journeys_of rows.trips)
+  pub acts : ShowEntries (table_at (place_of the.Act) lists) act_columns (acts_of rows.trips)
+
+-- ---- what a change does to the lists
+
+-- the row of a vehicle, and that of its room
+abbrev pub with_vehicle : VehicleKey → VehicleRow → List (List Row) → List (List Row)
+with_vehicle key vehicle lists = with_put the.Capacity (vehicle_key key) (room_columns key vehicle) (with_put the.Vehicle (vehicle_key key) (vehicle_columns key vehicle) lists)
+
+-- without the acts of an order
+abbrev pub without_acts : List ℕ → List (List Row) → List (List Row)
+without_acts order = without_rows the.Act (columns_deleted table.Act) (name_key order)
+
+-- the rows of these acts
+abbrev pub rows_of_acts : List (LegKey × ActRow) → List Row
+rows_of_acts acts = map (λ (act : LegKey × ActRow). act_columns act.0 act.1) acts
+
+-- without the open trip of an order, and with this one in the place of that
+abbrev pub without_trip : List ℕ → List (List Row) → List (List Row)
+without_trip order lists = without_acts order (without_key the.Journey (name_key order) lists)
+
+abbrev pub with_trip : List ℕ → TripRow → List (List Row) → List (List Row)
+with_trip order trip lists =
+    with_rows the.Act (rows_of_acts (act_rows order trip)) (without_acts order (with_put the.Journey (name_key order) (journey_columns order (journey_of trip)) lists))
+
+-- the row is written in place of that of its key, or that row is removed
+abbrev pub listed : Change → List (List Row) → List (List Row)
+listed (row.Node id) = with_put the.Node (name_key id) (node_columns id)
+listed (row.Edge id ends) = with_put the.Edge (name_key id) (edge_columns id ends)
+listed (row.Station id site) = with_put the.Station (name_key id) (station_columns id site)
+listed (row.Vehicle key vehicle) = with_vehicle key vehicle
+listed (row.Trip order None) = without_trip order
+listed (row.Trip order (Some trip)) = with_trip order trip
+listed (row.Leg key None) = without_key the.Leg (leg_key key)
+listed (row.Leg key (Some edge)) = with_put the.Leg (leg_key key) (leg_columns key edge)
+listed (row.Load id place) = with_put the.Load (name_key id) (load_columns id place)
+listed (row.Job id job) = with_put the.Job (name_key id) (job_columns id job)
+listed (row.Hold thing None) = without_key the.Hold (hold_key thing)
+listed (row.Hold thing (Some key)) = with_put the.Hold (hold_key thing) (hold_columns thing key)
+listed (row.Used key) = with_put the.Used (used_columns key) (used_columns key)
+
+-- the lists after all changes, one after the other
+unfoldable pub listed_all : List Change → List (List Row) → List (List Row)
+listed_all [] lists = lists
+listed_all (one ∷ changes) lists = listed_all changes (listed one lists)
+
+-- ---- what the tables can tell
+
+-- each act of each open trip has the load and the station of its job, which is known: the tables tell no more
+abbrev pub ActsAreOfJobs : Rows → Type 0
+ActsAreOfJobs rows = (order : List ℕ) (trip : TripRow) → finite.get rows.trips order ≡ Some trip → AllByRecursion (IsOfJob rows.jobs) trip.acts
+
+-- ---- a database
+
+-- the desk's tables in the database have the rows of this world
+abbrev pub HoldsWorld : Placing → Database → World → Type 0
+HoldsWorld desk db world = Holds desk db (row_lists (rows_of world))

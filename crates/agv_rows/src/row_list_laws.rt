@@ -1,0 +1,74 @@
+//! What holds of the lists of SQL rows that tell the rows of a world, and of a database that has them. Each
+//! function does nothing: its clause is the law.
+ghost use Rattle.std.specs.Prelude.{◌≡◌, ◌++◌, [], List};
+ghost use Rattle.sqlite_value.specs.Order.{Row};
+ghost use Rattle.sqlite.specs.Effect.{Database};
+ghost use Rattle.agv_world.specs.Changes.{change, changed};
+ghost use Rattle.agv_world.specs.Lawful.{IsLawful};
+ghost use Rattle.agv_world.specs.Rows.{Rows, rows_of};
+ghost use Rattle.agv_world.specs.Worlds.{World};
+ghost use Rattle.agv_world.specs.declared.change.Change.{Change};
+ghost use Rattle.agv_schema.specs.SchemaNumbers.{desk_seats};
+ghost use Rattle.agv_schema.specs.DeskRows.{Placing, Holds, IsDesk};
+ghost use Rattle.agv_rows.specs.RowLists.{ActsAreOfJobs, AreAlike, HoldsWorld, TellRows, listed, listed_all, row_lists};
+ghost use Rattle.agv_schema.specs.declared.table_name.TableName.TheVariants as the;
+
+use agv_trip_rows::row_laws::{rows_follow_changes, rows_have_keys};
+use agv_trip_rows::trip_laws::{lawful_rows_tell_trips, rows_tell_one_table};
+use agv_world::lawful_laws::is_in_good_order;
+use agv_world::laws::rows_tell_the_world;
+
+/// Lists that tell the rows of a world tell, after a change of the lists, the rows after that change; and so they
+/// do after many, which are made in turn.
+pub fn lists_follow_changes()
+    ensures one { (one : Change) (lists : List (List Row)) (rows : Rows) → TellRows lists rows → TellRows (listed one lists) (change rows one) }
+    ensures all { (changes : List Change) (lists : List (List Row)) (rows : Rows) → TellRows lists rows → TellRows (listed_all changes lists) (changed changes rows) }
+    ensures in_turn { (first later : List Change) (lists : List (List Row)) → listed_all (first ++ later) lists ≡ listed_all later (listed_all first lists) }
+{
+    rows_have_keys();
+    rows_follow_changes();
+}
+
+/// Lists tell the rows of one world alone, where each act has the load and the station of its job.
+pub fn lists_tell_one_world()
+    ensures { (lists : List (List Row)) (rows others : Rows) → ActsAreOfJobs rows → ActsAreOfJobs others
+        → TellRows lists rows → TellRows lists others → rows ≡ others }
+{
+    rows_tell_one_table();
+}
+
+/// In a lawful world each act of an open trip has the load and the station of its job, which is known.
+pub fn lawful_acts_are_of_jobs()
+    ensures { (world : World) → IsLawful desk_seats world → ActsAreOfJobs (rows_of world) }
+{
+    lawful_rows_tell_trips();
+}
+
+/// A database that has the rows of lists has those of lists that are alike, and of no other: however the desk's
+/// tables are found in it, they have one list of rows each, but for the order.
+pub fn a_database_has_one_list_for_each_table()
+    ensures alike { (desk : Placing) (db : Database) (lists others : List (List Row)) → AreAlike lists others → Holds desk db lists → Holds desk db others }
+    ensures one { (desk again : Placing) (db : Database) (lists others : List (List Row)) → IsDesk desk → IsDesk again
+        → Holds desk db lists → Holds again db others → AreAlike lists others }
+{}
+
+/// Where the changes are made to whatever lists a database has, the database that had the rows of a world has those
+/// after the changes.
+pub fn a_database_follows_changes()
+    ensures { (desk : Placing) (old new : Database) (changes : List Change)
+        → ((lists : List (List Row)) → Holds desk old lists → Holds desk new (listed_all changes lists))
+        → (rows : Rows) → Holds desk old (row_lists rows) → Holds desk new (row_lists (changed changes rows)) }
+{
+    lists_follow_changes();
+}
+
+/// A database has the rows of one lawful world at most.
+pub fn a_database_tells_one_world()
+    ensures { (desk again : Placing) (db : Database) (world other : World) → IsDesk desk → IsDesk again → IsLawful desk_seats world → IsLawful desk_seats other
+        → HoldsWorld desk db world → HoldsWorld again db other → world ≡ other }
+{
+    lists_tell_one_world();
+    lawful_acts_are_of_jobs();
+    is_in_good_order();
+    rows_tell_the_world();
+}

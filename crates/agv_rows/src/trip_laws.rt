@@ -1,0 +1,73 @@
+//! What the rows of a lawful world tell of its open trips and its vehicles. The functions do nothing: their clauses are the law.
+ghost use Rattle.std.specs.Prelude.{◌≡◌, ◌↔◌, ℕ, List, Some, filter, true};
+ghost use Rattle.std.specs.FinMap as finite;
+ghost use Rattle.std.specs.Option.{option_and_then};
+ghost use Rattle.agv_header.specs.Name.{IsName};
+ghost use Rattle.agv_header.specs.declared.key.VehicleKey.{VehicleKey};
+ghost use Rattle.agv_order.specs.declared.act.Act.{Act};
+ghost use Rattle.agv_order.specs.declared.trip.Trip.{Trip};
+ghost use Rattle.agv_trip_rows.specs.TripRows.{acts_of, is_of, journeys_of};
+ghost use Rattle.agv_trip_rows.specs.TripsTold.{acts_told};
+ghost use Rattle.agv_trip_rows.specs.declared.act_row.ActRow.{ActRow};
+ghost use Rattle.agv_trip_rows.specs.declared.journey_row.JourneyRow.{JourneyRow};
+ghost use Rattle.agv_world.specs.Lawful.{IsLawful};
+ghost use Rattle.agv_world.specs.Questions.{row_of, trip_of};
+ghost use Rattle.agv_world.specs.Rows.{rows_of};
+ghost use Rattle.agv_world.specs.Told.{edges_of};
+ghost use Rattle.agv_world.specs.Worlds.{World};
+ghost use Rattle.agv_world.specs.declared.key.LegKey.{LegKey};
+ghost use Rattle.agv_schema.specs.SchemaNumbers.{desk_seats};
+ghost use Rattle.agv_rows.specs.DecodedTrips.{HasTripRows, is_driven_by, journey_for, tables_of, told_by_journey, trips_with};
+ghost use Rattle.agv_rows.specs.TypedRows.{IsActRow, IsJourneyRow, IsLegKey};
+
+use agv_trip_rows::row_laws::{rows_are_of_trips, rows_have_keys, tables_have_rows};
+use agv_trip_rows::trip_laws::{
+    lawful_rows_have_values, lawful_rows_tell_trips, rows_tell_one_table,
+};
+use agv_world::lawful_laws::is_in_good_order;
+use agv_world::laws::tables_tell_the_world;
+
+/// In a lawful world the open trip of a vehicle is what the journey that names the vehicle tells, with the acts of its order,
+/// the rows of their jobs and the rows of its edges: there is a trip just where there is a journey. Journeys that name one
+/// vehicle are one. The acts of any order are told, and all trips by all journeys and acts. Numbers are in their ranges, and names are
+/// names.
+pub fn rows_tell_trips()
+    ensures trip { (world : World) → IsLawful desk_seats world → (key : VehicleKey)
+        → trip_of world key ≡ option_and_then (told_by_journey (rows_of world)) (journey_for (rows_of world) key) }
+    ensures one { (world : World) → IsLawful desk_seats world → (key : VehicleKey) (a b : List ℕ × JourneyRow)
+        → finite.get (journeys_of (rows_of world).trips) a.0 ≡ Some a.1 → finite.get (journeys_of (rows_of world).trips) b.0 ≡ Some b.1
+        → is_driven_by key a ≡ true → is_driven_by key b ≡ true → a.0 ≡ b.0 }
+    ensures acts { (world : World) → IsLawful desk_seats world → (order : List ℕ)
+        → (acts : List Act) × (acts_told (rows_of world).jobs 0 (filter (is_of order) (finite.entries (acts_of (rows_of world).trips))) ≡ Some acts) }
+    ensures all { (world : World) → IsLawful desk_seats world
+        → trips_with (journeys_of (rows_of world).trips) (acts_of (rows_of world).trips) (rows_of world).jobs ≡ (rows_of world).trips }
+    ensures journeys { (world : World) → IsLawful desk_seats world → (order : List ℕ) (journey : JourneyRow)
+        → finite.get (journeys_of (rows_of world).trips) order ≡ Some journey → IsName order × IsJourneyRow journey }
+    ensures act_values { (world : World) → IsLawful desk_seats world → (key : LegKey) (act : ActRow)
+        → finite.get (acts_of (rows_of world).trips) key ≡ Some act → IsLegKey key × IsActRow act }
+    ensures ways { (world : World) → IsLawful desk_seats world → (key : VehicleKey) (trip : Trip)
+        → trip_of world key ≡ Some trip → trip.edges ≡ edges_of (tables_of (rows_of world)) trip.order }
+{
+    rows_have_keys();
+    tables_have_rows();
+    rows_are_of_trips();
+    lawful_rows_tell_trips();
+    rows_tell_one_table();
+    lawful_rows_have_values();
+    is_in_good_order();
+    tables_tell_the_world();
+}
+
+/// In a lawful world the open trip of a vehicle is the one that names the vehicle, and whose rows the world has.
+pub fn rows_have_trips()
+    ensures { (world : World) → IsLawful desk_seats world → (key : VehicleKey) (trip : Trip)
+        → (trip_of world key ≡ Some trip) ↔ ((trip.vehicle ≡ key) × HasTripRows (rows_of world) trip) }
+{
+    is_in_good_order();
+    rows_tell_trips();
+}
+
+/// The row of a vehicle is the row of its key.
+pub fn rows_have_vehicles()
+    ensures { (world : World) (key : VehicleKey) → finite.get (rows_of world).vehicles key ≡ row_of world key }
+{}

@@ -1,4 +1,0 @@
-pub mod First
-pub mod Listed
-pub mod Members
-pub mod Plain

@@ -1,0 +1,14 @@
+pub mod ColumnValues
+pub mod DeskPlaces
+pub mod FewEntries
+pub mod KeyedEntries
+pub mod Later
+pub mod MapEntries
+pub mod Memory
+pub mod OnTables
+pub mod OneTable
+pub mod Running
+pub mod SpreadRows
+pub mod StatesKept
+pub mod StatesThen
+pub mod Truths

@@ -1,0 +1,229 @@
+-- The desk's tables in a database that may have other tables too, and the rows that they hold.
+use Rattle.std.specs.Prelude.{◌≡◌, ◌≢◌, ◌-◌, ◌^◌, ℕ, zero, suc, Bool, true, false, not, ◌&&◌, nat_le, List, [], ◌∷◌, length, map, drop, filter, Some, IsTrue, IsPermutation, slice_get}
+use Rattle.std.specs.List.{AllZip, AllByRecursion, list_all}
+use Rattle.sqlite_value.specs.Order.{Row, column}
+use Rattle.sqlite_value.specs.declared.keys.Collation.TheVariants.{Binary}
+use Rattle.sqlite_value.specs.declared.value.Value.{Value}
+use Rattle.sqlite_value.specs.declared.value.Value.TheVariants.{Null, Int, Text}
+use Rattle.sqlite_trees.specs.Tree.{rowid, IsAscending}
+use Rattle.sqlite_trees.specs.View.{is_int}
+use Rattle.sqlite_sql.specs.declared.ops.BinaryOp.TheVariants.{Compare}
+use Rattle.sqlite_sql.specs.declared.ops.CompareOp.TheVariants.{Eq}
+use Rattle.sqlite_sql.specs.Ops.{binary, is_true}
+use Rattle.sqlite_schema.specs.Names.{same_name, table_named}
+use Rattle.sqlite_schema.specs.declared.schema.Column.{Column}
+use Rattle.sqlite_schema.specs.declared.schema.Kind.{Kind}
+use Rattle.sqlite_schema.specs.declared.schema.Kind.TheVariants as kind
+use Rattle.sqlite_schema.specs.declared.schema.Reference.{Reference}
+use Rattle.sqlite_schema.specs.declared.schema.Schema.{Schema}
+use Rattle.sqlite_schema.specs.declared.schema.Table.{Table}
+use Rattle.sqlite_rules.specs.Edit.{id_in}
+use Rattle.sqlite.specs.Effect.{Database, IsDatabase}
+use Rattle.sqlite.specs.State.{State}
+use Rattle.agv_schema.specs.Schema.{meta_table, node_table, edge_table, station_table, vehicle_table, trip_table, leg_table, place_table, job_table, hold_table, used_table, capacity_table, journey_table, act_table}
+use Rattle.agv_schema.specs.declared.table_name.TableName.{TableName}
+use Rattle.agv_schema.specs.declared.table_name.TableName.TheVariants as the
+
+-- ---- the fourteen tables
+
+-- the table of that name as the desk makes it, but for its tree
+abbrev pub table_for : TableName → Table
+table_for the.Meta = meta_table
+table_for the.Node = node_table
+table_for the.Edge = edge_table
+table_for the.Station = station_table
+table_for the.Vehicle = vehicle_table
+table_for the.Trip = trip_table
+table_for the.Leg = leg_table
+table_for the.Load = place_table
+table_for the.Job = job_table
+table_for the.Hold = hold_table
+table_for the.Used = used_table
+table_for the.Capacity = capacity_table
+table_for the.Journey = journey_table
+table_for the.Act = act_table
+
+-- the order of the lists of their rows
+abbrev pub table_names : List TableName
+table_names = the.Meta ∷ the.Node ∷ the.Edge ∷ the.Station ∷ the.Vehicle ∷ the.Trip ∷ the.Leg ∷ the.Load ∷ the.Job ∷ the.Hold ∷ the.Used ∷ the.Capacity ∷ the.Journey ∷ the.Act ∷ []
+
+abbrev pub place_of : TableName → ℕ
+place_of the.Meta = 0
+place_of the.Node = 1
+place_of the.Edge = 2
+place_of the.Station = 3
+place_of the.Vehicle = 4
+place_of the.Trip = 5
+place_of the.Leg = 6
+place_of the.Load = 7
+place_of the.Job = 8
+place_of the.Hold = 9
+place_of the.Used = 10
+place_of the.Capacity = 11
+place_of the.Journey = 12
+place_of the.Act = 13
+
+-- how many columns it has
+abbrev pub width_of : TableName → ℕ
+width_of name = length (table_for name).columns
+
+-- ---- where they stand
+
+-- a schema, and the tree that each of the fourteen has in it
+pub record Placing : Type 0 where
+  pub schema : Schema
+  pub tree : TableName → ℕ
+
+-- the table of that name, with its tree
+abbrev pub table_in : Placing → TableName → Table
+table_in desk name = record (table_for name) { tree = desk.tree name }
+
+-- no table has a key that refers to a table of that name
+abbrev pub is_unreferred : List ℕ → List Table → Bool
+is_unreferred name = list_all (λ (t : Table). list_all (λ (r : Reference). not (same_name name r.parent)) t.references)
+
+-- the table stands in the schema, with the desk's columns and keys
+pub record TableStands (desk : Placing) (name : TableName) : Type 0 where
+  -- SQL finds it by its name
+  pub at : ℕ
+  pub named : table_named desk.schema (table_for name).name ≡ Some at
+  pub there : slice_get desk.schema.tables at ≡ Some (table_in desk name)
+  -- its tree has a number that a table's may have
+  pub low : nat_le (2 ^ 31) (desk.tree name) ≡ false
+  pub unreferred : is_unreferred (table_for name).name desk.schema.tables ≡ true
+
+-- the fourteen stand in the schema, wherever that is, whatever other tables stand there, and whatever indexes there are
+pub record IsDesk (desk : Placing) : Type 0 where
+  pub stands : (name : TableName) → TableStands desk name
+  -- no two tables have one tree
+  pub apart : IsAscending (λ (s t : Table). s.tree ≢ t.tree) desk.schema.tables
+
+-- these tables stand in the schema, also where others of the fourteen don't
+pub record StandApart (desk : Placing) (names : List TableName) : Type 0 where
+  pub stands : AllByRecursion (TableStands desk) names
+  -- no two tables have one tree
+  pub apart : IsAscending (λ (s t : Table). s.tree ≢ t.tree) desk.schema.tables
+
+-- ---- their rows
+
+-- each entry has a whole number of its own, the rowid, before its columns
+pub record AreKeyed (entries : List Row) : Type 0 where
+  pub whole : AllByRecursion (λ e. IsTrue (is_int (rowid e))) entries
+  pub apart : IsAscending (λ a b. id_in (rowid a) ≢ id_in (rowid b)) entries
+
+-- so many columns of a row; one that it hasn't is NULL
+abbrev pub first_columns : ℕ → Row → Row
+first_columns zero row = []
+first_columns (suc n) row = column row 0 ∷ first_columns n (drop 1 row)
+
+-- the columns of an entry of a table with so many
+abbrev pub columns_in : ℕ → Row → Row
+columns_in width entry = first_columns width (drop 1 entry)
+
+-- the entries have these rows, in some order, under rowids of their own
+abbrev pub HaveRows : ℕ → List Row → List Row → Type 0
+HaveRows width entries rows = AreKeyed entries × IsPermutation rows (map (columns_in width) entries)
+
+-- the database has this schema, and the desk's tables have these rows, one list for each table in the order of `table_names`; other tables may hold anything
+pub record Holds (desk : Placing) (db : Database) (lists : List (List Row)) : Type 0 where
+  pub schema_is : db.schema ≡ desk.schema
+  pub rows : AllZip (λ name rows. HaveRows (width_of name) (db.trees (desk.tree name)) rows) table_names lists
+
+-- all but the desk's tables is as it was
+pub record KeepsOthers (desk : Placing) (old new : Database) : Type 0 where
+  pub schema_is : new.schema ≡ old.schema
+  -- a table that is none of the desk's has the rows that it had
+  pub rows : AllByRecursion (λ (t : Table). ((name : TableName) → t.tree ≢ desk.tree name) → new.trees t.tree ≡ old.trees t.tree) desk.schema.tables
+
+-- ---- what is done to the rows
+
+-- the list at a place, and the lists with that one changed
+abbrev pub table_at : ℕ → List (List Row) → List Row
+table_at at [] = []
+table_at zero (rows ∷ more) = rows
+table_at (suc at) (rows ∷ more) = table_at at more
+
+abbrev pub on_table : ℕ → (List Row → List Row) → List (List Row) → List (List Row)
+on_table at f [] = []
+on_table zero f (rows ∷ more) = f rows ∷ more
+on_table (suc at) f (rows ∷ more) = rows ∷ on_table at f more
+
+-- equal, as SQL's = has it
+abbrev pub is_equal : Value → Value → Bool
+is_equal a b = is_true (binary (Compare Eq Binary) a b)
+
+-- these columns of the row are equal to those of another (columns are counted from 1)
+abbrev pub has_columns : List ℕ → Row → Row → Bool
+has_columns columns other row = list_all (λ c. is_equal (column row (c - 1)) (column other (c - 1))) columns
+
+-- the row has that key: the columns of the table's primary key are equal
+abbrev pub has_key : TableName → Row → Row → Bool
+has_key name = has_columns (table_for name).primary
+
+-- with one more row
+abbrev pub with_row : TableName → Row → List (List Row) → List (List Row)
+with_row name row = on_table (place_of name) (λ rows. row ∷ rows)
+
+-- with more rows, one after the other
+abbrev pub with_rows : TableName → List Row → List (List Row) → List (List Row)
+with_rows name [] lists = lists
+with_rows name (row ∷ rows) lists = with_rows name rows (with_row name row lists)
+
+-- without the rows that are equal to one in these columns
+abbrev pub without_rows : TableName → List ℕ → Row → List (List Row) → List (List Row)
+without_rows name columns other = on_table (place_of name) (filter (λ row. not (has_columns columns other row)))
+
+-- without the row of that key
+abbrev pub without_key : TableName → Row → List (List Row) → List (List Row)
+without_key name = without_rows name (table_for name).primary
+
+-- with the row in the place of those that are equal to one in these columns
+abbrev pub with_put_by : TableName → List ℕ → Row → Row → List (List Row) → List (List Row)
+with_put_by name columns other row lists = with_row name row (without_rows name columns other lists)
+
+-- with the row in the place of that of its key, if there is one
+abbrev pub with_put : TableName → Row → Row → List (List Row) → List (List Row)
+with_put name = with_put_by name (table_for name).primary
+
+-- the rows of that key
+abbrev pub rows_of_key : TableName → Row → List (List Row) → List Row
+rows_of_key name key lists = filter (has_key name key) (table_at (place_of name) lists)
+
+-- the value is NULL or of the column's kind
+abbrev pub is_of_kind : Kind → Value → Bool
+is_of_kind kind.Integer Null = true
+is_of_kind kind.Integer (Int n) = true
+is_of_kind kind.Text Null = true
+is_of_kind kind.Text (Text bytes) = true
+is_of_kind _ _ = false
+
+-- as many values as columns, each of its column's kind or NULL
+abbrev pub fits : List Column → Row → Bool
+fits [] [] = true
+fits [] (v ∷ row) = false
+fits (c ∷ columns) [] = false
+fits (c ∷ columns) (v ∷ row) = is_of_kind c.kind v && fits columns row
+
+abbrev pub FitsTable : TableName → Row → Type 0
+FitsTable name row = fits (table_for name).columns row ≡ true
+
+-- ---- what a statement does
+
+-- inside a transaction, whatever the tables hold and whatever stands beside them, the change is made, and nothing is committed
+pub record Makes (change : List (List Row) → List (List Row)) (old new : State) : Type 0 where
+  pub made : (desk : Placing) → IsDesk desk → (lists : List (List Row)) → Holds desk old.now lists → Holds desk new.now (change lists)
+  -- all else is as it was
+  pub others : (desk : Placing) → IsDesk desk → old.now.schema ≡ desk.schema → KeepsOthers desk old.now new.now
+  -- its trees still list its schema
+  pub listed : (desk : Placing) → IsDesk desk → old.now.schema ≡ desk.schema → IsDatabase old.now → IsDatabase new.now
+  pub kept : new.committed ≡ old.committed
+  pub mode : IsTrue new.in_transaction
+
+-- the rows that are shown are those that the tables hold, in some order
+abbrev pub Answers : (List (List Row) → List Row) → State → List Row → Type 0
+Answers asked old shown = (desk : Placing) → IsDesk desk → (lists : List (List Row)) → Holds desk old.now lists → IsPermutation (asked lists) shown
+
+-- the rows that are shown are those that this table holds, in some order, also where it stands without the others
+abbrev pub AnswersAlone : TableName → State → List Row → Type 0
+AnswersAlone name old shown =
+    (desk : Placing) → StandApart desk (name ∷ []) → old.now.schema ≡ desk.schema → (rows : List Row) → HaveRows (width_of name) (old.now.trees (desk.tree name)) rows → IsPermutation rows shown

@@ -1,0 +1,27 @@
+//! The schema of the desk's tables: fourteen STRICT tables and four plain indexes (`specs/Schema.antt`).
+//!
+//! - [`table_name`] names the tables, [`schema_numbers`] has the number of the schema and the seats of a vehicle.
+//! - [`world_table`] names a table that is written; [`row_of`] is a look-up by a table's key, [`rows_by`] one by other columns,
+//!   [`rows_counted`] a count by other columns. `specs/RowTexts.antt` has the texts of SQL that write a row.
+//! - `specs/DeskRows.antt` says where the tables stand in a database, and which rows they have.
+//! - `specs/Connections.antt` says what holds of a connection and of the next moment; [`laws`] has what follows. What a
+//!   database has is stated for a clean store: one whose disk has so far given back what was written to it. A store in
+//!   memory is always clean.
+//!
+//! Above it stand agv_creation (tables made or recognized), agv_rows (rows in columns), agv_statements (SQL on rows),
+//! agv_changes (what is written), agv_row_reading, agv_rowids and agv_world_reading (what is read), agv_queries (what a
+//! floor is asked) and agv_first_schema (the move from the first schema).
+#![tactic(auto)]
+
+pub mod laws;
+pub mod row_of;
+pub mod rows_by;
+pub mod rows_counted;
+pub mod schema_numbers;
+pub mod table_name;
+pub mod world_table;
+
+pub use rows_by::RowsBy;
+pub use rows_counted::RowsCounted;
+pub use schema_numbers::DESK_SEATS;
+pub use table_name::TableName;

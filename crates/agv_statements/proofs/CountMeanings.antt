@@ -1,0 +1,94 @@
+-- What the texts that count rows mean, wherever the desk's tables stand.
+use Rattle.std.proofs.Common.{◌≡◌, ℕ, true, List, [], ◌∷◌, length, Some, None, codes, refl, sym, subst, lit≤}
+use Rattle.std.specs.List.{list_all}
+use Rattle.sqlite_ast.specs.declared.Core.{out-Core}
+use Rattle.sqlite_ast.specs.declared.Select.{out-Select}
+use Rattle.sqlite_value.specs.Order.{Row, column}
+use Rattle.sqlite_sql.specs.Term.{Term}
+use Rattle.sqlite_schema.specs.declared.schema.Kind.TheVariants as kind
+use Rattle.sqlite_tied.specs.Compute.{everything}
+use Rattle.agv_schema.specs.DeskRows.{is_of_kind, width_of}
+use Rattle.agv_statements.specs.CountQueries.{columns_counted, count_text, table_counted}
+use Rattle.agv_statements.specs.RowQueries.{FitsColumns, columns_at, equal_from}
+use Rattle.agv_schema.specs.declared.rows_counted.RowsCounted.{RowsCounted}
+use Rattle.agv_schema.specs.declared.rows_counted.RowsCounted.TheVariants as counted
+use Rattle.agv_schema.specs.declared.table_name.TableName.TheVariants as the
+use Rattle.agv_schema.proofs.OneTable.{counting, head_of, is_param, parsed, selection, their_count}
+use Rattle.agv_statements.proofs.sql.OneTableReads.{select_means_in}
+use Rattle.agv_statements.proofs.sql.QueryRows.{passes, reads_within}
+use Rattle.agv_statements.proofs.sql.ReadFailing.{IsTypedIn, IsWholeText, fits_at, text_compares}
+use Rattle.agv_statements.proofs.sql.Selecting.{IsSelectText}
+use Rattle.agv_statements.proofs.QueryMeanings.{AsksIn}
+use Rattle.agv_statements.proofs.RowMeanings.{with_tree}
+
+-- the columns that are counted by equal the parameters
+abbrev pub count_terms : RowsCounted → List Term
+count_terms counted.StationLoads = is_param 3 0 ∷ []
+count_terms counted.VehicleLoads = is_param 4 0 ∷ is_param 5 1 ∷ []
+count_terms counted.TargetJobs = is_param 4 0 ∷ is_param 5 1 ∷ []
+
+abbrev pub count_names : List (List ℕ)
+count_names = codes "count(*)" ∷ []
+
+pub count_passes : (query : RowsCounted) (values : Row) → passes (count_terms query) values ≡ equal_from 0 (columns_counted query) values
+count_passes counted.StationLoads values = refl
+count_passes counted.VehicleLoads values = refl
+count_passes counted.TargetJobs values = refl
+
+pub count_within : (query : RowsCounted) → list_all (reads_within (width_of (table_counted query))) (count_terms query) ≡ true
+count_within counted.StationLoads = refl
+count_within counted.VehicleLoads = refl
+count_within counted.TargetJobs = refl
+
+-- SQL takes the text for a query of the table that shows how many rows pass
+pub count_asks : (query : RowsCounted) → AsksIn (Some counting) (table_counted query) (count_text query) (count_terms query) their_count count_names
+unfolding everything
+count_asks counted.StationLoads s at tree stands =
+    let p = parsed (count_text counted.StationLoads) in
+    let sel = selection p.statement tt in
+    select_means_in s (codes "load") (with_tree the.Load tree) at stands (count_text counted.StationLoads) p refl refl sel refl
+    (record { with = refl; others = refl; order = refl; limit = refl; offset = refl })
+    (record { source = head_of (out-Core (out-Select sel).first).from tt; from = refl; origin = refl; alias = refl; on = refl; using = refl; inner = refl; group = refl; having = refl; repeats = refl })
+    (Some counting) (count_terms counted.StationLoads) their_count count_names (None ∷ []) refl refl refl refl refl
+count_asks counted.VehicleLoads s at tree stands =
+    let p = parsed (count_text counted.VehicleLoads) in
+    let sel = selection p.statement tt in
+    select_means_in s (codes "load") (with_tree the.Load tree) at stands (count_text counted.VehicleLoads) p refl refl sel refl
+    (record { with = refl; others = refl; order = refl; limit = refl; offset = refl })
+    (record { source = head_of (out-Core (out-Select sel).first).from tt; from = refl; origin = refl; alias = refl; on = refl; using = refl; inner = refl; group = refl; having = refl; repeats = refl })
+    (Some counting) (count_terms counted.VehicleLoads) their_count count_names (None ∷ []) refl refl refl refl refl
+count_asks counted.TargetJobs s at tree stands =
+    let p = parsed (count_text counted.TargetJobs) in
+    let sel = selection p.statement tt in
+    select_means_in s (codes "job") (with_tree the.Job tree) at stands (count_text counted.TargetJobs) p refl refl sel refl
+    (record { with = refl; others = refl; order = refl; limit = refl; offset = refl })
+    (record { source = head_of (out-Core (out-Select sel).first).from tt; from = refl; origin = refl; alias = refl; on = refl; using = refl; inner = refl; group = refl; having = refl; repeats = refl })
+    (Some counting) (count_terms counted.TargetJobs) their_count count_names (None ∷ []) refl refl refl refl refl
+
+pub count_typed : (query : RowsCounted) (params : Row) → FitsColumns (table_counted query) (columns_counted query) params → IsTypedIn (Some counting) (table_counted query) (count_terms query) their_count params
+count_typed counted.StationLoads params h =
+    let k0 : is_of_kind kind.Text (column params 0) ≡ true = fits_at (columns_at the.Load (columns_counted counted.StationLoads)) params h 0 _ refl in
+    rw (text_compares (column params 0) k0)
+count_typed counted.VehicleLoads params h =
+    let k0 : is_of_kind kind.Text (column params 0) ≡ true = fits_at (columns_at the.Load (columns_counted counted.VehicleLoads)) params h 0 _ refl in
+    let k1 : is_of_kind kind.Text (column params 1) ≡ true = fits_at (columns_at the.Load (columns_counted counted.VehicleLoads)) params h 1 _ refl in
+    rw (text_compares (column params 0) k0, text_compares (column params 1) k1)
+count_typed counted.TargetJobs params h =
+    let k0 : is_of_kind kind.Text (column params 0) ≡ true = fits_at (columns_at the.Job (columns_counted counted.TargetJobs)) params h 0 _ refl in
+    let k1 : is_of_kind kind.Text (column params 1) ≡ true = fits_at (columns_at the.Job (columns_counted counted.TargetJobs)) params h 1 _ refl in
+    rw (text_compares (column params 0) k0, text_compares (column params 1) k1)
+
+pub count_whole : (query : RowsCounted) → IsWholeText (count_text query) (length (columns_at (table_counted query) (columns_counted query)))
+unfolding everything
+count_whole counted.StationLoads = (lit≤ tt, refl)
+count_whole counted.VehicleLoads = (lit≤ tt, refl)
+count_whole counted.TargetJobs = (lit≤ tt, refl)
+
+select_texts : (query : RowsCounted) → IsSelectText (count_text query)
+unfolding everything
+select_texts counted.StationLoads = tt
+select_texts counted.VehicleLoads = tt
+select_texts counted.TargetJobs = tt
+
+pub count_selects : (query : RowsCounted) (sql : List ℕ) → sql ≡ count_text query → IsSelectText sql
+count_selects query sql text = subst IsSelectText (sym text) (select_texts query)

@@ -1,0 +1,10 @@
+pub mod CountMeanings
+pub mod CountStatements
+pub mod DeskStatements
+pub mod KeysFree
+pub mod QueryMeanings
+pub mod RowForms
+pub mod RowMeanings
+pub mod RowParameters
+pub mod UpdateMeanings
+pub mod sql

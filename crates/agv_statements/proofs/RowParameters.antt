@@ -1,0 +1,82 @@
+-- The parameters of a statement as the columns of a row, and what a table doesn't add to them: no time and no count.
+use Rattle.std.proofs.Common.{◌≡◌, ℕ, zero, suc, false, List, [], ◌∷◌, ◌/◌, length, drop, refl, sym, ap, ap₂, ◌∙◌, append-nil}
+use Rattle.sqlite_value.specs.declared.value.Value.TheVariants.{Null}
+use Rattle.sqlite_value.specs.Order.{Row, column}
+use Rattle.sqlite_sql.specs.Term.{eval_all}
+use Rattle.sqlite.specs.Effect.{value_rows}
+use Rattle.sqlite.specs.Rows.{stamped}
+use Rattle.agv_schema.specs.DeskRows.{width_of, table_for, first_columns}
+use Rattle.agv_schema.specs.declared.table_name.TableName.{TableName}
+use Rattle.agv_schema.specs.declared.table_name.TableName.TheVariants as the
+use Rattle.agv_statements.proofs.RowMeanings.{from_slot, row_terms}
+
+-- ---- columns in turn
+
+column_past : (k : ℕ) (row : Row) → column row k ≡ column (drop k row) 0
+column_past zero row = refl
+column_past (suc k) [] = refl
+column_past (suc k) (v ∷ row) = column_past k row
+
+drop_one_more : (k : ℕ) (row : Row) → drop 1 (drop k row) ≡ drop (suc k) row
+drop_one_more zero row = refl
+drop_one_more (suc zero) [] = refl
+drop_one_more (suc (suc k)) [] = refl
+drop_one_more (suc k) (v ∷ row) = drop_one_more k row
+
+-- the values of a slot from a place on
+pub params_in_turn : (k n : ℕ) (params : Row) (more : List Row) → eval_all (from_slot 0 k n) (params ∷ more) ≡ first_columns n (drop k params)
+params_in_turn k zero params more = refl
+params_in_turn k (suc n) params more = ap₂ ◌∷◌ (column_past k params) (params_in_turn (suc k) n params more ∙ ap (first_columns n) (sym (drop_one_more k params)))
+
+pub columns_in_turn : (k n : ℕ) (params entry : Row) → eval_all (from_slot 1 k n) (params ∷ entry ∷ []) ≡ first_columns n (drop k entry)
+columns_in_turn k zero params entry = refl
+columns_in_turn k (suc n) params entry = ap₂ ◌∷◌ (column_past k entry) (columns_in_turn (suc k) n params entry ∙ ap (first_columns n) (sym (drop_one_more k entry)))
+
+-- the row of an INSERT is the parameters
+pub one_row : (name : TableName) (params : Row) → value_rows params (suc (width_of name)) (length (row_terms name) / suc (width_of name)) (row_terms name) ≡ (Null ∷ eval_all (from_slot 0 0 (width_of name)) (params ∷ [])) ∷ []
+one_row the.Meta params = refl
+one_row the.Node params = refl
+one_row the.Edge params = refl
+one_row the.Station params = refl
+one_row the.Vehicle params = refl
+one_row the.Trip params = refl
+one_row the.Leg params = refl
+one_row the.Load params = refl
+one_row the.Job params = refl
+one_row the.Hold params = refl
+one_row the.Used params = refl
+one_row the.Capacity params = refl
+one_row the.Journey params = refl
+one_row the.Act params = refl
+
+pub unstamped : (name : TableName) (tree : ℕ) (params : Row) → stamped (record (table_for name) { tree = tree }) params ≡ params
+unstamped the.Meta tree params = append-nil params
+unstamped the.Node tree params = append-nil params
+unstamped the.Edge tree params = append-nil params
+unstamped the.Station tree params = append-nil params
+unstamped the.Vehicle tree params = append-nil params
+unstamped the.Trip tree params = append-nil params
+unstamped the.Leg tree params = append-nil params
+unstamped the.Load tree params = append-nil params
+unstamped the.Job tree params = append-nil params
+unstamped the.Hold tree params = append-nil params
+unstamped the.Used tree params = append-nil params
+unstamped the.Capacity tree params = append-nil params
+unstamped the.Journey tree params = append-nil params
+unstamped the.Act tree params = append-nil params
+
+pub uncounted : (name : TableName) → (table_for name).is_counted ≡ false
+uncounted the.Meta = refl
+uncounted the.Node = refl
+uncounted the.Edge = refl
+uncounted the.Station = refl
+uncounted the.Vehicle = refl
+uncounted the.Trip = refl
+uncounted the.Leg = refl
+uncounted the.Load = refl
+uncounted the.Job = refl
+uncounted the.Hold = refl
+uncounted the.Used = refl
+uncounted the.Capacity = refl
+uncounted the.Journey = refl
+uncounted the.Act = refl

@@ -1,0 +1,3 @@
+pub mod CountQueries
+pub mod RowQueries
+pub mod RowUpdates

@@ -1,0 +1,55 @@
+-- The texts of SQL that write a row over those of its key, what becomes of the rows, and the errors by which a rule refuses one. No public clause cites this.
+use Rattle.std.specs.Prelude.{◌≡◌, ◌++◌, ℕ, List, codes, filter, length, map, not, true}
+use Rattle.sqlite_value.specs.Order.{Row}
+use Rattle.sqlite_schema.specs.declared.schema.Constraint.{Constraint}
+use Rattle.sqlite.specs.State.{State}
+use Rattle.sqlite.specs.declared.error.Error.{Error}
+use Rattle.sqlite.specs.declared.error.Error.TheVariants.{SqliteFailure}
+use Rattle.sqlite.specs.declared.error.ErrorCode.TheVariants.{ConstraintViolation}
+use Rattle.agv_schema.specs.DeskRows.{Placing, Holds, IsDesk, has_columns, on_table, place_of, table_at}
+use Rattle.agv_schema.specs.declared.world_table.WorldTable.{WorldTable}
+use Rattle.agv_schema.specs.declared.world_table.WorldTable.TheVariants as world
+use Rattle.agv_schema.specs.declared.table_name.TableName.{TableName}
+use Rattle.agv_statements.specs.declared.updated_table.UpdatedTable.{UpdatedTable}
+use Rattle.agv_statements.specs.declared.updated_table.UpdatedTable.TheVariants as updated
+
+-- the table whose rows are written over
+abbrev pub table_updated : UpdatedTable → WorldTable
+table_updated updated.Vehicle = world.Vehicle
+table_updated updated.Journey = world.Journey
+table_updated updated.Load = world.Load
+table_updated updated.Job = world.Job
+table_updated updated.Act = world.Act
+
+-- the parameters are the columns of the row, and those of its key are the first
+abbrev pub update_text : UpdatedTable → List ℕ
+update_text updated.Vehicle = codes "UPDATE vehicle SET manufacturer = ?1, serial = ?2, node = ?3, rest_edge = ?4, rest_node = ?5, last_header = ?6, reported = ?7, ready = ?8, paused = ?9, order_header = ?10, order_at = ?11, instant_header = ?12, instant_at = ?13, pending = ?14 WHERE manufacturer = ?1 AND serial = ?2"
+update_text updated.Journey = codes "UPDATE journey SET order_id = ?1, manufacturer = ?2, serial = ?3, start = ?4, first = ?5, base = ?6, sent = ?7, confirmed = ?8, seen = ?9 WHERE order_id = ?1"
+update_text updated.Load = codes "UPDATE load SET id = ?1, kind = ?2, station = ?3, manufacturer = ?4, serial = ?5 WHERE id = ?1"
+update_text updated.Job = codes "UPDATE job SET id = ?1, load = ?2, origin = ?3, target = ?4, phase = ?5 WHERE id = ?1"
+update_text updated.Act = codes "UPDATE act SET order_id = ?1, n = ?2, job = ?3, kind = ?4, place_at = ?5, status = ?6 WHERE order_id = ?1 AND n = ?2"
+
+-- with the row in the place of each that is equal to it in these columns
+abbrev pub with_each : TableName → List ℕ → Row → List (List Row) → List (List Row)
+with_each name columns row =
+    on_table (place_of name) (λ rows. map (λ _. row) (filter (has_columns columns row) rows) ++ filter (λ other. not (has_columns columns row other)) rows)
+
+-- so many rows were equal to it there
+abbrev pub Counts : TableName → List ℕ → Row → State → ℕ → Type 0
+Counts name columns row old count =
+    (desk : Placing) → IsDesk desk → (lists : List (List Row)) → Holds desk old.now lists → count ≡ length (filter (has_columns columns row) (table_at (place_of name) lists))
+
+-- other rows are equal to it in these columns just where they are equal to the key
+abbrev pub TellsAlike : List ℕ → Row → Row → Type 0
+TellsAlike columns key row = (other : Row) → has_columns columns key other ≡ has_columns columns row other
+
+-- in these columns it is equal to itself, so none of them is NULL, and other rows are equal to it just where they are equal to the key
+pub record IsKeyOf (columns : List ℕ) (key row : Row) : Type 0 where
+  pub itself : has_columns columns row row ≡ true
+  pub alike : TellsAlike columns key row
+
+-- ---- a row that SQL refuses
+
+-- the error says that a rule of the table forbids the row
+abbrev pub IsBrokenRule : Error → Type 0
+IsBrokenRule e = (rule : Constraint) × (e ≡ SqliteFailure (ConstraintViolation rule))

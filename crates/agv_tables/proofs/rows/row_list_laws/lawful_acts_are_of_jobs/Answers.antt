@@ -1,5 +1,0 @@
-use Rattle.agv_tables.specs.schema.SchemaNumbers.{desk_seats}
-use Rattle.agv_tables.proofs.rows.row_list_laws.lawful_acts_are_of_jobs.Goals as goal
-
-pub returns : goal.returns
-returns c = λ world lawful. (c.lawful_rows_tell_trips.ensures.all desk_seats world lawful).of_jobs

@@ -1,6 +1,0 @@
-use Rattle.agv_tables.specs.schema.SchemaNumbers.{desk_seats}
-use Rattle.agv_tables.proofs.rows.TripsHaveRows.{has_its_rows}
-use Rattle.agv_tables.proofs.rows.trip_laws.rows_have_trips.Goals as goal
-
-pub returns : goal.returns
-returns c = λ world lawful. has_its_rows world (c.is_in_good_order.ensures desk_seats world lawful) (c.rows_tell_trips.ensures.ways world lawful)

@@ -1,4 +1,0 @@
-pub mod QueriedRows
-pub mod FirstRow
-pub mod ReadingFault
-pub mod WorldAnswers

@@ -1,9 +1,0 @@
-pub mod DeskSchema
-pub mod DeskTables
-pub mod MakingFault
-pub mod NewDesk
-pub mod Schema
-pub mod SchemaNumbers
-pub mod SchemaTexts
-pub mod StandingTables
-pub mod TextsRun

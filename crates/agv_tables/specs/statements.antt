@@ -1,4 +1,0 @@
-pub mod CountQueries
-pub mod RowQueries
-pub mod RowTexts
-pub mod RowUpdates

@@ -1,0 +1,99 @@
+//! The world is read whole.
+//!
+//! It answers as the other readings do (`TablesRead.antt` of agv_row_reading).
+ghost use Rattle.std.specs.Prelude.{◌≡◌, IsPermutation};
+ghost use Rattle.agv_world.specs.Kept.{Keeps};
+ghost use Rattle.agv_world.specs.Rows.{rows_of};
+ghost use Rattle.agv_rows.specs.Columns.{leg_columns, load_columns, room_columns, used_columns, vehicle_columns};
+ghost use Rattle.agv_schema.specs.DeskRows.{place_of, table_at};
+ghost use Rattle.agv_rows.specs.RowLists.{rows_for, rows_in};
+ghost use Rattle.agv_row_reading.specs.TablesRead.{HaveAll, HaveTables, TellsAll};
+ghost use Rattle.agv_schema.specs.declared.table_name.TableName.TheVariants as the;
+
+use crate::hold_reading::{query_holds, query_meta};
+use crate::layout_reading::query_layout_tables;
+use crate::table_reading::{query_legs, query_places, query_used, query_vehicles};
+use crate::trip_reading::query_trips;
+use agv_row_reading::ReadingFault;
+use agv_row_reading::held_things::HeldThings;
+use agv_stock::Place;
+use agv_world::{ByLeg, ByName, ByVehicle, UsedNames, VehicleRow, World};
+use sqlite::{Alter, Connection};
+use std::alloc::Global;
+
+/// All tables but those of the schema's number and of what is held.
+pub fn read_tables<S: Alter>(alloc: Global, conn: &mut Connection<S>) -> Result<World, ReadingFault>
+    ensures { TellsAll S.Store conn.old conn.new result (λ world tables. Keeps tables world) (λ lists tables. HaveTables lists tables) }
+{
+    let layout = query_layout_tables(alloc, conn)?;
+    let traffic = query_traffic_tables(alloc, conn)?;
+    let work = query_trips(alloc, conn)?;
+    let stock = query_stock_tables(alloc, conn)?;
+    let (nodes, edges, stations) = layout;
+    let (vehicles, legs) = traffic;
+    let (jobs, trips) = work;
+    let (loads, used) = stock;
+    Ok(World {
+        nodes,
+        edges,
+        stations,
+        vehicles,
+        trips,
+        legs,
+        loads,
+        jobs,
+        used,
+    })
+}
+
+// The vehicles, and the edges of all open trips.
+fn query_traffic_tables<S: Alter>(
+    alloc: Global,
+    conn: &mut Connection<S>,
+) -> Result<(ByVehicle<VehicleRow>, ByLeg), ReadingFault>
+    ensures { TellsAll S.Store conn.old conn.new result
+        (λ world tables. (tables.0 ≡ (rows_of world).vehicles) × (tables.1 ≡ (rows_of world).legs))
+        (λ lists tables. IsPermutation (table_at (place_of the.Vehicle) lists) (rows_in vehicle_columns tables.0)
+        × IsPermutation (table_at (place_of the.Capacity) lists) (rows_in room_columns tables.0)
+        × IsPermutation (table_at (place_of the.Leg) lists) (rows_in leg_columns tables.1)) }
+{
+    let vehicles = query_vehicles(alloc, conn)?;
+    let legs = query_legs(alloc, conn)?;
+    Ok((vehicles, legs))
+}
+
+// The place of each load, and the names that were used.
+fn query_stock_tables<S: Alter>(
+    alloc: Global,
+    conn: &mut Connection<S>,
+) -> Result<(ByName<Place>, UsedNames), ReadingFault>
+    ensures { TellsAll S.Store conn.old conn.new result
+        (λ world tables. (tables.0 ≡ world.places) × (tables.1 ≡ (rows_of world).used))
+        (λ lists tables. IsPermutation (table_at (place_of the.Load) lists) (rows_in load_columns tables.0)
+        × IsPermutation (table_at (place_of the.Used) lists) (rows_for used_columns tables.1)) }
+{
+    let places = query_places(alloc, conn)?;
+    let used = query_used(alloc, conn)?;
+    Ok((places, used))
+}
+
+/// All tables: those of the world in memory, and who holds what. The row of `meta` is that of the second schema.
+///
+/// Where [`World::is_lawful`](agv_world::World::is_lawful), asked with [`DESK_SEATS`](agv_schema::DESK_SEATS) places on each vehicle,
+/// and [`HeldThings::are_footprints`] both answer `true`, the database has the rows of a lawful world with at most so many places
+/// on each vehicle (`reading_laws`); where one answers `false`, it has those of none.
+///
+/// It fails as [`ReadingFault`] says.
+pub fn read_world<S: Alter>(
+    alloc: Global,
+    conn: &mut Connection<S>,
+) -> Result<(World, HeldThings), ReadingFault>
+    ensures { TellsAll S.Store conn.old conn.new result
+        (λ world read. Keeps read.0 world × (read.1.table ≡ (rows_of world).holds))
+        (λ lists read. HaveAll lists read.0 read.1.table) }
+{
+    query_meta(conn)?;
+    let tables = read_tables(alloc, conn)?;
+    let holds = query_holds(alloc, conn)?;
+    Ok((tables, holds))
+}

@@ -1,0 +1,92 @@
+"""What the dispatcher is compared with: releases without the look, and a dispatcher that is first come, first served. That one gives the
+oldest job to the nearest vehicle that can be given the whole way at once, and releases all of it with the order."""
+from __future__ import annotations
+
+import time
+from collections.abc import Callable, Mapping
+
+from nulvrader.client import Desk, NoAnswer, Refused, Stop
+from nulvrader.dispatch.jobs import JobBook, Waiting
+from nulvrader.dispatch.look import Way
+from nulvrader.dispatch.snapshot import Seen, take
+from nulvrader.dispatch.traffic import Judge, Traffic
+from nulvrader.dispatch.ways import Ways
+from nulvrader.layouts import Layout
+from nulvrader.names import new_reference
+
+
+class FreeTrack(Judge):
+    """Releases whatever is free, without the look. Vehicles that are released so come to stand for good."""
+
+    def may_release(self, traffic: Traffic, vehicle: str, nodes: int) -> bool:
+        return True
+
+    def may_start(self, traffic: Traffic, vehicle: str, way: Way) -> bool:
+        return True
+
+
+class FirstCome:
+    """A dispatcher over a desk and its layout, as `Dispatcher` is."""
+
+    def __init__(
+        self,
+        desk: Desk,
+        layout: Layout,
+        *,
+        say: Callable[[str], None] = print,
+        clock: Callable[[], float] = time.monotonic,
+    ) -> None:
+        self.desk, self.say, self.clock = desk, say, clock
+        self.ways = Ways(layout)
+        self.book = JobBook()
+        self._waits: dict[str, str] = {}
+
+    def waits(self) -> Mapping[str, str]:
+        """Why each job waits, as of the last turn, called `job J1`."""
+        return self._waits
+
+    def turn(self) -> bool:
+        """One look at the desk, and orders for the jobs that wait. Whether the desk answered."""
+        try:
+            with self.desk.kept():
+                self._turn()
+        except NoAnswer:
+            return False
+        return True
+
+    def _turn(self) -> None:
+        seen = take(self.desk)
+        self.book.look(self.desk, seen)
+        self._waits = {}
+        idle = {
+            one.name: one
+            for one in seen.vehicles.values()
+            if one.order is None and one.row.ready and not one.row.astray and one.row.pending is None and one.room() > 0
+        }
+        held = {node: str(key) for node, key in seen.holds.nodes.items()}
+        for job in list(self.book.waiting.values()):
+            if idle and job.target is not None:
+                self._try(job, idle, held)
+
+    def _try(self, job: Waiting, idle: dict[str, Seen], held: dict[str, str]) -> None:
+        """Tries all vehicles without an order for a job, from the nearest on."""
+        assert job.target is not None
+        pick, drop = self.ways.node_of(job.origin), self.ways.node_of(job.target)
+        for vehicle in sorted(idle.values(), key=lambda one: (self.ways.hops(one.row.node, pick) or 0, one.name)):
+            way = self.ways.way((vehicle.row.node, pick, drop))
+            blocking = [node for node in way or () if held.get(node, vehicle.name) != vehicle.name]
+            if way is None or blocking:
+                self._waits['job ' + job.job] = '; '.join('%s stands at %s' % (held[node], node) for node in blocking)
+                continue
+            try:
+                stops = (Stop('pick', job.job), Stop('drop', job.job))
+                self.desk.start_order(new_reference(), vehicle.row.key, stops=stops, edges=len(way) - 1)
+            except Refused as refusal:
+                self._waits['job ' + job.job] = str(refusal)
+                continue
+            self.say('%s: takes %s, %d edges from %s' % (vehicle.name, job.job, len(way) - 1, vehicle.row.node))
+            held.update(dict.fromkeys(way, vehicle.name))
+            del idle[vehicle.name]
+            self.book.forget(job.job)
+            self._waits.pop('job ' + job.job, None)
+            return

@@ -1,0 +1,306 @@
+"""The people of a simulated plant. They add jobs, and now and then cancel an order, take a job back, count, and move a load by hand.
+They also put right what needs hands: a vehicle that left its order, a load on a vehicle without an order, a vehicle in the way."""
+from __future__ import annotations
+
+import functools
+import random
+import re
+from collections import Counter
+from collections.abc import Callable, Mapping
+from dataclasses import dataclass
+
+from nulvrader.client import Desk, NoAnswer, Refused
+from nulvrader.layouts import Layout
+from nulvrader.reports import read_holds, read_stock
+
+from .clock import Clock
+from .truth import Goods, Track
+from .vehicles import Vehicle
+
+
+@dataclass(frozen=True)
+class Habits:
+    """Seconds between two jobs that are added, two acts by chance and two looks at what needs hands; how many jobs wait at most; which part
+    of the jobs, from 0 to 1, stays on the ring of its load; and how long a vehicle stands in the way before somebody drives it away."""
+
+    jobs: float = 2.0
+    chance: float = 60.0
+    looks: float = 20.0
+    backlog: int = 30
+    near: float = 0.8
+    patience: float = 240.0
+
+
+class People:
+    """All people together. `why` gets of each job that ends by them the reason, and `say` what they do."""
+
+    def __init__(
+        self,
+        desk: Desk,
+        clock: Clock,
+        layout: Layout,
+        goods: Goods,
+        track: Track,
+        vehicles: Mapping[str, Vehicle],
+        chance: random.Random,
+        habits: Habits,
+        jobs: int,
+        waits: Callable[[], Mapping[str, str] | None],
+        say: Callable[[str], None],
+    ) -> None:
+        self.desk, self.clock, self.layout, self.goods, self.track, self.vehicles = desk, clock, layout, goods, track, vehicles
+        self.chance, self.habits, self.wanted, self.waits, self.say = chance, habits, jobs, waits, say
+        self.added: dict[str, tuple[str, str]] = {}  # by job its load and target
+        self.trying: tuple[str, str, str] | None = None  # the job that is being added: where no answer came it is asked again
+        self.counts: Counter[str] = Counter()
+        self.why: dict[str, str] = {}
+        self.number = self.jobs_named = 0
+        self.orders_cancelled: set[str] = set()
+        self.orders_placed: set[str] = set()
+        self.blocked: dict[str, float] = {}  # since when a vehicle stands in the way
+
+    def begin(self, chance_acts: bool) -> None:
+        self.clock.every(self.habits.jobs, self.add_jobs, 12.0)
+        self.clock.every(self.habits.looks, self.put_right, self.habits.looks)
+        if chance_acts:
+            self.clock.every(self.habits.chance, self.act_by_chance, self.habits.chance)
+
+    def reference(self) -> str:
+        self.number += 1
+        return 'person-%d' % self.number
+
+    # Jobs.
+
+    def add_jobs(self) -> None:
+        """Adds a job where not enough of them wait."""
+        try:
+            stock = read_stock(self.desk.stock_report())
+            busy = sum(1 for one in self.vehicles.values() if one.order and not one.is_done())
+            if self.trying is None and stock.live_jobs() < self.habits.backlog + busy:
+                self.trying = self.new_job()
+            if self.trying is not None:
+                self.add_job(*self.trying)
+                self.trying = None
+        except NoAnswer:
+            pass
+
+    def add_job(self, job: str, load: str, to: str) -> None:
+        try:
+            self.desk.add_job(job, load, to)
+        except Refused as refusal:
+            if refusal.name != 'Exists':  # else it was added, and the answer was lost
+                self.counts['jobs refused: ' + refusal.name] += 1
+                return
+        self.added[job] = load, to
+
+    def new_job(self) -> tuple[str, str, str] | None:
+        if len(self.added) >= self.wanted:
+            return None
+        places = {load: place for load, place in self.goods.places().items() if place.startswith('station ')}
+        load = self.chance.choice(sorted(places))
+        others = [name for name in self.layout.stations if 'station ' + name != places[load]]
+        near = [name for name in others if name[0] == places[load].removeprefix('station ')[0]]
+        to = self.chance.choice(near if near and self.chance.random() < self.habits.near else others)
+        self.jobs_named += 1
+        return 'job-%d' % self.jobs_named, load, to
+
+    # What they do by chance.
+
+    def act_by_chance(self) -> None:
+        act = self.chance.choice((self.cancel, self.cancel, self.take_back, self.count, self.count, self.carry, self.drive_by_hand, self.pause))
+        try:
+            act()
+        except NoAnswer:
+            self.counts['no answer'] += 1
+        except Refused as refusal:
+            self.counts['refused: ' + refusal.name] += 1
+
+    def some_vehicle(self, with_order: bool) -> Vehicle | None:
+        found = [one for one in self.vehicles.values() if not one.by_hand and (bool(one.order) and not one.is_done()) == with_order]
+        return self.chance.choice(found) if found else None
+
+    def cancel(self) -> None:
+        vehicle = self.some_vehicle(True)
+        if vehicle is not None:
+            order = vehicle.order
+            self.desk.cancel(vehicle.key)
+            self.orders_cancelled.add(order)
+            self.counts['orders cancelled'] += 1
+            self.say('a person cancels order %s of %s' % (order, vehicle.name))
+
+    def pause(self) -> None:
+        vehicle = self.some_vehicle(True)
+        if vehicle is not None:
+            self.desk.pause(vehicle.key)
+            self.counts['pauses'] += 1
+            self.clock.after(self.chance.uniform(20, 90), functools.partial(self.resume, vehicle))
+
+    def resume(self, vehicle: Vehicle) -> None:
+        """Until it goes on."""
+        try:
+            if vehicle.paused:
+                self.desk.resume(vehicle.key)
+        except (NoAnswer, Refused):
+            pass
+        if vehicle.paused:
+            self.clock.after(10, lambda: self.resume(vehicle))
+
+    def take_back(self) -> None:
+        live = [load for load, place in self.goods.places().items() if place.startswith('station ')]
+        for load in self.chance.sample(sorted(live), min(20, len(live))):
+            job = self.desk.load(load).job
+            if job is not None:
+                self.why[job] = 'a person has taken it back'
+                self.desk.stop_job(job)
+                self.counts['jobs taken back'] += 1
+                self.say('a person takes %s back' % job)
+                return
+
+    def count(self) -> None:
+        """Counts some stations, as they truly are."""
+        rows = ['station,load']
+        for station in self.chance.sample(sorted(self.layout.stations), 3):
+            rows += ['%s,%s' % (station, load) for load in self.goods.at('station ' + station)] or ['%s,' % station]
+        self.desk.stocktake(self.reference(), ''.join(row + '\n' for row in rows).encode())
+        self.counts['stocktakes'] += 1
+
+    def carry(self) -> None:
+        """Carries a load without a job by hand to another station, and says so: the desk first, since it may refuse."""
+        loads = [load for load, place in self.goods.places().items() if place.startswith(('station ', 'checking'))]
+        load = self.chance.choice(sorted(loads))
+        self.put_at(load, self.goods.places()[load])
+
+    def put_at(self, load: str, place: str) -> None:
+        stock = read_stock(self.desk.stock_report())
+        room = [one.name for one in stock.stations.values() if len(one.loads) + one.reserved < one.capacity]
+        station = self.chance.choice([name for name in room if 'station ' + name != place])
+        self.correct(load, place, station, self.reference())
+
+    def correct(self, load: str, place: str, station: str, ref: str, again: bool = False) -> None:
+        """Tells the desk that a load is carried to a station, and carries it once the desk has taken that. Where no answer came it is
+        asked again by the same reference."""
+        try:
+            self.desk.correct_load(load, ref, station)
+        except NoAnswer:
+            self.clock.after(1, lambda: self.correct(load, place, station, ref, True))
+            return
+        except Refused as refusal:
+            if not again or refusal.name != 'RefUsed':
+                self.counts['refused: ' + refusal.name] += 1
+                return
+        self.goods.move(load, place, 'station ' + station)
+        self.counts['loads carried by hand'] += 1
+
+    def drive_by_hand(self) -> None:
+        vehicle = self.some_vehicle(False)
+        if vehicle is not None:
+            self.take_over(vehicle, elsewhere=True)
+
+    # What needs hands.
+
+    def put_right(self) -> None:
+        try:
+            self.see_vehicles()
+        except NoAnswer:
+            pass
+        except Refused as refusal:
+            self.counts['refused: ' + refusal.name] += 1
+
+    def see_vehicles(self) -> None:
+        stations = {station.node for station in self.layout.stations.values()}
+        for vehicle in self.vehicles.values():
+            if vehicle.by_hand or vehicle.in_service:
+                continue
+            row = self.desk.vehicle(vehicle.key)
+            if row.astray:
+                self.take_over(vehicle, elsewhere=False)
+                continue
+            if row.order is not None or not vehicle.is_done():
+                self.blocked.pop(vehicle.name, None)
+                continue
+            for load in self.goods.at('vehicle ' + vehicle.name):
+                self.unload(vehicle, load)
+            if vehicle.node not in stations or self.is_in_the_way(vehicle):
+                since = self.blocked.setdefault(vehicle.name, self.clock.now)
+                if self.clock.now - since > self.habits.patience:
+                    self.blocked.pop(vehicle.name)
+                    self.counts['vehicles driven out of the way'] += 1
+                    self.take_over(vehicle, elsewhere=True)
+                    return
+            else:
+                self.blocked.pop(vehicle.name, None)
+
+    def is_in_the_way(self, vehicle: Vehicle) -> bool:
+        """Whether the dispatcher says so; where nobody hears it, whether nothing moves."""
+        waits = self.waits()
+        if waits is None:
+            return self.clock.now - max(one.last_moved for one in self.vehicles.values()) > self.habits.patience
+        return any(re.search(r'%s (stands )?at' % vehicle.name, why) for why in waits.values())
+
+    def unload(self, vehicle: Vehicle, load: str) -> None:
+        """Takes a load off a vehicle whose order has ended, once the desk has it there and in no job."""
+        told = self.desk.load(load)
+        if told.job is None and told.place == 'vehicle ' + vehicle.name:
+            self.put_at(load, told.place)
+            self.counts['loads taken off vehicles'] += 1
+
+    def take_over(self, vehicle: Vehicle, elsewhere: bool) -> None:
+        """Takes a vehicle into a person's hands, and places it, where it stands or at a free node."""
+        vehicle.by_hand = True
+        vehicle.tell()
+        self.clock.after(12, lambda: self.place(vehicle, elsewhere, self.reference()))
+
+    def place(self, vehicle: Vehicle, elsewhere: bool, ref: str) -> None:
+        """Places it once the desk knows that it is not ready, and it stands. It is lifted off the floor until the desk has answered."""
+        try:
+            row = self.desk.vehicle(vehicle.key)
+            if row.ready or vehicle.node_is_left():
+                vehicle.tell()
+                self.clock.after(5, lambda: self.place(vehicle, elsewhere, ref))
+                return
+            if row.order is not None and elsewhere:
+                self.give_back(vehicle)  # it was given an order meanwhile
+                return
+            node = self.free_node() if elsewhere else vehicle.node
+        except NoAnswer:
+            self.clock.after(5, lambda: self.place(vehicle, elsewhere, ref))
+            return
+        if node is None:
+            self.give_back(vehicle)
+            return
+        self.orders_placed.add(vehicle.order)
+        self.track.take_off(vehicle.name)
+        self.put_down(vehicle, node, ref)
+
+    def put_down(self, vehicle: Vehicle, node: str, ref: str, again: bool = False) -> None:
+        """Tells the desk where the vehicle will stand, and sets it there. Where no answer came it is asked again by the same
+        reference."""
+        try:
+            self.desk.place(vehicle.key, ref, node)
+        except NoAnswer:
+            self.clock.after(1, lambda: self.put_down(vehicle, node, ref, True))
+            return
+        except Refused as refusal:
+            if not again or refusal.name != 'RefUsed':
+                self.counts['refused: ' + refusal.name] += 1
+                self.track.put(vehicle.name, vehicle.node)
+                self.give_back(vehicle)
+                return
+        self.counts['vehicles placed'] += 1
+        vehicle.clear()
+        vehicle.node = node
+        self.track.put(vehicle.name, node)
+        self.say('a person places %s at %s' % (vehicle.name, node))
+        self.clock.after(15, lambda: self.give_back(vehicle))
+
+    def free_node(self) -> str | None:
+        """The node of a station which nobody holds, and where no vehicle is."""
+        held = read_holds(self.desk.hold_report()).nodes
+        nodes = {station.node for station in self.layout.stations.values()}
+        free = sorted(node for node in nodes if node not in held and node not in self.track.nodes)
+        return self.chance.choice(free) if free else None
+
+    def give_back(self, vehicle: Vehicle) -> None:
+        vehicle.by_hand = False
+        vehicle.tell()
+        vehicle.go_on()

@@ -1,0 +1,357 @@
+"""A whole plant: a desk over a file, vehicles with their gateways, people, a dispatcher, and the truth. It ends once all jobs are done
+or stopped, or where something is `Wrong`."""
+from __future__ import annotations
+
+import random
+import re
+import sqlite3
+import time
+from collections import Counter
+from collections.abc import Callable, Mapping
+from dataclasses import dataclass, field
+from typing import Any, Protocol
+
+from nulvrader.client import Answer, Desk, NoAnswer
+from nulvrader.names import VehicleKey
+from nulvrader.reports import read_holds, read_loads
+
+from .clock import Clock
+from .desks import Served
+from .floors import FLOORS
+from .gateways import Gateway, Line
+from .people import Habits, People
+from .truth import Given, Goods, Track, Wrong
+from .vehicles import Nature, Vehicle
+
+class Dispatching(Protocol):
+    """A dispatcher, as the plant has it: a turn each second."""
+
+    def turn(self) -> bool: ...
+
+    def waits(self) -> Mapping[str, str]: ...
+
+
+@dataclass(frozen=True)
+class Trouble:
+    """Seconds between two kills of the desk, of the dispatcher and of a gateway. None: never. `people`: whether people cancel, count
+    and carry by chance."""
+
+    desk: float | None = 240.0
+    dispatcher: float | None = 300.0
+    gateway: float | None = 120.0
+    people: bool = True
+
+
+CALM = Trouble(None, None, None, False)
+
+
+@dataclass(frozen=True)
+class Plan:
+    """What a plant is: its floor, how many vehicles, loads and jobs, and what goes wrong in it."""
+
+    floor: str = 'large'
+    vehicles: int = 20
+    loads: int = 300
+    jobs: int = 200
+    seed: int = 1
+    trouble: Trouble = Trouble()
+    nature: Nature = Nature()
+    line: Line = Line()
+    habits: Habits = Habits()
+    every: float = 1.0  # seconds between two turns of the dispatcher
+    audit: float = 5.0  # seconds between two looks at what the desk holds
+    stands: float = 1800.0  # where no vehicle has moved for so many seconds although there are jobs, the plant stands for good
+    limit: float = 200_000.0  # seconds until the plant is given up
+    pace: float | None = None
+
+
+@dataclass
+class Day:
+    """What a run has shown. Times are in seconds of the plant, but `real`."""
+
+    seconds: float = 0.0
+    real: float = 0.0
+    done: int = 0
+    stopped: dict[str, str] = field(default_factory=dict)  # by job why
+    stands: str | None = None  # where the plant stood for good: who waits for what
+    waited: dict[str, float] = field(default_factory=dict)  # by vehicle, with an order and nothing to do
+    ordered: dict[str, float] = field(default_factory=dict)  # by vehicle, with an order
+    longest: float = 0.0
+    counts: Counter[str] = field(default_factory=Counter)
+
+    def per_hour(self) -> float:
+        return self.done * 3600 / self.seconds
+
+    def waiting(self) -> float:
+        """Which part of the time with an order the vehicles waited, from 0 to 1."""
+        return sum(self.waited.values()) / (sum(self.ordered.values()) or 1)
+
+
+class Killed(Exception):
+    """The dispatcher was killed amid its turn."""
+
+
+class Mortal(Desk):
+    """The client of a dispatcher that may be killed: before a request is sent, or before its answer has come."""
+
+    def __init__(self, address: str, **more: Any) -> None:
+        super().__init__(address, **more)
+        self.left: int | None = None
+
+    def ask(self, method: str, target: str, body: bytes | None = None) -> Answer:
+        if self.left is not None:
+            self.left -= 1
+            if self.left < 0:
+                raise Killed
+        told = super().ask(method, target, body)
+        if self.left == 0:
+            raise Killed
+        return told
+
+
+class Plant:
+    """A plant over a desk's program and a file that is not there yet. `dispatcher` makes a dispatcher over a client, which takes its
+    lines and the clock; `say` takes all lines."""
+
+    def __init__(
+        self,
+        plan: Plan,
+        served: Served,
+        dispatcher: Callable[[Desk, Callable[[str], None], Callable[[], float]], Dispatching] | None,
+        say: Callable[[str], None] = lambda line: None,
+    ) -> None:
+        self.plan, self.served, self.make = plan, served, dispatcher
+        self.chance = random.Random(plan.seed)
+        self.clock = Clock(plan.pace)
+        self._say = say
+        self.floor = FLOORS[plan.floor]()
+        self.layout = self.floor.layout()
+        self.desk = Desk(served.address)
+        self.track, self.goods, self.given = Track(self.layout.edges), Goods(), Given()
+        self.vehicles: dict[str, Vehicle] = {}
+        self.gateways: dict[str, Gateway] = {}
+        self.dispatcher: Dispatching | None = None
+        self.mortal: Mortal | None = None
+        self.day = Day()
+        self.since: dict[str, float] = {}  # since when each vehicle waits
+        self.over, self.fetches = False, 0
+        self.cancelled: set[str] = set()  # the orders that the dispatcher has cancelled
+        self.people = People(
+            self.desk, self.clock, self.layout, self.goods, self.track, self.vehicles, self.chance, plan.habits, plan.jobs,
+            self.waits, self.say,
+        )
+
+    def say(self, line: str) -> None:
+        self._say('%8.1f  %s' % (self.clock.now, line))
+
+    # The beginning.
+
+    def set_up(self) -> None:
+        """A new file: the layout, the vehicles in bays, the loads at stations."""
+        self.served.start()
+        with self.desk.kept():
+            self.desk.set_layout(self.layout.csv())
+            for n, node in enumerate(self.chance.sample(self.floor.bays, self.plan.vehicles), 1):
+                key = VehicleKey('KIT', '%04d' % n)
+                self.desk.register_vehicle(key, node, 1 + n % 2)
+                self.add_vehicle(key, node)
+            stations = list(self.layout.stations.values())
+            room = {station.name: station.capacity - 2 for station in stations}
+            for n in range(self.plan.loads):
+                station = self.chance.choice([name for name, left in room.items() if left > 0])
+                room[station] -= 1
+                self.desk.register_load('load-%d' % n, station)
+                self.goods.add('load-%d' % n, 'station ' + station)
+
+    def waits(self) -> Mapping[str, str] | None:
+        """Why vehicles and jobs wait, as the dispatcher says. None where it is not the plant's own."""
+        if self.make is None:
+            return None
+        return self.dispatcher.waits() if self.dispatcher else {}
+
+    def add_vehicle(self, key: VehicleKey, node: str) -> None:
+        chance = random.Random(self.chance.random())
+        gateway = Gateway(self.desk, self.clock, self.given, self.plan.line, chance, self.refused)
+        vehicle = Vehicle(
+            key, node, self.clock, self.track, self.goods, self.given, self.floor.metres, self.plan.nature, chance, gateway.tell
+        )
+        self.vehicles[str(key)], self.gateways[str(key)] = vehicle, gateway
+        gateway.serve(vehicle)
+
+    def refused(self, line: str) -> None:
+        self.day.counts['states refused: ' + line.split(': ')[1]] += 1
+
+    # What goes on.
+
+    def run(self, ready: Callable[[], None] = lambda: None) -> Day:
+        """The whole run, to its end. `ready` is called once the desk has its layout, vehicles and loads."""
+        begun = time.monotonic()
+        try:
+            self.set_up()
+            ready()
+            self.begin()
+            self.clock.run(lambda: self.over or self.clock.now > self.plan.limit)
+            if not self.over:
+                self.day.stands = 'the time was over'
+            self.day.seconds = self.clock.now
+            self.day.real = time.monotonic() - begun
+            self.served.supervise()
+            if self.day.stands is None:
+                self.settle()
+        finally:
+            self.served.stop()
+        self.close()
+        return self.day
+
+    def begin(self) -> None:
+        clock, trouble = self.clock, self.plan.trouble
+        self.people.begin(trouble.people)
+        clock.every(1.0, self.fetch)
+        clock.every(1.0, self.measure)
+        clock.every(self.plan.audit, self.audit, self.plan.audit)
+        clock.every(10.0, self.look_for_end, 60.0)
+        clock.every(2.0, self.served.supervise)
+        if self.make is not None:
+            clock.every(self.plan.every, self.dispatch, 8.0)
+        for seconds, what in ((trouble.desk, self.kill_desk), (trouble.dispatcher, self.kill_dispatcher), (trouble.gateway, self.kill_gateway)):
+            if seconds is not None:
+                clock.every(seconds, what, seconds)
+
+    def dispatch(self) -> None:
+        """A turn of the dispatcher; one that was killed is started anew."""
+        if self.dispatcher is None:
+            assert self.make is not None
+            self.mortal = Mortal(self.served.address)
+            self.dispatcher = self.make(self.mortal, self.hear, lambda: self.clock.now)
+            self.day.counts['starts of the dispatcher'] += 1
+        try:
+            self.dispatcher.turn()
+            self.day.counts['turns of the dispatcher'] += 1
+        except Killed:
+            self.dispatcher = None
+
+    def hear(self, line: str) -> None:
+        """A line of the dispatcher."""
+        said = re.search(r': cancels order (\S+), of ', line)
+        if said:
+            self.cancelled.add(said.group(1))
+        self.say(line)
+
+    def kill_dispatcher(self) -> None:
+        if self.mortal is not None:
+            self.mortal.left = self.chance.randrange(60)
+
+    def kill_desk(self) -> None:
+        self.served.kill_soon(self.chance)
+        self.day.counts['kills of the desk'] += 1
+
+    def kill_gateway(self) -> None:
+        self.gateways[self.chance.choice(sorted(self.gateways))].restart(self.chance.uniform(5, 40))
+        self.day.counts['restarts of gateways'] += 1
+
+    def fetch(self) -> None:
+        """The gateways look for messages, on one connection."""
+        self.fetches += 1
+        try:
+            with self.desk.kept():
+                for gateway in self.gateways.values():
+                    gateway.fetch(all_topics=self.fetches % 3 == 0)
+        except NoAnswer:
+            pass
+
+    def measure(self) -> None:
+        """Who has an order and waits."""
+        for name, vehicle in self.vehicles.items():
+            if vehicle.is_done() or vehicle.by_hand:
+                self.since.pop(name, None)
+                continue
+            self.day.ordered[name] = self.day.ordered.get(name, 0.0) + 1
+            if vehicle.node_is_left() or 'RUNNING' in vehicle.statuses.values() or vehicle.in_service or vehicle.paused:
+                self.since.pop(name, None)
+                continue
+            self.day.waited[name] = self.day.waited.get(name, 0.0) + 1
+            since = self.since.setdefault(name, self.clock.now)
+            self.day.longest = max(self.day.longest, self.clock.now - since)
+
+    def audit(self) -> None:
+        """Each vehicle is on what the desk holds for it, and each load in one place."""
+        self.goods.places()
+        try:
+            holds = read_holds(self.desk.hold_report())
+        except NoAnswer:
+            return
+        for name, node in self.track.at.items():
+            if str(holds.nodes.get(node)) != name:
+                raise Wrong('%s is on the node %s, which the desk holds for %s' % (name, node, holds.nodes.get(node)))
+        for name, edge in self.track.on.items():
+            ahead = self.layout.edges[edge].finish
+            if str(holds.edges.get(edge)) != name or str(holds.nodes.get(ahead)) != name:
+                raise Wrong('%s drives along %s, and the desk does not hold it and %s for it' % (name, edge, ahead))
+        self.day.counts['audits'] += 1
+
+    def look_for_end(self) -> None:
+        """Whether all jobs have ended, or nothing has moved for long."""
+        last = max(vehicle.last_moved for vehicle in self.vehicles.values())
+        try:
+            stock = self.desk.stock_report()
+        except NoAnswer:
+            return
+        live = sum(int(part.split()[0]) for part in stock.decode().split('reserved ')[1:])
+        if live == 0 and len(self.people.added) >= self.plan.jobs and all(one.is_done() for one in self.vehicles.values()):
+            self.over = True
+        elif self.clock.now - last > self.plan.stands:
+            self.over = True
+            waits = self.waits() or {}
+            self.day.stands = '%d jobs are live, and nothing moves: %s' % (
+                live, '; '.join('%s %s' % one for one in sorted(waits.items()) if not one[0].startswith('job ')) or 'nobody says why')
+
+    # The end.
+
+    def settle(self) -> None:
+        """Once nothing moves any more and all states have come, the desk has each load and vehicle where it is."""
+        for gateway in self.gateways.values():
+            gateway.up = True
+            assert gateway.vehicle is not None
+            if self.desk.vehicle(gateway.vehicle.key).order is None and not gateway.vehicle.by_hand:
+                gateway.post(gateway.vehicle.state())
+        told = {load: place for load, place in read_loads(self.desk.loads_export()).items() if place != 'left'}
+        true = self.goods.places()
+        if told != true:
+            differ = sorted(load for load in told.keys() | true.keys() if told.get(load) != true.get(load))
+            raise Wrong('; '.join('%s is at %s, and the desk has it at %s' % (load, true.get(load), told.get(load)) for load in differ[:5]))
+        for name, vehicle in self.vehicles.items():
+            if name in self.track.at and self.desk.vehicle(vehicle.key).node != vehicle.node:
+                raise Wrong('%s is at %s, and the desk has it at %s' % (name, vehicle.node, self.desk.vehicle(vehicle.key).node))
+
+    def close(self) -> None:
+        """The file is lawful; each job of it was added, and is done or was stopped for a reason."""
+        self.served.report('stock')
+        base = sqlite3.connect(self.served.db)
+        jobs = {name: (load, target, phase) for name, load, target, phase in base.execute('SELECT id, load, target, phase FROM job')}
+        base.close()
+        if set(self.people.added) - set(jobs):
+            raise Wrong('jobs are lost: %s' % sorted(set(self.people.added) - set(jobs)))
+        self.day.done = sum(1 for _, _, phase in jobs.values() if phase == 'done')
+        for job, (load, target, phase) in jobs.items():
+            if phase == 'stopped':
+                self.day.stopped[job] = self.why_stopped(job, load, target)
+        self.day.counts.update(self.people.counts)
+        self.day.counts['starts of the desk'] = self.served.starts
+        self.day.counts['states posted'] = sum(gateway.posted for gateway in self.gateways.values())
+        self.day.counts['metres driven'] = int(sum(vehicle.driven for vehicle in self.vehicles.values()))
+        self.day.counts['actions failed'] = sum(len(vehicle.failed) for vehicle in self.vehicles.values())
+
+    def why_stopped(self, job: str, load: str, target: str) -> str:
+        if job in self.people.why:
+            return self.people.why[job]
+        orders = {order for order, drops in self.given.drops.items() if (load, target) in drops}
+        failed = {name.rpartition('.')[0] for vehicle in self.vehicles.values() for name in vehicle.failed}
+        for reason, which in (
+            ('an action of its order failed', failed),
+            ('a person cancelled its order', self.people.orders_cancelled),
+            ('a person placed its vehicle', self.people.orders_placed),
+            ('the dispatcher cancelled its order', self.cancelled),
+        ):
+            if orders & which:
+                return reason
+        raise Wrong('%s is stopped, and nobody has a reason' % job)

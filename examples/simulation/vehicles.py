@@ -1,0 +1,263 @@
+"""A simulated vehicle: it takes order messages and instant actions, drives and acts in time, and tells its state. What it does is done
+to the truth of the plant."""
+from __future__ import annotations
+
+import random
+from collections.abc import Callable
+from dataclasses import dataclass
+from typing import Any
+
+from nulvrader.names import VehicleKey
+
+from .clock import Clock
+from .truth import Given, Goods, Track
+
+OVER = ('FINISHED', 'FAILED')
+
+
+@dataclass(frozen=True)
+class Nature:
+    """How vehicles are: metres a second, how long an action takes (seconds, from .. to), how many of a thousand picks and drops fail,
+    and how many metres a battery lasts, behind which the vehicle is out of service for `service` seconds until it has another one."""
+
+    speed: float = 1.6
+    action: tuple[float, float] = (6.0, 14.0)
+    failing: int = 10
+    battery: float = 6000.0
+    service: float = 90.0
+
+
+class Vehicle:
+    """A vehicle on a node. `tell` is called whenever its state has changed, so that its gateway posts it."""
+
+    def __init__(
+        self,
+        key: VehicleKey,
+        node: str,
+        clock: Clock,
+        track: Track,
+        goods: Goods,
+        given: Given,
+        metres: dict[str, float],
+        nature: Nature,
+        chance: random.Random,
+        tell: Callable[[], None],
+    ) -> None:
+        self.key, self.name = key, str(key)
+        self.clock, self.track, self.goods, self.given, self.metres = clock, track, goods, given, metres
+        self.nature, self.chance, self.tell = nature, chance, tell
+        self.node, self.sequence = node, 0
+        self.order, self.update = '', 0
+        self.nodes: dict[int, dict[str, Any]] = {}  # of its order, by sequenceId
+        self.edges: dict[int, dict[str, Any]] = {}
+        self.statuses: dict[str, str] = {}
+        self.instant: tuple[str, str] | None = None  # the last instant action and its status
+        self.order_header = self.instant_header = -1  # of the last messages that it took
+        self.header = 0
+        self.paused = False
+        self.cancelling: str | None = None  # the id of a cancelOrder that it carries out once it stands
+        self.in_service = False
+        self.by_hand = False
+        self.left = nature.battery * chance.uniform(0.3, 1.0)  # metres
+        self.turn = 0  # what was to happen before the last call of `stop` does not happen
+        self.driven = 0.0
+        self.last_moved = 0.0
+        self.failed: list[str] = []  # the actions that have failed
+        self.dropped: set[str] = set()  # the orders that were cancelled or cleared: a late update of one is passed over
+        track.put(self.name, node)
+
+    # Messages.
+
+    def take_order(self, message: dict[str, Any]) -> None:
+        """An order message: a new order where it has none, or more of the one that it has. One that is older than another that it had
+        is passed over."""
+        if message['headerId'] <= self.order_header or message['orderId'] in self.dropped or self.by_hand:
+            return
+        if message['orderId'] != self.order:
+            if not self.is_done() or self.cancelling is not None or message['nodes'][0]['nodeId'] != self.node or self.node_is_left():
+                return
+            self.nodes, self.edges, self.statuses, self.sequence = {}, {}, {}, 0
+        self.order_header = message['headerId']
+        self.order, self.update = message['orderId'], message['orderUpdateId']
+        for node in message['nodes']:
+            self.nodes[node['sequenceId']] = node
+            for action in node['actions']:
+                self.statuses.setdefault(action['actionId'], 'WAITING')
+        for edge in message['edges']:
+            self.edges[edge['sequenceId']] = edge
+        self.tell()
+        self.go_on()
+
+    def take_instant(self, message: dict[str, Any]) -> None:
+        if message['headerId'] <= self.instant_header or self.by_hand:
+            return
+        self.instant_header = message['headerId']
+        action = message['actions'][0]
+        name, kind = action['actionId'], action['actionType']
+        if kind == 'cancelOrder':
+            self.instant = (name, 'RUNNING')
+            self.cancelling = name
+            if not self.node_is_left():
+                self.finish_cancel()
+        else:
+            self.paused = kind == 'startPause'
+            self.instant = (name, 'FINISHED')
+            self.tell()
+            self.go_on()
+
+    def finish_cancel(self) -> None:
+        """Drops the order, where it stands."""
+        assert self.cancelling is not None
+        self.stop()
+        had = not self.is_done()
+        self.dropped.add(self.order)
+        for name, status in self.statuses.items():
+            if status not in OVER:
+                self.statuses[name] = 'FAILED'
+        self.nodes = {at: node for at, node in self.nodes.items() if at <= self.sequence}
+        self.instant = (self.cancelling, 'FINISHED' if had else 'FAILED')
+        self.cancelling = None
+        self.tell()
+
+    # Driving and acting.
+
+    def node_is_left(self) -> bool:
+        """Whether it drives along an edge."""
+        return self.name in self.track.on
+
+    def is_done(self) -> bool:
+        """Whether it has no order, or has carried it out."""
+        return all(at <= self.sequence for at in self.nodes) and all(status in OVER for status in self.statuses.values())
+
+    def is_at_end(self) -> bool:
+        """Whether at most one released edge is left to it, the one that it drives along."""
+        return not self.is_released(self.sequence + (4 if self.node_is_left() else 2))
+
+    def is_released(self, number: int) -> bool:
+        """Whether its order has a node of this number, and it is released."""
+        return number in self.nodes and bool(self.nodes[number]['released'])
+
+    def stop(self) -> None:
+        """What it was about to finish does not happen."""
+        self.turn += 1
+
+    def later(self, seconds: float, what: Callable[[], None]) -> None:
+        turn = self.turn
+        self.clock.after(seconds, lambda: what() if turn == self.turn else None)
+
+    def go_on(self) -> None:
+        """Begins what comes next: an action where it stands, or the next released edge."""
+        if self.paused or self.in_service or self.by_hand or self.node_is_left() or self.cancelling is not None:
+            return
+        here = self.nodes.get(self.sequence)
+        for action in here['actions'] if here else []:
+            status = self.statuses[action['actionId']]
+            if status == 'RUNNING':
+                return
+            if status == 'WAITING':
+                self.act(action)
+                return
+        if self.left <= 0:
+            self.begin_service()
+            return
+        if self.is_released(self.sequence + 2):
+            self.drive()
+
+    def drive(self) -> None:
+        number = self.sequence + 1
+        edge = self.edges[number]['edgeId']
+        self.given.check(self.name, self.order, number, edge)
+        self.track.leave(self.name, edge)
+        self.last_moved = self.clock.now
+        self.stop()
+        self.later(self.metres[edge] / self.nature.speed * self.chance.uniform(0.9, 1.2), self.arrive)
+
+    def arrive(self) -> None:
+        self.driven += self.metres[self.track.on[self.name]]
+        self.left -= self.metres[self.track.on[self.name]]
+        self.node = self.track.arrive(self.name)
+        self.sequence += 2
+        self.last_moved = self.clock.now
+        if self.cancelling is not None:
+            self.finish_cancel()
+            return
+        self.tell()
+        self.go_on()
+
+    def act(self, action: dict[str, Any]) -> None:
+        name = action['actionId']
+        self.statuses[name] = 'RUNNING'
+        self.tell()
+        self.stop()
+        self.later(self.chance.uniform(*self.nature.action), lambda: self.finish(action))
+
+    def finish(self, action: dict[str, Any]) -> None:
+        """Ends a pick or a drop, which fails at times, and where the load is not there."""
+        name = action['actionId']
+        said = {pair['key']: pair['value'] for pair in action['actionParameters']}
+        places = ['station ' + said['stationName'], 'vehicle ' + self.name]
+        start, finish = places if action['actionType'] == 'pick' else places[::-1]
+        if self.chance.randrange(1000) < self.nature.failing or not self.goods.has(said['loadId'], start):
+            self.statuses[name] = 'FAILED'
+            self.failed.append(name)
+        else:
+            self.goods.move(said['loadId'], start, finish)
+            self.statuses[name] = 'FINISHED'
+        self.last_moved = self.clock.now
+        self.tell()
+        self.go_on()
+
+    def begin_service(self) -> None:
+        """Its battery is empty: it is out of service until a person has changed it."""
+        self.in_service = True
+        self.tell()
+        self.clock.after(self.nature.service, self.end_service)
+
+    def end_service(self) -> None:
+        self.in_service, self.left = False, self.nature.battery
+        self.last_moved = self.clock.now
+        self.tell()
+        self.go_on()
+
+    def clear(self) -> None:
+        """A person clears the order on it."""
+        self.stop()
+        self.dropped.add(self.order)
+        self.nodes, self.edges, self.statuses, self.sequence = {}, {}, {}, 0
+        self.order, self.update, self.cancelling = '', 0, None
+        self.instant = None
+
+    # Its state.
+
+    def state(self) -> dict[str, Any]:
+        """The next state message."""
+        self.header += 1
+        actions = [{'actionId': name, 'actionStatus': status} for name, status in self.statuses.items()]
+        if self.instant:
+            actions.append({'actionId': self.instant[0], 'actionStatus': self.instant[1]})
+        seconds = int(self.clock.now)
+        return {
+            'headerId': self.header,
+            'timestamp': '2026-01-%02dT%02d:%02d:%02d.00Z'
+            % (1 + seconds // 86400, seconds // 3600 % 24, seconds // 60 % 60, seconds % 60),
+            'version': '2.0.0',
+            'manufacturer': self.key.manufacturer,
+            'serialNumber': self.key.serial,
+            'orderId': self.order,
+            'orderUpdateId': self.update,
+            'lastNodeId': self.node,
+            'lastNodeSequenceId': self.sequence,
+            'driving': self.node_is_left(),
+            'paused': self.paused,
+            'nodeStates': [
+                {'nodeId': node['nodeId'], 'sequenceId': at, 'released': node['released']}
+                for at, node in sorted(self.nodes.items())
+                if at > self.sequence
+            ],
+            'edgeStates': [],
+            'actionStates': actions,
+            'batteryState': {'batteryCharge': max(0, int(100 * self.left / self.nature.battery)), 'charging': False},
+            'operatingMode': 'SERVICE' if self.in_service or self.by_hand else 'AUTOMATIC',
+            'errors': [],
+            'safetyState': {'eStop': 'NONE', 'fieldViolation': False},
+        }

@@ -1,0 +1,186 @@
+"""Chromium without a window, by its driver's protocol (W3C WebDriver): a page is opened, clicked, typed into and looked
+at. It needs Debian's `chromium` and `chromium-driver`, and nothing of Python beside the standard library."""
+from __future__ import annotations
+
+import base64
+import http.client
+import json
+import os
+import shutil
+import socket
+import subprocess
+import time
+from typing import Any
+
+ELEMENT = 'element-6066-11e4-a52e-4f735466cecf'  # the protocol's name of an element
+WAIT = 10.0  # seconds until what is to be clicked has to be there
+KEYS = {'ENTER': '\ue007', 'ESCAPE': '\ue00c', 'RIGHT': '\ue014', 'TAB': '\ue004', 'BACKSPACE': '\ue003'}
+
+
+def missing() -> str | None:
+    """What of a browser isn't there; None where all is."""
+    lacking = [name for name in ('chromium', 'chromedriver') if shutil.which(name) is None]
+    return 'no %s here: apt install chromium chromium-driver' % ', no '.join(lacking) if lacking else None
+
+
+class Failed(AssertionError):
+    """What the driver answers that is no success."""
+
+    def __init__(self, name: str, words: str):
+        super().__init__('%s: %s' % (name, words))
+        self.name = name
+
+
+class Browser:
+    """A browser with one page, in colours for light or dark."""
+
+    def __init__(self, width: int = 1280, height: int = 800, dark: bool = False, mobile: bool = False):
+        with socket.socket() as one:
+            one.bind(('127.0.0.1', 0))
+            self.port = one.getsockname()[1]
+        self.driver = subprocess.Popen(
+            ['chromedriver', '--port=%d' % self.port], stdout=subprocess.DEVNULL, stderr=subprocess.DEVNULL
+        )
+        try:
+            self._wait()
+            arguments = [
+                '--headless=new',
+                '--no-sandbox',
+                '--disable-gpu',
+                '--disable-dev-shm-usage',
+                '--hide-scrollbars',
+            ]
+            options = {'args': [*arguments, '--window-size=%d,%d' % (width, height)]}
+            wanted = {'goog:chromeOptions': options, 'goog:loggingPrefs': {'browser': 'ALL'}}
+            made = self._ask('POST', '/session', {'capabilities': {'alwaysMatch': wanted}})
+        except BaseException:
+            self.driver.kill()
+            self.driver.wait()
+            raise
+        self.session = '/session/%s' % made['sessionId']
+        self._ask('POST', self.session + '/timeouts', {'implicit': int(1000 * WAIT)})
+        size = {'width': width, 'height': height, 'deviceScaleFactor': 2 if mobile else 1, 'mobile': mobile}
+        self._command('Emulation.setDeviceMetricsOverride', size)
+        scheme = {'name': 'prefers-color-scheme', 'value': 'dark' if dark else 'light'}
+        self._command('Emulation.setEmulatedMedia', {'features': [scheme]})
+
+    def _wait(self) -> None:
+        ends = time.monotonic() + 30
+        while True:
+            try:
+                self._ask('GET', '/status')
+                return
+            except OSError:
+                if time.monotonic() > ends:
+                    raise
+                time.sleep(0.05)
+
+    def _ask(self, method: str, path: str, body: object = None) -> Any:
+        connection = http.client.HTTPConnection('127.0.0.1', self.port, timeout=60)
+        try:
+            data = None if body is None else json.dumps(body)
+            connection.request(method, path, data, {'Content-Type': 'application/json'})
+            answer = connection.getresponse()
+            told = json.loads(answer.read())['value']
+        finally:
+            connection.close()
+        if answer.status != 200:
+            raise Failed(told['error'], told['message'])
+        return told
+
+    def _command(self, name: str, values: dict[str, Any]) -> None:
+        self._ask('POST', self.session + '/goog/cdp/execute', {'cmd': name, 'params': values})
+
+    def close(self) -> None:
+        """Ends the browser and its driver."""
+        try:
+            self._ask('DELETE', self.session)
+        finally:
+            self.driver.terminate()
+            self.driver.wait(30)
+
+    def open(self, address: str) -> None:
+        """Opens a page."""
+        self._ask('POST', self.session + '/url', {'url': address})
+
+    def run(self, script: str, *values: object) -> Any:
+        """What a script answers, a body of a function whose arguments are these."""
+        return self._ask('POST', self.session + '/execute/sync', {'script': script, 'args': list(values)})
+
+    def text(self, css: str) -> str:
+        """The texts of all that is seen of what a selector names, one after the other."""
+        script = 'return [...document.querySelectorAll(arguments[0])].filter((one) => one.getClientRects().length)'
+        return str(self.run(script + '.map((one) => one.textContent).join(" | ")', css))
+
+    def value(self, css: str, name: str) -> str | None:
+        """An attribute of the first that a selector names."""
+        found: str | None = self.run(
+            'return document.querySelector(arguments[0])?.getAttribute(arguments[1])', css, name
+        )
+        return found
+
+    def _find(self, css: str) -> str:
+        """The first that a selector names; it is waited for."""
+        path = self.session + '/element'
+        return str(self._ask('POST', path, {'using': 'css selector', 'value': css})[ELEMENT])
+
+    def _press(self, what: str, script: str, *values: object) -> None:
+        """Clicks what a script answers. It is waited for, and asked for again where the page has put another one in its
+        place."""
+        ends = time.monotonic() + WAIT
+        while True:
+            try:
+                found = self.run(script, *values)
+                if found is None:
+                    raise Failed('stale element reference', what)
+                self._ask('POST', '%s/element/%s/click' % (self.session, found[ELEMENT]), {})
+                return
+            except Failed as failed:
+                if failed.name != 'stale element reference' or time.monotonic() > ends:
+                    raise
+                time.sleep(0.05)
+
+    def click(self, css: str) -> None:
+        """Clicks the first that a selector names, where it is seen."""
+        element = self._find(css)
+        self._ask('POST', '%s/element/%s/click' % (self.session, element), {})
+
+    def press(self, text: str, words: str) -> None:
+        """Clicks the button with a text that is seen within what a selector names."""
+        script = 'return [...document.querySelectorAll(`${arguments[0]} button`)].find((one) => one.getClientRects()'
+        script += '.length && one.textContent.trim() === arguments[1]) ?? null'
+        self._press('%s in %s' % (text, words), script, words, text)
+
+    def press_row(self, title: str) -> None:
+        """Clicks the row of a list whose title is this."""
+        script = 'return [...document.querySelectorAll(".rowhead")].find((one) => one.querySelector(".title")'
+        self._press(title, script + '.textContent === arguments[0]) ?? null', title)
+
+    def write(self, css: str, text: str) -> None:
+        """Writes a text into a field, in place of what is there, or gives a file to it."""
+        element = self._find(css)
+        if self.value(css, 'type') != 'file':
+            self._ask('POST', '%s/element/%s/clear' % (self.session, element), {})
+        self._ask('POST', '%s/element/%s/value' % (self.session, element), {'text': text})
+
+    def keys(self, *keys: str) -> None:
+        """Presses keys, each a character or a name of `KEYS`, wherever the focus is."""
+        actions = []
+        for key in keys:
+            value = KEYS.get(key, key)
+            actions += [{'type': 'keyDown', 'value': value}, {'type': 'keyUp', 'value': value}]
+        body = {'actions': [{'type': 'key', 'id': 'keyboard', 'actions': actions}]}
+        self._ask('POST', self.session + '/actions', body)
+
+    def picture(self, path: str) -> bytes:
+        """A picture of what is seen, as PNG, kept in a file."""
+        data = base64.b64decode(self._ask('GET', self.session + '/screenshot'))
+        os.makedirs(os.path.dirname(os.path.abspath(path)), exist_ok=True)
+        with open(path, 'wb') as file:
+            file.write(data)
+        return data
+
+    def console(self) -> list[str]:
+        """The lines of the console since it was last asked, each with its level."""
+        lines = self._ask('POST', self.session + '/se/log', {'type': 'browser'})
+        return ['%s %s' % (line['level'], line['message']) for line in lines]

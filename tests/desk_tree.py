@@ -1,0 +1,161 @@
+"""A small repository for the tests of the scripts `desk` and `check`, over a stand-in for `rt` that notes its calls and makes a program."""
+import os
+import shutil
+import subprocess
+import sys
+import tempfile
+import time
+import unittest
+
+HERE = os.path.dirname(os.path.abspath(__file__))
+TOP = os.path.join(HERE, '..')
+TOOLS = ('awk', 'cat', 'chmod', 'dirname', 'env', 'find', 'flock', 'grep', 'head', 'kill', 'mkdir', 'rm', 'sed', 'sh', 'sleep', 'sort', 'touch')
+SCRIPTS = ('desk', 'tools/build-desk', 'tools/build-unproved')
+
+CRATES = """# a comment
+agv_app: agv_middle kit_crate agv_first
+agv_first:
+agv_middle: agv_first
+agv_middle_tests: agv_app
+"""
+
+# It notes the crate that it is in and its words. For `lib` it wants each crate below to be proved, in the folder that it is in, and proves
+# its own; for `run` it makes a program. For `try` it leaves a small module and a
+# larger one, the program's, and goes on until it is ended.
+RT = """#!/bin/sh
+crate=${PWD##*/}
+echo "$crate $*" >>"$NOTES/calls"
+if [ "$1" = try ]; then
+    if [ ! -e "$NOTES/no-module" ]; then
+        mkdir -p "$TMPDIR/a/a" "$TMPDIR/a/b"
+        echo small >"$TMPDIR/a/a/module.bc"
+        touch "$TMPDIR/a/a/module-1.o.tmp"
+        { echo module; printf '%20000s' ''; } >"$TMPDIR/a/b/module.bc"
+        touch "$TMPDIR/a/b/module-1.o.tmp"
+        sleep 60
+    fi
+    cat "$NOTES/no-module"
+    exit
+fi
+if [ -e "$NOTES/slow" ]; then
+    echo 'so far: 0 of 210 functions checked; the verdict comes last'
+    echo 'so far: 15 of 210 functions checked'
+    sleep "$(cat "$NOTES/slow")"
+fi
+if [ -e "$NOTES/meets" ] && { [ "$crate" = agv_left ] || [ "$crate" = agv_right ]; }; then
+    touch "$NOTES/met-$crate"
+    tries=0
+    until [ -e "$NOTES/met-agv_left" ] && [ -e "$NOTES/met-agv_right" ]; do
+        tries=$((tries + 1))
+        [ "$tries" -lt 600 ] || { echo 'the other one never began'; exit 1; }
+        sleep 0.1
+    done
+    [ "$crate" = agv_left ] || sleep "$(cat "$NOTES/meets")"
+fi
+if [ -e "$NOTES/fails" ] && [ "$crate" = "$(cat "$NOTES/fails")" ]; then
+    echo "fn $crate::one: not proved"
+    echo 'logic=not-proved'
+    exit 1
+fi
+if [ "$1" = lib ]; then
+    for below in $(sed -n 's/:.*//p' ../../crates.txt); do
+        [ "$below" = "$crate" ] || [ -e "../$below/out/rlib/proved" ] || { echo "$below is not there"; exit 1; }
+    done
+    mkdir -p out/rlib
+    touch out/rlib/proved
+fi
+touch "$NOTES/ended-$crate"
+echo 'logic=proved functions=1'
+[ "$1" = run ] || exit 0
+mkdir -p out
+cp "$NOTES/program" out/agv_app
+"""
+# It prints its words, and exits with 3.
+ECHO = """#!/bin/sh
+printf "%s|" "$@"
+exit 3
+"""
+# The kit's compiler and linker: they carry the module's text over.
+CLANG = """#!/bin/sh
+cat module.bc >module.o
+"""
+LINK = """#!/bin/sh
+read -r first <module.o && [ "$first" = module ] && cat "$NOTES/program" >desk.new && chmod +x desk.new
+"""
+
+
+class Tree(unittest.TestCase):
+    """A repository of four crates, with a kit and a folder of commands of its own."""
+
+    def setUp(self) -> None:
+        folder = tempfile.TemporaryDirectory()
+        self.addCleanup(folder.cleanup)
+        self.top, self.bin, self.notes, self.kit, self.work = (os.path.join(folder.name, name) for name in ('top', 'bin', 'notes', 'kit', 'work'))
+        for name in (self.top, self.bin, self.notes, self.work):
+            os.mkdir(name)
+        for tool in (*TOOLS, 'cp'):
+            found = shutil.which(tool)
+            if found:
+                os.symlink(found, os.path.join(self.bin, tool))
+        os.symlink(os.path.realpath(sys.executable), os.path.join(self.bin, 'python3'))
+        for path, text in (('bin/rt', RT), ('bin/rattle-link', LINK), ('toolchain/bin/clang', CLANG)):
+            self.write(os.path.join(self.kit, path), text, 0o755)
+        os.symlink(os.path.join(self.kit, 'bin', 'rt'), os.path.join(self.bin, 'rt'))
+        self.set_program(ECHO)
+        for name in SCRIPTS:
+            os.makedirs(os.path.dirname(os.path.join(self.top, name)), exist_ok=True)
+            shutil.copy(os.path.join(TOP, name), os.path.join(self.top, name))
+        shutil.copytree(os.path.join(TOP, 'docs', 'help'), os.path.join(self.top, 'docs', 'help'))
+        self.write('docs/GATE.md', '| `./desk` from nothing | 12 min 34 s |\n')
+        self.write('HANDLES', 'Handles allowed: Net.\n')
+        self.set_crates(CRATES)
+        self.write('crates/agv_app/stdin', 'text')
+
+    def set_crates(self, text: str) -> None:
+        self.write('crates.txt', text)
+        for crate in [line.split(':')[0] for line in text.splitlines() if line.startswith('agv')]:
+            for part in ('src/lib.rt', 'specs/Lib.antt', 'proofs/Lib.antt', 'must-fail/one.edit', 'out/old'):
+                self.write('crates/%s/%s' % (crate, part), 'text')
+
+    def set_program(self, text: str) -> None:
+        """What `rt` makes; the program that is there, too, where there is one."""
+        self.write(os.path.join(self.notes, 'program'), text, 0o755)
+        if os.path.exists(os.path.join(self.top, 'build', 'desk')):
+            self.write('build/desk', text)
+
+    def write(self, path: str, text: str, mode: int = 0o644) -> None:
+        path = os.path.join(self.top, path)
+        os.makedirs(os.path.dirname(path), exist_ok=True)
+        with open(path, 'w') as file:
+            file.write(text)
+        if mode != 0o644:
+            os.chmod(path, mode)
+
+    def read(self, path: str) -> str:
+        with open(os.path.join(self.top, path)) as file:
+            return file.read()
+
+    def note(self, name: str, text: str = '') -> str:
+        self.write(os.path.join(self.notes, name), text)
+        return os.path.join(self.notes, name)
+
+    def start(self, *words: str, stderr: int = subprocess.PIPE, stdin: int = subprocess.DEVNULL) -> 'subprocess.Popen[str]':
+        env = {'PATH': self.bin, 'NOTES': self.notes}
+        return subprocess.Popen([os.path.join(self.top, 'desk'), *words], env=env, text=True, stdin=stdin, stdout=subprocess.PIPE,
+                                stderr=stderr, cwd=self.work)
+
+    def run_desk(self, *words: str) -> tuple[int, str, str]:
+        process = self.start(*words)
+        out, said = process.communicate(timeout=120)
+        return process.returncode, out, said
+
+    def calls(self) -> list[str]:
+        path = os.path.join(self.notes, 'calls')
+        return self.read(path).splitlines() if os.path.exists(path) else []
+
+    def wait_for(self, path: str) -> None:
+        for _ in range(600):
+            if os.path.exists(path):
+                return
+            time.sleep(0.1)
+        self.fail('%s never came' % path)

@@ -1,0 +1,185 @@
+"""What the model keeps: the fourteen tables with the indexes of docs/TABLES.md, over a connection of SQLite, and beside them the layout in
+memory. And the questions and the writes that several calls have in common."""
+import programs  # noqa: F401 the package of the tools is found by it
+
+from nulvrader.database import SHAPES
+from nulvrader.rows import TABLES, columns
+
+from model.bodies import check
+
+MOST = 1_000_000  # loads, jobs, orders and references, of each
+VEHICLES = 100
+LAST = 4294967295  # the last number
+INDEXES = {'load_station': 'load (station)', 'load_vehicle': 'load (manufacturer, serial)', 'job_load': 'job (load, phase)',
+           'job_target': 'job (target, phase)'}
+
+
+def schema():
+    """The statements that make the tables, where there are none yet."""
+    made = []
+    for table, (names, (primary, *others)) in SHAPES.items():
+        parts = ['%s %s%s' % (name.rstrip('#?'), 'INT' if '#' in name else 'TEXT', '' if '?' in name else ' NOT NULL') for name in names.split()]
+        parts += ['PRIMARY KEY (%s)' % primary.replace(' ', ', '), *['UNIQUE (%s)' % other.replace(' ', ', ') for other in others]]
+        made.append('CREATE TABLE IF NOT EXISTS %s (%s) STRICT;' % (table, ', '.join(parts)))
+    made.append('INSERT OR IGNORE INTO meta VALUES (1, 2);')
+    return '\n'.join(made + ['CREATE INDEX IF NOT EXISTS %s ON %s;' % index for index in INDEXES.items()])
+
+
+class Layout:
+    """The layout as the tables have it."""
+
+    def __init__(self, base):
+        self.nodes = {row['id'] for row in base.execute('SELECT id FROM node')}
+        self.edges = {row['id']: (row['start'], row['finish']) for row in base.execute('SELECT * FROM edge')}
+        self.stations = {row['id']: (row['node'], row['capacity']) for row in base.execute('SELECT * FROM station')}
+        self.out, self.into = {node: [] for node in self.nodes}, {node: [] for node in self.nodes}
+        for name in sorted(self.edges):
+            start, finish = self.edges[name]
+            self.out[start].append((name, finish))
+            self.into[finish].append(start)
+
+    def route(self, start, target):
+        """At each node the edge of least name whose end is one hop nearer."""
+        hops, row = {target: 0}, [target]
+        for at in row:
+            for before in self.into.get(at, ()):
+                if before not in hops:
+                    hops[before] = hops[at] + 1
+                    row.append(before)
+        check(start not in hops or target not in self.nodes, 'NoWalk')
+        edges = []
+        while start != target:
+            name, start = next((name, end) for name, end in self.out[start] if hops.get(end, -1) == hops[start] - 1)
+            edges.append(name)
+        return edges
+
+
+class Trip:
+    """An open order: its row, its edges, the nodes between them, and its picks and drops."""
+
+    def __init__(self, row, edges, nodes, acts):
+        self.row, self.edges, self.nodes, self.acts = row, edges, nodes, acts
+
+    def action(self, act):
+        """The id by which the vehicle knows an act."""
+        return '%s.%d' % (self.row['order_id'], act['n'])
+
+
+def things(nodes, edges, begin, end):
+    """The nodes and edges of a stretch, in its order."""
+    found = [('node', nodes[begin])]
+    for k in range(begin, end):
+        found += [('edge', edges[k]), ('node', nodes[k + 1])]
+    return found
+
+
+class Tables:
+    def __init__(self, base, now):
+        self.base, self.now = base, now
+        self.base.executescript(schema())
+        self.layout = Layout(base)
+
+    def one(self, question, *values):
+        return self.base.execute(question, values).fetchone()
+
+    def put(self, question, *values):
+        self.base.execute(question, values)
+
+    def rows(self):
+        """All rows by table."""
+        return {table: [tuple(row) for row in self.base.execute('SELECT %s FROM %s' % (', '.join(columns(table)), table))] for table in TABLES}
+
+    def take_rows(self, rows):
+        """Has these rows in the place of its own."""
+        for table, of in rows.items():
+            self.put('DELETE FROM ' + table)
+            self.base.executemany('INSERT INTO %s VALUES (%s)' % (table, ', '.join('?' * len(columns(table)))), of)
+        self.layout = Layout(self.base)
+
+    # Vehicles and their orders.
+
+    def vehicle(self, key):
+        row = self.one('SELECT * FROM vehicle WHERE manufacturer = ? AND serial = ?', *key)
+        check(row is None, 'NoVehicle')
+        return row
+
+    def capacity(self, key):
+        return self.one('SELECT capacity FROM capacity WHERE manufacturer = ? AND serial = ?', *key)[0]
+
+    def trip(self, key):
+        row = self.one('SELECT * FROM journey WHERE manufacturer = ? AND serial = ?', *key)
+        if row is None:
+            return None
+        legs = self.base.execute('SELECT edge FROM leg WHERE order_id = ? ORDER BY k', (row['order_id'],))
+        edges = [leg['edge'] for leg in legs]
+        nodes = [row['start']] + [self.layout.edges[edge][1] for edge in edges]
+        acts = self.base.execute(
+            "SELECT act.*, load, CASE kind WHEN 'pick' THEN origin ELSE target END AS station "
+            'FROM act JOIN job ON job.id = job WHERE order_id = ? ORDER BY n',
+            (row['order_id'],),
+        ).fetchall()
+        return Trip(row, edges, nodes, acts)
+
+    def has_trip(self, key):
+        return self.one('SELECT 1 FROM journey WHERE manufacturer = ? AND serial = ?', *key) is not None
+
+    def end_trip(self, trip):
+        order = trip.row['order_id']
+        for act in trip.acts:
+            self.put("UPDATE job SET phase = 'stopped' WHERE phase = 'riding' AND id = ?", act['job'])
+        for name in ('journey', 'act', 'leg'):
+            self.put('DELETE FROM %s WHERE order_id = ?' % name, order)
+
+    # Loads, stations, jobs.
+
+    def load(self, load):
+        row = self.one('SELECT * FROM load WHERE id = ?', load)
+        check(row is None, 'NoLoad')
+        return row
+
+    def put_load(self, load, kind, station=None, key=(None, None)):
+        self.put('UPDATE load SET kind = ?, station = ?, manufacturer = ?, serial = ? WHERE id = ?', kind, station, *key, load)
+
+    def live_job(self, load):
+        row = self.one("SELECT id FROM job WHERE load = ? AND phase IN ('waiting', 'riding')", load)
+        return row['id'] if row else None
+
+    def coming(self, station):
+        return self.one("SELECT count(*) FROM job WHERE target = ? AND phase IN ('waiting', 'riding')", station)[0]
+
+    def aboard(self, key):
+        return self.one('SELECT count(*) FROM load WHERE manufacturer = ? AND serial = ?', *key)[0]
+
+    def room(self, station):
+        here = self.one('SELECT count(*) FROM load WHERE station = ?', station)[0]
+        return self.layout.stations[station][1] - here - self.coming(station)
+
+    # Names, limits, track.
+
+    def use(self, kind, name):
+        self.put('INSERT INTO used VALUES (?, ?)', kind, name)
+
+    def is_used(self, kind, name):
+        return self.one('SELECT 1 FROM used WHERE kind = ? AND id = ?', kind, name) is not None
+
+    def check_limit(self, what, most=None):
+        check(self.one('SELECT count(*) FROM ' + what)[0] >= (MOST if most is None else most), 'Limit')
+
+    def holder(self, kind, name):
+        row = self.one('SELECT manufacturer, serial FROM hold WHERE kind = ? AND id = ?', kind, name)
+        return row and tuple(row)
+
+    def check_free(self, key, wanted):
+        for kind, name in wanted:
+            by = self.holder(kind, name) or key
+            check(by != key, 'Held', by='%s/%s' % by, what='%s %s' % (kind, name))
+
+    def hold(self, key, wanted):
+        """The vehicle holds just these."""
+        wanted = set(wanted)
+        held = self.base.execute('SELECT kind, id FROM hold WHERE manufacturer = ? AND serial = ?', key)
+        before = {(row['kind'], row['id']) for row in held}
+        for kind, name in before - wanted:
+            self.put('DELETE FROM hold WHERE kind = ? AND id = ?', kind, name)
+        for kind, name in wanted - before:
+            self.put('INSERT INTO hold VALUES (?, ?, ?, ?)', kind, name, *key)

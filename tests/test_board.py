@@ -1,0 +1,272 @@
+"""The board over the real program, without a browser: what it shows of a desk at work, and what it keeps."""
+from __future__ import annotations
+
+import json
+import os
+import re
+import signal
+import sqlite3
+import time
+import unittest
+
+from board_run import LAYOUT, ONE, TOOLS, TWO, Plant, Watching, has_loopback, until
+
+PICKED = ('O1.0', 'FINISHED')
+DROPPED = ('O1.1', 'FINISHED')
+
+
+class Follows(Watching):
+    def test_a_transport(self) -> None:
+        """A job waits, rides and is done; the load is picked and dropped; what is held and how far the order is."""
+        board = self.board
+        self.held('node N1')
+        self.wait('station', 'A', taken=2, reserved=0)
+        self.desk.add_job('J1', 'L1', 'B')
+        self.wait('job', 'J1', load='L1', origin='A', target='B', phase='waiting')
+        self.wait('station', 'B', taken=0, reserved=1)
+        self.desk.start_order('O1', ONE, job='J1', edges=1)
+        self.held('node N1', 'node N2', 'edge E12')
+        self.wait('vehicle', 'KIT/0001', order_name='O1', seen=0, base=1, edges=2, sent=0, confirmed=None, node='N1')
+        way = self.wait('way', 'KIT/0001', order='O1', first=0, nodes=['N1', 'N2', 'N3'], edges=['E12', 'E23'])
+        acts = [{'kind': 'pick', 'load': 'L1', 'station': 'A', 'at': 0}]
+        self.assertEqual(way['acts'], acts + [{'kind': 'drop', 'load': 'L1', 'station': 'B', 'at': 2}])
+        self.wait('job', 'J1', phase='riding', order='O1', vehicle='KIT/0001')
+        self.plant.state(ONE, 'N2', 'O1', 0, 2, (PICKED,))
+        self.wait('load', 'L1', place='vehicle KIT/0001')
+        self.wait('vehicle', 'KIT/0001', seen=1, base=1, confirmed=0, node='N2', loads=['L1'])
+        self.held('node N2')
+        self.desk.advance(ONE, 'O1', 1, 1)
+        self.wait('vehicle', 'KIT/0001', seen=1, base=2, sent=1, confirmed=0)
+        self.plant.state(ONE, 'N3', 'O1', 1, 4, (PICKED, DROPPED))
+        self.wait('load', 'L1', place='station B')
+        self.wait('vehicle', 'KIT/0001', order_name=None, node='N3', loads=[])
+        until(lambda: not board.get('job', 'J1') and not board.get('way', 'KIT/0001'), 'the job and the way are gone')
+        for words in (
+            'Job J1 waits: L1 to B',
+            'Order O1 of KIT/0001, 2 edges: pick L1 at A, drop L1 at B',
+            'KIT/0001 picked L1 up at A',
+            'KIT/0001 dropped L1 at B',
+            'Order O1 of KIT/0001 is over',
+            'Job J1 is done: L1 to B',
+        ):
+            until(lambda: board.said(words), words)
+        self.check_the_record()
+
+    def check_the_record(self) -> None:
+        moves = 'SELECT from_place, to_place FROM load_moves WHERE load = %s ORDER BY n' % "'L1'"
+        way = [('station A', 'vehicle KIT/0001'), ('vehicle KIT/0001', 'station B')]
+        until(lambda: self.board.rows(moves) == way, 'both moves are kept')
+        job = 'SELECT load, origin, target, phase, order_name, vehicle, added <= began AND began <= ended FROM jobs'
+        until(lambda: self.board.rows(job) == [('L1', 'A', 'B', 'done', 'O1', 'KIT/0001', 1)], 'the job is kept')
+        self.assertEqual(self.board.rows("SELECT place FROM loads WHERE load = 'L1'"), [('station B',)])
+        self.assertEqual(self.board.rows('SELECT kind, name, vehicle FROM holds'), [('node', 'N3', 'KIT/0001')])
+        self.assertEqual(
+            self.board.rows('SELECT taken, reserved, capacity FROM stations ORDER BY station')[1], (1, 0, 2)
+        )
+        edges = "SELECT vehicle FROM hold_changes WHERE kind = 'edge' AND name = 'E12' ORDER BY n"
+        self.assertEqual(self.board.rows(edges), [('KIT/0001',), (None,)])
+        seen = 'SELECT DISTINCT order_name, node, seen FROM vehicle_states WHERE order_name IS NOT NULL ORDER BY n'
+        self.assertEqual(self.board.rows(seen)[:2], [('O1', 'N1', 0), ('O1', 'N2', 1)])
+
+    def test_a_cancel_with_its_rest(self) -> None:
+        """The vehicle stops on the way: it holds the next edge and node until a person places it."""
+        self.desk.add_job('J1', 'L1', 'B')
+        self.desk.start_order('O1', ONE, job='J1', edges=1)
+        self.wait('vehicle', 'KIT/0001', order_name='O1')
+        action = self.desk.cancel(ONE)
+        self.wait('vehicle', 'KIT/0001', pending='cancelOrder')
+        self.plant.state(ONE, 'N1', 'O1', 0, 0, (('O1.0', 'FAILED'), ('O1.1', 'FAILED'), (action, 'FINISHED')))
+        self.wait('vehicle', 'KIT/0001', astray=1, pending=None, order_name=None, rest={'edge': 'E12', 'node': 'N2'})
+        self.held('node N1', 'node N2', 'edge E12')
+        until(lambda: self.board.said('Job J1 is stopped: L1 to B'), 'the job is stopped')
+        self.desk.place(ONE, 'R1', 'N2')
+        self.wait('vehicle', 'KIT/0001', astray=0, node='N2', rest=None)
+        self.held('node N2')
+
+    def test_who_waits_for_whom(self) -> None:
+        """Two vehicles meet: one waits, and then each for the other."""
+        self.plant.vehicle(TWO, 'N3')
+        self.desk.register_load('L3', 'B')
+        self.desk.add_job('J1', 'L1', 'B')
+        self.desk.add_job('J2', 'L3', 'A')
+        self.desk.start_order('O1', ONE, job='J1', edges=1)
+        self.plant.state(ONE, 'N2', 'O1', 0, 2, (PICKED,))
+        wait = self.wait('wait', 'KIT/0001', kind='node', name='N3', by='KIT/0002', stands=True)
+        self.assertEqual(self.board.get('circles'), {})
+        self.desk.start_order('O2', TWO, job='J2', edges=0)
+        self.wait('wait', 'KIT/0002', kind='node', name='N2', by='KIT/0001', stands=True)
+        until(lambda: self.board.get('circles') == [['KIT/0001', 'KIT/0002']], 'the circle')
+        self.assertEqual(self.board.get('wait', 'KIT/0001'), wait)
+        self.desk.cancel(TWO)
+        self.plant.state(TWO, 'N3', 'O2', 0, 0, (('O2.0', 'FAILED'), ('O2.1', 'FAILED'), ('instant-1', 'FINISHED')))
+        until(lambda: not self.board.get('circles') and not self.board.get('wait', 'KIT/0002'), 'no circle')
+        waits = 'SELECT vehicle, name, holder, ended IS NULL FROM waits ORDER BY n'
+        kept = [('KIT/0001', 'N3', 'KIT/0002', 1), ('KIT/0002', 'N2', 'KIT/0001', 0)]
+        until(lambda: self.board.rows(waits) == kept, 'both waits are kept, and the second is over')
+
+    def test_loads_come_move_and_leave(self) -> None:
+        self.desk.register_load('L9')
+        self.wait('load', 'L9', place='checking')
+        self.desk.correct_load('L9', 'R1', 'C')
+        self.wait('load', 'L9', place='station C')
+        self.desk.leave_load('L9', 'R2')
+        until(lambda: not self.board.get('load', 'L9'), 'the load has left')
+        self.assertTrue(self.board.said('L9 has left, it was at C'))
+        history = json.loads(self.board.ask('GET', '/history?load=L9')[2])
+        places = [(before, after) for _, before, after in history['moves']]
+        self.assertEqual(places, [('station C', 'left'), ('checking', 'station C'), (None, 'checking')])
+        self.assertEqual(history['place'], 'left')
+        self.assertEqual(self.board.get('counts')['left'], 1)
+
+    def test_a_desk_that_is_stopped_and_comes_back(self) -> None:
+        """It is shown with since when; what was changed meanwhile is seen, and so is a load that came and left."""
+        before = time.time() * 1000
+        self.plant.served.stop(signal.SIGKILL)
+        told = self.wait('desk', '', up=False)
+        self.assertLess(abs(float(str(told['since'])) - before), 5000)
+        self.assertIn('no program listens there', str(told['fault']))
+        self.plant.replay(
+            ('POST', '/loads', {'load': 'L5', 'station': 'B'}),
+            ('POST', '/loads', {'load': 'L6'}),
+            ('POST', '/loads/L6/leave', {'ref': 'R1'}),
+        )
+        self.plant.start_desk()
+        self.wait('desk', '', up=True, fault=None)
+        self.wait('load', 'L5', place='station B')
+        until(lambda: self.board.rows("SELECT place FROM loads WHERE load = 'L6'") == [('left',)], 'L6 has left')
+        self.assertEqual(self.board.rows('SELECT answers FROM desk_times ORDER BY n'), [(1,), (0,), (1,)])
+
+    def test_a_layout_of_another_desk(self) -> None:
+        self.board.stop()
+        with open(self.plant.layout, 'w') as file:
+            file.write(LAYOUT.replace('station,C,N4,1', 'station,C,N4,2'))
+        self.board = self.plant.board()
+        fault = 'The layout file is not the layout of this desk: station C differs.'
+        until(lambda: self.board.all('fault') == {'stations': fault}, 'the fault is shown')
+
+
+class Silent(Watching):
+    words = ('--silent', '1.5')
+
+    def test_a_vehicle_that_falls_silent(self) -> None:
+        ends = time.monotonic() + 3
+        while time.monotonic() < ends:
+            self.plant.state(ONE, 'N1')
+            self.assertIsNone(self.board.get('vehicle', 'KIT/0001')['silent'])
+            time.sleep(0.3)
+        last = time.time() * 1000
+        told = until(lambda: self.board.get('vehicle', 'KIT/0001')['silent'], 'it is silent')
+        self.assertLess(abs(told - last), 2500)
+        self.assertTrue(self.board.said('No state of KIT/0001 comes any more'))
+        self.plant.state(ONE, 'N1')
+        self.wait('vehicle', 'KIT/0001', silent=None)
+
+
+@unittest.skipUnless(has_loopback(), 'no sockets on 127.0.0.1 here')
+class Asks(unittest.TestCase):
+    def setUp(self) -> None:
+        self.plant = Plant(LAYOUT.replace('station,A,N1,3', 'station,A,N1,300'))
+        self.addCleanup(self.plant.close)
+
+    def test_how_often_and_which_job(self) -> None:
+        """A job that another program added is found among 200 loads. At most 20 requests a second are asked for it,
+        each on a connection of its own: a desk that serves 80 connections lasts for four seconds."""
+        for number in range(200):
+            self.plant.desk.register_load('L%03d' % number, 'A')
+        self.plant.desk.add_job('J1', 'L150', 'B')
+        self.plant.served.stop()
+        served = self.plant.start_desk(connections=80)
+        begun = time.monotonic()
+        board = self.plant.board()
+        told = until(lambda: board.get('scan'), 'the job is looked for')
+        self.assertEqual(told['missing'], 1)
+        served.process.wait(30)
+        self.assertGreater(time.monotonic() - begun, 79 / 20)
+        self.plant.start_desk()
+        until(lambda: board.get('job', 'J1'), 'the job is found')
+        self.assertEqual([board.get('job', 'J1')[name] for name in ('load', 'origin', 'target')], ['L150', 'A', 'B'])
+        until(lambda: not board.get('scan'), 'nothing is looked for any more')
+
+
+class Keeps(Watching):
+    def test_a_board_that_is_killed(self) -> None:
+        """Its file is whole; started again it goes on from there, and sees what has moved meanwhile."""
+        self.desk.correct_load('L2', 'R1', 'B')
+        since = self.wait('load', 'L2', place='station B')['since']
+        until(lambda: self.board.rows("SELECT place FROM loads WHERE load = 'L2'") == [('station B',)], 'it is kept')
+        self.board.stop(signal.SIGKILL)
+        self.assertEqual(self.board.rows('PRAGMA integrity_check'), [('ok',)])
+        self.desk.correct_load('L1', 'R2', 'C')
+        self.board = self.plant.board()
+        self.wait('load', 'L1', place='station C')
+        self.assertEqual(self.board.get('load', 'L2'), {'place': 'station B', 'since': since})
+        moves = [('L2', 'station A', 'station B'), ('L1', 'station A', 'station C')]
+        question = 'SELECT load, from_place, to_place FROM load_moves ORDER BY n'
+        until(lambda: self.board.rows(question) == moves, 'both moves')
+        self.assertTrue(self.board.said('L2 is at B, it was at A'))
+
+    def test_anyone_reads_at_any_time(self) -> None:
+        base = sqlite3.connect('file:%s?mode=ro' % self.board.db, uri=True)
+        self.addCleanup(base.close)
+        self.assertEqual(base.execute('PRAGMA journal_mode').fetchall(), [('wal',)])
+        base.execute('BEGIN')
+        before = base.execute('SELECT count(*) FROM load_moves').fetchall()
+        self.desk.correct_load('L2', 'R1', 'B')
+        self.wait('load', 'L2', place='station B')
+        self.assertEqual(base.execute('SELECT count(*) FROM load_moves').fetchall(), before)
+        base.execute('COMMIT')
+        until(lambda: base.execute('SELECT count(*) FROM load_moves').fetchall() == [(1,)], 'the move')
+
+    def test_the_questions_of_the_page(self) -> None:
+        """docs/OPERATE.md has five, and board.db answers each: here after a job that was waited for and done."""
+        with open(os.path.join(TOOLS, '..', 'docs', 'OPERATE.md')) as file:
+            text = file.read().split('### Questions to board.db')[1].split('```sql')[1].split('```')[0]
+        questions = re.findall(r'-- [^\n]*\n([^;]*);', text)
+        self.assertEqual(len(questions), 5)
+        self.plant.vehicle(TWO, 'N2')
+        self.desk.add_job('J1', 'L1', 'B')
+        self.wait('job', 'J1', target='B')
+        self.desk.start_order('O1', ONE, job='J1', edges=0)
+        self.plant.state(ONE, 'N1', 'O1', 0, 0, (PICKED,))
+        self.wait('wait', 'KIT/0001', name='N2', stands=True)
+        self.wait('load', 'L1', place='vehicle KIT/0001')
+        self.desk.place(TWO, 'R1', 'N4')
+        until(lambda: not self.board.get('wait', 'KIT/0001'), 'the way is free')
+        self.desk.advance(ONE, 'O1', 1, 2)
+        self.plant.state(ONE, 'N3', 'O1', 1, 4, (PICKED, DROPPED))
+        self.assertTrue(self.board.do('leave', load='L2')['done'])
+        done = "SELECT phase FROM jobs WHERE job = 'J1'"
+        until(lambda: self.board.rows(done) == [('done',)], 'the job is done')
+        where, took, waited, idle, commands = [self.board.rows(question) for question in questions]
+        way = [('station A', 'vehicle KIT/0001'), ('vehicle KIT/0001', 'station B')]
+        self.assertEqual([row[1:] for row in where], way)
+        self.assertEqual([row[1] for row in took], [1])
+        self.assertTrue(0 <= took[0][2] < 5, took)
+        self.assertEqual([row[:3] for row in waited], [('node', 'N2', 1)])
+        self.assertTrue(0 <= waited[0][3] < 60, waited)
+        self.assertEqual({row[0] for row in idle}, {'KIT/0001', 'KIT/0002'})
+        self.assertEqual([row[1:3] for row in commands], [('', 'leave')])
+
+    def test_old_rows_are_removed(self) -> None:
+        self.board.stop()
+        base = sqlite3.connect(self.board.db)
+        move = 'INSERT INTO load_moves (at, load, to_place) VALUES (?, ?, ?)'
+        base.execute(move, ('2020-01-01T00:00:00.000Z', 'OLD', 'left'))
+        base.execute(move, (time.strftime('%Y-%m-%dT%H:%M:%S.000Z', time.gmtime(time.time() - 80000)), 'NEW', 'left'))
+        base.commit()
+        base.close()
+        self.board = self.plant.board('--days', '1')
+        loads = 'SELECT load FROM load_moves'
+        until(lambda: self.board.rows(loads) == [('NEW',)], 'the old one is removed')
+
+
+def load_tests(loader: unittest.TestLoader, _: unittest.TestSuite, __: str | None) -> unittest.TestSuite:
+    """`Watching` has no tests of its own."""
+    suite = unittest.TestSuite()
+    for case in (Follows, Silent, Asks, Keeps):
+        suite.addTests(loader.loadTestsFromTestCase(case))
+    return suite
+
+
+if __name__ == '__main__':
+    unittest.main()

@@ -1,0 +1,424 @@
+"""The page of the board in a real browser, over the real program: what it shows of a desk at work, and each command,
+done and refused. It is skipped where there is no Chromium with its driver."""
+from __future__ import annotations
+
+import os
+import re
+import signal
+import tempfile
+import unittest
+
+import browser
+from board_run import ONE, TWO, Plant, until
+from browser import Browser
+
+PICKED = ('O1.0', 'FINISHED')
+LACKING = browser.missing()
+
+
+@unittest.skipIf(LACKING is not None, LACKING or '')
+class Page(unittest.TestCase):
+    """A desk with two loads and a vehicle at N1, a board, and its page in a browser."""
+
+    words: tuple[str, ...] = ('--silent', '600')
+    plant: Plant
+    browser: Browser
+
+    def setUp(self) -> None:
+        self.plant = Plant()
+        self.addCleanup(self.plant.close)
+        self.desk = self.plant.desk
+        self.plant.vehicle(ONE, 'N1')
+        self.desk.register_load('L1', 'A')
+        self.desk.register_load('L2', 'A')
+        self.board = self.plant.board(*self.words)
+        self.browser = Browser()
+        self.addCleanup(self.browser.close)
+        self.browser.open('http://127.0.0.1:%d/' % self.board.port)
+        self.sees('.vehicle-card', 'KIT/0001')
+        self.addCleanup(self.check_the_console)
+
+    def check_the_console(self) -> None:
+        """No line of it is an error, but for questions that a board which is stopped does not answer."""
+        self.assertEqual([line for line in self.browser.console() if line.startswith('SEVERE')], [])
+
+    def sees(self, css: str, *words: str) -> str:
+        """Waits until what is seen has these words."""
+        last = ''
+
+        def told() -> bool:
+            nonlocal last
+            last = self.browser.text(css).replace('\u00a0', ' ')
+            return all(word in last for word in words)
+
+        try:
+            until(told, '%s shows %s' % (css, ', '.join(words)))
+        except AssertionError as fault:
+            raise AssertionError('%s, and it shows: %s' % (fault, last)) from None
+        return last
+
+    def misses(self, css: str, word: str) -> None:
+        """Waits until a word isn't seen any more."""
+        until(lambda: word not in self.browser.text(css), '%s without %s' % (css, word))
+
+    def on_the_map(self, kind: str, name: str, *words: str) -> None:
+        """Waits until the title of a thing on the map has these words."""
+        script = (
+            'return [...document.querySelectorAll(`#plan .${arguments[0]} > title`)].map((one) => one.textContent)'
+            '.find((title) => title.startsWith(arguments[1])) ?? ""'
+        )
+        until(lambda: all(word in self.browser.run(script, kind, name) for word in words), '%s: %s' % (name, words))
+
+    def classes(self, css: str) -> set[str]:
+        return set((self.browser.value(css, 'class') or '').split())
+
+
+class AtWork(Page):
+    def test_a_pick_and_a_drop(self) -> None:
+        self.on_the_map('station', 'Station A at N1', '2 of 3 taken')
+        self.on_the_map('vehicle', 'KIT/0001', 'at N1', 'Ready')
+        self.desk.add_job('J1', 'L1', 'B')
+        self.on_the_map('station', 'Station B', '0 of 2 taken, 1 reserved')
+        self.desk.start_order('O1', ONE, job='J1', edges=1)
+        self.sees('.vehicle-card', 'Order O1', '0 of 2 edges, released to 1', 'L1: A → B', 'Not confirmed')
+        for name in ('Node N1', 'Node N2'):
+            self.on_the_map('node', name, 'held by KIT/0001')
+        self.on_the_map('hold', 'Edge E12', 'held by KIT/0001')
+        self.assertTrue(self.classes('#plan .hold') >= {'hold', 'c0'})
+        self.assertTrue(self.browser.run('return document.querySelectorAll("#plan .way").length'))
+        self.plant.state(ONE, 'N2', 'O1', 0, 2, (PICKED,))
+        self.on_the_map('vehicle', 'KIT/0001', 'at N2', 'On its way')
+        self.sees('.vehicle-card', '1 of 2 edges, released to 1', 'L1: A → B, on it')
+        self.sees('#plan .cargo text', '1')
+        self.browser.click('#tab-jobs')
+        self.sees('#jobs', 'J1', 'L1', 'From A to B, on KIT/0001 by order O1', 'Rides')
+        self.desk.advance(ONE, 'O1', 1, 1)
+        self.plant.state(ONE, 'N3', 'O1', 1, 4, (PICKED, ('O1.1', 'FINISHED')))
+        self.on_the_map('station', 'Station B', '1 of 2 taken')
+        self.on_the_map('vehicle', 'KIT/0001', 'at N3', 'Ready')
+        self.sees('#jobs', 'No job waits or rides.')
+        self.browser.click('#tab-events')
+        self.sees('#events', 'KIT/0001 picked L1 up at A', 'KIT/0001 dropped L1 at B', 'Job J1 is done: L1 to B')
+        self.browser.keys('/')
+        self.browser.keys('l', '1')
+        self.sees('#stock', 'L1', 'at B')
+        self.misses('#stock .rows', 'L2')
+        self.browser.click('#stock .rows:last-of-type .rowhead')
+        self.sees('.detail', 'At B, since', 'at A → on KIT/0001', 'on KIT/0001 → at B')
+        self.assertIn('picked', self.classes('#plan .station.picked'))
+
+    def test_a_cancel_with_its_rest(self) -> None:
+        self.desk.add_job('J1', 'L1', 'B')
+        self.desk.start_order('O1', ONE, job='J1', edges=1)
+        self.sees('.vehicle-card', 'Order O1')
+        self.desk.cancel(ONE)
+        self.sees('.vehicle-card', 'Told to cancel its order')
+        self.plant.state(ONE, 'N1', 'O1', 0, 0, (('O1.0', 'FAILED'), ('O1.1', 'FAILED'), ('instant-1', 'FINISHED')))
+        self.sees('.vehicle-card', 'Has to be placed', 'Still holds edge E12 and node N2')
+        self.sees('#alarms', 'KIT/0001 left its order on the way: place it')
+        self.on_the_map('hold', 'Edge E12', 'held by KIT/0001')
+        self.desk.place(ONE, 'R1', 'N1')
+        self.misses('.vehicle-card', 'Has to be placed')
+        self.misses('#alarms', 'KIT/0001 left')
+
+    def test_who_waits_for_whom(self) -> None:
+        self.plant.vehicle(TWO, 'N2')
+        self.desk.add_job('J1', 'L1', 'B')
+        self.desk.start_order('O1', ONE, job='J1', edges=0)
+        self.plant.state(ONE, 'N1', 'O1', 0, 0, (PICKED,))
+        self.sees('.waits', 'KIT/0001 waits for KIT/0002, which holds node N2')
+        self.sees('.vehicle-card', 'Waits for KIT/0002', 'In the way of KIT/0001')
+
+    def test_a_desk_that_is_stopped_and_comes_back(self) -> None:
+        self.plant.served.stop(signal.SIGKILL)
+        self.sees('#desk', 'The desk has not answered for')
+        self.sees('#alarms', 'The desk has not answered since')
+        self.plant.replay(('POST', '/loads/L2/correct', {'ref': 'R1', 'station': 'C'}))
+        self.plant.start_desk()
+        self.sees('#desk', 'The desk answers')
+        self.on_the_map('station', 'Station C', '1 of 1 taken')
+        self.misses('#alarms', 'The desk has not')
+
+    def test_a_board_that_is_stopped(self) -> None:
+        """The page says so; the questions that nobody answers are the only errors of the console."""
+        self.board.stop()
+        self.sees('#alarms', 'The board has not answered for')
+        lines = [line for line in self.browser.console() if line.startswith('SEVERE')]
+        self.assertEqual([line for line in lines if 'ERR_CONNECTION_REFUSED' not in line], [])
+
+
+class FallsSilent(Page):
+    words = ('--silent', '4')
+
+    def test_a_vehicle_that_falls_silent(self) -> None:
+        self.sees('.vehicle-card', 'No state for')
+        self.sees('#alarms', 'KIT/0001 sends no state')
+
+        def is_heard(mode: str = 'AUTOMATIC') -> bool:
+            self.plant.state(ONE, 'N1', operatingMode=mode)
+            return 'No state for' not in self.browser.text('.vehicle-card')
+
+        until(is_heard, 'its states are seen again')
+        until(
+            lambda: is_heard('MANUAL') and 'Not ready' in self.browser.text('.vehicle-card'), 'not ready'
+        )
+
+
+class Gives(Page):
+    """Commands by the page: each is looked at, done, and refused once."""
+
+    def look(self, *words: str) -> None:
+        """Asks what it will do, where it isn't told already, and reads it."""
+        until(lambda: self.browser.run('return document.getElementById("command").open'), 'the command is open')
+        if not self.browser.text('#command .says'):
+            self.browser.press('What will it do?', '#command')
+        self.sees('#command', *words)
+
+    def do(self, answer: str) -> None:
+        """Does it, and reads the answer."""
+        self.browser.press('Do it', '#command')
+        self.sees('#command .answer', answer)
+        self.browser.press('Close', '#command')
+
+    def on_vehicle(self, title: str) -> None:
+        """Presses a button of the vehicle's card."""
+        if self.browser.value('.vehicle-card .head', 'aria-expanded') != 'true':
+            self.browser.click('#tab-vehicles')
+            self.browser.click('.vehicle-card .head')
+        until(lambda: title in self.browser.text('.vehicle-card .actions button'), title)
+        self.browser.press(title, '.vehicle-card')
+
+    def on_load(self, name: str, title: str) -> None:
+        """Presses a button of a load."""
+        if name not in self.browser.text('.detail h2'):
+            self.browser.click('#tab-stock')
+            self.browser.write('#search', name)
+            self.browser.press_row(name)
+        self.sees('.detail', title)
+        self.browser.press(title, '.detail')
+
+    def test_loads(self) -> None:
+        page = self.browser
+        page.click('#tab-stock')
+        for answer in ('L7 is registered.', 'The name is taken'):
+            page.press('Register a load', '#stock')
+            page.write('#field-load', 'L7')
+            page.write('#field-station', 'B')
+            self.look('L7 is a new load, and stands at station B.')
+            self.do(answer)
+        self.on_the_map('station', 'Station B', '1 of 2 taken')
+        self.on_load('L7', 'Correct its place')
+        page.write('#field-station', 'C')
+        self.look('The desk takes it that L7 stands at station C. By the desk it is at B now.')
+        self.do('The place of L7 is corrected.')
+        self.on_the_map('station', 'Station C', '1 of 1 taken')
+        self.on_load('L7', 'Correct its place')
+        page.write('#field-station', 'C')
+        self.look('Station C (1 of 1 taken, 0 reserved) is full.')
+        self.do('The load is at that station already')
+        self.on_load('L7', 'It leaves')
+        self.look('L7 leaves the warehouse for good.')
+        self.desk.add_job('J9', 'L7', 'B')
+        self.do('The load has a live job')
+        self.desk.stop_job('J9')
+        self.on_load('L7', 'It leaves')
+        self.look('L7 leaves the warehouse for good.')
+        self.do('L7 has left.')
+        self.on_the_map('station', 'Station C', '0 of 1 taken')
+        page.write('#search', 'L7')
+        page.press('Where was L7?', '#stock')
+        self.sees('.detail', 'L7', 'Not in the warehouse.', 'new → at B', 'at B → at C', 'at C → has left')
+
+    def test_jobs(self) -> None:
+        page = self.browser
+        page.click('#tab-jobs')
+        for answer in ('Job J1 waits.', 'The name is taken'):
+            page.press('Add a job', '#jobs')
+            page.write('#field-load', 'L1')
+            page.write('#field-to', 'B')
+            page.write('#field-job', 'J1')
+            self.look('Job J1 is to take L1 from A to B.')
+            self.do(answer)
+        self.sees('#jobs', 'J1', 'From A to B', 'Waits')
+        page.press('Stop', '#jobs .job-card')
+        self.look('Job J1 is stopped: L1 stays where it is.')
+        self.desk.stop_job('J1')
+        self.do("The job's phase doesn't allow it")
+        self.misses('#jobs', 'J1')
+        self.desk.add_job('J2', 'L1', 'B')
+        self.sees('#jobs', 'J2')
+        page.press('Stop', '#jobs .job-card')
+        self.look('Job J2 is stopped')
+        self.do('Job J2 is stopped.')
+        self.sees('#jobs', 'No job waits or rides.')
+
+    def test_an_order(self) -> None:
+        page = self.browser
+        self.desk.add_job('J1', 'L1', 'B')
+        page.click('#tab-jobs')
+        self.sees('#jobs', 'J1', 'From A to B')
+        page.press('Start an order', '#jobs .job-card')
+        page.write('#field-vehicle', 'KIT/0001')
+        page.write('#field-edges', '9')
+        page.write('#field-order', 'O1')
+        self.look('KIT/0001 gets the order O1:', 'Pick L1 at A.', 'Drop L1 at B.', 'The order has 2 edges in all.')
+        page.press('Do it', '#command')
+        self.sees('#command .answer', 'The order ends before that')
+        page.press('Back', '#command')
+        page.write('#field-edges', '1')
+        self.look('Released now: 1 edge, over N2. Left then: 1.')
+        self.do('KIT/0001 has the order O1.')
+        self.on_vehicle('Release more')
+        self.look('The vehicle has not confirmed the last update.')
+        self.do("The vehicle hasn't confirmed the last update")
+        self.plant.state(ONE, 'N1', 'O1', 0, 0)
+        self.misses('.vehicle-card', 'Not confirmed')
+        self.on_vehicle('Release more')
+        self.look('Order O1 of KIT/0001 goes on by update 1.', 'Released now: 1 edge, over N3. Left then: 0.')
+        self.do('Update 1 of order O1 is sent.')
+        self.sees('.vehicle-card', 'released to 2')
+        self.on_vehicle('Pause')
+        self.look('KIT/0001 is told to pause.')
+        self.do('KIT/0001 is told to pause (instant-1).')
+        self.sees('.vehicle-card', 'Told to pause')
+        for title in ('Pause', 'Cancel'):
+            self.on_vehicle(title)
+            self.look('Another instant action, startPause, is not over yet.')
+            self.do('An instant action is pending')
+        self.plant.state(ONE, 'N1', 'O1', 1, 0, (('instant-1', 'FINISHED'),), paused=True)
+        self.sees('.vehicle-card', 'Paused')
+        self.on_vehicle('Go on')
+        self.look('KIT/0001 is told to go on.')
+        self.do('KIT/0001 is told to go on (instant-2).')
+        self.on_vehicle('Go on')
+        self.look('KIT/0001 is told to go on.')
+        self.do('An instant action is pending')
+        self.plant.state(ONE, 'N1', 'O1', 1, 0, (('instant-2', 'FINISHED'),))
+        self.misses('.vehicle-card', 'Told to go on')
+        self.on_vehicle('Cancel')
+        self.look('KIT/0001 is told to cancel its order O1')
+        self.do('KIT/0001 is told to cancel its order (instant-3).')
+        self.place_it()
+
+    def place_it(self) -> None:
+        self.plant.vehicle(TWO, 'N4')
+        self.on_the_map('node', 'Node N4', 'held by KIT/0002')
+        self.on_vehicle('Place')
+        self.browser.write('#field-node', 'N4')
+        self.look('The desk takes it that KIT/0001 stands at node N4', 'KIT/0002 holds node N4.')
+        self.do('KIT/0002 holds node N4')
+        self.on_vehicle('Place')
+        self.browser.write('#field-node', 'N2')
+        self.look('Its order O1 ends', 'The vehicle is not told')
+        self.do('KIT/0001 stands at N2.')
+        self.sees('.vehicle-card', 'at N2')
+        self.on_vehicle('Begin anew')
+        self.look('The desk forgets the number of the last state of KIT/0001')
+        self.do('The next state of KIT/0001 is taken, whatever its number.')
+
+    def test_a_stocktake(self) -> None:
+        with tempfile.NamedTemporaryFile('w', suffix='.csv') as file:
+            file.write('station,load\nA,L1\nB,L2\nC,L9\n')
+            file.flush()
+            self.browser.click('#tab-stock')
+            self.browser.press('Stocktake from a file', '#stock')
+            self.browser.write('#field-file', file.name)
+            self.look(
+                'Counted: 3 stations. Found: 3 loads.',
+                'L2, which is at A, is then at B.',
+                'Names that no load here has: L9.',
+            )
+            self.do('1 load moved. Unknown names: L9.')
+        self.on_the_map('station', 'Station B', '1 of 2 taken')
+        with tempfile.NamedTemporaryFile('w', suffix='.csv') as file:
+            file.write('station,load\nX,L1\n')
+            file.flush()
+            self.browser.press('Stocktake from a file', '#stock')
+            self.browser.write('#field-file', file.name)
+            self.look('Line 2: NoStation: there is no station X')
+            self.do('No station of that name')
+
+
+class LooksOnly(Page):
+    words = ('--read-only',)
+
+    def test_no_commands(self) -> None:
+        self.browser.click('.vehicle-card .head')
+        self.sees('.vehicle-card.chosen', 'KIT/0001')
+        self.assertEqual(self.browser.text('.vehicle-card .actions button'), '')
+        self.browser.click('#tab-stock')
+        self.sees('#stock', 'L1')
+        self.assertEqual(self.browser.text('#stock .actions button'), '')
+        self.browser.click('#tab-jobs')
+        self.assertEqual(self.browser.text('#jobs .actions button'), '')
+
+
+class EyesAndHands(Page):
+    def test_by_keyboard(self) -> None:
+        """Tabs by arrows, a card by Enter, a command that is closed by Escape, and the focus is where it was."""
+        self.browser.run('document.getElementById("tab-vehicles").focus()')
+        for tab in ('tab-stock', 'tab-jobs', 'tab-events', 'tab-vehicles'):
+            self.browser.keys('RIGHT')
+            self.assertEqual(self.browser.run('return document.activeElement.id'), tab)
+            self.assertEqual(self.browser.value('#' + tab, 'aria-selected'), 'true')
+        self.browser.keys('TAB', 'ENTER')
+        self.assertEqual(self.browser.value('.vehicle-card .head', 'aria-expanded'), 'true')
+        self.browser.keys('TAB', 'ENTER')
+        self.sees('#command', 'Start an order')
+        self.browser.keys('ESCAPE')
+        until(lambda: not self.browser.run('return document.getElementById("command").open'), 'it is closed')
+        self.assertEqual(self.browser.run('return document.activeElement.dataset.command'), 'order')
+
+    def test_sizes_and_colours(self) -> None:
+        """On a screen of 1280 by 800 and on a phone nothing is wider than the page; words have contrast in both."""
+        for width, height, mobile in ((1280, 800, False), (390, 844, True)):
+            for dark in (False, True):
+                page = Browser(width, height, dark, mobile)
+                try:
+                    page.open('http://127.0.0.1:%d/' % self.board.port)
+                    until(lambda: 'KIT/0001' in page.text('.vehicle-card'), 'the page')
+                    wide = page.run('return document.documentElement.scrollWidth - window.innerWidth')
+                    self.assertLessEqual(wide, 0, (width, dark))
+                    for css in (
+                        '.vehicle-card .title',
+                        '.vehicle-card .where',
+                        '.badge',
+                        '#desk .words',
+                        'dt',
+                        '.clock',
+                    ):
+                        self.assertGreaterEqual(self.contrast(page, css), 4.5, (css, width, dark))
+                    data = page.picture(os.path.join(tempfile.gettempdir(), 'board-%d-%s.png' % (width, dark)))
+                    self.assertEqual(data[:8], b'\x89PNG\r\n\x1a\n')
+                finally:
+                    page.close()
+
+    @staticmethod
+    def contrast(page: Browser, css: str) -> float:
+        """How much the colour of a text stands out from what lies behind it, by WCAG 2: 1 to 21."""
+        script = """
+            let one = document.querySelector(arguments[0]);
+            const ink = getComputedStyle(one).color;
+            while (/, 0\\)|transparent/.test(getComputedStyle(one).backgroundColor)) one = one.parentElement;
+            return [ink, getComputedStyle(one).backgroundColor];
+        """
+
+        def light(colour: str) -> float:
+            parts = [int(part) / 255 for part in re.findall(r'\d+', colour)[:3]]
+            red, green, blue = (part / 12.92 if part <= 0.03928 else ((part + 0.055) / 1.055) ** 2.4 for part in parts)
+            return float(0.2126 * red + 0.7152 * green + 0.0722 * blue)
+
+        low, high = sorted(light(colour) for colour in page.run(script, css))
+        return (high + 0.05) / (low + 0.05)
+
+
+def load_tests(loader: unittest.TestLoader, _: unittest.TestSuite, __: str | None) -> unittest.TestSuite:
+    """`Page` has no tests of its own."""
+    suite = unittest.TestSuite()
+    for case in (AtWork, FallsSilent, Gives, LooksOnly, EyesAndHands):
+        suite.addTests(loader.loadTestsFromTestCase(case))
+    return suite
+
+
+if __name__ == '__main__':
+    unittest.main()

@@ -1,0 +1,265 @@
+"""The look that keeps a dispatcher from deadlocks, against a search of all states on small layouts; cases by hand; and vehicles that
+are released by it at random, of which each has to finish."""
+import collections
+import os
+import random
+import sys
+import time
+import unittest
+
+HERE = os.path.dirname(os.path.abspath(__file__))
+sys.path.insert(0, os.path.join(HERE, '..', 'tools'))
+
+from nulvrader.dispatch.look import Floor, after_release, finishing, runs_ahead  # noqa: E402
+
+PLENTY = 10 ** 9
+CASES = int(os.environ.get('LOOKS', '3000'))
+
+
+def can_all_finish(ways, walls):
+    """By a search of all states: each vehicle stands on one node, and goes on where the next one is free."""
+    names = sorted(ways)
+    first, seen = (0,) * len(names), set()
+    row = [first]
+    while row:
+        state = row.pop()
+        if state in seen:
+            continue
+        seen.add(state)
+        on = [ways[name][at] for name, at in zip(names, state)]
+        if all(at == len(ways[name]) - 1 for name, at in zip(names, state)):
+            return True
+        for n, (name, at) in enumerate(zip(names, state)):
+            if at + 1 < len(ways[name]):
+                after = ways[name][at + 1]
+                if after not in walls and all(node != after for m, node in enumerate(on) if m != n):
+                    row.append(state[:n] + (at + 1,) + state[n + 1:])
+    return False
+
+
+def both_ways(pairs):
+    found = collections.defaultdict(set)
+    for a, b in pairs:
+        found[a].add(b)
+        found[b].add(a)
+    return found
+
+
+def random_layout(chance):
+    """From each node the nodes to which an edge leads: a one-way ring with bays, a single track with passing places, or any graph."""
+    found = collections.defaultdict(set)
+    kind = chance.randrange(3)
+    if kind == 0:
+        size = chance.randint(3, 6)
+        for n in range(size):
+            found['r%d' % n].add('r%d' % ((n + 1) % size))
+            if chance.random() < 0.7:
+                found['r%d' % n].add('b%d' % n)
+                found['b%d' % n].add('r%d' % n)
+    elif kind == 1:
+        size = chance.randint(3, 7)
+        found = both_ways([('t%d' % n, 't%d' % (n + 1)) for n in range(size - 1)])
+        for n in range(1, size - 1):
+            if chance.random() < 0.4:
+                for a, b in (('t%d' % (n - 1), 'p%d' % n), ('p%d' % n, 't%d' % (n + 1))):
+                    found[a].add(b)
+                    found[b].add(a)
+    else:
+        nodes = ['n%d' % n for n in range(chance.randint(3, 7))]
+        for a in nodes:
+            for b in chance.sample([b for b in nodes if b != a], chance.randint(1, 2)):
+                found[a].add(b)
+                if chance.random() < 0.5:
+                    found[b].add(a)
+    return {node: sorted(after) for node, after in found.items()}
+
+
+def shortest(layout, start, target):
+    before, row = {start: None}, collections.deque([start])
+    while row:
+        at = row.popleft()
+        if at == target:
+            way = [at]
+            while before[way[-1]] is not None:
+                way.append(before[way[-1]])
+            return way[::-1]
+        for after in layout.get(at, ()):
+            if after not in before:
+                before[after] = at
+                row.append(after)
+    return None
+
+
+def random_case(chance):
+    """Ways of two to four vehicles over one or two stops, and perhaps a wall."""
+    layout = random_layout(chance)
+    nodes = sorted(set(layout) | {b for after in layout.values() for b in after})
+    starts = chance.sample(nodes, min(len(nodes) - 1, chance.randint(2, 4)))
+    ways = {}
+    for n, start in enumerate(starts):
+        way = [start]
+        for _ in range(chance.randint(0, 2)):
+            more = shortest(layout, way[-1], chance.choice(nodes))
+            way += more[1:] if more else []
+        ways['v%d' % n] = tuple(way)
+    free = [node for node in nodes if node not in starts]
+    return ways, {chance.choice(free)} if free and chance.random() < 0.1 else set()
+
+
+class AgainstAllStates(unittest.TestCase):
+    def test_small_layouts(self):
+        """With states enough the look says what the search of all states says. With few it never says yes where the search says no."""
+        chance = random.Random(66)
+        counts = collections.Counter()
+        for case in range(CASES):
+            ways, walls = random_case(chance)
+            true = can_all_finish(ways, walls)
+            counts['cases'] += 1
+            counts['all can finish'] += true
+            self.assertEqual(finishing(ways, walls, PLENTY) == set(ways), true, (case, ways, walls))
+            for budget in (0, 5, 300):
+                says = finishing(ways, walls, budget) == set(ways)
+                self.assertFalse(says and not true, (case, budget, ways, walls))
+                counts['refused, with %d states' % budget] += true and not says
+        print('look: ' + ', '.join('%s: %d' % one for one in counts.items()))
+        self.assertGreater(counts['all can finish'], CASES * 0.3)
+        self.assertGreater(CASES - counts['all can finish'], CASES * 0.1)
+        self.assertLess(counts['refused, with 300 states'], counts['all can finish'] * 0.01)
+
+    def test_who_finishes_can(self):
+        """The vehicles that are said to finish do so in some order, the others staying or making room: it is the best state's order,
+        so the others may be taken to go no further than there."""
+        chance = random.Random(67)
+        some = 0
+        for case in range(CASES // 3):
+            ways, walls = random_case(chance)
+            told = finishing(ways, walls)
+            if told == set(ways):
+                continue
+            cuts = [{}]
+            for name in sorted(set(ways) - told):
+                cuts = [{**cut, name: ways[name][:end]} for cut in cuts for end in range(1, len(ways[name]) + 1)]
+            self.assertTrue(any(can_all_finish({**ways, **cut}, walls) for cut in cuts), (case, ways, walls, told))
+            some += 1
+        self.assertGreater(some, CASES // 60)
+
+    def test_the_order_of_names_is_nothing(self):
+        """Moves that take nothing from anybody lead to one state, in whichever order they are made."""
+        chance = random.Random(68)
+        for _ in range(CASES // 3):
+            ways, walls = random_case(chance)
+            settled = self.settled(ways, walls)
+            names = list(ways)
+            chance.shuffle(names)
+            renamed = {'x%d' % n: name for n, name in enumerate(names)}
+            again = self.settled({new: ways[old] for new, old in renamed.items()}, walls)
+            self.assertEqual(settled, {renamed[new]: at for new, at in again.items()})
+
+    def settled(self, ways, walls):
+        floor = Floor(ways, walls)
+        state = floor.start()
+        floor.settle(state)
+        return dict(zip(floor.names, state.at))
+
+    def test_what_runs_ahead_takes_nothing(self):
+        chance = random.Random(69)
+        moved = 0
+        for _ in range(CASES // 3):
+            ways, walls = random_case(chance)
+            for name in ways:
+                nodes = runs_ahead(ways, walls, name)
+                moved += nodes > 0
+                for fewer in range(1, nodes + 1):
+                    self.assertEqual(can_all_finish(ways, walls), can_all_finish(after_release(ways, name, fewer), walls))
+        self.assertGreater(moved, CASES // 10)
+
+
+class ByHand(unittest.TestCase):
+    def test_two_that_face_each_other(self):
+        line = 'abcd'
+        self.assertEqual(finishing({'east': tuple(line), 'west': tuple(reversed(line))}), frozenset())
+
+    def test_a_passing_place(self):
+        """East waits at p, beside the track, while west goes by."""
+        self.assertEqual(finishing({'east': tuple('abpcd'), 'west': tuple('dcba')}, budget=0), {'east', 'west'})
+
+    def test_both_in_the_stretch(self):
+        self.assertEqual(finishing({'east': tuple('bcde'), 'west': tuple('dcba')}), frozenset())
+
+    def test_a_full_ring(self):
+        ring = {'a': tuple('abcx'), 'b': tuple('bcay'), 'c': tuple('cabz')}
+        self.assertEqual(finishing(ring), frozenset())
+        self.assertEqual(finishing({name: ring[name] for name in 'ab'}), {'a', 'b'})
+
+    def test_an_end_on_the_way_of_another(self):
+        """One ends where the other has to pass, so the other goes first."""
+        ways = {'ends': tuple('abc'), 'passes': tuple('xcd')}
+        self.assertEqual(finishing(ways), {'ends', 'passes'})
+        self.assertEqual(finishing(after_release(ways, 'ends', 2)), {'ends'})
+
+    def test_a_wall(self):
+        ways = {'shut': tuple('abc'), 'open': tuple('xyz')}
+        self.assertEqual(finishing(ways, {'c'}), {'open'})
+
+    def test_one_that_is_shut_in_makes_room(self):
+        """It can't reach its end behind a wall, but may leave the node that the other needs."""
+        self.assertEqual(finishing({'shut': tuple('bpq'), 'open': tuple('abc')}, {'q'}), {'open'})
+
+    def test_a_node_that_is_passed_twice(self):
+        self.assertEqual(finishing({'there and back': tuple('abcba')}), {'there and back'})
+
+    def test_a_large_layout(self):
+        """Forty vehicles in bays of one ring of eighty nodes, of which each goes to the bay of the one before it: one has to wait on
+        the ring. With eighty on the ring besides, none can leave its bay. Neither takes long."""
+        ring = ['r%02d' % n for n in range(80)]
+        ways = {}
+        for n in range(0, 80, 2):
+            ways['v%02d' % n] = ('b%02d' % n, *(ring[(n + k) % 80] for k in range(79)), 'b%02d' % ((n + 78) % 80))
+        begun = time.process_time()
+        self.assertEqual(finishing(ways), frozenset(ways))
+        self.assertEqual(finishing(ways, ring), frozenset())
+        round_and_round = {'w%02d' % n: (*(ring[(n + k) % 80] for k in range(80)), 'out%d' % n) for n in range(80)}
+        self.assertEqual(finishing({**ways, **round_and_round}), frozenset())
+        self.assertLess(time.process_time() - begun, 20)
+
+
+class Released(unittest.TestCase):
+    def test_vehicles_that_are_released_by_the_look_finish(self):
+        """Vehicles hold one to three nodes ahead, and go on at random; a release is made where all can finish after it. Each finishes
+        from every state where all can. Released where the next node is free alone, some stand for good."""
+        chance = random.Random(70)
+        stuck = collections.Counter()
+        for case in range(CASES // 3):
+            ways, walls = random_case(chance)
+            if not can_all_finish(ways, walls):
+                continue
+            for looks in (True, False):
+                left = self.run_out(ways, walls, chance, looks)
+                self.assertFalse(left and looks, (case, ways, walls, left))
+                stuck[looks] += bool(left)
+        print('look: without it %d of these cases stand for good' % stuck[False])
+        self.assertGreater(stuck[False], CASES // 300)
+
+    def run_out(self, ways, walls, chance, looks):
+        """The vehicles that do not finish."""
+        seen = {name: 0 for name in ways}
+        base = {name: 0 for name in ways}
+        while True:
+            held = {node: name for name, way in ways.items() for node in way[seen[name]:base[name] + 1]}
+            options = [('go', name) for name in ways if seen[name] < base[name]]
+            rest = {name: way[base[name]:] for name, way in ways.items()}
+            for name, way in rest.items():
+                if len(way) > 1 and base[name] - seen[name] < 3 and way[1] not in walls and held.get(way[1], name) == name:
+                    if not looks or finishing(after_release(rest, name, 1), walls, PLENTY) == set(ways):
+                        options.append(('release', name))
+            if not options:
+                return [name for name, way in ways.items() if base[name] < len(way) - 1]
+            what, name = chance.choice(options)
+            if what == 'go':
+                seen[name] += 1
+            else:
+                base[name] += 1
+
+
+if __name__ == '__main__':
+    unittest.main()

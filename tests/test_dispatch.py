@@ -1,0 +1,353 @@
+"""The dispatcher: what it gives and releases, over a stand-in of a desk and over the built program, and its words."""
+import os
+import subprocess
+import sys
+import tempfile
+import unittest
+
+from programs import TOOLS, ran
+from test_program import Serving, over_sockets
+
+from nulvrader.client import Desk
+from nulvrader.dispatch.dispatcher import Dispatcher, Settings
+from nulvrader.dispatch.snapshot import take
+from nulvrader.dispatch.traffic import Judge, Still, Traffic
+from nulvrader.dispatch.ways import Ways
+from nulvrader.layouts import read_layout
+from nulvrader.names import VehicleKey
+from nulvrader.questions import held
+
+# A one-way ring a > b > c > d > a, and at each node a bay with a station of its name: at a the bay ab with the station A, and so on.
+RING = 'abcd'
+LAYOUT = '\n'.join(
+    ['kind,id,from,to', *('node,%s,,' % node for name in RING for node in (name, name + 'b'))]
+    + ['edge,%s-%s,%s,%s' % (x, y, x, y) for name, after in zip(RING, 'bcda') for x, y in ((name, after), (name, name + 'b'), (name + 'b', name))]
+    + ['station,%s,%sb,3' % (name.upper(), name) for name in RING]
+).encode() + b'\n'
+ONE, TWO = VehicleKey('KIT', '0001'), VehicleKey('KIT', '0002')
+
+
+class Told:
+    """Vehicles that tell a desk where they are, as their gateways do."""
+
+    def __init__(self, desk):
+        self.desk, self.headers = desk, {}
+
+    def __call__(self, key, node, sequence=0, acts='', *, mode='AUTOMATIC', instant=(), fresh=True):
+        """A state of a vehicle that has its last order with its last update. `acts` has a letter for each action that has ended: f for
+        finished, x for failed."""
+        message = self.desk.order_message(key) if fresh else None
+        order, update = (message['orderId'], message['orderUpdateId']) if message else ('', 0)
+        statuses = {'f': 'FINISHED', 'x': 'FAILED', 'r': 'RUNNING'}
+        listed = [{'actionId': '%s.%d' % (order, n), 'actionStatus': statuses[letter]} for n, letter in enumerate(acts)]
+        self.headers[key] = self.headers.get(key, 0) + 1
+        return self.desk.post_state(key, {
+            'headerId': self.headers[key], 'timestamp': '2026-01-01T00:00:00.00Z', 'version': '2.0.0',
+            'manufacturer': key.manufacturer, 'serialNumber': key.serial, 'orderId': order, 'orderUpdateId': update,
+            'lastNodeId': node, 'lastNodeSequenceId': sequence, 'driving': False, 'nodeStates': [], 'edgeStates': [],
+            'actionStates': listed + [{'actionId': name, 'actionStatus': 'FINISHED'} for name in instant], 'operatingMode': mode,
+            'errors': [], 'safetyState': {'eStop': 'NONE', 'fieldViolation': False}})
+
+
+@over_sockets
+class OverTheProgram(unittest.TestCase):
+    """Turns of a dispatcher, and states between them, over a desk with two vehicles: one in the bay of A, one in that of C."""
+
+    def setUp(self):
+        self.folder = tempfile.TemporaryDirectory()
+        self.addCleanup(self.folder.cleanup)
+        self.serving = Serving(os.path.join(self.folder.name, 'warehouse.db'), 10 ** 6)
+        self.addCleanup(self.serving.__exit__)
+        self.address = '127.0.0.1:%d' % self.serving.port
+        self.desk = Desk(self.address)
+        self.desk.set_layout(LAYOUT)
+        self.desk.register_vehicle(ONE, 'ab', 2)
+        self.desk.register_vehicle(TWO, 'cb')
+        self.told = Told(self.desk)
+        self.told(ONE, 'ab')
+        self.told(TWO, 'cb')
+        for load, station in (('L1', 'A'), ('L2', 'A'), ('L3', 'C')):
+            self.desk.register_load(load, station)
+        self.now, self.lines = 0.0, []
+        self.begin()
+
+    def begin(self):
+        self.dispatcher = Dispatcher(
+            Desk(self.address), read_layout(LAYOUT), Settings(ahead=2), say=self.lines.append, clock=lambda: self.now)
+
+    def turn(self, seconds=1.0):
+        """A turn, and what it has said."""
+        self.now += seconds
+        before = len(self.lines)
+        self.assertTrue(self.dispatcher.turn())
+        return self.lines[before:]
+
+    def held(self, key):
+        return sorted(take(self.desk).vehicles[str(key)].nodes)
+
+    def place(self, load):
+        return self.desk.load(load).place
+
+    def test_a_job_from_its_beginning_to_its_end(self):
+        self.assertEqual(self.turn(), [])
+        self.desk.add_job('J1', 'L1', 'B')
+        self.assertRegex(self.turn()[0], r'^KIT/0001: takes J1 \(L1 from A to B\), 3 edges from ab, by order \S+$')
+        self.assertEqual(self.held(ONE), ['a', 'ab', 'b'])
+        self.turn()
+        self.assertEqual(self.held(ONE), ['a', 'ab', 'b'])  # it is not confirmed
+        self.told(ONE, 'a', 2, 'f')
+        self.turn()
+        self.assertEqual(self.held(ONE), ['a', 'b', 'bb'])
+        self.told(ONE, 'bb', 6, 'ff')
+        self.assertRegex(self.turn()[0], r'^KIT/0001: order \S+ has ended at bb$')
+        self.assertEqual((self.place('L1'), self.held(ONE)), ('station B', ['bb']))
+
+    def test_the_nearest_vehicle_takes_it(self):
+        self.turn()
+        self.desk.add_job('J3', 'L3', 'D')
+        self.assertRegex(self.turn()[0], '^KIT/0002: takes J3')
+
+    def test_the_oldest_goes_first(self):
+        self.turn()
+        for key, node in ((ONE, 'ab'), (TWO, 'cb')):
+            self.told(key, node, mode='MANUAL')
+        self.desk.add_job('J9', 'L1', 'B')
+        self.turn()
+        self.desk.add_job('J1', 'L2', 'D')
+        self.assertEqual(self.turn(), [])
+        self.told(ONE, 'ab')
+        self.assertRegex(self.turn()[0], r'^KIT/0001: takes J9 \(L1 from A to B\), 3 edges')
+
+    def test_two_jobs_in_one_order(self):
+        """Both lead from A to B; a third one, to D, would be a detour."""
+        self.turn()
+        for key, node in ((ONE, 'ab'), (TWO, 'cb')):
+            self.told(key, node, mode='MANUAL')
+        self.desk.add_job('J1', 'L1', 'B')
+        self.turn()
+        self.desk.add_job('J3', 'L3', 'D')
+        self.turn()
+        self.desk.add_job('J2', 'L2', 'B')
+        self.turn()
+        self.told(ONE, 'ab')
+        self.assertRegex(self.turn()[0], r'takes J1 \(L1 from A to B\), J2 \(L2 from A to B\), 3 edges')
+        self.told(ONE, 'b', 4, 'ff')
+        self.turn()
+        self.told(ONE, 'bb', 6, 'ffff')
+        self.turn()
+        self.assertEqual((self.place('L1'), self.place('L2')), ('station B', 'station B'))
+
+    def test_a_drop_where_another_vehicle_stands(self):
+        """KIT/0001 stands at the pick, and KIT/0002 at the drop and has nothing to do: it is said why the job waits. Once a job leads
+        KIT/0002 away the first one begins too."""
+        self.turn()
+        self.desk.add_job('J1', 'L1', 'C')
+        self.assertEqual(self.turn(), [])
+        self.assertEqual(self.turn(20), ['job J1 waits: KIT/0001 stands at the pick, at ab; KIT/0002 stands at the drop, at cb'])
+        self.desk.add_job('J3', 'L3', 'D')
+        lines = self.turn()
+        self.assertRegex(lines[0], '^KIT/0002: takes J3')
+        self.assertRegex(lines[1], '^KIT/0001: takes J1')
+
+    def test_a_restart(self):
+        """A dispatcher that is started anew goes on with the orders that are open."""
+        self.turn()
+        self.desk.add_job('J1', 'L1', 'B')
+        self.turn()
+        self.told(ONE, 'a', 2, 'f')
+        self.begin()
+        self.assertRegex(self.turn()[0], r'^KIT/0001: has order \S+, of J1$')
+        self.assertEqual(self.held(ONE), ['a', 'b', 'bb'])
+        self.told(ONE, 'bb', 6, 'ff')
+        self.turn()
+        self.assertEqual(self.place('L1'), 'station B')
+
+    def test_what_was_noted(self):
+        """Two jobs were added one after another, so their targets are known, and they are after a restart; a note of another target,
+        where no job leads, is not believed."""
+        notes = os.path.join(self.folder.name, 'notes')
+        for key, node in ((ONE, 'ab'), (TWO, 'cb')):
+            self.told(key, node, mode='MANUAL')
+
+        def book():
+            dispatcher = Dispatcher(Desk(self.address), read_layout(LAYOUT), notes=notes, say=self.lines.append, clock=lambda: self.now)
+            self.assertTrue(dispatcher.turn())
+            return dispatcher
+
+        first = book()
+        for job, load, target in (('J1', 'L1', 'B'), ('J2', 'L2', 'D')):
+            self.desk.add_job(job, load, target)
+            first.turn()
+        self.assertEqual(book().book.known, {'J1': 'B', 'J2': 'D'})
+        with open(notes, 'w') as file:
+            file.write('{"J1": "C", "J2": "D"}')
+        self.assertEqual(book().book.known, {'J1': 'B', 'J2': 'D'})
+        os.remove(notes)
+        self.assertEqual(book().book.known, {})
+        with open(notes, 'w') as file:
+            file.write('no notes')
+        self.assertEqual(book().book.known, {})
+
+    def test_jobs_from_before_its_start(self):
+        """Two jobs wait whose targets it can't tell apart: it gives the order with no edge, and learns them by it."""
+        self.desk.add_job('J1', 'L1', 'B')
+        self.desk.add_job('J2', 'L3', 'D')
+        self.turn()
+        self.assertEqual({len(self.held(ONE)), len(self.held(TWO))}, {1})
+        self.told(ONE, 'ab')
+        self.told(TWO, 'cb')
+        self.turn()
+        self.assertEqual((self.held(ONE), self.held(TWO)), (['a', 'ab', 'b'], ['c', 'cb', 'd']))
+
+    def test_orders_that_shut_one_another_in(self):
+        """On the line a, b, c, d one vehicle is at either end, and of three jobs that were there before no target is known: one leads
+        from A to D, and one from D to A. Once nothing moves one of the orders is cancelled."""
+        with Serving(os.path.join(self.folder.name, 'line.db'), 10 ** 6) as serving:
+            line = ['edge,%s%s,%s,%s' % (x, y, x, y) for x, y in ('ab', 'ba', 'bc', 'cb', 'cd', 'dc')]
+            stations = ['station,%s,%s,3' % (name.upper(), name) for name in 'abd']
+            layout = '\n'.join(['kind,id,from,to', *('node,%s,,' % name for name in 'abcd'), *line, *stations]).encode() + b'\n'
+            desk = Desk('127.0.0.1:%d' % serving.port)
+            told = Told(desk)
+            desk.set_layout(layout)
+            for key, node in ((ONE, 'a'), (TWO, 'd')):
+                desk.register_vehicle(key, node)
+                told(key, node)
+            for job, load, start, target in (('J1', 'L1', 'A', 'D'), ('J2', 'L2', 'D', 'A'), ('J3', 'L3', 'A', 'B')):
+                desk.register_load(load, start)
+                desk.add_job(job, load, target)
+            lines = []
+            dispatcher = Dispatcher(desk, read_layout(layout), say=lines.append, clock=lambda: self.now)
+            for _ in range(8):
+                self.assertTrue(dispatcher.turn())
+                for key, node in ((ONE, 'a'), (TWO, 'd')):
+                    told(key, node)
+            self.assertRegex(lines[2], r'^KIT/0001: cancels order \S+, of J1: it and others shut one another in$')
+            self.assertEqual((desk.vehicle(ONE).pending, desk.vehicle(TWO).pending), ('cancelOrder', None))
+            self.assertEqual({node: str(key) for node, key in held(desk).nodes.items()}, {'a': 'KIT/0001', 'd': 'KIT/0002'})
+
+    def test_a_failed_drop_is_told(self):
+        self.turn()
+        self.desk.add_job('J1', 'L1', 'B')
+        self.turn()
+        self.told(ONE, 'b', 4, 'f')
+        self.turn()
+        self.told(ONE, 'bb', 6, 'fx')
+        self.assertRegex(self.turn()[0], r'has ended at bb; J1 is stopped: its load L1 is now at vehicle KIT/0001$')
+
+    def test_a_cancel_by_a_person(self):
+        self.turn()
+        self.desk.add_job('J1', 'L1', 'B')
+        self.turn()
+        self.told(ONE, 'ab', 0, 'r')
+        name = self.desk.cancel(ONE)
+        self.assertIn('KIT/0001: its order is being cancelled', self.turn())
+        self.told(ONE, 'ab', 0, 'x', instant=[name])
+        lines = self.turn()
+        self.assertRegex(lines[0], r'^KIT/0001: order \S+ has ended at ab; J1 is stopped: its load L1 is now at station A$')
+        self.assertEqual(lines[1:], ['KIT/0001: left its order on the way; look where it stands, and place it'])
+        self.desk.add_job('J2', 'L3', 'B')
+        self.assertEqual(self.turn(), [])  # KIT/0002 would have to pass the node that KIT/0001 holds
+        self.desk.place(ONE, 'R', 'ab')
+        lines = self.turn()
+        self.assertEqual(lines[0], 'KIT/0001: goes on')
+        self.assertRegex(lines[1], r'^KIT/0002: takes J2')
+
+    def test_a_silent_vehicle(self):
+        self.turn()
+        self.desk.add_job('J1', 'L1', 'B')
+        self.turn()
+        self.told(ONE, 'ab', 0)
+        self.turn()
+        lines = self.turn(40)
+        self.assertEqual(lines, ['KIT/0001: has sent no state for 30 seconds'])
+        self.told(ONE, 'a', 2, 'f')
+        self.assertEqual(self.turn(), ['KIT/0001: goes on'])
+        self.assertEqual(self.held(ONE), ['a', 'b', 'bb'])
+
+    def test_a_desk_that_is_away(self):
+        self.turn()
+        self.serving.process.kill()
+        self.serving.process.wait(30)
+        self.now += 1
+        self.assertFalse(self.dispatcher.turn())
+        self.assertFalse(self.dispatcher.turn())
+        self.assertEqual(len(self.lines), 1)
+        self.assertRegex(self.lines[0], r'^the desk does not answer: ')
+
+    def test_the_program(self):
+        """It waits for its desk, gives an order, and ends by a signal."""
+        layout = os.path.join(self.folder.name, 'layout.csv')
+        with open(layout, 'wb') as file:
+            file.write(LAYOUT)
+        self.desk.add_job('J1', 'L1', 'B')
+        words = [sys.executable, os.path.join(TOOLS, 'dispatch'), '--desk', self.address, '--layout', layout, '--every', '0.1']
+        with subprocess.Popen(words, stdout=subprocess.PIPE, text=True) as process:
+            try:
+                lines = [process.stdout.readline(), process.stdout.readline()]
+            finally:
+                process.terminate()
+            self.assertEqual(process.wait(30), 0)
+        self.assertRegex(lines[0], r'^\d\d:\d\d:\d\d gives orders at ')
+        self.assertRegex(lines[1], r'^\d\d:\d\d:\d\d KIT/0001: takes J1 \(L1 from A to B\)')
+        self.assertIsNotNone(self.desk.vehicle(ONE).order)
+
+    def test_another_layout(self):
+        layout = os.path.join(self.folder.name, 'layout.csv')
+        with open(layout, 'wb') as file:
+            file.write(LAYOUT.replace(b'station,A,ab,3', b'station,A,ab,4'))
+        status, _, said = ran('dispatch', '--desk', self.address, '--layout', layout)
+        self.assertEqual(status, 2)
+        self.assertIn('is not the layout of the desk: station A', said)
+
+
+class Pure(unittest.TestCase):
+    """What may be released and started, without a desk."""
+
+    def test_one_that_stands_still_is_not_shut_in(self):
+        """KIT/0001 is paused at b and goes to e by the single track c, d. KIT/0002 comes from e and ends at c: it waits, since the
+        other one could not get by; though it could go while that one stands."""
+        traffic = Traffic({'KIT/0002': tuple('edc')}, {'KIT/0001': Still(frozenset('b'), tuple('bcdz'))})
+        judge = Judge()
+        self.assertEqual(judge.finish_now(traffic), {'KIT/0002'})
+        self.assertFalse(judge.may_release(Traffic({'KIT/0002': tuple('edcbz')}, traffic.still), 'KIT/0002', 1))
+
+    def test_one_that_cannot_finish_stays(self):
+        """Another one without an order stands at its end. It stays where it is, unless it is in the way."""
+        traffic = Traffic({'KIT/0001': tuple('abc')}, {}, {'KIT/0002': frozenset('c')})
+        judge = Judge()
+        self.assertFalse(judge.may_release(traffic, 'KIT/0001', 1))
+        crossed = Traffic({'KIT/0001': tuple('abc'), 'KIT/0003': tuple('xay')}, {}, traffic.parked)
+        self.assertTrue(judge.may_release(crossed, 'KIT/0001', 1))
+
+    def test_the_way_out_of_a_dead_end(self):
+        """KIT/0002 stands at the end of the dead end b, c, without an order, and gets out by a. KIT/0001 goes there and would shut it
+        in, so it is not let to a, though it is in the way of a third one."""
+        out = {'b': ('a',), 'c': ('b', 'a')}
+        ways = {'KIT/0001': tuple('qabc'), 'KIT/0003': tuple('xqy')}
+        self.assertFalse(Judge().may_release(Traffic(ways, {}, {'KIT/0002': frozenset('c')}, out), 'KIT/0001', 1))
+        self.assertTrue(Judge().may_release(Traffic(ways, {}, {'KIT/0002': frozenset('d')}, out), 'KIT/0001', 1))
+        layout = read_layout(LAYOUT)
+        self.assertEqual({node: Ways(layout).way_out(node) for node in ('a', 'ab')}, {'a': (), 'ab': ('a',)})
+
+    def test_no_order_to_where_another_stands(self):
+        traffic = Traffic({}, {}, {'KIT/0001': frozenset('a'), 'KIT/0002': frozenset('c')})
+        self.assertFalse(Judge().may_start(traffic, 'KIT/0001', tuple('abc')))
+        self.assertTrue(Judge().may_start(traffic, 'KIT/0001', tuple('ab')))
+        self.assertTrue(Judge().may_start(traffic, 'KIT/0002', tuple('cbc')))
+
+    def test_no_order_by_which_two_shut_one_another_in(self):
+        traffic = Traffic({'KIT/0001': tuple('abcd')}, {}, {'KIT/0002': frozenset('d')})
+        self.assertFalse(Judge().may_start(traffic, 'KIT/0002', tuple('dcba')))
+
+    def test_ways_are_those_of_the_layout(self):
+        layout = read_layout(LAYOUT)
+        ways = Ways(layout)
+        for start in layout.nodes:
+            for target in layout.nodes:
+                route = layout.route(start, target)
+                nodes = (start, *(layout.edges[edge].finish for edge in route))
+                self.assertEqual((ways.way((start, target)), ways.hops(start, target)), (nodes, len(route)))
+
+
+if __name__ == '__main__':
+    unittest.main()

@@ -1,0 +1,172 @@
+"""The simulated plant over the built program: a part of a day, in which the desk, the dispatcher and gateways are killed and people
+cancel, count and carry; the same plant with a dispatcher that does not look, which comes to stand; and one that releases whole ways,
+which does less. And what the plant calls wrong. PLANT_JOBS sets the jobs of the part of a day."""
+import dataclasses
+import os
+import subprocess
+import sys
+import unittest
+from unittest import mock
+
+from programs import ROOT, TOOLS
+from test_program import DESK, over_sockets
+
+if os.path.join(ROOT, 'examples') not in sys.path:
+    sys.path.insert(0, os.path.join(ROOT, 'examples'))
+assert TOOLS in sys.path
+
+from simulation.floors import FLOORS  # noqa: E402
+from simulation.gateways import Line  # noqa: E402
+from simulation.people import Habits  # noqa: E402
+from simulation.plant import CALM, Plan, Plant, Trouble  # noqa: E402
+from simulation.truth import Given, Goods, Track, Wrong  # noqa: E402
+from simulation.vehicles import Nature, Vehicle  # noqa: E402
+from simulation.words import run, told  # noqa: E402
+
+JOBS = int(os.environ.get('PLANT_JOBS', '200'))
+SMALL = Plan('small', 7, 40, 40, 1, CALM, Nature(failing=0, battery=1e9), Line(0, 0, 0.4, 0.4), Habits(backlog=8), stands=300.0)
+
+
+@over_sockets
+class APartOfADay(unittest.TestCase):
+    def test_all_goes_wrong_that_can(self):
+        """Each job is done, or stopped for a reason; the file is lawful; nothing collided, and nothing stands: else the run itself
+        ends with a fault."""
+        quick = Nature(speed=2.5, action=(3.0, 8.0))
+        plan = Plan('large', 12, 100, JOBS, 66, nature=quick, habits=Habits(backlog=16, chance=90.0), every=2.0)
+        day = run(DESK, plan, 'look')
+        print('\n'.join(told(day)))
+        self.assertIsNone(day.stands)
+        self.assertEqual(day.done + len(day.stopped), JOBS)
+        self.assertGreater(day.done, JOBS * 0.75)
+        for what in ('kills of the desk', 'restarts of gateways', 'orders cancelled', 'stocktakes', 'audits'):
+            self.assertGreater(day.counts[what], 0, what)
+        self.assertGreater(day.counts['starts of the desk'], 1)
+        self.assertGreater(day.counts['starts of the dispatcher'], 1)
+
+
+@over_sockets
+class Compared(unittest.TestCase):
+    """The same jobs in the same plant, in which nothing else goes wrong."""
+
+    def test_without_the_look_vehicles_stand_for_good(self):
+        day = run(DESK, SMALL, 'free')
+        self.assertIsNotNone(day.stands)
+        self.assertRegex(day.stands, r'^\d+ jobs are live, and nothing moves: .*which KIT/\d+ holds')
+        self.assertLess(day.done, SMALL.jobs)
+
+    def test_with_it_they_do_not(self):
+        day = run(DESK, SMALL, 'look')
+        self.assertIsNone(day.stands)
+        self.assertEqual((day.done, day.stopped), (SMALL.jobs, {}))
+
+    def test_whole_ways_at_once(self):
+        """In the same time fewer jobs are done where each order has its whole way from the beginning."""
+        plan = dataclasses.replace(SMALL, vehicles=5, jobs=1000, limit=900.0)
+        ours, theirs = (run(DESK, plan, kind) for kind in ('look', 'whole'))
+        print('jobs an hour: %.0f, and %.0f where whole ways are released' % (ours.per_hour(), theirs.per_hour()))
+        self.assertGreater(theirs.done, 0)
+        self.assertGreater(ours.done, theirs.done)
+
+
+@over_sockets
+class Faulty(unittest.TestCase):
+    """A run ends at the moment at which something is wrong in it."""
+
+    def test_a_vehicle_that_drives_on(self):
+        """Each vehicle goes on over what its order announces, be it released or not."""
+        with mock.patch.object(Vehicle, 'is_released', lambda self, number: number in self.nodes):
+            with self.assertRaisesRegex(Wrong, r'^KIT/\d+ drives along \S+, edge \d+ of the order \S+, which was not given to it$'):
+                run(DESK, SMALL, 'look')
+
+    def test_a_vehicle_that_is_elsewhere(self):
+        """One is moved by hand, and nobody tells the desk."""
+
+        def pushed(plant):
+            vehicle = next(one for one in plant.vehicles.values() if not one.node_is_left())
+            free = next(node for node in plant.floor.bays if node not in plant.track.nodes)
+            plant.track.put(vehicle.name, free)
+
+        with mock.patch.object(Plant, 'kill_desk', pushed):
+            with self.assertRaisesRegex(Wrong, r'^KIT/\d+ is on the node \S+, which the desk holds for (None|KIT/\d+)$'):
+                run(DESK, dataclasses.replace(SMALL, trouble=Trouble(20.0, None, None, False)), 'look')
+
+
+@over_sockets
+class Demo(unittest.TestCase):
+    def test_the_demo(self):
+        """The dispatcher is a program of its own there."""
+        words = [sys.executable, os.path.join(ROOT, 'examples', 'demo'), '--program', DESK, '--jobs', '2', '--pace', '20']
+        done = subprocess.run(words, capture_output=True, text=True, timeout=600)
+        self.assertEqual(done.returncode, 0, done.stdout + done.stderr)
+        self.assertRegex(done.stdout, r'(?m)^\d\d:\d\d:\d\d KIT/\d+: takes job-1 ')
+        self.assertRegex(done.stdout, r'(?m)^[12] jobs done and [01] stopped, in ')
+
+
+class WhatIsWrong(unittest.TestCase):
+    """What the plant ends at. On the small floor N00 and N01 follow one another, and a siding leads from N00 to the bay N00b."""
+
+    def setUp(self):
+        self.track = Track(FLOORS['small']().layout().edges)
+        self.track.put('a', 'N00')
+
+    def wrong(self, text, call, *words):
+        with self.assertRaisesRegex(Wrong, text):
+            call(*words)
+
+    def test_two_on_a_node(self):
+        self.wrong('a and b are on the node N00', self.track.put, 'b', 'N00')
+        self.track.put('b', 'N01')
+        self.track.leave('a', 'N00.N01')
+        self.wrong('b and a are on the node N01', self.track.arrive, 'a')
+
+    def test_two_on_an_edge(self):
+        """From both of its ends; and the node behind a vehicle is taken until it has arrived."""
+        self.track.put('b', 'N00b')
+        self.track.leave('a', 'N00.N00b')
+        self.wrong('a and b are on the edge', self.track.leave, 'b', 'N00b.N00')
+        self.wrong('a and c are on the node N00', self.track.put, 'c', 'N00')
+
+    def test_an_edge_from_elsewhere(self):
+        self.wrong('a drives along N01.N02, and is at N00', self.track.leave, 'a', 'N01.N02')
+
+    def test_what_may_be(self):
+        self.track.put('b', 'N01')
+        self.track.leave('b', 'N01.N02')
+        self.track.arrive('b')
+        self.track.leave('a', 'N00.N01')
+        self.assertEqual(self.track.arrive('a'), 'N01')
+        self.track.put('c', 'N00')
+        self.assertEqual(self.track.nodes, {'N02': 'b', 'N01': 'a', 'N00': 'c'})
+
+    def test_loads(self):
+        goods = Goods()
+        goods.add('load', 'station A')
+        self.wrong('load is taken from station B', goods.move, 'load', 'station B', 'vehicle KIT/0001')
+        goods.move('load', 'station A', 'vehicle KIT/0001')
+        self.assertEqual(goods.places(), {'load': 'vehicle KIT/0001'})
+        goods.add('load', 'station A')
+        self.wrong('load is at (vehicle KIT/0001 and at station A|station A and at vehicle KIT/0001)', goods.places)
+
+    def test_track_that_was_not_given(self):
+        given = Given()
+        edges = [{'edgeId': 'N00.N01', 'sequenceId': 1, 'released': True}, {'edgeId': 'N01.N02', 'sequenceId': 3, 'released': False}]
+        given.note('a', {'orderId': 'one', 'edges': edges, 'nodes': []})
+        given.check('a', 'one', 1, 'N00.N01')
+        self.wrong('was not given', given.check, 'a', 'one', 3, 'N01.N02')
+        self.wrong('was not given', given.check, 'a', 'one', 1, 'N01.N02')
+        self.wrong('was not given', given.check, 'a', 'two', 1, 'N00.N01')
+        self.wrong('was not given', given.check, 'b', 'one', 1, 'N00.N01')
+
+
+class TheFloors(unittest.TestCase):
+    def test_each_node_leads_to_each(self):
+        for name, make in FLOORS.items():
+            layout = make().layout()
+            for target in layout.nodes:
+                self.assertEqual(len(layout.distances(target)), len(layout.nodes), (name, target))
+            self.assertLess(len(layout.csv()), 65536)
+
+
+if __name__ == '__main__':
+    unittest.main()

@@ -1,0 +1,117 @@
+// Commands: what each needs is asked, what it will do is shown, and then it is done.
+
+import { button, el } from './dom.js';
+
+export class Commands {
+  /** `ask(path, body)` asks the board; `options(kind)` names what a field may be filled with. */
+  constructor(dialog, ask, options) {
+    this.dialog = dialog;
+    this.ask = ask;
+    this.options = options;
+    this.listed = new Map();
+    dialog.addEventListener('click', (event) => {
+      if (event.target === dialog) dialog.close();
+    });
+  }
+
+  /** Takes the commands as the board lists them. */
+  take(listed) {
+    this.listed = new Map(listed.map((command) => [command.command, command]));
+  }
+
+  /** Opens a command with some values. One that needs no more is looked at right away. */
+  async open(name, values, listed) {
+    this.take(listed);
+    const command = this.listed.get(name);
+    if (!command) return;
+    const given = (field) => [field.name, values[field.name] ?? field.given];
+    if (command.fields.every((field) => field.name in values)) await this.look(command, values);
+    else this.form(command, Object.fromEntries(command.fields.map(given)));
+    const focused = this.dialog.querySelector('[autofocus]');
+    this.dialog.showModal();
+    focused?.focus();
+  }
+
+  frame(title, ...children) {
+    const close = button('×', () => this.dialog.close(), { class: 'close', 'aria-label': 'Close' });
+    this.dialog.replaceChildren(el('h2', { id: 'command-title' }, title), close, ...children);
+  }
+
+  /** Has an element focused, now or once the dialog is open. */
+  focus(element) {
+    if (!element) return;
+    element.setAttribute('autofocus', '');
+    if (this.dialog.open) element.focus();
+  }
+
+  form(command, values, fault = '') {
+    const fields = command.fields.map((field) => this.field(field, values[field.name] ?? ''));
+    const submit = async (event) => {
+      event.preventDefault();
+      await this.look(command, await this.valuesOf(command, form, values));
+    };
+    const form = el('form', { onsubmit: submit, novalidate: true }, ...fields,
+      fault ? el('p', { class: 'answer failed', role: 'alert' }, fault) : null,
+      el('div', { class: 'buttons' },
+        button('Close', () => this.dialog.close()),
+        el('button', { type: 'submit', class: 'main' }, 'What will it do?')));
+    this.frame(command.title, form);
+    const first = [...form.querySelectorAll('input')].find((input) => !input.value) ?? form.querySelector('input');
+    this.focus(first);
+  }
+
+  field(field, value) {
+    const id = `field-${field.name}`;
+    const common = { id, name: field.name, autocomplete: 'off', spellcheck: 'false' };
+    const label = el('label', { for: id }, field.label);
+    if (field.kind === 'file') {
+      return el('p', {}, label, el('input', { ...common, type: 'file', accept: '.csv,text/csv,text/plain' }));
+    }
+    const list = this.options(field.kind);
+    const number = { type: 'number', min: 0, max: 200, inputmode: 'numeric' };
+    const kind = field.kind === 'number' ? number : { type: 'text' };
+    return el('p', {}, label,
+      el('input', { ...common, ...kind, value, list: list.length ? `${id}-list` : null }),
+      list.length ? el('datalist', { id: `${id}-list` }, ...list.map((name) => el('option', { value: name }))) : null);
+  }
+
+  async valuesOf(command, form, before) {
+    const values = {};
+    for (const field of command.fields) {
+      const input = form.elements[field.name];
+      if (field.kind !== 'file') values[field.name] = input.value.trim();
+      else values[field.name] = input.files.length ? await input.files[0].text() : before[field.name] ?? '';
+    }
+    return values;
+  }
+
+  async look(command, values) {
+    const told = await this.ask('look', { command: command.command, values });
+    if (told.fault) {
+      this.form(command, values, told.fault);
+      return;
+    }
+    const run = button('Do it', async () => {
+      run.disabled = true;
+      this.answered(command, told.values, await this.ask('do', { command: command.command, values: told.values }));
+    }, { class: 'main' });
+    const items = (lines) => lines.map((words) => el('li', {}, words));
+    const warns = el('div', { class: 'warns' }, el('h3', {}, 'Look at this first'), el('ul', {}, ...items(told.warns)));
+    this.frame(told.title,
+      el('ul', { class: 'says' }, ...items(told.says)),
+      told.warns.length ? warns : null,
+      el('div', { class: 'buttons' }, button('Back', () => this.form(command, values)), run));
+    this.focus(run);
+  }
+
+  answered(command, values, told) {
+    const failed = told.fault || !told.done;
+    const close = button('Close', () => this.dialog.close(), { class: 'main' });
+    const back = failed ? button('Back', () => this.form(command, values)) : null;
+    this.frame(command.title,
+      el('p', { class: failed ? 'answer failed' : 'answer done', role: 'alert' }, told.fault ?? told.text),
+      told.advice ? el('p', { class: 'advice' }, told.advice) : null,
+      el('div', { class: 'buttons' }, back, close));
+    this.focus(close);
+  }
+}

@@ -1,0 +1,217 @@
+// The map: the layout, the stations with their places, the vehicles where they stand, what each holds in its colour,
+// and the way that its order still has.
+
+import { Camera } from './camera.js';
+import { keyed, set, svg, text } from './dom.js';
+import { colourOf, statesOf } from './looks.js';
+import { MOST_SLOTS, RADIUS, SLOT, boundsOf, edgesOf, namesOf, stationsOf } from './places.js';
+import { shortName } from './words.js';
+
+const FAR = 0.6; // pixels a unit, below which nodes have no names, and stations no numbers
+const FARTHEST = 0.28; // below which stations have no names and no places
+const MANY = 30; // vehicles, beyond which none glides from node to node
+
+export class Plan {
+  /** `pick(kind, name)` is called for what is clicked. */
+  constructor(element, layout, pick) {
+    this.element = element;
+    this.layout = layout;
+    this.pick = pick;
+    this.at = new Map(layout.nodes.map(([name, x, y]) => [name, [x, y]]));
+    this.ends = edgesOf(layout, this.at);
+    this.boxes = stationsOf(layout, this.at);
+    this.below = namesOf(this.at, layout, this.boxes);
+    this.parts = {};
+    this.draw();
+    this.camera = new Camera(element, boundsOf(this.at, this.boxes), (scale) => this.scaled(scale));
+  }
+
+  draw() {
+    const size = { refX: 6, refY: 4, markerWidth: 6, markerHeight: 6 };
+    const head = svg('marker', { id: 'head', viewBox: '0 0 8 8', orient: 'auto', ...size },
+      svg('path', { d: 'M0 0.5 L7 4 L0 7.5 z' }));
+    this.parts.edges = svg('g', { class: 'edges' });
+    this.parts.ways = svg('g', { class: 'ways' });
+    this.parts.held = svg('g', { class: 'holds' });
+    this.parts.nodes = svg('g', { class: 'nodes' });
+    this.parts.stations = svg('g', { class: 'stations' });
+    this.parts.vehicles = svg('g', { class: 'vehicles' });
+    this.edges = new Map();
+    for (const [name] of this.layout.edges) {
+      const line = svg('path', { class: 'edge', d: this.line(name), 'marker-end': 'url(#head)' },
+        svg('title', {}, `Edge ${name}`));
+      this.edges.set(name, line);
+      this.parts.edges.append(line);
+    }
+    this.nodes = new Map();
+    for (const [name, x, y] of this.layout.nodes) this.parts.nodes.append(this.drawnNode(name, x, y));
+    this.stations = new Map();
+    for (const station of this.layout.stations) this.parts.stations.append(this.drawnStation(station));
+    this.element.replaceChildren(svg('defs', {}, head), ...Object.values(this.parts));
+  }
+
+  line(edge) {
+    const { from, to } = this.ends.get(edge);
+    return `M${from[0].toFixed(1)} ${from[1].toFixed(1)}L${to[0].toFixed(1)} ${to[1].toFixed(1)}`;
+  }
+
+  drawnNode(name, x, y) {
+    const group = svg('g', { class: 'node', transform: `translate(${x} ${y})` },
+      svg('title', {}, `Node ${name}`),
+      svg('circle', { r: RADIUS }),
+      svg('text', { y: this.below.get(name) ?? -RADIUS - 4, class: 'name' }, name));
+    this.nodes.set(name, group);
+    return group;
+  }
+
+  drawnStation([name, node, capacity]) {
+    const [left, top, right, bottom] = this.boxes.get(name);
+    const width = right - left;
+    const slots = svg('g', { class: 'slots', transform: `translate(6 ${bottom - top - 14})` });
+    const count = Math.min(capacity, MOST_SLOTS);
+    const isBar = capacity > MOST_SLOTS;
+    const each = isBar ? (width - 12) / MOST_SLOTS : SLOT;
+    for (let k = 0; k < count; k += 1) {
+      slots.append(svg('rect', { class: 'slot', x: k * each, width: each - (isBar ? 0 : 2), height: 8, rx: 1.5 }));
+    }
+    const number = svg('text', { class: 'number', x: width - 6, y: 14 });
+    const title = svg('title', {}, `Station ${name} at ${node}`);
+    const onclick = () => this.click('station', name);
+    const group = svg('g', { class: 'station', transform: `translate(${left} ${top})`, onclick },
+      title, svg('g', { class: 'body' },
+        svg('rect', { class: 'box', width, height: bottom - top, rx: 5 }),
+        svg('text', { x: 6, y: 14, class: 'called' }, name), number, slots));
+    this.stations.set(name, { group, number, title, slots: [...slots.children], capacity, node });
+    return group;
+  }
+
+  click(kind, name) {
+    if (!this.camera.moved) this.pick(kind, name);
+  }
+
+  scaled(scale) {
+    this.element.classList.toggle('far', scale < FAR);
+    this.element.classList.toggle('farthest', scale < FARTHEST);
+    this.element.style.setProperty('--grow', Math.min(3.5, Math.max(1, FAR / scale)).toFixed(2));
+  }
+
+  /**
+   * Brings the map up to date. `picked` is what is picked: `{kind, name}`, or null; `changed` has the kinds of what has
+   * changed, and is null for all.
+   */
+  update(store, picked, changed) {
+    const names = store.vehicles();
+    const colours = store.once('colours', () => new Map(names.map((name, number) => [name, colourOf(number)])));
+    const all = changed === null || names.length !== this.count;
+    const has = (...kinds) => all || kinds.some((kind) => changed.has(kind));
+    if (has('hold')) this.updateHolds(store, colours);
+    if (has('way', 'vehicle')) this.updateWays(store, names, colours, picked);
+    if (has('station')) this.updateStations(store, picked);
+    if (has('vehicle', 'wait', 'circles')) this.updateVehicles(store, names, colours, picked);
+    this.element.classList.toggle('many', names.length > MANY);
+    this.count = names.length;
+  }
+
+  updateHolds(store, colours) {
+    const rows = [];
+    const nodes = new Map();
+    for (const [thing, vehicle] of store.kind('hold')) {
+      const [kind, name] = thing.split(' ');
+      if (kind === 'node') nodes.set(name, vehicle);
+      else if (this.ends.has(name)) rows.push({ key: name, vehicle, colour: colours.get(vehicle) ?? '' });
+    }
+    keyed(this.parts.held, rows, (row) => svg('path', { d: this.line(row.key) }, svg('title')), (path, row) => {
+      set(path, 'class', `hold ${row.colour}`);
+      text(path.firstChild, `Edge ${row.key}, held by ${row.vehicle}`);
+    });
+    for (const [name, group] of this.nodes) {
+      const vehicle = nodes.get(name);
+      set(group, 'class', vehicle ? `node held ${colours.get(vehicle) ?? ''}` : 'node');
+      text(group.firstChild, vehicle ? `Node ${name}, held by ${vehicle}` : `Node ${name}`);
+    }
+  }
+
+  updateWays(store, names, colours, picked) {
+    const rows = [];
+    for (const name of names) {
+      const way = store.get('way', name);
+      const { base } = store.get('vehicle', name);
+      if (!way || base === null) continue;
+      const left = way.edges.slice(base - way.first).filter((edge) => this.ends.has(edge));
+      const d = left.map((edge) => this.line(edge)).join('');
+      const strong = picked && picked.kind === 'vehicle' && picked.name === name ? ' strong' : '';
+      if (d) rows.push({ key: name, d, style: `way ${colours.get(name)}${strong}` });
+    }
+    keyed(this.parts.ways, rows, () => svg('path'), (path, row) => {
+      set(path, 'd', row.d);
+      set(path, 'class', row.style);
+    });
+  }
+
+  updateStations(store, picked) {
+    for (const [name, station] of this.stations) {
+      const { taken, reserved } = store.get('station', name) ?? { taken: 0, reserved: 0 };
+      const full = taken + reserved >= station.capacity;
+      const at = picked && picked.kind === 'station' && picked.name === name ? ' picked' : '';
+      set(station.group, 'class', `station${full ? ' full' : ''}${at}`);
+      text(station.number, `${taken}/${station.capacity}`);
+      const more = reserved ? `, ${reserved} reserved` : '';
+      text(station.title, `Station ${name} at ${station.node}: ${taken} of ${station.capacity} taken${more}`);
+      const part = station.slots.length / station.capacity;
+      station.slots.forEach((slot, k) => {
+        const state = k < taken * part ? 'taken' : k < (taken + reserved) * part ? 'reserved' : 'free';
+        set(slot, 'class', `slot ${state}`);
+      });
+    }
+  }
+
+  updateVehicles(store, names, colours, picked) {
+    const rows = names.map((name) => {
+      const vehicle = store.get('vehicle', name);
+      const states = statesOf(name, vehicle, store);
+      return { key: name, vehicle, states, label: shortName(name, names), colour: colours.get(name) };
+    });
+    const placed = rows.filter((row) => this.at.has(row.vehicle.node));
+    keyed(this.parts.vehicles, placed, (row) => this.drawnVehicle(row), (group, row) => {
+      const chosen = picked && picked.kind === 'vehicle' && picked.name === row.key ? ' picked' : '';
+      set(group, 'class', `vehicle ${row.colour} ${row.states[0].level}${chosen}`);
+      this.changeVehicle(group, row);
+    });
+  }
+
+  changeVehicle(group, { key, vehicle, states }) {
+    const [x, y] = this.at.get(vehicle.node);
+    const place = `translate(${x}px, ${y}px)`;
+    if (group.style.transform !== place) group.style.transform = place;
+    const [title, body] = group.children;
+    text(title, `${key} at ${vehicle.node}: ${states.map((state) => state.words).join(', ')}`);
+    const sign = states.find((state) => state.sign)?.sign ?? '';
+    text(body.querySelector('.sign text'), sign);
+    set(body.querySelector('.sign'), 'class', sign ? 'sign' : 'sign none');
+    text(body.querySelector('.cargo text'), String(vehicle.loads.length));
+    set(body.querySelector('.cargo'), 'class', vehicle.loads.length ? 'cargo' : 'cargo none');
+  }
+
+  drawnVehicle(row) {
+    const width = Math.max(34, row.label.length * 7.6 + 14);
+    return svg('g', { onclick: () => this.click('vehicle', row.key) },
+      svg('title'),
+      svg('g', { class: 'body' },
+        svg('rect', { class: 'ring', x: -width / 2 - 4, y: -15, width: width + 8, height: 30, rx: 9 }),
+        svg('rect', { class: 'hull', x: -width / 2, y: -11, width, height: 22, rx: 6 }),
+        svg('text', { class: 'called', y: 4.5 }, row.label),
+        svg('g', { class: 'cargo', transform: `translate(${width / 2 - 1} -11)` },
+          svg('rect', { x: -7, y: -7, width: 14, height: 14, rx: 2.5 }), svg('text', { y: 4 })),
+        svg('g', { class: 'sign', transform: `translate(${-width / 2 + 1} -11)` },
+          svg('circle', { r: 8 }), svg('text', { y: 4 }))));
+  }
+
+  /** Has a thing seen. */
+  lookAt(kind, name, store) {
+    let point = null;
+    if (kind === 'node') point = this.at.get(name);
+    if (kind === 'station') point = this.at.get(this.stations.get(name)?.node);
+    if (kind === 'vehicle') point = this.at.get(store.get('vehicle', name)?.node);
+    if (point) this.camera.lookAt(point);
+  }
+}

@@ -1,0 +1,195 @@
+"""The commands of `tools/ask` that are questions: those of one call, and those of several."""
+from __future__ import annotations
+
+import argparse
+import dataclasses
+import functools
+
+from . import arguments, questions, refusals
+from .client import Desk
+from .commands import LOAD, VEHICLE, Command, Told, Wrong, command, named, table, word
+
+QUESTIONS: list[Command] = []
+look = functools.partial(command, QUESTIONS)
+BY_VEHICLE = word('--vehicle', type=arguments.vehicle, metavar='VEHICLE', help='as KIT/0001')
+
+Rows = list[dict[str, object]]
+
+
+def told(heads: str, rows: Rows, none: str) -> Told:
+    """A table whose heads are the members of the rows, or a line where there are none."""
+    names = heads.split()
+    text = table([name.replace('_', ' ') for name in names], [[row[name] for name in names] for row in rows])
+    return Told(text if rows else none, rows)
+
+
+@look('PAL-1', LOAD)
+def load(desk: Desk, said: argparse.Namespace) -> Told:
+    """Where a load is, and its live job."""
+    found = desk.load(said.load)
+    return Told('load %s: %s, job %s' % (found.name, found.place, found.job or '-'), dataclasses.asdict(found))
+
+
+@look('KIT/0001', VEHICLE)
+def vehicle(desk: Desk, said: argparse.Namespace) -> Told:
+    """What the desk knows of a vehicle."""
+    row = vehicle_row(questions.VehicleRow(desk.vehicle(said.vehicle), ()))
+    del row['loads']
+    lines = [[name, 'no' if value is False else value] for name, value in row.items() if name != 'vehicle']
+    return Told(table(['vehicle', str(row['vehicle'])], lines), row)
+
+
+def vehicle_row(row: questions.VehicleRow) -> dict[str, object]:
+    """A vehicle as a row of a table."""
+    found = dataclasses.asdict(row.vehicle)
+    return {'vehicle': str(row.vehicle.key), 'node': found.pop('node'), 'loads': row.loads} | {
+        name: value for name, value in found.items() if name != 'key'
+    }
+
+
+@look('', cost='1 + V')
+def vehicles(desk: Desk, said: argparse.Namespace) -> Told:
+    """All vehicles, with their orders and loads."""
+    rows = [vehicle_row(row) for row in questions.vehicles(desk)]
+    heads = 'vehicle node order sent confirmed loads capacity ready paused pending astray'
+    return told(heads, rows, 'there are no vehicles')
+
+
+@look(
+    '--station A',
+    named('--station', 'station'),
+    BY_VEHICLE,
+    word('--checking', action='store_true', help='those at the checking place'),
+)
+def loads(desk: Desk, said: argparse.Namespace) -> Told:
+    """The loads that have not left, all or at one place."""
+    asked = ['station %s' % said.station] if said.station else []
+    asked += ['vehicle %s' % said.vehicle] if said.vehicle else []
+    asked += ['checking'] if said.checking else []
+    if len(asked) > 1:
+        raise Wrong('give one of --station, --vehicle and --checking')
+    place = asked[0] if asked else None
+    stock = questions.stock(desk)
+    if said.station and said.station not in stock.stations:
+        raise Wrong('there is no station %s: the desk has %s' % (said.station, ', '.join(stock.stations) or 'none'))
+    rows: Rows = [{'load': name, 'place': at} for name, at in sorted(stock.places().items()) if place in (None, at)]
+    return told('load place', rows, 'there are no loads' + (' there' if place else ''))
+
+
+@look('')
+def stations(desk: Desk, said: argparse.Namespace) -> Told:
+    """All stations, with their loads and the places that are free."""
+    rows: Rows = [
+        {
+            'station': one.name,
+            'node': one.node,
+            'loads': tuple(one.loads),
+            'reserved': one.reserved,
+            'capacity': one.capacity,
+            'free': max(0, one.capacity - len(one.loads) - one.reserved),
+        }
+        for one in questions.stock(desk).stations.values()
+    ]
+    return told('station node capacity reserved free loads', rows, 'there is no layout')
+
+
+@look(
+    '',
+    cost='1 + V, and 1 for each load at a station or on a vehicle, until all live jobs are found; without a live job 1',
+)
+def jobs(desk: Desk, said: argparse.Namespace) -> Told:
+    """The live jobs, each with its load, where that is, and the order that has it."""
+    rows: Rows = [
+        {
+            'job': one.job,
+            'load': one.load,
+            'place': one.place,
+            'order': one.order or (' or '.join(one.perhaps) + ', or none' if one.perhaps else None),
+        }
+        for one in questions.jobs(desk)
+    ]
+    return told('job load place order', rows, 'there are no live jobs')
+
+
+@look('', cost='1 + V, and 1 for each order')
+def orders(desk: Desk, said: argparse.Namespace) -> Told:
+    """The open orders, how far they are, and their stops."""
+    rows: Rows = [
+        {
+            'order': one.order,
+            'vehicle': str(one.vehicle),
+            'node': one.node,
+            'sent': one.sent,
+            'confirmed': one.confirmed,
+            'released_to': one.released_to,
+            'edges_left': one.edges_left,
+            'stops': tuple('%s:%s@%s' % (act.kind, act.load, act.station) for act in one.acts),
+        }
+        for one in questions.orders(desk)
+    ]
+    heads = 'order vehicle node sent confirmed released_to edges_left stops'
+    return told(heads, rows, 'there are no open orders')
+
+
+@look('--vehicle KIT/0001', BY_VEHICLE)
+def held(desk: Desk, said: argparse.Namespace) -> Told:
+    """The nodes and edges that are held."""
+    holds = questions.held(desk)
+    rows: Rows = [{'thing': 'node ' + name, 'vehicle': str(key)} for name, key in holds.nodes.items()]
+    rows += [{'thing': 'edge ' + name, 'vehicle': str(key)} for name, key in holds.edges.items()]
+    rows = [row for row in rows if said.vehicle is None or row['vehicle'] == str(said.vehicle)]
+    return told('thing vehicle', rows, 'nothing is held')
+
+
+@look('', cost='2 + V')
+def who_waits(desk: Desk, said: argparse.Namespace) -> Told:
+    """Whose next edge is held by whom."""
+    rows: Rows = [
+        {
+            'vehicle': str(one.vehicle),
+            'order': one.order,
+            'at': one.at,
+            'waits_for': one.what,
+            'held_by': str(one.by),
+            'in_circle': one.in_circle,
+        }
+        for one in questions.who_waits(desk)
+    ]
+    found = told('vehicle order at waits_for held_by in_circle', rows, 'no vehicle waits for another one')
+    if any(row['in_circle'] for row in rows):
+        more = '\n\nThose in a circle get free where one is cancelled and brought out of the way (docs/OPERATE.md).'
+        return Told(found.text + more, found.value)
+    return found
+
+
+def report(text: bytes) -> Told:
+    """What is told of a report."""
+    return Told(text.decode().rstrip('\n'), text.decode())
+
+
+@look('')
+def stock_report(desk: Desk, said: argparse.Namespace) -> Told:
+    """Prints the stock report."""
+    return report(desk.stock_report())
+
+
+@look('')
+def hold_report(desk: Desk, said: argparse.Namespace) -> Told:
+    """Prints the hold report."""
+    return report(desk.hold_report())
+
+
+@look('')
+def loads_export(desk: Desk, said: argparse.Namespace) -> Told:
+    """Prints the export of all loads, those that left too, as CSV."""
+    return report(desk.loads_export())
+
+
+@look('Held', word('name', metavar='NAME', help='or its number'), cost='none')
+def refusal(desk: Desk, said: argparse.Namespace) -> Told:
+    """What a refusal says, and what to do."""
+    named_so = [one for one in refusals.ALL if said.name.lower() in (one.name.lower(), str(one.number))]
+    if not named_so:
+        raise Wrong('%a is neither the name nor the number of a refusal (docs/HTTP.md)' % said.name)
+    one = named_so[0]
+    return Told('%s (%d): %s. %s' % (one.name, one.number, one.says, one.advice), dataclasses.asdict(one))

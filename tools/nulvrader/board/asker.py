@@ -1,0 +1,213 @@
+"""Asks the desk in turn, in a thread of its own: the hold report twice a second, the stock report once, and in between
+order messages, vehicles and loads of which something has changed, or that were not asked for long."""
+from __future__ import annotations
+
+import functools
+import sqlite3
+import threading
+import time
+from collections import deque
+from collections.abc import Callable
+from dataclasses import dataclass
+from typing import TypeVar
+
+from ..client import Desk, NoAnswer, Refused
+from ..names import BadName, VehicleKey
+from ..reports import BadReport, read_holds, read_loads, read_stock
+from .fleet import Fleet
+from .news import News
+from .stores import Stores
+
+SLOT = 0.05  # seconds from one request to the next, at least: at most 20 a second
+HOLDS_EVERY = 0.5
+STOCK_EVERY = 1.0
+EXPORT_EVERY = 10.0
+VEHICLE_EVERY = 1000  # milliseconds
+SHARE = 10  # times as long as a report took, the board waits until it asks for it again
+AGAIN = 1.0  # seconds from a question that was not answered to the next
+OLD_EVERY = 3600.0
+DAY = 86_400_000
+NO_LOAD = 23
+
+Question = Callable[[], None]
+T = TypeVar('T')
+
+
+def now() -> int:
+    """The moment, in milliseconds since 1970."""
+    return time.time_ns() // 1_000_000
+
+
+@dataclass
+class Report:
+    """A report that is asked for in turn: at most every so many seconds, and less often where it takes long. `due` is
+    of `time.monotonic`."""
+
+    every: float
+    due: float = 0.0
+
+    def took(self, begun: float) -> None:
+        """It was asked for, and is answered now."""
+        ended = time.monotonic()
+        self.due = max(begun + self.every, ended + SHARE * (ended - begun))
+
+
+class Asker(threading.Thread):
+    """The one that asks, whatever the number of pages. `days` is how long the record keeps changes."""
+
+    def __init__(self, desk: Desk, news: News, stores: Stores, fleet: Fleet, days: int):
+        super().__init__(name='asker', daemon=True)
+        self.desk, self.news, self.stores, self.fleet, self.days = desk, news, stores, fleet, days
+        self.holds, self.stock, self.export = Report(HOLDS_EVERY), Report(STOCK_EVERY), Report(EXPORT_EVERY)
+        self.details = deque((self.vehicle_question, self.load_question))
+        self.up: bool | None = None
+        self.fault: str | None = None
+        self.old_due = 0.0
+        self.broken: str | None = None  # why the record can't be written any more: the thread has ended by it
+        self.over = threading.Event()
+        self._lock = threading.Lock()
+        self._hurried: list[tuple[VehicleKey | None, str | None]] = []
+        self._woken = threading.Event()
+
+    def hurry(self, vehicle: VehicleKey | None, load: str | None) -> None:
+        """A command was carried out: what it may have changed is asked for at once."""
+        with self._lock:
+            self._hurried.append((vehicle, load))
+        self._woken.set()
+
+    def stop(self) -> None:
+        """Ends the thread, and waits for it."""
+        self.over.set()
+        self._woken.set()
+        self.join()
+
+    def run(self) -> None:
+        try:
+            self._ask_on()
+        except sqlite3.Error as fault:
+            self.broken = str(fault)
+
+    def _ask_on(self) -> None:
+        while not self.over.is_set():
+            begun = time.monotonic()
+            rest = self.turn(begun)
+            if self._woken.wait(max(0.0, begun + rest - time.monotonic())):
+                self._woken.clear()
+                self._take_hurried()
+                self.over.wait(SLOT)
+        self.news.record.commit()
+
+    def _take_hurried(self) -> None:
+        with self._lock:
+            hurried, self._hurried = self._hurried, []
+        self.stock.due = self.holds.due = 0.0
+        for vehicle, load in hurried:
+            if vehicle is not None and str(vehicle) in self.fleet.seen:
+                self.fleet.seen[str(vehicle)].needs_row = True
+            if load is not None:
+                self.stores.jobs.want(load)
+
+    def turn(self, begun: float) -> float:
+        """One question, and what its answer changes. How many seconds after its beginning the next one may be asked."""
+        question = self.next_question(begun)
+        if question is None:
+            return SLOT
+        try:
+            question()
+        except (NoAnswer, Refused, BadReport, BadName) as fault:
+            self._fails(str(fault))
+            return AGAIN
+        finally:
+            self.news.record.commit()
+        return SLOT
+
+    def next_question(self, at: float) -> Question | None:
+        """What to ask next, or None where nothing is due."""
+        if at >= self.old_due:
+            self.old_due = at + OLD_EVERY
+            self.news.record.remove_old(now() - self.days * DAY)
+        if at >= self.holds.due:
+            return self.ask_holds
+        if at >= self.stock.due:
+            return self.ask_stock
+        if self.stores.needs_export and at >= self.export.due:
+            return self.ask_export
+        order = self.fleet.next_order()
+        if order is not None:
+            return functools.partial(self.ask_order, order)
+        for _ in range(len(self.details)):
+            self.details.rotate()
+            question = self.details[0]()
+            if question is not None:
+                return question
+        return None
+
+    def vehicle_question(self) -> Question | None:
+        vehicle = self.fleet.next_vehicle(now(), VEHICLE_EVERY)
+        return None if vehicle is None else functools.partial(self.ask_vehicle, vehicle)
+
+    def load_question(self) -> Question | None:
+        load = self.stores.jobs.next_load()
+        return None if load is None else functools.partial(self.ask_load, load)
+
+    def _told(self, question: Callable[[], T]) -> T:
+        """What the desk answers. From now on the news are of this moment."""
+        answer = question()
+        self.news.at = now()
+        if self.up is not True:
+            if self.up is False:
+                self.news.event('desk', 'The desk answers again')
+            self._show_desk(True, None)
+            self.stores.needs_export = True
+            self.fleet.again()
+        return answer
+
+    def _fails(self, fault: str) -> None:
+        if self.up is not False:
+            self.news.at = now()
+            self.news.event('desk', 'The desk does not answer: %s' % fault)
+            self._show_desk(False, fault)
+        elif fault != self.fault:
+            self.fault = fault
+            self.news.shown.put('desk', '', {**self.news.shown.get('desk', ''), 'fault': fault})
+
+    def _show_desk(self, up: bool, fault: str | None) -> None:
+        self.up, self.fault = up, fault
+        self.news.record.desk(self.news.at, fault)
+        self.news.shown.put('desk', '', {'up': up, 'since': self.news.at, 'fault': fault})
+
+    def ask_holds(self) -> None:
+        begun = time.monotonic()
+        report = read_holds(self._told(self.desk.hold_report))
+        self.holds.took(begun)
+        self.fleet.take_holds(report)
+
+    def ask_stock(self) -> None:
+        begun = time.monotonic()
+        report = read_stock(self._told(self.desk.stock_report))
+        self.stock.took(begun)
+        self.stores.take_stock(report)
+        self.fleet.take_stock(report)
+
+    def ask_export(self) -> None:
+        begun = time.monotonic()
+        loads = read_loads(self._told(self.desk.loads_export))
+        self.export.took(begun)
+        self.stores.take_export(loads)
+
+    def ask_order(self, vehicle: VehicleKey) -> None:
+        self.fleet.take_order(vehicle, self._told(lambda: self.desk.order_message(vehicle)))
+
+    def ask_vehicle(self, vehicle: VehicleKey) -> None:
+        self.fleet.take_vehicle(self._told(lambda: self.desk.vehicle(vehicle)))
+
+    def ask_load(self, name: str) -> None:
+        try:
+            load = self._told(lambda: self.desk.load(name))
+        except Refused as refusal:
+            if refusal.number != NO_LOAD:
+                raise
+            self.stores.jobs.forget(name)
+            return
+        self.stores.take_load(load)
+        self.fleet.take_job(name)

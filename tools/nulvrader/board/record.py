@@ -1,0 +1,236 @@
+"""`board.db`: what the board saw, for anyone who asks SQLite: tables of how things are, and of each change with its
+time.
+
+A time is a text in UTC, `2026-11-28T06:15:00.123Z`, the moment at which the board saw it. SQLite's date functions read
+it. The file is in WAL mode, so that it may be read at any time, and each transaction is there whole or not at all."""
+from __future__ import annotations
+
+import datetime
+import json
+import sqlite3
+import threading
+from collections.abc import Mapping, Sequence
+from typing import Any
+
+VERSION = 1
+SCHEMA = """
+CREATE TABLE IF NOT EXISTS meta (name TEXT NOT NULL PRIMARY KEY, value TEXT NOT NULL) STRICT;
+CREATE TABLE IF NOT EXISTS stations (station TEXT NOT NULL PRIMARY KEY, node TEXT NOT NULL, capacity INT NOT NULL,
+  taken INT NOT NULL, reserved INT NOT NULL) STRICT;
+CREATE TABLE IF NOT EXISTS loads (load TEXT NOT NULL PRIMARY KEY, place TEXT NOT NULL, since TEXT) STRICT;
+CREATE TABLE IF NOT EXISTS vehicles (vehicle TEXT NOT NULL PRIMARY KEY, node TEXT NOT NULL, order_name TEXT, seen INT,
+  base INT, edges INT, sent INT, confirmed INT, pending TEXT, ready INT NOT NULL, paused INT NOT NULL, astray INT NOT
+  NULL, capacity INT NOT NULL, heard TEXT, since TEXT NOT NULL) STRICT;
+CREATE TABLE IF NOT EXISTS holds (kind TEXT NOT NULL, name TEXT NOT NULL, vehicle TEXT NOT NULL, since TEXT NOT NULL,
+  PRIMARY KEY (kind, name)) STRICT;
+CREATE TABLE IF NOT EXISTS jobs (job TEXT NOT NULL PRIMARY KEY, load TEXT NOT NULL, origin TEXT, target TEXT, phase TEXT
+  NOT NULL, order_name TEXT, vehicle TEXT, added TEXT, began TEXT, ended TEXT) STRICT;
+CREATE TABLE IF NOT EXISTS load_moves (n INTEGER PRIMARY KEY, at TEXT NOT NULL, load TEXT NOT NULL, from_place TEXT,
+  to_place TEXT NOT NULL) STRICT;
+CREATE TABLE IF NOT EXISTS vehicle_states (n INTEGER PRIMARY KEY, at TEXT NOT NULL, vehicle TEXT NOT NULL, node TEXT NOT
+  NULL, order_name TEXT, seen INT, base INT, edges INT, sent INT, confirmed INT, pending TEXT, ready INT NOT NULL,
+  paused INT NOT NULL, astray INT NOT NULL) STRICT;
+CREATE TABLE IF NOT EXISTS hold_changes (n INTEGER PRIMARY KEY, at TEXT NOT NULL, kind TEXT NOT NULL, name TEXT NOT
+  NULL, vehicle TEXT) STRICT;
+CREATE TABLE IF NOT EXISTS waits (n INTEGER PRIMARY KEY, vehicle TEXT NOT NULL, kind TEXT NOT NULL, name TEXT NOT NULL,
+  holder TEXT NOT NULL, began TEXT NOT NULL, ended TEXT) STRICT;
+CREATE TABLE IF NOT EXISTS desk_times (n INTEGER PRIMARY KEY, at TEXT NOT NULL, answers INT NOT NULL, fault TEXT)
+  STRICT;
+CREATE TABLE IF NOT EXISTS commands (n INTEGER PRIMARY KEY, at TEXT NOT NULL, who TEXT NOT NULL, command TEXT NOT NULL,
+  said TEXT NOT NULL, done INT NOT NULL, answer TEXT NOT NULL) STRICT;
+CREATE TABLE IF NOT EXISTS events (n INTEGER PRIMARY KEY, at TEXT NOT NULL, kind TEXT NOT NULL, words TEXT NOT NULL,
+  vehicle TEXT, load TEXT) STRICT;
+CREATE TABLE IF NOT EXISTS drawing (node TEXT NOT NULL PRIMARY KEY, x REAL NOT NULL, y REAL NOT NULL) STRICT;
+CREATE INDEX IF NOT EXISTS load_moves_load ON load_moves (load, at);
+CREATE INDEX IF NOT EXISTS load_moves_at ON load_moves (at);
+CREATE INDEX IF NOT EXISTS vehicle_states_vehicle ON vehicle_states (vehicle, at);
+CREATE INDEX IF NOT EXISTS vehicle_states_at ON vehicle_states (at);
+CREATE INDEX IF NOT EXISTS hold_changes_at ON hold_changes (at);
+CREATE INDEX IF NOT EXISTS events_at ON events (at);
+CREATE INDEX IF NOT EXISTS waits_began ON waits (began);
+CREATE INDEX IF NOT EXISTS jobs_ended ON jobs (ended);
+"""
+# What is removed once it is older than so many days: of each table which rows.
+OLD = {
+    'load_moves': 'at < ?',
+    'vehicle_states': 'at < ?',
+    'hold_changes': 'at < ?',
+    'waits': 'ended < ?',
+    'desk_times': 'at < ?',
+    'commands': 'at < ?',
+    'events': 'at < ?',
+    'jobs': 'ended < ?',
+}
+
+
+class NoRecord(Exception):
+    """The file can't be had. Its `str()` says why."""
+
+
+def text_of(at: int) -> str:
+    """A moment, in milliseconds since 1970, as the tables have it."""
+    moment = datetime.datetime.fromtimestamp(at // 1000, datetime.timezone.utc)
+    return '%s.%03dZ' % (moment.strftime('%Y-%m-%dT%H:%M:%S'), at % 1000)
+
+
+def moment_of(text: str) -> int:
+    """The milliseconds since 1970 of a time of the tables."""
+    moment = datetime.datetime.strptime(text, '%Y-%m-%dT%H:%M:%S.%fZ').replace(tzinfo=datetime.timezone.utc)
+    return round(moment.timestamp() * 1000)
+
+
+class Record:
+    """The open file. What is put stands in it after `commit`. Threads may use it at the same time."""
+
+    def __init__(self, path: str):
+        self._lock = threading.RLock()
+        try:
+            self._base = sqlite3.connect(path, timeout=10, isolation_level=None, check_same_thread=False)
+            self._base.execute('PRAGMA journal_mode = WAL')
+            self._base.execute('PRAGMA synchronous = NORMAL')
+            self._base.execute('BEGIN IMMEDIATE')
+            for statement in SCHEMA.split(';\n'):
+                self._base.execute(statement)
+            self._base.execute('INSERT OR IGNORE INTO meta VALUES (?, ?)', ('version', str(VERSION)))
+            version = self.meta('version')
+            self._base.execute('COMMIT')
+        except sqlite3.Error as fault:
+            raise NoRecord('%s: %s' % (path, fault)) from fault
+        if version != str(VERSION):
+            raise NoRecord('%s: it has tables of version %s, and this board writes %d' % (path, version, VERSION))
+
+    def close(self) -> None:
+        """Commits what was put, and closes the file."""
+        with self._lock:
+            self.commit()
+            self._base.close()
+
+    def _put(self, statement: str, values: Sequence[Any] = ()) -> None:
+        with self._lock:
+            if not self._base.in_transaction:
+                self._base.execute('BEGIN IMMEDIATE')
+            self._base.execute(statement, values)
+
+    def commit(self) -> None:
+        """What was put so far is in the file, whole."""
+        with self._lock:
+            if self._base.in_transaction:
+                self._base.execute('COMMIT')
+
+    def rows(self, question: str, values: Sequence[Any] = ()) -> list[tuple[Any, ...]]:
+        """What the file answers."""
+        with self._lock:
+            return self._base.execute(question, values).fetchall()
+
+    def meta(self, name: str) -> str | None:
+        """A value of the table `meta`, or None."""
+        for (value,) in self.rows('SELECT value FROM meta WHERE name = ?', (name,)):
+            return str(value)
+        return None
+
+    def set_meta(self, name: str, value: str) -> None:
+        """Puts a value into the table `meta`."""
+        self._put('INSERT OR REPLACE INTO meta VALUES (?, ?)', (name, value))
+
+    def _row(self, table: str, values: Mapping[str, Any]) -> None:
+        columns = ', '.join(values)
+        marks = ', '.join('?' * len(values))
+        self._put('INSERT OR REPLACE INTO %s (%s) VALUES (%s)' % (table, columns, marks), list(values.values()))
+
+    def station(self, name: str, node: str, capacity: int, taken: int, reserved: int) -> None:
+        """How a station is."""
+        row = {'station': name, 'node': node, 'capacity': capacity, 'taken': taken, 'reserved': reserved}
+        self._row('stations', row)
+
+    def load(self, name: str, place: str, since: int | None) -> None:
+        """Where a load is; `since` is None where it was there when the board first looked."""
+        self._row('loads', {'load': name, 'place': place, 'since': None if since is None else text_of(since)})
+
+    def forget_load(self, name: str) -> None:
+        """The desk knows no such load."""
+        self._put('DELETE FROM loads WHERE load = ?', (name,))
+
+    def load_move(self, at: int, load: str, before: str | None, after: str) -> None:
+        """A load moved; `before` is None where it was not known."""
+        self._row('load_moves', {'at': text_of(at), 'load': load, 'from_place': before, 'to_place': after})
+
+    def vehicle(self, at: int, name: str, values: Mapping[str, Any], heard: int | None) -> None:
+        """A vehicle came to be so, at this moment: how it is, and the change."""
+        row = {key: value for key, value in values.items() if key != 'capacity'}
+        self._row('vehicle_states', {'at': text_of(at), 'vehicle': name, **row})
+        told = {'heard': None if heard is None else text_of(heard), 'since': text_of(at)}
+        self._row('vehicles', {'vehicle': name, **values, **told})
+
+    def heard(self, name: str, at: int) -> None:
+        """A new state of a vehicle was seen."""
+        self._put('UPDATE vehicles SET heard = ? WHERE vehicle = ?', (text_of(at), name))
+
+    def hold(self, at: int, kind: str, name: str, vehicle: str | None) -> None:
+        """A vehicle holds a node or an edge, or where it is None nobody does any more."""
+        self._row('hold_changes', {'at': text_of(at), 'kind': kind, 'name': name, 'vehicle': vehicle})
+        if vehicle is None:
+            self._put('DELETE FROM holds WHERE kind = ? AND name = ?', (kind, name))
+        else:
+            self._row('holds', {'kind': kind, 'name': name, 'vehicle': vehicle, 'since': text_of(at)})
+
+    def job(self, values: Mapping[str, Any]) -> None:
+        """How a job is."""
+        self._row('jobs', values)
+
+    def end_waits(self, at: int) -> None:
+        """No wait of an earlier run goes on that isn't seen again."""
+        self._put('UPDATE waits SET ended = ? WHERE ended IS NULL', (text_of(at),))
+
+    def wait(self, at: int, vehicle: str, thing: tuple[str, str] | None, holder: str | None) -> None:
+        """A vehicle waits for a thing that another one holds, or where it is None no more; a wait before it is over."""
+        self._put('UPDATE waits SET ended = ? WHERE vehicle = ? AND ended IS NULL', (text_of(at), vehicle))
+        if thing is not None:
+            row = {'vehicle': vehicle, 'kind': thing[0], 'name': thing[1], 'holder': holder, 'began': text_of(at)}
+            self._row('waits', row)
+
+    def desk(self, at: int, fault: str | None) -> None:
+        """The desk answers from now on, or where there is a fault it doesn't."""
+        self._row('desk_times', {'at': text_of(at), 'answers': int(fault is None), 'fault': fault})
+
+    def event(self, at: int, kind: str, words: str, about: Mapping[str, str]) -> None:
+        """Something happened: a line of it, and the `vehicle` or `load` that it is about."""
+        self._row('events', {'at': text_of(at), 'kind': kind, 'words': words, **about})
+
+    def last_events(self, count: int) -> list[dict[str, Any]]:
+        """The last lines of what happened, the newest last, as the page has them."""
+        found = []
+        for at, kind, words, *about in self.rows(
+            'SELECT at, kind, words, vehicle, load FROM events ORDER BY n DESC LIMIT ?', (count,)
+        ):
+            names = {name: value for name, value in zip(('vehicle', 'load'), about) if value is not None}
+            found.append({'at': moment_of(at), 'kind': kind, 'text': words, **names})
+        return found[::-1]
+
+    def command(self, at: int, who: str, command: str, said: Mapping[str, Any], done: bool, answer: str) -> None:
+        """A command was given, and what was answered. It is in the file at once."""
+        row = {'at': text_of(at), 'who': who, 'command': command, 'said': json.dumps(said), 'done': int(done)}
+        with self._lock:
+            self._row('commands', {**row, 'answer': answer})
+            self.commit()
+
+    def drawing(self, layout: str) -> dict[str, tuple[float, float]]:
+        """Where the nodes of a layout are drawn, by its digest; empty where that isn't kept."""
+        if self.meta('drawing') != layout:
+            return {}
+        return {node: (x, y) for node, x, y in self.rows('SELECT node, x, y FROM drawing')}
+
+    def keep_drawing(self, layout: str, places: Mapping[str, tuple[float, float]]) -> None:
+        """Keeps where the nodes of a layout are drawn."""
+        with self._lock:
+            self._put('DELETE FROM drawing')
+            for node, (x, y) in places.items():
+                self._row('drawing', {'node': node, 'x': x, 'y': y})
+            self.set_meta('drawing', layout)
+            self.commit()
+
+    def remove_old(self, before: int) -> None:
+        """Removes what is older than a moment."""
+        with self._lock:
+            for table, rows in OLD.items():
+                self._put('DELETE FROM %s WHERE %s' % (table, rows), (text_of(before),))
+            self.commit()

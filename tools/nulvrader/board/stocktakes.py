@@ -1,0 +1,50 @@
+"""What a stocktake will do, looked at before as `tools/check-count` does: the faults of the file with their lines, and
+which loads will move."""
+from __future__ import annotations
+
+from collections.abc import Mapping
+
+from ..counts import CountFile, Records
+from ..names import new_reference
+from .looks import Look
+from .scene import Scene
+from .tell import count, place_words
+
+MOST = 20  # lines of one kind that are told
+
+
+def stocktake(scene: Scene, values: Mapping[str, str]) -> Look:
+    look = Look({**values, 'ref': values.get('ref') or new_reference()})
+    file, records = CountFile(values['file'].encode()), records_of(scene)
+    file.check(records)
+    moves = file.moves(records)
+    look.says.append(
+        'Counted: %s. Found: %s.' % (count(len(file.stations()), 'station'), count(len(file.found()), 'load'))
+    )
+    look.says.append('Moved by it: %s.' % count(len(moves), 'load'))
+    for move in moves[:MOST]:
+        look.says.append(
+            '%s, which is %s, is then %s.' % (move.load, place_words(move.before), place_words(move.after))
+        )
+    if len(moves) > MOST:
+        look.says.append('And %d more.' % (len(moves) - MOST))
+    unknown = [str(row.load) for row in file.unknown(records)]
+    if unknown:
+        look.says.append('Names that no load here has: %s.' % ', '.join(unknown[:MOST]))
+    look.warns += [sentence(str(fault)) for fault in file.faults[:MOST]]
+    return look
+
+
+def records_of(scene: Scene) -> Records:
+    """What the board knows of what the desk has."""
+    return Records(
+        capacities={station.name: station.capacity for station in scene.layout.stations.values()},
+        places={load: row['place'] for load, row in scene.shown.all('load').items()},
+        jobs={job['load']: name for name, job in scene.shown.all('job').items()},
+        reserved={station: row['reserved'] for station, row in scene.shown.all('station').items()},
+    )
+
+
+def sentence(words: str) -> str:
+    """Words with a capital before and a full stop behind."""
+    return '%s%s.' % (words[:1].upper(), words[1:])

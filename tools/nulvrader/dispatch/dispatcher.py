@@ -1,0 +1,358 @@
+"""The dispatcher: in each turn it looks at the desk, releases what may be released, and gives orders for jobs that wait.
+
+It keeps nothing that the desk does not know. What it remembers from turn to turn, how long a vehicle has waited or when it was last
+heard, is for its lines and for the turn in which vehicles are served; after a start it begins anew."""
+from __future__ import annotations
+
+import time
+from collections.abc import Callable, Mapping
+from dataclasses import dataclass, replace
+
+from ..client import Desk, NoAnswer, Refused
+from ..layouts import Layout
+from ..names import new_reference
+from .choose import Chooser, Proposal
+from .jobs import JobBook, Waiting
+from .snapshot import Seen, Snapshot, take
+from .traffic import Judge, Still, Traffic
+from .ways import Ways
+
+MOST_TIMES = 64
+"""The look is given more states where nothing moves, up to so many times as many."""
+
+
+@dataclass(frozen=True)
+class Settings:
+    """`ahead`: so many edges are held before a vehicle at most. `detour`: so many edges may an order become longer by a further job.
+    `silent`: a vehicle with an order that has sent no state for so many seconds is not counted on. `told`: a wait is told after so
+    many seconds."""
+
+    ahead: int = 2
+    detour: int = 0
+    silent: float = 30.0
+    told: float = 15.0
+
+
+@dataclass
+class Memory:
+    """What is remembered of a vehicle: the number of its last state and since when that is, since when it waits for its next edge, and
+    its jobs while it has an order."""
+
+    header: int | None = None
+    heard: float = 0.0
+    waits: float | None = None
+    order: str | None = None
+    jobs: tuple[Waiting, ...] = ()
+
+
+class Dispatcher:
+    """A dispatcher over a desk and its layout. `say` takes its lines, and `clock` tells seconds that only grow. In the file `notes` it
+    writes where jobs lead that wait."""
+
+    def __init__(
+        self,
+        desk: Desk,
+        layout: Layout,
+        settings: Settings = Settings(),
+        *,
+        judge: Judge | None = None,
+        notes: str | None = None,
+        say: Callable[[str], None] = print,
+        clock: Callable[[], float] = time.monotonic,
+    ) -> None:
+        self.desk, self.layout, self.settings, self.say, self.clock = desk, layout, settings, say, clock
+        self.ways = Ways(layout)
+        self._out = {node: self.ways.way_out(node) for node in layout.nodes}
+        self.judge = judge or Judge()
+        self.chooser = Chooser(self.ways, self.judge, settings.detour)
+        self.book = JobBook(notes)
+        self._waits: Mapping[str, str] = {}
+        self._last: Snapshot | None = None
+        self._memory: dict[str, Memory] = {}
+        self._said: dict[str, str] = {}  # what was said last of each name
+        self._since: dict[str, tuple[str, float]] = {}  # of each name why it waits, and since when
+
+    def turn(self) -> bool:
+        """One look at the desk, and what follows. Whether the desk answered."""
+        try:
+            with self.desk.kept():
+                self._turn()
+        except NoAnswer as fault:
+            self._say_once('desk', 'the desk does not answer: %s' % fault)
+            return False
+        self._say_once('desk', None)
+        return True
+
+    def waits(self) -> Mapping[str, str]:
+        """Why each vehicle and job waits that does, as of the last turn. A job is called `job J1`."""
+        return self._waits
+
+    def _turn(self) -> None:
+        now = self.clock()
+        seen = self._last = take(self.desk, self._last)
+        self.book.look(self.desk, seen)
+        for vehicle in seen.vehicles.values():
+            self._remember(vehicle, seen, now)
+        traffic = self._traffic(seen, now)
+        held = {**{'node ' + node: str(key) for node, key in seen.holds.nodes.items()},
+                **{'edge ' + edge: str(key) for edge, key in seen.holds.edges.items()}}
+        reasons: dict[str, str] = {}
+        released, traffic = self._release(seen, traffic, held, reasons, now)
+        started, traffic = self._start(seen, traffic, held, reasons, now)
+        self._look_deeper(seen, traffic, bool(released or started))
+        self._untangle(seen, traffic)
+        self._tell_waits(reasons, now)
+
+    # What is remembered and told of the vehicles.
+
+    def _remember(self, seen: Seen, all_seen: Snapshot, now: float) -> None:
+        memory = self._memory.setdefault(seen.name, Memory(seen.row.header, now))
+        if memory.header != seen.row.header:
+            memory.header, memory.heard = seen.row.header, now
+        if seen.order is not None and memory.order == seen.row.order:
+            drops = {act.load: (act.station,) for act in seen.order.acts() if act.kind == 'drop'}
+            memory.jobs = tuple(replace(one, targets=drops.get(one.load, one.targets)) for one in memory.jobs)
+        if memory.order != seen.row.order:
+            if memory.order is not None:
+                self._tell_end(seen, memory, all_seen)
+            memory.order, memory.waits = seen.row.order, None
+            if seen.row.order is not None and not memory.jobs:
+                memory.jobs = self._jobs_of(seen)
+                told = ', '.join(one.job for one in memory.jobs) or 'jobs that are not known'
+                self.say('%s: has order %s, of %s' % (seen.name, seen.row.order, told))
+
+    def _jobs_of(self, seen: Seen) -> tuple[Waiting, ...]:
+        """The jobs of an order that this dispatcher has not given, as far as its last message tells."""
+        assert seen.order is not None
+        found = []
+        for act in seen.order.acts():
+            told = self.desk.load(act.load)
+            if act.kind == 'drop' and told.job is not None and told.place != 'station ' + act.station:
+                found.append(Waiting(told.job, act.load, told.place, (act.station,)))
+        return tuple(found)
+
+    def _tell_end(self, seen: Seen, memory: Memory, all_seen: Snapshot) -> None:
+        """Says how an order ended that was open in the last turn."""
+        not_done = []
+        for one in memory.jobs:
+            if one.target is None or all_seen.places.get(one.load) != 'station ' + one.target:
+                not_done.append('%s is stopped: its load %s is now at %s' % (one.job, one.load, all_seen.places.get(one.load, 'left')))
+        what = 'order %s has ended at %s' % (memory.order, seen.row.node)
+        self.say('%s: %s' % (seen.name, '; '.join([what, *not_done])))
+        memory.jobs = ()
+
+    def _why_still(self, seen: Seen, now: float) -> str | None:
+        """Why a vehicle does not go on, or None."""
+        memory = self._memory[seen.name]
+        if seen.row.astray:
+            return 'left its order on the way; look where it stands, and place it'
+        if seen.row.pending == 'cancelOrder':
+            return 'its order is being cancelled'
+        if not seen.row.ready:
+            return 'is not ready: it is not in automatic mode, has an emergency stop or an error'
+        if now - memory.heard > self.settings.silent:
+            return 'has sent no state for %g seconds' % self.settings.silent
+        if seen.row.paused:
+            return 'is paused'
+        return None
+
+    def _traffic(self, seen: Snapshot, now: float) -> Traffic:
+        ways, still, parked = {}, {}, {}
+        for name, vehicle in seen.vehicles.items():
+            why = self._why_still(vehicle, now)
+            if vehicle.order is None or vehicle.row.pending == 'cancelOrder':
+                parked[name] = vehicle.nodes
+            elif why is not None:
+                still[name] = Still(vehicle.nodes, vehicle.rest())
+            else:
+                ways[name] = vehicle.rest()
+            self._say_once(name, why if vehicle.order is not None or vehicle.row.astray else None)
+        return Traffic(ways, still, parked, self._out)
+
+    # Releasing.
+
+    def _release(
+        self, seen: Snapshot, traffic: Traffic, held: dict[str, str], reasons: dict[str, str], now: float
+    ) -> tuple[int, Traffic]:
+        """Releases edges, to the vehicle that has waited longest first."""
+        count = 0
+        for vehicle in sorted(seen.vehicles.values(), key=lambda one: (self._waits_since(one, now), one.name)):
+            if vehicle.name not in traffic.ways or not vehicle.edges_left() or vehicle.edges >= self.settings.ahead:
+                continue
+            if not vehicle.is_confirmed():
+                if vehicle.edges == 0:
+                    reasons[vehicle.name] = 'has not confirmed its order'
+                continue
+            edges, why = self._edges_for(vehicle, traffic, held, self.settings.ahead - vehicle.edges)
+            if edges and self._advance(vehicle, edges, held):
+                traffic = traffic.released(vehicle.name, edges)
+                self._memory[vehicle.name].waits = None
+                count += 1
+            elif vehicle.edges == 0:
+                reasons[vehicle.name] = why
+        return count, traffic
+
+    def _waits_since(self, vehicle: Seen, now: float) -> float:
+        """Since when it waits; it is noted here that it does."""
+        memory = self._memory[vehicle.name]
+        if vehicle.order is None or vehicle.edges or not vehicle.edges_left():
+            memory.waits = None
+        elif memory.waits is None:
+            memory.waits = now
+        return now if memory.waits is None else memory.waits
+
+    def _edges_for(self, vehicle: Seen, traffic: Traffic, held: dict[str, str], most: int) -> tuple[int, str]:
+        """How many edges, up to so many, may be released to a vehicle, and why no more."""
+        assert vehicle.order is not None
+        ahead = [edge for edge in vehicle.order.edges if not edge.released]
+        for count, edge in enumerate(ahead[:most]):
+            for thing in ('edge ' + edge.name, 'node ' + edge.finish):
+                if held.get(thing, vehicle.name) != vehicle.name:
+                    return count, 'waits at %s for %s, which %s holds' % (ahead[0].start, thing, held[thing])
+            if not self.judge.may_release(traffic, vehicle.name, count + 1):
+                if vehicle.name not in self.judge.finish_now(traffic):
+                    return count, 'waits at %s, since its way is shut%s' % (ahead[0].start, self._by_whom(vehicle, traffic))
+                return count, 'waits at %s, since on %s it would shut others in, or be shut in' % (ahead[0].start, edge.name)
+        return min(most, len(ahead)), ''
+
+    def _by_whom(self, vehicle: Seen, traffic: Traffic) -> str:
+        """Who stands in the way of a vehicle and does not go on."""
+        nodes = set(traffic.ways[vehicle.name][1:])
+        standing = {**traffic.parked, **{name: one.held for name, one in traffic.still.items()}}
+        found = sorted('%s at %s' % (name, ' '.join(sorted(nodes & at))) for name, at in standing.items() if nodes & at)
+        return ' by ' + ', '.join(found) if found else ''
+
+    def _advance(self, vehicle: Seen, edges: int, held: dict[str, str]) -> bool:
+        assert vehicle.order is not None and vehicle.row.sent is not None
+        try:
+            self.desk.advance(vehicle.row.key, vehicle.order.name, vehicle.row.sent + 1, edges)
+        except Refused as refusal:
+            self.say('%s: %d edges of %s are refused: %s' % (vehicle.name, edges, vehicle.order.name, refusal))
+            return False
+        for edge in [edge for edge in vehicle.order.edges if not edge.released][:edges]:
+            held['edge ' + edge.name] = held['node ' + edge.finish] = vehicle.name
+        return True
+
+    # Giving orders.
+
+    def _start(
+        self, seen: Snapshot, traffic: Traffic, held: dict[str, str], reasons: dict[str, str], now: float
+    ) -> tuple[int, Traffic]:
+        """Gives orders for jobs that wait, as long as there is one that may be started."""
+        idle = {
+            vehicle.name: vehicle
+            for vehicle in seen.vehicles.values()
+            if vehicle.order is None and vehicle.room() > 0 and self._why_still(vehicle, now) is None
+        }
+        count = 0
+        while idle and self.book.waiting:
+            found = self.chooser.propose(list(idle.values()), list(self.book.waiting.values()), traffic)
+            if found is None:
+                break
+            vehicle = idle.pop(found.vehicle)
+            edges = self._first_edges(found, traffic, held)
+            if self._give(found, vehicle, edges):
+                traffic = traffic.started(found.vehicle, found.way).released(found.vehicle, edges)
+                held.update({'node ' + node: found.vehicle for node in found.way[: edges + 1]})
+                count += 1
+        for job in self.book.waiting:
+            reasons['job ' + job] = self._why_job_waits(self.book.waiting[job], idle, traffic)
+        return count, traffic
+
+    def _first_edges(self, found: Proposal, traffic: Traffic, held: dict[str, str]) -> int:
+        """How many edges are released with an order. An edge is free where both of its ends are."""
+        after = traffic.started(found.vehicle, found.way)
+        count = 0
+        while found.is_whole and count < min(self.settings.ahead, len(found.way) - 1):
+            free = held.get('node ' + found.way[count + 1], found.vehicle) == found.vehicle
+            if not free or not self.judge.may_release(after, found.vehicle, count + 1):
+                break
+            count += 1
+        return count
+
+    def _give(self, found: Proposal, vehicle: Seen, edges: int) -> bool:
+        order = new_reference()
+        try:
+            self.desk.start_order(order, vehicle.row.key, stops=found.stops, edges=edges)
+        except Refused as refusal:
+            self.say('%s: no order for %s: %s' % (vehicle.name, ', '.join(one.job for one in found.jobs), refusal))
+            if refusal.name in ('JobState', 'NoJob'):
+                for one in found.jobs:
+                    self.book.is_taken(one.job)
+            return False
+        told = ', '.join('%s (%s from %s to %s)' % (one.job, one.load, one.origin, one.target or 'where the order says') for one in found.jobs)
+        self.say('%s: takes %s, %d edges from %s, by order %s' % (vehicle.name, told, len(found.way) - 1, vehicle.row.node, order))
+        memory = self._memory[vehicle.name]
+        memory.order, memory.jobs, memory.waits = order, found.jobs, None
+        for one in found.jobs:
+            self.book.forget(one.job)
+        return True
+
+    def _why_job_waits(self, one: Waiting, idle: dict[str, Seen], traffic: Traffic) -> str:
+        if not idle:
+            return 'no vehicle is free'
+        ends = {self.ways.node_of(one.origin): 'the pick'}
+        if one.target is not None:
+            ends[self.ways.node_of(one.target)] = 'the drop'
+        standing = {**traffic.parked, **{name: still.held for name, still in traffic.still.items()}}
+        found = [
+            '%s stands at %s, at %s' % (name, what, node)
+            for node, what in ends.items()
+            for name, at in standing.items()
+            if node in at
+        ]
+        return '; '.join(sorted(found)) or 'no free vehicle gets there without shutting others in, or being shut in'
+
+    # When nothing moves.
+
+    def _look_deeper(self, seen: Snapshot, traffic: Traffic, moved: bool) -> None:
+        """Lets the look have more states where all vehicles wait, and fewer again once one moves."""
+        stand = not moved and all(vehicle.edges == 0 for vehicle in seen.vehicles.values() if vehicle.name in traffic.ways)
+        if stand:
+            self.judge.times = min(self.judge.times * 4, MOST_TIMES)
+        elif moved:
+            self.judge.times = 1
+
+    def _untangle(self, seen: Snapshot, traffic: Traffic) -> None:
+        """Where nothing moves, and vehicles with orders shut one another in, cancels an order of these that has not left its first
+        node. It comes to that by orders alone whose targets were not known when they were given."""
+        if self.judge.times < MOST_TIMES:
+            return
+        shut_in = set(traffic.ways) - self.judge.finish_later(traffic)
+        for vehicle in sorted(seen.vehicles.values(), key=lambda one: one.name):
+            fresh = vehicle.row.sent == vehicle.row.confirmed == 0 and vehicle.edges == 0 and not vehicle.loads
+            if vehicle.name not in shut_in or not fresh or vehicle.row.pending is not None:
+                continue
+            try:
+                self.desk.cancel(vehicle.row.key)
+            except Refused as refusal:
+                self.say('%s: its order is not cancelled: %s' % (vehicle.name, refusal))
+                continue
+            told = ', '.join(one.job for one in self._memory[vehicle.name].jobs)
+            self.say('%s: cancels order %s, of %s: it and others shut one another in' % (vehicle.name, vehicle.row.order, told))
+            self.judge.times = 1
+            return
+
+    # Lines.
+
+    def _say_once(self, name: str, what: str | None) -> None:
+        """Says something of a name where it is not what was said of it last."""
+        if what is None:
+            if self._said.pop(name, None) is not None:
+                self.say('%s: goes on' % name if name != 'desk' else 'the desk answers again')
+        elif self._said.get(name) != what:
+            self._said[name] = what
+            self.say(what if name == 'desk' else '%s: %s' % (name, what))
+
+    def _tell_waits(self, reasons: dict[str, str], now: float) -> None:
+        """Says why a vehicle or a job waits, once it has waited for a while for the same reason."""
+        self._waits = reasons
+        for name in [name for name in self._since if name not in reasons]:
+            del self._since[name]
+        for name, why in reasons.items():
+            before, since = self._since.setdefault(name, (why, now))
+            if before != why:
+                self._since[name] = (why, now)
+            elif since is not None and now - since >= self.settings.told and why != 'no vehicle is free':
+                self.say('%s %s' % (name, why) if not name.startswith('job ') else '%s waits: %s' % (name, why))
+                self._since[name] = (why, float('inf'))

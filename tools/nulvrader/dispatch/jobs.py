@@ -1,0 +1,145 @@
+"""The jobs that wait for a vehicle, and where they lead.
+
+No call of the desk lists jobs. A load tells its live job, but not where that leads; a station tells how many live jobs lead there, but
+not which. So the jobs are found by asking for loads, and their targets by what is left over: the places that stations keep, less those
+of the jobs whose target is known. Where jobs are seen one after another as they are added, that leaves one station. Where several were
+added between two looks, as before a start of the dispatcher, it leaves some: the `targets` of a job are those that it may have. What
+was found is noted in a file, if there is one, for the next start."""
+from __future__ import annotations
+
+import json
+import os
+from collections import Counter
+from dataclasses import dataclass
+
+from ..client import Desk, Refused
+from .snapshot import Snapshot
+
+ASKED = 400
+"""So many loads are asked for in one turn at most, since the desk answers nobody else meanwhile."""
+
+ANEW = 30
+"""After so many turns each job that is known to wait is asked for again."""
+
+
+@dataclass(frozen=True)
+class Waiting:
+    """A job that waits: its load, the station where that stands, and the stations where it may lead, one of them where that is
+    known."""
+
+    job: str
+    load: str
+    origin: str
+    targets: tuple[str, ...] = ()
+
+    @property
+    def target(self) -> str | None:
+        return self.targets[0] if len(self.targets) == 1 else None
+
+
+class JobBook:
+    """The jobs that wait, the one that was seen first in front. What it knows it has from the desk, and finds again after a start."""
+
+    def __init__(self, notes: str | None = None) -> None:
+        self.notes = notes
+        self._noted = read_notes(notes)
+        self.waiting: dict[str, Waiting] = {}
+        self.taken: dict[str, str] = {}  # by load the job that the desk says does not wait
+        self.known: dict[str, str] = {}  # by job its target
+        self._turn = 0
+        self._last = ''  # the load that was asked for last
+
+    def look(self, desk: Desk, seen: Snapshot) -> None:
+        """Brings the book up to date. `ASKED` requests at most, and at times once more for what is known."""
+        self._turn += 1
+        riding = seen.riding()
+        by_load = {one.load: one for one in self.waiting.values()}
+        for load, one in by_load.items():
+            if load in riding or seen.places.get(load) != 'station ' + one.origin:
+                self.forget(one.job)
+        expected = seen.stock.live_jobs() - len(riding)
+        if len(self.waiting) + len(self.taken) > expected or self._turn % ANEW == 0:
+            self._ask(desk, seen, [*self.taken, *(one.load for one in self.waiting.values())])
+        if len(self.waiting) + len(self.taken) < expected:
+            known = {one.load for one in self.waiting.values()} | set(self.taken) | set(riding)
+            loads = sorted(load for load, place in seen.places.items() if place.startswith('station ') and load not in known)
+            first = next((n for n, load in enumerate(loads) if load > self._last), 0)
+            self._ask(desk, seen, loads[first:] + loads[:first], expected)
+        self._find_targets(seen)
+        if len(self.waiting) + len(self.taken) >= expected:
+            self.note()
+
+    def note(self) -> None:
+        """Writes the targets that are known, where they are others than those that were written last."""
+        if self.notes is None or self.known == self._noted:
+            return
+        with open(self.notes + '.new', 'w') as file:
+            json.dump(self.known, file)
+        os.replace(self.notes + '.new', self.notes)
+        self._noted = dict(self.known)
+
+    def forget(self, job: str) -> None:
+        """The job does not wait any more."""
+        self.waiting.pop(job, None)
+        self.known.pop(job, None)
+
+    def is_taken(self, job: str) -> None:
+        """The desk says that the job does not wait, though no message of an order tells of it."""
+        one = self.waiting[job]
+        self.forget(job)
+        self.taken[one.load] = job
+
+    def _ask(self, desk: Desk, seen: Snapshot, loads: list[str], until: int | None = None) -> None:
+        """Asks for these loads, until so many jobs are known."""
+        for load in loads[:ASKED]:
+            if until is not None and len(self.waiting) + len(self.taken) >= until:
+                return
+            try:
+                told = desk.load(load)
+            except Refused:
+                continue
+            if until is not None:
+                self._last = load
+            for job in [one.job for one in self.waiting.values() if one.load == load and one.job != told.job]:
+                self.forget(job)
+            if self.taken.get(load) not in (None, told.job):
+                del self.taken[load]
+            if told.job is not None and told.place.startswith('station ') and load not in self.taken and told.job not in self.waiting:
+                self.waiting[told.job] = Waiting(told.job, load, told.place.removeprefix('station '))
+
+    def _find_targets(self, seen: Snapshot) -> None:
+        """Which stations are left over for each job."""
+        left = Counter({station.name: station.reserved for station in seen.stock.stations.values()})
+        left.subtract(act.station for _, act in seen.riding().values())
+        left.subtract(target for job, target in self.known.items() if job in self.waiting)
+        for one in [one for one in self.waiting.values() if one.job not in self.known]:
+            target = self._noted.get(one.job)
+            if target is not None and left[target] > 0 and target != one.origin:
+                self._know(one, target)
+                left[target] -= 1
+        open_jobs = [one for one in self.waiting.values() if one.job not in self.known]
+        found = True
+        while found:
+            found = False
+            for one in list(open_jobs):
+                targets = tuple(name for name, count in left.items() if count > 0 and name != one.origin)
+                self.waiting[one.job] = Waiting(one.job, one.load, one.origin, targets)
+                if len(targets) == 1:
+                    self._know(one, targets[0])
+                    left[targets[0]] -= 1
+                    open_jobs.remove(one)
+                    found = True
+
+    def _know(self, one: Waiting, target: str) -> None:
+        self.known[one.job] = target
+        self.waiting[one.job] = Waiting(one.job, one.load, one.origin, (target,))
+
+
+def read_notes(notes: str | None) -> dict[str, str]:
+    """The targets that were noted, by job. None where there is no such file, or it has something else."""
+    try:
+        with open(notes or os.devnull) as file:
+            told = json.load(file)
+    except (OSError, ValueError):
+        return {}
+    return {job: target for job, target in told.items() if isinstance(target, str)} if isinstance(told, dict) else {}

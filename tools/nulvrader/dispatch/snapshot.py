@@ -1,0 +1,96 @@
+"""What a dispatcher sees of a desk at one moment: all vehicles with their orders and what they hold, and the loads."""
+from __future__ import annotations
+
+from collections.abc import Iterable
+from dataclasses import dataclass
+
+from ..client import Desk, Vehicle
+from ..messages import Act, Order
+from ..names import VehicleKey
+from ..questions import held, open_orders, stock
+from ..reports import Holds, Stock
+
+
+@dataclass(frozen=True)
+class Seen:
+    """A vehicle: its row, the loads that are recorded on it, its open order, the nodes that it holds, and how many edges."""
+
+    row: Vehicle
+    loads: tuple[str, ...]
+    order: Order | None
+    nodes: frozenset[str]
+    edges: int
+
+    @property
+    def name(self) -> str:
+        return str(self.row.key)
+
+    def rest(self) -> tuple[str, ...]:
+        """Of the order's way the last node that is released, and all that are not."""
+        assert self.order is not None
+        return (self.order.base_end(), *(node.name for node in self.order.nodes if not node.released))
+
+    def edges_left(self) -> int:
+        """How many edges of the order are not released."""
+        return 0 if self.order is None else sum(1 for edge in self.order.edges if not edge.released)
+
+    def is_confirmed(self) -> bool:
+        return self.row.sent == self.row.confirmed
+
+    def room(self) -> int:
+        """For how many loads more it has room."""
+        return self.row.capacity - len(self.loads)
+
+
+@dataclass(frozen=True)
+class Snapshot:
+    """All of one moment. `places` has the place of each load that has not left, as `station A`."""
+
+    vehicles: dict[str, Seen]
+    stock: Stock
+    holds: Holds
+    places: dict[str, str]
+
+    def orders_of(self, rows: Iterable[Vehicle]) -> dict[VehicleKey, Order]:
+        """The messages here that are still the last ones of these vehicles."""
+        found = {}
+        for row in rows:
+            seen = self.vehicles.get(str(row.key))
+            if seen is not None and seen.order is not None and (seen.order.name, seen.order.update) == (row.order, row.sent):
+                found[row.key] = seen.order
+        return found
+
+    def riding(self) -> dict[str, tuple[str, Act]]:
+        """By load the order that has a live job of it, and the drop of that job: one that is still to be made, since what was put
+        down stands at its station. An order lists no act that it has passed; so a job whose acts both failed on the way is not
+        here, though it rides on to the order's end."""
+        return {
+            act.load: (seen.order.name, act)
+            for seen in self.vehicles.values()
+            if seen.order is not None
+            for act in seen.order.acts()
+            if act.kind == 'drop' and self.places.get(act.load) != 'station ' + act.station
+        }
+
+
+def take(desk: Desk, before: Snapshot | None = None) -> Snapshot:
+    """Asks all of it, on one connection. 2 + 2 V requests for V vehicles, fewer where some have no order, or the last message of it
+    that an earlier snapshot has."""
+    with desk.kept():
+        loads = stock(desk)
+        holds = held(desk)
+        rows = {key: desk.vehicle(key) for key in loads.vehicles}
+        orders = {} if before is None else before.orders_of(rows.values())
+        wanted = [key for key, row in rows.items() if row.order is not None and key not in orders]
+        orders |= {order.vehicle: order for order in open_orders(desk, wanted)}
+    nodes: dict[VehicleKey, set[str]] = {key: set() for key in rows}
+    edges: dict[VehicleKey, int] = dict.fromkeys(rows, 0)
+    for node, key in holds.nodes.items():
+        nodes[key].add(node)
+    for key in holds.edges.values():
+        edges[key] += 1
+    vehicles = {
+        str(key): Seen(row, tuple(loads.vehicles[key]), orders.get(key), frozenset(nodes[key]), edges[key])
+        for key, row in rows.items()
+    }
+    return Snapshot(vehicles, loads, holds, loads.places())

@@ -1,0 +1,256 @@
+"""Why a desk does not start on a file and a port, or has ended: each reason as a sentence that says what to do. The
+file, what lies beside it and the machine are only looked at."""
+import dataclasses
+import itertools
+import os
+import sqlite3
+import stat
+import time
+
+from . import database, machine
+from .checks import Breach
+from .machine import Program, User
+from .rows import read_first_rows, read_rows
+from .rules import breaches
+
+ROOM = 1_000_000  # bytes: with less on the disk a desk that begins or copies its log fails
+LAST_SECOND = 4102444799  # of 2099
+
+
+@dataclasses.dataclass
+class Told:
+    """What was found: the reasons, and what else is to be known."""
+
+    reasons: list[str] = dataclasses.field(default_factory=list)
+    notes: list[str] = dataclasses.field(default_factory=list)
+
+
+def look(path: str, port: int | None, user: User, rows_of_a_rule: int) -> Told:
+    """The reasons, with at most so many rows for each rule that they break."""
+    told = Told()
+    if not 0 <= time.time() <= LAST_SECOND:
+        told.reasons.append('The clock shows no moment from 1970 to 2099 (`fault: Clock`): set it.')
+    is_free, holders = _look_at_path(told, path, user)
+    if port is not None:
+        _look_at_port(told, path, port, user, holders)
+    elif holders:
+        told.reasons.append(_has_file(path, holders))
+    if is_free and os.path.exists(path):
+        _look_into(told, path, rows_of_a_rule)
+    return told
+
+
+# ---- the port
+
+
+def _has_file(path: str, holders: list[Program]) -> str:
+    whose = ' and '.join(map(str, holders))
+    text = '%s has %s open, and a desk has its file alone (`fault: Storage`): end it, or name another file.'
+    return text % (whose, path)
+
+
+def _look_at_port(told: Told, path: str, port: int, user: User, holders: list[Program]) -> None:
+    """Who listens on the port, and who of them has the file, too."""
+    listeners = machine.who_listens(port)
+    for listener in listeners:
+        if listener.program in holders:
+            text = 'A desk runs already: %s has %s open and listens on port %d. Ask that one, or end it first.'
+            told.reasons.append(text % (listener.program, path, port))
+        else:
+            who = listener.program or 'a program of the user %s (root sees which)' % listener.user
+            text = '%s listens on port %d of %s (`fault: Net`): end it, or name another port.'
+            told.reasons.append(text % (who, port, listener.address))
+    rest = [holder for holder in holders if holder not in [listener.program for listener in listeners]]
+    if rest:
+        told.reasons.append(_has_file(path, rest))
+    if user.uid != 0 and port < machine.first_port():
+        text = 'The user %s may have no port below %d (`fault: Net`): name another one than %d.'
+        told.reasons.append(text % (user, machine.first_port(), port))
+
+
+# ---- the folder, the file, the rights and the disk
+
+
+def _look_at_path(told: Told, path: str, user: User) -> tuple[bool, list[Program]]:
+    """What keeps the user from the file; whether it may be looked into, and which programs have it."""
+    path = os.path.abspath(path)
+    folder = os.path.dirname(path)
+    reason = _folder(folder, user) or (_file(path, user) if os.path.exists(path) else _new_file(path, user))
+    if reason:
+        told.reasons.append(reason + ' (`fault: Storage`)')
+        return False, []
+    free = machine.free_bytes(folder, user)
+    if free < ROOM:
+        text = 'The disk of %s is full: %d bytes are free, and a desk needs %d (`fault: Storage`). Make room.'
+        told.reasons.append(text % (folder, free, ROOM))
+    if not os.path.exists(path):
+        told.notes.append('There is no file %s: a desk that is started makes it, and begins a new warehouse.' % path)
+        return False, []
+    holders = [holder for name in (path, path + '-wal') if os.path.exists(name) for holder in machine.who_has(name)]
+    is_locked = not holders and machine.is_locked(path)
+    if is_locked:
+        text = 'A program has a lock on %s (`fault: Storage`): as root, this says which. End it.'
+        told.reasons.append(text % path)
+    return not holders and not is_locked, list(dict.fromkeys(holders))
+
+
+def _folder(folder: str, user: User) -> str | None:
+    """What is wrong with the folder or one above it."""
+    parts = itertools.accumulate(folder.split('/')[1:], lambda above, name: above + '/' + name, initial='')
+    for part in (one or '/' for one in parts):
+        if not os.path.exists(part):
+            return 'The folder %s is missing: make it, `mkdir -p %s`, or name another file.' % (part, folder)
+        if not os.path.isdir(part):
+            return '%s is no folder, so no file lies in it: name another file.' % part
+        if not user.may(part, os.X_OK):
+            return 'The user %s may not look into the folder %s (%s): %s' % (user, part, machine.owner(part), GRANT)
+    return None
+
+
+GRANT = 'give the right, by `chmod` or `chown`, or run the desk as another user.'
+
+
+def _new_file(path: str, user: User) -> str | None:
+    return None if user.may(os.path.dirname(path), os.W_OK) else _no_writing(os.path.dirname(path), user)
+
+
+def _no_writing(folder: str, user: User) -> str:
+    text = 'The user %s may not make files in the folder %s (%s): %s'
+    return text % (user, folder, machine.owner(folder), _mounted(folder) or GRANT)
+
+
+def _mounted(path: str) -> str | None:
+    readable = os.statvfs(path).f_flag & os.ST_RDONLY
+    return 'its disk is mounted to be read alone: mount it to be written.' if readable else None
+
+
+def _file(path: str, user: User) -> str | None:
+    """What is wrong with the file itself, the log beside it, or the folder where that is to be made."""
+    if os.path.isdir(path):
+        return '%s is a folder: name a file in it, as %s.' % (path, os.path.join(path, 'warehouse.db'))
+    if not stat.S_ISREG(os.stat(path).st_mode):
+        return '%s is no file of a disk: name another file.' % path
+    for name in (path, path + '-wal'):
+        for bit, what in ((os.R_OK, 'read'), (os.W_OK, 'write')):
+            if os.path.exists(name) and not user.may(name, bit):
+                return 'The user %s may not %s %s (%s): %s' % (
+                    user, what, name, machine.owner(name), bit == os.W_OK and _mounted(name) or GRANT,
+                )  # fmt: skip
+    return None if os.path.exists(path + '-wal') else _new_file(path, user)
+
+
+# ---- what is in the file
+
+
+def _look_into(told: Told, path: str, rows_of_a_rule: int) -> None:
+    """Whether the file has the rows of a lawful desk; nobody has it, and the user of this program may read it."""
+    if _has_journal(path):
+        text = (
+            '%s-journal lies beside the file: another SQLite was stopped amid a change (`fault: Storage`). Have it '
+            "taken back: `sqlite3 %s 'SELECT 1 FROM sqlite_master'`."
+        )
+        told.reasons.append(text % (path, path))
+        return
+    if database.is_empty(path):
+        told.notes.append('%s is empty: a desk that is started makes its tables in it.' % path)
+        return
+    try:
+        if not database.has_head(path):
+            with open(path, 'rb') as file:
+                head = file.read(16)
+            text = (
+                '%s is no database: it begins with %r (`fault: Storage`). Name the file of a desk, or put a copy back: '
+                '%s.'
+            )
+            told.reasons.append(text % (path, head, COPY))
+            return
+        with database.opened(path) as base:
+            _look_at_tables(told, path, base, rows_of_a_rule)
+    except sqlite3.Error as error:
+        text = '%s is damaged: SQLite says `%s` (`fault: Storage` or `Damaged`). Put a copy back: %s.'
+        told.reasons.append(text % (path, error, COPY))
+    except OSError as error:
+        text = (
+            'The rows of %s could not be looked at: %s. Run this as root, with room for a copy of the file where TMPDIR '
+            'says.'
+        )
+        told.reasons.append(text % (path, error))
+
+
+COPY = 'docs/OPERATE.md, "Putting a copy back"'
+
+
+def _has_journal(path: str) -> bool:
+    """Whether a journal lies beside the file that another SQLite is to take back: one with a head."""
+    try:
+        with open(path + '-journal', 'rb') as file:
+            return any(file.read(8))
+    except FileNotFoundError:
+        return False
+
+
+def _look_at_tables(told: Told, path: str, base: sqlite3.Connection, rows_of_a_rule: int) -> None:
+    damage = database.integrity(base)
+    if damage:
+        text = '%s is damaged, as SQLite says (`fault: Storage` or `Damaged`). Put a copy back: %s.%s'
+        told.reasons.append(text % (path, COPY, ''.join('\n  ' + line for line in damage)))
+        return
+    found = database.tables_of(base)
+    if found.is_bare:
+        told.notes.append('%s is a database without a table: a desk that is started makes its tables in it.' % path)
+    elif found.is_foreign:
+        text = (
+            "%s is another application's database: its tables are %s. A desk would make its own tables in it: name "
+            'another file.'
+        )
+        told.reasons.append(text % (path, ', '.join(found.others)))
+    elif found.is_first:
+        _look_at_first(told, path, base, rows_of_a_rule)
+    elif found.is_second:
+        rows = read_rows(base)
+        _look_at_rows(told, path, breaches(rows), rows_of_a_rule)
+        text = '%s may refuse a row of the desk (`fault: Storage`): drop it.'
+        told.reasons += [text % other for other in database.others_on_tables(base)]
+        counts = len(rows.load), len(rows.job), len(rows.vehicle), len(rows.journey)
+        text = (
+            '%s is of the second schema, so there is nothing to migrate, and has %d loads, %d jobs, %d vehicles and %d '
+            'open orders.'
+        )
+        told.notes.append(text % (path, *counts))
+    else:
+        lines = ['the table %s is missing' % name for name in found.missing] + found.odd
+        text = (
+            "The tables of %s aren't those of a desk (`fault: Damaged`). Mend them as docs/TABLES.md has them, or put a "
+            'copy back: %s.%s'
+        )
+        told.reasons.append(text % (path, COPY, ''.join('\n  ' + line for line in lines)))
+
+
+def _look_at_first(told: Told, path: str, base: sqlite3.Connection, rows_of_a_rule: int) -> None:
+    """A file of the first schema: it has to be moved, for which its rows have to keep the rules."""
+    broken = breaches(read_first_rows(base))
+    _look_at_rows(told, path, broken, rows_of_a_rule)
+    if not broken:
+        text = (
+            '%s is of the first schema, as an earlier desk made it (`fault: Damaged`). Copy it, `sqlite3 %s '
+            "'.backup before.db'`, and move it: `./desk migrate --db %s` (docs/OPERATE.md, *Migrate a file*)."
+        )
+        told.reasons.append(text % (path, path, path))
+
+
+def _look_at_rows(told: Told, path: str, broken: list[Breach], rows_of_a_rule: int) -> None:
+    """The breaches, under the rules that they break."""
+    if not broken:
+        return
+    text = (
+        'Rows of %s break rules of the desk (`fault: Damaged`). Take back what was written into the file, or put a copy '
+        'back: %s.'
+    )
+    lines = [text % (path, COPY)]
+    for rule, group in itertools.groupby(broken, lambda breach: breach.rule):
+        found = list(group)
+        lines.append('  rule "%s": %s' % (rule.name, rule.text))
+        lines += ['    %s' % breach for breach in found[:rows_of_a_rule]]
+        if len(found) > rows_of_a_rule:
+            lines.append('    and %d more' % (len(found) - rows_of_a_rule))
+    told.reasons.append('\n'.join(lines))

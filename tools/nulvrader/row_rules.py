@@ -1,0 +1,185 @@
+"""The rules of each row by itself, of the layout and of the vehicles."""
+import collections
+
+from .checks import SEATS, Found, rule, value_text, vehicle_text
+from .names import is_name
+from .rows import Act, Edge, Job, Journey, Leg, Load, Node, Rows, Station, Used, key_of
+
+NUMBER = 4294967295  # the greatest number
+MOMENT = 4102444799999  # the last millisecond of 2099
+STATUSES = ('WAITING', 'INITIALIZING', 'RUNNING', 'PAUSED', 'FINISHED', 'FAILED')
+PENDING = (None, 'startPause', 'stopPause', 'cancelOrder')
+MANY = 1_000_000  # the most loads, jobs, orders and references, of each
+
+
+@rule('schema')
+def has_schema(rows: Rows) -> Found:
+    """`meta` has one row, 1 and the number of the schema, which is 2."""
+    if rows.meta != [(1, 2)]:
+        yield 'meta', 'its rows are %s' % (', '.join(str(tuple(row)) for row in rows.meta) or 'none')
+
+
+@rule('no old trips')
+def has_no_trips(rows: Rows) -> Found:
+    """`trip` is empty: it has the open orders of the first schema alone."""
+    for trip in rows.trip:
+        yield trip, 'it belongs to the first schema'
+
+
+@rule('one row a key')
+def has_keys_once(rows: Rows) -> Found:
+    """No two rows of a table have the same key; no vehicle has two journeys, and no job two picks or two drops."""
+    found = collections.Counter(map(str, rows.all()))
+    found.update('journeys of ' + vehicle_text(key_of(row)) for row in rows.journey)
+    found.update('acts that %s %s' % (act.kind, act.job) for act in rows.act)
+    for name, count in found.items():
+        if count > 1:
+            yield name, 'there are %d of it' % count
+
+
+@rule('names')
+def has_names(rows: Rows) -> Found:
+    """Nodes, edges, stations, vehicles, loads, jobs, orders and references have names of 1 to 32 bytes of `A-Z a-z
+    0-9 _ . : -`, and so has the order that a vehicle has reported."""
+    named: list[Node | Edge | Station | Load | Job | Used]
+    named = [*rows.node, *rows.edge, *rows.station, *rows.load, *rows.job, *rows.used]
+    for row in named:
+        if not is_name(row.id):
+            yield row, '%r is no name' % row.id
+    for vehicle in rows.vehicle:
+        for name in (vehicle.manufacturer, vehicle.serial, vehicle.reported):
+            if name is not None and not is_name(name):
+                yield vehicle, '%r is no name' % name
+
+
+@rule('words')
+def has_words(rows: Rows) -> Found:
+    """Kinds, phases, statuses, pending actions and truth values are those of docs/TABLES.md."""
+    for vehicle in rows.vehicle:
+        yield from _wrong(vehicle, 'pending', vehicle.pending, PENDING)
+        yield from _wrong(vehicle, 'ready', vehicle.ready, (0, 1))
+        yield from _wrong(vehicle, 'paused', vehicle.paused, (0, 1))
+    for load in rows.load:
+        yield from _wrong(load, 'kind', load.kind, ('station', 'vehicle', 'checking', 'left'))
+    for job in rows.job:
+        yield from _wrong(job, 'phase', job.phase, ('waiting', 'riding', 'done', 'stopped'))
+    for act in rows.act:
+        yield from _wrong(act, 'kind', act.kind, ('pick', 'drop'))
+        yield from _wrong(act, 'status', act.status, STATUSES)
+    for hold in rows.hold:
+        yield from _wrong(hold, 'kind', hold.kind, ('node', 'edge'))
+    for used in rows.used:
+        yield from _wrong(used, 'kind', used.kind, ('order', 'ref'))
+
+
+def _wrong(row: object, column: str, value: object, words: tuple[object, ...]) -> Found:
+    if value not in words:
+        yield row, '%s is %s, and not one of %s' % (column, value_text(value), ', '.join(map(value_text, words)))
+
+
+@rule('numbers')
+def has_numbers(rows: Rows) -> Found:
+    """Numbers lie from 0 to 4294967295, moments from 0 to 4102444799999."""
+    for vehicle in rows.vehicle:
+        for column in ('last_header', 'order_header', 'instant_header', 'order_at', 'instant_at'):
+            value = getattr(vehicle, column)
+            if value is not None and not 0 <= value <= (MOMENT if column.endswith('_at') else NUMBER):
+                yield vehicle, '%s is %d' % (column, value)
+    numbered: list[Journey | Act | Leg] = [*rows.journey, *rows.act, *rows.leg]
+    for row in numbered:
+        for column, value in zip(row._fields, row):
+            if isinstance(value, int) and not 0 <= value <= NUMBER:
+                yield row, '%s is %d' % (column, value)
+
+
+@rule('limits')
+def is_within_limits(rows: Rows) -> Found:
+    """There are at most 500 nodes, 1,500 edges, 500 stations, 100 vehicles, and 1,000,000 loads, jobs, orders and
+    references each, those that are over counted."""
+    used = collections.Counter(row.kind for row in rows.used)
+    for name, count, most in (
+        ('nodes', len(rows.node), 500), ('edges', len(rows.edge), 1500), ('stations', len(rows.station), 500),
+        ('vehicles', len(rows.vehicle), 100), ('loads', len(rows.load), MANY), ('jobs', len(rows.job), MANY),
+        ('orders', used['order'], MANY), ('references', used['ref'], MANY),
+    ):  # fmt: skip
+        if count > most:
+            yield name, 'there are %d, and at most %d may be' % (count, most)
+
+
+# ---- the layout
+
+
+@rule('edges')
+def edges_join_nodes(rows: Rows) -> Found:
+    """An edge leads from a node of the layout to another one."""
+    for edge in rows.edge:
+        for node in (edge.start, edge.finish):
+            if node not in rows.nodes:
+                yield edge, 'there is no node ' + value_text(node)
+        if edge.start == edge.finish:
+            yield edge, 'it leads from %s to the same node' % edge.start
+
+
+@rule('stations')
+def stations_are_at_nodes(rows: Rows) -> Found:
+    """A station is at a node of the layout, and has room for 1 to 999 loads."""
+    for station in rows.station:
+        if station.node not in rows.nodes:
+            yield station, 'there is no node ' + value_text(station.node)
+        if not 1 <= station.capacity <= 999:
+            yield station, 'its capacity is %d' % station.capacity
+
+
+# ---- the vehicles
+
+
+@rule('where a vehicle stands')
+def vehicles_are_at_nodes(rows: Rows) -> Found:
+    """A vehicle stands at a node of the layout."""
+    for vehicle in rows.vehicle:
+        if vehicle.node not in rows.nodes:
+            yield vehicle, 'there is no node ' + value_text(vehicle.node)
+
+
+@rule('rest of a vehicle')
+def rests_go_on(rows: Rows) -> Found:
+    """A vehicle's rest is an edge that begins where it stands, and the node where that edge ends; or it has none."""
+    for vehicle in rows.vehicle:
+        rest = vehicle.rest_edge, vehicle.rest_node
+        edge = rows.edges.get(vehicle.rest_edge or '')
+        if rest != (None, None) and (edge is None or (edge.start, edge.finish) != (vehicle.node, vehicle.rest_node)):
+            text = 'it stands at %s, and its rest is the edge %s to the node %s'
+            yield vehicle, text % tuple(map(value_text, (vehicle.node, *rest)))
+
+
+@rule('moments of messages')
+def moments_have_messages(rows: Rows) -> Found:
+    """The moment of a vehicle's last message is 0 where none was sent."""
+    for vehicle in rows.vehicle:
+        for topic, count, at in (
+            ('order', vehicle.order_header, vehicle.order_at),
+            ('instantActions', vehicle.instant_header, vehicle.instant_at),
+        ):
+            if count == 0 and at != 0:
+                yield vehicle, 'no %s message was sent to it, and the moment of the last one is %d' % (topic, at)
+
+
+@rule('pending actions')
+def pending_actions_were_sent(rows: Rows) -> Found:
+    """An instant action is pending only where an instantActions message was sent."""
+    for vehicle in rows.vehicle:
+        if vehicle.pending is not None and vehicle.instant_header == 0:
+            yield vehicle, '%s is pending, and no instantActions message was sent to it' % vehicle.pending
+
+
+@rule('capacity of a vehicle')
+def vehicles_have_a_capacity(rows: Rows) -> Found:
+    """Each vehicle has a row in `capacity`, and nothing else has; it carries 1 to 4 loads."""
+    for vehicle in rows.vehicle:
+        if key_of(vehicle) not in rows.capacities:
+            yield vehicle, 'it has no row in `capacity`'
+    for row in rows.capacity:
+        if key_of(row) not in rows.vehicles:
+            yield row, 'there is no such vehicle'
+        if not 1 <= row.capacity <= SEATS:
+            yield row, 'it is %d' % row.capacity

@@ -1,0 +1,353 @@
+"""The rows of a desk's file as docs/TABLES.md has them: a type for the rows of each table, all rows of a file, and
+what follows from them that more than one rule asks for: the way of each open order, and what each vehicle holds."""
+import collections
+import dataclasses
+import functools
+import sqlite3
+from collections.abc import Iterable, Iterator
+from typing import Any, NamedTuple
+
+LIVE = ('waiting', 'riding')
+
+
+class Meta(NamedTuple):
+    id: int
+    schema: int
+
+    def __str__(self) -> str:
+        return 'meta %d, %d' % self
+
+
+class Node(NamedTuple):
+    id: str
+
+    def __str__(self) -> str:
+        return 'node ' + self.id
+
+
+class Edge(NamedTuple):
+    id: str
+    start: str
+    finish: str
+
+    def __str__(self) -> str:
+        return 'edge ' + self.id
+
+
+class Station(NamedTuple):
+    id: str
+    node: str
+    capacity: int
+
+    def __str__(self) -> str:
+        return 'station ' + self.id
+
+
+class Vehicle(NamedTuple):
+    manufacturer: str
+    serial: str
+    node: str
+    rest_edge: str | None
+    rest_node: str | None
+    last_header: int | None
+    reported: str | None
+    ready: int
+    paused: int
+    order_header: int
+    order_at: int
+    instant_header: int
+    instant_at: int
+    pending: str | None
+
+    def __str__(self) -> str:
+        return 'vehicle %s/%s' % self[:2]
+
+
+class Trip(NamedTuple):
+    """An open order as the first schema has it; in the second one this table is empty."""
+
+    order_id: str
+    manufacturer: str
+    serial: str
+    job: str
+    start: str
+    first: int
+    base: int
+    sent: int
+    confirmed: int | None
+    seen: int
+    pick_at: int
+    drop_at: int
+    pick_status: str
+    drop_status: str
+
+    def __str__(self) -> str:
+        return 'trip ' + self.order_id
+
+
+class Leg(NamedTuple):
+    order_id: str
+    k: int
+    edge: str
+
+    def __str__(self) -> str:
+        return 'leg %s, %d' % self[:2]
+
+
+class Load(NamedTuple):
+    id: str
+    kind: str
+    station: str | None
+    manufacturer: str | None
+    serial: str | None
+
+    def __str__(self) -> str:
+        return 'load ' + self.id
+
+
+class Job(NamedTuple):
+    id: str
+    load: str
+    origin: str
+    target: str
+    phase: str
+
+    def __str__(self) -> str:
+        return 'job ' + self.id
+
+
+class Hold(NamedTuple):
+    kind: str
+    id: str
+    manufacturer: str
+    serial: str
+
+    def __str__(self) -> str:
+        return 'hold %s %s' % self[:2]
+
+
+class Used(NamedTuple):
+    kind: str
+    id: str
+
+    def __str__(self) -> str:
+        return 'used %s %s' % self
+
+
+class Capacity(NamedTuple):
+    manufacturer: str
+    serial: str
+    capacity: int
+
+    def __str__(self) -> str:
+        return 'capacity %s/%s' % self[:2]
+
+
+class Journey(NamedTuple):
+    order_id: str
+    manufacturer: str
+    serial: str
+    start: str
+    first: int
+    base: int
+    sent: int
+    confirmed: int | None
+    seen: int
+
+    def __str__(self) -> str:
+        return 'journey ' + self.order_id
+
+
+class Act(NamedTuple):
+    order_id: str
+    n: int
+    job: str
+    kind: str
+    place_at: int
+    status: str
+
+    def __str__(self) -> str:
+        return 'act %s, %d' % self[:2]
+
+
+Row = (
+    Meta | Node | Edge | Station | Vehicle | Trip | Leg | Load | Job | Hold | Used | Capacity | Journey | Act
+)  # a row of any table; its text names the table and the key
+Key = tuple[str, str]  # a vehicle's manufacturer and serial number
+Thing = tuple[str, str]  # `node` or `edge`, and its name
+
+
+def key_of(row: Vehicle | Capacity | Journey | Hold) -> Key:
+    """The vehicle that the row is about."""
+    return row.manufacturer, row.serial
+
+
+@dataclasses.dataclass(frozen=True)
+class Way:
+    """An open order: its journey, its legs and its acts in their order, and the nodes of its way. A node is None
+    where the layout doesn't have the edge before it."""
+
+    journey: Journey
+    legs: list[Leg]
+    acts: list[Act]
+    nodes: list[str | None]
+
+    def node(self, k: int) -> str | None:
+        return self.nodes[k] if 0 <= k < len(self.nodes) else None
+
+    def released(self) -> Iterator[Thing]:
+        """The node that the vehicle has reached, and each edge and node that is released ahead of it."""
+        journey = self.journey
+        for k in range(max(journey.seen, 0), min(journey.base, len(self.legs)) + 1):
+            node = self.node(k)
+            if node is not None:
+                yield 'node', node
+            if k < min(journey.base, len(self.legs)):
+                yield 'edge', self.legs[k].edge
+
+
+@dataclasses.dataclass(frozen=True)
+class Rows:
+    """All rows of a file of the second schema."""
+
+    meta: list[Meta]
+    node: list[Node]
+    edge: list[Edge]
+    station: list[Station]
+    vehicle: list[Vehicle]
+    trip: list[Trip]
+    leg: list[Leg]
+    load: list[Load]
+    job: list[Job]
+    hold: list[Hold]
+    used: list[Used]
+    capacity: list[Capacity]
+    journey: list[Journey]
+    act: list[Act]
+
+    def all(self) -> Iterator[Row]:
+        """All rows, table by table."""
+        for table in TABLES:
+            yield from getattr(self, table)
+
+    @functools.cached_property
+    def nodes(self) -> set[str]:
+        return {row.id for row in self.node}
+
+    @functools.cached_property
+    def edges(self) -> dict[str, Edge]:
+        return {row.id: row for row in self.edge}
+
+    @functools.cached_property
+    def stations(self) -> dict[str, Station]:
+        return {row.id: row for row in self.station}
+
+    @functools.cached_property
+    def loads(self) -> dict[str, Load]:
+        return {row.id: row for row in self.load}
+
+    @functools.cached_property
+    def jobs(self) -> dict[str, Job]:
+        return {row.id: row for row in self.job}
+
+    @functools.cached_property
+    def vehicles(self) -> dict[Key, Vehicle]:
+        return {key_of(row): row for row in self.vehicle}
+
+    @functools.cached_property
+    def capacities(self) -> dict[Key, int]:
+        return {key_of(row): row.capacity for row in self.capacity}
+
+    @functools.cached_property
+    def ways(self) -> dict[Key, Way]:
+        """The open order of each vehicle that has one."""
+        legs: dict[str, list[Leg]] = collections.defaultdict(list)
+        acts: dict[str, list[Act]] = collections.defaultdict(list)
+        for leg in sorted(self.leg, key=lambda row: row.k):
+            legs[leg.order_id].append(leg)
+        for act in sorted(self.act, key=lambda row: row.n):
+            acts[act.order_id].append(act)
+        found = {}
+        for journey in self.journey:
+            way = legs.get(journey.order_id, [])
+            ends = [self.edges[leg.edge].finish if leg.edge in self.edges else None for leg in way]
+            found[key_of(journey)] = Way(journey, way, acts.get(journey.order_id, []), [journey.start, *ends])
+        return found
+
+    @functools.cached_property
+    def to_drop(self) -> dict[str, Act]:
+        """By job, the drop of an open order that is not finished."""
+        acts = (act for way in self.ways.values() for act in way.acts)
+        return {act.job: act for act in acts if act.kind == 'drop' and act.status != 'FINISHED'}
+
+    @functools.cached_property
+    def held(self) -> dict[Thing, list[Key]]:
+        """Each node and edge that is held, with the vehicles that hold it: of one without an order the node where it
+        stands and its rest, of one with an order what is released to it."""
+        found: dict[Thing, list[Key]] = collections.defaultdict(list)
+        for key, vehicle in self.vehicles.items():
+            things: Iterable[Thing] = self.ways[key].released() if key in self.ways else _at_rest(vehicle)
+            for thing in dict.fromkeys(things):
+                found[thing].append(key)
+        return found
+
+
+def _at_rest(vehicle: Vehicle) -> Iterator[Thing]:
+    yield 'node', vehicle.node
+    if vehicle.rest_edge is not None:
+        yield 'edge', vehicle.rest_edge
+    if vehicle.rest_node is not None:
+        yield 'node', vehicle.rest_node
+
+
+TABLES: dict[str, type[Row]] = {
+    'meta': Meta, 'node': Node, 'edge': Edge, 'station': Station, 'vehicle': Vehicle, 'trip': Trip, 'leg': Leg,
+    'load': Load, 'job': Job, 'hold': Hold, 'used': Used, 'capacity': Capacity, 'journey': Journey, 'act': Act,
+}  # fmt: skip
+SECOND = ('capacity', 'journey', 'act')  # the tables that the first schema lacks
+
+
+def columns(table: str) -> tuple[str, ...]:
+    """The columns of a table, in their order."""
+    return TABLES[table]._fields
+
+
+def read_rows(base: sqlite3.Connection) -> Rows:
+    """All rows of a file of the second schema. Bytes that are no UTF-8 become characters that no name has."""
+    return Rows(**{table: _read(base, table) for table in TABLES})
+
+
+def read_first_rows(base: sqlite3.Connection) -> Rows:
+    """All rows of a file of the first schema, as `migrate` makes them rows of the second one."""
+    found = {table: _read(base, table) for table in TABLES if table not in SECOND}
+    trips: list[Trip] = found.pop('trip')
+    found['meta'] = [Meta(row.id, row.schema + 1) for row in found['meta']]
+    return Rows(
+        **found,
+        trip=[],
+        capacity=[Capacity(*key_of(row), 1) for row in found['vehicle']],
+        journey=[_journey_of(trip) for trip in trips],
+        act=[act for trip in trips for act in _acts_of(trip)],
+    )
+
+
+def _journey_of(trip: Trip) -> Journey:
+    walk = trip.start, trip.first, trip.base, trip.sent, trip.confirmed, trip.seen
+    return Journey(trip.order_id, trip.manufacturer, trip.serial, *walk)
+
+
+def _acts_of(trip: Trip) -> Iterator[Act]:
+    yield Act(trip.order_id, 0, trip.job, 'pick', trip.pick_at, trip.pick_status)
+    yield Act(trip.order_id, 1, trip.job, 'drop', trip.drop_at, trip.drop_status)
+
+
+def any_text(data: bytes) -> str:
+    """A text of SQLite, also where it is no UTF-8."""
+    return data.decode('utf-8', 'surrogateescape')
+
+
+def _read(base: sqlite3.Connection, table: str) -> list[Any]:
+    """The rows of a table, past its indexes."""
+    base.text_factory = any_text
+    names = ', '.join('"%s"' % name for name in columns(table))
+    return list(map(TABLES[table]._make, base.execute('SELECT %s FROM "%s" NOT INDEXED' % (names, table))))

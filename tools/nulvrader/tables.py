@@ -1,0 +1,75 @@
+"""The CSV tables that a desk reads, with the numbers of their lines, as it reads them (docs/PROFILE.md)."""
+from __future__ import annotations
+
+from collections.abc import Sequence
+from dataclasses import dataclass
+
+BODY = 65536  # bytes of the largest body
+MARK = b'\xef\xbb\xbf'
+COMMA, QUOTE, LF, CR = b',"\n\r'
+
+
+@dataclass(frozen=True)
+class Fault:
+    """What is wrong with a file: the number of the line, or none where it is of the whole file, the refusal by which a
+    desk answers it, and the rule in words."""
+
+    line: int | None
+    refusal: str
+    rule: str
+
+    def __str__(self) -> str:
+        return '%s%s: %s' % ('line %d: ' % self.line if self.line else '', self.refusal, self.rule)
+
+
+def records_of(data: bytes) -> list[tuple[int, list[bytes]]]:
+    """The records of a CSV text, each with the number of the line in which it begins: a quote inside a field stands
+    for itself, empty lines are passed over, and so is a byte order mark at the beginning."""
+    found: list[tuple[int, list[bytes]]] = []
+    fields: list[bytes] = []
+    field = bytearray()
+    line, begun, before = 1, 1, -1
+    state = 'between records'
+    for byte in data.removeprefix(MARK):
+        ends = byte in (LF, CR)
+        if state == 'between records' and not ends:
+            begun, state = line, 'before a field'
+        if state == 'in quotes':
+            if byte == QUOTE:
+                state = 'behind a quote'
+            else:
+                field.append(byte)
+        elif ends and state != 'between records':
+            found.append((begun, [*fields, bytes(field)]))
+            fields, field, state = [], bytearray(), 'between records'
+        elif byte == COMMA:
+            fields.append(bytes(field))
+            field, state = bytearray(), 'before a field'
+        elif byte == QUOTE and state == 'before a field':
+            state = 'in quotes'
+        elif byte == QUOTE and state == 'behind a quote':
+            field.append(byte)
+            state = 'in quotes'
+        elif not ends:
+            field.append(byte)
+            state = 'in a field'
+        if ends and not (byte == LF and before == CR):
+            line += 1
+        before = byte
+    if state != 'between records':
+        found.append((begun, [*fields, bytes(field)]))
+    return found
+
+
+def shown(field: bytes) -> str:
+    """A field in quotes, and all that is not ASCII in it by its code."""
+    try:
+        text = field.decode()
+    except UnicodeDecodeError:
+        text = field.decode('latin-1')
+    return ascii(text if len(text) <= 40 else text[:40] + '..')
+
+
+def said(fields: Sequence[bytes]) -> str:
+    """The fields of a record as they stand in a file, cut where they are long; `missing` where there is no record."""
+    return ','.join(shown(field)[1:-1] for field in fields)[:60] if fields else 'missing'
