@@ -606,10 +606,10 @@ REFUSED = [
     (('x' * 100_000,), "error: unrecognized subcommand '%s'" % ('x' * 100_000)),
     ((b'\xff',), 'error: a word of the line is not UTF-8\n'),
     (MEMORY + ('--at', b'\xff'), 'error: a word of the line is not UTF-8\n'),
-    (('--help',), 'The control desk of one warehouse: its vehicles, loads and orders\n\nUsage: desk <COMMAND>\n\nCommands:\n  replay  '),
+    (('--help',), 'Nulvrader 0.1.0, the control desk of one warehouse: its vehicles, loads and orders\n\nUsage: desk <COMMAND>\n\nCommands:\n  replay  '),
     (('replay', '--help'), 'Reads requests from standard input and writes the answers to standard output\n\nUsage: '),
     (('report', '--help'), 'Prints a report of the records: where the loads are, or what the vehicles hold\n\nUsage: '),
-    (('migrate', '--help'), 'Moves a file of the first schema (one load a vehicle) to the second\n\nUsage: '),
+    (('migrate', '--help'), 'Migrates a file of the first schema (one load a vehicle) to the second\n\nUsage: '),
     (('migrate',), LACKING + '\n  --db <FILE>\n'),
     (('serve', '--help'), 'Answers requests over the network, to programs on this machine (127.0.0.1)\n\nUsage: '),
 ]

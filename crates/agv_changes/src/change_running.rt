@@ -16,7 +16,7 @@ use sqlite::{Alter, Connection, Error};
 /// after all of them, and an opening finds these ([`change_laws`](crate::change_laws)).
 ///
 /// # Errors
-/// [`WriteFault::Memory`] for want of memory, and [`WriteFault::Storage`] for any other error of the database. No clause says that
+/// [`WriteFault::Memory`] when out of memory, and [`WriteFault::Storage`] for any other error of the database. No clause says that
 /// the disk has failed then: SQL refuses a row too, where the changes would give two open trips one vehicle, or two acts one job and one kind, or
 /// where a unique index that isn't the desk's forbids it.
 pub fn write_changes<S: Alter>(

@@ -7,8 +7,8 @@ use sqlite::{Error, ErrorCode};
 /// Why changes of the desk's tables aren't written.
 #[derive(Clone, Copy, Debug, PartialEq, Eq, thiserror::Error)]
 pub enum WriteFault {
-    /// Want of memory.
-    #[error("want of memory")]
+    /// Out of memory.
+    #[error("out of memory")]
     Memory,
     /// Any other error: the store failed or was shut by an earlier failure, the connection limits the steps of its
     /// queries, or SQL refused what was to be written, which needs no fault of the disk.

@@ -46,7 +46,7 @@ pub enum Line<'a> {
         /// Which report.
         kind: ReportKind,
     },
-    /// Moves a file of the first schema to the second, in which a vehicle has room for several loads.
+    /// Migrates a file of the first schema to the second, in which a vehicle has room for several loads.
     Migrate {
         /// The file of the records.
         db: &'a str,
@@ -59,8 +59,8 @@ pub enum LineFault {
     /// The words are refused, or ask for help; the error is the text to show.
     #[error("{0}")]
     Refused(Error),
-    /// Want of memory.
-    #[error("want of memory")]
+    /// Out of memory.
+    #[error("out of memory")]
     Memory,
 }
 
@@ -108,7 +108,7 @@ fn answering_command<'a>(alloc: Global) -> Result<Command<'a>, AllocError>
     ensures { IfOk result (IsApp answering) }
 {
     Command::new(alloc, "desk")
-        .about("The control desk of one warehouse: its vehicles, loads and orders")
+        .about("Nulvrader 0.1.0, the control desk of one warehouse: its vehicles, loads and orders")
         .after_help("Example: desk replay --db memory --at 1700000000000 < requests.txt")
         .no_binary_name(true)
         .subcommand_required(true)
@@ -220,7 +220,7 @@ fn migrate_command<'a>(alloc: Global) -> Result<Command<'a>, AllocError>
     ensures { IfOk result (IsApp migrate) }
 {
     Command::new(alloc, "migrate")
-        .about("Moves a file of the first schema (one load a vehicle) to the second")
+        .about("Migrates a file of the first schema (one load a vehicle) to the second")
         .after_help("Example: sqlite3 desk.db '.backup before.db'; desk migrate --db desk.db")
         .arg(file_arg(alloc))
 }

@@ -9,7 +9,7 @@ use std::alloc::Global;
 /// Where each load stands, as CSV: the header `load,place,at`, and a record for each load, in the order given. The
 /// desk gives the loads by name. Each record ends in LF alone.
 ///
-/// No field needs quotes, since no name has a comma, a quote or the end of a line. `Memory` for want of memory
+/// No field needs quotes, since no name has a comma, a quote or the end of a line. `Memory` when out of memory
 /// alone.
 pub fn loads_csv(alloc: Global, loads: &[(Name, Place)]) -> Result<Vec<u8>, Memory>
     ensures { IfOk result (λ export. export.items ≡ loads_text loads.now) }

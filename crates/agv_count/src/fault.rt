@@ -13,7 +13,7 @@ pub enum CsvFault {
     #[error("the file isn't the table that it should be")]
     BadCsv,
     /// An allocation was refused; the file may be good.
-    #[error("want of memory")]
+    #[error("out of memory")]
     Memory,
 }
 

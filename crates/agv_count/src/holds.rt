@@ -8,7 +8,7 @@ use std::alloc::Global;
 /// The report of what is held, and by which vehicle: a line for each hold, in the order given, and how many of all
 /// nodes and edges are held. The desk gives the nodes first, then the edges, each by name.
 ///
-/// `Memory` for want of memory alone.
+/// `Memory` only when out of memory.
 pub fn hold_report(
     alloc: Global,
     holds: &[(Thing, VehicleKey)],

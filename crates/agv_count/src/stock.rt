@@ -18,7 +18,7 @@ use std::alloc::Global;
 ///
 /// All is in the order given. The desk gives stations, loads and vehicles in the order of their names. A load whose
 /// station or vehicle isn't given is left out. The time is that of the stations, the loads and the vehicles, each
-/// load times the depth of a map. `Memory` for want of memory alone.
+/// load times the depth of a map. `Memory` only when out of memory.
 pub fn stock_report(
     alloc: Global,
     stations: &[(Station, u32)],

@@ -27,7 +27,7 @@ pub const NAMES: [&str; 14] = [
 ///
 /// # Errors
 /// [`MakingFault::Taken`] where a table, a view or an index has the name of one of the tables, and only
-/// there: nothing is touched then. Else [`MakingFault::Memory`] for want of memory, and [`MakingFault::Storage`] for any
+/// there: nothing is touched then. Else [`MakingFault::Memory`] when out of memory, and [`MakingFault::Storage`] for any
 /// other error of the database.
 pub fn make_desk_tables<S: Alter>(conn: &mut Connection<S>) -> Result<(), MakingFault>
     requires idle { conn.old.in_transaction ≡ false }

@@ -11,8 +11,8 @@ pub enum MakingFault {
     /// [`move_tables`](move_tables) also: a foreign key refers to one of them.
     #[error("a table, a view or an index has the name of one of the desk's tables")]
     Taken,
-    /// Want of memory.
-    #[error("want of memory")]
+    /// Out of memory.
+    #[error("out of memory")]
     Memory,
     /// Any other error of the database, as that the store failed or was shut by an earlier failure.
     #[error("the database failed")]

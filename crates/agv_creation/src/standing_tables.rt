@@ -22,7 +22,7 @@ const MAX_TREES: u32 = 1 << 31;
 /// plain indexes may stand beside them.
 ///
 /// # Errors
-/// [`Memory`] for want of memory.
+/// [`Memory`] when out of memory.
 pub fn tables_stand(alloc: Global, schema: &Schema) -> Result<bool, Memory>
     ensures { IfOk result (λ stand. IsTrue stand ↔ TablesStand schema.now) }
 {

@@ -34,7 +34,7 @@ const CANNOT_OPEN: Error = Error::SqliteFailure(ErrorCode::CannotOpen);
 ///
 /// # Errors
 /// `DatabaseBusy` where another program has the file open, `NotADatabase` or `DatabaseCorrupt` where it has something else
-/// than a sound database, `OutOfMemory` where memory is wanting, and others where the system refuses it.
+/// than a sound database, `OutOfMemory` when out of memory, and others where the system refuses it.
 pub fn open_file(rt: &HostRuntime, path: &str) -> Result<Connection<FileStore<File>>, Error>
     ensures memory { path.now ≡ codes ":memory:" → result ≡ Err (Error.SqliteFailure ErrorCode.CannotOpen) }
     ensures opened { IfOk result (λ conn. HasCleanDisk (file_state conn) → IsOpened conn) }
@@ -83,7 +83,7 @@ fn random_number(rt: &HostRuntime) -> Result<u64, Error>
 ///
 /// # Errors
 /// `NotADatabase` or `DatabaseCorrupt` where the files have something else than a sound database, `OutOfMemory` where memory
-/// is wanting, and others where the files fail.
+/// runs out, and others where the files fail.
 pub fn open_files<D: Disk + Drop>(
     alloc: Global,
     mut files: Files<D>,

@@ -14,7 +14,7 @@ use std::alloc::Global;
 /// A new database in memory: it has no table, and it is gone when the connection is.
 ///
 /// # Errors
-/// Where memory is wanting: `OutOfMemory`, or where it was a file that lacked it `SystemIoFailure`. So it is with the
+/// When out of memory: `OutOfMemory`, or where it was a file that lacked it `SystemIoFailure`. So it is with the
 /// calls of the connection.
 pub fn open_in_memory(alloc: Global) -> Result<Connection<FileStore<MemoryFile>>, Error>
     ensures empty { IfOk result (λ conn. IsEmpty (state over_memory_files conn)) }

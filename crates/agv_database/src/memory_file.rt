@@ -146,7 +146,7 @@ fn resize(bytes: &mut Vec<u8>, len: usize) -> Result<(), AllocError>
     bytes.resize(len, 0)
 }
 
-/// Gives want of memory as an error of the file, and counts it.
+/// Gives that memory ran out as an error of the file, and counts it.
 fn note_fault(outcome: Result<(), AllocError>, faults: &mut u64) -> io::Result<()>
     ensures variant { is_ok result ≡ is_ok outcome }
     ensures kind { finds_no_room result ≡ false }

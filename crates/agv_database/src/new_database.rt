@@ -19,13 +19,13 @@ use std::alloc::Global;
 /// Bytes of a page of a new database, the fewest that there may be: what changes is written by whole pages, and summed.
 pub const PAGE_SIZE: usize = 512;
 
-/// The error where memory is wanting.
+/// The error when out of memory.
 pub const NO_MEMORY: Error = Error::SqliteFailure(ErrorCode::OutOfMemory);
 
 /// A new database over these files, with pages of 512 bytes: it has no table.
 ///
 /// # Errors
-/// `OutOfMemory` where memory is wanting, `SystemIoFailure` or `DiskFull` where the files fail, and `DatabaseCorrupt` where
+/// `OutOfMemory` when out of memory, `SystemIoFailure` or `DiskFull` where the files fail, and `DatabaseCorrupt` where
 /// they have a database already.
 pub fn new_database<D: Disk + Drop>(
     alloc: Global,

@@ -15,7 +15,7 @@ use std::alloc::Global;
 /// views and plain indexes may stand beside them.
 ///
 /// # Errors
-/// [`Memory`] for want of memory.
+/// [`Memory`] when out of memory.
 pub fn first_tables_stand(alloc: Global, schema: &Schema) -> Result<bool, Memory>
     ensures { IfOk result (λ stand. IsTrue stand ↔ FirstTablesStand schema.now) }
 {

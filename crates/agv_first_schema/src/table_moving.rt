@@ -38,7 +38,7 @@ pub fn can_be_added(schema: &Schema) -> bool
 ///
 /// # Errors
 /// [`MakingFault::Taken`] where the three tables can't be made beside what the database has ([`can_be_added`]), and only
-/// there: nothing is touched then. Else [`MakingFault::Memory`] for want of memory, and [`MakingFault::Storage`] for any
+/// there: nothing is touched then. Else [`MakingFault::Memory`] when out of memory, and [`MakingFault::Storage`] for any
 /// other error of the database.
 pub fn move_tables<S: Alter>(conn: &mut Connection<S>, tables: &World) -> Result<(), MakingFault>
     requires idle { conn.old.in_transaction ≡ false }

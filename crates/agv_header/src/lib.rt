@@ -12,7 +12,7 @@
 //! - [`is_fresh`] and [`next_number`] are the rules of header numbers.
 //! - [`Refusal`] lists every refusal of the desk, each with its number, name and HTTP status.
 //! - [`limits`] has the limits of the desk.
-//! - [`Memory`] is the error of a call that fails for want of memory alone. Only [`topic_text`] and
+//! - [`Memory`] is the error of a call that fails only when out of memory. Only [`topic_text`] and
 //!   [`stamp_text`] take memory.
 #![tactic(auto)]
 

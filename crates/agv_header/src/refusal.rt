@@ -157,7 +157,7 @@ pub enum Refusal {
     OnVehicle,
 
     // The machine; each ends the stream.
-    /// Want of memory.
+    /// Out of memory.
     Memory,
     /// A fault of the store.
     Storage,

@@ -3,7 +3,7 @@
 use std::alloc::{AllocError, AllocFailed};
 use thiserror::Error;
 
-/// Rows that give no layout, or want of memory.
+/// Rows that give no layout, or memory that ran out.
 #[derive(Clone, Copy, Debug, PartialEq, Eq, Error)]
 pub enum LayoutFault {
     /// More than 500 nodes, 1,500 edges or 500 stations.
@@ -13,8 +13,8 @@ pub enum LayoutFault {
     /// edge from a node to itself; or a capacity that is not 1 to 999.
     #[error("the rows are no layout")]
     Bad,
-    /// Want of memory; the rows may be good.
-    #[error("want of memory")]
+    /// Out of memory; the rows may be good.
+    #[error("out of memory")]
     Memory,
 }
 

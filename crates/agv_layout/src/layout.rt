@@ -44,7 +44,7 @@ impl Layout {
     /// - `Bad`, else, where there is no node, where an id is twice within a kind (a node and a
     ///   station may have the same), where an edge or a station has a node that is not listed, where
     ///   an edge leads from a node to itself, or where a capacity is not 1 to 999.
-    /// - `Memory` for want of memory alone.
+    /// - `Memory` only when out of memory.
     ///
     /// It takes time in proportion to the rows, times the logarithm of their number.
     pub fn of_rows(alloc: Global, rows: &[LayoutRow]) -> Result<Layout, LayoutFault>
@@ -80,7 +80,7 @@ impl Layout {
 
     /// A layout equal to this one.
     ///
-    /// `Memory` for want of memory alone.
+    /// `Memory` only when out of memory.
     pub fn copy(&self) -> Result<Layout, Memory>
         ensures copied { IfOk result (λ copy. copy ≡ self.now) }
     {

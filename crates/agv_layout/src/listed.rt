@@ -15,7 +15,7 @@ impl Layout {
     /// The rows of this layout: its nodes, its edges and its stations, each in the order of their names. They give
     /// it again.
     ///
-    /// `Memory` for want of memory alone.
+    /// `Memory` only when out of memory.
     pub fn rows(&self, alloc: Global) -> Result<Vec<LayoutRow>, Memory>
         ensures rows { IfOk result (λ rows. rows.items ≡ rows_in self.now) }
     {

@@ -39,7 +39,7 @@ impl Layout {
     /// names is unknown; the empty list from a node to itself.
     ///
     /// At each node it takes the edge of least name that leads nearer. The time is that of the nodes
-    /// and the edges, each times the depth of a map. `Memory` for want of memory alone.
+    /// and the edges, each times the depth of a map. `Memory` only when out of memory.
     pub fn route(&self, alloc: Global, from: Name, to: Name) -> Result<Option<Vec<Name>>, Memory>
         ensures route { IfOk result (λ route. IsWayTo self.now from to (option_map (λ ids. ids.items) route)) }
         ensures exact { IfOk result (λ route. option_map (λ ids. ids.items) route ≡ route_of self.now from to) }

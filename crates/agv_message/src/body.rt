@@ -21,7 +21,7 @@ pub enum BodyFault {
     #[error("the body is refused: {0}")]
     Refused(Refusal),
     /// An allocation was refused; the body may be good.
-    #[error("want of memory")]
+    #[error("out of memory")]
     Memory,
 }
 

@@ -6,7 +6,7 @@ use agv_header::Memory;
 use std::alloc::{AllocError, AllocFailed};
 use thiserror::Error;
 
-/// A trip that can't be planned, or want of memory.
+/// A trip that can't be planned, or memory that ran out.
 #[derive(Clone, Copy, Debug, PartialEq, Eq, Error)]
 pub enum PlanFault {
     /// The vehicle's node, or the job or the station of a stop, is unknown, or no walk leads to it.
@@ -18,8 +18,8 @@ pub enum PlanFault {
     /// More edges are to be released than the way has.
     #[error("more edges are to be released than the way has")]
     Beyond,
-    /// Want of memory; the trip may be possible.
-    #[error("want of memory")]
+    /// Out of memory; the trip may be possible.
+    #[error("out of memory")]
     Memory,
 }
 

@@ -32,8 +32,8 @@ pub enum JoinRefusal {
     /// The message does not begin at the last node of the base that it holds.
     #[error("the message doesn't begin at the last node of the base")]
     NotStitched,
-    /// Want of memory; the message may be good.
-    #[error("want of memory")]
+    /// Out of memory; the message may be good.
+    #[error("out of memory")]
     Memory,
 }
 
@@ -55,7 +55,7 @@ impl From<Memory> for JoinRefusal {
 ///   refuses one before it (`Lower`).
 /// - It takes a later one that begins at the last node of its base: then it holds its base, and from that
 ///   node on the message. Any other is `NotStitched`.
-/// - `Memory`, for want of memory alone, comes only where an order is taken: the other answers take none.
+/// - `Memory`, only when out of memory, comes only where an order is taken: the other answers take none.
 pub fn join(
     alloc: Global,
     held: Option<&OrderMessage>,

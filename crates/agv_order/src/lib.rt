@@ -3,7 +3,7 @@
 //! - A [`Trip`] is an open order of a vehicle: the edges that it is to drive, and the [`Act`]s, picks
 //!   and drops of loads, that it carries out on the way.
 //! - [`stops_fit`] tells which lists of [`Stop`]s an order can make. [`Trip::plan`] plans the trip that
-//!   makes those of a [`NewTrip`], by the route from stop to stop; [`Trip::release`] releases more of it
+//!   makes them, by the route from stop to stop; [`Trip::release`] releases more of it
 //!   by an update.
 //! - [`Trip::message`] is the order message of the trip's last update, with the numbers of
 //!   [`node_seq`] and [`edge_seq`]; [`join`] is what a vehicle does with a message.
@@ -35,7 +35,6 @@ pub use act::{Act, is_drop};
 pub use fault::PlanFault;
 pub use joins::{JoinRefusal, Joined, join};
 pub use number::{edge_seq, node_seq};
-pub use plan::NewTrip;
 pub use status::{is_final, is_finished, merge};
 pub use stop::{Stop, stops_fit};
 pub use stop_route::job_named;

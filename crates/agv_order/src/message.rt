@@ -13,7 +13,7 @@ impl Trip {
     ///
     /// It has the nodes from place `first` on and the edges between them, those of the base released, and
     /// on each node its acts in their order (VDA 5050 2.0, order). Its time is that of the edges, times
-    /// the acts. `Memory` for want of memory alone.
+    /// the acts. `Memory` only when out of memory.
     pub fn message(&self, alloc: Global) -> Result<OrderMessage, Memory>
         requires short { length self.now.edges ≤ 200 }
         requires few { length self.now.acts ≤ 8 }

@@ -14,59 +14,49 @@ use agv_message::Sequence;
 use agv_stock::Job;
 use std::alloc::Global;
 
-/// What the plan of a trip begins with.
-#[derive(Clone, Copy, Debug)]
-pub struct NewTrip {
-    /// The order's name (`orderId`).
-    pub order: Name,
-    /// The vehicle that is to carry it out.
-    pub vehicle: VehicleKey,
-    /// The node where the vehicle stands.
-    pub start: Name,
-    /// How many edges are released.
-    pub edges: u32,
-}
-
 impl Trip {
-    /// Plans the trip of a vehicle that is to make these stops one after the other: from its node to the
-    /// node of each stop in turn, each time by the route of the layout. The job of a stop is looked up
-    /// among `jobs`; its load is picked at its origin and dropped at its target. The first `new_trip.edges`
-    /// edges are released.
+    /// Plans the trip of the order named `order` (its `orderId`): the vehicle is to make these stops one after
+    /// the other, from the node `at_node`, where it stands, to the node of each stop in turn, each time by the
+    /// route of the layout. The job of a stop is looked up among `jobs`; its load is picked at its origin and
+    /// dropped at its target. The first `edges` edges are released.
     ///
     /// - `NoWalk` where a job, its station or the vehicle's node is unknown, or no walk leads to a stop.
     /// - `TooLong`, else, where the whole way has more than 200 edges.
-    /// - `Beyond`, else, where `new_trip.edges` is more than it has.
-    /// - `Memory` for want of memory alone.
+    /// - `Beyond`, else, where `edges` is more than it has.
+    /// - `Memory` only when out of memory.
     ///
     /// The trip is well formed where the stops fit and are at most eight. The time is that of a route
     /// for each stop, and of the edges.
     pub fn plan(
         alloc: Global,
         layout: &Layout,
-        new_trip: NewTrip,
+        vehicle: VehicleKey,
         jobs: &[Job],
         stops: &[Stop],
+        order: Name,
+        at_node: Name,
+        edges: u32,
     ) -> Result<Trip, PlanFault>
-        ensures ok { IfOk result (λ trip. planned layout.now new_trip.vehicle jobs.now stops.now new_trip.order new_trip.start new_trip.edges ≡ Ok trip) }
+        ensures ok { IfOk result (λ trip. planned layout.now vehicle jobs.now stops.now order at_node edges ≡ Ok trip) }
         ensures err { IfErr result (λ error. error ≢ fault.Memory
-            → planned layout.now new_trip.vehicle jobs.now stops.now new_trip.order new_trip.start new_trip.edges ≡ Err error) }
+            → planned layout.now vehicle jobs.now stops.now order at_node edges ≡ Err error) }
         ensures well_formed { IsTrue (stops_fit stops.now) → length stops.now ≤ 8 → IfOk result (IsWellFormed layout.now) }
     {
-        let stop_routes = stop_routes_to(alloc, layout, jobs, new_trip.start, stops)?;
+        let stop_routes = stop_routes_to(alloc, layout, jobs, at_node, stops)?;
         let way = way_of(alloc, &stop_routes)?;
         if way.len() > MAX_TRIP_EDGES {
             return Err(PlanFault::TooLong);
         }
-        if new_trip.edges as usize > way.len() {
+        if edges as usize > way.len() {
             return Err(PlanFault::Beyond);
         }
         Ok(Trip {
-            order: new_trip.order,
-            vehicle: new_trip.vehicle,
-            start: new_trip.start,
+            order,
+            vehicle,
+            start: at_node,
             edges: Sequence::from(way),
             first: 0,
-            base: new_trip.edges,
+            base: edges,
             sent: 0,
             confirmed: None,
             seen: 0,

@@ -40,7 +40,7 @@ pub struct Trip {
 impl Trip {
     /// A trip equal to this one.
     ///
-    /// `Memory` for want of memory alone.
+    /// `Memory` only when out of memory.
     pub fn copy(&self) -> Result<Trip, Memory>
         ensures { IfOk result (λ copy. copy ≡ self.now) }
     {

@@ -15,8 +15,8 @@ pub enum RunFault {
     /// The file has no tables of a desk, or what they have breaks a rule of the desk.
     #[error("the file has no desk's tables, or what they have breaks a rule of the desk")]
     Damaged,
-    /// Want of memory.
-    #[error("want of memory")]
+    /// Out of memory.
+    #[error("out of memory")]
     Memory,
     /// A fault of the store: the file can't be opened, read or written.
     #[error("the file can't be opened, read or written")]
@@ -76,12 +76,12 @@ pub enum NoLine {
     Refused(Error),
     /// A word is no text.
     NotText,
-    /// Want of memory.
+    /// Out of memory.
     Memory,
 }
 
 impl NoLine {
-    /// The exit status: 2 where the words are refused, 1 for want of memory.
+    /// The exit status: 2 where the words are refused, 1 when out of memory.
     pub fn status(&self) -> u8
         ensures { result ≡ status_without self.now }
     {

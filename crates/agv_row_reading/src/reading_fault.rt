@@ -12,8 +12,8 @@ use std::alloc::{AllocError, AllocFailed};
 /// nothing, but that it may end the transaction and so undo it.
 #[derive(Clone, Copy, Debug, PartialEq, Eq, thiserror::Error)]
 pub enum ReadingFault {
-    /// Want of memory.
-    #[error("want of memory")]
+    /// Out of memory.
+    #[error("out of memory")]
     Memory,
     /// The store failed, or was shut by an earlier failure.
     #[error("the database failed")]

@@ -5,7 +5,7 @@ use crate::cases::{check_text, kit, name, number, part, row, shown, word};
 use crate::layouts::{WAREHOUSE, layout};
 use crate::trips::kind;
 use agv_layout::Layout;
-use agv_order::{NewTrip, PlanFault, Stop, Trip, stops_fit};
+use agv_order::{PlanFault, Stop, Trip, stops_fit};
 use agv_stock::{Job, Phase};
 use std::alloc::Global;
 use std::process::Abort;
@@ -51,15 +51,12 @@ pub(crate) fn plan(
     layout: &Layout,
     call: &str,
 ) -> Result<Trip, PlanFault> {
-    let new_trip = NewTrip {
-        order: name(rt, "O1"),
-        vehicle: kit(rt, "0001"),
-        start: name(rt, word(rt, call, 1)),
-        edges: number(rt, word(rt, call, 2)),
-    };
+    let (order, vehicle) = (name(rt, "O1"), kit(rt, "0001"));
+    let at_node = name(rt, word(rt, call, 1));
+    let edges = number(rt, word(rt, call, 2));
     let jobs = jobs(rt, alloc, word(rt, call, 3));
     let stops = stops(rt, alloc, word(rt, call, 4));
-    Trip::plan(alloc, layout, new_trip, &jobs, &stops)
+    Trip::plan(alloc, layout, vehicle, &jobs, &stops, order, at_node, edges)
 }
 
 /// The job from A to B; `NoWalk` goes before `Beyond`. From N3 to A and on to C the way passes N2 and N3 twice; C and B stand

@@ -43,7 +43,7 @@ impl<S: Alter + Drop> Desk<S> {
         self.floor.knows();
     }
 
-    /// Whether its database has answered a call with an error other than want of memory. Then every call is answered
+    /// Whether its database has answered a call with an error other than that memory ran out. Then every call is answered
     /// `Storage`, until the connection is adopted anew.
     pub fn failed(&self) -> bool
         ensures { result ≡ self.now.failed }
@@ -60,7 +60,7 @@ impl<S: Alter + Drop> Desk<S> {
     /// ([`laws`](crate::laws)).
     ///
     /// # Errors
-    /// `Memory` for want of memory; then, where the store is still open, all is as before the call. `Storage` where the store
+    /// `Memory` when out of memory; then, where the store is still open, all is as before the call. `Storage` where the store
     /// failed or had failed before: exactly where [`failed`](Desk::failed) is `true` as the call ends (`ends`). A desk that had
     /// failed before asks nothing, and stays as it is (`stopped`). A fault that leaves the store open leaves all that the
     /// database has as it was (`unchanged_on_err`).

@@ -19,8 +19,8 @@ pub enum OpenFault {
     /// second schema has besides, or a foreign key refers to one of them.
     #[error("the database's tables are no desk's, or have the rows of no lawful world")]
     Damaged,
-    /// Want of memory.
-    #[error("want of memory")]
+    /// Out of memory.
+    #[error("out of memory")]
     Memory,
     /// Any other error of the database: the store failed or was shut by an earlier failure, or the steps of its queries are
     /// limited.

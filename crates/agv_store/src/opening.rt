@@ -46,7 +46,7 @@ impl<S: Alter + Drop> Desk<S> {
     /// # Errors
     /// `Damaged` where a table, a view or an index has the name of one of the desk's tables, a foreign key refers to one of
     /// them, or two tables lie in one tree, as in no sound database, and only there: nothing is touched then. Else `Memory`
-    /// for want of memory, and `Storage` for any other error of the database. The connection comes back; one that is open
+    /// when out of memory, and `Storage` for any other error of the database. The connection comes back; one that is open
     /// has what it had.
     pub fn create(alloc: Global, conn: Connection<S>) -> Result<Desk<S>, (Connection<S>, OpenFault)>
         requires { conn.in_transaction ≡ false }
@@ -92,7 +92,7 @@ impl<S: Alter + Drop> Desk<S> {
     /// # Errors
     /// `Damaged` where the database has the rows of no lawful world: a table is missing or is another, a row tells nothing,
     /// the rows break a rule of the desk, or what is held isn't what the vehicles hold. A database that has the rows of a
-    /// lawful world is never damaged. Else `Memory` for want of memory, and `Storage` for any other error of the database.
+    /// lawful world is never damaged. Else `Memory` when out of memory, and `Storage` for any other error of the database.
     /// The connection comes back; one that is open has what it had.
     pub fn adopt(alloc: Global, conn: Connection<S>) -> Result<Desk<S>, (Connection<S>, OpenFault)>
         requires { conn.in_transaction ≡ false }

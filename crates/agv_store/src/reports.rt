@@ -32,7 +32,7 @@ impl<S: Alter + Drop> Desk<S> {
     /// names no report nothing is asked, no memory is taken, and there is no fault (`silent`).
     ///
     /// # Errors
-    /// `Memory` for want of memory. `Storage` where the store failed or had failed before: exactly where
+    /// `Memory` when out of memory. `Storage` where the store failed or had failed before: exactly where
     /// [`failed`](Desk::failed) is `true` as it ends (`ends`). A desk that had failed before asks nothing, and stays as it is
     /// (`stopped`).
     pub fn report(&mut self, told: &Answer) -> Result<Vec<u8>, Fault>

@@ -9,8 +9,8 @@ pub enum ClaimFault {
     /// Another vehicle, `by`, holds the thing `what`.
     #[error("another vehicle holds a node or an edge")]
     Held { what: Thing, by: VehicleKey },
-    /// Want of memory.
-    #[error("want of memory")]
+    /// Out of memory.
+    #[error("out of memory")]
     Memory,
 }
 

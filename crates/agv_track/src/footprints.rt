@@ -18,7 +18,7 @@ use std::alloc::Global;
 /// node that it has reached last, and every node and edge after it up to the last one that is
 /// released; one that the way comes back to stands where it comes first.
 ///
-/// `Memory` for want of memory alone. It takes time in proportion to the way, times its logarithm.
+/// `Memory` only when out of memory. It takes time in proportion to the way, times its logarithm.
 pub fn footprint(alloc: Global, standing: &Standing) -> Result<Vec<Thing>, Memory>
     ensures { IfOk result (λ things. things.items ≡ footprint_of standing.now) }
 {

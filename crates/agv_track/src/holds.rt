@@ -56,7 +56,7 @@ impl HoldTable {
     /// - `Held` where another vehicle holds one of them: the first one in the list, and that vehicle. This
     ///   comes whatever memory there is, and a list of which no other vehicle holds anything is never refused
     ///   so.
-    /// - `Memory` for want of memory alone.
+    /// - `Memory` only when out of memory.
     ///
     /// After an error the table is as before. It takes time in proportion to the things, times the logarithm
     /// of the number of holds, and memory for the things that it gives.

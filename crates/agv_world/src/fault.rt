@@ -9,7 +9,7 @@ use thiserror::Error;
 #[derive(Clone, Copy, Debug, PartialEq, Eq, Error)]
 pub enum Fault {
     /// An allocation was refused.
-    #[error("want of memory")]
+    #[error("out of memory")]
     Memory,
     /// The store failed, or what lies in it cannot be read.
     #[error("the store failed, or what lies in it can't be read")]

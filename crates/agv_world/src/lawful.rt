@@ -24,7 +24,7 @@ impl World {
     /// Whether these are the tables of a lawful world, where vehicles have at most so many places for
     /// loads (`specs/Lawful.antt`): it answers `true` just where there is such a world.
     ///
-    /// `Memory` for want of memory alone. It takes time in proportion to the rows, times the logarithm of
+    /// `Memory` only when out of memory. It takes time in proportion to the rows, times the logarithm of
     /// their number; but the edges of trips and the loads on vehicles are gone over some times for each vehicle,
     /// of which there are at most 100.
     pub fn is_lawful(&self, alloc: Global, seats: u32) -> Result<bool, Memory>

@@ -4,7 +4,7 @@ ghost use Rattle.agv_desk.specs.declared.answer.Answer.TheVariants as answer;
 ghost use Rattle.agv_header.specs.declared.refusal.Refusal.TheVariants as refusal;
 ghost use Rattle.agv_http.specs.answers.Answers.{answer_text};
 
-/// The bytes of the answer that memory is wanting, after which the stream ends. They take no memory.
+/// The bytes of the answer when memory has run out, after which the stream ends. They take no memory.
 pub fn memory_answer() -> &'static [u8]
     ensures { (report : List ℕ) → result.now ≡ answer_text (answer.Refused refusal.Memory) report true }
 {

@@ -34,7 +34,7 @@ impl Model for Routes {
 impl Routes {
     /// Makes the table of calls ready.
     ///
-    /// `Memory` where memory is wanting, and for nothing else: no two lines of the table conflict.
+    /// `Memory` when out of memory, and for nothing else: no two lines of the table conflict.
     pub fn new(alloc: Global) -> Result<Routes, Memory> {
         let router = table_of_calls(alloc)?;
         Ok(Routes { router })

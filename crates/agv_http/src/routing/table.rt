@@ -106,7 +106,7 @@ fn add_all(router: &mut Router<Line>, lines: &[(Verb, &str, RouteKind)]) -> Resu
     Ok(())
 }
 
-/// Puts a line into the router, with which none that is there conflicts. So memory alone may be wanting.
+/// Puts a line into the router, with which none that is there conflicts. So only memory may run out.
 fn add(router: &mut Router<Line>, method: Verb, path: &str, kind: RouteKind) -> Result<(), Memory>
     requires { is_apart (entry method path.now kind) router.old ≡ true }
     ensures { OnOk result (router.new ≡ inserted (entry method path.now kind) router.old) }

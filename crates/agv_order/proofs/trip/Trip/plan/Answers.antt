@@ -4,4 +4,4 @@ use Rattle.agv_order.proofs.trip.Trip.plan.Goals as goal
 
 pub returns-clause-well_formed : goal.returns-clause-well_formed
 returns-clause-well_formed c = λ fit few.
-    planned_well c.args.layout.now c.args.new_trip.vehicle c.args.jobs.now c.args.stops.now c.args.new_trip.order c.args.new_trip.start c.args.new_trip.edges _ fit few (search rules)
+    planned_well c.args.layout.now c.args.vehicle c.args.jobs.now c.args.stops.now c.args.order c.args.at_node c.args.edges _ fit few (search rules)
