@@ -1,6 +1,6 @@
 //! How a run of the program ends, and what it says where it has no line to carry out.
 ghost use Rattle.std.specs.Prelude.{◌≡◌};
-ghost use Rattle.agv_program.specs.Runs.{end_by, end_of, fault_line, opening_fault, said_of, status_of, status_without};
+ghost use Rattle.agv_program.specs.Runs.{end_by, end_of, fault_line, opening_fault, said_of, status_without};
 
 use agv_command_line::LineFault;
 use agv_face::{Ended, Served, StreamFault};
