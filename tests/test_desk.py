@@ -138,14 +138,14 @@ class Built(Tree):
             if make_why:
                 self.write('tools/why', '')
             process = self.start('replay', '--db', 'f', stdin=subprocess.PIPE)
-            self.assertEqual((process.communicate('some\nlines', timeout=30)[0], process.returncode), ('some\nlines', 0))
+            self.assertEqual((process.communicate('some\nlines', timeout=300)[0], process.returncode), ('some\nlines', 0))
             closed = subprocess.run(['sh', '-c', 'exec "$0" replay --db f <&-', os.path.join(self.top, 'desk')], cwd=self.work,
-                                    env={'PATH': self.bin, 'NOTES': self.notes}, capture_output=True, timeout=30)
+                                    env={'PATH': self.bin, 'NOTES': self.notes}, capture_output=True, timeout=300)
             self.assertEqual(closed.returncode, 5)
 
     def test_signals_end_the_program(self) -> None:
         """Whether the script has become the program, or waits for it: both end, and by the signal that came."""
-        self.set_program('#!/bin/sh\necho "$$" >"$NOTES/pid.new"\nmv "$NOTES/pid.new" "$NOTES/pid"\nexec sleep 60\n')
+        self.set_program('#!/bin/sh\necho "$$" >"$NOTES/pid.new"\nmv "$NOTES/pid.new" "$NOTES/pid"\nexec sleep 600\n')
         os.symlink(str(shutil.which('mv')), os.path.join(self.bin, 'mv'))
         for make_why in (False, True):
             if make_why:
@@ -158,7 +158,7 @@ class Built(Tree):
                     program = int(self.read(pid))
                     os.remove(pid)
                     process.send_signal(number)
-                    process.communicate(timeout=30)
+                    process.communicate(timeout=300)
                     self.assertEqual(process.returncode, -number)
                     self.assertFalse(os.path.exists('/proc/%d' % program))
 

@@ -181,7 +181,7 @@ class Backup(Program):
             [*line, '--program', DESK, *words],
             capture_output=True,
             text=True,
-            timeout=120,
+            timeout=600,
             cwd=self.folder.name,
             env={**os.environ, 'PATH': self.folder.name + ':' + os.environ['PATH']},
         )
@@ -287,7 +287,7 @@ class PutBack(Program):
         with Serving(self.db) as desk:
             self.done(desk, *self.SINCE)
             desk.process.kill()
-            desk.process.wait(30)
+            desk.process.wait(300)
 
     def put_back(self):
         """As step 3 of the page has it."""
@@ -506,7 +506,7 @@ class NewFile(Program):
     def carry(self, desk):
         old = self.path('old.db')
         line = [sys.executable, os.path.join(TOOLS, 'new-file'), '--from', old, '--desk', '127.0.0.1:%d' % desk.port]
-        done = subprocess.run(line, capture_output=True, text=True, timeout=120)
+        done = subprocess.run(line, capture_output=True, text=True, timeout=600)
         return done.returncode, done.stdout, done.stderr
 
     def test_a_new_file(self):

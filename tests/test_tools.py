@@ -50,7 +50,7 @@ class Programs(unittest.TestCase):
             name = os.path.relpath(path, ROOT)
             with self.subTest(name):
                 self.assertTrue(os.access(path, os.X_OK))
-                done = subprocess.run([sys.executable, path, '--help'], capture_output=True, text=True, timeout=60)
+                done = subprocess.run([sys.executable, path, '--help'], capture_output=True, text=True, timeout=600)
                 self.assertEqual((done.returncode, done.stderr), (0, ''))
                 head = re.search('"""(.*?)"""', text_of(path), re.S).group(1)
                 self.assertIn(head.strip(), done.stdout)
