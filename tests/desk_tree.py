@@ -20,9 +20,9 @@ agv_middle: agv_first
 agv_middle_tests: agv_app
 """
 
-# It notes the crate that it is in and its words. Where it is to be slow it waits until it is noted that the crate was seen. For `lib` it wants each crate below to be proved, in the folder that it is in, and proves
-# its own; for `run` it makes a program. For `try` it leaves a small module and a
-# larger one, the program's, and goes on until it is ended.
+# It notes the crate that it is in and its words. Where it is to be slow it waits until the crate was seen. For `lib` it wants each crate below
+# to be proved, in the folder that it is in, and proves its own; for `run` it makes a program. For `try` it leaves a small module and a larger
+# one, the program's, and goes on until it is ended.
 RT = """#!/bin/sh
 crate=${PWD##*/}
 echo "$crate $*" >>"$NOTES/calls"

@@ -70,7 +70,7 @@ def run(*words, limit=600):
 @over_sockets
 class Soak(unittest.TestCase):
     def test_a_short_run(self):
-        words = ['--vehicles', '12', '--seconds', SECONDS, '--requests', '300', '--seed', '7']
+        words = ['--vehicles', '12', '--seconds', SECONDS, '--least', '300', '--seed', '7']
         done = run('--program', DESK, *words, limit=float(SECONDS) + 600)
         self.assertEqual((done.returncode, done.stderr), (0, ''), done.stdout)
         self.check(done.stdout, 300)
@@ -105,7 +105,7 @@ class OverAStandIn(Soak):
         with open(program, 'w') as file:
             file.write(STAND_IN % (sys.executable, HERE, fault))
         os.chmod(program, 0o755)
-        return run('--program', program, '--vehicles', vehicles, '--seconds', seconds, '--requests', '100', '--seed', '3')
+        return run('--program', program, '--vehicles', vehicles, '--seconds', seconds, '--least', '100', '--seed', '3')
 
     def test_a_short_run(self):
         done = self.over('', '9', '1')
