@@ -132,6 +132,18 @@ class Built(Tree):
             self.set_program('#!/bin/sh\nexit %d\n' % status)
             self.assertEqual(self.run_desk('replay', '--db', 'f'), (status, '', ''))
 
+    def test_what_tells_why_may_be_run_as_it_is_told(self) -> None:
+        """Whatever signs the file's name has, a shell runs the command for that file."""
+        self.set_program('#!/bin/sh\nexit 1\n')
+        self.write('tools/why', '#!/bin/sh\nprintf "%s|" "$@"\n', 0o755)
+        for name in ('a b.db', "it's.db", '$HOME;`ls`.db', '"a".db', "'", '*', 'a\\b\nc.db', '\u00e4.db', 'plain-1.db'):
+            with self.subTest(name):
+                status, _, said = self.run_desk('replay', '--db', name, '--at', '0')
+                command = said.partition('desk: what is wrong is told by: ')[2]
+                done = subprocess.run(['sh', '-c', command], cwd=self.work, capture_output=True, text=True)
+                self.assertEqual((status, done.returncode, done.stdout), (1, 0, '--db|%s|' % name))
+                self.assertEqual("'" in command, name != 'plain-1.db')
+
     def test_input_is_handed_on(self) -> None:
         self.set_program('#!/bin/sh\ncat || exit 5\n')
         for make_why in (False, True):
