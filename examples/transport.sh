@@ -6,7 +6,18 @@
 #
 # A person sets up the warehouse, registers a load and gives it a job; the states are what the vehicle's gateway would post.
 set -eu
-desk=http://127.0.0.1:${1:-8080}
+port=${1:-8080}
+case $port in
+    --help | -h)
+        sed -n -e '/^set /q' -e '2,$s/^# \{0,1\}//p' "$0"
+        exit
+        ;;
+    *[!0-9]*)
+        echo "transport.sh: $port is no port: write examples/transport.sh 8080" >&2
+        exit 2
+        ;;
+esac
+desk=http://127.0.0.1:$port
 
 call() { # METHOD PATH [BODY]
     printf '%s %s\n' "$1" "$2"

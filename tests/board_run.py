@@ -7,23 +7,20 @@ import json
 import os
 import re
 import signal
-import socket
 import sqlite3
 import subprocess
 import sys
 import tempfile
-import time
 import unittest
-from collections.abc import Callable
 from typing import Any
 
+from programs import PATIENCE, TOOLS, until
+
+from nulvrader.client import Desk, Refused
+from nulvrader.machine import free_port
+from nulvrader.names import VehicleKey
+
 HERE = os.path.dirname(os.path.abspath(__file__))
-TOOLS = os.path.join(HERE, '..', 'tools')
-sys.path.insert(0, TOOLS)
-
-from nulvrader.client import Desk, Refused  # noqa: E402
-from nulvrader.names import VehicleKey  # noqa: E402
-
 PROGRAM = os.path.abspath(os.environ.get('DESK', os.path.join(HERE, '..', 'build', 'desk')))
 ONE, TWO = VehicleKey('KIT', '0001'), VehicleKey('KIT', '0002')
 # Three nodes in a row, a siding N4 at N2, and stations at the ends.
@@ -31,28 +28,8 @@ LAYOUT = 'kind,id,from,to\n%s%sstation,A,N1,3\nstation,B,N3,2\nstation,C,N4,1\n'
     ''.join('node,N%d,,\n' % n for n in (1, 2, 3, 4)),
     ''.join('edge,E%s%s,N%s,N%s\n' % (*ends, *ends) for ends in ('12', '21', '23', '32', '24', '42')),
 )
-PATIENCE = 15.0
 # Where files lie in memory, if there is such a folder: a sync costs nothing there.
 FOLDER = '/dev/shm' if os.access('/dev/shm', os.W_OK | os.X_OK) else None
-
-
-def free_port() -> int:
-    """A port of this machine that nobody listens on."""
-    with socket.socket() as one:
-        one.bind(('127.0.0.1', 0))
-        return int(one.getsockname()[1])
-
-
-def until(told: Callable[[], Any], what: str, patience: float = PATIENCE) -> Any:
-    """Waits until something is so, at most for so many seconds, and gives what is told then."""
-    ends = time.monotonic() + patience
-    while True:
-        found = told()
-        if found:
-            return found
-        if time.monotonic() > ends:
-            raise AssertionError('not within %g seconds: %s' % (patience, what))
-        time.sleep(0.05)
 
 
 class Process:
@@ -70,7 +47,7 @@ class Process:
         """Ends it by a signal. Its status, and what it said on standard error."""
         if self.process.poll() is None:
             self.process.send_signal(number)
-        self.process.wait(30)
+        self.process.wait(300)
         for stream in (self.process.stdout, self.process.stderr):
             assert stream is not None
         told = self.process.stderr.read() if self.process.stderr and not self.process.stderr.closed else ''
@@ -92,7 +69,7 @@ class Plant:
         self.running: list[Process] = []
         self.headers: dict[VehicleKey, int] = {}
         self.served = self.start_desk()
-        self.desk = Desk('127.0.0.1:%d' % self.port)
+        self.desk = Desk('127.0.0.1:%d' % self.port, timeout=PATIENCE)
         self.desk.set_layout(layout.encode())
 
     def path(self, name: str) -> str:
@@ -124,7 +101,7 @@ class Plant:
                 text,
             )
         line = [PROGRAM, 'replay', '--db', self.path('warehouse.db'), '--at', '1700000000000']
-        done = subprocess.run(line, input=data, capture_output=True, timeout=60)
+        done = subprocess.run(line, input=data, capture_output=True, timeout=600)
         if done.returncode or done.stdout.count(b'HTTP/1.1 200 ') != len(requests):
             raise AssertionError(done.stdout + done.stderr)
 
@@ -192,7 +169,7 @@ class Board(Process):
         self, method: str, target: str, body: bytes | None = None, headers: dict[str, str] | None = None
     ) -> tuple[int, dict[str, str], bytes]:
         """One request: the status, the headers and the body."""
-        connection = http.client.HTTPConnection('127.0.0.1', self.port, timeout=30)
+        connection = http.client.HTTPConnection('127.0.0.1', self.port, timeout=300)
         try:
             connection.request(method, target, body, headers or {})
             answer = connection.getresponse()
@@ -248,9 +225,17 @@ class Board(Process):
         self.refresh()
         return any(event['text'] == words for event in self.events)
 
+    def has_looked(self, loads: int) -> None:
+        """Waits until it has so many loads, and KIT/0001."""
+
+        def has() -> bool:
+            return bool(self.get('counts').get('loads') == loads and self.get('vehicle', 'KIT/0001'))
+
+        until(has, 'the board has looked')
+
     def rows(self, question: str) -> list[tuple[Any, ...]]:
         """What board.db answers."""
-        base = sqlite3.connect(self.db, timeout=10)
+        base = sqlite3.connect(self.db, timeout=300)
         try:
             return base.execute(question).fetchall()
         finally:
@@ -280,7 +265,7 @@ class Watching(unittest.TestCase):
         self.desk.register_load('L1', 'A')
         self.desk.register_load('L2', 'A')
         self.board = self.plant.board(*self.words)
-        until(lambda: self.board.get('load', 'L1') and self.board.get('vehicle', 'KIT/0001'), 'the board has looked')
+        self.board.has_looked(2)
 
     def wait(self, kind: str, name: str, /, **values: object) -> dict[str, object]:
         """Waits until a value has these members."""
@@ -296,6 +281,24 @@ class Watching(unittest.TestCase):
         except AssertionError as fault:
             raise AssertionError('%s, and it is %s' % (fault, last)) from None
         return last
+
+    def said(self, words: str) -> None:
+        """Waits until a line of what happened is this."""
+        until(lambda: self.board.said(words), words)
+
+    def rows(self, question: str, wanted: list[tuple[Any, ...]]) -> None:
+        """Waits until board.db answers so."""
+        last: list[tuple[Any, ...]] = []
+
+        def told() -> bool:
+            nonlocal last
+            last = self.board.rows(question)
+            return last == wanted
+
+        try:
+            until(told, '%s: %s' % (question, wanted))
+        except AssertionError as fault:
+            raise AssertionError('%s, and it is %s' % (fault, last)) from None
 
     def held(self, *things: str) -> None:
         """Waits until these things are held by KIT/0001, and nothing else."""

@@ -7,13 +7,18 @@ import http.client
 import json
 import os
 import shutil
-import socket
 import subprocess
 import time
 from typing import Any
 
+from programs import PATIENCE, until
+
+from nulvrader.machine import free_port
+
 ELEMENT = 'element-6066-11e4-a52e-4f735466cecf'  # the protocol's name of an element
-WAIT = 10.0  # seconds until what is to be clicked has to be there
+FIRST = 'return document.querySelector(arguments[0])'
+# What the driver answers where a page is still on its way to what is asked for.
+NOT_YET = ('no such element', 'stale element reference', 'element not interactable', 'element click intercepted')
 KEYS = {'ENTER': '\ue007', 'ESCAPE': '\ue00c', 'RIGHT': '\ue014', 'TAB': '\ue004', 'BACKSPACE': '\ue003'}
 
 
@@ -35,14 +40,12 @@ class Browser:
     """A browser with one page, in colours for light or dark."""
 
     def __init__(self, width: int = 1280, height: int = 800, dark: bool = False, mobile: bool = False):
-        with socket.socket() as one:
-            one.bind(('127.0.0.1', 0))
-            self.port = one.getsockname()[1]
+        self.port = free_port()
         self.driver = subprocess.Popen(
             ['chromedriver', '--port=%d' % self.port], stdout=subprocess.DEVNULL, stderr=subprocess.DEVNULL
         )
         try:
-            self._wait()
+            until(self._is_ready, 'the driver of the browser answers')
             arguments = [
                 '--headless=new',
                 '--no-sandbox',
@@ -52,31 +55,37 @@ class Browser:
             ]
             options = {'args': [*arguments, '--window-size=%d,%d' % (width, height)]}
             wanted = {'goog:chromeOptions': options, 'goog:loggingPrefs': {'browser': 'ALL'}}
-            made = self._ask('POST', '/session', {'capabilities': {'alwaysMatch': wanted}})
+            self.session = '/session/' + until(lambda: self._begin(wanted), 'the browser starts')
         except BaseException:
             self.driver.kill()
             self.driver.wait()
             raise
-        self.session = '/session/%s' % made['sessionId']
-        self._ask('POST', self.session + '/timeouts', {'implicit': int(1000 * WAIT)})
+        milliseconds = int(1000 * PATIENCE)
+        self._ask('POST', self.session + '/timeouts', {'script': milliseconds, 'pageLoad': milliseconds})
         size = {'width': width, 'height': height, 'deviceScaleFactor': 2 if mobile else 1, 'mobile': mobile}
         self._command('Emulation.setDeviceMetricsOverride', size)
         scheme = {'name': 'prefers-color-scheme', 'value': 'dark' if dark else 'light'}
         self._command('Emulation.setEmulatedMedia', {'features': [scheme]})
 
-    def _wait(self) -> None:
-        ends = time.monotonic() + 30
-        while True:
-            try:
-                self._ask('GET', '/status')
-                return
-            except OSError:
-                if time.monotonic() > ends:
-                    raise
-                time.sleep(0.05)
+    def _is_ready(self) -> bool:
+        if self.driver.poll() is not None:
+            raise Failed('ended', 'the driver of the browser has ended')
+        try:
+            return bool(self._ask('GET', '/status')['ready'])
+        except (OSError, http.client.HTTPException):
+            return False
+
+    def _begin(self, wanted: dict[str, Any]) -> str:
+        """The name of a session, or nothing where the browser did not start in the time that its driver gives it."""
+        try:
+            return str(self._ask('POST', '/session', {'capabilities': {'alwaysMatch': wanted}})['sessionId'])
+        except Failed as failed:
+            if failed.name not in ('session not created', 'timeout'):
+                raise
+            return ''
 
     def _ask(self, method: str, path: str, body: object = None) -> Any:
-        connection = http.client.HTTPConnection('127.0.0.1', self.port, timeout=60)
+        connection = http.client.HTTPConnection('127.0.0.1', self.port, timeout=600)
         try:
             data = None if body is None else json.dumps(body)
             connection.request(method, path, data, {'Content-Type': 'application/json'})
@@ -97,7 +106,7 @@ class Browser:
             self._ask('DELETE', self.session)
         finally:
             self.driver.terminate()
-            self.driver.wait(30)
+            self.driver.wait(300)
 
     def open(self, address: str) -> None:
         """Opens a page."""
@@ -119,49 +128,43 @@ class Browser:
         )
         return found
 
-    def _find(self, css: str) -> str:
-        """The first that a selector names; it is waited for."""
-        path = self.session + '/element'
-        return str(self._ask('POST', path, {'using': 'css selector', 'value': css})[ELEMENT])
-
-    def _press(self, what: str, script: str, *values: object) -> None:
-        """Clicks what a script answers. It is waited for, and asked for again where the page has put another one in its
-        place."""
-        ends = time.monotonic() + WAIT
+    def _do(self, what: str, act: str, body: dict[str, Any], script: str, *values: object) -> None:
+        """Does something with what a script answers. It is waited for, and asked for again where the page has put another one in its
+        place, or does not let it be done yet."""
+        ends = time.monotonic() + PATIENCE
         while True:
             try:
                 found = self.run(script, *values)
                 if found is None:
-                    raise Failed('stale element reference', what)
-                self._ask('POST', '%s/element/%s/click' % (self.session, found[ELEMENT]), {})
+                    raise Failed('no such element', what)
+                self._ask('POST', '%s/element/%s/%s' % (self.session, found[ELEMENT], act), body)
                 return
             except Failed as failed:
-                if failed.name != 'stale element reference' or time.monotonic() > ends:
+                if failed.name not in NOT_YET or time.monotonic() > ends:
                     raise
                 time.sleep(0.05)
 
     def click(self, css: str) -> None:
         """Clicks the first that a selector names, where it is seen."""
-        element = self._find(css)
-        self._ask('POST', '%s/element/%s/click' % (self.session, element), {})
+        self._do(css, 'click', {}, FIRST, css)
 
     def press(self, text: str, words: str) -> None:
         """Clicks the button with a text that is seen within what a selector names."""
         script = 'return [...document.querySelectorAll(`${arguments[0]} button`)].find((one) => one.getClientRects()'
         script += '.length && one.textContent.trim() === arguments[1]) ?? null'
-        self._press('%s in %s' % (text, words), script, words, text)
+        self._do('%s in %s' % (text, words), 'click', {}, script, words, text)
 
     def press_row(self, title: str) -> None:
         """Clicks the row of a list whose title is this."""
         script = 'return [...document.querySelectorAll(".rowhead")].find((one) => one.querySelector(".title")'
-        self._press(title, script + '.textContent === arguments[0]) ?? null', title)
+        self._do(title, 'click', {}, script + '.textContent === arguments[0]) ?? null', title)
 
     def write(self, css: str, text: str) -> None:
         """Writes a text into a field, in place of what is there, or gives a file to it."""
-        element = self._find(css)
+        until(lambda: self.run('return document.querySelector(arguments[0]) !== null', css), css)
         if self.value(css, 'type') != 'file':
-            self._ask('POST', '%s/element/%s/clear' % (self.session, element), {})
-        self._ask('POST', '%s/element/%s/value' % (self.session, element), {'text': text})
+            self._do(css, 'clear', {}, FIRST, css)
+        self._do(css, 'value', {'text': text}, FIRST, css)
 
     def keys(self, *keys: str) -> None:
         """Presses keys, each a character or a name of `KEYS`, wherever the focus is."""

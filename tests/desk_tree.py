@@ -4,8 +4,9 @@ import shutil
 import subprocess
 import sys
 import tempfile
-import time
 import unittest
+
+from programs import until
 
 HERE = os.path.dirname(os.path.abspath(__file__))
 TOP = os.path.join(HERE, '..')
@@ -19,9 +20,9 @@ agv_middle: agv_first
 agv_middle_tests: agv_app
 """
 
-# It notes the crate that it is in and its words. For `lib` it wants each crate below to be proved, in the folder that it is in, and proves
-# its own; for `run` it makes a program. For `try` it leaves a small module and a
-# larger one, the program's, and goes on until it is ended.
+# It notes the crate that it is in and its words. Where it is to be slow it waits until the crate was seen. For `lib` it wants each crate below
+# to be proved, in the folder that it is in, and proves its own; for `run` it makes a program. For `try` it leaves a small module and a larger
+# one, the program's, and goes on until it is ended.
 RT = """#!/bin/sh
 crate=${PWD##*/}
 echo "$crate $*" >>"$NOTES/calls"
@@ -32,7 +33,7 @@ if [ "$1" = try ]; then
         touch "$TMPDIR/a/a/module-1.o.tmp"
         { echo module; printf '%20000s' ''; } >"$TMPDIR/a/b/module.bc"
         touch "$TMPDIR/a/b/module-1.o.tmp"
-        sleep 60
+        exec sleep 600
     fi
     cat "$NOTES/no-module"
     exit
@@ -40,14 +41,19 @@ fi
 if [ -e "$NOTES/slow" ]; then
     echo 'so far: 0 of 210 functions checked; the verdict comes last'
     echo 'so far: 15 of 210 functions checked'
-    sleep "$(cat "$NOTES/slow")"
+    tries=0
+    until [ -e "$NOTES/seen-$crate" ]; do
+        tries=$((tries + 1))
+        [ "$tries" -lt 6000 ] || { echo 'nobody has seen it'; exit 1; }
+        sleep 0.1
+    done
 fi
 if [ -e "$NOTES/meets" ] && { [ "$crate" = agv_left ] || [ "$crate" = agv_right ]; }; then
     touch "$NOTES/met-$crate"
     tries=0
     until [ -e "$NOTES/met-agv_left" ] && [ -e "$NOTES/met-agv_right" ]; do
         tries=$((tries + 1))
-        [ "$tries" -lt 600 ] || { echo 'the other one never began'; exit 1; }
+        [ "$tries" -lt 6000 ] || { echo 'the other one never began'; exit 1; }
         sleep 0.1
     done
     [ "$crate" = agv_left ] || sleep "$(cat "$NOTES/meets")"
@@ -146,7 +152,7 @@ class Tree(unittest.TestCase):
 
     def run_desk(self, *words: str) -> tuple[int, str, str]:
         process = self.start(*words)
-        out, said = process.communicate(timeout=120)
+        out, said = process.communicate(timeout=600)
         return process.returncode, out, said
 
     def calls(self) -> list[str]:
@@ -154,8 +160,4 @@ class Tree(unittest.TestCase):
         return self.read(path).splitlines() if os.path.exists(path) else []
 
     def wait_for(self, path: str) -> None:
-        for _ in range(600):
-            if os.path.exists(path):
-                return
-            time.sleep(0.1)
-        self.fail('%s never came' % path)
+        until(lambda: os.path.exists(path), path)

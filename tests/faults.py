@@ -240,7 +240,7 @@ def port_of(process):
 
 def asks(port, request):
     """What one connection is answered, as far as it comes."""
-    with socket.create_connection(('127.0.0.1', port), timeout=30) as plain:
+    with socket.create_connection(('127.0.0.1', port), timeout=300) as plain:
         try:
             plain.sendall(request)
             plain.shutdown(socket.SHUT_WR)

@@ -4,14 +4,56 @@ import importlib.machinery
 import importlib.util
 import io
 import os
+import signal
+import socket
 import subprocess
 import sys
+import time
+from collections.abc import Callable
+from typing import Any
 from unittest import mock
 
 ROOT = os.path.join(os.path.dirname(os.path.abspath(__file__)), '..')
 TOOLS = os.path.join(ROOT, 'tools')
 if TOOLS not in sys.path:
     sys.path.insert(0, TOOLS)
+
+
+PATIENCE = 120.0  # seconds until what is waited for has to be so, however busy the machine is
+
+
+# A shell that runs the tests beside itself has signals ignored that would end it, and what ignores one hands that on to what it starts.
+for number, handler in (
+    (signal.SIGINT, signal.default_int_handler),
+    (signal.SIGQUIT, signal.SIG_DFL),
+    (signal.SIGHUP, signal.SIG_DFL),
+):
+    if signal.getsignal(number) == signal.SIG_IGN:
+        signal.signal(number, handler)
+
+
+def until(told: Callable[[], Any], what: str, patience: float = PATIENCE) -> Any:
+    """Waits until something is so, at most for so many seconds, and gives what is told then."""
+    ends = time.monotonic() + patience
+    while True:
+        found = told()
+        if found:
+            return found
+        if time.monotonic() > ends:
+            raise AssertionError('not within %g seconds: %s' % (patience, what))
+        time.sleep(0.05)
+
+
+def wait_for_port(port: int, process: 'subprocess.Popen[Any]') -> None:
+    """Waits until a program, which is running, listens on a port."""
+
+    def listens() -> bool:
+        if process.poll() is not None:
+            raise AssertionError('it has ended: %s' % (process.stderr.read() if process.stderr else process.args))
+        with socket.socket() as probe:
+            return probe.connect_ex(('127.0.0.1', port)) == 0
+
+    until(listens, 'port %d' % port)
 
 
 def module(name, folder='tools'):
@@ -44,5 +86,5 @@ def within(program, *words, stdin='', env=None):
 def ran(name, *words, stdin='', env=None):
     """A program of `tools/`, run: its status, what it prints, and what it says on standard error."""
     line = [sys.executable, os.path.join(TOOLS, name), *words]
-    done = subprocess.run(line, input=stdin, capture_output=True, text=True, timeout=120, env=env)
+    done = subprocess.run(line, input=stdin, capture_output=True, text=True, timeout=600, env=env)
     return done.returncode, done.stdout, done.stderr

@@ -34,6 +34,7 @@ class Commands(Watching):
         self.wait('load', 'L8', place='checking')
         self.check(do('correct', load='L8', station='C'), 'The place of L8 is corrected.')
         self.wait('load', 'L8', place='station C')
+        self.wait('station', 'C', taken=1, reserved=0)
         self.refused(do('correct', load='L7', station='C'), 'Full', 'Station C (1 of 1 taken, 0 reserved) is full.')
         self.check(do('leave', load='L8'), 'L8 has left.')
         until(lambda: not self.board.get('load', 'L8'), 'it has left')
@@ -205,7 +206,7 @@ class Starts(unittest.TestCase):
     def told(self, *words: str) -> str:
         """What a board says that can't start."""
         line = [sys.executable, os.path.join(TOOLS, 'board'), '--db', self.plant.path('b.db'), '--port', '0', *words]
-        done = subprocess.run(line, capture_output=True, text=True, timeout=60)
+        done = subprocess.run(line, capture_output=True, text=True, timeout=600)
         self.assertEqual((done.returncode, done.stdout, done.stderr.count('\n')), (1, '', 1), done.stderr)
         return done.stderr
 

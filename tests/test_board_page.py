@@ -35,8 +35,10 @@ class Page(unittest.TestCase):
         self.browser = Browser()
         self.addCleanup(self.browser.close)
         self.browser.open('http://127.0.0.1:%d/' % self.board.port)
-        self.sees('.vehicle-card', 'KIT/0001')
         self.addCleanup(self.check_the_console)
+        self.board.has_looked(2)
+        self.sees('.vehicle-card', 'KIT/0001')
+        self.sees('#tab-stock', '2')
 
     def check_the_console(self) -> None:
         """No line of it is an error, but for questions that a board which is stopped does not answer."""
@@ -84,8 +86,8 @@ class AtWork(Page):
         for name in ('Node N1', 'Node N2'):
             self.on_the_map('node', name, 'held by KIT/0001')
         self.on_the_map('hold', 'Edge E12', 'held by KIT/0001')
-        self.assertTrue(self.classes('#plan .hold') >= {'hold', 'c0'})
-        self.assertTrue(self.browser.run('return document.querySelectorAll("#plan .way").length'))
+        until(lambda: self.classes('#plan .hold') >= {'hold', 'c0'}, 'the edge has the colour of its vehicle')
+        until(lambda: self.browser.run('return document.querySelectorAll("#plan .way").length'), 'the way is drawn')
         self.plant.state(ONE, 'N2', 'O1', 0, 2, (PICKED,))
         self.on_the_map('vehicle', 'KIT/0001', 'at N2', 'On its way')
         self.sees('.vehicle-card', '1 of 2 edges, released to 1', 'L1: A → B, on it')
@@ -105,7 +107,7 @@ class AtWork(Page):
         self.misses('#stock .rows', 'L2')
         self.browser.click('#stock .rows:last-of-type .rowhead')
         self.sees('.detail', 'At B, since', 'at A → on KIT/0001', 'on KIT/0001 → at B')
-        self.assertIn('picked', self.classes('#plan .station.picked'))
+        until(lambda: 'picked' in self.classes('#plan .station.picked'), 'the station is marked')
 
     def test_a_cancel_with_its_rest(self) -> None:
         self.desk.add_job('J1', 'L1', 'B')
@@ -143,12 +145,14 @@ class AtWork(Page):
         """The page says so; the questions that nobody answers are the only errors of the console."""
         self.board.stop()
         self.sees('#alarms', 'The board has not answered for')
+        self.browser.open('about:blank')  # the page asks no more
         lines = [line for line in self.browser.console() if line.startswith('SEVERE')]
-        self.assertEqual([line for line in lines if 'ERR_CONNECTION_REFUSED' not in line], [])
+        self.assertGreater(len(lines), 0)
+        self.assertEqual([line for line in lines if not re.search(r'net::ERR_(CONNECTION|EMPTY_RESPONSE)', line)], [])
 
 
 class FallsSilent(Page):
-    words = ('--silent', '4')
+    words = ('--silent', '8')
 
     def test_a_vehicle_that_falls_silent(self) -> None:
         self.sees('.vehicle-card', 'No state for')
@@ -359,15 +363,21 @@ class EyesAndHands(Page):
         self.browser.run('document.getElementById("tab-vehicles").focus()')
         for tab in ('tab-stock', 'tab-jobs', 'tab-events', 'tab-vehicles'):
             self.browser.keys('RIGHT')
-            self.assertEqual(self.browser.run('return document.activeElement.id'), tab)
+            self.has_focus('id', tab)
             self.assertEqual(self.browser.value('#' + tab, 'aria-selected'), 'true')
         self.browser.keys('TAB', 'ENTER')
-        self.assertEqual(self.browser.value('.vehicle-card .head', 'aria-expanded'), 'true')
+        until(lambda: self.browser.value('.vehicle-card .head', 'aria-expanded') == 'true', 'the card is open')
+        self.sees('.vehicle-card .actions', 'Start an order')
         self.browser.keys('TAB', 'ENTER')
+        until(lambda: self.browser.run('return document.getElementById("command").open'), 'the command is open')
         self.sees('#command', 'Start an order')
         self.browser.keys('ESCAPE')
         until(lambda: not self.browser.run('return document.getElementById("command").open'), 'it is closed')
-        self.assertEqual(self.browser.run('return document.activeElement.dataset.command'), 'order')
+        self.has_focus('dataset.command', 'order')
+
+    def has_focus(self, member: str, value: str) -> None:
+        """Waits until what has the focus has this value."""
+        until(lambda: self.browser.run('return document.activeElement.%s' % member) == value, '%s %s' % (member, value))
 
     def test_sizes_and_colours(self) -> None:
         """On a screen of 1280 by 800 and on a phone nothing is wider than the page; words have contrast in both."""

@@ -35,7 +35,7 @@ class BoardByNginx(unittest.TestCase):
     def ask(self, method: str, path: str, user: str | None, body: object = None, **headers: str) -> tuple[int, bytes]:
         """One request to the proxy: its status and its body."""
         context = ssl.create_default_context(cafile=self.proxy.path('server.pem'))
-        connection = http.client.HTTPSConnection('127.0.0.1', self.proxy.port, timeout=30, context=context)
+        connection = http.client.HTTPSConnection('127.0.0.1', self.proxy.port, timeout=300, context=context)
         told = {name.replace('_', '-'): value for name, value in headers.items()}
         if user is not None:
             told['Authorization'] = 'Basic ' + base64.b64encode(('%s:%s!' % (user, user)).encode()).decode()

@@ -4,15 +4,15 @@ is not installed."""
 import json
 import os
 import shutil
-import socket
 import subprocess
 import sys
 import tempfile
-import time
 import unittest
 
 import programs
+from programs import until
 from nulvrader import client
+from nulvrader.machine import free_port
 from test_client import KIT1, told
 from test_program import Serving, over_sockets
 from test_scripts import LAYOUT
@@ -32,18 +32,6 @@ def python_with_paho():
 PYTHON = python_with_paho()
 
 
-def eventually(ask, seconds=20):
-    """What a question answers as soon as that is true; else an AssertionError."""
-    end = time.monotonic() + seconds
-    while True:
-        found = ask()
-        if found:
-            return found
-        if time.monotonic() > end:
-            raise AssertionError('nothing within %g seconds' % seconds)
-        time.sleep(0.05)
-
-
 @over_sockets
 @unittest.skipUnless(all(map(shutil.which, PROGRAMS)), 'mosquitto and its clients are not here')
 @unittest.skipUnless(PYTHON, 'the library paho-mqtt is not here')
@@ -51,10 +39,8 @@ class ByMosquitto(unittest.TestCase):
     def setUp(self):
         folder = tempfile.TemporaryDirectory()
         self.addCleanup(folder.cleanup)
-        self.folder = folder.name
-        with socket.socket() as listener:
-            listener.bind(('127.0.0.1', 0))
-            self.port = listener.getsockname()[1]
+        self.folder, self.header = folder.name, 0
+        self.port = free_port()
         serving = Serving(os.path.join(self.folder, 'desk.db'))
         self.addCleanup(serving.__exit__)
         self.desk = client.Desk('127.0.0.1:%d' % serving.port)
@@ -72,13 +58,14 @@ class ByMosquitto(unittest.TestCase):
 
         def end():
             process.terminate()
-            process.wait(30)
+            process.wait(300)
 
         self.addCleanup(end)
 
     def said(self, name):
+        """The lines of a program, as far as they are whole."""
         with open(self.path(name)) as file:
-            return file.read().splitlines()
+            return file.read().split('\n')[:-1]
 
     def broker(self, *lines):
         with open(self.path('mosquitto.conf'), 'w') as file:
@@ -93,7 +80,7 @@ class ByMosquitto(unittest.TestCase):
         """The vehicle's state, with what the desk does not take."""
         message = {**message, 'agvPosition': {'x': 1.5, 'y': 2.0}, 'batteryState': {'batteryCharge': 80.5}}
         words = ['mosquitto_pub', '-h', '127.0.0.1', '-p', str(self.port), '-t', STATE, '-m', json.dumps(message)]
-        subprocess.run(words, check=True, timeout=30)
+        subprocess.run(words, check=True, timeout=300)
 
     def came(self, topic):
         """The messages that the vehicle was sent on a topic."""
@@ -104,23 +91,29 @@ class ByMosquitto(unittest.TestCase):
         self.broker('allow_anonymous true')
         words = ['mosquitto_sub', '-h', '127.0.0.1', '-p', str(self.port), '-v', '-t', ORDER, '-t', INSTANT]
         self.gateway()
-        eventually(lambda: 'the broker is connected' in self.said('gateway'))
+        until(lambda: 'the broker is connected' in self.said('gateway'), 'the gateway is connected')
         self.start('vehicle', *words)
-        self.publish(told(1))
-        eventually(lambda: self.desk.vehicle(KIT1).ready)
+        self.tell(lambda: self.desk.vehicle(KIT1).ready)
         self.desk.add_job('J1', 'L1', 'B')
         self.desk.start_order('O1', KIT1, job='J1', edges=2)
-        order = eventually(lambda: self.came(ORDER))[0]
+        order = until(lambda: self.came(ORDER), 'the order')[0]
         self.assertEqual((order['orderId'], len(order['nodes'])), ('O1', 3))
-        self.publish(told(2, 'O1', statuses=[('O1.0', 'FINISHED')]))
-        eventually(lambda: self.desk.load('L1').place == 'vehicle KIT/0001')
+        self.tell(lambda: self.desk.load('L1').place == 'vehicle KIT/0001', 'O1', statuses=[('O1.0', 'FINISHED')])
         self.desk.pause(KIT1)
-        self.assertEqual(eventually(lambda: self.came(INSTANT))[0]['actions'][0]['actionId'], 'instant-1')
+        self.assertEqual(until(lambda: self.came(INSTANT), 'the pause')[0]['actions'][0]['actionId'], 'instant-1')
         done = [('O1.0', 'FINISHED'), ('O1.1', 'FINISHED'), ('instant-1', 'FINISHED')]
-        self.publish(told(3, 'O1', 0, 'N3', 4, done))
-        eventually(lambda: self.desk.load('L1').place == 'station B')
-        self.publish(told(4, node='N1'))
-        eventually(lambda: any('NotThere' in line for line in self.said('gateway')))
+        self.tell(lambda: self.desk.load('L1').place == 'station B', 'O1', 0, 'N3', 4, done)
+        self.tell(lambda: any('NotThere' in line for line in self.said('gateway')), node='N1')
+
+    def tell(self, is_so, *words, **others):
+        """Publishes a state until something is so: one that comes before the gateway has subscribed is lost."""
+
+        def is_told():
+            self.header += 1
+            self.publish(told(self.header, *words, **others))
+            return is_so()
+
+        until(is_told, 'a state %s %s' % (words, others))
 
     def test_a_wrong_password(self):
         subprocess.run(['mosquitto_passwd', '-b', '-c', self.path('users'), 'gate', 'right'], check=True, capture_output=True)
@@ -130,7 +123,7 @@ class ByMosquitto(unittest.TestCase):
         with open(self.path('password'), 'w') as file:
             file.write('wrong\n')
         self.gateway('--user', 'gate', '--password-file', self.path('password'))
-        eventually(lambda: any('the broker refuses the connection' in line for line in self.said('gateway')))
+        until(lambda: any('the broker refuses the connection' in line for line in self.said('gateway')), 'the refusal')
 
 
 if __name__ == '__main__':

@@ -1,11 +1,13 @@
 """`tools/nulvrader`: the client over the program, by each of its calls; refusals and lost answers; what it reads of
 reports, layouts and messages; and the questions that need several calls."""
+import http.client
 import os
 import re
 import socket
 import tempfile
 import threading
 import unittest
+from unittest import mock
 
 import programs  # noqa: F401: it puts tools/ on the path
 from nulvrader import client, layouts, names, questions, refusals, reports
@@ -104,7 +106,7 @@ class OverADesk(WithADesk):
                     desk.register_load('L1')
                     self.assertEqual(self.refused(desk.register_load, 'L1').name, 'Exists')
                     self.assertEqual(desk.load('L1').place, 'checking')
-                self.assertEqual(serving.process.wait(30), 0)
+                self.assertEqual(serving.process.wait(300), 0)
                 with self.assertRaises(client.NoAnswer) as caught:
                     desk.load('L1')
         self.assertRegex(str(caught.exception), '^http://127.0.0.1:.*no program listens there')
@@ -174,9 +176,10 @@ class FarBehind(WithADesk):
 class NoDesk(unittest.TestCase):
     """What answers is no desk, or answers too late, or is cut."""
 
-    def answered(self, data, **named):
+    def answered(self, data, by_head=False, **named):
         """What the client says where a server sends these bytes and closes the connection; with none, it waits for the client
-        to close it. The request is read to its end, since a connection that is closed with bytes unread is reset."""
+        to close it. The request is read to its end, since a connection that is closed with bytes unread is reset; or to the end of
+        its head."""
         listener = socket.create_server(('127.0.0.1', 0))
         self.addCleanup(listener.close)
 
@@ -188,9 +191,9 @@ class NoDesk(unittest.TestCase):
                     name, _, value = line.partition(b':')
                     if name.lower() == b'content-length':
                         length = int(value)
-                request.read(length)
+                if not by_head:
+                    request.read(length)
                 if data is None:
-                    connection.settimeout(5)
                     request.read(1)
                 else:
                     connection.sendall(data)
@@ -222,6 +225,22 @@ class NoDesk(unittest.TestCase):
 
     def test_silence(self):
         self.assertIn('no answer came within 0.2 seconds', str(self.answered(None, timeout=0.2)))
+
+    def test_an_answer_while_the_body_is_sent(self):
+        """It is told, though the connection is closed before all is sent."""
+        send, sent = http.client.HTTPConnection.send, []
+
+        def cut(connection, data):
+            sent.append(data)
+            if len(sent) > 1:
+                raise BrokenPipeError
+            send(connection, data)
+
+        body = b'{"name":"TooLarge","refusal":3}'
+        answer = b'HTTP/1.1 413 Content Too Large\r\nContent-Length: %d\r\nConnection: close\r\n\r\n%s' % (len(body), body)
+        with mock.patch.object(http.client.HTTPConnection, 'send', cut):
+            fault = self.answered(answer, by_head=True)
+        self.assertEqual((len(sent), fault.name, fault.status), (2, 'TooLarge', 413))
 
     def test_a_proxy_refuses(self):
         fault = self.answered(b'HTTP/1.1 401 Unauthorized\r\nContent-Length: 0\r\n\r\n')

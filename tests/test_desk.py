@@ -132,20 +132,32 @@ class Built(Tree):
             self.set_program('#!/bin/sh\nexit %d\n' % status)
             self.assertEqual(self.run_desk('replay', '--db', 'f'), (status, '', ''))
 
+    def test_what_tells_why_may_be_run_as_it_is_told(self) -> None:
+        """Whatever signs the file's name has, a shell runs the command for that file."""
+        self.set_program('#!/bin/sh\nexit 1\n')
+        self.write('tools/why', '#!/bin/sh\nprintf "%s|" "$@"\n', 0o755)
+        for name in ('a b.db', "it's.db", '$HOME;`ls`.db', '"a".db', "'", '*', 'a\\b\nc.db', '\u00e4.db', 'plain-1.db'):
+            with self.subTest(name):
+                status, _, said = self.run_desk('replay', '--db', name, '--at', '0')
+                command = said.partition('desk: what is wrong is told by: ')[2]
+                done = subprocess.run(['sh', '-c', command], cwd=self.work, capture_output=True, text=True)
+                self.assertEqual((status, done.returncode, done.stdout), (1, 0, '--db|%s|' % name))
+                self.assertEqual("'" in command, name != 'plain-1.db')
+
     def test_input_is_handed_on(self) -> None:
         self.set_program('#!/bin/sh\ncat || exit 5\n')
         for make_why in (False, True):
             if make_why:
                 self.write('tools/why', '')
             process = self.start('replay', '--db', 'f', stdin=subprocess.PIPE)
-            self.assertEqual((process.communicate('some\nlines', timeout=30)[0], process.returncode), ('some\nlines', 0))
+            self.assertEqual((process.communicate('some\nlines', timeout=300)[0], process.returncode), ('some\nlines', 0))
             closed = subprocess.run(['sh', '-c', 'exec "$0" replay --db f <&-', os.path.join(self.top, 'desk')], cwd=self.work,
-                                    env={'PATH': self.bin, 'NOTES': self.notes}, capture_output=True, timeout=30)
+                                    env={'PATH': self.bin, 'NOTES': self.notes}, capture_output=True, timeout=300)
             self.assertEqual(closed.returncode, 5)
 
     def test_signals_end_the_program(self) -> None:
         """Whether the script has become the program, or waits for it: both end, and by the signal that came."""
-        self.set_program('#!/bin/sh\necho "$$" >"$NOTES/pid.new"\nmv "$NOTES/pid.new" "$NOTES/pid"\nexec sleep 60\n')
+        self.set_program('#!/bin/sh\necho "$$" >"$NOTES/pid.new"\nmv "$NOTES/pid.new" "$NOTES/pid"\nexec sleep 600\n')
         os.symlink(str(shutil.which('mv')), os.path.join(self.bin, 'mv'))
         for make_why in (False, True):
             if make_why:
@@ -158,7 +170,7 @@ class Built(Tree):
                     program = int(self.read(pid))
                     os.remove(pid)
                     process.send_signal(number)
-                    process.communicate(timeout=30)
+                    process.communicate(timeout=300)
                     self.assertEqual(process.returncode, -number)
                     self.assertFalse(os.path.exists('/proc/%d' % program))
 

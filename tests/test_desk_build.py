@@ -1,10 +1,10 @@
 """The script `desk` builds the program: proved, and without proofs. The scripts stand in a small tree, over a stand-in for `rt`."""
+import contextlib
 import importlib.machinery
 import importlib.util
 import os
 import shutil
 import signal
-import subprocess
 import sys
 import time
 import types
@@ -43,7 +43,7 @@ class Building(Tree):
         status, out, said = self.run_desk('replay', '--db', 'a b', '')
         self.assertEqual((status, out), (3, 'replay|--db|a b||'))
         for number, crate in enumerate(('agv_first', 'agv_middle', 'agv_app'), 1):
-            self.assertIn('desk: %s, %d of 3 crates, after 0 min ' % (crate, number), said)
+            self.assertRegex(said, r'desk: %s, %d of 3 crates, after \d+ min ' % (crate, number))
         self.assertIn('proved and built', said)
         self.assertEqual(self.calls(), BUILD)
         self.assertEqual(self.read('build/log'), 'logic=proved functions=1\n' * 3)
@@ -98,16 +98,22 @@ class Building(Tree):
         self.assertEqual(chains, {'agv_small': 7 + parts, 'agv_large': 6 + parts, 'agv_over_small': 6 + parts, 'agv_app': 1 + parts})
 
     def test_a_terminal_shows_how_far_it_is(self) -> None:
-        self.note('slow', '2')
+        """The build of each crate ends once the terminal has shown it."""
+        self.note('slow')
         ours, theirs = os.openpty()
+        self.addCleanup(os.close, ours)
         process = self.start('replay', stderr=theirs)
         os.close(theirs)
-        self.assertEqual((process.communicate(timeout=120)[0], process.returncode), ('replay|', 3))
-        said = os.read(ours, 65536).decode()
-        os.close(ours)
-        for number, crate in enumerate(('agv_first', 'agv_middle', 'agv_app')):
-            self.assertIn('\r\x1b[Kdesk: %s (15 of 210 functions); %d of 3 crates done, 0 min ' % (crate, number), said)
-        self.assertRegex(said, r'\r\x1b\[Kdesk: proved and built in 0 min \d+ s\r\n$')
+        said = ''
+        with contextlib.suppress(OSError):  # the other end is closed
+            while more := os.read(ours, 65536).decode():
+                said += more
+                for number, crate in enumerate(('agv_first', 'agv_middle', 'agv_app')):
+                    if '\r\x1b[Kdesk: %s (15 of 210 functions); %d of 3 crates done, ' % (crate, number) in said:
+                        self.note('seen-' + crate)
+        self.assertEqual((process.communicate(timeout=600)[0], process.returncode), ('replay|', 3), said)
+        self.assertRegex(said, r'crates done, \d+ min \d+ s\r\x1b')
+        self.assertRegex(said, r'\r\x1b\[Kdesk: proved and built in \d+ min \d+ s\r\n$')
 
     def test_it_builds_anew_where_a_source_is_newer(self) -> None:
         self.run_desk('replay')
@@ -151,7 +157,7 @@ class Building(Tree):
         self.want_room_for_two()
         self.set_crates(TWO)
         self.note('fails', 'agv_left')
-        self.note('meets', '90')
+        self.note('meets', '600')
         status, out, said = self.run_desk('replay')
         self.assertEqual((status, out), (1, ''))
         self.assertTrue(said.endswith('fn agv_left::one: not proved\nlogic=not-proved\n'), said)
@@ -176,11 +182,11 @@ class Building(Tree):
     def test_a_signal_ends_the_build(self) -> None:
         for number in (signal.SIGTERM, signal.SIGINT, signal.SIGHUP):
             with self.subTest(signal=number):
-                slow = self.note('slow', '60')
+                slow = self.note('slow')
                 process = self.start('replay')
                 self.wait_for(os.path.join(self.top, 'build', 'log.agv_first'))
                 process.send_signal(number)
-                out, _ = process.communicate(timeout=30)
+                out, _ = process.communicate(timeout=300)
                 self.assertEqual((process.returncode, out), (-number, ''))
                 self.assertEqual(sorted(os.listdir(os.path.join(self.top, 'build'))), ['crates.new', 'lock', 'log'])
                 self.assertEqual(os.listdir(os.path.join(self.top, 'crates', 'agv_first', 'out')), ['old'])
@@ -196,9 +202,12 @@ class Building(Tree):
 
     @unittest.skipUnless(shutil.which('flock'), 'flock is not here')
     def test_two_at_once_build_once(self) -> None:
-        self.note('slow', '2')
+        self.note('slow')
         both = [self.start('a'), self.start('b')]
-        told = [process.communicate(timeout=120) for process in both]
+        self.wait_for(os.path.join(self.top, 'build', 'log.agv_first'))
+        for crate in ('agv_first', 'agv_middle', 'agv_app'):
+            self.note('seen-' + crate)
+        told = [process.communicate(timeout=600) for process in both]
         self.assertEqual([process.returncode for process in both], [3, 3])
         self.assertEqual([out for out, _ in told], ['a|', 'b|'])
         self.assertEqual(self.calls(), BUILD)
@@ -246,11 +255,11 @@ class Unproved(Tree):
         self.assertTrue(said.endswith('ends so:\nsrc/main.rt:1:1: error: wrong\n'), said)
 
     def test_a_signal_ends_the_build(self) -> None:
-        self.write(os.path.join(self.kit, 'toolchain/bin/clang'), '#!/bin/sh\ntouch module-1.o.tmp "$NOTES/compiles"\nexec sleep 60\n')
+        self.write(os.path.join(self.kit, 'toolchain/bin/clang'), '#!/bin/sh\ntouch module-1.o.tmp "$NOTES/compiles"\nexec sleep 600\n')
         process = self.start('--unproved', 'replay')
         self.wait_for(os.path.join(self.notes, 'compiles'))
         process.terminate()
-        process.communicate(timeout=30)
+        process.communicate(timeout=300)
         self.assertEqual(process.returncode, -signal.SIGTERM)
         self.assertEqual(sorted(os.listdir(os.path.join(self.top, 'build', 'unproved'))), ['crates.new', 'log'])
 

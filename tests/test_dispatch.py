@@ -267,7 +267,7 @@ class OverTheProgram(unittest.TestCase):
     def test_a_desk_that_is_away(self):
         self.turn()
         self.serving.process.kill()
-        self.serving.process.wait(30)
+        self.serving.process.wait(300)
         self.now += 1
         self.assertFalse(self.dispatcher.turn())
         self.assertFalse(self.dispatcher.turn())
@@ -286,7 +286,7 @@ class OverTheProgram(unittest.TestCase):
                 lines = [process.stdout.readline(), process.stdout.readline()]
             finally:
                 process.terminate()
-            self.assertEqual(process.wait(30), 0)
+            self.assertEqual(process.wait(300), 0)
         self.assertRegex(lines[0], r'^\d\d:\d\d:\d\d gives orders at ')
         self.assertRegex(lines[1], r'^\d\d:\d\d:\d\d KIT/0001: takes J1 \(L1 from A to B\)')
         self.assertIsNotNone(self.desk.vehicle(ONE).order)

@@ -214,7 +214,7 @@ class FailingConnections(FaultTest):
             answers.extend(without_moments(asks(port, request)) for request in script.requests[:n - 1])
 
         remove(self.db)
-        return tracing.run(words, ['accept', 'accept4'], on_call, beside=beside, limit=20), answers, seen
+        return tracing.run(words, ['accept', 'accept4'], on_call, beside=beside, limit=300), answers, seen
 
     def test_connections_that_can_not_be_had(self):
         """The program ends by it, told as such. What it has answered before is in the file, and it takes no further connection."""

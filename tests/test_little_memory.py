@@ -77,7 +77,7 @@ class LittleMemory(unittest.TestCase):
 
     def front(self, mebibytes, stdin):
         """What the program writes in so little memory before it lacks some, and whether it was opened, and whether it has served all."""
-        done = subprocess.run([DESK, 'replay', '--db', self.db, '--at', AT], input=stdin, capture_output=True, timeout=60,
+        done = subprocess.run([DESK, 'replay', '--db', self.db, '--at', AT], input=stdin, capture_output=True, timeout=600,
                               preexec_fn=limit(mebibytes))
         status, out, said = done.returncode, done.stdout, done.stderr
         if status == 0:

@@ -40,7 +40,7 @@ HELD = {'0001': (['N1', 'N2'], ['E12']), '0002': (['N3'], [])}
 
 
 def drawn(*words):
-    done = subprocess.run([sys.executable, MAP, *words], capture_output=True, timeout=120)
+    done = subprocess.run([sys.executable, MAP, *words], capture_output=True, timeout=600)
     if (done.returncode, done.stderr) != (0, b''):
         raise AssertionError(done.stderr.decode())
     return done.stdout
@@ -48,7 +48,7 @@ def drawn(*words):
 
 def refused(*words):
     """The line with which the map says why there is no picture."""
-    done = subprocess.run([sys.executable, MAP, *words], capture_output=True, text=True, timeout=120)
+    done = subprocess.run([sys.executable, MAP, *words], capture_output=True, text=True, timeout=600)
     if (done.returncode, done.stdout) != (1, '') or done.stderr.count('\n') != 1 or not done.stderr.startswith('map: '):
         raise AssertionError('%d, %s%s' % (done.returncode, done.stdout, done.stderr))
     return done.stderr[len('map: ') : -1]
@@ -56,7 +56,7 @@ def refused(*words):
 
 def plain(db, data):
     """Has a plain desk serve these requests on a file."""
-    done = subprocess.run([sys.executable, PLAIN, db, AT], input=data, capture_output=True, timeout=60)
+    done = subprocess.run([sys.executable, PLAIN, db, AT], input=data, capture_output=True, timeout=600)
     if (done.returncode, done.stderr) != (0, b''):
         raise AssertionError(done.stderr.decode())
     return done.stdout
@@ -305,7 +305,7 @@ class OfADesk(unittest.TestCase):
         with subprocess.Popen(words, stdout=subprocess.PIPE, stderr=subprocess.PIPE, text=True) as desk:
             try:
                 yield int(desk.stdout.readline().rsplit(':')[-1])
-                self.assertEqual((desk.wait(30), desk.stderr.read()), (0, ''))
+                self.assertEqual((desk.wait(300), desk.stderr.read()), (0, ''))
             finally:
                 desk.kill()
 
@@ -326,7 +326,7 @@ class OfADesk(unittest.TestCase):
                     lines = [watching.stderr.readline() for _ in range(2)]
                 finally:
                     watching.send_signal(signal.SIGINT)
-                self.assertEqual((watching.wait(30), watching.stderr.read()), (0, ''))
+                self.assertEqual((watching.wait(300), watching.stderr.read()), (0, ''))
         self.assertEqual(lines[0], 'map: %s shows 127.0.0.1:%d; stop it with Ctrl-C\n' % (page, port))
         self.assertRegex(lines[1], '^map: 127.0.0.1:%d: no program listens there' % port)
         with open(page) as file:

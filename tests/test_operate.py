@@ -89,6 +89,14 @@ class Page(unittest.TestCase):
             self.assertGreater(len(names), 8)
             self.assertEqual([name for name in names if not os.path.exists(os.path.join(ROOT, name))], [])
 
+    def test_the_version(self):
+        """The first line of the help, docs/openapi.json and the newest release of CHANGELOG.md have the same."""
+        version = json.loads(text_of('docs', 'openapi.json'))['info']['version']
+        self.assertRegex(version, r'^\d+\.\d+\.\d+$')
+        releases = re.findall(r'^## (.*)$', text_of('CHANGELOG.md'), re.M)
+        self.assertEqual(releases[0], version)
+        self.assertEqual(re.match(r'Nulvrader (\S+), ', text_of('docs', 'help', 'desk.txt')).group(1), version)
+
     def test_the_texts_of_the_help(self):
         """docs/HTTP.md has the text of the program and of each subcommand, in their order, as the source has them."""
         source = text_of('crates', 'agv_command_line', 'src', 'line.rt')
@@ -181,7 +189,7 @@ class Backup(Program):
             [*line, '--program', DESK, *words],
             capture_output=True,
             text=True,
-            timeout=120,
+            timeout=600,
             cwd=self.folder.name,
             env={**os.environ, 'PATH': self.folder.name + ':' + os.environ['PATH']},
         )
@@ -287,7 +295,7 @@ class PutBack(Program):
         with Serving(self.db) as desk:
             self.done(desk, *self.SINCE)
             desk.process.kill()
-            desk.process.wait(30)
+            desk.process.wait(300)
 
     def put_back(self):
         """As step 3 of the page has it."""
@@ -506,7 +514,7 @@ class NewFile(Program):
     def carry(self, desk):
         old = self.path('old.db')
         line = [sys.executable, os.path.join(TOOLS, 'new-file'), '--from', old, '--desk', '127.0.0.1:%d' % desk.port]
-        done = subprocess.run(line, capture_output=True, text=True, timeout=120)
+        done = subprocess.run(line, capture_output=True, text=True, timeout=600)
         return done.returncode, done.stdout, done.stderr
 
     def test_a_new_file(self):

@@ -34,7 +34,7 @@ class BesideAPlainDesk(unittest.TestCase):
         """One stream through both; the answers, which are the same."""
         status, out, said = run('replay', '--db', db, '--at', AT, stdin=stdin, limit=300)
         self.assertEqual((status, said), (0, b''))
-        other = subprocess.run([sys.executable, PLAIN, plain, AT], input=stdin, capture_output=True, timeout=300)
+        other = subprocess.run([sys.executable, PLAIN, plain, AT], input=stdin, capture_output=True, timeout=600)
         self.assertEqual((other.returncode, other.stderr), (0, b''))
         ours, theirs = out.split(b'HTTP/1.1 '), other.stdout.split(b'HTTP/1.1 ')
         for number, (one, two) in enumerate(zip(ours, theirs)):

@@ -4,15 +4,14 @@ import os
 import re
 import shutil
 import signal
-import socket
 import subprocess
 import tempfile
-import time
 import unittest
 
 import programs
-from programs import within
+from programs import wait_for_port, within
 from nulvrader import client
+from nulvrader.machine import free_port
 from test_client import KIT1, told
 from test_program import DESK, Serving, over_sockets
 from test_scripts import LAYOUT
@@ -20,12 +19,6 @@ from test_scripts import LAYOUT
 ask = programs.module('ask')
 MAIN = 'user root;\ndaemon off;\npid %(folder)s/pid;\nerror_log %(folder)s/error.log;\nevents {}\nhttp {\n%(conf)s\n}\n'
 USERS = {'anna': 'dispatcher', 'otto': 'reader', 'gate': 'gateway'}
-
-
-def free_port():
-    with socket.socket() as listener:
-        listener.bind(('127.0.0.1', 0))
-        return listener.getsockname()[1]
 
 
 def text_of(name):
@@ -66,19 +59,12 @@ class ByNginx(unittest.TestCase):
         cls.write('nginx.conf', MAIN % {'folder': cls.folder, 'conf': conf})
         cls.nginx = subprocess.Popen(['nginx', '-c', cls.path('nginx.conf')], stderr=subprocess.PIPE, text=True)
         cls.addClassCleanup(cls.end)
-        for _ in range(200):
-            with socket.socket() as probe:
-                if probe.connect_ex(('127.0.0.1', cls.port)) == 0:
-                    return
-            if cls.nginx.poll() is not None:
-                raise AssertionError(cls.nginx.stderr.read())
-            time.sleep(0.05)
-        raise AssertionError('nginx does not listen')
+        wait_for_port(cls.port, cls.nginx)
 
     @classmethod
     def end(cls):
         cls.nginx.send_signal(signal.SIGTERM)
-        cls.nginx.wait(30)
+        cls.nginx.wait(300)
         cls.nginx.stderr.close()
 
     @classmethod

@@ -133,7 +133,7 @@ class Pages(unittest.TestCase):
                     capture_output=True,
                     text=True,
                     cwd=folder,
-                    timeout=120,
+                    timeout=600,
                 )
             self.assertEqual((done.returncode, done.stderr), (0, ''))
             told = done.stdout.split(END + '\n')
@@ -170,7 +170,7 @@ class Pages(unittest.TestCase):
             with Relay(desk.port) as relay:
                 script = ''.join(commands for commands, _ in session_of(blocks))
                 script = script.replace(':' + PORT, ':%d' % relay.port)
-                subprocess.run(['sh', '-e', '-c', script], capture_output=True, cwd=folder, timeout=120, check=True)
+                subprocess.run(['sh', '-e', '-c', script], capture_output=True, cwd=folder, timeout=600, check=True)
         with open(os.path.join(ROOT, 'examples', 'calls.http'), 'rb') as file:
             data = file.read()
         wanted = []
@@ -228,7 +228,7 @@ class Lines(unittest.TestCase):
                         [DESK, 'replay', '--db', db, '--at', '0'],
                         stdin=requests,
                         stdout=subprocess.DEVNULL,
-                        timeout=60,
+                        timeout=600,
                     ).returncode,
                     0,
                 )
@@ -256,7 +256,7 @@ class Lines(unittest.TestCase):
         words = shlex.split(words)
         self.assertEqual(words[:2], ['./desk', 'replay'])
         with open(os.path.join(ROOT, file), 'rb') as requests:
-            done = subprocess.run([DESK, *words[1:]], stdin=requests, capture_output=True, timeout=60)
+            done = subprocess.run([DESK, *words[1:]], stdin=requests, capture_output=True, timeout=600)
         self.assertEqual((done.returncode, done.stderr), (0, b''))
         with open(os.path.join(ROOT, file), 'rb') as requests:
             asked = len(re.findall(rb' HTTP/1\.1\r\n', requests.read()))

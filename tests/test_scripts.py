@@ -226,7 +226,9 @@ class Scripts(unittest.TestCase):
                 for number, line in enumerate(lines, 1):
                     plain.sendall(bytes_of(line))
                     while found is None or len(found) < number:
-                        told += plain.recv(65536)
+                        more = plain.recv(65536)
+                        self.assertNotEqual(more, b'', 'the desk has closed the connection')
+                        told += more
                         found = answers_of(told)
                 plain.close()
                 self.check(lines, found)

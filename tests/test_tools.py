@@ -9,7 +9,9 @@ import sys
 import tempfile
 import unittest
 
-from programs import ROOT, TOOLS
+from programs import ROOT, TOOLS, ran
+from test_program import AT, DESK, Serving, over_sockets, run
+from test_scripts import LAYOUT, bytes_of, load, ok, vehicle
 
 PACKAGE = os.path.join(TOOLS, 'nulvrader')
 PYTHON = '#!/usr/bin/env python3\n'
@@ -50,11 +52,27 @@ class Programs(unittest.TestCase):
             name = os.path.relpath(path, ROOT)
             with self.subTest(name):
                 self.assertTrue(os.access(path, os.X_OK))
-                done = subprocess.run([sys.executable, path, '--help'], capture_output=True, text=True, timeout=60)
+                done = subprocess.run([sys.executable, path, '--help'], capture_output=True, text=True, timeout=600)
                 self.assertEqual((done.returncode, done.stderr), (0, ''))
                 head = re.search('"""(.*?)"""', text_of(path), re.S).group(1)
                 self.assertIn(head.strip(), done.stdout)
                 self.assertRegex(head, r'(?m)^    %s ' % name)
+
+    def test_the_help_of_the_scripts(self):
+        """It has the comment at the head of the script, and in it an example; a port that is none is told."""
+        paths = [os.path.join(EXAMPLES, name) for name in sorted(os.listdir(EXAMPLES)) if name.endswith('.sh')]
+        self.assertEqual(len(paths), 1)
+        for path in paths:
+            head = re.match(r'#!/bin/sh\n((?:#.*\n)+)', text_of(path)).group(1)
+            for word in ('--help', '-h'):
+                done = subprocess.run([path, word], capture_output=True, text=True, timeout=600)
+                self.assertEqual((done.returncode, done.stderr), (0, ''))
+                self.assertEqual(done.stdout, re.sub('^# ?', '', head, flags=re.M))
+            self.assertRegex(done.stdout, r'(?m)^    %s ' % os.path.relpath(path, ROOT))
+            for word in ('port', '80x', '-1'):
+                done = subprocess.run([path, word], capture_output=True, text=True, timeout=600)
+                self.assertEqual((done.returncode, done.stdout), (2, ''))
+                self.assertIn('%s is no port: write %s' % (word, os.path.relpath(path, ROOT)), done.stderr)
 
     def test_one_client(self):
         """Of all files in Python of tools/ and examples/ one alone speaks HTTP."""
@@ -62,6 +80,54 @@ class Programs(unittest.TestCase):
         spoken = re.compile(r'^\s*(?:import|from) (?:http\.client|http import client|urllib\.request|urllib import request)\b', re.M)
         self.assertEqual([os.path.basename(path) for path in files if spoken.search(text_of(path))], ['client.py'])
         self.assertGreater(len(files), 20)
+
+    @over_sockets
+    def test_a_file_that_is_read_stays_as_it_is(self):
+        """By each tool that reads the file of a stopped desk: no byte of it or of its log is another then, and nothing lies beside them."""
+        with tempfile.TemporaryDirectory() as folder:
+            at = {name: os.path.join(folder, name) for name in ('old', 'new', 'copies', 'count.csv')}
+            os.mkdir(at['old'])
+            os.mkdir(at['new'])
+            db = os.path.join(at['old'], 'warehouse.db')
+            lines = [ok('PUT /layout', LAYOUT), vehicle('0001', 'N1'), load('L1', 'A'), load('L2')]
+            self.assertEqual(run('replay', '--db', db, '--at', AT, stdin=b''.join(map(bytes_of, lines)))[::2], (0, b''))
+            before = self.files_of(at['old'])
+            self.assertEqual([name for name, (data, _) in before.items() if data], ['warehouse.db', 'warehouse.db-wal'])
+            with open(at['count.csv'], 'w') as file:
+                file.write('station,load\nA,L1\nC,L2\n')
+            with Serving(os.path.join(at['new'], 'warehouse.db')) as desk:
+                for words, wanted in (
+                    (('map', '--db', db), 'KIT/0001'),
+                    (('check-count', at['count.csv'], '--db', db), 'load L2 would move from checking to station C'),
+                    (('why', '--db', db), ''),
+                    (('backup', '--db', db, '--to', at['copies'], '--program', DESK), ': 2 loads'),
+                    (('new-file', '--from', db, '--desk', '127.0.0.1:%d' % desk.port), '4 calls, 0 of them done before'),
+                ):
+                    with self.subTest(words[0]):
+                        status, out, said = ran(*words)
+                        self.assertEqual((status, said), (0, ''))
+                        self.assertIn(wanted, out)
+                        self.assertEqual(self.files_of(at['old']), before)
+
+    @staticmethod
+    def files_of(folder):
+        """By name the bytes of each file, and when they were last changed."""
+        found = {}
+        for name in sorted(os.listdir(folder)):
+            with open(os.path.join(folder, name), 'rb') as file:
+                found[name] = file.read(), os.stat(file.fileno()).st_mtime_ns
+        return found
+
+    def test_a_file_that_another_sqlite_left_amid_a_change(self):
+        """It is not read: what it has is not what it had."""
+        with tempfile.TemporaryDirectory() as folder:
+            db = os.path.join(folder, 'warehouse.db')
+            self.assertEqual(run('replay', '--db', db, '--at', AT, stdin=bytes_of(load('L1')))[::2], (0, b''))
+            with open(db + '-journal', 'wb') as file:
+                file.write(b'\xd9\xd5\x05\xf9\x20\xa1\x63\xd7' + bytes(504))
+            status, out, said = ran('map', '--db', db)
+            self.assertEqual((status, out), (1, ''))
+            self.assertIn('another SQLite was stopped amid a change: tools/why says what to do', said)
 
     @unittest.skipUnless(command('mypy'), 'mypy is not here')
     def test_types(self):

@@ -407,7 +407,7 @@ def _become(words, names, streams, env):
     os.execve(words[0], words, env)
 
 
-def run(words, names=(), on_call=None, stdin=b'', heap=None, beside=None, limit=60):
+def run(words, names=(), on_call=None, stdin=b'', heap=None, beside=None, limit=600):
     """Runs these words, and tells `on_call` of each call of these names that the program is about to make. `beside` runs next to it
     in a thread of its own. A program that takes longer than `limit` seconds is ended, and that is an error."""
     files = [os.memfd_create(name) for name in ('in', 'out', 'said')]
@@ -458,7 +458,7 @@ def lacks():
         return 'programs are traced on Linux on x86-64 alone'
     seen = []
     try:
-        ended = run(['/bin/sh', '-c', 'echo here'], ['write'], lambda call: seen.append(call.data), limit=20)
+        ended = run(['/bin/sh', '-c', 'echo here'], ['write'], lambda call: seen.append(call.data), limit=300)
     except OSError as error:
         return 'programs can not be traced here: %s' % error
     if (ended.status, ended.out, seen) != (0, b'here\n', [b'here\n']):

@@ -82,7 +82,7 @@ class WhyTest(unittest.TestCase):
         """What `tools/why` says of the file, which stays as it is, as does all beside it."""
         before = self.state()
         line = [python_of(user), os.path.join(TOOLS, 'why'), '--db', self.db, *words]
-        done = subprocess.run(line, capture_output=True, text=True, timeout=120, **as_user(user))
+        done = subprocess.run(line, capture_output=True, text=True, timeout=600, **as_user(user))
         self.assertEqual((done.returncode, done.stderr), (expected, ''), done.stdout)
         self.assertEqual(self.state(), before)
         return done.stdout
@@ -90,7 +90,7 @@ class WhyTest(unittest.TestCase):
     def check_fault(self, fault, *parts, words=(), user=None, port='0'):
         """The program ends with this fault, and `tools/why` tells each of these parts."""
         line = [DESK, 'serve', '--db', self.db, '--port', port, '--connections', '0']
-        done = subprocess.run(line, capture_output=True, text=True, timeout=60, **as_user(user))
+        done = subprocess.run(line, capture_output=True, text=True, timeout=600, **as_user(user))
         self.assertEqual((done.returncode, done.stdout, done.stderr), (1, '', 'fault: %s\n' % fault))
         said = self.look(*words, user=user)
         for part in (*parts, '`fault: %s`' % fault):

@@ -5,17 +5,12 @@ import os
 import random
 import re
 import signal
-import socket
 import subprocess
 import threading
 
+from nulvrader.machine import free_port
+
 from .truth import Wrong
-
-
-def free_port() -> int:
-    with socket.socket() as listener:
-        listener.bind(('127.0.0.1', 0))
-        return int(listener.getsockname()[1])
 
 
 class Served:

@@ -190,7 +190,9 @@ class Desk:
             if connection.sock is None:
                 connection.connect()
             sent = True
-            connection.request(method, self._front + target, body, headers)
+            # What answers before it has read the whole body may close the connection while that is sent.
+            with contextlib.suppress(BrokenPipeError, ConnectionResetError):
+                connection.request(method, self._front + target, body, headers)
             answer = connection.getresponse()
             told = Answer(answer.status, answer.read())
             last = last or answer.will_close

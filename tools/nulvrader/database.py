@@ -2,6 +2,7 @@
 docs/TABLES.md says under "Whose file is a desk's"."""
 import contextlib
 import dataclasses
+import fcntl
 import os
 import re
 import shutil
@@ -45,16 +46,26 @@ SHAPES: dict[str, tuple[str, list[str]]] = {
 }
 
 
+# The bytes of a file that SQLite, and a desk, lock: how many, and the first one. Who reads shares the lock.
+LOCKED = 510, 0x40000002
+
+
 @contextlib.contextmanager
-def opened(path: str) -> Iterator[sqlite3.Connection]:
+def opened(path: str, alone: bool = False, room: str | None = None) -> Iterator[sqlite3.Connection]:
     """The database, to be read, while no other program has it. Where a log lies beside it, it is read with that from a
-    copy of both, since SQLite would change them; else as it is, without a lock."""
+    copy of both, since SQLite would change them; else as it is. The copy is in a folder of its own in `room`, or where
+    TMPDIR says. With `alone` nobody who writes may have it, else it is a BlockingIOError, and until the end nobody gets
+    it."""
     log = path + '-wal'
     with contextlib.ExitStack() as stack:
+        file = stack.enter_context(open(path, 'rb'))
+        if alone:
+            fcntl.lockf(file, fcntl.LOCK_SH | fcntl.LOCK_NB, *LOCKED)
         if os.path.exists(log) and os.path.getsize(log):
-            folder = stack.enter_context(tempfile.TemporaryDirectory())
+            folder = stack.enter_context(tempfile.TemporaryDirectory(dir=room))
             copy = os.path.join(folder, 'copy.db')
-            shutil.copyfile(path, copy)
+            with open(copy, 'wb') as other:
+                shutil.copyfileobj(file, other)
             shutil.copyfile(log, copy + '-wal')
             base = sqlite3.connect(copy)
         else:
@@ -63,6 +74,15 @@ def opened(path: str) -> Iterator[sqlite3.Connection]:
         stack.callback(base.close)
         base.text_factory = any_text
         yield base
+
+
+def has_journal(path: str) -> bool:
+    """Whether a journal lies beside the file that another SQLite is to take back: one with a head."""
+    try:
+        with open(path + '-journal', 'rb') as file:
+            return any(file.read(8))
+    except FileNotFoundError:
+        return False
 
 
 def is_empty(path: str) -> bool:

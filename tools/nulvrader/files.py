@@ -1,13 +1,12 @@
-"""The file of a desk that is stopped, read by SQLite. No row is changed; SQLite may take the log beside
-the file into it."""
+"""The file of a desk that is stopped, read by SQLite. Neither it nor what lies beside it is changed."""
 from __future__ import annotations
 
 import contextlib
 import os
 import sqlite3
-import urllib.parse
 from collections.abc import Iterator
 
+from . import database
 from .layouts import Edge, Layout, Station, of_parts
 from .names import VehicleKey
 
@@ -18,29 +17,26 @@ class Unread(Exception):
     """Why there is nothing to read. Its `str()` is a sentence that begins with the file's name."""
 
 
-def connected(path: str) -> sqlite3.Connection:
-    """A connection to a file that is there already. It is opened to be read and written, which a log beside it asks
-    for, and is not made."""
-    return sqlite3.connect('file:%s?mode=rw' % urllib.parse.quote(os.path.abspath(path)), uri=True, timeout=1)
-
-
 @contextlib.contextmanager
-def opened(path: str) -> Iterator[sqlite3.Connection]:
-    """A connection to the file of a desk, in one transaction; `Unread` where that can't be, or where a question of
-    the block fails."""
+def opened(path: str, room: str | None = None) -> Iterator[sqlite3.Connection]:
+    """A connection to the file of a desk, or to a copy of it in the folder `room`; `Unread` where that can't be, or where
+    a question of the block fails."""
     if not os.path.exists(path):
         raise Unread('%s: there is no such file' % path)
+    if database.has_journal(path):
+        raise Unread('%s: another SQLite was stopped amid a change: tools/why says what to do' % path)
     try:
-        with contextlib.closing(connected(path)) as base:
-            base.execute('BEGIN')
+        with database.opened(path, alone=True, room=room) as base:
             if base.execute('SELECT schema FROM meta').fetchall() != [(SCHEMA,)]:
                 raise Unread('%s: it has not schema %d: `./desk migrate` moves one of schema 1' % (path, SCHEMA))
             yield base
             return
+    except BlockingIOError:
+        raise Unread('%s: database is locked: ask the desk that has it open, or stop it first' % path) from None
+    except OSError as fault:
+        raise Unread('%s: %s' % (path, fault.strerror)) from None
     except sqlite3.Error as fault:
         said = str(fault)
-    if 'locked' in said:
-        raise Unread('%s: %s: ask the desk that has it open, or stop it first' % (path, said))
     if 'no such' in said or 'not a database' in said:
         raise Unread('%s: it has no tables of a desk' % path)
     raise Unread('%s: %s' % (path, said))

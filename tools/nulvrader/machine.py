@@ -1,9 +1,11 @@
 """What of the machine keeps a desk from its file or its port, as Linux tells it: the programs that have them, by
-/proc; rights, by the bits of the files; and the room on the disk. Nothing is changed."""
+/proc; rights, by the bits of the files; and the room on the disk. Nothing is changed. And a port that nobody has."""
 import dataclasses
 import grp
 import os
 import pwd
+import random
+import socket
 import stat
 from collections.abc import Iterator
 
@@ -122,6 +124,31 @@ class Listener:
     address: str
     user: User
     program: Program | None
+
+
+def given_ports() -> range:
+    """The ports of which the system gives one to each connection."""
+    try:
+        with open('/proc/sys/net/ipv4/ip_local_port_range') as file:
+            least, most = map(int, file.read().split())
+    except (OSError, ValueError):
+        least, most = 32768, 60999
+    return range(least, most + 1)
+
+
+def free_port() -> int:
+    """A port of 127.0.0.1 that nobody has. It is none that the system gives to a connection: so nobody gets it while a
+    program that listens on it is started again, not even who connects to it meanwhile."""
+    given = given_ports()
+    ports = range(max(1024, given.start - 20000), given.start) if given.start > 2048 else range(given.stop, 65536)
+    for port in random.sample(ports, min(100, len(ports))):
+        with socket.socket() as one:
+            try:
+                one.bind(('127.0.0.1', port))
+            except OSError:
+                continue
+            return port
+    raise OSError('no port of 127.0.0.1 is free')
 
 
 def who_listens(port: int) -> list[Listener]:

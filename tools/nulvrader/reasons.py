@@ -3,6 +3,7 @@ file, what lies beside it and the machine are only looked at."""
 import dataclasses
 import itertools
 import os
+import shlex
 import sqlite3
 import stat
 import time
@@ -99,7 +100,7 @@ def _folder(folder: str, user: User) -> str | None:
     parts = itertools.accumulate(folder.split('/')[1:], lambda above, name: above + '/' + name, initial='')
     for part in (one or '/' for one in parts):
         if not os.path.exists(part):
-            return 'The folder %s is missing: make it, `mkdir -p %s`, or name another file.' % (part, folder)
+            return 'The folder %s is missing: make it, `mkdir -p %s`, or name another file.' % (part, shlex.quote(folder))
         if not os.path.isdir(part):
             return '%s is no folder, so no file lies in it: name another file.' % part
         if not user.may(part, os.X_OK):
@@ -144,12 +145,12 @@ def _file(path: str, user: User) -> str | None:
 
 def _look_into(told: Told, path: str, rows_of_a_rule: int) -> None:
     """Whether the file has the rows of a lawful desk; nobody has it, and the user of this program may read it."""
-    if _has_journal(path):
+    if database.has_journal(path):
         text = (
             '%s-journal lies beside the file: another SQLite was stopped amid a change (`fault: Storage`). Have it '
             "taken back: `sqlite3 %s 'SELECT 1 FROM sqlite_master'`."
         )
-        told.reasons.append(text % (path, path))
+        told.reasons.append(text % (path, shlex.quote(path)))
         return
     if database.is_empty(path):
         told.notes.append('%s is empty: a desk that is started makes its tables in it.' % path)
@@ -178,15 +179,6 @@ def _look_into(told: Told, path: str, rows_of_a_rule: int) -> None:
 
 
 COPY = 'docs/OPERATE.md, "Putting a copy back"'
-
-
-def _has_journal(path: str) -> bool:
-    """Whether a journal lies beside the file that another SQLite is to take back: one with a head."""
-    try:
-        with open(path + '-journal', 'rb') as file:
-            return any(file.read(8))
-    except FileNotFoundError:
-        return False
 
 
 def _look_at_tables(told: Told, path: str, base: sqlite3.Connection, rows_of_a_rule: int) -> None:
@@ -235,7 +227,7 @@ def _look_at_first(told: Told, path: str, base: sqlite3.Connection, rows_of_a_ru
             '%s is of the first schema, as an earlier desk made it (`fault: Damaged`). Copy it, `sqlite3 %s '
             "'.backup before.db'`, and move it: `./desk migrate --db %s` (docs/OPERATE.md, *Migrate a file*)."
         )
-        told.reasons.append(text % (path, path, path))
+        told.reasons.append(text % (path, shlex.quote(path), shlex.quote(path)))
 
 
 def _look_at_rows(told: Told, path: str, broken: list[Breach], rows_of_a_rule: int) -> None:

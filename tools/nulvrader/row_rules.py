@@ -3,7 +3,7 @@ import collections
 
 from .checks import SEATS, Found, rule, value_text, vehicle_text
 from .names import is_name
-from .rows import Act, Edge, Job, Journey, Leg, Load, Node, Rows, Station, Used, key_of
+from .rows import Act, Edge, Job, Journey, Leg, Load, Node, Rows, Station, Used, Vehicle, key_of
 
 NUMBER = 4294967295  # the greatest number
 MOMENT = 4102444799999  # the last millisecond of 2099
@@ -109,13 +109,18 @@ def is_within_limits(rows: Rows) -> Found:
 # ---- the layout
 
 
+def unknown_nodes(rows: Rows, row: Edge | Station | Vehicle, *nodes: str) -> Found:
+    """Those of a row's nodes that the layout doesn't have."""
+    for node in nodes:
+        if node not in rows.nodes:
+            yield row, 'there is no node ' + value_text(node)
+
+
 @rule('edges')
 def edges_join_nodes(rows: Rows) -> Found:
     """An edge leads from a node of the layout to another one."""
     for edge in rows.edge:
-        for node in (edge.start, edge.finish):
-            if node not in rows.nodes:
-                yield edge, 'there is no node ' + value_text(node)
+        yield from unknown_nodes(rows, edge, edge.start, edge.finish)
         if edge.start == edge.finish:
             yield edge, 'it leads from %s to the same node' % edge.start
 
@@ -124,8 +129,7 @@ def edges_join_nodes(rows: Rows) -> Found:
 def stations_are_at_nodes(rows: Rows) -> Found:
     """A station is at a node of the layout, and has room for 1 to 999 loads."""
     for station in rows.station:
-        if station.node not in rows.nodes:
-            yield station, 'there is no node ' + value_text(station.node)
+        yield from unknown_nodes(rows, station, station.node)
         if not 1 <= station.capacity <= 999:
             yield station, 'its capacity is %d' % station.capacity
 
@@ -137,8 +141,7 @@ def stations_are_at_nodes(rows: Rows) -> Found:
 def vehicles_are_at_nodes(rows: Rows) -> Found:
     """A vehicle stands at a node of the layout."""
     for vehicle in rows.vehicle:
-        if vehicle.node not in rows.nodes:
-            yield vehicle, 'there is no node ' + value_text(vehicle.node)
+        yield from unknown_nodes(rows, vehicle, vehicle.node)
 
 
 @rule('rest of a vehicle')

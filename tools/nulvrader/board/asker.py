@@ -176,24 +176,23 @@ class Asker(threading.Thread):
         self.news.record.desk(self.news.at, fault)
         self.news.shown.put('desk', '', {'up': up, 'since': self.news.at, 'fault': fault})
 
-    def ask_holds(self) -> None:
+    def _read(self, report: Report, question: Callable[[], bytes], read: Callable[[bytes], T]) -> T:
+        """What a report tells. It is noted how long it took."""
         begun = time.monotonic()
-        report = read_holds(self._told(self.desk.hold_report))
-        self.holds.took(begun)
-        self.fleet.take_holds(report)
+        found = read(self._told(question))
+        report.took(begun)
+        return found
+
+    def ask_holds(self) -> None:
+        self.fleet.take_holds(self._read(self.holds, self.desk.hold_report, read_holds))
 
     def ask_stock(self) -> None:
-        begun = time.monotonic()
-        report = read_stock(self._told(self.desk.stock_report))
-        self.stock.took(begun)
+        report = self._read(self.stock, self.desk.stock_report, read_stock)
         self.stores.take_stock(report)
         self.fleet.take_stock(report)
 
     def ask_export(self) -> None:
-        begun = time.monotonic()
-        loads = read_loads(self._told(self.desk.loads_export))
-        self.export.took(begun)
-        self.stores.take_export(loads)
+        self.stores.take_export(self._read(self.export, self.desk.loads_export, read_loads))
 
     def ask_order(self, vehicle: VehicleKey) -> None:
         self.fleet.take_order(vehicle, self._told(lambda: self.desk.order_message(vehicle)))

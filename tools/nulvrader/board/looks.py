@@ -3,6 +3,7 @@ from __future__ import annotations
 
 from collections.abc import Mapping
 from dataclasses import dataclass, field
+from typing import Any
 
 from ..names import new_reference
 from .scene import Scene
@@ -36,12 +37,11 @@ def register_load(scene: Scene, said: Mapping[str, str]) -> Look:
 
 def correct_load(scene: Scene, said: Mapping[str, str]) -> Look:
     look, load, station = Look(_with_reference(said)), said['load'], said.get('station', '')
-    known = scene.load(load)
+    known = _load_here(scene, look, load)
     before = place_words(known['place']) if known else 'unknown'
     after = 'at station %s' % station if station else 'at the checking place'
     look.says.append('The desk takes it that %s stands %s. By the desk it is %s now.' % (load, after, before))
     look.says.append('No vehicle moves for it.')
-    look.warn(known is None, 'No load %s is in the warehouse.' % load)
     _check_no_job(scene, look, load)
     _check_room(scene, look, station)
     return look
@@ -49,9 +49,8 @@ def correct_load(scene: Scene, said: Mapping[str, str]) -> Look:
 
 def leave_load(scene: Scene, said: Mapping[str, str]) -> Look:
     look, load = Look(_with_reference(said)), said['load']
-    known = scene.load(load)
+    known = _load_here(scene, look, load)
     look.says.append('%s leaves the warehouse for good. Its name stays used.' % load)
-    look.warn(known is None, 'No load %s is in the warehouse.' % load)
     look.warn(known is not None and known['place'].startswith('vehicle '), '%s is on a vehicle.' % load)
     _check_no_job(scene, look, load)
     return look
@@ -59,12 +58,11 @@ def leave_load(scene: Scene, said: Mapping[str, str]) -> Look:
 
 def add_job(scene: Scene, said: Mapping[str, str]) -> Look:
     look, job, load, to = Look(dict(said)), said['job'], said['load'], said['to']
-    known = scene.load(load)
+    known = _load_here(scene, look, load)
     place = known['place'] if known else ''
     origin = place.removeprefix('station ') if place.startswith('station ') else None
     look.says.append('Job %s is to take %s from %s to %s.' % (job, load, origin or 'where it stands', to))
     look.says.append('It waits until an order takes it, and keeps a place at %s.' % to)
-    look.warn(known is None, 'No load %s is in the warehouse.' % load)
     look.warn(known is not None and origin is None, '%s stands at no station: it is %s.' % (load, place_words(place)))
     look.warn(origin == to, '%s stands at %s already.' % (load, to))
     if origin and to in scene.layout.stations:
@@ -106,19 +104,20 @@ def cancel(scene: Scene, said: Mapping[str, str]) -> Look:
 
 
 def pause(scene: Scene, said: Mapping[str, str]) -> Look:
-    look, name = Look(dict(said)), said['vehicle']
-    vehicle = scene.vehicle(name)
-    look.says.append('%s is told to pause. It keeps its order and all that it holds.' % name)
-    look.warn(vehicle is not None and bool(vehicle['paused']), 'It has paused already.')
-    _check_not_pending(look, vehicle)
-    return look
+    words = 'to pause. It keeps its order and all that it holds.'
+    return _instant(scene, said, words, True, 'It has paused already.')
 
 
 def resume(scene: Scene, said: Mapping[str, str]) -> Look:
+    return _instant(scene, said, 'to go on.', False, 'It has not paused.')
+
+
+def _instant(scene: Scene, said: Mapping[str, str], words: str, paused: bool, warning: str) -> Look:
+    """What a vehicle is told to do, and a warning where it has paused, or has not."""
     look, name = Look(dict(said)), said['vehicle']
     vehicle = scene.vehicle(name)
-    look.says.append('%s is told to go on.' % name)
-    look.warn(vehicle is not None and not vehicle['paused'], 'It has not paused.')
+    look.says.append('%s is told %s' % (name, words))
+    look.warn(vehicle is not None and bool(vehicle['paused']) == paused, warning)
     _check_not_pending(look, vehicle)
     return look
 
@@ -155,6 +154,13 @@ def _with_reference(said: Mapping[str, str]) -> Values:
 def _check_room(scene: Scene, look: Look, station: str) -> None:
     if station and station in scene.layout.stations:
         look.warn(scene.room(station) == 0, 'Station %s is full.' % scene.station_words(station))
+
+
+def _load_here(scene: Scene, look: Look, load: str) -> dict[str, Any] | None:
+    """A load that is in the warehouse; where none of that name is, None and a warning."""
+    known = scene.load(load)
+    look.warn(known is None, 'No load %s is in the warehouse.' % load)
+    return known
 
 
 def _check_no_job(scene: Scene, look: Look, load: str) -> None:
