@@ -52,7 +52,7 @@ ALL = (
         2,
         'NoLength',
         411,
-        "A PUT or POST that doesn't say its length",
+        'A PUT or POST without Content-Length',
         'PUT and POST need `Content-Length`; without a body it is `Content-Length: 0`.',
     ),
     Refusal(
@@ -62,7 +62,7 @@ ALL = (
         'A body of more than 65,536 bytes',
         'Split a stocktake into several; give a layout shorter names.',
     ),
-    Refusal(4, 'Coding', 501, 'A body that is sent in a transfer coding', BAD_REQUEST),
+    Refusal(4, 'Coding', 501, 'A body with a transfer coding', BAD_REQUEST),
     Refusal(
         5,
         'NoPath',
@@ -75,9 +75,9 @@ ALL = (
         6,
         'BadMethod',
         405,
-        'The path is served by another method alone, `allow`',
+        'The path has only the method `allow`',
         BAD_REQUEST,
-        'The path is served by another method alone, {allow}',
+        'The path has only the method {allow}',
     ),
     Refusal(7, 'BadJson', 400, 'The body is no JSON text', BAD_REQUEST),
     Refusal(8, 'Fraction', 422, 'A number with a fraction or an exponent, or beyond 64 bits', STATE_FORM),
@@ -89,9 +89,9 @@ ALL = (
         'A member is missing or of the wrong kind',
         '`tools/ask call` checks a body and names the member.',
     ),
-    Refusal(11, 'BadCsv', 400, "The body isn't the table that it should be", CSV_LINES),
+    Refusal(11, 'BadCsv', 400, "The body isn't the CSV table that the call takes", CSV_LINES),
     Refusal(12, 'Version', 422, 'A message of another major version than 2', STATE_FORM),
-    Refusal(13, 'BadTimestamp', 422, 'A timestamp that is none', STATE_FORM),
+    Refusal(13, 'BadTimestamp', 422, "A timestamp that can't be read, or is not from 1970 to 2099", STATE_FORM),
     Refusal(
         14,
         'WrongVehicle',
@@ -113,7 +113,7 @@ ALL = (
         'The layout is set already',
         "The layout can't be changed. Another one needs a new file.",
     ),
-    Refusal(32, 'LayoutBad', 409, 'The rows are no layout', CSV_LINES),
+    Refusal(32, 'LayoutBad', 409, 'The rows are not a valid layout', CSV_LINES),
     Refusal(
         33,
         'Held',
@@ -161,7 +161,7 @@ ALL = (
         40,
         'Loaded',
         409,
-        "The loads on the vehicle and the order's jobs are more than its room",
+        "The loads on the vehicle and the order's jobs are more than it has room for",
         "Give the order fewer jobs. If a load that is recorded on the vehicle isn't really on it, `correct` that "
         'load.',
     ),
@@ -252,7 +252,7 @@ ALL = (
         53,
         'BadStops',
         409,
-        "No stops, or a job hasn't one pick and, after it, one drop",
+        'No stops, or a job without exactly one pick and, after it, one drop',
         'Each job has to be picked once and, later, dropped once.',
     ),
     Refusal(
