@@ -202,7 +202,7 @@ class Document(unittest.TestCase):
         for title, ids in {
             'Set the layout': ['setLayout'],
             'Register a vehicle': ['registerVehicle'],
-            'Pause, go on, cancel': ['startPause', 'stopPause', 'cancelOrder'],
+            'Pause, resume, cancel': ['startPause', 'stopPause', 'cancelOrder'],
             'Place a vehicle': ['placeVehicle'],
             'Resync a vehicle': ['resync'],
             'Register a load': ['registerLoad'],

@@ -104,12 +104,15 @@ class Figures(unittest.TestCase):
 
 class Release(unittest.TestCase):
     def test_the_version(self) -> None:
-        """The newest release of CHANGELOG.md is the version of docs/openapi.json."""
+        """The newest release of CHANGELOG.md is the version of docs/openapi.json, and of the program's help, in its source and its copy."""
         with open(os.path.join(ROOT, 'docs', 'openapi.json')) as file:
             version = json.load(file)['info']['version']
         releases = re.findall(r'^## (\S+)', PAGES['CHANGELOG.md'], re.M)
         self.assertRegex(version, r'^\d+\.\d+\.\d+$')
         self.assertEqual(releases[0], version)
+        for path in (('docs', 'help', 'desk.txt'), ('crates', 'agv_command_line', 'src', 'line.rt')):
+            with open(os.path.join(ROOT, *path)) as file:
+                self.assertEqual(re.findall(r'\bNulvrader (\d\S*), the control desk', file.read()), [version], path)
 
 
 if __name__ == '__main__':

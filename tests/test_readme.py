@@ -250,7 +250,7 @@ class Lines(unittest.TestCase):
 
     def test_the_command_that_replays(self):
         """That command of README answers each request of the file that it is given."""
-        blocks = blocks_of('README.md', 'Two commands')
+        blocks = blocks_of('README.md', 'With proofs')
         (command,) = [text for _, text in blocks if text.startswith('./desk replay')]
         words, file = command.rstrip('\n').split(' < ')
         words = shlex.split(words)

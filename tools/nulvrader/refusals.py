@@ -26,19 +26,19 @@ class Refusal:
             return self.says
 
 
-BAD_REQUEST = 'The program that asks is wrong: docs/HTTP.md says what a request is.'
-UNKNOWN = 'Nothing has that name as it is spelled. Capitals count.'
+BAD_REQUEST = 'The client is wrong: docs/HTTP.md says what a request is.'
+UNKNOWN = 'There is nothing of that name. Upper and lower case differ.'
 USED = (
-    'Names are used once for good. Where the same was asked before and its answer was lost, it was done; else take '
+    'A name is used only once. If the same call was sent before and its answer was lost, it was done; else take '
     'another name.'
 )
-CSV_LINES = '`tools/check-layout` and `tools/check-count` name the line and the rule of each fault of a file.'
+CSV_LINES = '`tools/check-layout` and `tools/check-count` name the line and the rule of each error in a file.'
 NOT_RELEASED = (
-    "The vehicle reports a node that isn't released to it, or none of its way. Stop the vehicle: others may have "
+    "The vehicle reports a node that isn't released to it, or isn't on its way. Stop the vehicle: others may have "
     'that track. Clear the order on it, and `place` it.'
 )
 OUT_OF_TURN = (
-    "The vehicle reports things twice, or in a turn that can't be (docs/PROFILE.md). Where it keeps to that, its order "
+    'The vehicle reports something twice, or in an impossible order (docs/PROFILE.md). If it goes on so, its order '
     "can't end by itself: clear it on the vehicle, `place` the vehicle, and correct its loads."
 )
 STATE_FORM = (
@@ -52,17 +52,17 @@ ALL = (
         2,
         'NoLength',
         411,
-        "A PUT or POST that doesn't say its length",
-        'PUT and POST say `Content-Length`, and `Content-Length: 0` without a body.',
+        'A PUT or POST without Content-Length',
+        'PUT and POST need `Content-Length`; without a body it is `Content-Length: 0`.',
     ),
     Refusal(
         3,
         'TooLarge',
         413,
         'A body of more than 65,536 bytes',
-        'Count stations by several stocktakes; give a layout shorter names.',
+        'Split a stocktake into several; give a layout shorter names.',
     ),
-    Refusal(4, 'Coding', 501, 'A body that is sent in a transfer coding', BAD_REQUEST),
+    Refusal(4, 'Coding', 501, 'A body with a transfer coding', BAD_REQUEST),
     Refusal(
         5,
         'NoPath',
@@ -75,9 +75,9 @@ ALL = (
         6,
         'BadMethod',
         405,
-        'The path is served by another method alone, `allow`',
+        'The path has only the method `allow`',
         BAD_REQUEST,
-        'The path is served by another method alone, {allow}',
+        'The path has only the method {allow}',
     ),
     Refusal(7, 'BadJson', 400, 'The body is no JSON text', BAD_REQUEST),
     Refusal(8, 'Fraction', 422, 'A number with a fraction or an exponent, or beyond 64 bits', STATE_FORM),
@@ -89,9 +89,9 @@ ALL = (
         'A member is missing or of the wrong kind',
         '`tools/ask call` checks a body and names the member.',
     ),
-    Refusal(11, 'BadCsv', 400, "The body isn't the table that it should be", CSV_LINES),
+    Refusal(11, 'BadCsv', 400, "The body isn't the CSV table that the call takes", CSV_LINES),
     Refusal(12, 'Version', 422, 'A message of another major version than 2', STATE_FORM),
-    Refusal(13, 'BadTimestamp', 422, 'A timestamp that is none', STATE_FORM),
+    Refusal(13, 'BadTimestamp', 422, "A timestamp that can't be read, or is not from 1970 to 2099", STATE_FORM),
     Refusal(
         14,
         'WrongVehicle',
@@ -111,16 +111,16 @@ ALL = (
         'LayoutSet',
         409,
         'The layout is set already',
-        'A layout stands for good. Another one needs a new file.',
+        "The layout can't be changed. Another one needs a new file.",
     ),
-    Refusal(32, 'LayoutBad', 409, 'The rows are no layout', CSV_LINES),
+    Refusal(32, 'LayoutBad', 409, 'The rows are not a valid layout', CSV_LINES),
     Refusal(
         33,
         'Held',
         409,
         'The vehicle `by` holds the node or edge `what`',
         'Wait until the states of that vehicle have freed it, or release fewer edges. `tools/ask who-waits` shows '
-        'those that wait for one another; docs/OPERATE.md says how to part them.',
+        'vehicles that wait for one another; docs/OPERATE.md says how to free them.',
         'The vehicle {by} holds {what}',
     ),
     Refusal(
@@ -128,8 +128,8 @@ ALL = (
         'Full',
         409,
         'The station has no room',
-        'The loads at the station and the live jobs to it fill it, as the stock report has it: `1 of 2, reserved 1`. '
-        'Take another station, or stop a job to it.',
+        'The loads at the station and the live jobs to it fill it, as the stock report shows: `1 of 2, reserved '
+        '1`. Take another station, or stop a job to it.',
     ),
     Refusal(
         35,
@@ -161,8 +161,8 @@ ALL = (
         40,
         'Loaded',
         409,
-        "The loads on the vehicle and the order's jobs are more than its room",
-        "Give the order fewer jobs. Where a load that is recorded on the vehicle isn't on it in truth, `correct` that "
+        "The loads on the vehicle and the order's jobs are more than it has room for",
+        "Give the order fewer jobs. If a load that is recorded on the vehicle isn't really on it, `correct` that "
         'load.',
     ),
     Refusal(
@@ -171,31 +171,31 @@ ALL = (
         409,
         "The vehicle isn't ready",
         "The vehicle's last accepted state has another `operatingMode` than AUTOMATIC or SEMIAUTOMATIC, another "
-        '`eStop` than NONE, or a FATAL error; or none was accepted yet. Mend it at the vehicle; its next state makes '
-        'it ready.',
+        '`eStop` than NONE, or a FATAL error; or none was accepted yet. Solve that at the vehicle; its next state '
+        'makes it ready.',
     ),
     Refusal(
         42,
         'InstantPending',
         409,
         'An instant action is pending',
-        'No state has told the end of the instant action yet. Wait for one; where none will come, as after a restart '
-        'of the vehicle, clear the order on it and `place` it.',
+        'No state has reported the end of the instant action yet. Wait for one; if none will come, as after a '
+        'restart of the vehicle, clear the order on it and `place` it.',
     ),
     Refusal(
         43,
         'NotConfirmed',
         409,
         "The vehicle hasn't confirmed the last update",
-        'Wait for a state that names it. Where none comes, look whether the gateway runs, and whether the vehicle has '
-        'rejected the message, as its `errors` say: then clear the order on it and `place` it.',
+        'Wait for a state that names it. If none comes, check whether the gateway runs, and whether the vehicle '
+        'has rejected the message, as its `errors` say: then clear the order on it and `place` it.',
     ),
     Refusal(
         44,
         'WrongUpdate',
         409,
         "The update isn't the one after `sent`, the last",
-        'Ask for the number that is one more than the last; `tools/ask advance` finds it by itself.',
+        'Send the number after the last one; `tools/ask advance` finds it by itself.',
         "The update isn't the one after {sent}, the last",
     ),
     Refusal(
@@ -203,7 +203,7 @@ ALL = (
         'Beyond',
         409,
         'The order ends before that',
-        'Release fewer edges, and by an update one at least: `tools/ask orders` says how many are left.',
+        'Release fewer edges, and with an update at least one: `tools/ask orders` says how many are left.',
     ),
     Refusal(
         46,
@@ -217,7 +217,7 @@ ALL = (
         'TooLong',
         409,
         'The route has more than 200 edges',
-        'Take a vehicle that stands nearer, or carry the load by two jobs, over a station between.',
+        'Take a vehicle that stands nearer, or carry the load by two jobs, with a station in between.',
     ),
     Refusal(
         48,
@@ -252,7 +252,7 @@ ALL = (
         53,
         'BadStops',
         409,
-        "No stops, or a job hasn't one pick and, after it, one drop",
+        'No stops, or a job without exactly one pick and, after it, one drop',
         'Each job has to be picked once and, later, dropped once.',
     ),
     Refusal(
@@ -268,8 +268,8 @@ ALL = (
         'UpdateNotSent',
         409,
         'An update that was never sent',
-        "The vehicle reports an update that the desk hasn't sent, as where a copy was put back without all of its "
-        'steps. Clear the order on it, and `place` it.',
+        "The vehicle reports an update that the desk hasn't sent, for example because a copy was put back without "
+        'all of its steps. Clear the order on it, and `place` it.',
     ),
     Refusal(62, 'UpdateBackwards', 409, 'An update before the confirmed one', OUT_OF_TURN),
     Refusal(63, 'NotOurNode', 409, "A node that isn't the route's", NOT_RELEASED),
@@ -285,8 +285,8 @@ ALL = (
         'NotThere',
         409,
         "The vehicle isn't where the desk has it",
-        'A vehicle without an order names another node than the desk has, as where it was driven by hand. `place` it '
-        'there.',
+        'A vehicle without an order names another node than the desk has, for example because it was driven by '
+        'hand. `place` it there.',
     ),
     Refusal(
         80,
@@ -314,8 +314,8 @@ ALL = (
         'Storage',
         503,
         'A fault of the store',
-        'The desk has ended, and its supervisor starts it again. Look at its disk, then ask again: what was asked is '
-        'done whole or not at all.',
+        'The desk has ended, and its supervisor restarts it. Check its disk, then send the call again: it was done '
+        'as a whole or not at all.',
     ),
 )
 BY_NAME = {refusal.name: refusal for refusal in ALL}
