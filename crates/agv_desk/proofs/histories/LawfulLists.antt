@@ -65,6 +65,10 @@ pub typed_later : (calls others : List (ℕ × Call)) → AreWellTyped (calls ++
 typed_later [] others typed = typed
 typed_later (made ∷ calls) others typed = typed_later calls others typed.2
 
+pub typed_more : (calls : List (ℕ × Call)) (made : ℕ × Call) → AreWellTyped calls → IsMoment made.0 → IsWellTyped made.1 → AreWellTyped (calls ++ made ∷ [])
+typed_more [] made typed moment well = (moment, well, tt)
+typed_more (first ∷ calls) made typed moment well = (typed.0, typed.1, typed_more calls made typed.2 moment well)
+
 module _ (advances : AdvancesTrips) (fits : FitsAsSaid) (seats : ℕ) (keeps : KeepsLawful seats) where
   -- every list of calls keeps a lawful world lawful
   pub stays_lawful : (world : World) (calls : List (ℕ × Call)) → IsLawful seats world → AreWellTyped calls → IsLawful seats (steps seats world calls)

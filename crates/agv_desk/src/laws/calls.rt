@@ -1,5 +1,6 @@
 //! What holds of the rules, for every world and call. Each function says it by its clause alone.
 ghost use Rattle.std.specs.Prelude.{◌≡◌, ◌≢◌, ℕ, true, false, List, [], ◌++◌, Result, Err};
+ghost use Rattle.std.specs.FinMap as finite;
 ghost use Rattle.std.specs.List.{list_all};
 ghost use Rattle.agv_header.specs.declared.key.VehicleKey.{VehicleKey};
 ghost use Rattle.agv_header.specs.declared.refusal.Refusal.{Refusal as RefusalOf};
@@ -111,9 +112,9 @@ pub fn serves_in_turn()
         → moves seats world (calls ++ others) ≡ (moves seats world calls ++ moves seats (steps seats world calls) others) }
 {}
 
-/// A state looks at no load's place, no room and no holder: in two worlds with the same vehicles and the same jobs it is
-/// judged alike.
-pub fn states_look_at_vehicles_and_jobs()
-    ensures { (world other : World) (key : VehicleKey) (state : Message) → world.vehicles ≡ other.vehicles → world.jobs ≡ other.jobs
+/// A state looks at no load's place, no room and no holder, and at no other vehicle: in two worlds where its own vehicle
+/// has the same row and the same trip, and with the same jobs, it is judged alike.
+pub fn states_look_at_their_vehicle_and_jobs()
+    ensures { (world other : World) (key : VehicleKey) (state : Message) → finite.get world.vehicles key ≡ finite.get other.vehicles key → world.jobs ≡ other.jobs
         → take_state world key state ≡ take_state other key state }
 {}

@@ -9,28 +9,41 @@ ghost use Rattle.agv_desk.specs.Histories.{CancelsSince, HasNoResync, IsRepeated
 ghost use Rattle.agv_desk.specs.Outcomes.{Acted, Effect, Move, after, moved, moves_of};
 ghost use Rattle.agv_desk.specs.Step.{moves, step, steps};
 ghost use Rattle.agv_desk.specs.WellTyped.{AreWellTyped, IsSeats};
-ghost use Rattle.agv_desk.specs.declared.call.Call.{Call};
+ghost use Rattle.agv_desk.specs.declared.call.Call.{Call as CallOf};
 ghost use Rattle.agv_desk.specs.declared.call.Call.TheVariants as call;
 ghost use Rattle.agv_world.specs.Lawful.{IsLawful};
 ghost use Rattle.agv_world.specs.Rows.{rows_of};
 ghost use Rattle.agv_world.specs.Worlds.{World};
 
+use crate::Call;
 use crate::laws::lawful::{finds_each_load, keeps_lawful};
+use agv_header::Moment;
 use agv_order::laws::fits_as_said;
 use agv_track::laws::advances;
 use agv_world::laws::holds_are_footprints;
 
+/// Each call of a list is made at a moment before 2100, and is well typed, since the parts of the list are of their types. It
+/// does nothing: a proof calls it for its clause, which the laws below take of a list of calls.
+pub fn types_each_call(calls: &[(Moment, Call)])
+    ensures { AreWellTyped calls.now }
+{
+    for made in calls {
+        let _ms = made.0.ms();
+        made.1.typing_law();
+    }
+}
+
 /// After a list of calls each load stands where the last of their moves of it has put it, else where it stood before.
 pub fn stands_where_it_was_put_last()
-    ensures all { (seats : ℕ) (world : World) (calls : List (ℕ × Call))
+    ensures all { (seats : ℕ) (world : World) (calls : List (ℕ × CallOf))
         → (steps seats world calls).places ≡ moved world.places (moves seats world calls) }
-    ensures each { (seats : ℕ) (world : World) (calls : List (ℕ × Call)) (load : List ℕ)
+    ensures each { (seats : ℕ) (world : World) (calls : List (ℕ × CallOf)) (load : List ℕ)
         → finite.get (steps seats world calls).places load ≡ later_of (last_place (moves seats world calls) load) (finite.get world.places load) }
 {}
 
 /// From a lawful world each list of calls leads to a lawful world.
 pub fn stays_lawful()
-    ensures { (seats : ℕ) → IsSeats seats → (world : World) (calls : List (ℕ × Call)) → IsLawful seats world → AreWellTyped calls
+    ensures { (seats : ℕ) → IsSeats seats → (world : World) (calls : List (ℕ × CallOf)) → IsLawful seats world → AreWellTyped calls
         → IsLawful seats (steps seats world calls) }
 {
     keeps_lawful();
@@ -42,11 +55,11 @@ pub fn stays_lawful()
 /// each drop finds it on the vehicle, where the moves before it have left the loads. The job of a drop is live then, is
 /// for the load, and goes to the station where the load is put.
 pub fn finds_each_load_in_turn()
-    ensures calls { (seats : ℕ) → IsSeats seats → (world : World) (calls earlier : List (ℕ × Call)) (effect : Effect) → IsLawful seats world → AreWellTyped calls
+    ensures calls { (seats : ℕ) → IsSeats seats → (world : World) (calls earlier : List (ℕ × CallOf)) (effect : Effect) → IsLawful seats world → AreWellTyped calls
         → HasEffectAfter seats world calls earlier effect → FindsLoads (steps seats world earlier) effect }
-    ensures drops { (seats : ℕ) → IsSeats seats → (world : World) (calls earlier : List (ℕ × Call)) (effect : Effect) → IsLawful seats world → AreWellTyped calls
+    ensures drops { (seats : ℕ) → IsSeats seats → (world : World) (calls earlier : List (ℕ × CallOf)) (effect : Effect) → IsLawful seats world → AreWellTyped calls
         → HasEffectAfter seats world calls earlier effect → DropsLoads (steps seats world earlier) effect }
-    ensures moves { (seats : ℕ) → IsSeats seats → (world : World) (calls : List (ℕ × Call)) (before after : List Move) (move : Move) (kind : ActKind) (order job : List ℕ)
+    ensures moves { (seats : ℕ) → IsSeats seats → (world : World) (calls : List (ℕ × CallOf)) (before after : List Move) (move : Move) (kind : ActKind) (order job : List ℕ)
         → IsLawful seats world → AreWellTyped calls → moves seats world calls ≡ before ++ (move ∷ after) → move.cause ≡ Acted kind order job
         → IsFoundIn seats world calls before move kind order job }
 {
@@ -56,7 +69,7 @@ pub fn finds_each_load_in_turn()
 
 /// In a list of calls from a lawful world each order picks the load of a job at most once, and drops it at most once.
 pub fn carries_out_once()
-    ensures { (seats : ℕ) → IsSeats seats → (world : World) (calls : List (ℕ × Call)) (kind : ActKind) (order job : List ℕ) → IsLawful seats world → AreWellTyped calls
+    ensures { (seats : ℕ) → IsSeats seats → (world : World) (calls : List (ℕ × CallOf)) (kind : ActKind) (order job : List ℕ) → IsLawful seats world → AreWellTyped calls
         → times kind order job (moves seats world calls) ≤ 1 }
 {
     keeps_lawful();
@@ -68,14 +81,14 @@ pub fn carries_out_once()
 /// changes no hold either, but where it lists as finished a cancelOrder that the desk has written only since then.
 /// Where the vehicle was not resynced since, the message changes nothing at all.
 pub fn repeats_quietly()
-    ensures moves { (seats : ℕ) → IsSeats seats → (world : World) (calls : List (ℕ × Call)) (at : ℕ) (key : VehicleKey) (state : Message)
+    ensures moves { (seats : ℕ) → IsSeats seats → (world : World) (calls : List (ℕ × CallOf)) (at : ℕ) (key : VehicleKey) (state : Message)
         → IsLawful seats world → AreWellTyped calls → IsRepeated seats world calls key state
         → moves_of (step seats (steps seats world calls) at (call.State key state)) ≡ [] }
-    ensures holds { (seats : ℕ) → IsSeats seats → (world : World) (calls : List (ℕ × Call)) (at : ℕ) (key : VehicleKey) (state : Message)
+    ensures holds { (seats : ℕ) → IsSeats seats → (world : World) (calls : List (ℕ × CallOf)) (at : ℕ) (key : VehicleKey) (state : Message)
         → IsLawful seats world → AreWellTyped calls → (repeated : IsRepeated seats world calls key state)
         → ((rows_of (after (steps seats world calls) (step seats (steps seats world calls) at (call.State key state)))).holds ≡ (rows_of (steps seats world calls)).holds)
         ⊎ CancelsSince (steps seats world repeated.earlier) (steps seats world calls) key state }
-    ensures without_resync { (seats : ℕ) → IsSeats seats → (world : World) (calls : List (ℕ × Call)) (at : ℕ) (key : VehicleKey) (state : Message)
+    ensures without_resync { (seats : ℕ) → IsSeats seats → (world : World) (calls : List (ℕ × CallOf)) (at : ℕ) (key : VehicleKey) (state : Message)
         → IsLawful seats world → AreWellTyped calls → (repeated : IsRepeated seats world calls key state) → HasNoResync key repeated.since
         → after (steps seats world calls) (step seats (steps seats world calls) at (call.State key state)) ≡ steps seats world calls }
 {
