@@ -28,6 +28,7 @@ use Rattle.agv_schema.specs.DeskRows.{Placing, TableStands, table_for, place_of,
 use Rattle.agv_creation.specs.DeskTables.{HasTable, HasDesk, first_rows}
 use Rattle.agv_creation.specs.DeskTables.{HasRows}
 use Rattle.agv_creation.specs.NewDesk.{StandsNew, MadeDesksStand, TreesTellTables}
+use Rattle.agv_schema.proofs.DeskPlaces.{as_made, own_keys, same_as_themselves}
 use Rattle.agv_schema.proofs.KeyedEntries.{shaped_are_keyed}
 use Rattle.agv_creation.proofs.TablesKept.{has_got}
 
@@ -101,7 +102,15 @@ module _ (db : Database) (h : HasDesk db first_rows) where
   stands : IsDatabase db → (name : TableName) → is_unreferred (table_for name).name db.schema.tables ≡ true → TableStands desk name
   stands listed name unreferred =
       let it = has_table name in
-      record { at = it.at; named = it.named; there = it.there; low = low_tree db listed _ (has_got db.schema.tables it.at _ it.there); unreferred = unreferred }
+      record {
+        at = it.at;
+        keys = own_keys name;
+        named = it.named;
+        there = it.there ∙ ap Some (as_made name it.tree);
+        same_keys = same_as_themselves (table_for name).uniques;
+        low = low_tree db listed _ (has_got db.schema.tables it.at _ it.there);
+        unreferred = unreferred;
+      }
 
 -- ---- the rows
 

@@ -80,7 +80,7 @@ pub they_stand : (s : Schema) → LeavesRoom s → AllByRecursion (StandsAlike s
 they_stand s room all =
     let each = named (StandsAlike s) all in
     let at : Placing = record { schema = s; tree = λ name. (each name).tree } in
-    let stands : (name : TableName) → TableStands at name = λ name. let it = each name in record { at = it.at; named = it.named; there = it.there; low = it.low; unreferred = room.unreferred name } in
+    let stands : (name : TableName) → TableStands at name = λ name. let it = each name in record { at = it.at; keys = it.keys; named = it.named; there = it.there; same_keys = it.same_keys; low = it.low; unreferred = room.unreferred name } in
     (at, record { stands = stands; apart = room.apart }, refl)
 
 alike : (s : Schema) (at : Placing) → IsDesk at → s ≡ at.schema → (name : TableName) → StandsAlike s (table_for name)
@@ -88,8 +88,10 @@ alike s at is same name =
     let it = is.stands name in record {
       at = it.at;
       tree = at.tree name;
+      keys = it.keys;
       named = ap (λ (u : Schema). table_named u (table_for name).name) same ∙ it.named;
       there = ap (λ (u : Schema). slice_get u.tables it.at) same ∙ it.there;
+      same_keys = it.same_keys;
       low = it.low;
     }
 

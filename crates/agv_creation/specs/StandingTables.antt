@@ -1,23 +1,26 @@
 -- Whether the desk's tables stand in a schema.
-use Rattle.std.specs.Prelude.{◌≡◌, ◌^◌, ℕ, false, nat_le, List, [], Some, slice_get}
+use Rattle.std.specs.Prelude.{◌≡◌, ◌^◌, ℕ, false, nat_le, List, [], map, Some, slice_get}
 use Rattle.std.specs.List.{AllByRecursion}
+use Rattle.sqlite_value.specs.Keys.{plain}
 use Rattle.sqlite_value.specs.declared.value.Value.TheVariants.{Null}
 use Rattle.sqlite_schema.specs.declared.schema.Column.{Column}
 use Rattle.sqlite_schema.specs.declared.schema.Schema.{Schema}
 use Rattle.sqlite_schema.specs.declared.schema.Table.{Table}
 use Rattle.sqlite_schema.specs.Names.{table_named}
-use Rattle.agv_schema.specs.DeskRows.{Placing, IsDesk}
+use Rattle.agv_schema.specs.DeskRows.{Placing, IsDesk, SameKeys, TableKeys, with_keys}
 
 -- in some trees the desk's tables stand in the schema
 abbrev pub TablesStand : Schema → Type 0
 TablesStand schema = (at : Placing) × IsDesk at × (schema ≡ at.schema)
 
--- under its name stands just this table, in a tree that a table may have
+-- under its name stands just this table, in a tree that a table may have, however its keys are written
 pub record StandsAlike (schema : Schema) (table : Table) : Type 0 where
   pub at : ℕ
   pub tree : ℕ
+  pub keys : TableKeys
   pub named : table_named schema table.name ≡ Some at
-  pub there : slice_get schema.tables at ≡ Some (record table { tree = tree })
+  pub there : slice_get schema.tables at ≡ Some (with_keys keys (record table { tree = tree }))
+  pub same_keys : SameKeys keys.all table.uniques
   pub low : nat_le (2 ^ 31) tree ≡ false
 
 -- no column has a default
@@ -44,9 +47,16 @@ pub record SameKind (a b : Column) : Type 0 where
   pub not_null : a.not_null ≡ b.not_null
   pub collation : a.collation ≡ b.collation
 
--- the tables have the same keys, and these the same indexes
-pub record SameKeys (a b : Table) : Type 0 where
+-- the first table has the keys of the second, in whatever order, and the index of each goes by its columns as they are
+pub record HasKeysOf (a b : Table) : Type 0 where
   pub key : a.key ≡ b.key
-  pub primary : a.primary ≡ b.primary
-  pub uniques : a.uniques ≡ b.uniques
-  pub orders : a.orders ≡ b.orders
+  pub uniques : SameKeys a.uniques b.uniques
+  pub orders : a.orders ≡ map (λ _. plain) a.uniques
+
+-- the keys of a table as they are written
+abbrev pub keys_of : Table → TableKeys
+keys_of table = record { primary = table.primary; all = table.uniques }
+
+-- the first table is the second, but for its tree and how its keys are written
+abbrev pub IsAlike : Table → Table → Type 0
+IsAlike a b = (a ≡ with_keys (keys_of a) (record b { tree = a.tree })) × SameKeys a.uniques b.uniques

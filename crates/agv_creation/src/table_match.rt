@@ -1,19 +1,24 @@
-//! Whether a table that stands is just another one, but for its tree.
-ghost use Rattle.std.specs.Prelude.{◌≡◌, ◌↔◌, IsTrue};
+//! Whether a table that stands is just another one, but for its tree and how its keys are written.
+ghost use Rattle.std.specs.Prelude.{◌≡◌, ◌↔◌, IsTrue, map};
+ghost use Rattle.std.specs.List.{AllByRecursion};
+ghost use Rattle.sqlite_rules.specs.Lists.{Has};
+ghost use Rattle.sqlite_value.specs.Keys.{plain};
 ghost use Rattle.sqlite_value.specs.declared.value.Value.TheVariants.{Null};
-ghost use Rattle.agv_creation.specs.StandingTables.{SameKind, HasNoRules, HaveNoDefaults, IsPlain, SameKeys};
+ghost use Rattle.agv_creation.specs.StandingTables.{SameKind, HasKeysOf, HasNoRules, HaveNoDefaults, IsAlike, IsPlain};
+ghost use Rattle.agv_schema.specs.DeskRows.{HasKey, SameColumns, SameKeys};
 
 use sqlite_items::Items;
 use sqlite_schema::schema::{Column, Table};
 use sqlite_value::keys::Order;
 use sqlite_value::value::Value;
 
-/// Whether the first table is the second, but for its tree, where the second has no rule but its keys and the kinds of its columns.
+/// Whether the first table is the second, but for its tree and how its keys are written, where the second has no rule but its keys
+/// and the kinds of its columns.
 pub(crate) fn same_table(found: &Table, wanted: &Table) -> bool
-    ensures { IsPlain wanted.now → (IsTrue result ↔ (found.now ≡ record wanted.now { tree = found.now.tree })) }
+    ensures { IsPlain wanted.now → (IsTrue result ↔ IsAlike found.now wanted.now) }
 {
     has_no_rules(found)
-        && same_keys(found, wanted)
+        && has_keys_of(found, wanted)
         && found.name.as_slice() == wanted.name.as_slice()
         && same_columns(found.columns.as_slice(), wanted.columns.as_slice())
 }
@@ -33,38 +38,81 @@ fn has_no_rules(table: &Table) -> bool
         && !table.is_counted
 }
 
-// Whether the two have the same keys, and these the same indexes.
-fn same_keys(found: &Table, wanted: &Table) -> bool
-    ensures { IsTrue result ↔ SameKeys found.now wanted.now }
+// Whether the first has the keys of the second, in whatever order, and the index of each goes by its columns as they are.
+fn has_keys_of(found: &Table, wanted: &Table) -> bool
+    ensures { IsTrue result ↔ HasKeysOf found.now wanted.now }
 {
     found.key == wanted.key
-        && same_places(found.primary.as_slice(), wanted.primary.as_slice())
-        && same_uniques(found.uniques.as_slice(), wanted.uniques.as_slice())
-        && same_orders(found.orders.as_slice(), wanted.orders.as_slice())
+        && same_keys(found.uniques.as_slice(), wanted.uniques.as_slice())
+        && are_plain(found.orders.as_slice(), found.uniques.as_slice())
 }
 
-fn same_places(found: &[usize], wanted: &[usize]) -> bool
-    ensures { IsTrue result ↔ (found.now ≡ wanted.now) }
+// Whether each key of the one is one of the other's.
+fn same_keys(found: &[Items<usize>], wanted: &[Items<usize>]) -> bool
+    ensures { IsTrue result ↔ SameKeys found.now wanted.now }
 {
-    found == wanted
+    are_keys(found, wanted) && are_keys(wanted, found)
 }
 
-fn same_uniques(found: &[Items<usize>], wanted: &[Items<usize>]) -> bool
-    ensures { IsTrue result ↔ (found.now ≡ wanted.now) }
+fn are_keys(keys: &[Items<usize>], all: &[Items<usize>]) -> bool
+    ensures { IsTrue result ↔ AllByRecursion (HasKey all.now) keys.now }
 {
-    match (found, wanted) {
+    match keys {
+        [] => true,
+        [first, others @ ..] => is_key(first.as_slice(), all) && are_keys(others, all),
+    }
+}
+
+// Whether one of the keys is of these columns, in whatever order.
+fn is_key(key: &[usize], all: &[Items<usize>]) -> bool
+    ensures { IsTrue result ↔ HasKey all.now key.now }
+{
+    match all {
+        [] => false,
+        [first, others @ ..] => same_places(key, first.as_slice()) || is_key(key, others),
+    }
+}
+
+fn same_places(one: &[usize], other: &[usize]) -> bool
+    ensures { IsTrue result ↔ SameColumns one.now other.now }
+{
+    are_among(one, other) && are_among(other, one)
+}
+
+fn are_among(places: &[usize], all: &[usize]) -> bool
+    ensures { IsTrue result ↔ AllByRecursion (Has all.now) places.now }
+{
+    match places {
+        [] => true,
+        [first, others @ ..] => is_among(*first, all) && are_among(others, all),
+    }
+}
+
+fn is_among(place: usize, all: &[usize]) -> bool
+    ensures { IsTrue result ↔ Has all.now place }
+{
+    match all {
+        [] => false,
+        [first, others @ ..] => place == *first || is_among(place, others),
+    }
+}
+
+// Whether there is one plain order for each key.
+fn are_plain(orders: &[Order], keys: &[Items<usize>]) -> bool
+    ensures { IsTrue result ↔ (orders.now ≡ map (λ _. plain) keys.now) }
+{
+    match (orders, keys) {
         ([], []) => true,
-        ([first, others @ ..], [second, more @ ..]) => {
-            same_places(first.as_slice(), second.as_slice()) && same_uniques(others, more)
-        }
+        ([first, others @ ..], [_, more @ ..]) => is_plain(first) && are_plain(others, more),
         _ => false,
     }
 }
 
-fn same_orders(found: &[Order], wanted: &[Order]) -> bool
-    ensures { IsTrue result ↔ (found.now ≡ wanted.now) }
+// Whether all columns ascend, by their bytes.
+fn is_plain(order: &Order) -> bool
+    ensures { IsTrue result ↔ (order.now ≡ plain) }
 {
-    found == wanted
+    order.digits == 0
 }
 
 fn same_columns(found: &[Column], wanted: &[Column]) -> bool

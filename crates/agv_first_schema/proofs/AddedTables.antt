@@ -15,10 +15,10 @@ use Rattle.agv_schema.specs.declared.table_name.TableName.{TableName}
 use Rattle.agv_schema.specs.declared.table_name.TableName.TheVariants as the
 use Rattle.agv_first_schema.specs.FirstRows.{FirstHolds, IsFirstDesk, first_names, is_first}
 use Rattle.agv_first_schema.specs.Moved.{added_tables}
-use Rattle.agv_schema.specs.DeskRows.{HaveRows, Holds, IsDesk, Placing, TableStands, is_unreferred, table_for, table_in, width_of}
+use Rattle.agv_schema.specs.DeskRows.{HaveRows, Holds, IsDesk, Placing, TableStands, is_unreferred, table_for, table_in, width_of, with_keys}
 use Rattle.agv_creation.specs.DeskSchema.{sequence_table, with_new_table}
 use Rattle.agv_creation.specs.DeskTables.{HasTable}
-use Rattle.agv_schema.proofs.DeskPlaces.{is_among}
+use Rattle.agv_schema.proofs.DeskPlaces.{as_made, is_among, own_keys, same_as_themselves}
 use Rattle.agv_creation.proofs.DeskStands.{LeaveRoom, have_rows, low_tree}
 use Rattle.agv_creation.proofs.NamesKept.{position_kept}
 use Rattle.agv_creation.proofs.TablesKept.{got_kept, has_got}
@@ -52,10 +52,12 @@ stands_still : (desk later : Placing) (name : TableName) → TableStands desk na
     → is_unreferred (table_for name).name later.schema.tables ≡ true → TableStands later name
 stands_still desk later name s longer tree unreferred = record {
   at = s.at;
+  keys = s.keys;
   named = subst (λ (ts : List Table). position_from (λ (u : Table). same_name u.name (table_for name).name) 0 ts ≡ Some s.at) (sym longer.is)
       (position_kept (λ (u : Table). same_name u.name (table_for name).name) 0 s.at desk.schema.tables longer.more s.named);
-  there = subst (λ ts. slice_get ts s.at ≡ Some (table_in later name)) (sym longer.is)
-      (got_kept desk.schema.tables longer.more s.at (table_in later name) (s.there ∙ ap (λ n. Some (record (table_for name) { tree = n })) (sym tree)));
+  there = subst (λ ts. slice_get ts s.at ≡ Some (table_in later name s.keys)) (sym longer.is)
+      (got_kept desk.schema.tables longer.more s.at (table_in later name s.keys) (s.there ∙ ap (λ n. Some (with_keys s.keys (record (table_for name) { tree = n }))) (sym tree)));
+  same_keys = s.same_keys;
   low = subst (λ n. nat_le (2 ^ 31) n ≡ false) (sym tree) s.low;
   unreferred = unreferred;
 }
@@ -65,7 +67,15 @@ stands_new : (db : Database) → IsDatabase db → (tree : TableName → ℕ) (n
     → is_unreferred (table_for name).name db.schema.tables ≡ true → TableStands (record { schema = db.schema; tree = tree }) name
 stands_new db listed tree name rows h same unreferred =
     let there : slice_get db.schema.tables h.at ≡ Some (record (table_for name) { tree = tree name }) = h.there ∙ ap (λ n. Some (record (table_for name) { tree = n })) (sym same) in
-    record { at = h.at; named = h.named; there = there; low = low_tree db listed _ (has_got db.schema.tables h.at _ there); unreferred = unreferred }
+    record {
+      at = h.at;
+      keys = own_keys name;
+      named = h.named;
+      there = there ∙ ap Some (as_made name (tree name));
+      same_keys = same_as_themselves (table_for name).uniques;
+      low = low_tree db listed _ (has_got db.schema.tables h.at _ there);
+      unreferred = unreferred;
+    }
 
 -- ---- the fourteen
 
@@ -141,13 +151,17 @@ module _ (first : Placing) (old mid : Database) (added : AreAdded first old mid)
   pub rows_stay : (t : Table) → Has old.schema.tables t → mid.trees t.tree ≡ old.trees t.tree
   rows_stay t has = all_has (λ (u : Table). mid.trees u.tree ≡ old.trees u.tree) old.schema.tables t added.made.grows.kept has
 
-  first_among : (name : TableName) → is_first name ≡ true → Has old.schema.tables (table_in first name)
+  -- the table of that name as it stood
+  abbrev first_table : (name : TableName) → is_first name ≡ true → Table
+  first_table name is = table_in first name (added.is.stands name is).keys
+
+  first_among : (name : TableName) (is : is_first name ≡ true) → Has old.schema.tables (first_table name is)
   first_among name is =
       let s = added.is.stands name is in
-      subst (λ (it : Schema). Has it.tables (table_in first name)) (sym added.has) (is_among first.schema.tables s.at (table_in first name) s.there)
+      subst (λ (it : Schema). Has it.tables (first_table name is)) (sym added.has) (is_among first.schema.tables s.at (first_table name is) s.there)
 
   trees_stay : (name : TableName) → is_first name ≡ true → mid.trees (second.tree name) ≡ old.trees (first.tree name)
-  trees_stay name is = ap mid.trees (tree_is name is) ∙ rows_stay (table_in first name) (first_among name is)
+  trees_stay name is = ap mid.trees (tree_is name is) ∙ rows_stay (first_table name is) (first_among name is)
 
   first_rows_stay : (names : List TableName) → AllByRecursion (λ name. is_first name ≡ true) names → (lists : List (List Row))
       → AllZip (λ name rows. HaveRows (width_of name) (old.trees (first.tree name)) rows) names lists → AllZip (λ name rows. HaveRows (width_of name) (mid.trees (second.tree name)) rows) names lists

@@ -10,7 +10,7 @@ use Rattle.sqlite_trees.specs.Tree.{IsAscending}
 use Rattle.agv_header.specs.declared.memory.Memory.{Memory}
 use Rattle.agv_first_schema.specs.FirstFound.{FirstTablesStand}
 use Rattle.agv_first_schema.specs.FirstRows.{IsFirstDesk, first_names, is_first}
-use Rattle.agv_schema.specs.DeskRows.{Placing, StandApart, TableStands, is_unreferred, table_for}
+use Rattle.agv_schema.specs.DeskRows.{Placing, StandApart, TableStands, is_unreferred, table_for, with_keys}
 use Rattle.agv_schema.specs.Schema.{desk_tables}
 use Rattle.agv_creation.specs.SchemaTexts.{DefineTables, table_texts}
 use Rattle.agv_creation.specs.StandingTables.{IsPlain, StandsAlike}
@@ -135,8 +135,10 @@ they_stand s free apart all =
     let it = there.it in
     record {
       at = it.at;
+      keys = it.keys;
       named = it.named;
-      there = subst (λ tree. slice_get s.tables it.at ≡ Some (record (table_for name) { tree = tree })) there.same it.there;
+      there = subst (λ tree. slice_get s.tables it.at ≡ Some (with_keys it.keys (record (table_for name) { tree = tree }))) there.same it.there;
+      same_keys = it.same_keys;
       low = subst (λ tree. nat_le (2 ^ 31) tree ≡ false) there.same it.low;
       unreferred = unreferred s.tables free name is;
     } in
@@ -148,8 +150,10 @@ alike s at is same name first =
     record {
       at = it.at;
       tree = at.tree name;
+      keys = it.keys;
       named = ap (λ (u : Schema). table_named u (table_for name).name) same ∙ it.named;
       there = ap (λ (u : Schema). slice_get u.tables it.at) same ∙ it.there;
+      same_keys = it.same_keys;
       low = it.low;
     }
 

@@ -27,7 +27,7 @@ module _ (params : Row) (old new : State) (name : TableName) where
 
   read_by : (rows : List Row) → Shown (rowids_text name) params old new rows → ShowRowids name old.now rows
   read_by rows shown desk stand has =
-      let means = rowids_asked name desk.schema stand.stands.0.at (desk.tree name) (is_in_alone desk name stand.stands.0 stand.apart) in
+      let means = rowids_asked name desk.schema stand.stands.0.at (desk.tree name) stand.stands.0.keys (is_in_alone desk name stand.stands.0 stand.apart) in
       let got = reads_as (rowids_text name) params old new desk.schema has (Select (record { lets = []; body = query_by (desk.tree name) [] rowid_terms }) rowid_names) means.is means.plain means.own rows shown in
       let found = answered_by (desk.tree name) [] rowid_terms old.now.trees params rows (got.answer Null) in
       let entries = old.now.trees (desk.tree name) in

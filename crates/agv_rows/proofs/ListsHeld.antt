@@ -60,7 +60,7 @@ one_tree desk other is too schema name =
     let first = is.stands name in
     let second = too.stands name in
     let at = same_Some first.at second.at (sym first.named ∙ ap (λ (s : Schema). table_named s (table_for name).name) schema ∙ second.named) in
-    let table = same_Some (table_in desk name) (table_in other name) (sym first.there ∙ (λ i. slice_get (schema i).tables (at i)) ∙ second.there) in
+    let table = same_Some (table_in desk name first.keys) (table_in other name second.keys) (sym first.there ∙ (λ i. slice_get (schema i).tables (at i)) ∙ second.there) in
     ap (λ (t : Table). t.tree) table
 
 -- however the desk's tables are found in it, a database holds one list of rows for each

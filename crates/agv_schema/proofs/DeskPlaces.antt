@@ -8,7 +8,7 @@ use Rattle.sqlite_trees.specs.Tree.{Trees, IsAscending}
 use Rattle.sqlite_schema.specs.declared.schema.Table.{Table}
 use Rattle.sqlite_rules.specs.Lists.{Has}
 use Rattle.sqlite_rules.proofs.ListLemmas.{all_has}
-use Rattle.agv_schema.specs.DeskRows.{table_for, table_names, place_of, width_of, Placing, table_in, TableStands, IsDesk, StandApart, HaveRows, on_table, table_at}
+use Rattle.agv_schema.specs.DeskRows.{table_for, table_names, place_of, width_of, HasKey, Placing, SameColumns, SameKeys, TableKeys, table_in, with_keys, TableStands, IsDesk, StandApart, HaveRows, on_table, table_at}
 use Rattle.agv_schema.specs.declared.table_name.TableName.{TableName}
 use Rattle.agv_schema.specs.declared.table_name.TableName.TheVariants as the
 use Rattle.agv_schema.proofs.OneTable.{IsIn}
@@ -47,12 +47,50 @@ found_by_tree (x ∷ tables) apart (suc at) t h =
     let other : (x.tree == t.tree) ≡ false = differs x.tree t.tree (all_has _ tables t apart.0 (is_among tables at t h)) in
     rw other (found_by_tree tables apart.1 at t h)
 
+-- ---- their keys
+
+-- columns and keys are the same as themselves
+all_among : {X : Type 0} (P : X → Type 0) (xs : List X) → ((x : X) → Has xs x → P x) → AllByRecursion P xs
+all_among P [] among = tt
+all_among P (x ∷ xs) among = (among x (inl refl), all_among P xs (λ y there. among y (inr there)))
+
+same_columns : (key : List ℕ) → SameColumns key key
+same_columns key = let all = all_among (λ place. Has key place) key (λ place there. there) in record { one = all; other = all }
+
+own_key : (keys : List (List ℕ)) (key : List ℕ) → Has keys key → HasKey keys key
+own_key [] key there = there
+own_key (k ∷ keys) key (inl same) = inl (subst (SameColumns key) same (same_columns key))
+own_key (k ∷ keys) key (inr later) = inr (own_key keys key later)
+
+pub same_as_themselves : (keys : List (List ℕ)) → SameKeys keys keys
+same_as_themselves keys = let all = all_among (HasKey keys) keys (own_key keys) in record { one = all; other = all }
+
+-- the keys of the table as the desk makes it
+abbrev pub own_keys : TableName → TableKeys
+own_keys name = record { primary = (table_for name).primary; all = (table_for name).uniques }
+
+pub as_made : (name : TableName) (tree : ℕ) → record (table_for name) { tree = tree } ≡ with_keys (own_keys name) (record (table_for name) { tree = tree })
+as_made the.Meta tree = refl
+as_made the.Node tree = refl
+as_made the.Edge tree = refl
+as_made the.Station tree = refl
+as_made the.Vehicle tree = refl
+as_made the.Trip tree = refl
+as_made the.Leg tree = refl
+as_made the.Load tree = refl
+as_made the.Job tree = refl
+as_made the.Hold tree = refl
+as_made the.Used tree = refl
+as_made the.Capacity tree = refl
+as_made the.Journey tree = refl
+as_made the.Act tree = refl
+
 -- ---- the desk's tables
 
-pub is_in_alone : (desk : Placing) (name : TableName) (s : TableStands desk name) → Apart desk.schema.tables → IsIn desk.schema (table_for name).name (table_in desk name) s.at
-is_in_alone desk name s apart = record { named = s.named; there = s.there; low = s.low; by_tree = found_by_tree desk.schema.tables apart s.at (table_in desk name) s.there }
+pub is_in_alone : (desk : Placing) (name : TableName) (s : TableStands desk name) → Apart desk.schema.tables → IsIn desk.schema (table_for name).name (table_in desk name s.keys) s.at
+is_in_alone desk name s apart = record { named = s.named; there = s.there; low = s.low; by_tree = found_by_tree desk.schema.tables apart s.at (table_in desk name s.keys) s.there }
 
-pub is_in : (desk : Placing) (is : IsDesk desk) (name : TableName) → IsIn desk.schema (table_for name).name (table_in desk name) (is.stands name).at
+pub is_in : (desk : Placing) (is : IsDesk desk) (name : TableName) → IsIn desk.schema (table_for name).name (table_in desk name (is.stands name).keys) (is.stands name).at
 is_in desk is name = is_in_alone desk name (is.stands name) is.apart
 
 -- each of them stands apart from the others
@@ -77,9 +115,9 @@ same_value e = cc
 
 trees_differ : (desk : Placing) → IsDesk desk → (a b : TableName) → is_same a b ≡ false → desk.tree a ≢ desk.tree b
 trees_differ desk is a b other same =
-    let here = is_among desk.schema.tables (is.stands a).at (table_in desk a) (is.stands a).there in
-    let there = is_among desk.schema.tables (is.stands b).at (table_in desk b) (is.stands b).there in
-    let one : table_in desk a ≡ table_in desk b = one_of_a_tree desk.schema.tables is.apart (table_in desk a) (table_in desk b) here there same in
+    let here = is_among desk.schema.tables (is.stands a).at (table_in desk a (is.stands a).keys) (is.stands a).there in
+    let there = is_among desk.schema.tables (is.stands b).at (table_in desk b (is.stands b).keys) (is.stands b).there in
+    let one : table_in desk a (is.stands a).keys ≡ table_in desk b (is.stands b).keys = one_of_a_tree desk.schema.tables is.apart (table_in desk a (is.stands a).keys) (table_in desk b (is.stands b).keys) here there same in
     let alike : is_same a b ≡ true = same_text (table_for a).name (table_for b).name (ap (λ (t : Table). t.name) one) in cc
 
 -- ---- the lists of their rows
@@ -157,7 +195,7 @@ pub table_changes : (desk : Placing) → IsDesk desk → (name : TableName) (db 
     → (lists : List (List Row)) → AreRows desk.tree db table_names lists → AreRows desk.tree next table_names (on_table (place_of name) f lists)
 table_changes desk is name db next f step same lists h =
     one_changes desk.tree db next name
-    (λ n other. all_has _ desk.schema.tables (table_in desk n) same (is_among desk.schema.tables (is.stands n).at (table_in desk n) (is.stands n).there) (trees_differ desk is n name other))
+    (λ n other. all_has _ desk.schema.tables (table_in desk n (is.stands n).keys) same (is_among desk.schema.tables (is.stands n).at (table_in desk n (is.stands n).keys) (is.stands n).there) (trees_differ desk is n name other))
     f step (place_of name) table_names (in_place name) (once name) lists h
 
 rows_at : (tree : TableName → ℕ) (db : Trees) (name : TableName) (at : ℕ) (names : List TableName) (lists : List (List Row)) → slice_get names at ≡ Some name → AreRows tree db names lists → HaveRows (width_of name) (db (tree name)) (table_at at lists)

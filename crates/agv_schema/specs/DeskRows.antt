@@ -1,6 +1,7 @@
 -- The desk's tables in a database that may have other tables too, and the rows that they hold.
-use Rattle.std.specs.Prelude.{◌≡◌, ◌≢◌, ◌-◌, ◌^◌, ℕ, zero, suc, Bool, true, false, not, ◌&&◌, nat_le, List, [], ◌∷◌, length, map, drop, filter, Some, IsTrue, IsPermutation, slice_get}
+use Rattle.std.specs.Prelude.{◌≡◌, ◌≢◌, ◌⊎◌, ◌-◌, ◌^◌, ℕ, zero, suc, Bool, true, false, not, ◌&&◌, nat_le, List, [], ◌∷◌, length, map, drop, filter, Some, IsTrue, IsPermutation, slice_get}
 use Rattle.std.specs.List.{AllZip, AllByRecursion, list_all}
+use Rattle.sqlite_value.specs.Keys.{plain}
 use Rattle.sqlite_value.specs.Order.{Row, column}
 use Rattle.sqlite_value.specs.declared.keys.Collation.TheVariants.{Binary}
 use Rattle.sqlite_value.specs.declared.value.Value.{Value}
@@ -18,6 +19,7 @@ use Rattle.sqlite_schema.specs.declared.schema.Reference.{Reference}
 use Rattle.sqlite_schema.specs.declared.schema.Schema.{Schema}
 use Rattle.sqlite_schema.specs.declared.schema.Table.{Table}
 use Rattle.sqlite_rules.specs.Edit.{id_in}
+use Rattle.sqlite_rules.specs.Lists.{Has}
 use Rattle.sqlite.specs.Effect.{Database, IsDatabase}
 use Rattle.sqlite.specs.State.{State}
 use Rattle.agv_schema.specs.Schema.{meta_table, node_table, edge_table, station_table, vehicle_table, trip_table, leg_table, place_table, job_table, hold_table, used_table, capacity_table, journey_table, act_table}
@@ -74,9 +76,33 @@ pub record Placing : Type 0 where
   pub schema : Schema
   pub tree : TableName → ℕ
 
--- the table of that name, with its tree
-abbrev pub table_in : Placing → TableName → Table
-table_in desk name = record (table_for name) { tree = desk.tree name }
+-- how the keys of a table are written: the PRIMARY KEY, if one is, and all of them in their order; a key is a list of columns
+pub record TableKeys : Type 0 where
+  pub primary : List ℕ
+  pub all : List (List ℕ)
+
+-- the same columns, in whatever order
+pub record SameColumns (a b : List ℕ) : Type 0 where
+  pub one : AllByRecursion (λ place. Has b place) a
+  pub other : AllByRecursion (λ place. Has a place) b
+
+-- one of the keys is of these columns
+abbrev pub HasKey : List (List ℕ) → List ℕ → Type 0
+HasKey [] key = ⊥
+HasKey (k ∷ keys) key = SameColumns key k ⊎ HasKey keys key
+
+-- the same keys, in whatever order
+pub record SameKeys (a b : List (List ℕ)) : Type 0 where
+  pub one : AllByRecursion (HasKey b) a
+  pub other : AllByRecursion (HasKey a) b
+
+-- a table with its keys as they are written
+abbrev pub with_keys : TableKeys → Table → Table
+with_keys keys table = record table { primary = keys.primary; uniques = keys.all; orders = map (λ _. plain) keys.all }
+
+-- the table of that name, with its tree, and its keys as they are written
+abbrev pub table_in : Placing → TableName → TableKeys → Table
+table_in desk name keys = with_keys keys (record (table_for name) { tree = desk.tree name })
 
 -- no table has a key that refers to a table of that name
 abbrev pub is_unreferred : List ℕ → List Table → Bool
@@ -86,8 +112,11 @@ is_unreferred name = list_all (λ (t : Table). list_all (λ (r : Reference). not
 pub record TableStands (desk : Placing) (name : TableName) : Type 0 where
   -- SQL finds it by its name
   pub at : ℕ
+  pub keys : TableKeys
   pub named : table_named desk.schema (table_for name).name ≡ Some at
-  pub there : slice_get desk.schema.tables at ≡ Some (table_in desk name)
+  pub there : slice_get desk.schema.tables at ≡ Some (table_in desk name keys)
+  -- its keys are the desk's
+  pub same_keys : SameKeys keys.all (table_for name).uniques
   -- its tree has a number that a table's may have
   pub low : nat_le (2 ^ 31) (desk.tree name) ≡ false
   pub unreferred : is_unreferred (table_for name).name desk.schema.tables ≡ true

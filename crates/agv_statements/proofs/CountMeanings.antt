@@ -43,24 +43,24 @@ count_within counted.TargetJobs = refl
 -- SQL takes the text for a query of the table that shows how many rows pass
 pub count_asks : (query : RowsCounted) → AsksIn (Some counting) (table_counted query) (count_text query) (count_terms query) their_count count_names
 unfolding everything
-count_asks counted.StationLoads s at tree stands =
+count_asks counted.StationLoads s at tree keys stands =
     let p = parsed (count_text counted.StationLoads) in
     let sel = selection p.statement tt in
-    select_means_in s (codes "load") (with_tree the.Load tree) at stands (count_text counted.StationLoads) p refl refl sel refl
+    select_means_in s (codes "load") (with_tree the.Load tree keys) at stands (count_text counted.StationLoads) p refl refl sel refl
     (record { with = refl; others = refl; order = refl; limit = refl; offset = refl })
     (record { source = head_of (out-Core (out-Select sel).first).from tt; from = refl; origin = refl; alias = refl; on = refl; using = refl; inner = refl; group = refl; having = refl; repeats = refl })
     (Some counting) (count_terms counted.StationLoads) their_count count_names (None ∷ []) refl refl refl refl refl
-count_asks counted.VehicleLoads s at tree stands =
+count_asks counted.VehicleLoads s at tree keys stands =
     let p = parsed (count_text counted.VehicleLoads) in
     let sel = selection p.statement tt in
-    select_means_in s (codes "load") (with_tree the.Load tree) at stands (count_text counted.VehicleLoads) p refl refl sel refl
+    select_means_in s (codes "load") (with_tree the.Load tree keys) at stands (count_text counted.VehicleLoads) p refl refl sel refl
     (record { with = refl; others = refl; order = refl; limit = refl; offset = refl })
     (record { source = head_of (out-Core (out-Select sel).first).from tt; from = refl; origin = refl; alias = refl; on = refl; using = refl; inner = refl; group = refl; having = refl; repeats = refl })
     (Some counting) (count_terms counted.VehicleLoads) their_count count_names (None ∷ []) refl refl refl refl refl
-count_asks counted.TargetJobs s at tree stands =
+count_asks counted.TargetJobs s at tree keys stands =
     let p = parsed (count_text counted.TargetJobs) in
     let sel = selection p.statement tt in
-    select_means_in s (codes "job") (with_tree the.Job tree) at stands (count_text counted.TargetJobs) p refl refl sel refl
+    select_means_in s (codes "job") (with_tree the.Job tree keys) at stands (count_text counted.TargetJobs) p refl refl sel refl
     (record { with = refl; others = refl; order = refl; limit = refl; offset = refl })
     (record { source = head_of (out-Core (out-Select sel).first).from tt; from = refl; origin = refl; alias = refl; on = refl; using = refl; inner = refl; group = refl; having = refl; repeats = refl })
     (Some counting) (count_terms counted.TargetJobs) their_count count_names (None ∷ []) refl refl refl refl refl

@@ -30,7 +30,7 @@ module _ (query : RowsCounted) (params : Row) (old new : State) where
       let name = table_counted query in
       let terms = count_terms query in
       let entries = old.now.trees (desk.tree name) in
-      let means = count_asks query desk.schema (is.stands name).at (desk.tree name) (is_in desk is name) in
+      let means = count_asks query desk.schema (is.stands name).at (desk.tree name) (is.stands name).keys (is_in desk is name) in
       let command = Select (record { lets = []; body = query_in (Some counting) (desk.tree name) terms their_count }) count_names in
       let got = reads_as (count_text query) params old new desk.schema h.schema_is command means.is means.plain means.own rows shown in
       let found = counted_by (desk.tree name) terms old.now.trees params rows (got.answer Null) in

@@ -117,13 +117,13 @@ pub added_one : (table : WorldTable) (desk : Placing) (is : IsDesk desk) (old ne
     → (count : ℕ) → Executes (insertion_text table) row old new (Ok count) → Inserted desk is (table_written table) old new has row
 added_one table desk is old new has row fit =
     let name = table_written table in
-    one_inserted desk is name old new has (insertion_text table) row fit (inserts table desk.schema (is.stands name).at (desk.tree name) (is_in desk is name))
+    one_inserted desk is name old new has (insertion_text table) row fit (inserts table desk.schema (is.stands name).at (desk.tree name) (is.stands name).keys (is_in desk is name))
 
 pub inserts_row : (table : WorldTable) (sql : List ℕ) → sql ≡ insertion_text table → (row : Row) → FitsTable (table_written table) row → (old new : State) (r : Result ℕ Error) → RunsInside sql row old new r → OnOk r (Makes (with_row (table_written table) row) old new)
 inserts_row table sql text row fit old new r ran =
     let name = table_written table in
     makes (with_row name row) (insertion_text table) row old new r
-    (λ desk is has. row_inserted desk is name old new has (insertion_text table) row fit (inserts table desk.schema (is.stands name).at (desk.tree name) (is_in desk is name)))
+    (λ desk is has. row_inserted desk is name old new has (insertion_text table) row fit (inserts table desk.schema (is.stands name).at (desk.tree name) (is.stands name).keys (is_in desk is name)))
     (subst (λ t. RunsInside t row old new r) text ran)
 
 pub deletes_row : (table : WorldTable) (sql : List ℕ) → sql ≡ deletion_text table → (key : Row) (old new : State) (r : Result ℕ Error) → RunsInside sql key old new r → OnOk r (Makes (without_rows (table_written table) (columns_deleted table) key) old new)
@@ -132,7 +132,7 @@ deletes_row table sql text key old new r ran =
     makes (without_rows name (columns_deleted table) key) (deletion_text table) key old new r
     (λ desk is has count done.
     subst (λ (p : Row → _). Lands desk old.now new.now (on_table (place_of name) (filter (λ row. not (p row))))) (deleted_passes table key)
-    (rows_deleted desk is name old new has (deletion_text table) key (deleted_terms table) (deleted_within table) (deletes table desk.schema (is.stands name).at (desk.tree name) (is_in desk is name)) count done))
+    (rows_deleted desk is name old new has (deletion_text table) key (deleted_terms table) (deleted_within table) (deletes table desk.schema (is.stands name).at (desk.tree name) (is.stands name).keys (is_in desk is name)) count done))
     (subst (λ t. RunsInside t key old new r) text ran)
 
 -- the other tables stay where nothing is done, and through one change and then another
@@ -167,7 +167,7 @@ puts_row name columns key row a b c (Err e) added gone = tt
 shows : (name : TableName) (terms : List Term) (sql : List ℕ) → Asks name sql terms → list_all (reads_within (width_of name)) terms ≡ true → (params : Row) (p : Row → Bool) → passes terms params ≡ p
     → (old new : State) (rows : List Row) → Shown sql params old new rows → Answers (λ lists. filter p (table_at (place_of name) lists)) old rows
 shows name terms sql asks alone params p is old new rows shown = λ desk desk_is lists h.
-    let means = asks desk.schema (desk_is.stands name).at (desk.tree name) (is_in desk desk_is name) in
+    let means = asks desk.schema (desk_is.stands name).at (desk.tree name) (desk_is.stands name).keys (is_in desk desk_is name) in
     subst (λ (q : Row → Bool). IsPermutation (filter q (table_at (place_of name) lists)) rows) is (rows_shown desk name old new h.schema_is sql params terms (column_names name) alone means rows shown lists h)
 
 asked : (name : TableName) (terms : List Term) (sql : List ℕ) → Asks name sql terms → list_all (reads_within (width_of name)) terms ≡ true → (params : Row) (p : Row → Bool) → passes terms params ≡ p
@@ -187,7 +187,7 @@ all_given name params old new rows shown =
 -- all rows of a table that may stand without the others
 alone_given : (name : TableName) (params : Row) (old new : State) (rows : List Row) → Shown (all_rows_text name) params old new rows → AnswersAlone name old rows
 alone_given name params old new rows shown = λ desk stand has there here.
-    let means = all_rows_asked name desk.schema stand.stands.0.at (desk.tree name) (is_in_alone desk name stand.stands.0 stand.apart) in
+    let means = all_rows_asked name desk.schema stand.stands.0.at (desk.tree name) stand.stands.0.keys (is_in_alone desk name stand.stands.0 stand.apart) in
     subst (λ all. IsPermutation all rows) (filter_nothing there) (rows_shown_alone desk name old new has (all_rows_text name) params [] (column_names name) refl means rows shown there here)
 
 pub on_failed : {X E B : Type 0} {P : E → Type 0} (r : Result X E) → ((e : E) → P e → B) → IfErr r P → OnErr r B

@@ -1,12 +1,13 @@
 -- A row that SQL adds had none of its key before it, since each key of a table has its index; and a row that it refuses changes nothing.
-use Rattle.std.proofs.Common.{◌≡◌, ◌≢◌, ◌∙◌, ◌&&◌, inl, inr, [], ◌∷◌, ℕ, ℤ, Bool, true, false, not, List, Some, Result, Ok, Err, OnOk, IfErr, IfOk, Ordering, Less, Equal, Greater, filter, length, slice_get, slice_index_or, refl, sym, ap, subst}
-use Rattle.std.specs.List.{list_any}
+use Rattle.std.proofs.Common.{◌≡◌, ◌≢◌, ◌∙◌, ◌&&◌, inl, inr, [], ◌∷◌, ℕ, zero, suc, ℤ, Bool, true, false, not, List, Some, Result, Ok, Err, OnOk, IfErr, IfOk, Ordering, Less, Equal, Greater, filter, length, map, slice_get, slice_index_or, refl, sym, ap, ap₂, subst}
+use Rattle.std.specs.List.{AllByRecursion, list_all, list_any}
 use Rattle.std.specs.Ordering.{is_eq, is_ne}
-use Rattle.std.proofs.lemmas.Bool.{cases_Bool, eq-eqb, false_from_ne_true, not-true}
+use Rattle.std.proofs.lemmas.Bool.{and_from, cases_Bool, eq-eqb, false_from_ne_true, not-true}
 use Rattle.std.proofs.lemmas.List.{length-map}
 use Rattle.std.proofs.lemmas.List.Sorted.{length_permutation}
 use Rattle.sqlite_value.specs.declared.value.Value.TheVariants.{Int}
 use Rattle.sqlite_value.specs.Order.{Row, value_cmp}
+use Rattle.sqlite_value.specs.declared.keys.Order.{Order}
 use Rattle.sqlite_value.specs.Keys.{first_key, plain}
 use Rattle.sqlite_trees.specs.Tree.{rowid}
 use Rattle.sqlite_trees.proofs.ListLemmas.{IsPermutation-filter}
@@ -29,7 +30,7 @@ use Rattle.sqlite.specs.declared.error.Error.TheVariants.{SqliteFailure}
 use Rattle.sqlite.specs.declared.error.ErrorCode.TheVariants.{ConstraintViolation}
 use Rattle.sqlite.specs.Effect.{Database, IsDatabase}
 use Rattle.sqlite.specs.State.{State, ExecutesIn, Fails, IsNotRun, IsUnchanged, shows_rows, store_error}
-use Rattle.agv_schema.specs.DeskRows.{Placing, AreKeyed, FitsTable, Holds, IsDesk, KeepsOthers, Makes, columns_in, has_columns, has_key, place_of, table_at, table_for, table_in, width_of, with_put_by, with_row}
+use Rattle.agv_schema.specs.DeskRows.{Placing, AreKeyed, FitsTable, HasKey, Holds, IsDesk, KeepsOthers, Makes, SameColumns, columns_in, has_columns, has_key, place_of, table_at, table_for, table_in, width_of, with_put_by, with_row}
 use Rattle.agv_schema.specs.RowTexts.{insertion_text, table_written}
 use Rattle.agv_statements.specs.RowUpdates.{Counts, IsBrokenRule, TellsAlike}
 use Rattle.agv_schema.specs.declared.world_table.WorldTable.{WorldTable}
@@ -68,25 +69,77 @@ none_left : {X : Type 0} (p : X → Bool) (xs : List X) → ((x : X) → Has xs 
 none_left p [] none = refl
 none_left p (x ∷ xs) none = rw (none x (inl refl), none_left p xs (λ y there. none y (inr there)))
 
--- the primary key is the first of the keys that have an index
-first_key_is_primary : (name : TableName) → slice_get (table_for name).uniques 0 ≡ Some (table_for name).primary
-first_key_is_primary the.Meta = refl
-first_key_is_primary the.Node = refl
-first_key_is_primary the.Edge = refl
-first_key_is_primary the.Station = refl
-first_key_is_primary the.Vehicle = refl
-first_key_is_primary the.Trip = refl
-first_key_is_primary the.Leg = refl
-first_key_is_primary the.Load = refl
-first_key_is_primary the.Job = refl
-first_key_is_primary the.Hold = refl
-first_key_is_primary the.Used = refl
-first_key_is_primary the.Capacity = refl
-first_key_is_primary the.Journey = refl
-first_key_is_primary the.Act = refl
+-- the primary key is one of the keys
+primary_is_key : (name : TableName) → Has (table_for name).uniques (table_for name).primary
+primary_is_key the.Meta = inl refl
+primary_is_key the.Node = inl refl
+primary_is_key the.Edge = inl refl
+primary_is_key the.Station = inl refl
+primary_is_key the.Vehicle = inl refl
+primary_is_key the.Trip = inl refl
+primary_is_key the.Leg = inl refl
+primary_is_key the.Load = inl refl
+primary_is_key the.Job = inl refl
+primary_is_key the.Hold = inl refl
+primary_is_key the.Used = inl refl
+primary_is_key the.Capacity = inl refl
+primary_is_key the.Journey = inl refl
+primary_is_key the.Act = inl refl
+
+-- a key with its columns stands somewhere among those that are written
+pub record IsPlaced (keys : List (List ℕ)) (key : List ℕ) : Type 0 where
+  at : ℕ
+  written : List ℕ
+  there : slice_get keys at ≡ Some written
+  same : SameColumns key written
+
+placed : (keys : List (List ℕ)) (key : List ℕ) → HasKey keys key → IsPlaced keys key
+placed [] key has = absurd has
+placed (k ∷ keys) key (inl same) = record { at = 0; written = k; there = refl; same = same }
+placed (k ∷ keys) key (inr later) = let it = placed keys key later in record { at = suc it.at; written = it.written; there = it.there; same = it.same }
+
+primary_at : (desk : Placing) (is : IsDesk desk) (name : TableName) → IsPlaced (is.stands name).keys.all (table_for name).primary
+primary_at desk is name =
+    let stands = is.stands name in
+    placed stands.keys.all (table_for name).primary (all_has (HasKey stands.keys.all) (table_for name).uniques (table_for name).primary stands.same_keys.other (primary_is_key name))
+
+-- its index is ordered as any other
+all_plain : (keys : List (List ℕ)) (at : ℕ) → slice_index_or (map (λ (_ : List ℕ). plain) keys) at plain ≡ plain
+all_plain [] at = refl
+all_plain (k ∷ keys) zero = refl
+all_plain (k ∷ keys) (suc at) = all_plain keys at
+
+-- two entries agree in a column
+abbrev agree_at : Row → Row → ℕ → Bool
+agree_at a b place = agree plain (place ∷ []) a (place ∷ []) b
+
+each_agrees : (places : List ℕ) (a b : Row) → agree plain places a places b ≡ list_all (agree_at a b) places
+unfolding first_key
+each_agrees [] a b = refl
+each_agrees (p ∷ places) a b = ap₂ ◌&&◌ (with_true _) (each_agrees places a b)
+  where
+    with_true : (x : Bool) → x ≡ (x && true)
+    with_true true = refl
+    with_true false = refl
+
+all_pass : (p : ℕ → Bool) (xs ys : List ℕ) → AllByRecursion (λ y. Has xs y) ys → list_all p xs ≡ true → list_all p ys ≡ true
+all_pass p xs [] among all = refl
+all_pass p xs (y ∷ ys) among all = and_from _ _ (test_has p xs y all among.0) (all_pass p xs ys among.1 all)
+
+both_or_none : (a b : Bool) → (a ≡ true → b ≡ true) → (b ≡ true → a ≡ true) → a ≡ b
+both_or_none true b f g = sym (f refl)
+both_or_none false true f g = g refl
+both_or_none false false f g = refl
+
+-- entries that agree in some columns agree in them in any order
+agree_alike : (one other : List ℕ) (a b : Row) → SameColumns one other → agree plain one a one b ≡ agree plain other a other b
+agree_alike one other a b same =
+    each_agrees one a b
+    ∙ both_or_none _ _ (all_pass (agree_at a b) one other same.other) (all_pass (agree_at a b) other one same.one)
+    ∙ sym (each_agrees other a b)
 
 -- that index tells entries apart as the statements on a key do
-agrees : (name : TableName) (row e : Row) (id : ℤ) → agree (slice_index_or (table_for name).orders 0 plain) (table_for name).primary e (table_for name).primary (Int id ∷ row) ≡ entry_passes (key_terms name) row e
+agrees : (name : TableName) (row e : Row) (id : ℤ) → agree plain (table_for name).primary e (table_for name).primary (Int id ∷ row) ≡ entry_passes (key_terms name) row e
 unfolding first_key
 agrees the.Meta row e id = refl
 agrees the.Node row e id = refl
@@ -105,7 +158,7 @@ agrees the.Act row e id = refl
 
 module _ (desk : Placing) (is : IsDesk desk) (name : TableName) (old new : State) (has : old.now.schema ≡ desk.schema) (row : Row) (it : Inserted desk is name old new has row) where
   abbrev table : Table
-  table = table_in desk name
+  table = table_in desk name (is.stands name).keys
 
   abbrev entries : List Row
   entries = old.now.trees table.tree
@@ -119,21 +172,26 @@ module _ (desk : Placing) (is : IsDesk desk) (name : TableName) (old new : State
   sound : IsSound desk.schema it.next
   sound = subst (λ (s : Schema). IsSound s it.next) has (subst (λ (d : Database). IsSound d.schema d.trees) it.now it.sound)
 
-  guard : (tree : ℕ) × Has desk.schema.indexes (automatic table 0 (table_for name).primary tree)
-  guard = all_has (IsGuarded desk.schema.indexes) desk.schema.tables table sound.lists.guarded there 0 (table_for name).primary (first_key_is_primary name)
+  -- where a key with the columns of the primary one is written
+  abbrev key : IsPlaced (is.stands name).keys.all (table_for name).primary
+  key = primary_at desk is name
+
+  guard : (tree : ℕ) × Has desk.schema.indexes (automatic table key.at key.written tree)
+  guard = all_has (IsGuarded desk.schema.indexes) desk.schema.tables table sound.lists.guarded there key.at key.written key.there
 
   abbrev index : Index
-  index = automatic table 0 (table_for name).primary guard.0
+  index = automatic table key.at key.written guard.0
 
   guards_it : guards index table ≡ true
   guards_it = eq-eqb _ _ refl
 
-  no_clash : clashes index.order index.columns (it.next table.tree) entry ≡ false
+  no_clash : clashes plain key.written (it.next table.tree) entry ≡ false
   no_clash =
       let rows = all_has _ desk.schema.tables table (sound.obeys.rules Unique) there in
       let passed = all_has _ (it.next table.tree) entry rows (subst (λ es. Has es entry) (sym (stands_with_them desk is name old new has row it)) (has_put entry entries)) in
       let free = not-true _ (test_has _ desk.schema.indexes index passed guard.1) in
-      subst (λ (b : Bool). (b && clashes index.order index.columns (it.next table.tree) entry) ≡ false) guards_it free
+      let none = subst (λ (b : Bool). (b && clashes index.order index.columns (it.next table.tree) entry) ≡ false) guards_it free in
+      subst (λ (order : Order). clashes order index.columns (it.next table.tree) entry ≡ false) (all_plain (is.stands name).keys.all key.at) none
 
   other_keys : AreKeyed entries → (e : Row) → Has entries e → entry_passes (key_terms name) row e ≡ false
   other_keys keyed e was =
@@ -142,7 +200,7 @@ module _ (desk : Placing) (is : IsDesk desk) (name : TableName) (old new : State
       let whole = int_is (rowid e) (all_has _ entries e keyed.whole was) in
       let apart = subst (λ v. is_eq (value_cmp v (Int it.id)) ≡ false) whole (none_is _ entries e free was) in
       let differs : differ (rowid e) (rowid entry) ≡ true = ap (λ v. differ v (Int it.id)) whole ∙ differ_if_apart (id_in (rowid e)) it.id apart in
-      sym (agrees name row e it.id) ∙ left_fails _ _ (none_is _ (it.next table.tree) e no_clash stays) differs
+      sym (agrees name row e it.id) ∙ agree_alike (table_for name).primary key.written e entry key.same ∙ left_fails _ _ (none_is _ (it.next table.tree) e no_clash stays) differs
 
   -- no row had its key
   key_was_free : (lists : List (List Row)) → Holds desk old.now lists → 0 ≡ length (filter (has_key name row) (table_at (place_of name) lists))

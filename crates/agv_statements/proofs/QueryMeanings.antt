@@ -9,7 +9,7 @@ use Rattle.sqlite_draft.specs.declared.query.Grouping.{Grouping}
 use Rattle.sqlite_schema.specs.declared.schema.Schema.{Schema}
 use Rattle.sqlite_schema.specs.declared.command.Command.TheVariants.{Select}
 use Rattle.sqlite_tied.specs.Compute.{everything}
-use Rattle.agv_schema.specs.DeskRows.{table_for, width_of}
+use Rattle.agv_schema.specs.DeskRows.{TableKeys, table_for, width_of}
 use Rattle.agv_statements.specs.RowQueries.{table_asked, columns_asked, equal_from, query_text, all_rows_text}
 use Rattle.agv_schema.specs.declared.rows_by.RowsBy.{RowsBy}
 use Rattle.agv_schema.specs.declared.rows_by.RowsBy.TheVariants as by
@@ -22,7 +22,7 @@ use Rattle.agv_statements.proofs.RowMeanings.{with_tree, column_terms, column_na
 
 -- SQL takes the text for a query of the table that shows these terms, under these names, of the rows that pass these tests, or of the groups of these rows
 abbrev pub AsksIn : Option Grouping → TableName → List ℕ → List Term → List Term → List (List ℕ) → Type 0
-AsksIn group name sql terms project names = (s : Schema) (at tree : ℕ) → IsIn s (table_for name).name (with_tree name tree) at → Means s sql (Select (record { lets = []; body = query_in group tree terms project }) names)
+AsksIn group name sql terms project names = (s : Schema) (at tree : ℕ) (keys : TableKeys) → IsIn s (table_for name).name (with_tree name tree keys) at → Means s sql (Select (record { lets = []; body = query_in group tree terms project }) names)
 
 -- of the rows themselves
 abbrev pub AsksFor : TableName → List ℕ → List Term → List Term → List (List ℕ) → Type 0
@@ -56,139 +56,139 @@ query_within by.LoadJobs = refl
 
 pub query_asks : (query : RowsBy) → Asks (table_asked query) (query_text query) (query_terms query)
 unfolding everything
-query_asks by.VehicleJourney s at tree stands =
+query_asks by.VehicleJourney s at tree keys stands =
     let p = parsed (query_text by.VehicleJourney) in
     let sel = selection p.statement tt in
-    select_means s (codes "journey") (with_tree the.Journey tree) at stands (query_text by.VehicleJourney) p refl refl sel refl
+    select_means s (codes "journey") (with_tree the.Journey tree keys) at stands (query_text by.VehicleJourney) p refl refl sel refl
     (record { with = refl; others = refl; order = refl; limit = refl; offset = refl })
     (record { source = head_of (out-Core (out-Select sel).first).from tt; from = refl; origin = refl; alias = refl; on = refl; using = refl; inner = refl; group = refl; having = refl; repeats = refl })
     (query_terms by.VehicleJourney) (column_terms the.Journey) (column_names the.Journey) (collations the.Journey) refl refl refl refl refl
-query_asks by.OrderActs s at tree stands =
+query_asks by.OrderActs s at tree keys stands =
     let p = parsed (query_text by.OrderActs) in
     let sel = selection p.statement tt in
-    select_means s (codes "act") (with_tree the.Act tree) at stands (query_text by.OrderActs) p refl refl sel refl
+    select_means s (codes "act") (with_tree the.Act tree keys) at stands (query_text by.OrderActs) p refl refl sel refl
     (record { with = refl; others = refl; order = refl; limit = refl; offset = refl })
     (record { source = head_of (out-Core (out-Select sel).first).from tt; from = refl; origin = refl; alias = refl; on = refl; using = refl; inner = refl; group = refl; having = refl; repeats = refl })
     (query_terms by.OrderActs) (column_terms the.Act) (column_names the.Act) (collations the.Act) refl refl refl refl refl
-query_asks by.OrderLegs s at tree stands =
+query_asks by.OrderLegs s at tree keys stands =
     let p = parsed (query_text by.OrderLegs) in
     let sel = selection p.statement tt in
-    select_means s (codes "leg") (with_tree the.Leg tree) at stands (query_text by.OrderLegs) p refl refl sel refl
+    select_means s (codes "leg") (with_tree the.Leg tree keys) at stands (query_text by.OrderLegs) p refl refl sel refl
     (record { with = refl; others = refl; order = refl; limit = refl; offset = refl })
     (record { source = head_of (out-Core (out-Select sel).first).from tt; from = refl; origin = refl; alias = refl; on = refl; using = refl; inner = refl; group = refl; having = refl; repeats = refl })
     (query_terms by.OrderLegs) (column_terms the.Leg) (column_names the.Leg) (collations the.Leg) refl refl refl refl refl
-query_asks by.StationLoads s at tree stands =
+query_asks by.StationLoads s at tree keys stands =
     let p = parsed (query_text by.StationLoads) in
     let sel = selection p.statement tt in
-    select_means s (codes "load") (with_tree the.Load tree) at stands (query_text by.StationLoads) p refl refl sel refl
+    select_means s (codes "load") (with_tree the.Load tree keys) at stands (query_text by.StationLoads) p refl refl sel refl
     (record { with = refl; others = refl; order = refl; limit = refl; offset = refl })
     (record { source = head_of (out-Core (out-Select sel).first).from tt; from = refl; origin = refl; alias = refl; on = refl; using = refl; inner = refl; group = refl; having = refl; repeats = refl })
     (query_terms by.StationLoads) (column_terms the.Load) (column_names the.Load) (collations the.Load) refl refl refl refl refl
-query_asks by.LoadJobs s at tree stands =
+query_asks by.LoadJobs s at tree keys stands =
     let p = parsed (query_text by.LoadJobs) in
     let sel = selection p.statement tt in
-    select_means s (codes "job") (with_tree the.Job tree) at stands (query_text by.LoadJobs) p refl refl sel refl
+    select_means s (codes "job") (with_tree the.Job tree keys) at stands (query_text by.LoadJobs) p refl refl sel refl
     (record { with = refl; others = refl; order = refl; limit = refl; offset = refl })
     (record { source = head_of (out-Core (out-Select sel).first).from tt; from = refl; origin = refl; alias = refl; on = refl; using = refl; inner = refl; group = refl; having = refl; repeats = refl })
     (query_terms by.LoadJobs) (column_terms the.Job) (column_names the.Job) (collations the.Job) refl refl refl refl refl
 
 pub all_rows_asked : (name : TableName) → Asks name (all_rows_text name) []
 unfolding everything
-all_rows_asked the.Meta s at tree stands =
+all_rows_asked the.Meta s at tree keys stands =
     let p = parsed (all_rows_text the.Meta) in
     let sel = selection p.statement tt in
-    select_means s (codes "meta") (with_tree the.Meta tree) at stands (all_rows_text the.Meta) p refl refl sel refl
+    select_means s (codes "meta") (with_tree the.Meta tree keys) at stands (all_rows_text the.Meta) p refl refl sel refl
     (record { with = refl; others = refl; order = refl; limit = refl; offset = refl })
     (record { source = head_of (out-Core (out-Select sel).first).from tt; from = refl; origin = refl; alias = refl; on = refl; using = refl; inner = refl; group = refl; having = refl; repeats = refl })
     ([]) (column_terms the.Meta) (column_names the.Meta) (collations the.Meta) refl refl refl refl refl
-all_rows_asked the.Node s at tree stands =
+all_rows_asked the.Node s at tree keys stands =
     let p = parsed (all_rows_text the.Node) in
     let sel = selection p.statement tt in
-    select_means s (codes "node") (with_tree the.Node tree) at stands (all_rows_text the.Node) p refl refl sel refl
+    select_means s (codes "node") (with_tree the.Node tree keys) at stands (all_rows_text the.Node) p refl refl sel refl
     (record { with = refl; others = refl; order = refl; limit = refl; offset = refl })
     (record { source = head_of (out-Core (out-Select sel).first).from tt; from = refl; origin = refl; alias = refl; on = refl; using = refl; inner = refl; group = refl; having = refl; repeats = refl })
     ([]) (column_terms the.Node) (column_names the.Node) (collations the.Node) refl refl refl refl refl
-all_rows_asked the.Edge s at tree stands =
+all_rows_asked the.Edge s at tree keys stands =
     let p = parsed (all_rows_text the.Edge) in
     let sel = selection p.statement tt in
-    select_means s (codes "edge") (with_tree the.Edge tree) at stands (all_rows_text the.Edge) p refl refl sel refl
+    select_means s (codes "edge") (with_tree the.Edge tree keys) at stands (all_rows_text the.Edge) p refl refl sel refl
     (record { with = refl; others = refl; order = refl; limit = refl; offset = refl })
     (record { source = head_of (out-Core (out-Select sel).first).from tt; from = refl; origin = refl; alias = refl; on = refl; using = refl; inner = refl; group = refl; having = refl; repeats = refl })
     ([]) (column_terms the.Edge) (column_names the.Edge) (collations the.Edge) refl refl refl refl refl
-all_rows_asked the.Station s at tree stands =
+all_rows_asked the.Station s at tree keys stands =
     let p = parsed (all_rows_text the.Station) in
     let sel = selection p.statement tt in
-    select_means s (codes "station") (with_tree the.Station tree) at stands (all_rows_text the.Station) p refl refl sel refl
+    select_means s (codes "station") (with_tree the.Station tree keys) at stands (all_rows_text the.Station) p refl refl sel refl
     (record { with = refl; others = refl; order = refl; limit = refl; offset = refl })
     (record { source = head_of (out-Core (out-Select sel).first).from tt; from = refl; origin = refl; alias = refl; on = refl; using = refl; inner = refl; group = refl; having = refl; repeats = refl })
     ([]) (column_terms the.Station) (column_names the.Station) (collations the.Station) refl refl refl refl refl
-all_rows_asked the.Vehicle s at tree stands =
+all_rows_asked the.Vehicle s at tree keys stands =
     let p = parsed (all_rows_text the.Vehicle) in
     let sel = selection p.statement tt in
-    select_means s (codes "vehicle") (with_tree the.Vehicle tree) at stands (all_rows_text the.Vehicle) p refl refl sel refl
+    select_means s (codes "vehicle") (with_tree the.Vehicle tree keys) at stands (all_rows_text the.Vehicle) p refl refl sel refl
     (record { with = refl; others = refl; order = refl; limit = refl; offset = refl })
     (record { source = head_of (out-Core (out-Select sel).first).from tt; from = refl; origin = refl; alias = refl; on = refl; using = refl; inner = refl; group = refl; having = refl; repeats = refl })
     ([]) (column_terms the.Vehicle) (column_names the.Vehicle) (collations the.Vehicle) refl refl refl refl refl
-all_rows_asked the.Trip s at tree stands =
+all_rows_asked the.Trip s at tree keys stands =
     let p = parsed (all_rows_text the.Trip) in
     let sel = selection p.statement tt in
-    select_means s (codes "trip") (with_tree the.Trip tree) at stands (all_rows_text the.Trip) p refl refl sel refl
+    select_means s (codes "trip") (with_tree the.Trip tree keys) at stands (all_rows_text the.Trip) p refl refl sel refl
     (record { with = refl; others = refl; order = refl; limit = refl; offset = refl })
     (record { source = head_of (out-Core (out-Select sel).first).from tt; from = refl; origin = refl; alias = refl; on = refl; using = refl; inner = refl; group = refl; having = refl; repeats = refl })
     ([]) (column_terms the.Trip) (column_names the.Trip) (collations the.Trip) refl refl refl refl refl
-all_rows_asked the.Leg s at tree stands =
+all_rows_asked the.Leg s at tree keys stands =
     let p = parsed (all_rows_text the.Leg) in
     let sel = selection p.statement tt in
-    select_means s (codes "leg") (with_tree the.Leg tree) at stands (all_rows_text the.Leg) p refl refl sel refl
+    select_means s (codes "leg") (with_tree the.Leg tree keys) at stands (all_rows_text the.Leg) p refl refl sel refl
     (record { with = refl; others = refl; order = refl; limit = refl; offset = refl })
     (record { source = head_of (out-Core (out-Select sel).first).from tt; from = refl; origin = refl; alias = refl; on = refl; using = refl; inner = refl; group = refl; having = refl; repeats = refl })
     ([]) (column_terms the.Leg) (column_names the.Leg) (collations the.Leg) refl refl refl refl refl
-all_rows_asked the.Load s at tree stands =
+all_rows_asked the.Load s at tree keys stands =
     let p = parsed (all_rows_text the.Load) in
     let sel = selection p.statement tt in
-    select_means s (codes "load") (with_tree the.Load tree) at stands (all_rows_text the.Load) p refl refl sel refl
+    select_means s (codes "load") (with_tree the.Load tree keys) at stands (all_rows_text the.Load) p refl refl sel refl
     (record { with = refl; others = refl; order = refl; limit = refl; offset = refl })
     (record { source = head_of (out-Core (out-Select sel).first).from tt; from = refl; origin = refl; alias = refl; on = refl; using = refl; inner = refl; group = refl; having = refl; repeats = refl })
     ([]) (column_terms the.Load) (column_names the.Load) (collations the.Load) refl refl refl refl refl
-all_rows_asked the.Job s at tree stands =
+all_rows_asked the.Job s at tree keys stands =
     let p = parsed (all_rows_text the.Job) in
     let sel = selection p.statement tt in
-    select_means s (codes "job") (with_tree the.Job tree) at stands (all_rows_text the.Job) p refl refl sel refl
+    select_means s (codes "job") (with_tree the.Job tree keys) at stands (all_rows_text the.Job) p refl refl sel refl
     (record { with = refl; others = refl; order = refl; limit = refl; offset = refl })
     (record { source = head_of (out-Core (out-Select sel).first).from tt; from = refl; origin = refl; alias = refl; on = refl; using = refl; inner = refl; group = refl; having = refl; repeats = refl })
     ([]) (column_terms the.Job) (column_names the.Job) (collations the.Job) refl refl refl refl refl
-all_rows_asked the.Hold s at tree stands =
+all_rows_asked the.Hold s at tree keys stands =
     let p = parsed (all_rows_text the.Hold) in
     let sel = selection p.statement tt in
-    select_means s (codes "hold") (with_tree the.Hold tree) at stands (all_rows_text the.Hold) p refl refl sel refl
+    select_means s (codes "hold") (with_tree the.Hold tree keys) at stands (all_rows_text the.Hold) p refl refl sel refl
     (record { with = refl; others = refl; order = refl; limit = refl; offset = refl })
     (record { source = head_of (out-Core (out-Select sel).first).from tt; from = refl; origin = refl; alias = refl; on = refl; using = refl; inner = refl; group = refl; having = refl; repeats = refl })
     ([]) (column_terms the.Hold) (column_names the.Hold) (collations the.Hold) refl refl refl refl refl
-all_rows_asked the.Used s at tree stands =
+all_rows_asked the.Used s at tree keys stands =
     let p = parsed (all_rows_text the.Used) in
     let sel = selection p.statement tt in
-    select_means s (codes "used") (with_tree the.Used tree) at stands (all_rows_text the.Used) p refl refl sel refl
+    select_means s (codes "used") (with_tree the.Used tree keys) at stands (all_rows_text the.Used) p refl refl sel refl
     (record { with = refl; others = refl; order = refl; limit = refl; offset = refl })
     (record { source = head_of (out-Core (out-Select sel).first).from tt; from = refl; origin = refl; alias = refl; on = refl; using = refl; inner = refl; group = refl; having = refl; repeats = refl })
     ([]) (column_terms the.Used) (column_names the.Used) (collations the.Used) refl refl refl refl refl
-all_rows_asked the.Capacity s at tree stands =
+all_rows_asked the.Capacity s at tree keys stands =
     let p = parsed (all_rows_text the.Capacity) in
     let sel = selection p.statement tt in
-    select_means s (codes "capacity") (with_tree the.Capacity tree) at stands (all_rows_text the.Capacity) p refl refl sel refl
+    select_means s (codes "capacity") (with_tree the.Capacity tree keys) at stands (all_rows_text the.Capacity) p refl refl sel refl
     (record { with = refl; others = refl; order = refl; limit = refl; offset = refl })
     (record { source = head_of (out-Core (out-Select sel).first).from tt; from = refl; origin = refl; alias = refl; on = refl; using = refl; inner = refl; group = refl; having = refl; repeats = refl })
     ([]) (column_terms the.Capacity) (column_names the.Capacity) (collations the.Capacity) refl refl refl refl refl
-all_rows_asked the.Journey s at tree stands =
+all_rows_asked the.Journey s at tree keys stands =
     let p = parsed (all_rows_text the.Journey) in
     let sel = selection p.statement tt in
-    select_means s (codes "journey") (with_tree the.Journey tree) at stands (all_rows_text the.Journey) p refl refl sel refl
+    select_means s (codes "journey") (with_tree the.Journey tree keys) at stands (all_rows_text the.Journey) p refl refl sel refl
     (record { with = refl; others = refl; order = refl; limit = refl; offset = refl })
     (record { source = head_of (out-Core (out-Select sel).first).from tt; from = refl; origin = refl; alias = refl; on = refl; using = refl; inner = refl; group = refl; having = refl; repeats = refl })
     ([]) (column_terms the.Journey) (column_names the.Journey) (collations the.Journey) refl refl refl refl refl
-all_rows_asked the.Act s at tree stands =
+all_rows_asked the.Act s at tree keys stands =
     let p = parsed (all_rows_text the.Act) in
     let sel = selection p.statement tt in
-    select_means s (codes "act") (with_tree the.Act tree) at stands (all_rows_text the.Act) p refl refl sel refl
+    select_means s (codes "act") (with_tree the.Act tree keys) at stands (all_rows_text the.Act) p refl refl sel refl
     (record { with = refl; others = refl; order = refl; limit = refl; offset = refl })
     (record { source = head_of (out-Core (out-Select sel).first).from tt; from = refl; origin = refl; alias = refl; on = refl; using = refl; inner = refl; group = refl; having = refl; repeats = refl })
     ([]) (column_terms the.Act) (column_names the.Act) (collations the.Act) refl refl refl refl refl

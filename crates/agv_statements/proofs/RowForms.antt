@@ -136,7 +136,7 @@ pub record Lands (desk : Placing) (old new : Database) (change : List (List Row)
 
 module _ (desk : Placing) (is : IsDesk desk) (name : TableName) (old new : State) (has : old.now.schema ≡ desk.schema) where
   abbrev table : Table
-  table = table_in desk name
+  table = table_in desk name (is.stands name).keys
 
   abbrev at : ℕ
   at = (is.stands name).at

@@ -8,7 +8,7 @@ use Rattle.sqlite_schema.specs.declared.command.Command.TheVariants.{Update}
 use Rattle.sqlite_tied.specs.Compute.{everything}
 use Rattle.sqlite.specs.declared.error.Error.{Error}
 use Rattle.sqlite.specs.State.{State, Executes}
-use Rattle.agv_schema.specs.DeskRows.{Placing, FitsTable, Holds, IsDesk, Makes, has_columns, on_table, place_of, table_at, table_for, with_put_by, with_row}
+use Rattle.agv_schema.specs.DeskRows.{TableKeys, Placing, FitsTable, Holds, IsDesk, Makes, has_columns, on_table, place_of, table_at, table_for, with_put_by, with_row}
 use Rattle.agv_schema.specs.RowTexts.{table_written}
 use Rattle.agv_statements.specs.RowUpdates.{Counts, IsKeyOf, table_updated, update_text, with_each}
 use Rattle.agv_schema.specs.declared.table_name.TableName.{TableName}
@@ -28,25 +28,25 @@ use Rattle.agv_statements.proofs.RowMeanings.{key_terms, over_terms, with_tree}
 abbrev Updates : UpdatedTable → Type 0
 Updates table =
     let name = table_written (table_updated table) in
-    (s : Schema) (at tree : ℕ) → IsIn s (table_for name).name (with_tree name tree) at → Means s (update_text table) (Update at (record { lets = []; body = query_by tree (key_terms name) (over_terms name) }))
+    (s : Schema) (at tree : ℕ) (keys : TableKeys) → IsIn s (table_for name).name (with_tree name tree keys) at → Means s (update_text table) (Update at (record { lets = []; body = query_by tree (key_terms name) (over_terms name) }))
 
 updates : (table : UpdatedTable) → Updates table
 unfolding everything
-updates updated.Vehicle s at tree stands =
+updates updated.Vehicle s at tree keys stands =
     let p = parsed (update_text updated.Vehicle) in
-    update_means s (codes "vehicle") (with_tree the.Vehicle tree) at stands (update_text updated.Vehicle) p refl refl (update_sets p.statement) (update_test p.statement) (key_terms the.Vehicle) (over_terms the.Vehicle) refl refl refl refl refl
-updates updated.Journey s at tree stands =
+    update_means s (codes "vehicle") (with_tree the.Vehicle tree keys) at stands (update_text updated.Vehicle) p refl refl (update_sets p.statement) (update_test p.statement) (key_terms the.Vehicle) (over_terms the.Vehicle) refl refl refl refl refl
+updates updated.Journey s at tree keys stands =
     let p = parsed (update_text updated.Journey) in
-    update_means s (codes "journey") (with_tree the.Journey tree) at stands (update_text updated.Journey) p refl refl (update_sets p.statement) (update_test p.statement) (key_terms the.Journey) (over_terms the.Journey) refl refl refl refl refl
-updates updated.Load s at tree stands =
+    update_means s (codes "journey") (with_tree the.Journey tree keys) at stands (update_text updated.Journey) p refl refl (update_sets p.statement) (update_test p.statement) (key_terms the.Journey) (over_terms the.Journey) refl refl refl refl refl
+updates updated.Load s at tree keys stands =
     let p = parsed (update_text updated.Load) in
-    update_means s (codes "load") (with_tree the.Load tree) at stands (update_text updated.Load) p refl refl (update_sets p.statement) (update_test p.statement) (key_terms the.Load) (over_terms the.Load) refl refl refl refl refl
-updates updated.Job s at tree stands =
+    update_means s (codes "load") (with_tree the.Load tree keys) at stands (update_text updated.Load) p refl refl (update_sets p.statement) (update_test p.statement) (key_terms the.Load) (over_terms the.Load) refl refl refl refl refl
+updates updated.Job s at tree keys stands =
     let p = parsed (update_text updated.Job) in
-    update_means s (codes "job") (with_tree the.Job tree) at stands (update_text updated.Job) p refl refl (update_sets p.statement) (update_test p.statement) (key_terms the.Job) (over_terms the.Job) refl refl refl refl refl
-updates updated.Act s at tree stands =
+    update_means s (codes "job") (with_tree the.Job tree keys) at stands (update_text updated.Job) p refl refl (update_sets p.statement) (update_test p.statement) (key_terms the.Job) (over_terms the.Job) refl refl refl refl refl
+updates updated.Act s at tree keys stands =
     let p = parsed (update_text updated.Act) in
-    update_means s (codes "act") (with_tree the.Act tree) at stands (update_text updated.Act) p refl refl (update_sets p.statement) (update_test p.statement) (key_terms the.Act) (over_terms the.Act) refl refl refl refl refl
+    update_means s (codes "act") (with_tree the.Act tree keys) at stands (update_text updated.Act) p refl refl (update_sets p.statement) (update_test p.statement) (key_terms the.Act) (over_terms the.Act) refl refl refl refl refl
 
 -- ---- inside a transaction
 
@@ -67,7 +67,7 @@ module _ (table : UpdatedTable) (sql : List ℕ) (text : sql ≡ update_text tab
   sets_rows desk is has count done =
       subst (λ p. SetsRows desk p count) (key_passes name row)
       (rows_updated desk is name old new has (update_text table) row fit (key_terms name) (within name)
-      (updates table desk.schema (is.stands name).at (desk.tree name) (is_in desk is name)) count done)
+      (updates table desk.schema (is.stands name).at (desk.tree name) (is.stands name).keys (is_in desk is name)) count done)
 
   pub updates_row : OnOk r (Makes (with_each name columns row) old new)
   updates_row = makes (with_each name columns row) (update_text table) row old new r (λ desk is has count done. (sets_rows desk is has count done).0) (subst (λ t. RunsInside t row old new r) text ran)

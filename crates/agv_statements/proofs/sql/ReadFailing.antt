@@ -176,7 +176,7 @@ module _ (group : Option Grouping) (fit : NeverOverflows group) (name : TableNam
     (params : Row) (whole : IsWholeText sql (length params)) (typed : IsTypedIn group name terms project params)
     (old new : State) (e : Error) (desk : Placing) (stand : StandApart desk (name ∷ [])) (has : old.now.schema ≡ desk.schema) where
   abbrev means : Means desk.schema sql (Select (record { lets = []; body = query_in group (desk.tree name) terms project }) names)
-  means = asks desk.schema stand.stands.0.at (desk.tree name) (is_in_alone desk name stand.stands.0 stand.apart)
+  means = asks desk.schema stand.stands.0.at (desk.tree name) stand.stands.0.keys (is_in_alone desk name stand.stands.0 stand.apart)
 
   accepted : accepts_program desk.schema [] (query_in group (desk.tree name) terms project) params ≡ true
   accepted = let here = is_in_alone desk name stand.stands.0 stand.apart in rw (here.low, here.by_tree, typed)
