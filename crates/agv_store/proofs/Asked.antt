@@ -1,20 +1,15 @@
 -- What a question leaves of a connection to the desk's tables: one lemma for all of them.
-use Rattle.std.proofs.Common.{◌≡◌, ◌⊎◌, Bool, true, false, Option, Ok, Err, Result, IfOk, OnOk, OnErr, inl, inr, refl, sym, ap, subst, ◌∙◌}
+use Rattle.std.proofs.Common.{◌≡◌, ◌⊎◌, Bool, true, false, Ok, Err, Result, IfOk, OnOk, OnErr, inl, inr, refl, sym, ap, subst, ◌∙◌}
 use Rattle.sqlite_trees.specs.declared.store.Store.{Ghosts}
 use Rattle.sqlite.specs.Effect.{Database, IsDatabase}
 use Rattle.sqlite.specs.Held.{Held, state}
 use Rattle.sqlite.specs.State.{IsRolledBack, IsUnchanged}
 use Rattle.sqlite.proofs.StateLemmas.{survives_then}
-use Rattle.agv_layout.specs.Layout.{Layout}
 use Rattle.agv_world.specs.Asks.{Answers, Asks, Faulted, IsFaulted, Kept, Still, failed_after}
-use Rattle.agv_world.specs.Questions.{count_of}
-use Rattle.agv_world.specs.Rows.{rows_of}
 use Rattle.agv_world.specs.Worlds.{World}
 use Rattle.agv_world.specs.declared.fault.Fault.{Fault}
 use Rattle.agv_world.specs.declared.fault.Fault.TheVariants as machine
 use Rattle.agv_world.proofs.lists.Asking.{answers, fault_after, faults, retold, stays, still_here}
-use Rattle.agv_store.specs.KeptVehicles.{AreVehicles, VehiclesOf}
-use Rattle.agv_store.specs.KeptTrips.{AreTrips, TripsOf}
 use Rattle.agv_row_reading.specs.WorldAnswers.{AgreesWith, HasWorld, AnswersQuery}
 use Rattle.agv_world_reading.specs.WorldIn.{world_in}
 use Rattle.agv_schema.specs.DeskRows.{Placing}
@@ -24,8 +19,9 @@ use Rattle.agv_row_reading.specs.declared.reading_fault.ReadingFault.TheVariants
 use Rattle.agv_schema.proofs.Later.{later_by}
 use Rattle.agv_store.specs.Flags.{doubted_by, failed_by, noted}
 use Rattle.agv_store.specs.Floors.{IsAsked, IsKept, Keyed, Knows, facts_of, world_at}
-use Rattle.agv_store.specs.KeptRooms.{AreLeft, RoomsLeft}
-use Rattle.agv_store.specs.declared.counts.Counts.{Counts}
+use Rattle.agv_store.specs.Known.{IsKnownIn}
+use Rattle.agv_store.specs.declared.known.Known.{Known}
+use Rattle.agv_store.proofs.KeptLayout.{agrees_with}
 
 module _ {S : Type 0} (g : Ghosts S) where
   -- ---- moments between which nothing was written
@@ -94,7 +90,7 @@ module _ {S : Type 0} (g : Ghosts S) where
 
   -- ---- the invariant
 
-  module _ (old new : Held S) (counts : Counts) (layout : Option Layout) (rooms : RoomsLeft) (trips : TripsOf) (vehicles : VehiclesOf) (failed in_doubt : Bool) (asked : IsAsked g old new) (is : IsKept g old counts layout rooms trips vehicles failed in_doubt) where
+  module _ (old new : Held S) (known : Known) (failed in_doubt : Bool) (asked : IsAsked g old new) (is : IsKept g old known failed in_doubt) where
     pub knew : IsClean g new → IsOpen g new → Knows g old (world_at g old)
     knew clean still = is.knows (clean_before old new asked clean) (asked.was_open clean still)
 
@@ -104,37 +100,23 @@ module _ {S : Type 0} (g : Ghosts S) where
     knows_new : IsClean g new → IsOpen g new → Knows g new (world_at g new)
     knows_new clean still = subst (λ world. Knows g new world) (sym (world_same clean still)) (knows_still old new asked clean still (world_at g old) (knew clean still))
 
-    pub kept_by : (failed_now in_doubt_now : Bool) → (IsClean g new → failed_now ≡ false → in_doubt_now ≡ false → IsOpen g new) → IsKept g new counts layout rooms trips vehicles failed_now in_doubt_now
+    pub kept_by : (failed_now in_doubt_now : Bool) → (IsClean g new → failed_now ≡ false → in_doubt_now ≡ false → IsOpen g new) → IsKept g new known failed_now in_doubt_now
     kept_by failed_now in_doubt_now opens = record {
       idle = asked.idle is.idle;
       opens = opens;
       knows = knows_new;
-      counted = λ clean still what. is.counted (clean_before old new asked clean) (asked.was_open clean still) what ∙ ap (λ (world : World). count_of world what) (sym (world_same clean still));
-      agrees = λ clean still. subst (AgreesWith layout) (sym (world_same clean still)) (is.agrees (clean_before old new asked clean) (asked.was_open clean still));
-      fits = λ clean still. subst (λ (world : World). AreLeft rooms (rows_of world)) (sym (world_same clean still)) (is.fits (clean_before old new asked clean) (asked.was_open clean still));
-      trips_are = λ clean still. subst (λ (world : World). AreTrips trips (rows_of world)) (sym (world_same clean still)) (is.trips_are (clean_before old new asked clean) (asked.was_open clean still));
-      vehicles_are = λ clean still. subst (λ (world : World). AreVehicles vehicles (rows_of world)) (sym (world_same clean still)) (is.vehicles_are (clean_before old new asked clean) (asked.was_open clean still));
+      is_known = λ clean still. subst (IsKnownIn known) (sym (world_same clean still)) (is.is_known (clean_before old new asked clean) (asked.was_open clean still));
     }
 
-  -- a kept layout is the world's, to who sees the floor as its value
-  pub agrees_seen : (held : Held S) (counts : Counts) (layout : Option Layout) (rooms : RoomsLeft) (trips : TripsOf) (vehicles : VehiclesOf) (failed in_doubt : Bool) → IsKept g held counts layout rooms trips vehicles failed in_doubt
-      → (seen : Keyed S) → record { held = held; failed = failed } ≡ seen → IsClean g seen.held → IsOpen g seen.held → AgreesWith layout (world_at g seen.held)
-  agrees_seen held counts layout rooms trips vehicles failed in_doubt is seen view_is = subst (λ (desk : Keyed S). IsClean g desk.held → IsOpen g desk.held → AgreesWith layout (world_at g desk.held)) view_is is.agrees
+  -- what is known is true of the world, to who sees the floor as its value
+  pub known_seen : (held : Held S) (known : Known) (failed in_doubt : Bool) → IsKept g held known failed in_doubt → (seen : Keyed S) → record { held = held; failed = failed } ≡ seen
+      → IsClean g seen.held → IsOpen g seen.held → IsKnownIn known (world_at g seen.held)
+  known_seen held known failed in_doubt is seen view_is = subst (λ (desk : Keyed S). IsClean g desk.held → IsOpen g desk.held → IsKnownIn known (world_at g desk.held)) view_is is.is_known
 
-  -- and so much room as is kept is left in it
-  pub fits_seen : (held : Held S) (counts : Counts) (layout : Option Layout) (rooms : RoomsLeft) (trips : TripsOf) (vehicles : VehiclesOf) (failed in_doubt : Bool) → IsKept g held counts layout rooms trips vehicles failed in_doubt
-      → (seen : Keyed S) → record { held = held; failed = failed } ≡ seen → IsClean g seen.held → IsOpen g seen.held → AreLeft rooms (rows_of (world_at g seen.held))
-  fits_seen held counts layout rooms trips vehicles failed in_doubt is seen view_is = subst (λ (desk : Keyed S). IsClean g desk.held → IsOpen g desk.held → AreLeft rooms (rows_of (world_at g desk.held))) view_is is.fits
-
-  -- and it has the rows of the trips that are kept
-  pub trips_seen : (held : Held S) (counts : Counts) (layout : Option Layout) (rooms : RoomsLeft) (trips : TripsOf) (vehicles : VehiclesOf) (failed in_doubt : Bool) → IsKept g held counts layout rooms trips vehicles failed in_doubt
-      → (seen : Keyed S) → record { held = held; failed = failed } ≡ seen → IsClean g seen.held → IsOpen g seen.held → AreTrips trips (rows_of (world_at g seen.held))
-  trips_seen held counts layout rooms trips vehicles failed in_doubt is seen view_is = subst (λ (desk : Keyed S). IsClean g desk.held → IsOpen g desk.held → AreTrips trips (rows_of (world_at g desk.held))) view_is is.trips_are
-
-  -- and the rows that are kept are its vehicles'
-  pub vehicles_seen : (held : Held S) (counts : Counts) (layout : Option Layout) (rooms : RoomsLeft) (trips : TripsOf) (vehicles : VehiclesOf) (failed in_doubt : Bool) → IsKept g held counts layout rooms trips vehicles failed in_doubt
-      → (seen : Keyed S) → record { held = held; failed = failed } ≡ seen → IsClean g seen.held → IsOpen g seen.held → AreVehicles vehicles (rows_of (world_at g seen.held))
-  vehicles_seen held counts layout rooms trips vehicles failed in_doubt is seen view_is = subst (λ (desk : Keyed S). IsClean g desk.held → IsOpen g desk.held → AreVehicles vehicles (rows_of (world_at g desk.held))) view_is is.vehicles_are
+  -- so more can be known, or less
+  pub known_so : (held : Held S) (known more : Known) (failed in_doubt : Bool) → IsKept g held known failed in_doubt
+      → (IsClean g held → IsOpen g held → IsKnownIn known (world_at g held) → IsKnownIn more (world_at g held)) → IsKept g held more failed in_doubt
+  known_so held known more failed in_doubt is so = record { idle = is.idle; opens = is.opens; knows = is.knows; is_known = λ clean still. so clean still (is.is_known clean still) }
 
   -- a question that raised neither flag was answered by an open store
   opens_by : {A : Type 0} (old new : Held S) (r : Result A ReadingFault) → (IsClean g new → OnOk r (IsOpen g old × IsOpen g new)) → (failed in_doubt : Bool)
@@ -152,22 +134,22 @@ module _ {S : Type 0} (g : Ghosts S) where
 
   -- ---- a question to a floor
 
-  -- the floor's connection, counts and flags before the question, and the connection after it
-  module _ (old new : Held S) (counts : Counts) (layout : Option Layout) (rooms : RoomsLeft) (trips : TripsOf) (vehicles : VehiclesOf) (failed in_doubt : Bool) (is : IsKept g old counts layout rooms trips vehicles failed in_doubt)
+  -- the floor's connection, what is known beside it and the flags before the question, and the connection after it
+  module _ (old new : Held S) (known : Known) (failed in_doubt : Bool) (is : IsKept g old known failed in_doubt)
       {A : Type 0} (r : Result A ReadingFault) (says : World → A → Type 0) (tells : AnswersQuery g old new r says) where
     asked : IsAsked g old new
     asked = asked_by old new r says tells
 
-    pub asked_kept : (failed_now in_doubt_now : Bool) → failed_now ≡ failed_by r failed → in_doubt_now ≡ doubted_by r in_doubt → IsKept g new counts layout rooms trips vehicles failed_now in_doubt_now
-    asked_kept failed_now in_doubt_now failed_is doubt_is = kept_by old new counts layout rooms trips vehicles failed in_doubt asked is failed_now in_doubt_now
+    pub asked_kept : (failed_now in_doubt_now : Bool) → failed_now ≡ failed_by r failed → in_doubt_now ≡ doubted_by r in_doubt → IsKept g new known failed_now in_doubt_now
+    asked_kept failed_now in_doubt_now failed_is doubt_is = kept_by old new known failed in_doubt asked is failed_now in_doubt_now
         (λ clean not_failed no_doubt. opens_by old new r tells.answering failed in_doubt clean (sym failed_is ∙ not_failed) (sym doubt_is ∙ no_doubt))
 
     -- an answer leaves no doubt
-    pub asked_settled : (failed_now : Bool) (a : A) → noted r ≡ Ok a → IsKept g new counts layout rooms trips vehicles failed_now false
-    asked_settled failed_now a ok = kept_by old new counts layout rooms trips vehicles failed in_doubt asked is failed_now false (λ clean _ _. open_if_ok old new r tells.answering a ok clean)
+    pub asked_settled : (failed_now : Bool) (a : A) → noted r ≡ Ok a → IsKept g new known failed_now false
+    asked_settled failed_now a ok = kept_by old new known failed in_doubt asked is failed_now false (λ clean _ _. open_if_ok old new r tells.answering a ok clean)
 
     pub asked_knows : (a : A) → noted r ≡ Ok a → IsClean g new → Knows g new (world_at g new)
-    asked_knows a ok clean = knows_new old new counts layout rooms trips vehicles failed in_doubt asked is clean (open_if_ok old new r tells.answering a ok clean)
+    asked_knows a ok clean = knows_new old new known failed in_doubt asked is clean (open_if_ok old new r tells.answering a ok clean)
 
     module _ (failed_now : Bool) where
       abbrev before : Keyed S
@@ -181,7 +163,7 @@ module _ {S : Type 0} (g : Ghosts S) where
         later = λ first later. asked_then first.held old new later asked;
         was_clean = clean_before old new asked;
         was_open = asked.was_open;
-        world = world_same old new counts layout rooms trips vehicles failed in_doubt asked is;
+        world = world_same old new known failed in_doubt asked is;
         failed = raised;
         seats = refl;
       }
@@ -191,7 +173,7 @@ module _ {S : Type 0} (g : Ghosts S) where
         later = λ first later. asked_then first.held old new later asked;
         was_clean = clean_before old new asked;
         was_open = asked.was_open;
-        world = λ clean. world_same old new counts layout rooms trips vehicles failed in_doubt asked is clean (opens clean);
+        world = λ clean. world_same old new known failed in_doubt asked is clean (opens clean);
         failed = same;
         seats = refl;
       }
@@ -244,16 +226,16 @@ module _ {S : Type 0} (g : Ghosts S) where
     told_so (Err fault.Storage) answering asked = asked
     told_so (Err fault.Damaged) answering asked = asked
 
-  module _ (old new : Held S) (counts : Counts) (layout : Option Layout) (rooms : RoomsLeft) (trips : TripsOf) (vehicles : VehiclesOf) (failed in_doubt : Bool) (is : IsKept g old counts layout rooms trips vehicles failed in_doubt)
+  module _ (old new : Held S) (known : Known) (failed in_doubt : Bool) (is : IsKept g old known failed in_doubt)
       {A : Type 0} (r : Result A ReadingFault) (says : World → A → Type 0) where
     -- so it is where a kept layout is the world's
-    pub asked_agreed : AnswersQuery g old new r (λ world a. AgreesWith layout world → says world a) → (failed_now : Bool) → (seen : Keyed S) → record { held = old; failed = failed } ≡ seen
+    pub asked_agreed : AnswersQuery g old new r (λ world a. AgreesWith known.layout world → says world a) → (failed_now : Bool) → (seen : Keyed S) → record { held = old; failed = failed } ≡ seen
         → (q : Result A Fault) → q ≡ noted r → failed_now ≡ failed_by r failed → Asks (facts_of g) seen (record { held = new; failed = failed_now }) q says
     asked_agreed tells failed_now seen view_is q noted_is raised =
         subst (λ (k : Keyed S). Asks (facts_of g) k (record { held = new; failed = failed_now }) q says) view_is
         (subst (λ (q : Result A Fault). Asks (facts_of g) (record { held = old; failed = failed }) (record { held = new; failed = failed_now }) q says) (sym noted_is)
-        (told_so old new failed failed_now (AgreesWith layout) is.agrees says r tells.answering
-        (asked_asks old new counts layout rooms trips vehicles failed in_doubt is r _ tells failed_now (record { held = old; failed = failed }) refl (noted r) refl raised)))
+        (told_so old new failed failed_now (AgreesWith known.layout) (λ clean still. agrees_with known.layout (world_at g old) (is.is_known clean still).agrees) says r tells.answering
+        (asked_asks old new known failed in_doubt is r _ tells failed_now (record { held = old; failed = failed }) refl (noted r) refl raised)))
 
   -- what is known of an open floor is answered once it is known to be open
   pub answered_open : (old new : Keyed S) {says : Type 0} → Answers (facts_of g) old new (Unit {0}) → (IsClean g new.held → Knows g new.held (world_at g new.held)) → (IsClean g old.held → IsOpen g old.held → says) → Answers (facts_of g) old new says

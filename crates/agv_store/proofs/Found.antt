@@ -1,5 +1,5 @@
 -- What is found in a database where a desk is looked for: the rows of a lawful world, or those of none.
-use Rattle.std.proofs.Common.{◌≡◌, ◌↔◌, ◌∙◌, Bool, true, false, List, [], ◌∷◌, map, Option, Ok, Err, Result, refl, sym, ap, subst}
+use Rattle.std.proofs.Common.{◌≡◌, ◌↔◌, ◌∙◌, Bool, true, false, List, [], ◌∷◌, map, Ok, Err, Result, refl, sym, ap, subst}
 use Rattle.std.specs.List.{AllByRecursion, AllZip}
 use Rattle.std.specs.Result.{IsErrAnd}
 use Rattle.std.proofs.lemmas.Bool.{both_ways}
@@ -8,19 +8,13 @@ use Rattle.sqlite_value.specs.Order.{Row}
 use Rattle.sqlite_trees.specs.declared.store.Store.{Ghosts}
 use Rattle.sqlite.specs.Effect.{Database, IsDatabase}
 use Rattle.sqlite.specs.Held.{Held, state}
-use Rattle.agv_layout.specs.Layout.{Layout}
 use Rattle.agv_track.specs.Holds.{Holds as Holders}
 use Rattle.agv_world.specs.Kept.{Keeps}
 use Rattle.agv_world.specs.Lawful.{IsLawful}
-use Rattle.agv_world.specs.Questions.{count_of, layout_set}
-use Rattle.agv_world.specs.Rows.{Rows, rows_of}
-use Rattle.agv_world.specs.Told.{world_of}
+use Rattle.agv_world.specs.Rows.{rows_of}
 use Rattle.agv_world.specs.Worlds.{World}
-use Rattle.agv_world.specs.declared.floor.Counted.{Counted}
 use Rattle.agv_world.specs.declared.world.World.{World as Tables}
-use Rattle.agv_store.specs.KeptVehicles.{AreVehicles, VehiclesOf}
-use Rattle.agv_store.specs.KeptTrips.{AreTrips, TripsOf}
-use Rattle.agv_row_reading.specs.WorldAnswers.{AgreesWith, HasNoWorld, HasWorld, AnswersQuery}
+use Rattle.agv_row_reading.specs.WorldAnswers.{HasNoWorld, HasWorld, AnswersQuery}
 use Rattle.agv_rowids.specs.Rowids.{AreTablesKeyed, TellsKeyed}
 use Rattle.agv_row_reading.specs.TablesRead.{HaveAll, TellsAll}
 use Rattle.agv_world_reading.specs.WorldIn.{world_in}
@@ -33,16 +27,15 @@ use Rattle.agv_row_reading.specs.declared.reading_fault.ReadingFault.{ReadingFau
 use Rattle.agv_row_reading.specs.declared.reading_fault.ReadingFault.TheVariants as reading
 use Rattle.agv_row_reading.specs.declared.held_things.HeldThings.{HeldThings}
 use Rattle.agv_schema.specs.declared.table_name.TableName.{TableName}
-use Rattle.agv_store.specs.Counts.{count_in}
 use Rattle.agv_store.specs.Floors.{IsAsked, IsKept, Knows, world_at}
-use Rattle.agv_store.specs.KeptRooms.{AreLeft, RoomsLeft}
 use Rattle.agv_store.specs.OpenFaults.{of_reading}
-use Rattle.agv_store.specs.Opening.{Finds}
-use Rattle.agv_store.specs.declared.counts.Counts.{Counts}
+use Rattle.agv_store.specs.Opening.{Finds, HasCauseOverWorld}
+use Rattle.agv_store.specs.Known.{IsKnownIn}
+use Rattle.agv_store.specs.declared.known.Known.{Known}
 use Rattle.agv_store.specs.declared.open_fault.OpenFault.{OpenFault}
 use Rattle.agv_store.specs.declared.open_fault.OpenFault.TheVariants as fault
+use Rattle.agv_schema.proofs.Later.{fault_later, later_by}
 use Rattle.agv_store.proofs.Asked.{asked_by, asked_then, clean_before, knows_still}
-use Rattle.agv_store.proofs.KeptLayout.{GivesItself, NeedsANode, agrees_set}
 
 -- ---- the laws of tables, as the readings say them
 
@@ -60,6 +53,11 @@ pub read_damaged : (why : ReadingFault) → of_reading why ≡ fault.Damaged →
 read_damaged reading.Memory is = absurd (cc is)
 read_damaged reading.Storage is = absurd (cc is)
 read_damaged reading.Damaged is = refl
+
+pub read_stored : (why : ReadingFault) → of_reading why ≡ fault.Storage → why ≡ reading.Storage
+read_stored reading.Memory is = absurd (cc is)
+read_stored reading.Storage is = refl
+read_stored reading.Damaged is = absurd (cc is)
 
 -- ---- the rows under keys of their own
 
@@ -84,9 +82,23 @@ AreLawful tables holds = (world : World) × Keeps tables world × IsLawful desk_
 module _ {S : Type 0} (g : Ghosts S) where
   -- ---- a look that ends without a desk
 
-  finds_none : (old new : Held S) (r : Result (Counts × Option Layout) OpenFault) (why : OpenFault) → IsErrAnd r (λ made. made ≡ why) → (IsClean g new → why ≡ fault.Damaged → HasNoWorld (state g old).now) → IsAsked g old new → Finds g old new r
-  finds_none old new (Ok found) why is none asked = absurd is
-  finds_none old new (Err made) why is none asked = record { found = λ _. tt; damaged = λ clean damaged. none clean (sym is ∙ damaged); asked = asked }
+  finds_none : (old new : Held S) (r : Result Known OpenFault) (why : OpenFault) → IsErrAnd r (λ made. made ≡ why) → (IsClean g new → why ≡ fault.Damaged → HasNoWorld (state g old).now)
+      → (IsClean g new → why ≡ fault.Storage → HasCauseOverWorld g old new) → IsAsked g old new → Finds g old new r
+  finds_none old new (Ok found) why is none caused asked = absurd is
+  finds_none old new (Err made) why is none caused asked = record {
+    found = λ _. tt;
+    damaged = λ clean damaged. none clean (sym is ∙ damaged);
+    caused = λ clean stored. caused clean (sym is ∙ stored);
+    asked = asked;
+  }
+
+  -- the first question failed
+  pub finds_fault : {A : Type 0} (old new : Held S) (r : Result Known OpenFault) (why : ReadingFault) (says : World → A → Type 0) → IsErrAnd r (λ made. made ≡ of_reading why) → AnswersQuery g old new (Err why) says → Finds g old new r
+  finds_fault old new r why says made tells =
+      finds_none old new r (of_reading why) made
+      (λ clean damaged. tells.damaged clean (read_damaged why damaged))
+      (λ clean stored. tells.caused clean (read_stored why stored))
+      (asked_by g old new (Err why) says tells)
 
   -- ---- each row has a key of its own
 
@@ -102,11 +114,14 @@ module _ {S : Type 0} (g : Ghosts S) where
     asked_keys = asked_by g old mid (Ok yes) (λ world keyed. keyed ≡ true) asked
 
     -- the reading failed
-    pub finds_fault_then : {A : Type 0} (r : Result (Counts × Option Layout) OpenFault) (why : ReadingFault) (says : World → A → Type 0) → IsErrAnd r (λ made. made ≡ of_reading why) → AnswersQuery g mid new (Err why) says → Finds g old new r
+    pub finds_fault_then : {A : Type 0} (r : Result Known OpenFault) (why : ReadingFault) (says : World → A → Type 0) → IsErrAnd r (λ made. made ≡ of_reading why) → AnswersQuery g mid new (Err why) says → Finds g old new r
     finds_fault_then r why says made tells =
         let later = asked_by g mid new (Err why) says tells in
         finds_none old new r (of_reading why) made
         (λ clean damaged. none_before (clean_before g mid new later clean) (tells.damaged clean (read_damaged why damaged)))
+        (λ clean stored at world has.
+        let there = subst (λ (db : Database). HasWorld at db world) (sym (same_mid (clean_before g mid new later clean))) has in
+        fault_later g old mid new (later_by g old mid asked.survives) (later_by g mid new tells.survives) clean (tells.caused clean (read_stored why stored) at world there))
         (asked_then g old mid new asked_keys later)
 
     module _ (tables : Tables) (holds : HeldThings)
@@ -121,15 +136,15 @@ module _ {S : Type 0} (g : Ghosts S) where
       clean_mid = clean_before g mid new later
 
       -- memory ran out after the reading
-      pub finds_no_memory : (r : Result (Counts × Option Layout) OpenFault) → IsErrAnd r (λ made. made ≡ fault.Memory) → Finds g old new r
-      finds_no_memory r made = finds_none old new r fault.Memory made (λ clean damaged. absurd (cc damaged)) asked_both
+      pub finds_no_memory : (r : Result Known OpenFault) → IsErrAnd r (λ made. made ≡ fault.Memory) → Finds g old new r
+      finds_no_memory r made = finds_none old new r fault.Memory made (λ clean damaged. absurd (cc damaged)) (λ clean stored. absurd (cc stored)) asked_both
 
       none_lawful : (AreLawful tables holds → ⊥) → IsClean g new → HasNoWorld (state g old).now
       none_lawful none clean = none_before (clean_mid clean) (λ at world has. let told = read.tells.told clean at world has in none (world, told.0, has.lawful, told.1))
 
       -- the tables are of no lawful world, or what is held isn't what its vehicles hold
       pub finds_unlawful : (lawful : Bool) → lawful ≡ false → (lawful ≡ true) ↔ AreLawful tables holds → Finds g old new (Err fault.Damaged)
-      finds_unlawful lawful isnt so = finds_none old new (Err fault.Damaged) fault.Damaged refl (λ clean _. none_lawful (λ such. both_ways lawful isnt (so.1 such)) clean) asked_both
+      finds_unlawful lawful isnt so = finds_none old new (Err fault.Damaged) fault.Damaged refl (λ clean _. none_lawful (λ such. both_ways lawful isnt (so.1 such)) clean) (λ clean stored. absurd (cc stored)) asked_both
 
       -- they are those of a lawful world
       module _ (tell_worlds : TablesTellWorlds) (tells_its_world : TellsItsWorld) (stand : TablesStand (state g old).now.schema)
@@ -155,34 +170,24 @@ module _ {S : Type 0} (g : Ghosts S) where
           knows : IsClean g new → Knows g new (world_at g new)
           knows clean =
               let was_open = (opens clean).0 in
-              let rested = sym (settled was_open) in
-              let knew : Knows g old world = record { is_open = was_open; idle = idle; settled = rested; listed = live was_open; at = stand.0; has = has_world clean } in
-              subst (λ (w : World). Knows g new w) (sym (world_is clean rested)) (knows_still g old new asked_both clean (opens clean).1 world knew)
+              let committed = sym (settled was_open) in
+              let knew : Knows g old world = record { is_open = was_open; idle = idle; settled = committed; listed = live was_open; at = stand.0; has = has_world clean } in
+              subst (λ (w : World). Knows g new w) (sym (world_is clean committed)) (knows_still g old new asked_both clean (opens clean).1 world knew)
 
-          pub finds_desk : world_of tables ≡ world → (counts : Counts) → ((what : Counted) → count_in counts what ≡ count_of (world_of tables) what)
-              → GivesItself → NeedsANode → (layout : Option Layout) → layout ≡ layout_set (world_of tables) → Finds g old new (Ok (counts, layout))
-          finds_desk told counts counted gives needs layout is_set = record {
-            found = λ clean. (
-              (opens clean).0,
-              knows clean,
-              λ what. counted what ∙ ap (λ (w : World). count_of w what) (told ∙ sym (world_is clean (sym (settled (opens clean).0)))),
-              subst (AgreesWith layout) (sym (world_is clean (sym (settled (opens clean).0)))) (agrees_set gives needs world lawful.vehicles.laid layout (is_set ∙ ap layout_set told)),
-            );
+          pub finds_desk : (known : Known) → IsKnownIn known world → Finds g old new (Ok known)
+          finds_desk known is_known = record {
+            found = λ clean. ((opens clean).0, knows clean, subst (IsKnownIn known) (sym (world_is clean (sym (settled (opens clean).0)))) is_known);
             damaged = λ _. tt;
+            caused = λ _. tt;
             asked = asked_both;
           }
 
   -- ---- the desk that was found
 
-  pub found_kept : (old new : Held S) (counts : Counts) (layout : Option Layout) → Finds g old new (Ok (counts, layout)) → old.in_transaction ≡ false → (rooms : RoomsLeft) → ((rows : Rows) → AreLeft rooms rows) → (trips : TripsOf) → ((rows : Rows) → AreTrips trips rows)
-      → (vehicles : VehiclesOf) → ((rows : Rows) → AreVehicles vehicles rows) → IsKept g new counts layout rooms trips vehicles false false
-  found_kept old new counts layout finds idle rooms none trips no_trips vehicles no_vehicles = record {
+  pub found_kept : (old new : Held S) (known : Known) → Finds g old new (Ok known) → old.in_transaction ≡ false → IsKept g new known false false
+  found_kept old new known finds idle = record {
     idle = finds.asked.idle idle;
     opens = λ clean _ _. (finds.found clean).1.is_open;
     knows = λ clean _. (finds.found clean).1;
-    counted = λ clean _. (finds.found clean).2;
-    agrees = λ clean _. (finds.found clean).3;
-    fits = λ clean _. none (rows_of (world_at g new));
-    trips_are = λ clean _. no_trips (rows_of (world_at g new));
-    vehicles_are = λ clean _. no_vehicles (rows_of (world_at g new));
+    is_known = λ clean _. (finds.found clean).2;
   }

@@ -9,10 +9,7 @@ use Rattle.std.proofs.lemmas.Bool.Decides.{nat_tests}
 use Rattle.std.proofs.lemmas.List.{length-map}
 use Rattle.std.proofs.lemmas.List.Sums.{length-filter}
 use Rattle.std.proofs.lemmas.Option.{same_Some}
-use Rattle.sqlite.specs.Held.{Held}
-use Rattle.sqlite_trees.specs.declared.store.Store.{Ghosts}
 use Rattle.agv_header.specs.Name.{name_cmp}
-use Rattle.agv_layout.specs.Layout.{Layout}
 use Rattle.agv_layout.specs.declared.station.StationSite.{StationSite}
 use Rattle.agv_stock.specs.Phase.{is_live}
 use Rattle.agv_stock.specs.Rooms.{is_at, room_left}
@@ -29,13 +26,8 @@ use Rattle.agv_world.proofs.lists.Orders.{names_apart, names_total}
 use Rattle.agv_desk.specs.JobSteps.{station_in}
 use Rattle.agv_desk.proofs.lists.SameNames.{same_name}
 use Rattle.agv_desk.proofs.lists.Writes.{is_written, one_if, tally, tally-written}
-use Rattle.agv_store.specs.KeptVehicles.{VehiclesOf}
-use Rattle.agv_store.specs.KeptTrips.{TripsOf}
-use Rattle.agv_schema.specs.Connections.{IsClean, IsOpen}
-use Rattle.agv_store.specs.Floors.{IsKept, world_at}
 use Rattle.agv_store.specs.KeptLayouts.{is_of_layout}
 use Rattle.agv_store.specs.KeptRooms.{AreLeft, IsLowered, IsRoomLeft, RoomsLeft, takes_room_at}
-use Rattle.agv_store.specs.declared.counts.Counts.{Counts}
 
 -- ---- what they say
 
@@ -188,18 +180,3 @@ still_left rooms (row.Job id job) laid none rows left other room there =
     (site, known, omega (arith, more, same, within))
 still_left rooms (row.Hold thing key) laid none rows left other room there = left other room there
 still_left rooms (row.Used key) laid none rows left other room there = left other room there
-
--- ---- a floor that keeps them
-
-module _ {S : Type 0} (g : Ghosts S) (held : Held S) (counts : Counts) (layout : Option Layout) (rooms more : RoomsLeft) (trips : TripsOf) (vehicles : VehiclesOf) (failed in_doubt : Bool) (is : IsKept g held counts layout rooms trips vehicles failed in_doubt) where
-  pub keeps_rooms : (IsClean g held → IsOpen g held → AreLeft rooms (rows_of (world_at g held)) → AreLeft more (rows_of (world_at g held))) → IsKept g held counts layout more trips vehicles failed in_doubt
-  keeps_rooms left = record {
-    idle = is.idle;
-    opens = is.opens;
-    knows = is.knows;
-    counted = is.counted;
-    agrees = is.agrees;
-    fits = λ clean still. left clean still (is.fits clean still);
-    trips_are = is.trips_are;
-    vehicles_are = is.vehicles_are;
-  }

@@ -8,18 +8,15 @@ use Rattle.std.specs.FinMap as finite
 use Rattle.std.specs.FinMap.Entries.{by_order, where_key}
 use Rattle.std.specs.List.{filter_map}
 use Rattle.std.specs.Ordering.{eq_by_cmp}
-use Rattle.sqlite.specs.Held.{Held}
-use Rattle.sqlite_trees.specs.declared.store.Store.{Ghosts}
 use Rattle.agv_header.specs.Key.{key_cmp}
 use Rattle.agv_header.specs.KeyOrder.{key_cmp-IsAntisymmetric, key_cmp-total}
 use Rattle.agv_header.specs.Name.{name_cmp}
 use Rattle.agv_header.specs.declared.key.VehicleKey.{VehicleKey}
-use Rattle.agv_layout.specs.Layout.{Layout}
 use Rattle.agv_order.specs.declared.trip.Trip.{Trip}
 use Rattle.agv_world.specs.Changes.{change}
 use Rattle.agv_world.specs.KeyOrders.{leg_cmp-IsAntisymmetric, leg_cmp-total}
 use Rattle.agv_world.specs.Keys.{leg_cmp}
-use Rattle.agv_world.specs.Rows.{Rows, rows_of, trip_row}
+use Rattle.agv_world.specs.Rows.{Rows, trip_row}
 use Rattle.agv_world.specs.Spread.{edit}
 use Rattle.agv_world.specs.Told.{edge_named, edges_of, is_of_order}
 use Rattle.agv_world.specs.declared.change.Change.{Change}
@@ -27,16 +24,11 @@ use Rattle.agv_world.specs.declared.change.Change.TheVariants as row
 use Rattle.agv_world.specs.declared.key.LegKey.{LegKey}
 use Rattle.agv_world.specs.declared.row.TripRow.{TripRow}
 use Rattle.agv_world.proofs.lists.Orders.{names_apart, names_total}
-use Rattle.agv_store.specs.KeptVehicles.{VehiclesOf}
-use Rattle.agv_store.specs.KeptTrips.{AreAtRest, AreOpen, AreTrips, AtRest, HasNone, IsTripOf, OpenTrips, TripsOf, with_row}
+use Rattle.agv_store.specs.KeptTrips.{AreOpen, HasNoTrip, HaveNoTrip, IsTripOf, OpenTrips, Without, with_row}
 use Rattle.agv_store.proofs.KeptMaps.{one_more_entry, same_entries}
 use Rattle.agv_rows.specs.DecodedTrips.{HasTripRows, tables_of}
-use Rattle.agv_schema.specs.Connections.{IsClean, IsOpen}
 use Rattle.agv_schema.proofs.MapEntries.{entries-remove}
-use Rattle.agv_store.specs.Floors.{IsKept, world_at}
 use Rattle.agv_store.specs.KeptLayouts.{is_of_layout}
-use Rattle.agv_store.specs.KeptRooms.{RoomsLeft}
-use Rattle.agv_store.specs.declared.counts.Counts.{Counts}
 
 -- ---- entries that don't pass a test
 
@@ -171,57 +163,57 @@ trips_stay trips (row.Used key) laid leg trip rows are = are
 -- ---- vehicles that are known to have no trip
 
 -- a row that is none of a trip leaves each
-pub rests_stay : (at_rest : AtRest) (one : Change) → ((order : List ℕ) (its : Option TripRow) → one ≡ row.Trip order its → ⊥) → (rows : Rows) → AreAtRest at_rest rows → AreAtRest at_rest (change rows one)
-rests_stay at_rest (row.Node id) trip rows are = are
-rests_stay at_rest (row.Edge id ends) trip rows are = are
-rests_stay at_rest (row.Station id site) trip rows are = are
-rests_stay at_rest (row.Vehicle key vehicle) trip rows are = are
-rests_stay at_rest (row.Trip order its) trip rows are = absurd (trip order its refl)
-rests_stay at_rest (row.Leg key edge) trip rows are = are
-rests_stay at_rest (row.Load id to) trip rows are = are
-rests_stay at_rest (row.Job id job) trip rows are = are
-rests_stay at_rest (row.Hold thing key) trip rows are = are
-rests_stay at_rest (row.Used key) trip rows are = are
+pub without_stay : (without : Without) (one : Change) → ((order : List ℕ) (its : Option TripRow) → one ≡ row.Trip order its → ⊥) → (rows : Rows) → HaveNoTrip without rows → HaveNoTrip without (change rows one)
+without_stay without (row.Node id) trip rows are = are
+without_stay without (row.Edge id ends) trip rows are = are
+without_stay without (row.Station id site) trip rows are = are
+without_stay without (row.Vehicle key vehicle) trip rows are = are
+without_stay without (row.Trip order its) trip rows are = absurd (trip order its refl)
+without_stay without (row.Leg key edge) trip rows are = are
+without_stay without (row.Load id to) trip rows are = are
+without_stay without (row.Job id job) trip rows are = are
+without_stay without (row.Hold thing key) trip rows are = are
+without_stay without (row.Used key) trip rows are = are
 
 -- nor does the row of a trip that is taken away
-pub trip_taken : (at_rest : AtRest) (order : List ℕ) (its : Option TripRow) → its ≡ None → (rows : Rows) → AreAtRest at_rest rows → AreAtRest at_rest (record rows { trips = edit rows.trips order its })
-trip_taken at_rest order None none rows are key has other other_row there =
+pub trip_taken : (without : Without) (order : List ℕ) (its : Option TripRow) → its ≡ None → (rows : Rows) → HaveNoTrip without rows → HaveNoTrip without (record rows { trips = edit rows.trips order its })
+trip_taken without order None none rows are key has other other_row there =
     elim (eq_by_cmp name_cmp other order) as (λ b. cond b None (finite.get rows.trips other) ≡ Some other_row → other_row.vehicle ≡ key → ⊥) [ true ↦ λ is _. absurd (cc is) | false ↦ λ is same. are key has other other_row is same ]
     (sym (finite.get-remove names_total rows.trips order other) ∙ there)
-trip_taken at_rest order (Some its) none rows are key has other other_row there = absurd (cc none)
+trip_taken without order (Some its) none rows are key has other other_row there = absurd (cc none)
 
 -- without the vehicle whose trip is written they are right
-pub trip_written : (at_rest new : AtRest) (order : List ℕ) (its : Option TripRow) (written : TripRow) → its ≡ Some written
-    → ((q : VehicleKey) → trees.contains key_cmp new q ≡ cond (tree.is_at (key_cmp written.vehicle) q) false (trees.contains key_cmp at_rest q))
-    → (rows : Rows) → AreAtRest at_rest rows → AreAtRest new (record rows { trips = edit rows.trips order its })
-trip_written at_rest new order None written is takes rows are key has other other_row there same = absurd (cc is)
-trip_written at_rest new order (Some its) written is takes rows are key has other other_row there same =
-    elim (tree.is_at (key_cmp written.vehicle) key) as (λ b. tree.is_at (key_cmp written.vehicle) key ≡ b → cond b false (trees.contains key_cmp at_rest key) ≡ true → ⊥) [
-      | true ↦ λ _ rests. absurd (cc rests)
-      | false ↦ λ untied rests.
+pub trip_written : (without new : Without) (order : List ℕ) (its : Option TripRow) (written : TripRow) → its ≡ Some written
+    → ((q : VehicleKey) → trees.contains key_cmp new q ≡ cond (tree.is_at (key_cmp written.vehicle) q) false (trees.contains key_cmp without q))
+    → (rows : Rows) → HaveNoTrip without rows → HaveNoTrip new (record rows { trips = edit rows.trips order its })
+trip_written without new order None written is takes rows are key has other other_row there same = absurd (cc is)
+trip_written without new order (Some its) written is takes rows are key has other other_row there same =
+    elim (tree.is_at (key_cmp written.vehicle) key) as (λ b. tree.is_at (key_cmp written.vehicle) key ≡ b → cond b false (trees.contains key_cmp without key) ≡ true → ⊥) [
+      | true ↦ λ _ has_none. absurd (cc has_none)
+      | false ↦ λ untied has_none.
           elim (eq_by_cmp name_cmp other order) as (λ b. cond b (Some its) (finite.get rows.trips other) ≡ Some other_row → ⊥) [
             | true ↦ λ this.
                 let that : written ≡ other_row = cc (is, this) in
                 absurd (cc (sym untied ∙ ap (λ (k : VehicleKey). tree.is_at (key_cmp k) key) (ap (λ (row : TripRow). row.vehicle) that ∙ same) ∙ ap is_eq (tied_itself key_cmp-total key)))
-            | false ↦ λ that. are key rests other other_row that same
+            | false ↦ λ that. are key has_none other other_row that same
           ] (sym (finite.get-insert names_total rows.trips order its other) ∙ there)
     ] refl (sym (takes key) ∙ has)
 
 -- one vehicle more that has none
-pub one_more_rests : (at_rest new : AtRest) (key : VehicleKey) (rows : Rows) → ((q : VehicleKey) → trees.contains key_cmp new q ≡ cond (tree.is_at (key_cmp key) q) true (trees.contains key_cmp at_rest q)) → HasNone rows key → AreAtRest at_rest rows → AreAtRest new rows
-one_more_rests at_rest new key rows puts none are other has =
-    elim (tree.is_at (key_cmp key) other) as (λ b. tree.is_at (key_cmp key) other ≡ b → cond b true (trees.contains key_cmp at_rest other) ≡ true → HasNone rows other) [
-      | true ↦ λ tied _. subst (HasNone rows) (key_cmp-IsAntisymmetric key other ((Equal-is (key_cmp key other)).0 tied)) none
-      | false ↦ λ untied rests. are other rests
+pub one_more_without : (without new : Without) (key : VehicleKey) (rows : Rows) → ((q : VehicleKey) → trees.contains key_cmp new q ≡ cond (tree.is_at (key_cmp key) q) true (trees.contains key_cmp without q)) → HasNoTrip rows key → HaveNoTrip without rows → HaveNoTrip new rows
+one_more_without without new key rows puts none are other has =
+    elim (tree.is_at (key_cmp key) other) as (λ b. tree.is_at (key_cmp key) other ≡ b → cond b true (trees.contains key_cmp without other) ≡ true → HasNoTrip rows other) [
+      | true ↦ λ tied _. subst (HasNoTrip rows) (key_cmp-IsAntisymmetric key other ((Equal-is (key_cmp key other)).0 tied)) none
+      | false ↦ λ untied has_none. are other has_none
     ] refl (sym (puts other) ∙ has)
 
 -- a vehicle has no open trip where no row of one is its
-pub no_trip : (rows : Rows) (key : VehicleKey) (o : Option Trip) → ((trip : Trip) → o ≡ Some trip → (trip.vehicle ≡ key) × HasTripRows rows trip) → HasNone rows key → o ≡ None
+pub no_trip : (rows : Rows) (key : VehicleKey) (o : Option Trip) → ((trip : Trip) → o ≡ Some trip → (trip.vehicle ≡ key) × HasTripRows rows trip) → HasNoTrip rows key → o ≡ None
 no_trip rows key None has none = refl
 no_trip rows key (Some trip) has none = let its = has trip refl in absurd (none trip.order (trip_row trip.vehicle trip) its.1.0 its.0)
 
 -- and so it is the other way round
-pub no_row : (rows : Rows) (key : VehicleKey) (o : Option Trip) → ((trip : Trip) → (trip.vehicle ≡ key) × HasTripRows rows trip → o ≡ Some trip) → o ≡ None → HasNone rows key
+pub no_row : (rows : Rows) (key : VehicleKey) (o : Option Trip) → ((trip : Trip) → (trip.vehicle ≡ key) × HasTripRows rows trip → o ≡ Some trip) → o ≡ None → HasNoTrip rows key
 no_row rows key o opens none order its there same =
     let trip : Trip = record {
       order = order;
@@ -236,18 +228,3 @@ no_row rows key o opens none order its there same =
       acts = its.acts;
     } in
     absurd (cc (sym none ∙ opens trip (same, (there, refl))))
-
--- ---- a trip that is kept
-
-module _ {S : Type 0} (g : Ghosts S) (held : Held S) (counts : Counts) (layout : Option Layout) (rooms : RoomsLeft) (trips more : TripsOf) (vehicles : VehiclesOf) (failed in_doubt : Bool) (is : IsKept g held counts layout rooms trips vehicles failed in_doubt) where
-  pub keeps_trips : (IsClean g held → IsOpen g held → AreTrips trips (rows_of (world_at g held)) → AreTrips more (rows_of (world_at g held))) → IsKept g held counts layout rooms more vehicles failed in_doubt
-  keeps_trips so = record {
-    idle = is.idle;
-    opens = is.opens;
-    knows = is.knows;
-    counted = is.counted;
-    agrees = is.agrees;
-    fits = is.fits;
-    trips_are = λ clean still. so clean still (is.trips_are clean still);
-    vehicles_are = is.vehicles_are;
-  }

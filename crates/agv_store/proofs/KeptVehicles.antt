@@ -1,24 +1,16 @@
 -- The rows of vehicles that are kept beside the connection, and that they are the vehicles' once one was written.
-use Rattle.std.proofs.Common.{◌≡◌, Bool, true, false, cond, Option, Some, None, IfSome, Result, Ok, Err, OnOk, OnErr, refl, sym, ap, subst, ◌∙◌}
+use Rattle.std.proofs.Common.{◌≡◌, true, false, cond, Option, Some, None, IfSome, Result, Ok, Err, OnOk, OnErr, refl, sym, ap, subst, ◌∙◌}
 use Rattle.std.specs.Cmp.{Equal-is}
 use Rattle.std.specs.FinMap as finite
 use Rattle.std.specs.Ordering.{eq_by_cmp}
-use Rattle.sqlite.specs.Held.{Held}
-use Rattle.sqlite_trees.specs.declared.store.Store.{Ghosts}
 use Rattle.agv_header.specs.Key.{key_cmp}
 use Rattle.agv_header.specs.KeyOrder.{key_cmp-IsAntisymmetric, key_cmp-total}
 use Rattle.agv_header.specs.declared.key.VehicleKey.{VehicleKey}
-use Rattle.agv_layout.specs.Layout.{Layout}
 use Rattle.agv_world.specs.Changes.{change}
-use Rattle.agv_world.specs.Rows.{Rows, rows_of}
+use Rattle.agv_world.specs.Rows.{Rows}
 use Rattle.agv_world.specs.declared.change.Change.TheVariants as row
 use Rattle.agv_world.specs.declared.row.VehicleRow.{VehicleRow}
-use Rattle.agv_store.specs.KeptTrips.{TripsOf}
-use Rattle.agv_schema.specs.Connections.{IsClean, IsOpen}
-use Rattle.agv_store.specs.Floors.{IsKept, world_at}
-use Rattle.agv_store.specs.KeptRooms.{RoomsLeft}
 use Rattle.agv_store.specs.KeptVehicles.{AreVehicles, VehiclesOf}
-use Rattle.agv_store.specs.declared.counts.Counts.{Counts}
 
 -- what holds of each value that is there
 pub if_there : {A : Type 0} (P : A → Type 0) (o : Option A) → ((a : A) → o ≡ Some a → P a) → IfSome o P
@@ -74,16 +66,3 @@ pub row_kept_or_not : {A E : Type 0} (vehicles more : VehiclesOf) (rows : Rows) 
     → finite.get rows.vehicles key ≡ Some vehicle → AreVehicles vehicles rows → AreVehicles more rows
 row_kept_or_not vehicles more rows key vehicle (Ok done) put same own are = subst (λ kept. AreVehicles kept rows) (sym put) (row_kept vehicles rows key vehicle own are)
 row_kept_or_not vehicles more rows key vehicle (Err why) put same own are = subst (λ kept. AreVehicles kept rows) (sym same) are
-
-module _ {S : Type 0} (g : Ghosts S) (held : Held S) (counts : Counts) (layout : Option Layout) (rooms : RoomsLeft) (trips : TripsOf) (vehicles more : VehiclesOf) (failed in_doubt : Bool) (is : IsKept g held counts layout rooms trips vehicles failed in_doubt) where
-  pub keeps_vehicles : (IsClean g held → IsOpen g held → AreVehicles vehicles (rows_of (world_at g held)) → AreVehicles more (rows_of (world_at g held))) → IsKept g held counts layout rooms trips more failed in_doubt
-  keeps_vehicles so = record {
-    idle = is.idle;
-    opens = is.opens;
-    knows = is.knows;
-    counted = is.counted;
-    agrees = is.agrees;
-    fits = is.fits;
-    trips_are = is.trips_are;
-    vehicles_are = λ clean still. so clean still (is.vehicles_are clean still);
-  }

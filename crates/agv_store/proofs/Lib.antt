@@ -9,8 +9,8 @@ mod KeptVehicles
 mod KeptLayout
 mod KeptMaps
 mod KeptRooms
-mod KeptThrough
 mod KeptTrips
+mod Knowing
 mod Moving
 mod ReportLists
 mod Reporting

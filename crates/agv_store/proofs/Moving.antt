@@ -1,42 +1,31 @@
 -- The move of a database from the first schema: what is found there, and what the desk knows after it.
-use Rattle.std.proofs.Common.{◌≡◌, ◌⊎◌, ◌↔◌, ◌∙◌, ℕ, inl, inr, IsTrue, Option, Ok, Err, Result, Bool, true, false, true≢false, refl, sym, ap, subst}
+use Rattle.std.proofs.Common.{◌≡◌, ◌⊎◌, ◌↔◌, ◌∙◌, ℕ, inl, inr, IsTrue, Ok, Err, Result, Bool, true, false, true≢false, refl, sym, ap, subst}
 use Rattle.std.specs.Result.{IsErrAnd}
 use Rattle.sqlite.proofs.StateLemmas.{survives_then}
 use Rattle.sqlite_trees.specs.declared.store.Store.{Ghosts}
 use Rattle.sqlite.specs.Effect.{Database}
 use Rattle.sqlite.specs.Held.{Held, state}
 use Rattle.sqlite.specs.State.{IsUnchanged, IsRolledBack, Survives}
-use Rattle.agv_layout.specs.Layout.{Layout}
-use Rattle.agv_world.specs.GoodOrder.{InGoodOrder}
 use Rattle.agv_world.specs.Kept.{Keeps}
 use Rattle.agv_world.specs.Lawful.{IsLawful}
-use Rattle.agv_world.specs.Questions.{count_of, layout_set}
-use Rattle.agv_world.specs.Rows.{Rows, rows_of}
-use Rattle.agv_world.specs.Told.{world_of}
 use Rattle.agv_world.specs.Worlds.{World}
-use Rattle.agv_world.specs.declared.floor.Counted.{Counted}
 use Rattle.agv_world.specs.declared.world.World.{World as Tables}
 use Rattle.agv_first_schema.specs.FirstFound.{FindsFirst}
 use Rattle.agv_first_schema.specs.Moved.{CanBeAdded, LeavesMoved, MovesTables, MovesWorld}
 use Rattle.agv_schema.proofs.Later.{later_by}
-use Rattle.agv_store.specs.KeptVehicles.{AreVehicles, VehiclesOf}
-use Rattle.agv_store.specs.KeptTrips.{AreTrips, TripsOf}
-use Rattle.agv_row_reading.specs.WorldAnswers.{AgreesWith}
 use Rattle.agv_schema.specs.Connections.{IsClean, IsOpen}
 use Rattle.agv_row_reading.specs.declared.reading_fault.ReadingFault.{ReadingFault}
 use Rattle.agv_creation.specs.declared.making_fault.MakingFault.{MakingFault}
 use Rattle.agv_creation.specs.declared.making_fault.MakingFault.TheVariants as making
-use Rattle.agv_store.specs.Counts.{count_in}
 use Rattle.agv_store.specs.Floors.{IsAsked, IsKept, Knows, world_at}
-use Rattle.agv_store.specs.KeptRooms.{AreLeft, RoomsLeft}
-use Rattle.agv_store.specs.Migration.{CannotBeMigrated, FindsFirstDesk, FirstFound, LeavesMigrated, Migrates}
+use Rattle.agv_store.specs.Migration.{CanBeMigrated, CannotBeMigrated, FindsFirstDesk, FirstFound, LeavesMigrated, Migrates}
 use Rattle.agv_store.specs.OpenFaults.{of_making, of_reading}
-use Rattle.agv_store.specs.Opening.{IsDamaged, Opening}
-use Rattle.agv_store.specs.declared.counts.Counts.{Counts}
+use Rattle.agv_store.specs.Opening.{IsDamaged, IsStorage, Opening}
+use Rattle.agv_store.specs.Known.{IsKnownIn}
+use Rattle.agv_store.specs.declared.known.Known.{Known}
 use Rattle.agv_store.specs.declared.open_fault.OpenFault.{OpenFault}
 use Rattle.agv_store.specs.declared.open_fault.OpenFault.TheVariants as fault
-use Rattle.agv_store.proofs.Found.{TellsItsWorld, read_damaged}
-use Rattle.agv_store.proofs.KeptLayout.{GivesItself, NeedsANode, agrees_set}
+use Rattle.agv_store.proofs.Found.{TellsItsWorld, read_damaged, read_stored}
 
 -- ---- a refusal
 
@@ -52,6 +41,11 @@ taken_only : (why : MakingFault) → of_making why ≡ fault.Damaged → why ≡
 taken_only making.Taken is = refl
 taken_only making.Memory is = absurd (cc is)
 taken_only making.Storage is = absurd (cc is)
+
+pub storage_only : {S : Type 0} (held : Held S) (why : OpenFault) → IsStorage (refused held why) → why ≡ fault.Storage
+storage_only held fault.Damaged is = absurd is
+storage_only held fault.Memory is = absurd is
+storage_only held fault.Storage is = refl
 
 -- ---- what isn't denied
 
@@ -70,12 +64,6 @@ not_denied_added db so = record {
 }
 
 -- ---- what is found
-
-abbrev pub TablesTell : Type 0
-TablesTell = (tables : Tables) (world : World) → Keeps tables world → InGoodOrder world → world_of tables ≡ world
-
-abbrev pub LawfulIsInOrder : Type 0
-LawfulIsInOrder = (seats : ℕ) (world : World) → IsLawful seats world → InGoodOrder world
 
 module _ {S : Type 0} (g : Ghosts S) where
   abbrev Stays : Held S → Held S → Type 0
@@ -110,43 +98,48 @@ module _ {S : Type 0} (g : Ghosts S) where
   }
 
   -- the reading failed
-  pub finds_fault : (old new : Held S) (r : Result (Tables × Counts × Option Layout) OpenFault) (why : ReadingFault) → IsErrAnd r (λ made. made ≡ of_reading why) → FindsFirst g old new (Err why) → FindsFirstDesk g old new r
+  pub finds_fault : (old new : Held S) (r : Result (Tables × Known) OpenFault) (why : ReadingFault) → IsErrAnd r (λ made. made ≡ of_reading why) → FindsFirst g old new (Err why) → FindsFirstDesk g old new r
   finds_fault old new (Ok found) why made finds = absurd made
   finds_fault old new (Err told) why made finds = record {
     found = λ _. tt;
     damaged = λ clean is. finds.damaged clean (read_damaged why (sym made ∙ is));
+    caused = λ clean is. finds.caused clean (read_stored why (sym made ∙ is));
     asked = asked_first old new (Err why) finds;
   }
 
   -- memory ran out after it
-  pub finds_no_memory : (old new : Held S) (tables : Tables) (r : Result (Tables × Counts × Option Layout) OpenFault) → IsErrAnd r (λ made. made ≡ fault.Memory) → FindsFirst g old new (Ok tables) → FindsFirstDesk g old new r
+  pub finds_no_memory : (old new : Held S) (tables : Tables) (r : Result (Tables × Known) OpenFault) → IsErrAnd r (λ made. made ≡ fault.Memory) → FindsFirst g old new (Ok tables) → FindsFirstDesk g old new r
   finds_no_memory old new tables (Ok found) made finds = absurd made
   finds_no_memory old new tables (Err told) made finds = record {
     found = λ _. tt;
     damaged = λ clean is. absurd (not_damaged told made is);
+    caused = λ clean is. absurd (not_stored told made is);
     asked = asked_first old new (Ok tables) finds;
   }
     where
       not_damaged : (told : OpenFault) → told ≡ fault.Memory → told ≡ fault.Damaged → ⊥
       not_damaged told made is = let both : fault.Memory ≡ fault.Damaged = sym made ∙ is in cc
 
+      not_stored : (told : OpenFault) → told ≡ fault.Memory → told ≡ fault.Storage → ⊥
+      not_stored told made is = let both : fault.Memory ≡ fault.Storage = sym made ∙ is in cc
+
   -- the tables are those of a world
-  pub finds_first : (old new : Held S) (tables : Tables) (counts : Counts) → FindsFirst g old new (Ok tables) → ((what : Counted) → count_in counts what ≡ count_of (world_of tables) what)
-      → (layout : Option Layout) → layout ≡ layout_set (world_of tables) → GivesItself → NeedsANode → TablesTell → LawfulIsInOrder → FindsFirstDesk g old new (Ok (tables, counts, layout))
-  finds_first old new tables counts finds counted layout is_set gives needs tell ordered = record {
+  pub finds_first : (old new : Held S) (tables : Tables) (known : Known) → FindsFirst g old new (Ok tables) → ((seats : ℕ) (world : World) → IsLawful seats world → Keeps tables world → IsKnownIn known world)
+      → FindsFirstDesk g old new (Ok (tables, known))
+  finds_first old new tables known finds is_known = record {
     found = λ clean.
         let told = finds.told clean in
-        let same = tell tables told.1 told.3 (ordered 1 told.1 told.2.lawful) in
         let kept = (finds.kept clean).0 in
-        (kept.was_open, kept.is_open, (record { first = told.0; world = told.1; has = told.2 }, told.3, λ what. counted what ∙ ap (λ (w : World). count_of w what) same, agrees_set gives needs told.1 told.2.lawful.vehicles.laid layout (is_set ∙ ap layout_set same)));
+        (kept.was_open, kept.is_open, (record { first = told.0; world = told.1; has = told.2 }, told.3, is_known 1 told.1 told.2.lawful told.3));
     damaged = λ _. tt;
+    caused = λ _. tt;
     asked = asked_first old new (Ok tables) finds;
   }
 
   -- ---- the move
 
-  -- the moments before, between the search and the move, and after; the search gave these tables and counts
-  module _ (old mid new : Held S) (tables : Tables) (counts : Counts) (layout : Option Layout) (finds : FindsFirstDesk g old mid (Ok (tables, counts, layout)))
+  -- the moments before, between the search and the move, and after; the search gave these tables, and this is known of them
+  module _ (old mid new : Held S) (tables : Tables) (known : Known) (finds : FindsFirstDesk g old mid (Ok (tables, known)))
       (settled : IsOpen g old → (state g old).now ≡ (state g old).committed)
       (crash : Survives (state g mid) (state g new) (LeavesMoved tables (state g mid).now)) where
     clean_mid : IsClean g new → IsClean g mid
@@ -160,11 +153,8 @@ module _ {S : Type 0} (g : Ghosts S) where
     abbrev had : IsClean g mid → FirstFound (state g old).now
     had clean = (finds.found clean).2.0
 
-    counted : (clean : IsClean g mid) (what : Counted) → count_in counts what ≡ count_of (had clean).world what
-    counted clean = (finds.found clean).2.2
-
-    agreed : (clean : IsClean g mid) → AgreesWith layout (had clean).world
-    agreed clean = (finds.found clean).2.3
+    known_had : (clean : IsClean g mid) → IsKnownIn known (had clean).world
+    known_had clean = (finds.found clean).2.2
 
     moves_by : (clean : IsClean g mid) (then : Database) → MovesTables tables (state g mid).now then → MovesWorld (had clean).first (had clean).world (state g old).now then
     moves_by clean then moved =
@@ -199,32 +189,46 @@ module _ {S : Type 0} (g : Ghosts S) where
         told : (clean : IsClean g new) → world_at g new ≡ (had (clean_mid clean)).world
         told clean = let it = knows clean in tells_its_world it.at (state g new).now (had (clean_mid clean)).world it.has
 
-        pub moved_kept : (rooms : RoomsLeft) → ((rows : Rows) → AreLeft rooms rows) → (trips : TripsOf) → ((rows : Rows) → AreTrips trips rows)
-            → (vehicles : VehiclesOf) → ((rows : Rows) → AreVehicles vehicles rows) → IsKept g new counts layout rooms trips vehicles false false
-        moved_kept rooms none trips no_trips vehicles no_vehicles = record {
+        pub moved_kept : IsKept g new known false false
+        moved_kept = record {
           idle = idle;
           opens = λ clean _ _. (opens clean).1;
           knows = λ clean _. subst (λ (world : World). Knows g new world) (sym (told clean)) (knows clean);
-          counted = λ clean _ what. counted (clean_mid clean) what ∙ ap (λ (w : World). count_of w what) (sym (told clean));
-          agrees = λ clean _. subst (AgreesWith layout) (sym (told clean)) (agreed (clean_mid clean));
-          fits = λ clean _. none (rows_of (world_at g new));
-          trips_are = λ clean _. no_trips (rows_of (world_at g new));
-          vehicles_are = λ clean _. no_vehicles (rows_of (world_at g new));
+          is_known = λ clean _. subst (IsKnownIn known) (sym (told clean)) (known_had (clean_mid clean));
         }
 
   -- the names of the three tables are not free, or a key refers to one of them
   abbrev Refused : MakingFault → Result (Unit {0}) MakingFault
   Refused why = Err why
 
-  pub none_added : (old mid new : Held S) (tables : Tables) (counts : Counts) (layout : Option Layout) → FindsFirstDesk g old mid (Ok (tables, counts, layout)) → (IsOpen g old → (state g old).now ≡ (state g old).committed)
+  pub none_added : (old mid new : Held S) (tables : Tables) (known : Known) → FindsFirstDesk g old mid (Ok (tables, known)) → (IsOpen g old → (state g old).now ≡ (state g old).committed)
       → (why : MakingFault) (told : OpenFault) → told ≡ of_making why → (Refused why ≡ Refused making.Taken) ↔ (¬ CanBeAdded (state g mid).now.schema) → (Refused why ≡ Refused making.Taken → new ≡ mid)
       → IsClean g new → IsDamaged (refused new told) → CannotBeMigrated (state g old).now
-  none_added old mid new tables counts layout finds settled why told told_is taken unchanged clean is =
+  none_added old mid new tables known finds settled why told told_is taken unchanged clean is =
       let named : Refused why ≡ Refused making.Taken = ap Refused (taken_only why (sym told_is ∙ damaged_only new told is)) in
       let early : IsClean g mid = subst (IsClean g) (unchanged named) clean in
       let found = finds.found early in
       let same = finds.asked.same early found.1 (sym (settled found.0)) in
       inr (subst (λ (db : Database). ¬ CanBeAdded db.schema) same (taken.0 named))
+
+  -- a fault of the store in the move comes only of a database that can be moved
+  stored_not_taken : (why : MakingFault) → of_making why ≡ fault.Storage → Refused why ≡ Refused making.Taken → ⊥
+  stored_not_taken making.Taken stored is = cc stored
+  stored_not_taken making.Memory stored is = cc stored
+  stored_not_taken making.Storage stored is = cc is
+
+  pub can_be_migrated : (old mid new : Held S) (tables : Tables) (known : Known) → FindsFirstDesk g old mid (Ok (tables, known)) → (IsOpen g old → (state g old).now ≡ (state g old).committed)
+      → Survives (state g mid) (state g new) (LeavesMoved tables (state g mid).now) → (why : MakingFault) (told : OpenFault) → told ≡ of_making why → (Refused why ≡ Refused making.Taken) ↔ (¬ CanBeAdded (state g mid).now.schema)
+      → IsClean g new → IsStorage (refused new told) → CanBeMigrated (state g old).now
+  can_be_migrated old mid new tables known finds settled crash why told told_is taken clean is =
+      let early : IsClean g mid = (later_by g mid new crash).clean clean in
+      let found = finds.found early in
+      let same = finds.asked.same early found.1 (sym (settled found.0)) in
+      let stored : of_making why ≡ fault.Storage = sym told_is ∙ storage_only new told is in
+      record {
+        had = found.2.0;
+        possible = subst (λ (db : Database). CanBeAdded db.schema) same (not_denied_added (state g mid).now (λ cannot. stored_not_taken why stored (taken.1 cannot)));
+      }
 
   -- the three tables were added, so they could be
   abbrev Moved : Unit {0} → Result (Unit {0}) MakingFault
@@ -233,10 +237,10 @@ module _ {S : Type 0} (g : Ghosts S) where
   not_taken : (it : Unit {0}) (why : MakingFault) → Moved it ≡ Refused why → ⊥
   not_taken it why is = cc is
 
-  pub could_be_added : (old mid new : Held S) (tables : Tables) (counts : Counts) (layout : Option Layout) → FindsFirstDesk g old mid (Ok (tables, counts, layout)) → (IsOpen g old → (state g old).now ≡ (state g old).committed)
+  pub could_be_added : (old mid new : Held S) (tables : Tables) (known : Known) → FindsFirstDesk g old mid (Ok (tables, known)) → (IsOpen g old → (state g old).now ≡ (state g old).committed)
       → Survives (state g mid) (state g new) (LeavesMoved tables (state g mid).now) → (it : Unit {0}) → (Moved it ≡ Refused making.Taken) ↔ (¬ CanBeAdded (state g mid).now.schema)
       → IsClean g new → CanBeAdded (state g old).now.schema
-  could_be_added old mid new tables counts layout finds settled crash it taken clean =
+  could_be_added old mid new tables known finds settled crash it taken clean =
       let early : IsClean g mid = (later_by g mid new crash).clean clean in
       let found = finds.found early in
       let same = finds.asked.same early found.1 (sym (settled found.0)) in

@@ -5,7 +5,6 @@ use Rattle.sqlite_trees.specs.Tree.{Trees}
 use Rattle.sqlite.specs.Effect.{Database, IsDatabase}
 use Rattle.sqlite.specs.Held.{Held, state}
 use Rattle.sqlite.specs.State.{Survives}
-use Rattle.agv_layout.specs.Layout.{Layout}
 use Rattle.agv_world.specs.Changes.{changed}
 use Rattle.agv_world.specs.Lawful.{HasLawfulLoads}
 use Rattle.agv_world.specs.Questions.{count_of}
@@ -20,9 +19,7 @@ use Rattle.agv_desk.specs.Step.{step}
 use Rattle.agv_desk.specs.declared.answer.Decision.{Decision}
 use Rattle.agv_desk.specs.declared.call.Call.{Call}
 use Rattle.agv_changes.specs.ChangesMade.{ChangesWorlds, LeavesChanges, MakesChanges}
-use Rattle.agv_store.specs.KeptVehicles.{AreVehicles, VehiclesOf}
-use Rattle.agv_store.specs.KeptTrips.{AreTrips, TripsOf}
-use Rattle.agv_row_reading.specs.WorldAnswers.{AgreesWith, HasWorld}
+use Rattle.agv_row_reading.specs.WorldAnswers.{HasWorld}
 use Rattle.agv_world_reading.specs.WorldIn.{world_in}
 use Rattle.agv_schema.specs.DeskRows.{Holds, KeepsOthers, Placing}
 use Rattle.agv_rows.specs.RowLists.{row_lists}
@@ -31,14 +28,11 @@ use Rattle.agv_schema.specs.Connections.{IsClean, IsOpen}
 use Rattle.agv_changes.specs.declared.write_fault.WriteFault.{WriteFault}
 use Rattle.agv_changes.specs.declared.write_fault.WriteFault.TheVariants as write
 use Rattle.agv_schema.proofs.Later.{later_by}
-use Rattle.agv_store.specs.Counts.{count_in}
 use Rattle.agv_store.specs.Flags.{doubted_by, failed_by, noted, read_as}
 use Rattle.agv_store.specs.Floors.{IsKept, Keyed, Knows, world_at}
-use Rattle.agv_store.specs.KeptLayouts.{kept_through}
-use Rattle.agv_store.specs.KeptRooms.{AreLeft, RoomsLeft}
 use Rattle.agv_store.specs.Serving.{Decides, IsServedBy, LeavesCall, outcome_in, world_after}
-use Rattle.agv_store.specs.declared.counts.Counts.{Counts}
-use Rattle.agv_store.proofs.KeptLayout.{agrees_through}
+use Rattle.agv_store.specs.Known.{Follows, IsKnownIn}
+use Rattle.agv_store.specs.declared.known.Known.{Known}
 
 pub answer_decided : (outcome : Outcome) → (decided outcome).answer ≡ answer_of outcome
 unfolding decided answer_of
@@ -69,18 +63,6 @@ CountsFollow = (seats : ℕ) (world : World) (at : ℕ) (call : Call) (what : Co
 abbrev pub AddsBelow : Type 0
 AddsBelow = (seats : ℕ) (world : World) (at : ℕ) (call : Call) (what : Counted) → added call (answer_of (step seats world at call)) what ≢ 0 → count_of world what < limit_of what
 
--- what is kept of the rooms is left once the changes were made
-abbrev pub LeavesRooms : List Change → RoomsLeft → RoomsLeft → Type 0
-LeavesRooms changes rooms rooms_now = (rows : Rows) → AreLeft rooms rows → AreLeft rooms_now (changed changes rows)
-
--- and of the trips
-abbrev pub LeavesTrips : List Change → TripsOf → TripsOf → Type 0
-LeavesTrips changes trips trips_now = (rows : Rows) → AreTrips trips rows → AreTrips trips_now (changed changes rows)
-
--- and of the vehicles
-abbrev pub LeavesVehicles : List Change → VehiclesOf → VehiclesOf → Type 0
-LeavesVehicles changes vehicles vehicles_now = (rows : Rows) → AreVehicles vehicles rows → AreVehicles vehicles_now (changed changes rows)
-
 -- the clauses of a write, and the law of what its changes make of a world
 pub record IsWritten {S : Type 0} (g : Ghosts S) (old new : Held S) (changes : List Change) (r : Result (Unit {0}) WriteFault) : Type 0 where
   pub made : IsClean g new → OnOk r (MakesChanges changes (state g old).now (state g new).committed)
@@ -96,8 +78,7 @@ module _ {S : Type 0} (g : Ghosts S) (law : DatabaseTells) where
   pub world_known : (held : Held S) (world : World) → Knows g held world → world_at g held ≡ world
   world_known held world knows = law knows.at (state g held).now world knows.has
 
-  module _ (old new : Held S) (counts : Counts) (in_doubt : Bool) (counted : IsClean g old → IsOpen g old → (what : Counted) → count_in counts what ≡ count_of (world_at g old) what)
-      (at : ℕ) (call : Call) (decision : Decision)
+  module _ (old new : Held S) (at : ℕ) (call : Call) (decision : Decision)
       (knows : IsClean g old → Knows g old (world_at g old))
       (decides : IsClean g old → Decides (world_at g old) at call decision)
       (changes : List Change) (changes_are : changes ≡ decision.changes) (r : Result (Unit {0}) WriteFault) (writes : IsWritten g old new changes r) where
@@ -148,56 +129,25 @@ module _ {S : Type 0} (g : Ghosts S) (law : DatabaseTells) where
       others = λ desk stands schema. subst (λ (db : Database). KeepsOthers desk (state g old).now db) (sym (on_ok ok (writes.same clean))) ((on_ok ok (writes.made clean)).others desk stands schema);
     }
 
-    module _ (follow : CountsFollow) (below : AddsBelow) (counts_now : Counts) (kind : Option Counted) (kind_is : kind ≡ counted_by call decision.answer)
-        (adds : (what : Counted) → (one_more kind what ≢ 0 → count_in counts what < limit_of what) → count_in counts_now what ≡ count_in counts what + one_more kind what) where
-      counted_next : r ≡ Ok tt → IsClean g new → (what : Counted) → count_in counts_now what ≡ count_of (world_at g new) what
-      counted_next ok clean what =
+    -- what is known follows
+    module _ (counts : CountsFollow) (below : AddsBelow) (known known_now : Known) (is_known : IsClean g old → IsOpen g old → IsKnownIn known (world_at g old))
+        (more : Option Counted) (more_is : more ≡ counted_by call decision.answer) (follows : Follows more changes known known_now) where
+      known_next : IsClean g new → IsKnownIn known_now next
+      known_next clean =
           let outcome = outcome_in (world_at g old) at call in
           let was = knows (clean_old clean) in
-          let same : kind ≡ counted_by call (answer_of outcome) = kind_is ∙ ap (counted_by call) (answer_is clean) in
-          let before = counted (clean_old clean) was.is_open what in
-          let more : one_more kind what ≡ added call (answer_of outcome) what = ap (λ k. one_more k what) same in
-          let few : one_more kind what ≢ 0 → count_in counts what < limit_of what = λ some. subst (λ n. n < limit_of what) (sym before) (below desk_seats (world_at g old) at call what (λ none. some (more ∙ none))) in
-          adds what few ∙ (λ i. before i + more i) ∙ sym (follow desk_seats (world_at g old) at call what was.has.lawful.loads) ∙ ap (λ (world : World). count_of world what) (sym (world_next ok clean))
+          let added_is : (what : Counted) → one_more more what ≡ added call (answer_of outcome) what = λ what. ap (λ kind. one_more kind what) (more_is ∙ ap (counted_by call) (answer_is clean)) in
+          follows (world_at g old) next (rows_next clean)
+          (λ what some. below desk_seats (world_at g old) at call what (λ none. some (added_is what ∙ none)))
+          (λ what. counts desk_seats (world_at g old) at call what was.has.lawful.loads ∙ ap (λ n. count_of (world_at g old) what + n) (sym (added_is what)))
+          (is_known (clean_old clean) was.is_open)
 
-      agrees_next : (layout layout_now : Option Layout) → (IsClean g old → IsOpen g old → AgreesWith layout (world_at g old)) → layout_now ≡ kept_through changes layout → r ≡ Ok tt → IsClean g new → AgreesWith layout_now (world_at g new)
-      agrees_next layout layout_now agrees now_is ok clean =
-          let was = agrees (clean_old clean) (knows (clean_old clean)).is_open in
-          subst (λ (l : Option Layout). AgreesWith l (world_at g new)) (sym now_is)
-          (subst (AgreesWith (kept_through changes layout)) (sym (world_next ok clean)) (agrees_through changes (world_at g old) next layout (rows_next clean) was))
-
-      fits_next : (rooms rooms_now : RoomsLeft) → (IsClean g old → IsOpen g old → AreLeft rooms (rows_of (world_at g old))) → LeavesRooms changes rooms rooms_now → r ≡ Ok tt → IsClean g new → AreLeft rooms_now (rows_of (world_at g new))
-      fits_next rooms rooms_now fits leaves ok clean =
-          let was = fits (clean_old clean) (knows (clean_old clean)).is_open in
-          subst (λ (world : World). AreLeft rooms_now (rows_of world)) (sym (world_next ok clean))
-          (subst (AreLeft rooms_now) (rows_next clean) (leaves (rows_of (world_at g old)) was))
-
-      trips_next : (trips trips_now : TripsOf) → (IsClean g old → IsOpen g old → AreTrips trips (rows_of (world_at g old))) → LeavesTrips changes trips trips_now → r ≡ Ok tt → IsClean g new → AreTrips trips_now (rows_of (world_at g new))
-      trips_next trips trips_now trips_are leads ok clean =
-          let was = trips_are (clean_old clean) (knows (clean_old clean)).is_open in
-          subst (λ (world : World). AreTrips trips_now (rows_of world)) (sym (world_next ok clean))
-          (subst (AreTrips trips_now) (rows_next clean) (leads (rows_of (world_at g old)) was))
-
-      vehicles_next : (vehicles vehicles_now : VehiclesOf) → (IsClean g old → IsOpen g old → AreVehicles vehicles (rows_of (world_at g old))) → LeavesVehicles changes vehicles vehicles_now → r ≡ Ok tt → IsClean g new → AreVehicles vehicles_now (rows_of (world_at g new))
-      vehicles_next vehicles vehicles_now vehicles_are leaves ok clean =
-          let was = vehicles_are (clean_old clean) (knows (clean_old clean)).is_open in
-          subst (λ (world : World). AreVehicles vehicles_now (rows_of world)) (sym (world_next ok clean))
-          (subst (AreVehicles vehicles_now) (rows_next clean) (leaves (rows_of (world_at g old)) was))
-
-      pub written_kept : (layout layout_now : Option Layout) → (IsClean g old → IsOpen g old → AgreesWith layout (world_at g old)) → layout_now ≡ kept_through changes layout
-          → (rooms rooms_now : RoomsLeft) → (IsClean g old → IsOpen g old → AreLeft rooms (rows_of (world_at g old))) → LeavesRooms changes rooms rooms_now
-          → (trips trips_now : TripsOf) → (IsClean g old → IsOpen g old → AreTrips trips (rows_of (world_at g old))) → LeavesTrips changes trips trips_now
-          → (vehicles vehicles_now : VehiclesOf) → (IsClean g old → IsOpen g old → AreVehicles vehicles (rows_of (world_at g old))) → LeavesVehicles changes vehicles vehicles_now
-          → (failed_now in_doubt_now : Bool) → r ≡ Ok tt → IsKept g new counts_now layout_now rooms_now trips_now vehicles_now failed_now in_doubt_now
-      written_kept layout layout_now agrees now_is rooms rooms_now fits leaves trips trips_now trips_are leads vehicles vehicles_now vehicles_are stays failed_now in_doubt_now ok = record {
+      pub written_kept : (failed_now in_doubt_now : Bool) → r ≡ Ok tt → IsKept g new known_now failed_now in_doubt_now
+      written_kept failed_now in_doubt_now ok = record {
         idle = writes.idle;
         opens = λ clean _ _. (knows_next ok clean).is_open;
         knows = λ clean still. subst (λ world. Knows g new world) (sym (world_next ok clean)) (knows_next ok clean);
-        counted = λ clean still. counted_next ok clean;
-        agrees = λ clean still. agrees_next layout layout_now agrees now_is ok clean;
-        fits = λ clean still. fits_next rooms rooms_now fits leaves ok clean;
-        trips_are = λ clean still. trips_next trips trips_now trips_are leads ok clean;
-        vehicles_are = λ clean still. vehicles_next vehicles vehicles_now vehicles_are stays ok clean;
+        is_known = λ clean still. subst (IsKnownIn known_now) (sym (world_next ok clean)) (known_next clean);
       }
 
     -- ---- after a fault
@@ -221,25 +171,20 @@ module _ {S : Type 0} (g : Ghosts S) (law : DatabaseTells) where
           has = subst (λ (db : Database). HasWorld was.at db (world_at g old)) (sym now) was.has;
         }
 
-    flags_raised : (why : WriteFault) → r ≡ Err why → (failed failed_now in_doubt_now : Bool) → failed_now ≡ failed_by (read_as r) failed → in_doubt_now ≡ doubted_by (read_as r) in_doubt
+    flags_raised : (why : WriteFault) → r ≡ Err why → (failed in_doubt failed_now in_doubt_now : Bool) → failed_now ≡ failed_by (read_as r) failed → in_doubt_now ≡ doubted_by (read_as r) in_doubt
         → failed_now ≡ false → in_doubt_now ≡ false → ⊥
-    flags_raised write.Memory is_err failed failed_now in_doubt_now failed_is doubt_is not_failed no_doubt =
+    flags_raised write.Memory is_err failed in_doubt failed_now in_doubt_now failed_is doubt_is not_failed no_doubt =
         let wrong : true ≡ false = sym (ap (λ (q : Result (Unit {0}) WriteFault). doubted_by (read_as q) in_doubt) is_err) ∙ sym doubt_is ∙ no_doubt in cc wrong
-    flags_raised write.Storage is_err failed failed_now in_doubt_now failed_is doubt_is not_failed no_doubt =
+    flags_raised write.Storage is_err failed in_doubt failed_now in_doubt_now failed_is doubt_is not_failed no_doubt =
         let wrong : true ≡ false = sym (ap (λ (q : Result (Unit {0}) WriteFault). failed_by (read_as q) failed) is_err) ∙ sym failed_is ∙ not_failed in cc wrong
 
-    pub refused_kept : (layout : Option Layout) → (IsClean g old → IsOpen g old → AgreesWith layout (world_at g old)) → (rooms : RoomsLeft) → (IsClean g old → IsOpen g old → AreLeft rooms (rows_of (world_at g old)))
-        → (trips : TripsOf) → (IsClean g old → IsOpen g old → AreTrips trips (rows_of (world_at g old))) → (vehicles : VehiclesOf) → (IsClean g old → IsOpen g old → AreVehicles vehicles (rows_of (world_at g old)))
-        → (why : WriteFault) → r ≡ Err why → (failed failed_now in_doubt_now : Bool) → failed_now ≡ failed_by (read_as r) failed → in_doubt_now ≡ doubted_by (read_as r) in_doubt → IsKept g new counts layout rooms trips vehicles failed_now in_doubt_now
-    refused_kept layout agrees rooms fits trips trips_are vehicles vehicles_are why is_err failed failed_now in_doubt_now failed_is doubt_is = record {
+    pub refused_kept : (known : Known) → (IsClean g old → IsOpen g old → IsKnownIn known (world_at g old)) → (why : WriteFault) → r ≡ Err why
+        → (failed in_doubt failed_now in_doubt_now : Bool) → failed_now ≡ failed_by (read_as r) failed → in_doubt_now ≡ doubted_by (read_as r) in_doubt → IsKept g new known failed_now in_doubt_now
+    refused_kept known is_known why is_err failed in_doubt failed_now in_doubt_now failed_is doubt_is = record {
       idle = writes.idle;
-      opens = λ clean not_failed no_doubt. absurd (flags_raised why is_err failed failed_now in_doubt_now failed_is doubt_is not_failed no_doubt);
+      opens = λ clean not_failed no_doubt. absurd (flags_raised why is_err failed in_doubt failed_now in_doubt_now failed_is doubt_is not_failed no_doubt);
       knows = λ clean still. subst (λ world. Knows g new world) (sym (ap world_in (left_all why is_err clean still))) (knows_still why is_err clean still);
-      counted = λ clean still what. counted (clean_old clean) (knows (clean_old clean)).is_open what ∙ ap (λ (world : World). count_of world what) (sym (ap world_in (left_all why is_err clean still)));
-      agrees = λ clean still. subst (AgreesWith layout) (sym (ap world_in (left_all why is_err clean still))) (agrees (clean_old clean) (knows (clean_old clean)).is_open);
-      fits = λ clean still. subst (λ (world : World). AreLeft rooms (rows_of world)) (sym (ap world_in (left_all why is_err clean still))) (fits (clean_old clean) (knows (clean_old clean)).is_open);
-      trips_are = λ clean still. subst (λ (world : World). AreTrips trips (rows_of world)) (sym (ap world_in (left_all why is_err clean still))) (trips_are (clean_old clean) (knows (clean_old clean)).is_open);
-      vehicles_are = λ clean still. subst (λ (world : World). AreVehicles vehicles (rows_of world)) (sym (ap world_in (left_all why is_err clean still))) (vehicles_are (clean_old clean) (knows (clean_old clean)).is_open);
+      is_known = λ clean still. subst (IsKnownIn known) (sym (ap world_in (left_all why is_err clean still))) (is_known (clean_old clean) (knows (clean_old clean)).is_open);
     }
 
     -- ---- after a crash
@@ -280,7 +225,7 @@ module _ {S : Type 0} (g : Ghosts S) (law : DatabaseTells) where
 
   -- ---- told of the floor as its callers see it
 
-  module _ (old new : Held S) (counts : Counts) (layout : Option Layout) (rooms : RoomsLeft) (trips : TripsOf) (vehicles : VehiclesOf) (failed in_doubt : Bool) (is : IsKept g old counts layout rooms trips vehicles failed in_doubt) (seen : Keyed S) (view_is : record { held = old; failed = failed } ≡ seen)
+  module _ (old new : Held S) (known : Known) (failed in_doubt : Bool) (is : IsKept g old known failed in_doubt) (seen : Keyed S) (view_is : record { held = old; failed = failed } ≡ seen)
       (at : ℕ) (call : Call) (decision : Decision)
       (knows : IsClean g seen.held → Knows g seen.held (world_at g seen.held))
       (decides : IsClean g seen.held → Decides (world_at g seen.held) at call decision)
@@ -295,24 +240,22 @@ module _ {S : Type 0} (g : Ghosts S) (law : DatabaseTells) where
     decides_old = subst (λ (held : Held S). IsClean g held → Decides (world_at g held) at call decision) (sym held_is) decides
 
     pub kept_refused : (f : Fault) → noted (read_as r) ≡ Err f → (failed_now in_doubt_now : Bool) → failed_now ≡ failed_by (read_as r) failed → in_doubt_now ≡ doubted_by (read_as r) in_doubt
-        → IsKept g new counts layout rooms trips vehicles failed_now in_doubt_now
+        → IsKept g new known failed_now in_doubt_now
     kept_refused f is_err =
         let why = write_failed r f is_err in
-        refused_kept old new counts in_doubt is.counted at call decision knows_old decides_old changes changes_are r writes layout is.agrees rooms is.fits trips is.trips_are vehicles is.vehicles_are why.0 why.1 failed
+        refused_kept old new at call decision knows_old decides_old changes changes_are r writes known is.is_known why.0 why.1 failed in_doubt
 
-    pub kept_written : CountsFollow → AddsBelow → (counts_now : Counts) (kind : Option Counted) → kind ≡ counted_by call decision.answer
-        → ((what : Counted) → (one_more kind what ≢ 0 → count_in counts what < limit_of what) → count_in counts_now what ≡ count_in counts what + one_more kind what)
-        → (layout_now : Option Layout) → layout_now ≡ kept_through changes layout → (rooms_now : RoomsLeft) → LeavesRooms changes rooms rooms_now → (trips_now : TripsOf) → LeavesTrips changes trips trips_now
-        → (vehicles_now : VehiclesOf) → LeavesVehicles changes vehicles vehicles_now → (failed_now in_doubt_now : Bool) → noted (read_as r) ≡ Ok tt → IsKept g new counts_now layout_now rooms_now trips_now vehicles_now failed_now in_doubt_now
-    kept_written follow below counts_now kind kind_is adds layout_now now_is rooms_now leaves trips_now leads vehicles_now stays failed_now in_doubt_now ok =
-        written_kept old new counts in_doubt is.counted at call decision knows_old decides_old changes changes_are r writes follow below counts_now kind kind_is adds layout layout_now is.agrees now_is rooms rooms_now is.fits leaves trips trips_now is.trips_are leads vehicles vehicles_now is.vehicles_are stays failed_now in_doubt_now (write_done r ok)
+    pub kept_written : CountsFollow → AddsBelow → (known_now : Known) (more : Option Counted) → more ≡ counted_by call decision.answer → Follows more changes known known_now
+        → (failed_now in_doubt_now : Bool) → noted (read_as r) ≡ Ok tt → IsKept g new known_now failed_now in_doubt_now
+    kept_written counts below known_now more more_is follows failed_now in_doubt_now ok =
+        written_kept old new at call decision knows_old decides_old changes changes_are r writes counts below known known_now is.is_known more more_is follows failed_now in_doubt_now (write_done r ok)
 
     pub serves_written : noted (read_as r) ≡ Ok tt → IsClean g new → IsServedBy g seen.held new at call decision.answer
     serves_written ok clean =
         subst (λ (held : Held S). IsServedBy g held new at call decision.answer) held_is
-        (served old new counts in_doubt is.counted at call decision knows_old decides_old changes changes_are r writes (write_done r ok) clean)
+        (served old new at call decision knows_old decides_old changes changes_are r writes (write_done r ok) clean)
 
     pub crash_written : Survives (state g seen.held) (state g new) (LeavesCall g seen.held at call)
     crash_written =
         subst (λ (held : Held S). Survives (state g held) (state g new) (LeavesCall g held at call)) held_is
-        (crashes_so old new counts in_doubt is.counted at call decision knows_old decides_old changes changes_are r writes)
+        (crashes_so old new at call decision knows_old decides_old changes changes_are r writes)

@@ -1,26 +1,19 @@
 -- What a desk is to its callers, and what it keeps true of its connection.
-use Rattle.std.specs.Prelude.{◌≡◌, Bool, false, Option, refl}
+use Rattle.std.specs.Prelude.{◌≡◌, Bool, false, refl}
 use Rattle.std.specs.Coded.{Coded, code_by, coded×, coded_bool}
 use Rattle.sqlite_trees.specs.declared.store.Store.{Ghosts}
 use Rattle.sqlite.specs.Effect.{IsDatabase}
 use Rattle.sqlite.specs.Held.{Held, held_code, state}
 use Rattle.sqlite.specs.State.{Survives}
-use Rattle.agv_layout.specs.Layout.{Layout}
 use Rattle.agv_world.specs.Asks.{Facts}
-use Rattle.agv_world.specs.Questions.{count_of}
-use Rattle.agv_world.specs.Rows.{rows_of}
 use Rattle.agv_world.specs.Worlds.{World}
-use Rattle.agv_world.specs.declared.floor.Counted.{Counted}
-use Rattle.agv_store.specs.KeptVehicles.{AreVehicles, VehiclesOf}
-use Rattle.agv_store.specs.KeptTrips.{AreTrips, TripsOf}
-use Rattle.agv_row_reading.specs.WorldAnswers.{AgreesWith, HasWorld}
+use Rattle.agv_row_reading.specs.WorldAnswers.{HasWorld}
 use Rattle.agv_world_reading.specs.WorldIn.{world_in}
 use Rattle.agv_schema.specs.DeskRows.{Placing}
 use Rattle.agv_schema.specs.SchemaNumbers.{desk_seats}
 use Rattle.agv_schema.specs.Connections.{IsClean, IsOpen}
-use Rattle.agv_store.specs.Counts.{count_in}
-use Rattle.agv_store.specs.KeptRooms.{AreLeft, RoomsLeft}
-use Rattle.agv_store.specs.declared.counts.Counts.{Counts}
+use Rattle.agv_store.specs.Known.{IsKnownIn}
+use Rattle.agv_store.specs.declared.known.Known.{Known}
 
 -- ---- a desk, as its callers see it
 
@@ -41,7 +34,7 @@ module _ {S : Type 0} (g : Ghosts S) where
   abbrev pub world_at : Held S → World
   world_at held = world_in (state g held).now
 
-  -- the connection is open and at rest, all is committed, and the desk's tables have the rows of this world, which is lawful
+  -- the connection is open and in no transaction, all is committed, and the desk's tables have the rows of this world, which is lawful
   pub record Knows (held : Held S) (world : World) : Type 0 where
     pub is_open : IsOpen g held
     pub idle : held.in_transaction ≡ false
@@ -52,22 +45,14 @@ module _ {S : Type 0} (g : Ghosts S) where
 
   -- ---- what it keeps true
 
-  pub record IsKept (held : Held S) (counts : Counts) (layout : Option Layout) (rooms : RoomsLeft) (trips : TripsOf) (vehicles : VehiclesOf) (failed in_doubt : Bool) : Type 0 where
+  pub record IsKept (held : Held S) (known : Known) (failed in_doubt : Bool) : Type 0 where
     pub idle : held.in_transaction ≡ false
     -- it is open, unless a fault was noted that may have shut it
     pub opens : IsClean g held → failed ≡ false → in_doubt ≡ false → IsOpen g held
     -- while it is open it knows a world
     pub knows : IsClean g held → IsOpen g held → Knows held (world_at held)
-    -- and the counts are those of this world
-    pub counted : IsClean g held → IsOpen g held → (what : Counted) → count_in counts what ≡ count_of (world_at held) what
-    -- and a layout that is kept is this world's
-    pub agrees : IsClean g held → IsOpen g held → AgreesWith layout (world_at held)
-    -- and so much room as is kept is left at its stations
-    pub fits : IsClean g held → IsOpen g held → AreLeft rooms (rows_of (world_at held))
-    -- and they have the rows of each trip that is kept
-    pub trips_are : IsClean g held → IsOpen g held → AreTrips trips (rows_of (world_at held))
-    -- and a row that is kept is that of its vehicle
-    pub vehicles_are : IsClean g held → IsOpen g held → AreVehicles vehicles (rows_of (world_at held))
+    -- and what is known beside the tables is true of this world
+    pub is_known : IsClean g held → IsOpen g held → IsKnownIn known (world_at held)
 
   -- ---- it as a floor
 

@@ -1,7 +1,7 @@
--- What is left of a layout that is kept beside the connection, once rows were written. No public clause cites this.
-use Rattle.std.specs.Prelude.{Bool, true, false, List, Option, None, if◌then◌else◌}
-use Rattle.std.specs.List.{list_any}
+-- The layout that is kept beside a connection, and which rows are of a layout. No public clause cites this.
+use Rattle.std.specs.Prelude.{◌≡◌, Bool, true, false, Option, None, Some}
 use Rattle.agv_layout.specs.Layout.{Layout}
+use Rattle.agv_world.specs.Rows.{Rows}
 use Rattle.agv_world.specs.declared.change.Change.{Change}
 use Rattle.agv_world.specs.declared.change.Change.TheVariants as row
 
@@ -18,6 +18,11 @@ is_of_layout (row.Job id job) = false
 is_of_layout (row.Hold thing key) = false
 is_of_layout (row.Used key) = false
 
--- none is kept where one of the changes writes a row of the layout
-abbrev pub kept_through : List Change → Option Layout → Option Layout
-kept_through changes layout = if list_any is_of_layout changes then None else layout
+-- the layout of these rows
+abbrev pub laid_in : Rows → Layout
+laid_in rows = record { nodes = rows.nodes; edges = rows.edges; stations = rows.stations }
+
+-- a layout that is kept is the one of these rows
+abbrev pub IsLayoutOf : Option Layout → Rows → Type 0
+IsLayoutOf None rows = Unit {0}
+IsLayoutOf (Some layout) rows = layout ≡ laid_in rows

@@ -17,8 +17,8 @@ abbrev pub OpenTrips : Type 0
 OpenTrips = tree.BTreeMap (List ℕ) Trip
 
 -- vehicles
-abbrev pub AtRest : Type 0
-AtRest = trees.BTreeSet VehicleKey
+abbrev pub Without : Type 0
+Without = trees.BTreeSet VehicleKey
 
 -- it is a trip of the order, and the rows have it
 abbrev pub IsTripOf : Rows → List ℕ → Trip → Type 0
@@ -29,12 +29,12 @@ abbrev pub AreOpen : OpenTrips → Rows → Type 0
 AreOpen trips rows = (order : List ℕ) (trip : Trip) → tree.get name_cmp trips order ≡ Some trip → IsTripOf rows order trip
 
 -- no row of a trip is one of the vehicle's
-abbrev pub HasNone : Rows → VehicleKey → Type 0
-HasNone rows key = (order : List ℕ) (row : TripRow) → finite.get rows.trips order ≡ Some row → row.vehicle ≡ key → ⊥
+abbrev pub HasNoTrip : Rows → VehicleKey → Type 0
+HasNoTrip rows key = (order : List ℕ) (row : TripRow) → finite.get rows.trips order ≡ Some row → row.vehicle ≡ key → ⊥
 
 -- so it is with each of these vehicles
-abbrev pub AreAtRest : AtRest → Rows → Type 0
-AreAtRest vehicles rows = (key : VehicleKey) → trees.contains key_cmp vehicles key ≡ true → HasNone rows key
+abbrev pub HaveNoTrip : Without → Rows → Type 0
+HaveNoTrip vehicles rows = (key : VehicleKey) → trees.contains key_cmp vehicles key ≡ true → HasNoTrip rows key
 
 -- trips of orders, and vehicles that have none
 abbrev pub TripsOf : Type 0
@@ -42,7 +42,7 @@ TripsOf = KeptTrips
 
 -- the rows have these trips, and none of these vehicles
 abbrev pub AreTrips : TripsOf → Rows → Type 0
-AreTrips trips rows = AreOpen trips.by_order rows × AreAtRest trips.at_rest rows
+AreTrips trips rows = AreOpen trips.by_order rows × HaveNoTrip trips.without rows
 
 -- the trip with what this row says
 abbrev pub with_row : Trip → TripRow → Trip

@@ -5,6 +5,7 @@ pub mod KeptVehicles
 pub mod KeptLayouts
 pub mod KeptRooms
 pub mod KeptTrips
+pub mod Known
 pub mod Migration
 pub mod OpenFaults
 pub mod Opening

@@ -1,23 +1,19 @@
 -- What the move of a database from the first schema to the second gives.
-use Rattle.std.specs.Prelude.{◌≡◌, ◌⊎◌, Option, Result, IfErr, IfOk}
+use Rattle.std.specs.Prelude.{◌≡◌, ◌⊎◌, Result, IfErr, IfOk}
 use Rattle.sqlite_trees.specs.Tree.{Trees}
 use Rattle.sqlite_trees.specs.declared.store.Store.{Ghosts}
 use Rattle.sqlite.specs.Effect.{Database}
 use Rattle.sqlite.specs.Held.{Held, state}
-use Rattle.agv_layout.specs.Layout.{Layout}
 use Rattle.agv_world.specs.Kept.{Keeps}
-use Rattle.agv_world.specs.Questions.{count_of}
 use Rattle.agv_world.specs.Worlds.{World}
-use Rattle.agv_world.specs.declared.floor.Counted.{Counted}
 use Rattle.agv_world.specs.declared.world.World.{World as Tables}
 use Rattle.agv_first_schema.specs.FirstRows.{HasFirstWorld, HasNoFirstWorld}
 use Rattle.agv_first_schema.specs.Moved.{CanBeAdded, MovesWorld}
-use Rattle.agv_row_reading.specs.WorldAnswers.{AgreesWith}
 use Rattle.agv_schema.specs.DeskRows.{Placing}
-use Rattle.agv_schema.specs.Connections.{IsClean, IsOpen}
-use Rattle.agv_store.specs.Counts.{count_in}
+use Rattle.agv_schema.specs.Connections.{HasStorageCause, IsClean, IsOpen}
 use Rattle.agv_store.specs.Floors.{IsAsked, Keyed, Knows}
-use Rattle.agv_store.specs.declared.counts.Counts.{Counts}
+use Rattle.agv_store.specs.Known.{IsKnownIn}
+use Rattle.agv_store.specs.declared.known.Known.{Known}
 use Rattle.agv_store.specs.declared.open_fault.OpenFault.{OpenFault}
 use Rattle.agv_store.specs.declared.open_fault.OpenFault.TheVariants as fault
 
@@ -38,6 +34,11 @@ pub record LeavesMigrated (old : Database) (trees : Trees) : Type 0 where
   pub moves : MovesWorld had.first had.world old found
   pub trees_are : trees ≡ found.trees
 
+-- the database can be moved: it has the first schema's rows of a lawful world, and the three tables can be made beside what it has
+pub record CanBeMigrated (db : Database) : Type 0 where
+  pub had : FirstFound db
+  pub possible : CanBeAdded db.schema
+
 module _ {S : Type 0} (g : Ghosts S) where
   -- the database had the first schema's rows of a lawful world, it has the second schema's rows of the same world, and the desk knows that world
   pub record Migrates (old : Held S) (desk : Keyed S) : Type 0 where
@@ -46,9 +47,10 @@ module _ {S : Type 0} (g : Ghosts S) where
     pub moves : MovesWorld had.first had.world (state g old).now (state g desk.held).now
     pub knows : Knows g desk.held had.world
 
-  -- how it ends that the first schema's world is looked for in a database: with its tables, its counts and its layout; as damaged only where there is none
-  pub record FindsFirstDesk (old new : Held S) (result : Result (Tables × Counts × Option Layout) OpenFault) : Type 0 where
+  -- how it ends that the first schema's world is looked for in a database: with its tables and what is known of it; as damaged only where there is none
+  pub record FindsFirstDesk (old new : Held S) (result : Result (Tables × Known) OpenFault) : Type 0 where
     pub found : IsClean g new
-        → IfOk result (λ desk. IsOpen g old × IsOpen g new × ((at : FirstFound (state g old).now) × Keeps desk.0 at.world × ((what : Counted) → count_in desk.1 what ≡ count_of at.world what) × AgreesWith desk.2 at.world))
+        → IfOk result (λ desk. IsOpen g old × IsOpen g new × ((at : FirstFound (state g old).now) × Keeps desk.0 at.world × IsKnownIn desk.1 at.world))
     pub damaged : IsClean g new → IfErr result (λ why. why ≡ fault.Damaged → HasNoFirstWorld (state g old).now)
+    pub caused : IsClean g new → IfErr result (λ why. why ≡ fault.Storage → HasStorageCause g old new)
     pub asked : IsAsked g old new

@@ -1,20 +1,18 @@
 -- What a desk is opened by: made in a database, or adopted from one.
-use Rattle.std.specs.Prelude.{◌≡◌, false, Option, Result, Ok, Err, IfErr, IfOk}
+use Rattle.std.specs.Prelude.{◌≡◌, false, Result, Ok, Err, IfErr, IfOk}
 use Rattle.sqlite_trees.specs.declared.store.Store.{Ghosts}
 use Rattle.sqlite_schema.specs.declared.schema.Schema.{Schema}
 use Rattle.sqlite.specs.Held.{Held, state}
-use Rattle.agv_layout.specs.Layout.{Layout}
-use Rattle.agv_world.specs.Questions.{count_of}
-use Rattle.agv_world.specs.Worlds.{empty_world}
-use Rattle.agv_world.specs.declared.floor.Counted.{Counted}
-use Rattle.agv_row_reading.specs.WorldAnswers.{AgreesWith, HasNoWorld}
+use Rattle.agv_world.specs.Worlds.{World, empty_world}
+use Rattle.agv_row_reading.specs.WorldAnswers.{HasNoWorld, HasWorld}
 use Rattle.agv_creation.specs.DeskSchema.{is_name_taken}
 use Rattle.agv_creation.specs.DeskTables.{MakesDesk}
 use Rattle.agv_creation.specs.NewDesk.{LeavesRoom}
-use Rattle.agv_schema.specs.Connections.{IsClean, IsOpen}
-use Rattle.agv_store.specs.Counts.{count_in}
+use Rattle.agv_schema.specs.Connections.{HasStorageCause, IsClean, IsOpen}
+use Rattle.agv_schema.specs.DeskRows.{Placing}
 use Rattle.agv_store.specs.Floors.{IsAsked, Keyed, Knows, world_at}
-use Rattle.agv_store.specs.declared.counts.Counts.{Counts}
+use Rattle.agv_store.specs.Known.{IsKnownIn}
+use Rattle.agv_store.specs.declared.known.Known.{Known}
 use Rattle.agv_store.specs.declared.open_fault.OpenFault.{OpenFault}
 use Rattle.agv_store.specs.declared.open_fault.OpenFault.TheVariants as fault
 
@@ -34,6 +32,13 @@ IsDamaged (Err (held, fault.Damaged)) = Unit {0}
 IsDamaged (Err (held, fault.Memory)) = ⊥
 IsDamaged (Err (held, fault.Storage)) = ⊥
 
+-- it failed for the store
+abbrev pub IsStorage : {S : Type 0} → Opening S → Type 0
+IsStorage (Ok desk) = ⊥
+IsStorage (Err (held, fault.Damaged)) = ⊥
+IsStorage (Err (held, fault.Memory)) = ⊥
+IsStorage (Err (held, fault.Storage)) = Unit {0}
+
 -- the desk's tables can be made beside what a database has: none of their names is taken, no key refers to one, and no two tables have one tree
 abbrev pub CanBeMade : Schema → Type 0
 CanBeMade schema = (is_name_taken schema ≡ false) × LeavesRoom schema
@@ -51,8 +56,13 @@ module _ {S : Type 0} (g : Ghosts S) where
     pub same : (state g desk.held).now ≡ (state g old).now
     pub knows : Knows g desk.held (world_at g desk.held)
 
-  -- how it ends that a desk is looked for in a database: with the counts and the layout of the lawful world whose rows its tables have; as damaged only where they have those of none
-  pub record Finds (old new : Held S) (result : Result (Counts × Option Layout) OpenFault) : Type 0 where
-    pub found : IsClean g new → IfOk result (λ desk. IsOpen g old × Knows g new (world_at g new) × ((what : Counted) → count_in desk.0 what ≡ count_of (world_at g new) what) × AgreesWith desk.1 (world_at g new))
+  -- where the database has the rows of a lawful world, a fault of the store has a cause
+  abbrev pub HasCauseOverWorld : Held S → Held S → Type 0
+  HasCauseOverWorld old new = (at : Placing) (world : World) → HasWorld at (state g old).now world → HasStorageCause g old new
+
+  -- how it ends that a desk is looked for in a database: with what is known of the lawful world whose rows its tables have; as damaged only where they have those of none
+  pub record Finds (old new : Held S) (result : Result Known OpenFault) : Type 0 where
+    pub found : IsClean g new → IfOk result (λ known. IsOpen g old × Knows g new (world_at g new) × IsKnownIn known (world_at g new))
     pub damaged : IsClean g new → IfErr result (λ why. why ≡ fault.Damaged → HasNoWorld (state g old).now)
+    pub caused : IsClean g new → IfErr result (λ why. why ≡ fault.Storage → HasCauseOverWorld old new)
     pub asked : IsAsked g old new

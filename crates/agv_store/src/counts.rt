@@ -63,10 +63,10 @@ impl Counts {
     }
 
     // One more of this kind, if any: below its limit.
-    pub(crate) fn add(&mut self, kind: Option<Counted>)
-        ensures { (what : Counted) → (one_more kind what ≢ 0 → count_in self.old what < limit_of what) → count_in self.new what ≡ count_in self.old what + one_more kind what }
+    pub(crate) fn follow(&mut self, more: Option<Counted>)
+        ensures { (what : Counted) → (one_more more what ≢ 0 → count_in self.old what < limit_of what) → count_in self.new what ≡ count_in self.old what + one_more more what }
     {
-        match kind {
+        match more {
             None => {}
             Some(Counted::Vehicles) => self.vehicles = self.vehicles.saturating_add(1),
             Some(Counted::Loads) => self.loads = self.loads.saturating_add(1),

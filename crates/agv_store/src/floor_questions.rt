@@ -62,7 +62,7 @@ impl<S: Alter + Drop> Floor for KeyedFloor<S> {
             self.settle()?;
             return Ok(Some(kept));
         }
-        if self.rests(&key) {
+        if self.has_no_trip(&key) {
             self.settle()?;
             return Ok(None);
         }
@@ -70,13 +70,13 @@ impl<S: Alter + Drop> Floor for KeyedFloor<S> {
         if let Some(trip) = &trip {
             let _kept = self.keep_trip(&key, trip);
         } else {
-            let _kept = self.keep_rest(&key);
+            let _kept = self.keep_no_trip(&key);
         }
         Ok(trip)
     }
 
     fn has_trip(&mut self, key: VehicleKey) -> Result<bool, Fault> {
-        if self.rests(&key) {
+        if self.has_no_trip(&key) {
             self.settle()?;
             return Ok(false);
         }
@@ -94,7 +94,7 @@ impl<S: Alter + Drop> Floor for KeyedFloor<S> {
     }
 
     fn room(&mut self, station: Name) -> Result<Option<u32>, Fault> {
-        let asked = query_room(&mut self.conn, &self.layout, &station);
+        let asked = query_room(&mut self.conn, &self.known.layout, &station);
         note(&mut self.failed, &mut self.in_doubt, asked)
     }
 
@@ -174,6 +174,6 @@ impl<S: Alter + Drop> Floor for KeyedFloor<S> {
 
     fn count(&mut self, counted: Counted) -> Result<usize, Fault> {
         self.settle()?;
-        Ok(self.counts.get(counted))
+        Ok(self.known.counts.get(counted))
     }
 }

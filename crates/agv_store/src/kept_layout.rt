@@ -1,15 +1,16 @@
 //! The layout that is kept beside the connection, so that it is read once. It is set once for good, so what was read stays
-//! true; where a write has rows of it, it is kept no more.
+//! true; where a row of it is written, it is kept no more.
 ghost use Rattle.std.specs.Prelude.{◌≡◌, true, Some, IfOk, IfSome};
 ghost use Rattle.std.specs.FinMap as map;
 ghost use Rattle.std.specs.FinSet as set;
-ghost use Rattle.std.specs.List.{list_any};
 ghost use Rattle.agv_world.specs.Asks.{Asks};
+ghost use Rattle.agv_world.specs.Changes.{change};
 ghost use Rattle.agv_world.specs.Questions.{layout_set};
+ghost use Rattle.agv_world.specs.Rows.{Rows};
 ghost use Rattle.agv_world.specs.Told.{world_of};
 ghost use Rattle.agv_schema.specs.Connections.{IsClean, IsOpen};
 ghost use Rattle.agv_store.specs.Floors.{facts_of, world_at};
-ghost use Rattle.agv_store.specs.KeptLayouts.{is_of_layout, kept_through};
+ghost use Rattle.agv_store.specs.KeptLayouts.{IsLayoutOf, is_of_layout};
 
 use crate::flags::note;
 use crate::keyed_floor::KeyedFloor;
@@ -27,14 +28,14 @@ impl<S: Alter + Drop> KeyedFloor<S> {
     pub(crate) fn keeps_node(&self, id: Name) -> bool
         ensures { result ≡ true → IsClean S.Store self.now.held → IsOpen S.Store self.now.held → set.contains (world_at S.Store self.now.held).layout.nodes id ≡ true }
     {
-        knows_node(&self.layout, id)
+        knows_node(&self.known.layout, id)
     }
 
     // Where a station is, and how many loads fit there, where a layout is kept that has it.
     pub(crate) fn kept_station(&self, id: Name) -> Option<StationSite>
         ensures { IfSome result (λ site. IsClean S.Store self.now.held → IsOpen S.Store self.now.held → map.get (world_at S.Store self.now.held).layout.stations id ≡ Some site) }
     {
-        known_station(&self.layout, id)
+        known_station(&self.known.layout, id)
     }
 
     // A copy of the layout that is kept.
@@ -42,7 +43,7 @@ impl<S: Alter + Drop> KeyedFloor<S> {
         ensures { IfOk result (λ kept. IfSome kept (λ layout. IsClean S.Store self.now.held → IsOpen S.Store self.now.held → Some layout ≡ layout_set (world_at S.Store self.now.held))) }
     {
         gives_itself();
-        match &self.layout {
+        match &self.known.layout {
             None => Ok(None),
             Some(layout) => {
                 layout.layout_law();
@@ -68,7 +69,7 @@ impl<S: Alter + Drop> KeyedFloor<S> {
         gives_itself();
         needs_a_node();
         let copy = copy_of(layout)?;
-        self.layout = copy;
+        self.known.layout = copy;
         Ok(())
     }
 }
@@ -84,20 +85,13 @@ pub(crate) fn layout_told(alloc: Global, tables: &World) -> Result<Option<Layout
     Ok(layout)
 }
 
-// A layout is kept no more where one of the changes writes a row of it.
-pub(crate) fn keep_through(layout: &mut Option<Layout>, changes: &[Change])
-    ensures { layout.new ≡ kept_through changes.now layout.old }
+// The layout that is kept once the change was made: none where it writes a row of the layout.
+pub(crate) fn follow(layout: &mut Option<Layout>, one: &Change)
+    ensures { (rows : Rows) → IsLayoutOf layout.old rows → IsLayoutOf layout.new (change rows one.now) }
 {
-    if have_layout(changes) {
+    if is_of_layout(one) {
         *layout = None;
     }
-}
-
-// Whether one of the changes writes a row of the layout.
-fn have_layout(changes: &[Change]) -> bool
-    ensures { result ≡ list_any is_of_layout changes.now }
-{
-    changes.iter().any(|change| is_of_layout(change))
 }
 
 // Whether the change writes a row of the layout.

@@ -2,7 +2,7 @@
 //! jobs to it aren't counted for each call. What was counted is lowered by one for each written row that puts a load there
 //! or is of a live job to there, whatever it was before; where nothing is left of it, they are counted anew.
 ghost use Rattle.std.specs.Prelude.{◌≡◌, ◌≤◌, true, Some};
-ghost use Rattle.agv_world.specs.Changes.{change, changed};
+ghost use Rattle.agv_world.specs.Changes.{change};
 ghost use Rattle.agv_world.specs.Questions.{has_room_at, room_at};
 ghost use Rattle.agv_world.specs.Rows.{Rows};
 ghost use Rattle.agv_schema.specs.Connections.{IsClean, IsOpen};
@@ -14,7 +14,6 @@ use crate::keyed_floor::KeyedFloor;
 use agv_desk::station_in;
 use agv_header::{Memory, Name};
 use agv_world::Change;
-use agv_world::change_laws::changes_in_turn;
 use sqlite::Alter;
 use std::alloc::Global;
 use std::collections::BTreeMap;
@@ -27,7 +26,7 @@ impl<S: Alter + Drop> KeyedFloor<S> {
     pub(crate) fn keeps_room(&self, station: Name) -> bool
         ensures { result ≡ true → IsClean S.Store self.now.held → IsOpen S.Store self.now.held → has_room_at (world_at S.Store self.now.held) station ≡ Some true }
     {
-        is_some_left(&self.rooms, station)
+        is_some_left(&self.known.rooms, station)
     }
 
     // The room that was counted at a station is kept.
@@ -36,13 +35,13 @@ impl<S: Alter + Drop> KeyedFloor<S> {
         requires counted { IsClean S.Store self.old.held → IsOpen S.Store self.old.held → Some room ≡ room_at (world_at S.Store self.old.held) station }
         ensures { self.new ≡ self.old }
     {
-        self.rooms.insert(station, room)?;
+        self.known.rooms.insert(station, room)?;
         Ok(())
     }
 }
 
 // No station.
-pub(crate) fn no_rooms(alloc: Global) -> RoomsLeft
+pub(crate) fn none(alloc: Global) -> RoomsLeft
     ensures { (rows : Rows) → AreLeft result rows }
 {
     BTreeMap::new(alloc)
@@ -58,18 +57,8 @@ fn is_some_left(rooms: &RoomsLeft, station: Name) -> bool
     }
 }
 
-// What is left of the rooms once the changes were made.
-pub(crate) fn lower_through(rooms: &mut RoomsLeft, changes: &[Change])
-    ensures { (rows : Rows) → AreLeft rooms.old rows → AreLeft rooms.new (changed changes.now rows) }
-{
-    changes_in_turn();
-    for change in changes {
-        lower(rooms, change);
-    }
-}
-
 // What is left of the rooms once the change was made; none is kept where it is one of the layout.
-fn lower(rooms: &mut RoomsLeft, one: &Change)
+pub(crate) fn follow(rooms: &mut RoomsLeft, one: &Change)
     ensures { (rows : Rows) → AreLeft rooms.old rows → AreLeft rooms.new (change rows one.now) }
 {
     if is_of_layout(one) {

@@ -2,16 +2,16 @@
 //! anew, and the vehicles that are known to have none. Where a write has the row of a trip that is kept, this has what the row
 //! says; where it takes the row away, or has one of the order's edges or of the layout, the trip is kept no more. A vehicle
 //! whose trip is written is no longer one of those without.
-ghost use Rattle.std.specs.Prelude.{◌≡◌, IfOk, IfSome, IsTrue, None, OnOk, Some, is_some};
+ghost use Rattle.std.specs.Prelude.{◌≡◌, IfOk, IfSome, IsTrue, None, Some, is_some};
 ghost use Rattle.agv_world.specs.Asks.{Asks};
-ghost use Rattle.agv_world.specs.Changes.{change, changed};
+ghost use Rattle.agv_world.specs.Changes.{change};
 ghost use Rattle.agv_world.specs.Questions.{trip_of};
 ghost use Rattle.agv_world.specs.Rows.{Rows};
 ghost use Rattle.agv_world.specs.Spread.{edit};
 ghost use Rattle.agv_rows.specs.DecodedTrips.{HasTripRows};
 ghost use Rattle.agv_schema.specs.Connections.{IsClean, IsOpen};
 ghost use Rattle.agv_store.specs.Floors.{facts_of, world_at};
-ghost use Rattle.agv_store.specs.KeptTrips.{AreAtRest, AreOpen, AreTrips, HasNone, IsTripOf, with_row};
+ghost use Rattle.agv_store.specs.KeptTrips.{AreOpen, AreTrips, HasNoTrip, HaveNoTrip, IsTripOf, with_row};
 
 use crate::flags::note;
 use crate::kept_layout::is_of_layout;
@@ -20,7 +20,6 @@ use agv_header::{Memory, Name, VehicleKey};
 use agv_order::Trip;
 use agv_queries::trip_queries::{query_has_trip, query_trip};
 use agv_rows::trip_laws::rows_have_trips;
-use agv_world::change_laws::changes_in_turn;
 use agv_world::{ByVehicle, Change, Fault, TripRow};
 use sqlite::Alter;
 use std::alloc::Global;
@@ -34,11 +33,11 @@ type OpenTrips = BTreeMap<Name, Trip>;
 pub(crate) struct KeptTrips {
     /// The open trips of orders.
     pub(crate) by_order: OpenTrips,
-    /// Vehicles, each with the order of its trip that was kept last. Nothing rests on it: a trip that is found so is taken
+    /// Vehicles, each with the order of its trip that was kept last. Nothing relies on it: a trip that is found so is taken
     /// where it names the vehicle.
     pub(crate) order_of: ByVehicle<Name>,
     /// Vehicles without an open trip.
-    pub(crate) at_rest: BTreeSet<VehicleKey>,
+    pub(crate) without: BTreeSet<VehicleKey>,
 }
 
 impl<S: Alter + Drop> KeyedFloor<S> {
@@ -48,26 +47,26 @@ impl<S: Alter + Drop> KeyedFloor<S> {
     {
         rows_have_trips();
         self.knows();
-        let Some(order) = self.trips.order_of.get(*key) else {
+        let Some(order) = self.known.trips.order_of.get(*key) else {
             return Ok(None);
         };
-        trip_of_vehicle(&self.trips.by_order, *order, key)
+        trip_of_vehicle(&self.known.trips.by_order, *order, key)
     }
 
     // Whether the vehicle is known to have no open trip.
-    pub(crate) fn rests(&self, key: &VehicleKey) -> bool
+    pub(crate) fn has_no_trip(&self, key: &VehicleKey) -> bool
         ensures { IsTrue result → IsClean S.Store self.now.held → IsOpen S.Store self.now.held → trip_of (world_at S.Store self.now.held) key.now ≡ None }
     {
         rows_have_trips();
         self.knows();
-        self.trips.at_rest.contains(key)
+        self.known.trips.without.contains(key)
     }
 
     // The open trip of a vehicle, asked of the tables.
     pub(crate) fn trip_asked(&mut self, key: &VehicleKey) -> Result<Option<Trip>, Fault>
         ensures { Asks (facts_of S.Store) self.old self.new result (λ world trip. trip ≡ trip_of world key.now) }
     {
-        let asked = query_trip(self.alloc, &mut self.conn, &self.layout, key);
+        let asked = query_trip(self.alloc, &mut self.conn, &self.known.layout, key);
         note(&mut self.failed, &mut self.in_doubt, asked)
     }
 
@@ -86,19 +85,19 @@ impl<S: Alter + Drop> KeyedFloor<S> {
     {
         rows_have_trips();
         let copy = trip.copy()?;
-        put_trip(&mut self.trips, *key, copy)
+        put_trip(&mut self.known.trips, *key, copy)
     }
 
     // That a vehicle has no open trip is known from now on, where its row is kept.
-    pub(crate) fn keep_rest(&mut self, key: &VehicleKey) -> Result<(), Memory>
+    pub(crate) fn keep_no_trip(&mut self, key: &VehicleKey) -> Result<(), Memory>
         requires { IsClean S.Store self.old.held → IsOpen S.Store self.old.held → trip_of (world_at S.Store self.old.held) key.now ≡ None }
         ensures { self.new ≡ self.old }
     {
         rows_have_trips();
-        if self.vehicles.get(*key).is_some() {
-            put_rest(&mut self.trips, *key)?;
+        if self.known.vehicles.get(*key).is_none() {
+            return Ok(());
         }
-        Ok(())
+        put_no_trip(&mut self.known.trips, *key)
     }
 }
 
@@ -112,21 +111,21 @@ fn put_trip(trips: &mut KeptTrips, key: VehicleKey, trip: Trip) -> Result<(), Me
 }
 
 // The vehicle is one of those without an open trip.
-fn put_rest(trips: &mut KeptTrips, key: VehicleKey) -> Result<(), Memory>
-    ensures { (rows : Rows) → HasNone rows key → AreTrips trips.old rows → AreTrips trips.new rows }
+fn put_no_trip(trips: &mut KeptTrips, key: VehicleKey) -> Result<(), Memory>
+    ensures { (rows : Rows) → HasNoTrip rows key → AreTrips trips.old rows → AreTrips trips.new rows }
 {
-    trips.at_rest.insert(key)?;
+    trips.without.insert(key)?;
     Ok(())
 }
 
 // None is kept.
-pub(crate) fn no_trips(alloc: Global) -> KeptTrips
+pub(crate) fn none(alloc: Global) -> KeptTrips
     ensures { (rows : Rows) → AreTrips result rows }
 {
     KeptTrips {
         by_order: BTreeMap::new(alloc),
         order_of: ByVehicle::new(alloc),
-        at_rest: BTreeSet::new(alloc),
+        without: BTreeSet::new(alloc),
     }
 }
 
@@ -146,27 +145,17 @@ fn trip_of_vehicle(trips: &OpenTrips, order: Name, key: &VehicleKey) -> Result<O
     }
 }
 
-// What is known of open trips once the changes were made.
-pub(crate) fn follow_through(trips: &mut KeptTrips, changes: &[Change])
-    ensures { (rows : Rows) → AreTrips trips.old rows → AreTrips trips.new (changed changes.now rows) }
+// What is known of open trips once the change was made.
+pub(crate) fn follow(trips: &mut KeptTrips, one: &Change)
+    ensures { (rows : Rows) → AreTrips trips.old rows → AreTrips trips.new (change rows one.now) }
 {
-    follow_each(&mut trips.by_order, changes);
-    wake_each(&mut trips.at_rest, changes);
-}
-
-// The trips that are kept once the changes were made.
-fn follow_each(trips: &mut OpenTrips, changes: &[Change])
-    ensures { (rows : Rows) → AreOpen trips.old rows → AreOpen trips.new (changed changes.now rows) }
-{
-    changes_in_turn();
-    for change in changes {
-        follow(trips, change);
-    }
+    follow_open(&mut trips.by_order, one);
+    follow_without(&mut trips.without, one);
 }
 
 // The trips that are kept once the change was made: none where it is one of the layout, that of an order no more where it is
 // one of the order's edges, and as its row says where it is that.
-fn follow(trips: &mut OpenTrips, one: &Change)
+fn follow_open(trips: &mut OpenTrips, one: &Change)
     ensures { (rows : Rows) → AreOpen trips.old rows → AreOpen trips.new (change rows one.now) }
 {
     if is_of_layout(one) {
@@ -216,31 +205,21 @@ fn with_row(trip: Trip, row: &TripRow) -> Result<Trip, Memory>
     })
 }
 
-// The vehicles that are known to have no open trip once the changes were made.
-fn wake_each(at_rest: &mut BTreeSet<VehicleKey>, changes: &[Change])
-    ensures { (rows : Rows) → AreAtRest at_rest.old rows → AreAtRest at_rest.new (changed changes.now rows) }
-{
-    changes_in_turn();
-    for change in changes {
-        wake(at_rest, change);
-    }
-}
-
-// The vehicles that are known to have no open trip once the change was made: without the one whose trip is written.
-fn wake(at_rest: &mut BTreeSet<VehicleKey>, one: &Change)
-    ensures { (rows : Rows) → AreAtRest at_rest.old rows → AreAtRest at_rest.new (change rows one.now) }
+// The vehicles that are known to have no open trip once the change was made: but for the one whose trip is written.
+fn follow_without(without: &mut BTreeSet<VehicleKey>, one: &Change)
+    ensures { (rows : Rows) → HaveNoTrip without.old rows → HaveNoTrip without.new (change rows one.now) }
 {
     if let Change::Trip(order, row) = one {
-        wake_vehicle(at_rest, *order, row);
+        take_out(without, *order, row);
     }
 }
 
 // The vehicles that are known to have no open trip once the trip of this order is as this row says.
-fn wake_vehicle(at_rest: &mut BTreeSet<VehicleKey>, _order: Name, row: &Option<TripRow>)
-    ensures { (rows : Rows) → AreAtRest at_rest.old rows → AreAtRest at_rest.new (record rows { trips = edit rows.trips _order row.now }) }
+fn take_out(without: &mut BTreeSet<VehicleKey>, _order: Name, row: &Option<TripRow>)
+    ensures { (rows : Rows) → HaveNoTrip without.old rows → HaveNoTrip without.new (record rows { trips = edit rows.trips _order row.now }) }
 {
     let Some(row) = row else {
         return;
     };
-    at_rest.remove(&row.vehicle);
+    without.remove(&row.vehicle);
 }

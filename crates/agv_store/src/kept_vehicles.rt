@@ -3,7 +3,7 @@
 ghost use Rattle.std.specs.Prelude.{◌≡◌, IfSome, Some};
 ghost use Rattle.std.specs.FinMap as map;
 ghost use Rattle.agv_world.specs.Asks.{Asks};
-ghost use Rattle.agv_world.specs.Changes.{change, changed};
+ghost use Rattle.agv_world.specs.Changes.{change};
 ghost use Rattle.agv_world.specs.Questions.{row_of};
 ghost use Rattle.agv_world.specs.Rows.{Rows};
 ghost use Rattle.agv_schema.specs.Connections.{IsClean, IsOpen};
@@ -15,7 +15,6 @@ use crate::keyed_floor::KeyedFloor;
 use agv_header::{Memory, VehicleKey};
 use agv_queries::key_queries::query_vehicle;
 use agv_rows::trip_laws::rows_have_vehicles;
-use agv_world::change_laws::changes_in_turn;
 use agv_world::{ByVehicle, Change, Fault, VehicleRow};
 use sqlite::Alter;
 use std::alloc::Global;
@@ -29,7 +28,7 @@ impl<S: Alter + Drop> KeyedFloor<S> {
         ensures { IfSome result (λ vehicle. IsClean S.Store self.now.held → IsOpen S.Store self.now.held → Some vehicle ≡ row_of (world_at S.Store self.now.held) key.now) }
     {
         rows_have_vehicles();
-        kept_row(&self.vehicles, key)
+        kept_row(&self.known.vehicles, key)
     }
 
     // The row of a vehicle, asked of the tables.
@@ -50,12 +49,12 @@ impl<S: Alter + Drop> KeyedFloor<S> {
         ensures { self.new ≡ self.old }
     {
         rows_have_vehicles();
-        self.vehicles.insert(*key, *vehicle)
+        self.known.vehicles.insert(*key, *vehicle)
     }
 }
 
 // None is kept.
-pub(crate) fn no_vehicles(alloc: Global) -> KeptVehicles
+pub(crate) fn none(alloc: Global) -> KeptVehicles
     ensures { (rows : Rows) → AreVehicles result rows }
 {
     ByVehicle::new(alloc)
@@ -71,18 +70,8 @@ fn kept_row(vehicles: &KeptVehicles, key: &VehicleKey) -> Option<VehicleRow>
     }
 }
 
-// The rows that are kept once the changes were made.
-pub(crate) fn keep_written_through(vehicles: &mut KeptVehicles, changes: &[Change])
-    ensures { (rows : Rows) → AreVehicles vehicles.old rows → AreVehicles vehicles.new (changed changes.now rows) }
-{
-    changes_in_turn();
-    for change in changes {
-        keep_written(vehicles, change);
-    }
-}
-
 // The rows that are kept once the change was made.
-fn keep_written(vehicles: &mut KeptVehicles, one: &Change)
+pub(crate) fn follow(vehicles: &mut KeptVehicles, one: &Change)
     ensures { (rows : Rows) → AreVehicles vehicles.old rows → AreVehicles vehicles.new (change rows one.now) }
 {
     if let Change::Vehicle(key, vehicle) = one {

@@ -1,17 +1,13 @@
 //! A connection to the desk's tables, with what is known beside it.
-ghost use Rattle.std.specs.Prelude.{◌≡◌, true, Err, OnOk};
+ghost use Rattle.std.specs.Prelude.{◌≡◌, false, true, Err, OnOk};
 ghost use Rattle.agv_world.specs.Asks.{Asks};
 ghost use Rattle.agv_world.specs.declared.fault.Fault.TheVariants as fault;
 ghost use Rattle.agv_schema.specs.Connections.{IsClean, IsOpen};
 ghost use Rattle.agv_store.specs.Flags.{EndsAs};
-ghost use Rattle.agv_store.specs.Floors.{Knows, facts_of, world_at};
+ghost use Rattle.agv_store.specs.Floors.{IsKept, Knows, facts_of, world_at};
 
-use crate::counts::Counts;
 use crate::flags::note;
-use crate::kept_rooms::RoomsLeft;
-use crate::kept_trips::KeptTrips;
-use crate::kept_vehicles::KeptVehicles;
-use agv_layout::Layout;
+use crate::known::Known;
 use agv_world::Fault;
 use agv_world_reading::hold_reading::query_meta;
 use sqlite::{Alter, Connection};
@@ -26,15 +22,7 @@ use std::marker::Model;
 #[derive(Drop)]
 pub struct KeyedFloor<S: Alter> {
     pub(crate) conn: Connection<S>,
-    pub(crate) counts: Counts,
-    // The layout, once it was read; none where it is not set, or was not read since then.
-    pub(crate) layout: Option<Layout>,
-    // Stations whose room was counted, each with so many loads as still fit there at least.
-    pub(crate) rooms: RoomsLeft,
-    // The open trips of orders, once they were read, and the vehicles that are known to have none.
-    pub(crate) trips: KeptTrips,
-    // The rows of vehicles, once they were read or written.
-    pub(crate) vehicles: KeptVehicles,
+    pub(crate) known: Known,
     pub(crate) failed: bool,
     // Memory was refused since the connection was last known to be open.
     pub(crate) in_doubt: bool,
@@ -50,10 +38,24 @@ impl<S: Alter> Model for KeyedFloor<S> {
 
     ghost view = { λ floor. record { held = floor.conn; failed = floor.failed } };
 
-    ghost invariant = { λ floor. IsKept S.Store floor.conn floor.counts floor.layout floor.rooms floor.trips floor.vehicles floor.failed floor.in_doubt };
+    ghost invariant = { λ floor. IsKept S.Store floor.conn floor.known floor.failed floor.in_doubt };
 }
 
 impl<S: Alter + Drop> KeyedFloor<S> {
+    // The floor over this connection, beside which this is known.
+    pub(crate) fn new(alloc: Global, conn: Connection<S>, known: Known) -> KeyedFloor<S>
+        requires { IsKept S.Store conn known false false }
+        ensures { result ≡ record { held = conn; failed = false } }
+    {
+        KeyedFloor {
+            conn,
+            known,
+            failed: false,
+            in_doubt: false,
+            alloc,
+        }
+    }
+
     /// While it is open it knows a world. It does nothing: a proof calls it for its clause.
     pub fn knows(&self)
         ensures { IsClean S.Store self.now.held → IsOpen S.Store self.now.held → Knows S.Store self.now.held (world_at S.Store self.now.held) }

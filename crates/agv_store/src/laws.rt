@@ -1,20 +1,26 @@
 //! What follows from the contracts of a desk, whatever the code does. Each function does nothing: its clause is the law.
-ghost use Rattle.std.specs.Prelude.{◌≡◌, ◌⊎◌, ℕ};
-ghost use Rattle.sqlite.specs.Effect.{Database, IsDatabase};
+//!
+//! What a crash leaves is said of all trees that it may leave: they are those of a database, which is as is said there. No
+//! other database has the same trees (`making_laws::trees_tell_schemas` of `agv_creation`).
+ghost use Rattle.std.specs.Prelude.{◌≡◌, ◌⊎◌, ℕ, List, Option, length};
+ghost use Rattle.sqlite.specs.Effect.{IsDatabase};
 ghost use Rattle.sqlite.specs.Held.{Held, state};
 ghost use Rattle.sqlite.specs.State.{Survives};
+ghost use Rattle.sqlite_trees.specs.Tree.{Trees};
 ghost use Rattle.agv_world.specs.Worlds.{World, empty_world};
+ghost use Rattle.agv_world.specs.declared.fault.Fault.{Fault};
+ghost use Rattle.agv_desk.specs.declared.answer.Answer.{Answer};
 ghost use Rattle.agv_desk.specs.declared.call.Call.{Call};
 ghost use Rattle.agv_creation.specs.DeskTables.{LeavesDesk};
-ghost use Rattle.agv_schema.specs.Connections.{IsClean, IsOpen};
+ghost use Rattle.agv_schema.specs.Connections.{IsClean, IsOpen, MoreFaults};
 ghost use Rattle.agv_store.specs.Floors.{Knows, world_at};
 ghost use Rattle.agv_store.specs.Migration.{FirstFound, LeavesMigrated};
 ghost use Rattle.agv_store.specs.Opening.{CanBeMade};
+ghost use Rattle.agv_store.specs.Running.{HasDatabase, IsRun, world_till};
 ghost use Rattle.agv_store.specs.Serving.{FoundIn, LeavesCall, world_after};
 
-use agv_creation::making_laws::{made_desks_stand, trees_tell_schemas};
+use agv_creation::making_laws::made_desks_stand;
 use agv_world_reading::new_desk_laws::new_desks_know_nothing;
-use agv_world_reading::world_laws::a_database_tells_its_world;
 use sqlite::Alter;
 
 /// After a crash in the middle of a call, or after a fault, an opening finds the rows of the world before the call or of
@@ -23,39 +29,41 @@ use sqlite::Alter;
 pub fn crashes_leave_before_or_after<S: Alter>()
     ensures either { (old new : Held S) (at : ℕ) (call : Call) → Knows S.Store old (world_at S.Store old) → IsClean S.Store new
         → Survives (state S.Store old) (state S.Store new) (LeavesCall S.Store old at call)
-        → (found : Database) → IsDatabase found → (state S.Store new).may_leave found.trees
-        → FoundIn found (world_at S.Store old) ⊎ FoundIn found (world_after (world_at S.Store old) at call) }
+        → (trees : Trees) → (state S.Store new).may_leave trees
+        → HasDatabase (λ found. FoundIn found (world_at S.Store old) ⊎ FoundIn found (world_after (world_at S.Store old) at call)) trees }
     ensures known { (held : Held S) (world : World) → Knows S.Store held world
-        → (found : Database) → IsDatabase found → (state S.Store held).may_leave found.trees → FoundIn found world }
-{
-    a_database_tells_its_world();
-    trees_tell_schemas();
-}
+        → (trees : Trees) → (state S.Store held).may_leave trees → HasDatabase (λ found. FoundIn found world) trees }
+{}
 
-/// After a crash in the middle of [`Desk::create`](crate::Desk::create), of a connection that was open and at rest, an
+/// After a crash in the middle of [`Desk::create`](crate::Desk::create), of a connection that was open, in no transaction, an
 /// opening finds the database as it was, so that a desk can still be made there; or it finds the desk, which knows nothing
 /// yet (`made`). So it is after a crash of [`Desk::open`](crate::Desk::open) (`opened`).
 pub fn crashes_leave_no_desk_or_all_of_it<S: Alter>()
     ensures made { (old new : Held S) → IsOpen S.Store old → (state S.Store old).committed ≡ (state S.Store old).now → IsDatabase (state S.Store old).now
         → CanBeMade (state S.Store old).now.schema → IsClean S.Store new → Survives (state S.Store old) (state S.Store new) (LeavesDesk (state S.Store old).now)
-        → (found : Database) → IsDatabase found → (state S.Store new).may_leave found.trees → (found ≡ (state S.Store old).now) ⊎ FoundIn found empty_world }
+        → (trees : Trees) → (state S.Store new).may_leave trees → HasDatabase (λ found. (found ≡ (state S.Store old).now) ⊎ FoundIn found empty_world) trees }
     ensures opened { (old new : Held S) → IsOpen S.Store old → (state S.Store old).committed ≡ (state S.Store old).now → IsDatabase (state S.Store old).now
         → IsClean S.Store new → Survives (state S.Store old) (state S.Store new) (λ trees. CanBeMade (state S.Store old).now.schema × LeavesDesk (state S.Store old).now trees)
-        → (found : Database) → IsDatabase found → (state S.Store new).may_leave found.trees → (found ≡ (state S.Store old).now) ⊎ FoundIn found empty_world }
+        → (trees : Trees) → (state S.Store new).may_leave trees → HasDatabase (λ found. (found ≡ (state S.Store old).now) ⊎ FoundIn found empty_world) trees }
 {
-    trees_tell_schemas();
     made_desks_stand();
     new_desks_know_nothing();
 }
 
-/// After a crash in the middle of [`Desk::migrate`](crate::Desk::migrate), of a connection that was open and at rest, an
+/// After a crash in the middle of [`Desk::migrate`](crate::Desk::migrate), of a connection that was open, in no transaction, an
 /// opening finds the database as it was, or the second schema's rows of the world whose rows it had as the first schema has
 /// them: so it can be moved still, or adopted.
 pub fn crashes_leave_the_first_schema_or_this<S: Alter>()
     ensures { (old new : Held S) → IsOpen S.Store old → (state S.Store old).committed ≡ (state S.Store old).now → IsDatabase (state S.Store old).now
         → IsClean S.Store new → Survives (state S.Store old) (state S.Store new) (LeavesMigrated (state S.Store old).now)
-        → (found : Database) → IsDatabase found → (state S.Store new).may_leave found.trees
-        → (found ≡ (state S.Store old).now) ⊎ ((had : FirstFound (state S.Store old).now) × FoundIn found had.world) }
-{
-    trees_tell_schemas();
-}
+        → (trees : Trees) → (state S.Store new).may_leave trees
+        → HasDatabase (λ found. (found ≡ (state S.Store old).now) ⊎ ((had : FirstFound (state S.Store old).now) × FoundIn found had.world)) trees }
+{}
+
+/// However a list of calls ends, a desk whose store was open knows the world after the calls that were answered, and goes on
+/// from there, unless its disk had a fault meanwhile.
+pub fn desks_go_on_behind_a_list<S: Alter>()
+    ensures { (old new : Held S) (calls : List (ℕ × Call)) (given : List Answer) (ended : Option Fault) → IsRun S.Store old new calls given ended
+        → IsClean S.Store new → IsOpen S.Store old → ¬ MoreFaults (state S.Store old).faults (state S.Store new).faults
+        → Knows S.Store new (world_till (world_at S.Store old) calls (length given)) }
+{}

@@ -5,15 +5,15 @@
 //!   call, or a list of calls in turn up to the first fault (`running`), and keeps its world lawful. A database of the first
 //!   schema is moved to the second, and its desk taken over (`migration`).
 //! - `keyed_floor` has a connection to the desk's tables that is asked by keys and indexes, as `agv_desk` asks a floor.
-//!   Beside the connection it keeps five counts, the layout (`kept_layout`), the room at stations (`kept_rooms`), the
-//!   open trips of orders (`kept_trips`), the rows of vehicles (`kept_vehicles`), and whether the store has failed.
-//!   `serving` serves one call over it.
+//!   Beside the connection it has what is known beside the tables (`known`): five counts (`counts`), the layout
+//!   (`kept_layout`), the room at stations (`kept_rooms`), the open trips of orders (`kept_trips`) and the rows of vehicles
+//!   (`kept_vehicles`). `serving` serves one call over it.
 //! - An answer that names a report doesn't hold it: [`Desk::report`] gives its bytes (`reports`). What a report lists is
 //!   gathered from whole tables (`report_lists`, `whole_tables`), and `agv_count` writes the text.
 //!
-//! What a desk keeps true of its connection is `specs/Floors.antt`, what it makes of a call `specs/Serving.antt`, of a list of
-//! calls `specs/Running.antt`, how it is opened `specs/Opening.antt`, and what a move gives
-//! `specs/Migration.antt`.
+//! What a desk keeps true of its connection is `specs/Floors.antt`, of what it knows beside it `specs/Known.antt`, what it
+//! makes of a call `specs/Serving.antt`, of a list of calls `specs/Running.antt`, how it is opened `specs/Opening.antt`, and
+//! what a move gives `specs/Migration.antt`.
 #![tactic(auto)]
 
 mod counts;
@@ -25,6 +25,7 @@ mod kept_rooms;
 mod kept_trips;
 mod kept_vehicles;
 mod keyed_floor;
+mod known;
 pub mod laws;
 mod migration;
 mod open_fault;

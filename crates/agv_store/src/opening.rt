@@ -10,29 +10,22 @@ ghost use Rattle.agv_row_reading.specs.WorldAnswers.{HasNoWorld};
 ghost use Rattle.agv_creation.specs.DeskTables.{LeavesDesk};
 ghost use Rattle.agv_schema.specs.SchemaNumbers.{desk_seats};
 ghost use Rattle.agv_schema.specs.Connections.{IsClean, IsOpen};
-ghost use Rattle.agv_store.specs.Opening.{Adopts, CanBeMade, Finds, IsDamaged, Makes, left_by};
+ghost use Rattle.agv_store.specs.Opening.{Adopts, CanBeMade, Finds, HasCauseOverWorld, IsDamaged, IsStorage, Makes, left_by};
 
 use crate::counts::Counts;
 use crate::desk::Desk;
-use crate::kept_layout::layout_told;
-use crate::kept_rooms::no_rooms;
-use crate::kept_trips::no_trips;
-use crate::kept_vehicles::no_vehicles;
 use crate::keyed_floor::KeyedFloor;
+use crate::known::Known;
 use crate::open_fault::OpenFault;
 use agv_creation::desk_tables::make_desk_tables;
 use agv_creation::making_laws::made_desks_stand;
 use agv_creation::standing_tables::tables_stand;
 use agv_creation::table_room::leaves_room;
 use agv_header::Memory;
-use agv_layout::Layout;
-use agv_layout::laws::{gives_itself, needs_a_node};
 use agv_row_reading::HeldThings;
 use agv_rowids::rowid_reading::query_rowids;
 use agv_schema::DESK_SEATS;
 use agv_world::World;
-use agv_world::lawful_laws::is_in_good_order;
-use agv_world::laws::tables_tell_the_world;
 use agv_world_reading::new_desk_laws::new_desks_know_nothing;
 use agv_world_reading::reading_laws::tables_read_tell_the_world;
 use agv_world_reading::world_laws::a_database_tells_its_world;
@@ -46,8 +39,8 @@ impl<S: Alter + Drop> Desk<S> {
     /// # Errors
     /// `Damaged` where a table, a view or an index has the name of one of the desk's tables, a foreign key refers to one of
     /// them, or two tables lie in one tree, as in no sound database, and only there: nothing is touched then. Else `Memory`
-    /// when out of memory, and `Storage` for any other error of the database. The connection comes back; one that is open
-    /// has what it had.
+    /// when out of memory, and `Storage` for any other error of the database: the store failed or had been shut, or SQL refuses a
+    /// statement, as where the database has 65,536 trees. The connection comes back; one that is open has what it had.
     pub fn create(alloc: Global, conn: Connection<S>) -> Result<Desk<S>, (Connection<S>, OpenFault)>
         requires { conn.in_transaction ≡ false }
         ensures made { IfOk result (λ desk. IsClean S.Store desk.held → Makes S.Store conn desk) }
@@ -69,19 +62,12 @@ impl<S: Alter + Drop> Desk<S> {
             return Err((conn, OpenFault::Damaged));
         }
         match make_desk_tables(&mut conn) {
-            Ok(()) => Ok(Desk {
-                floor: KeyedFloor {
-                    conn,
-                    counts: Counts::none(),
-                    layout: None,
-                    rooms: no_rooms(alloc),
-                    trips: no_trips(alloc),
-                    vehicles: no_vehicles(alloc),
-                    failed: false,
-                    in_doubt: false,
-                    alloc,
-                },
-            }),
+            Ok(()) => {
+                let known = Known::new(alloc, Counts::none(), None);
+                Ok(Desk {
+                    floor: KeyedFloor::new(alloc, conn, known),
+                })
+            }
             Err(why) => Err((conn, OpenFault::from(why))),
         }
     }
@@ -92,13 +78,15 @@ impl<S: Alter + Drop> Desk<S> {
     /// # Errors
     /// `Damaged` where the database has the rows of no lawful world: a table is missing or is another, a row tells nothing,
     /// the rows break a rule of the desk, or what is held isn't what the vehicles hold. A database that has the rows of a
-    /// lawful world is never damaged. Else `Memory` when out of memory, and `Storage` for any other error of the database.
-    /// The connection comes back; one that is open has what it had.
+    /// lawful world is never damaged. Else `Memory` when out of memory, and `Storage` for any other error of the database: over
+    /// the rows of a lawful world only where the store failed, had been shut, or limits the steps of a query. The connection
+    /// comes back; one that is open has what it had.
     pub fn adopt(alloc: Global, conn: Connection<S>) -> Result<Desk<S>, (Connection<S>, OpenFault)>
         requires { conn.in_transaction ≡ false }
         ensures adopted { IfOk result (λ desk. IsClean S.Store desk.held → Adopts S.Store conn desk) }
         ensures works { IfOk result (λ desk. desk.failed ≡ false) }
         ensures damaged { IsClean S.Store (left_by result) → IsDamaged result → HasNoWorld (state S.Store conn).now }
+        ensures caused { IsClean S.Store (left_by result) → IsStorage result → HasCauseOverWorld S.Store conn (left_by result) }
         ensures unchanged { IsClean S.Store (left_by result) → IsOpen S.Store (left_by result)
             → IsOpen S.Store conn × ((state S.Store (left_by result)).now ≡ (state S.Store conn).now) }
         ensures idle { (left_by result).in_transaction ≡ false }
@@ -107,18 +95,8 @@ impl<S: Alter + Drop> Desk<S> {
         let mut conn = conn;
         let _settled = conn.is_autocommit();
         match find_desk(alloc, &mut conn) {
-            Ok((counts, layout)) => Ok(Desk {
-                floor: KeyedFloor {
-                    conn,
-                    counts,
-                    layout,
-                    rooms: no_rooms(alloc),
-                    trips: no_trips(alloc),
-                    vehicles: no_vehicles(alloc),
-                    failed: false,
-                    in_doubt: false,
-                    alloc,
-                },
+            Ok(known) => Ok(Desk {
+                floor: KeyedFloor::new(alloc, conn, known),
             }),
             Err(why) => Err((conn, why)),
         }
@@ -128,12 +106,14 @@ impl<S: Alter + Drop> Desk<S> {
     /// ([`Desk::adopt`]).
     ///
     /// # Errors
-    /// As these two. `Damaged` only where a desk can't be made, and the database has the rows of no lawful world.
+    /// As these two. `Damaged` only where a desk can't be made, and the database has the rows of no lawful world; `Storage` has
+    /// a cause as for [`Desk::adopt`] where a desk can't be made.
     pub fn open(alloc: Global, conn: Connection<S>) -> Result<Desk<S>, (Connection<S>, OpenFault)>
         requires { conn.in_transaction ≡ false }
         ensures opened { IfOk result (λ desk. IsClean S.Store desk.held → (CanBeMade (state S.Store conn).now.schema × Makes S.Store conn desk) ⊎ ((¬ CanBeMade (state S.Store conn).now.schema) × Adopts S.Store conn desk)) }
         ensures works { IfOk result (λ desk. desk.failed ≡ false) }
         ensures damaged { IsClean S.Store (left_by result) → IsDamaged result → (¬ CanBeMade (state S.Store conn).now.schema) × HasNoWorld (state S.Store conn).now }
+        ensures caused { IsClean S.Store (left_by result) → IsStorage result → CanBeMade (state S.Store conn).now.schema ⊎ HasCauseOverWorld S.Store conn (left_by result) }
         ensures undone { IsClean S.Store (left_by result) → IsOpen S.Store (left_by result)
             → OnErr result (IsOpen S.Store conn × ((state S.Store (left_by result)).now ≡ (state S.Store conn).now)) }
         ensures idle { (left_by result).in_transaction ≡ false }
@@ -149,20 +129,13 @@ impl<S: Alter + Drop> Desk<S> {
     }
 }
 
-// The counts and the layout of the world whose rows the desk's tables have, where they have the rows of a lawful one.
-fn find_desk<S: Alter>(
-    alloc: Global,
-    conn: &mut Connection<S>,
-) -> Result<(Counts, Option<Layout>), OpenFault>
+// What is known of the world whose rows the desk's tables have, where they have the rows of a lawful one.
+fn find_desk<S: Alter>(alloc: Global, conn: &mut Connection<S>) -> Result<Known, OpenFault>
     requires { conn.old.in_transaction ≡ false }
     ensures { Finds S.Store conn.old conn.new result }
 {
     tables_read_tell_the_world();
     a_database_tells_its_world();
-    is_in_good_order();
-    tables_tell_the_world();
-    gives_itself();
-    needs_a_node();
     let _settled = conn.is_autocommit();
     if !tables_stand(alloc, conn.schema())? {
         return Err(OpenFault::Damaged);
@@ -174,9 +147,8 @@ fn find_desk<S: Alter>(
     if !are_of_a_lawful_world(alloc, &tables, &holds)? {
         return Err(OpenFault::Damaged);
     }
-    let counts = Counts::of(alloc, &tables)?;
-    let layout = layout_told(alloc, &tables)?;
-    Ok((counts, layout))
+    let known = Known::of(alloc, &tables)?;
+    Ok(known)
 }
 
 // Whether these are the tables of a lawful world, and what is held is what its vehicles hold.

@@ -99,7 +99,7 @@ impl<S: Alter + Drop> KeyedFloor<S> {
         ensures { IfSome result (λ things. IsClean S.Store self.now.held → IsOpen S.Store self.now.held → IsLawful desk_seats (world_at S.Store self.now.held)
             → things ≡ set.len (world_at S.Store self.now.held).layout.nodes + finite.len (world_at S.Store self.now.held).layout.edges) }
     {
-        match &self.layout {
+        match &self.known.layout {
             None => None,
             Some(layout) => Some(told_number(
                 layout.node_count().saturating_add(layout.edge_count()),

@@ -1,12 +1,11 @@
 //! A list of calls is served, up to the first fault.
-ghost use Rattle.std.specs.Prelude.{◌≡◌, true, false, [], length, vec_capacity};
+ghost use Rattle.std.specs.Prelude.{◌≡◌, true, false, length, vec_capacity};
 ghost use Rattle.agv_schema.specs.Connections.{IsClean};
 ghost use Rattle.agv_store.specs.Floors.{Knows, world_at};
-ghost use Rattle.agv_store.specs.Running.{HasAnswered, HasReserved, IsRun, LeavesLast, RunEndsAs};
+ghost use Rattle.agv_store.specs.Running.{HasAnswered, HasReserved, IsRun, IsStopped, LeavesLast, RunEndsAs};
 
 use crate::desk::Desk;
 use agv_changes::change_laws::other_tables_stay;
-use agv_creation::making_laws::trees_tell_schemas;
 use agv_desk::laws::calls::serves_in_turn;
 use agv_desk::{Answer, Call};
 use agv_header::Moment;
@@ -22,30 +21,32 @@ impl<S: Alter + Drop> Desk<S> {
     /// after the calls that were answered (`runs`). Without a fault each call has its answer; with one there are fewer
     /// answers than calls (`answered`).
     ///
+    /// However the list ends, the store is open then where it was, unless its disk had a fault meanwhile (`runs`): so after
+    /// `Memory`, too, the desk goes on ([`laws`](crate::laws)).
+    ///
     /// A crash leaves the rows of the world after the calls that were answered, and where there was a fault those of this
-    /// world or of the one after one call more (`crash`).
+    /// world or of the one after one call more: all that it may leave is a database that has them (`crash`).
     ///
     /// # Errors
     /// `Memory` where memory runs out; where there is none for the answers no call is served. `Storage` where the store
     /// failed or had failed before. Of a store that hadn't failed before, the fault is `Storage` exactly where
-    /// [`failed`](Desk::failed) is `true` in the end (`ends`). One that had failed before answers no call, and has failed
-    /// still (`fails`).
+    /// [`failed`](Desk::failed) is `true` in the end (`ends`). A desk that had failed before asks nothing, answers no call and
+    /// stays as it is; with memory for the answers the fault is `Storage`, where there is a call (`fails`).
     pub fn run(&mut self, calls: &[(Moment, Call)]) -> (Vec<Answer>, Option<Fault>)
         ensures runs { IsClean S.Store self.new.held → IsRun S.Store self.old.held self.new.held calls.now result.0.items result.1 }
         ensures answered { HasAnswered calls.now result.0.items result.1 }
         ensures crash { IsClean S.Store self.new.held → Knows S.Store self.old.held (world_at S.Store self.old.held) → LeavesLast S.Store self.old.held self.new.held calls.now (length result.0.items) result.1 }
         ensures ends { self.old.failed ≡ false → RunEndsAs result.1 self.new.failed }
-        ensures fails { self.old.failed ≡ true → (self.new.failed ≡ true) × (result.0.items ≡ []) }
+        ensures fails { self.old.failed ≡ true → IsStopped self.old self.new calls.now (vec_capacity result.0) result.0.items result.1 }
         ensures reserves { HasReserved self.old self.new calls.now (vec_capacity result.0) result.0.items result.1 }
     {
         serves_in_turn();
         a_database_tells_its_world();
         other_tables_stay();
-        trees_tell_schemas();
         self.knows();
         let alloc = self.floor.alloc;
-        let room = Vec::with_capacity(alloc, calls.len());
-        let mut given = match room {
+        let reserved = Vec::with_capacity(alloc, calls.len());
+        let mut given = match reserved {
             Ok(given) => given,
             Err(_) => return (Vec::new(alloc), Some(Fault::Memory)),
         };

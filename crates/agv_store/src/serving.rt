@@ -13,10 +13,6 @@ ghost use Rattle.agv_store.specs.Floors.{Knows, facts_of, world_at};
 ghost use Rattle.agv_store.specs.Serving.{Decides, IsServedBy, LeavesAll, LeavesCall};
 
 use crate::flags::{note, read_as};
-use crate::kept_layout::keep_through;
-use crate::kept_rooms::lower_through;
-use crate::kept_trips::follow_through;
-use crate::kept_vehicles::keep_written_through;
 use crate::keyed_floor::KeyedFloor;
 use agv_changes::change_laws::changes_make_the_next_world;
 use agv_changes::change_running::write_changes;
@@ -70,9 +66,7 @@ impl<S: Alter + Drop> KeyedFloor<S> {
         Ok(decision)
     }
 
-    // The changes of the decision are made in one transaction. The counts follow the answer. A layout of which a row was
-    // written is kept no more; the rooms that are kept are lowered; and the trips and the rows of vehicles that are kept
-    // follow the changes.
+    // The changes of the decision are made in one transaction, and what is known beside the tables follows them.
     fn write(&mut self, decision: Decision, at: Moment, call: &Call) -> Result<Answer, Fault>
         requires knows { IsClean S.Store self.old.held → Knows S.Store self.old.held (world_at S.Store self.old.held) }
         requires decides { IsClean S.Store self.old.held → Decides (world_at S.Store self.old.held) at call.now decision }
@@ -89,11 +83,8 @@ impl<S: Alter + Drop> KeyedFloor<S> {
         adds_below_the_limit();
         let written = write_changes(&mut self.conn, decision.changes.as_slice());
         note(&mut self.failed, &mut self.in_doubt, read_as(written))?;
-        self.counts.add(counted_by(call, &decision.answer));
-        keep_through(&mut self.layout, decision.changes.as_slice());
-        lower_through(&mut self.rooms, decision.changes.as_slice());
-        follow_through(&mut self.trips, decision.changes.as_slice());
-        keep_written_through(&mut self.vehicles, decision.changes.as_slice());
+        let more = counted_by(call, &decision.answer);
+        self.known.follow(more, decision.changes.as_slice());
         Ok(decision.answer)
     }
 }

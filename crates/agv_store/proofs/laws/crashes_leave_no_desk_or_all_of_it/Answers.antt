@@ -3,8 +3,8 @@ use Rattle.agv_store.proofs.laws.crashes_leave_no_desk_or_all_of_it.Goals as goa
 
 pub returns : goal.returns
 returns g c = record {
-  made = λ old new is_open settled listed can clean survives found finds left.
-      made g.S.Store c.trees_tell_schemas.ensures.schema g.met.S.Store.settled c.made_desks_stand.ensures c.new_desks_know_nothing.ensures.world old is_open settled listed found finds new can clean survives left;
-  opened = λ old new is_open settled listed clean survives found finds left.
-      opened g.S.Store c.trees_tell_schemas.ensures.schema g.met.S.Store.settled c.made_desks_stand.ensures c.new_desks_know_nothing.ensures.world old is_open settled listed found finds new clean survives left;
+  made = λ old new is_open settled listed can clean survives trees left.
+      made g.S.Store g.met.S.Store.settled c.made_desks_stand.ensures c.new_desks_know_nothing.ensures.world old is_open settled listed trees new can clean survives left;
+  opened = λ old new is_open settled listed clean survives trees left.
+      opened g.S.Store g.met.S.Store.settled c.made_desks_stand.ensures c.new_desks_know_nothing.ensures.world old is_open settled listed trees new clean survives left;
 }

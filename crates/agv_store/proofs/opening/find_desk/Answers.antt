@@ -1,8 +1,13 @@
 use Rattle.std.proofs.Common.{not, ap, subst, ◌∙◌}
 use Rattle.agv_schema.specs.SchemaNumbers.{desk_seats}
 use Rattle.agv_creation.specs.StandingTables.{TablesStand}
-use Rattle.agv_store.proofs.Found.{finds_desk, finds_fault_then, finds_no_memory, finds_unlawful}
+use Rattle.agv_store.proofs.Found.{finds_desk, finds_fault, finds_fault_then, finds_no_memory, finds_unlawful}
 use Rattle.agv_store.proofs.opening.find_desk.Goals as goal
+
+pub returns-in_err-query_rowids : goal.returns-in_err-query_rowids
+returns-in_err-query_rowids g c =
+    finds_fault g.S.Store c.args.conn.now c.query_rowids.new.conn
+    c.from_residual-in_err-query_rowids.result c.in_err-query_rowids.field-0.0 _ c.from_residual-in_err-query_rowids.ensures.1 c.in_err-query_rowids.ensures.tells
 
 pub returns-in_err-tables : goal.returns-in_err-tables
 returns-in_err-tables g c =
@@ -22,17 +27,11 @@ returns-then-not-branch-3 g c =
     finds_unlawful g.S.Store c.args.conn.now c.query_rowids.new.conn c.read_world.new.conn c.in_ok-query_rowids.field-0 c.if-not-branch-2.false keyed.exact keyed.tells
     c.in_ok-tables.tables c.in_ok-tables.holds c.in_ok-tables.ensures c.in_ok-are_of_a_lawful_world.field-0 c.if-not-branch-3.true c.in_ok-are_of_a_lawful_world.ensures
 
-pub returns-in_err-counts : goal.returns-in_err-counts
-returns-in_err-counts g c =
+pub returns-in_err-known : goal.returns-in_err-known
+returns-in_err-known g c =
     let keyed = c.in_ok-query_rowids.ensures in
     finds_no_memory g.S.Store c.args.conn.now c.query_rowids.new.conn c.read_world.new.conn c.in_ok-query_rowids.field-0 c.if-not-branch-2.false keyed.exact keyed.tells
-    c.in_ok-tables.tables c.in_ok-tables.holds c.in_ok-tables.ensures c.from_residual-in_err-counts.result c.from_residual-in_err-counts.ensures.1
-
-pub returns-in_err-layout : goal.returns-in_err-layout
-returns-in_err-layout g c =
-    let keyed = c.in_ok-query_rowids.ensures in
-    finds_no_memory g.S.Store c.args.conn.now c.query_rowids.new.conn c.read_world.new.conn c.in_ok-query_rowids.field-0 c.if-not-branch-2.false keyed.exact keyed.tells
-    c.in_ok-tables.tables c.in_ok-tables.holds c.in_ok-tables.ensures c.from_residual-in_err-layout.result c.from_residual-in_err-layout.ensures.1
+    c.in_ok-tables.tables c.in_ok-tables.holds c.in_ok-tables.ensures c.from_residual-in_err-known.result c.from_residual-in_err-known.ensures.1
 
 pub returns : goal.returns
 returns g c =
@@ -41,4 +40,4 @@ returns g c =
     finds_desk g.S.Store c.args.conn.now c.query_rowids.new.conn c.read_world.new.conn c.in_ok-query_rowids.field-0 c.if-not-branch-2.false keyed.exact keyed.tells
     c.in_ok-tables.tables c.in_ok-tables.holds c.in_ok-tables.ensures c.tables_read_tell_the_world.ensures.world c.a_database_tells_its_world.ensures (subst TablesStand c.schema.ensures.value (c.in_ok-tables_stand.ensures.0 c.if-not-branch.false))
     its.0 its.1 its.2 its.3 c.requires (c.is_autocommit-settled.ensures.settled (c.is_autocommit-settled.ensures.value ∙ ap not c.requires)) (λ still. (c.schema.ensures.live still).0)
-    (c.tables_tell_the_world.ensures c.in_ok-tables.tables its.0 its.1 (c.is_in_good_order.ensures desk_seats its.0 its.2)) c.in_ok-counts.counts c.in_ok-counts.ensures c.gives_itself.ensures c.needs_a_node.ensures c.in_ok-layout.layout c.in_ok-layout.ensures
+    c.in_ok-known.known (c.in_ok-known.ensures desk_seats its.0 its.2 its.1)

@@ -5,7 +5,7 @@ use Rattle.sqlite.proofs.StateLemmas.{survives_weaker}
 use Rattle.sqlite.specs.Held.{Held, state}
 use Rattle.agv_row_reading.specs.WorldAnswers.{HasNoWorld}
 use Rattle.agv_schema.specs.Connections.{IsClean}
-use Rattle.agv_store.specs.Opening.{Adopts, CanBeMade, IsDamaged, Makes, Opening}
+use Rattle.agv_store.specs.Opening.{Adopts, CanBeMade, HasCauseOverWorld, IsDamaged, Makes, Opening, left_by}
 use Rattle.agv_store.specs.declared.open_fault.OpenFault.{OpenFault}
 use Rattle.agv_store.specs.declared.open_fault.OpenFault.TheVariants as fault
 use Rattle.agv_store.proofs.desk.Desk.open.Goals as goal
@@ -38,6 +38,11 @@ returns-in-Damaged-clause-damaged g c clean damaged =
     let is = is_damaged c.in-Err.conn c.in-Err.why c.in-Damaged.is in
     (c.in-Err.ensures.damaged.0 is, subst (λ h. HasNoWorld (state g.S.Store h).now) (c.in-Err.ensures.untouched is) (c.adopt.ensures.damaged clean damaged))
 
+pub returns-in-Damaged-clause-caused : goal.returns-in-Damaged-clause-caused
+returns-in-Damaged-clause-caused g c clean stored =
+    let is = is_damaged c.in-Err.conn c.in-Err.why c.in-Damaged.is in
+    inr (subst (λ h. HasCauseOverWorld g.S.Store h (left_by c.adopt.result)) (c.in-Err.ensures.untouched is) (c.adopt.ensures.caused clean stored))
+
 pub returns-in-Memory : goal.returns-in-Memory
 returns-in-Memory g c =
     let its = c.in-Err.ensures in
@@ -45,6 +50,7 @@ returns-in-Memory g c =
       opened = tt;
       works = tt;
       damaged = λ clean damaged. absurd (other damaged);
+      caused = λ clean stored. inl (its.possible other);
       undone = its.undone;
       idle = its.idle;
       crash = survives_weaker _ _ _ _ (λ clean trees left. (its.possible other, left)) its.crash;

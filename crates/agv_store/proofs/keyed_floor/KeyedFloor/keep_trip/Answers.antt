@@ -4,15 +4,16 @@ use Rattle.agv_world.specs.Rows.{rows_of}
 use Rattle.agv_rows.specs.DecodedTrips.{HasTripRows}
 use Rattle.agv_schema.specs.Connections.{IsClean, IsOpen}
 use Rattle.agv_store.specs.Floors.{Keyed, world_at}
-use Rattle.agv_store.proofs.KeptTrips.{keeps_trips}
+use Rattle.agv_store.proofs.Asked.{known_so}
+use Rattle.agv_store.proofs.Knowing.{with_trips}
 use Rattle.agv_store.proofs.keyed_floor.KeyedFloor.keep_trip.Goals as goal
 
 pub invariant_of-self : goal.invariant_of-self
 invariant_of-self g c =
     let there = subst (λ (desk : Keyed g.row.S.Denot). IsClean g.S.Store desk.held → IsOpen g.S.Store desk.held → Some c.args.trip.now ≡ trip_of (world_at g.S.Store desk.held) c.args.key.now) (sym c.self.view_is) c.requires in
-    keeps_trips g.S.Store c.self.inside.conn c.self.inside.counts c.self.inside.layout c.self.inside.rooms c.self.inside.trips c.put_trip.new.trips c.self.inside.vehicles c.self.inside.failed c.self.inside.in_doubt c.self.invariant
-    (λ clean still are.
+    known_so g.S.Store c.self.inside.conn c.self.inside.known _ c.self.inside.failed c.self.inside.in_doubt c.self.invariant
+    (λ clean still is.
     let world = world_at g.S.Store c.self.inside.conn in
-    c.put_trip.ensures (rows_of world)
+    with_trips (c.put_trip.ensures (rows_of world)
     (subst (HasTripRows (rows_of world)) (sym c.in_ok-copy.ensures) ((c.rows_have_trips.ensures world (c.self.invariant.knows clean still).has.lawful c.args.key.now c.args.trip.now).0 (sym (there clean still))).1)
-    are)
+    is.trips_are) is)

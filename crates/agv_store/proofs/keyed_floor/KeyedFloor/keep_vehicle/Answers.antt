@@ -3,14 +3,16 @@ use Rattle.agv_world.specs.Questions.{row_of}
 use Rattle.agv_world.specs.Rows.{rows_of}
 use Rattle.agv_schema.specs.Connections.{IsClean, IsOpen}
 use Rattle.agv_store.specs.Floors.{Keyed, world_at}
-use Rattle.agv_store.proofs.KeptVehicles.{keeps_vehicles, row_kept_or_not}
+use Rattle.agv_store.proofs.Asked.{known_so}
+use Rattle.agv_store.proofs.KeptVehicles.{row_kept_or_not}
+use Rattle.agv_store.proofs.Knowing.{with_vehicles}
 use Rattle.agv_store.proofs.keyed_floor.KeyedFloor.keep_vehicle.Goals as goal
 
 pub invariant_of-self : goal.invariant_of-self
 invariant_of-self g c =
     let there = subst (λ (desk : Keyed g.row.S.Denot). IsClean g.S.Store desk.held → IsOpen g.S.Store desk.held → Some c.args.vehicle.now ≡ row_of (world_at g.S.Store desk.held) c.args.key.now) (sym c.self.view_is) c.requires in
-    keeps_vehicles g.S.Store c.self.inside.conn c.self.inside.counts c.self.inside.layout c.self.inside.rooms c.self.inside.trips c.self.inside.vehicles c.insert.new.self c.self.inside.failed c.self.inside.in_doubt c.self.invariant
-    (λ clean still are.
+    known_so g.S.Store c.self.inside.conn c.self.inside.known _ c.self.inside.failed c.self.inside.in_doubt c.self.invariant
+    (λ clean still is.
     let world = world_at g.S.Store c.self.inside.conn in
-    row_kept_or_not c.self.inside.vehicles c.insert.new.self (rows_of world) c.args.key.now c.args.vehicle.now c.insert.result c.insert.ensures.ok c.insert.ensures.err
-    (c.rows_have_vehicles.ensures world c.args.key.now ∙ sym (there clean still)) are)
+    with_vehicles (row_kept_or_not c.self.inside.known.vehicles c.insert.new.self (rows_of world) c.args.key.now c.args.vehicle.now c.insert.result c.insert.ensures.ok c.insert.ensures.err
+    (c.rows_have_vehicles.ensures world c.args.key.now ∙ sym (there clean still)) is.vehicles_are) is)

@@ -1,6 +1,6 @@
 use Rattle.agv_world.specs.Rows.{rows_of}
 use Rattle.agv_store.specs.Floors.{world_at}
-use Rattle.agv_store.proofs.Asked.{fits_seen}
+use Rattle.agv_store.proofs.Asked.{known_seen}
 use Rattle.agv_store.proofs.KeptRooms.{one_fits}
 use Rattle.agv_store.proofs.keyed_floor.KeyedFloor.keeps_room.Goals as goal
 
@@ -8,4 +8,4 @@ pub returns : goal.returns
 returns g c has clean still =
     let world = world_at g.S.Store c.args.self.now.held in
     one_fits world c.args.station (c.is_some_left.ensures has (rows_of world)
-    (fits_seen g.S.Store c.self.inside.conn c.self.inside.counts c.self.inside.layout c.self.inside.rooms c.self.inside.trips c.self.inside.vehicles c.self.inside.failed c.self.inside.in_doubt c.self.invariant c.args.self.now c.self.view_is clean still))
+    (known_seen g.S.Store c.self.inside.conn c.self.inside.known c.self.inside.failed c.self.inside.in_doubt c.self.invariant c.args.self.now c.self.view_is clean still).fits)

@@ -1,0 +1,57 @@
+-- What is known beside the tables, with a part more or less, and through a list of changes, one after the other.
+use Rattle.std.proofs.Common.{◌≡◌, ◌+◌, ◌<◌, ◌≤◌, ◌++◌, ℕ, List, [], ◌∷◌, Option, length, take, take_all, get_or, sym, ap, subst, ◌∙◌}
+use Rattle.std.proofs.lemmas.List.{take_more}
+use Rattle.agv_layout.specs.Layout.{Layout}
+use Rattle.agv_world.specs.Changes.{change, changed}
+use Rattle.agv_world.specs.Rows.{Rows}
+use Rattle.agv_world.specs.declared.change.Change.{Change}
+use Rattle.agv_world.specs.declared.floor.Counted.{Counted}
+use Rattle.agv_store.specs.KeptLayouts.{IsLayoutOf}
+use Rattle.agv_store.specs.KeptRooms.{AreLeft, RoomsLeft}
+use Rattle.agv_store.specs.KeptTrips.{AreTrips, TripsOf}
+use Rattle.agv_store.specs.KeptVehicles.{AreVehicles, VehiclesOf}
+use Rattle.agv_store.specs.Known.{IsKnown}
+use Rattle.agv_store.specs.declared.known.Known.{Known}
+
+-- ---- one part more or less
+
+module _ {known : Known} {count : Counted → ℕ} {rows : Rows} where
+  pub with_layout : {layout : Option Layout} → IsLayoutOf layout rows → IsKnown known count rows → IsKnown (record known { layout = layout }) count rows
+  with_layout so is = record { counted = is.counted; agrees = so; fits = is.fits; trips_are = is.trips_are; vehicles_are = is.vehicles_are }
+
+  pub with_rooms : {rooms : RoomsLeft} → AreLeft rooms rows → IsKnown known count rows → IsKnown (record known { rooms = rooms }) count rows
+  with_rooms so is = record { counted = is.counted; agrees = is.agrees; fits = so; trips_are = is.trips_are; vehicles_are = is.vehicles_are }
+
+  pub with_trips : {trips : TripsOf} → AreTrips trips rows → IsKnown known count rows → IsKnown (record known { trips = trips }) count rows
+  with_trips so is = record { counted = is.counted; agrees = is.agrees; fits = is.fits; trips_are = so; vehicles_are = is.vehicles_are }
+
+  pub with_vehicles : {vehicles : VehiclesOf} → AreVehicles vehicles rows → IsKnown known count rows → IsKnown (record known { vehicles = vehicles }) count rows
+  with_vehicles so is = record { counted = is.counted; agrees = is.agrees; fits = is.fits; trips_are = is.trips_are; vehicles_are = so }
+
+-- ---- changes
+
+-- the law that is cited
+abbrev pub ChangesInTurn : Type 0
+ChangesInTurn = (first later : List Change) (rows : Rows) → changed (first ++ later) rows ≡ changed later (changed first rows)
+
+module _ (all : List Change) (first : Known) where
+  -- so it is known of the rows that the changes lead to
+  abbrev pub LeadsTo : List Change → Known → Type 0
+  LeadsTo changes now = (count : Counted → ℕ) (rows : Rows) → IsKnown first count rows → IsKnown now count (changed changes rows)
+
+  -- through no change
+  pub none_changed : LeadsTo (take 0 all) first
+  unfolding changed
+  none_changed count rows is = is
+
+  -- through the changes so far, and through one more
+  pub one_changed_more : ChangesInTurn → (i : ℕ) (one : Change) (mid now : Known) → i < length all → one ≡ get_or all i one
+      → LeadsTo (take i all) mid → ((count : Counted → ℕ) (rows : Rows) → IsKnown mid count rows → IsKnown now count (change rows one)) → LeadsTo (take (i + 1) all) now
+  unfolding changed
+  one_changed_more in_turn i one mid now low is so_far more count rows known =
+      subst (λ changes. IsKnown now count (changed changes rows)) (ap (λ x. take i all ++ x ∷ []) is ∙ sym (take_more all i one low))
+      (subst (IsKnown now count) (sym (in_turn (take i all) (one ∷ []) rows)) (more count (changed (take i all) rows) (so_far count rows known)))
+
+  -- through all of them
+  pub all_changed : (i : ℕ) (now : Known) → length all ≤ i → LeadsTo (take i all) now → LeadsTo all now
+  all_changed i now whole so_far = subst (λ changes. LeadsTo changes now) (take_all i all whole) so_far

@@ -1,9 +1,0 @@
-use Rattle.std.proofs.Common.{take}
-use Rattle.agv_world.specs.Changes.{changed}
-use Rattle.agv_world.specs.Rows.{Rows}
-use Rattle.agv_store.specs.KeptTrips.{AreOpen}
-use Rattle.agv_store.proofs.kept_trips.follow_each.Given as goal
-
--- what is kept is so with the rows so far
-abbrev pub invariant-loop-change : goal.invariant-loop-change
-invariant-loop-change l = (rows : Rows) → AreOpen l.initial.trips rows → AreOpen l.trips (changed (take l.change-index l.changes) rows)

@@ -1,5 +1,0 @@
-use Rattle.agv_store.proofs.KeptTrips.{one_more_rests}
-use Rattle.agv_store.proofs.kept_trips.put_rest.Goals as goal
-
-pub returns : goal.returns
-returns c rows none are = (are.0, one_more_rests c.args.trips.now.at_rest c.insert.new.self c.args.key rows c.in_ok-insert.ensures.updates.0 none are.1)
