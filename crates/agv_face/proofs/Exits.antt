@@ -17,7 +17,6 @@ use Rattle.agv_face.specs.Bytes.{IsCut, IsPutWhole, IsRead}
 use Rattle.agv_face.specs.StreamEnd.{IsCounted, IsStreamEnd, failed_by, most_reads}
 use Rattle.sqlite.specs.Held.{state}
 use Rattle.sqlite.specs.State.{Survives}
-use Rattle.agv_creation.specs.NewDesk.{TreesTellSchemas}
 use Rattle.agv_http.specs.request.Fronts.{HasNext}
 use Rattle.agv_face.specs.Nexts.{IsNext, IsNextFault, LeavesNext}
 use Rattle.agv_face.specs.StreamCalls.{AreDone, AreDoneOrNext}
@@ -180,7 +179,7 @@ module _ {S R W : Type 0} (g : Ghosts S) (remaining : R → Option (List ℕ)) (
     kept_then =
         let found = of (next.Request len close) is in
         let goes = hears so_far.front buf ended so_far.requests (heard.Request found.request) so_far.cut found.heard_is in
-        kept_on g at desk now desk_then so_far.requests so_far.kept step.clean found.request goes.0 goes.1.is_lent calls_turn found.reached
+        kept_on g at desk now desk_then so_far.requests so_far.kept step.later.clean found.request goes.0 goes.1.is_lent calls_turn found.reached
 
     done_then : let found = of (next.Request len close) is in
         let goes = hears so_far.front buf ended so_far.requests (heard.Request found.request) so_far.cut found.heard_is in
@@ -198,7 +197,7 @@ module _ {S R W : Type 0} (g : Ghosts S) (remaining : R → Option (List ℕ)) (
         let HasNextSo : List ℕ → Type 0 = λ bytes. HasNext bytes so_far.requests goes.0 in
         counts_cut g remaining contents at desk reader writer now reader_now writer_now ended buf answers so_far desk_then reader_now writer_then (inl (failed ∙ so_far.failed))
         (or_next g at desk finds now so_far.requests so_far.kept so_far.world_is desk_then whole goes.0
-        (subst HasNextSo (sym (parts g remaining contents at desk reader writer now reader_now writer_now ended buf answers so_far)) (goes.1.next (more g remaining contents at desk reader writer now reader_now writer_now ended buf answers so_far))) step.clean done_then)
+        (subst HasNextSo (sym (parts g remaining contents at desk reader writer now reader_now writer_now ended buf answers so_far)) (goes.1.next (more g remaining contents at desk reader writer now reader_now writer_now ended buf answers so_far))) step.later.clean done_then)
 
     pub some_bytes : (0 < len) × (len ≤ length buf)
     some_bytes =
@@ -253,7 +252,7 @@ module _ {S R W : Type 0} (g : Ghosts S) (remaining : R → Option (List ℕ)) (
     (step : IsLaterDesk g now desk_then) (left : IsClean g desk_then.held → IsOpen g desk_then.held → world_at g desk_then.held ≡ world_at g now.held)
     (knows : IsClean g desk_then.held → IsOpen g desk_then.held → Knows g desk_then.held (world_at g desk_then.held))
     (seen : List ℕ) (seen_is : seen ≡ buf) (comes : ((so_far.requests ≡ []) × (why ≡ machine.Memory)) ⊎ IsNextFault seen ended why)
-    (finds : FindsKnown g) (schemas : TreesTellSchemas) (worlds_turn : WorldsInTurn) (crash : Survives (state g now.held) (state g desk_then.held) (LeavesNext g now.held at seen ended)) where
+    (finds : FindsKnown g) (worlds_turn : WorldsInTurn) (crash : Survives (state g now.held) (state g desk_then.held) (LeavesNext g now.held at seen ended)) where
   abbrev all : List ℕ
   all = input g remaining contents at desk reader writer now reader_now writer_now ended buf answers so_far
 
@@ -289,7 +288,7 @@ module _ {S R W : Type 0} (g : Ghosts S) (remaining : R → Option (List ℕ)) (
   machine_failed (Ok served) told =
       let Ended : Served → Type 0 = λ s. IsStreamEnd g remaining contents at reads desk desk_then reader reader_now writer writer_then (Ok s) in
       subst Ended (sym told.0) (
-        (λ clean. ends_refused g remaining contents at desk reader writer now reader_now writer_now ended buf answers so_far desk_then writer_then step.clean left knows (refusal_for why) is_fault told.1 clean),
+        (λ clean. ends_refused g remaining contents at desk reader writer now reader_now writer_now ended buf answers so_far desk_then writer_then step.later.clean left knows (refusal_for why) is_fault told.1 clean),
         so_far.read,
         told.2 ∙ so_far.put,
       )
@@ -297,7 +296,7 @@ module _ {S R W : Type 0} (g : Ghosts S) (remaining : R → Option (List ℕ)) (
   machine_failed (Err (fault.Write n)) told =
       let Ended : ℕ → Type 0 = λ m. IsStreamEnd g remaining contents at reads desk desk_then reader reader_now writer writer_then (Err (fault.Write m)) in
       subst Ended (sym told.0) (
-        (λ clean. cut_refused g remaining contents at desk reader writer now reader_now writer_now ended buf answers so_far desk_then writer_then step.clean left knows (refusal_for why) is_fault told.1 clean),
+        (λ clean. cut_refused g remaining contents at desk reader writer now reader_now writer_now ended buf answers so_far desk_then writer_then step.later.clean left knows (refusal_for why) is_fault told.1 clean),
         so_far.read,
         failed_then writer writer_now writer_then so_far.put told.2,
       )
@@ -311,7 +310,7 @@ module _ {S R W : Type 0} (g : Ghosts S) (remaining : R → Option (List ℕ)) (
   done_or_next : AreDoneOrNext g at desk desk_then all so_far.requests
   done_or_next =
       let Left : List ℕ → Type 0 = λ bytes. Survives (state g now.held) (state g desk_then.held) (LeavesNext g now.held at bytes ended) in
-      are_done_or_next g at desk finds now so_far.requests so_far.kept so_far.world_is desk_then schemas worlds_turn all buf ended (subst Left seen_is crash) step.clean
+      are_done_or_next g at desk finds now so_far.requests so_far.kept so_far.world_is desk_then worlds_turn all buf ended (subst Left seen_is crash) step.later.clean
       (λ lent told.
       let goes = hears so_far.front buf ended so_far.requests (heard.Request lent) so_far.cut told in
       let HasNextSo : List ℕ → Type 0 = λ bytes. HasNext bytes so_far.requests goes.0 in
@@ -331,13 +330,13 @@ module _ {S R W : Type 0} (g : Ghosts S) (remaining : R → Option (List ℕ)) (
 module _ {S R W : Type 0} (g : Ghosts S) (remaining : R → Option (List ℕ)) (contents : W → Option (List ℕ)) (at reads : ℕ) (desk : Keyed S) (reader : CountingIo R) (writer writer_then : CountingIo W)
     (hears : GoesOnBehind) (knows : IsClean g desk.held → IsOpen g desk.held → Knows g desk.held (world_at g desk.held))
     (result : Result Served StreamFault) (told : IsRefused contents writer writer_then machine.Memory 0 result)
-    (finds : FindsKnown g) (schemas : TreesTellSchemas) (worlds_turn : WorldsInTurn) where
+    (finds : FindsKnown g) (worlds_turn : WorldsInTurn) where
   pub no_room : IsStreamEnd g remaining contents at reads desk desk reader reader writer writer_then result
   no_room =
       machine_failed g remaining contents at reads desk desk desk reader reader writer writer writer_then false [] 0 machine.Memory (none_served g remaining contents at desk reader writer) hears
-      (later_still g desk) (λ _ _. refl) knows [] refl (inl (none_yet g remaining contents at desk reader writer, refl)) finds schemas worlds_turn (survives_still (state g desk.held) _) result told
+      (later_still g desk) (λ _ _. refl) knows [] refl (inl (none_yet g remaining contents at desk reader writer, refl)) finds worlds_turn (survives_still (state g desk.held) _) result told
 
   pub no_room_counted : IsCounted g remaining contents at desk desk reader reader writer writer_then result
   no_room_counted =
       machine_counted g remaining contents at reads desk desk desk reader reader writer writer writer_then false [] 0 machine.Memory (none_served g remaining contents at desk reader writer) hears
-      (later_still g desk) (λ _ _. refl) knows [] refl (inl (none_yet g remaining contents at desk reader writer, refl)) finds schemas worlds_turn (survives_still (state g desk.held) _) refl result told
+      (later_still g desk) (λ _ _. refl) knows [] refl (inl (none_yet g remaining contents at desk reader writer, refl)) finds worlds_turn (survives_still (state g desk.held) _) refl result told

@@ -2,10 +2,10 @@
 use Rattle.std.proofs.Common.{◌≡◌, ◌≢◌, ◌⊎◌, ◌++◌, ℕ, Bool, List, [], ◌∷◌, Result, Ok, Err, inl, inr, refl, sym, ap, ◌∙◌, subst, append-nil}
 use Rattle.std.specs.List.{cons_option}
 use Rattle.sqlite_trees.specs.declared.store.Store.{Ghosts}
-use Rattle.sqlite.specs.Effect.{Database, IsDatabase}
+use Rattle.sqlite_trees.specs.Tree.{Trees}
+use Rattle.sqlite.specs.Effect.{Database}
 use Rattle.sqlite.specs.Held.{Held, state}
 use Rattle.sqlite.specs.State.{Survives}
-use Rattle.agv_creation.specs.NewDesk.{TreesTellSchemas}
 use Rattle.agv_desk.specs.Outcomes.{after}
 use Rattle.agv_desk.specs.declared.call.Call.{Call}
 use Rattle.agv_header.specs.declared.refusal.Refusal.{Refusal}
@@ -18,6 +18,7 @@ use Rattle.agv_http.specs.declared.request.heard.RequestRef.{RequestRef}
 use Rattle.agv_schema.specs.Connections.{IsClean}
 use Rattle.agv_schema.specs.SchemaNumbers.{desk_seats}
 use Rattle.agv_store.specs.Floors.{Keyed, Knows, world_at}
+use Rattle.agv_store.specs.Running.{HasDatabase}
 use Rattle.agv_store.specs.Serving.{FoundIn, LeavesCall}
 use Rattle.agv_world.specs.Worlds.{World}
 use Rattle.agv_face.specs.Nexts.{LeavesNext}
@@ -27,7 +28,11 @@ use Rattle.agv_face.proofs.InTurn.{CallsInTurn, WorldsInTurn, calls_more, next_w
 
 -- an opening finds the world of a desk that knows one
 abbrev pub FindsKnown : {S : Type 0} → Ghosts S → Type 0
-FindsKnown {S} g = (held : Held S) (world : World) → Knows g held world → (found : Database) → IsDatabase found → (state g held).may_leave found.trees → FoundIn found world
+FindsKnown {S} g = (held : Held S) (world : World) → Knows g held world → (trees : Trees) → (state g held).may_leave trees → HasDatabase (λ found. FoundIn found world) trees
+
+-- what holds of each database that is so
+has_weaker : {One Other : Database → Type 0} {trees : Trees} → ((found : Database) → One found → Other found) → HasDatabase One trees → HasDatabase Other trees
+has_weaker more has = record { found = has.found; listed = has.listed; trees_are = has.trees_are; is_so = more has.found has.is_so }
 
 not_nil : {X : Type 0} (l : List X) (x : X) → l ++ x ∷ [] ≢ []
 not_nil [] x is = absurd (cc is)
@@ -100,50 +105,47 @@ module _ {S : Type 0} (g : Ghosts S) (at : ℕ) (desk : Keyed S) where
   -- ---- at an end
 
   module _ (finds : FindsKnown g) (now : Keyed S) (requests : List Request) (kept : HasKept now requests) (world_is : IsClean g now.held → world_at g now.held ≡ world_after desk_seats start at requests) where
-    found_now : IsClean g now.held → Known now → (found : Database) → IsDatabase found → (state g now.held).may_leave found.trees → FoundIn found (world_after desk_seats start at requests)
-    found_now clean knows found listed left =
-        let Found : World → Type 0 = λ world. FoundIn found world in
-        subst Found (world_is clean) (finds now.held (world_at g now.held) knows found listed left)
+    found_now : IsClean g now.held → Known now → (trees : Trees) → (state g now.held).may_leave trees → HasDatabase (λ found. FoundIn found (world_after desk_seats start at requests)) trees
+    found_now clean knows trees left =
+        let Found : World → Type 0 = λ world. HasDatabase (λ found. FoundIn found world) trees in
+        subst Found (world_is clean) (finds now.held (world_at g now.held) knows trees left)
 
     pub are_done : AreDone g at desk now requests
     are_done = record {
+      untouched = kept.untouched;
       knew = kept.knew;
       knows = λ clean some. let So : World → Type 0 = λ world. Knows g now.held world in subst So (world_is clean) (kept.known clean some);
-      crash = λ clean knew found listed left. found_now clean (kept.still clean knew) found listed left;
+      crash = λ clean knew trees left. found_now clean (kept.still clean knew) trees left;
     }
 
     -- another request was begun, and has no answer
-    module _ (then : Keyed S) (schemas : TreesTellSchemas) (turn : WorldsInTurn) (input buf : List ℕ) (ended : Bool)
+    module _ (then : Keyed S) (turn : WorldsInTurn) (input buf : List ℕ) (ended : Bool)
         (crash : Survives (state g now.held) (state g then.held) (LeavesNext g now.held at buf ended)) (later : IsClean g then.held → IsClean g now.held)
         (goes : (lent : RequestRef) → IsHeard buf ended (heard.Request lent) → (request : Request) × IsLent request lent × HasNext input requests request) where
       abbrev FoundSo : Database → Type 0
       FoundSo found = FoundIn found (world_after desk_seats start at requests)
           ⊎ ((request : Request) × HasNext input requests request × FoundIn found (world_after desk_seats start at (requests ++ request ∷ [])))
 
-      found_next : IsClean g now.held → (found : Database) → IsDatabase found → (lent : RequestRef) → (request : Request) × IsLent request lent × HasNext input requests request
-          → (read : Result Call Refusal) → call_of lent ≡ read → LeavesRequest g now.held at read found.trees → FoundSo found
-      found_next clean found listed lent goes (Err why) is leaves = absurd leaves
-      found_next clean found listed lent goes (Ok call) is leaves =
-          let left : LeavesCall g now.held at call found.trees = leaves in
-          let trees_same : found.trees ≡ left.found.trees = sym left.trees_are in
-          let schema = schemas left.found found left.listed listed trees_same in
-          let found_is : found ≡ left.found = λ i. record { schema = schema i; trees = trees_same i } in
+      found_next : IsClean g now.held → (trees : Trees) → (lent : RequestRef) → (request : Request) × IsLent request lent × HasNext input requests request
+          → (read : Result Call Refusal) → call_of lent ≡ read → LeavesRequest g now.held at read trees → HasDatabase FoundSo trees
+      found_next clean trees lent goes (Err why) is leaves = absurd leaves
+      found_next clean trees lent goes (Ok call) is leaves =
+          let left : LeavesCall g now.held at call trees = leaves in
           let world_then =
           ap (λ (world : World). after world (outcome_in world at (Ok call))) (world_is clean)
           ∙ ap (λ (r : Result Call Refusal). after (world_after desk_seats start at requests) (outcome_in (world_after desk_seats start at requests) at r)) (sym is)
           ∙ next_world start at requests goes.0 lent goes.1 turn in
-          let In : Database → Type 0 = λ db. FoundIn db (after (world_at g now.held) (outcome_in (world_at g now.held) at (Ok call))) in
-          let Found : World → Type 0 = λ world. FoundIn found world in
-          inr (goes.0, goes.2, subst Found world_then (subst In (sym found_is) left.has))
+          let Found : World → Type 0 = λ world. FoundIn left.found world in
+          record { found = left.found; listed = left.listed; trees_are = left.trees_are; is_so = inr (goes.0, goes.2, subst Found world_then left.has) }
 
-      found_either : IsClean g now.held → Known now → (found : Database) → IsDatabase found → (state g now.held).may_leave found.trees ⊎ LeavesNext g now.held at buf ended found.trees → FoundSo found
-      found_either clean knows found listed (inl before) = inl (found_now clean knows found listed before)
-      found_either clean knows found listed (inr next) = found_next clean found listed next.0 (goes next.0 next.1) (call_of next.0) refl next.2
+      found_either : IsClean g now.held → Known now → (trees : Trees) → (state g now.held).may_leave trees ⊎ LeavesNext g now.held at buf ended trees → HasDatabase FoundSo trees
+      found_either clean knows trees (inl before) = has_weaker (λ found has. inl has) (found_now clean knows trees before)
+      found_either clean knows trees (inr next) = found_next clean trees next.0 (goes next.0 next.1) (call_of next.0) refl next.2
 
       pub are_done_or_next : AreDoneOrNext g at desk then input requests
       are_done_or_next = record {
         knew = λ clean some. kept.knew (later clean) some;
-        crash = λ clean knew found listed left. found_either (later clean) (kept.still (later clean) knew) found listed (crash.crash clean found.trees left);
+        crash = λ clean knew trees left. found_either (later clean) (kept.still (later clean) knew) trees (crash.crash clean trees left);
       }
 
     -- or its answer was cut
@@ -151,9 +153,9 @@ module _ {S : Type 0} (g : Ghosts S) (at : ℕ) (desk : Keyed S) where
         → AreDoneOrNext g at desk then input requests
     or_next then input request next later done = record {
       knew = λ clean some. kept.knew (later clean) some;
-      crash = λ clean knew found listed left. inr (request, next, done.crash clean knew found listed left);
+      crash = λ clean knew trees left. has_weaker (λ found has. inr (request, next, has)) (done.crash clean knew trees left);
     }
 
 -- nothing more was begun
 pub none_next : {S : Type 0} (g : Ghosts S) (at : ℕ) (desk then : Keyed S) (input : List ℕ) (requests : List Request) → AreDone g at desk then requests → AreDoneOrNext g at desk then input requests
-none_next g at desk then input requests done = record { knew = done.knew; crash = λ clean knew found listed left. inl (done.crash clean knew found listed left) }
+none_next g at desk then input requests done = record { knew = done.knew; crash = λ clean knew trees left. has_weaker (λ found has. inl has) (done.crash clean knew trees left) }

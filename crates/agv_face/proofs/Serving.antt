@@ -25,6 +25,7 @@ use Rattle.agv_reports.specs.Reports.{names_report, report_of}
 use Rattle.agv_store.specs.Floors.{Keyed, Knows, world_at}
 use Rattle.agv_store.specs.Serving.{LeavesCall, world_after}
 use Rattle.agv_row_reading.specs.WorldAnswers.{HasWorld}
+use Rattle.agv_schema.proofs.Later.{later_refl, later_trans}
 use Rattle.agv_world_reading.specs.WorldIn.{world_in}
 use Rattle.agv_schema.specs.DeskRows.{Placing}
 use Rattle.agv_schema.specs.SchemaNumbers.{desk_seats}
@@ -135,12 +136,12 @@ stays_or_fits changes_none world world_then at request reply fits short served =
 -- ---- moments of a desk
 
 pub later_still : {S : Type 0} (g : Ghosts S) (desk : Keyed S) → IsLaterDesk g desk desk
-later_still g desk = record { clean = λ is. is; was_open = λ _ is. is; stopped = λ _. refl }
+later_still g desk = record { later = later_refl g desk.held; was_open = λ _ is. is; stopped = λ _. refl }
 
 pub later_then : {S : Type 0} (g : Ghosts S) (desk now then : Keyed S) → IsLaterDesk g desk now → IsLaterDesk g now then → IsLaterDesk g desk then
 later_then {S = S} g desk now then first second = record {
-  clean = λ clean. first.clean (second.clean clean);
-  was_open = λ clean still. first.was_open (second.clean clean) (second.was_open clean still);
+  later = later_trans g desk.held now.held then.held first.later second.later;
+  was_open = λ clean still. first.was_open (second.later.clean clean) (second.was_open clean still);
   stopped = λ failed. let same = first.stopped failed in second.stopped (ap (λ (d : Keyed S). d.failed) same ∙ failed) ∙ same;
 }
 

@@ -287,7 +287,7 @@ module _ {S R W : Type 0} (g : Ghosts S) (remaining : R → Option (List ℕ)) (
         (goes : GoesOnBy s.front buf s.requests lent request) (out : List ℕ) (answered : IsClean g then.held → IsAnswered (world_at g now.held) (world_at g then.held) at lent out)
         (answers_turn : AnswersInTurn) (worlds_turn : WorldsInTurn) where
       later : IsClean g then.held → IsClean g now.held
-      later clean = step.clean clean
+      later clean = step.later.clean clean
 
       out_is : IsClean g then.held → out ≡ text_for reached at lent
       out_is clean = (answered clean).text_is ∙ ap (λ (world : World). text_for world at lent) (s.world_is (later clean))
@@ -373,7 +373,7 @@ module _ {S R W : Type 0} (g : Ghosts S) (remaining : R → Option (List ℕ)) (
             → (bytes : List ℕ) × IsInput remaining reader bytes × Leaves g contents desk then writer writer_then (λ world text left. IsWriteFault desk_seats world at bytes text left answers)
         cut_answer part clean =
             let HasNextSo : List ℕ → Type 0 = λ bytes. HasNext bytes s.requests request in
-            cut_short then writer_then step.clean out (world_after desk_seats start at (s.requests ++ request ∷ []))
+            cut_short then writer_then step.later.clean out (world_after desk_seats start at (s.requests ++ request ∷ []))
             (inl (record {
               request = request;
               next = subst HasNextSo (sym parts) (goes.next more);

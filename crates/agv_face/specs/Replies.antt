@@ -8,7 +8,7 @@ use Rattle.sqlite.specs.Held.{Held}
 use Rattle.agv_store.specs.Floors.{Keyed, Knows, world_at}
 use Rattle.agv_store.specs.Serving.{LeavesCall}
 use Rattle.agv_schema.specs.SchemaNumbers.{desk_seats}
-use Rattle.agv_schema.specs.Connections.{IsClean, IsOpen}
+use Rattle.agv_schema.specs.Connections.{IsClean, IsLater, IsOpen}
 use Rattle.agv_world.specs.Worlds.{World}
 use Rattle.agv_world.specs.declared.fault.Fault.{Fault}
 use Rattle.agv_world.specs.declared.fault.Fault.TheVariants as machine
@@ -43,9 +43,9 @@ pub record IsAnswered (world world_then : World) (at : ℕ) (request : RequestRe
   pub text_is : text ≡ text_for world at request
   pub world_is : world_then ≡ after world (outcome_in world at (call_of request))
 
--- a later moment of a desk: where it is clean it was, and where it is open it was; where its store had failed before, it is as it was
+-- a later moment of a desk: only a fault of the disk has shut its store, and where it is open it was; where its store had failed before, the desk is as it was
 pub record IsLaterDesk {S : Type 0} (g : Ghosts S) (desk desk_then : Keyed S) : Type 0 where
-  pub clean : IsClean g desk_then.held → IsClean g desk.held
+  pub later : IsLater g desk.held desk_then.held
   pub was_open : IsClean g desk_then.held → IsOpen g desk_then.held → IsOpen g desk.held
   pub stopped : desk.failed ≡ true → desk_then ≡ desk
 

@@ -1,7 +1,8 @@
 -- What the calls of a stream make of the desk, and what a crash leaves of its tables.
-use Rattle.std.specs.Prelude.{◌≢◌, ◌⊎◌, ℕ, List, [], ◌∷◌, ◌++◌}
+use Rattle.std.specs.Prelude.{◌≡◌, ◌≢◌, ◌⊎◌, ℕ, List, [], ◌∷◌, ◌++◌}
+use Rattle.sqlite_trees.specs.Tree.{Trees}
 use Rattle.sqlite_trees.specs.declared.store.Store.{Ghosts}
-use Rattle.sqlite.specs.Effect.{Database, IsDatabase}
+use Rattle.sqlite.specs.Effect.{Database}
 use Rattle.sqlite.specs.Held.{state}
 use Rattle.agv_http.specs.request.Fronts.{HasNext}
 use Rattle.agv_http.specs.request.Requests.{Request}
@@ -10,6 +11,7 @@ use Rattle.agv_http.specs.StreamEnds.{IsOfMachine}
 use Rattle.agv_schema.specs.Connections.{IsClean}
 use Rattle.agv_schema.specs.SchemaNumbers.{desk_seats}
 use Rattle.agv_store.specs.Floors.{Keyed, Knows, world_at}
+use Rattle.agv_store.specs.Running.{HasDatabase}
 use Rattle.agv_store.specs.Serving.{FoundIn}
 use Rattle.agv_world.specs.Worlds.{World}
 use Rattle.agv_face.specs.declared.stream_end.Ended.{Ended}
@@ -21,13 +23,15 @@ module _ {S : Type 0} (g : Ghosts S) (at : ℕ) (desk desk_then : Keyed S) where
   abbrev pub world_of : List Request → World
   world_of requests = world_after desk_seats (world_at g desk.held) at requests
 
-  -- of a desk that knew a world, an opening after a crash finds a database that is so
+  -- of a desk that knew a world: whatever trees a crash may leave are of a database that is so
   abbrev pub CrashLeaves : (Database → Type 0) → Type 0
   CrashLeaves IsSo = IsClean g desk_then.held → Knows g desk.held (world_at g desk.held)
-      → (found : Database) → IsDatabase found → (state g desk_then.held).may_leave found.trees → IsSo found
+      → (trees : Trees) → (state g desk_then.held).may_leave trees → HasDatabase IsSo trees
 
   -- these requests were answered, and no other one was begun
   pub record AreDone (requests : List Request) : Type 0 where
+    -- where none of them is a call, the desk is as it was
+    pub untouched : calls_of requests at ≡ [] → desk_then ≡ desk
     -- a call is answered only by a desk that knew a lawful world
     pub knew : IsClean g desk_then.held → calls_of requests at ≢ [] → Knows g desk.held (world_at g desk.held)
     -- then the store is open, and the desk knows the world that the requests have left

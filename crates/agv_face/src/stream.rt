@@ -10,7 +10,6 @@ use crate::bytes::{LONGEST_REQUEST, behind, drop_front, read_some, write_whole};
 use crate::counting_io::CountingIo;
 use crate::next::{Next, serve_next};
 use crate::stream_end::{Ended, Served, StreamFault};
-use agv_creation::making_laws::trees_tell_schemas;
 use agv_header::{Memory, Moment, Refusal};
 use agv_http::laws::streams::{answers_in_turn, hears_how_it_goes_on};
 use agv_http::{Routes, memory_answer, storage_answer};
@@ -69,12 +68,15 @@ pub fn serve_stream<S: Alter + Drop, R: Read, W: Write>(
 /// written before more is read; a test does.
 ///
 /// Which requests were answered, and how many, holds whatever the disk answers (`counts`). It says besides what their calls
-/// have made of the desk (`specs/StreamCalls.antt`): a call is answered only by a desk that knew a lawful world, the store is
-/// then open and the desk knows the world that is left, and a crash leaves the rows of the world after the requests that
-/// were answered; behind a fault of the machine or a cut answer it may leave those after one request more.
+/// have made of the desk (`specs/StreamCalls.antt`): a call is answered only by a desk that knew a lawful world, and a crash
+/// leaves the rows of the world after the requests that were answered; behind a fault of the machine or a cut answer it may
+/// leave those after one request more. At each other end, where a call was answered, the store is open, and the desk knows the
+/// world that is left; where none was, the desk is as it was.
 ///
-/// Where the store is open as the stream ends it was open before, so another stream goes on from the world that is known (`later`). A desk that had failed
-/// before stays as it is and serves no call: the first one is answered `Storage`, and the stream ends.
+/// However the stream ends, the store is open then where it was, unless its disk had a fault meanwhile, and where it is open
+/// it was open before: so another stream goes on from the world that is known (`later`, and
+/// [`laws::streams_leave_the_store_open`](crate::laws::streams_leave_the_store_open)). A desk that had failed before stays as
+/// it is and serves no call: the first one is answered `Storage`, and the stream ends.
 ///
 /// # Errors
 /// `Read` where a read failed, or the most reads were made and one more is needed. `Write` where a write failed or took no
@@ -96,7 +98,6 @@ pub fn serve_stream_within<S: Alter + Drop, R: Read, W: Write>(
     hears_how_it_goes_on();
     answers_in_turn();
     crashes_leave_before_or_after::<S>();
-    trees_tell_schemas();
     desk.knows();
     let _calls = reader.calls();
     match reserve(alloc) {
@@ -143,7 +144,6 @@ fn serve_requests<S: Alter + Drop, R: Read, W: Write>(
     hears_how_it_goes_on();
     answers_in_turn();
     crashes_leave_before_or_after::<S>();
-    trees_tell_schemas();
     let most = max_reads.min(READS_AT_ALL);
     let mut ended = false;
     let mut reads = 0;

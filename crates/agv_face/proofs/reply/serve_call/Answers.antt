@@ -4,6 +4,7 @@ use Rattle.sqlite.specs.Held.{state}
 use Rattle.agv_reports.specs.Reports.{names_report, report_of}
 use Rattle.agv_store.specs.Floors.{Keyed, Knows, world_at}
 use Rattle.agv_schema.specs.Connections.{IsClean}
+use Rattle.agv_schema.proofs.Later.{later_by}
 use Rattle.agv_world_reading.specs.WorldIn.{world_in}
 use Rattle.agv_world.specs.Worlds.{World}
 use Rattle.agv_face.proofs.Serving.{by_both, later_then, on_err, same_report, stays, true_where, world_known}
@@ -65,13 +66,13 @@ returns-clause-crash g c =
 -- ---- the desk at a later moment
 
 pub returns-in_err-answer-clause-later : goal.returns-in_err-answer-clause-later
-returns-in_err-answer-clause-later g c = record { clean = λ clean. omega (arith, c.serve.ensures.crash.clean, clean); was_open = c.serve.ensures.was_open; stopped = λ failed. (c.serve.ensures.stopped failed).1 }
+returns-in_err-answer-clause-later g c = record { later = later_by g.S.Store c.args.desk.now.held c.serve.new.self.held c.serve.ensures.crash; was_open = c.serve.ensures.was_open; stopped = λ failed. (c.serve.ensures.stopped failed).1 }
 
 pub returns-in_err-report-clause-later : goal.returns-in_err-report-clause-later
 returns-in_err-report-clause-later g c =
-    let served : IsLaterDesk g.S.Store c.args.desk.now c.serve.new.self = record { clean = λ clean. omega (arith, c.serve.ensures.crash.clean, clean); was_open = c.serve.ensures.was_open; stopped = λ failed. (c.serve.ensures.stopped failed).1 } in
+    let served : IsLaterDesk g.S.Store c.args.desk.now c.serve.new.self = record { later = later_by g.S.Store c.args.desk.now.held c.serve.new.self.held c.serve.ensures.crash; was_open = c.serve.ensures.was_open; stopped = λ failed. (c.serve.ensures.stopped failed).1 } in
     let told : IsLaterDesk g.S.Store c.serve.new.self c.report.new.self = record {
-      clean = λ clean. omega (arith, c.report.ensures.crash.clean, clean);
+      later = later_by g.S.Store c.serve.new.self.held c.report.new.self.held c.report.ensures.crash;
       was_open = c.report.ensures.was_open;
       stopped = λ failed. by_both (names_report c.in_ok-answer.answer) (λ named. (c.report.ensures.stopped named failed).1) (λ none. (c.report.ensures.silent none).1);
     } in
@@ -79,9 +80,9 @@ returns-in_err-report-clause-later g c =
 
 pub returns-clause-later : goal.returns-clause-later
 returns-clause-later g c =
-    let served : IsLaterDesk g.S.Store c.args.desk.now c.serve.new.self = record { clean = λ clean. omega (arith, c.serve.ensures.crash.clean, clean); was_open = c.serve.ensures.was_open; stopped = λ failed. (c.serve.ensures.stopped failed).1 } in
+    let served : IsLaterDesk g.S.Store c.args.desk.now c.serve.new.self = record { later = later_by g.S.Store c.args.desk.now.held c.serve.new.self.held c.serve.ensures.crash; was_open = c.serve.ensures.was_open; stopped = λ failed. (c.serve.ensures.stopped failed).1 } in
     let told : IsLaterDesk g.S.Store c.serve.new.self c.report.new.self = record {
-      clean = λ clean. omega (arith, c.report.ensures.crash.clean, clean);
+      later = later_by g.S.Store c.serve.new.self.held c.report.new.self.held c.report.ensures.crash;
       was_open = c.report.ensures.was_open;
       stopped = λ failed. by_both (names_report c.in_ok-answer.answer) (λ named. (c.report.ensures.stopped named failed).1) (λ none. (c.report.ensures.silent none).1);
     } in

@@ -106,7 +106,7 @@ returns-in-Ok-Fault-clause-failed g c = failed_still g.S.Store g.R.Read.remainin
 pub returns-in-Err-clause-ends : goal.returns-in-Err-clause-ends
 returns-in-Err-clause-ends g c =
     machine_failed g.S.Store g.R.Read.remaining g.W.Write.contents c.args.at c.args.max_reads c.args.desk.now c.loop-reads.desk c.serve_next-next.new.desk c.args.reader.now c.loop-reads.reader c.args.writer.now c.loop-reads.writer c.refuse.new.writer c.loop-reads.ended (drop c.loop-reads.served c.loop-reads.room.input.items) c.loop-reads.answers
-    c.in-Err.fault c.loop-reads.invariant.0 c.hears_how_it_goes_on.ensures c.in-Err.ensures.later c.in-Err.ensures.unchanged_on_err c.knows.ensures c.behind.result.now c.behind.ensures (inr c.in-Err.ensures.fault) c.crashes_leave_before_or_after.ensures.known c.trees_tell_schemas.ensures.schema c.answers_in_turn.ensures.world c.in-Err.ensures.crash c.refuse.result c.refuse.ensures
+    c.in-Err.fault c.loop-reads.invariant.0 c.hears_how_it_goes_on.ensures c.in-Err.ensures.later c.in-Err.ensures.unchanged_on_err c.knows.ensures c.behind.result.now c.behind.ensures (inr c.in-Err.ensures.fault) c.crashes_leave_before_or_after.ensures.known c.answers_in_turn.ensures.world c.in-Err.ensures.crash c.refuse.result c.refuse.ensures
 
 -- ---- how far the stream has come
 
@@ -134,7 +134,7 @@ returns-in-Ok-Fault-clause-counts g c = told_counted g.S.Store g.R.Read.remainin
 pub returns-in-Err-clause-counts : goal.returns-in-Err-clause-counts
 returns-in-Err-clause-counts g c =
     machine_counted g.S.Store g.R.Read.remaining g.W.Write.contents c.args.at c.args.max_reads c.args.desk.now c.loop-reads.desk c.serve_next-next.new.desk c.args.reader.now c.loop-reads.reader c.args.writer.now c.loop-reads.writer c.refuse.new.writer c.loop-reads.ended (drop c.loop-reads.served c.loop-reads.room.input.items) c.loop-reads.answers
-    c.in-Err.fault c.loop-reads.invariant.0 c.hears_how_it_goes_on.ensures c.in-Err.ensures.later c.in-Err.ensures.unchanged_on_err c.knows.ensures c.behind.result.now c.behind.ensures (inr c.in-Err.ensures.fault) c.crashes_leave_before_or_after.ensures.known c.trees_tell_schemas.ensures.schema c.answers_in_turn.ensures.world c.in-Err.ensures.crash c.in-Err.ensures.failed c.refuse.result c.refuse.ensures
+    c.in-Err.fault c.loop-reads.invariant.0 c.hears_how_it_goes_on.ensures c.in-Err.ensures.later c.in-Err.ensures.unchanged_on_err c.knows.ensures c.behind.result.now c.behind.ensures (inr c.in-Err.ensures.fault) c.crashes_leave_before_or_after.ensures.known c.answers_in_turn.ensures.world c.in-Err.ensures.crash c.in-Err.ensures.failed c.refuse.result c.refuse.ensures
 
 -- ---- the desk at a later moment
 
