@@ -1,29 +1,30 @@
-//! Desks over a database in memory and on a disk in memory.
+//! Desks over databases in memory, and over files in memory that may fail.
 
-use agv_store::Desk;
-use sqlite::{Alter, Connection, FileStore, Files, MemStore, Options};
+use crate::cases::check;
+use agv_store::{Desk, OpenFault};
+use sqlite::{Alter, Connection, FileStore, Files, Options};
 use sqlite_disk::{Crash, Disk, Fuse, Memory};
 use std::alloc::Global;
 use std::process::Abort;
 
-/// A disk in memory that fails from some call on.
-pub(crate) type FailingDisk = Fuse<Memory>;
-
-/// An empty database in memory.
-pub(crate) fn no_tables(rt: &impl Abort, alloc: Global) -> Connection<MemStore> {
-    Connection::open_in_memory(alloc).expect(rt, "memory")
+/// Two empty files behind fuses that aren't reached.
+pub(crate) fn blank(alloc: Global) -> Files<Fuse<Memory>> {
+    Files {
+        log: Fuse::new(Memory::new(alloc), u64::MAX),
+        db: Fuse::new(Memory::new(alloc), u64::MAX),
+    }
 }
 
-/// Two empty files: so many calls go through on the log, and so many on the database file.
-pub(crate) fn blank(alloc: Global, log: u64, db: u64) -> Files<FailingDisk> {
+/// The files behind fuses: so many calls go through on the log, and so many on the database file.
+pub(crate) fn fused<D: Disk>(files: Files<D>, log: u64, db: u64) -> Files<Fuse<D>> {
     Files {
-        log: Fuse::new(Memory::new(alloc), log),
-        db: Fuse::new(Memory::new(alloc), db),
+        log: Fuse::new(files.log, log),
+        db: Fuse::new(files.db, db),
     }
 }
 
 /// The database that the files have.
-fn open<D: Disk + Drop>(
+pub(crate) fn open<D: Disk + Drop>(
     rt: &impl Abort,
     alloc: Global,
     files: Files<D>,
@@ -34,11 +35,6 @@ fn open<D: Disk + Drop>(
         Ok(conn) => conn,
         Err(_) => panic!(rt; "the files open"),
     }
-}
-
-/// An empty database on files in memory, behind fuses that aren't reached.
-pub(crate) fn unreached(rt: &impl Abort, alloc: Global) -> Connection<FileStore<FailingDisk>> {
-    open(rt, alloc, blank(alloc, u64::MAX, u64::MAX))
 }
 
 /// The files of a database, and whether all that the log has was copied into the database file.
@@ -61,38 +57,34 @@ pub(crate) fn after_a_stop<D: Crash + Drop>(
     open(rt, alloc, files)
 }
 
-/// The database is closed, and then the machine stops.
-pub(crate) fn reopen<D: Crash + Drop>(
-    rt: &impl Abort,
-    alloc: Global,
-    conn: Connection<FileStore<D>>,
-) -> Connection<FileStore<D>> {
-    let (files, _) = copied_out(conn);
-    after_a_stop(rt, alloc, files)
-}
-
-/// A new desk.
-pub(crate) fn made<S: Alter + Drop>(
+/// A desk in this database, by the call of that name.
+pub(crate) fn opened<S: Alter + Drop>(
     rt: &impl Abort,
     alloc: Global,
     conn: Connection<S>,
-) -> Desk<S> {
+    way: &str,
+) -> Result<Desk<S>, (Connection<S>, OpenFault)> {
     assert!(rt; conn.is_autocommit(), "idle");
-    match Desk::create(alloc, conn) {
-        Ok(desk) => desk,
-        Err(_) => panic!(rt; "a desk is made"),
+    match way {
+        "create" => Desk::create(alloc, conn),
+        "adopt" => Desk::adopt(alloc, conn),
+        "open" => Desk::open(alloc, conn),
+        _ => Desk::migrate(alloc, conn),
     }
 }
 
-/// The desk that a database has.
-pub(crate) fn adopted<S: Alter + Drop>(
+/// The desk that there is then.
+pub(crate) fn desk<S: Alter + Drop>(
     rt: &impl Abort,
     alloc: Global,
     conn: Connection<S>,
+    way: &str,
 ) -> Desk<S> {
-    assert!(rt; conn.is_autocommit(), "idle");
-    match Desk::adopt(alloc, conn) {
-        Ok(desk) => desk,
-        Err(_) => panic!(rt; "the desk is adopted"),
+    match opened(rt, alloc, conn, way) {
+        Ok(desk) => {
+            check(rt, !desk.failed(), "the store works");
+            desk
+        }
+        Err(_) => panic!(rt; "no desk: `{way}`"),
     }
 }

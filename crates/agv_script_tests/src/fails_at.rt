@@ -1,4 +1,4 @@
-//! A world in memory that counts the questions, and whose store fails once it has answered so many.
+//! A world in memory whose store fails once it has answered so many questions.
 ghost use Rattle.std.specs.Prelude.{◌≡◌, true, IfErr, IfOk};
 ghost use Rattle.agv_world.specs.declared.fault.Fault.TheVariants as fault;
 
@@ -9,12 +9,12 @@ use agv_order::Trip;
 use agv_stock::Place;
 use agv_world::{Counted, Fault, Floor, JobRow, PlainFloor, UseKind, VehicleRow};
 
-/// A world in memory that counts the questions, and whose store fails once it has answered so many.
+/// A world in memory whose store fails once it has answered so many questions.
 #[derive(Drop)]
 pub(crate) struct FailsAt<'a> {
     floor: PlainFloor<'a>,
-    /// How many questions it was asked since it last began to count.
-    pub(crate) asked: usize,
+    /// How many questions it was asked.
+    asked: usize,
     /// How many of them it answers.
     most: usize,
     failed: bool,
@@ -29,6 +29,11 @@ impl<'a> FailsAt<'a> {
             most,
             failed: false,
         }
+    }
+
+    /// Whether it has failed.
+    pub(crate) fn has_failed(&self) -> bool {
+        self.failed
     }
 
     /// A question is asked.

@@ -1,20 +1,23 @@
-//! A desk that keeps its world in memory, and answers requests with bytes.
+//! A desk that keeps its world in memory, whose floor fails at each question of a call in turn before it answers.
 ghost use Rattle.std.specs.Prelude.{◌≤◌};
 
-use crate::cases::{check, check_bytes, check_text};
-use crate::reports::report_of;
-use crate::steps::Step;
+use crate::cases::{check, check_bytes, check_text, moment};
+use crate::fails_at::FailsAt;
+use crate::lines::{answer_of, asks, parted, request_of, said_in};
 use agv_desk::{Answer, Call, Decision, decide, moves_of};
 use agv_header::{Moment, Name, Refusal};
 use agv_http::{Heard, RequestRef, Routes, answer_bytes, call_of, read_request};
 use agv_message::BodyFault;
-use agv_stock::{Phase, Place};
-use agv_world::{PlainFloor, World};
+use agv_stock::Place;
+use agv_world::{Fault, PlainFloor, World};
 use std::alloc::Global;
 use std::process::Abort;
 
 /// The moment of all calls, unless a script says another one.
 pub(crate) const MOMENT: i64 = 1_700_000_000_000;
+
+/// The most questions of a call.
+const MOST: usize = 1000;
 
 /// A call, or the refusal of what is none.
 pub(crate) type Asked = Result<Call, Refusal>;
@@ -69,46 +72,59 @@ fn check_changes(rt: &impl Abort, decision: &Decision) {
     }
 }
 
-/// Appends where a load is.
-fn put_place(rt: &impl Abort, text: &mut String, place: &Place) {
-    let put = match place {
-        Place::Station(id) => write!(text, "station {id}"),
-        Place::Vehicle(key) => write!(text, "vehicle {}/{}", key.manufacturer, key.serial),
-        Place::Checking => write!(text, "checking"),
-        Place::Left => write!(text, "left"),
-    };
-    put.expect(rt, "memory");
-}
-
 /// Appends a load and where it goes.
 fn put_move(rt: &impl Abort, text: &mut String, load: &Name, place: &Place) {
     if !text.is_empty() {
         text.push_str(", ").expect(rt, "memory");
     }
-    write!(text, "{load} ").expect(rt, "memory");
-    put_place(rt, text, place);
+    let put = match place {
+        Place::Station(id) => write!(text, "{load} station {id}"),
+        Place::Vehicle(key) => write!(text, "{load} vehicle {}/{}", key.manufacturer, key.serial),
+        Place::Checking => write!(text, "{load} checking"),
+        Place::Left => write!(text, "{load} left"),
+    };
+    put.expect(rt, "memory");
 }
 
-/// How far a job is, as its table says it.
-fn phase_word(phase: &Phase) -> &'static str {
-    match phase {
-        Phase::Waiting => "waiting",
-        Phase::Riding => "riding",
-        Phase::Done => "done",
-        Phase::Stopped => "stopped",
+/// Decides a call where the store answers so many questions: none where it fails, and then by that fault.
+fn decided_at(
+    rt: &impl Abort,
+    alloc: Global,
+    floor: PlainFloor<'_>,
+    most: usize,
+    at: Moment,
+    call: &Call,
+) -> Option<Decision> {
+    let mut store = FailsAt::new(floor, most);
+    match decide(alloc, &mut store, at, call) {
+        Ok(decision) => {
+            check(rt, !store.has_failed(), "an answer after a fault");
+            Some(decision)
+        }
+        Err(fault) => {
+            check(rt, fault == Fault::Storage, "the fault");
+            check(rt, store.has_failed(), "a fault of a store that answers");
+            None
+        }
     }
 }
 
 impl InMemory {
-    /// What answers questions to its world.
-    pub(crate) fn floor(&self, alloc: Global) -> PlainFloor<'_> {
-        PlainFloor::new(alloc, &self.world, self.seats)
+    /// Decides a call over a copy of its world, once the store has failed at each of its questions.
+    fn decided(&self, rt: &impl Abort, alloc: Global, at: Moment, call: &Call) -> Decision {
+        let world = self.world.copy().expect(rt, "memory");
+        for most in 0..MOST {
+            let floor = PlainFloor::new(alloc, &world, self.seats);
+            if let Some(decision) = decided_at(rt, alloc, floor, most, at, call) {
+                return decision;
+            }
+        }
+        panic!(rt; "a call that asks too much")
     }
 
     /// Decides a call, and carries out what changes. The world is lawful then.
     fn decide(&mut self, rt: &impl Abort, alloc: Global, at: Moment, call: &Call) -> Answer {
-        let mut floor = self.floor(alloc);
-        let decision = decide(alloc, &mut floor, at, call).expect(rt, "memory");
+        let decision = self.decided(rt, alloc, at, call);
         check_changes(rt, &decision);
         self.moves = moves_of(alloc, &decision).expect(rt, "memory");
         let applied = self.world.apply(decision.changes.as_slice());
@@ -118,20 +134,20 @@ impl InMemory {
         decision.answer
     }
 
-    /// What is answered.
+    /// What is answered, where the report that it names is this.
     pub(crate) fn answer(
         &mut self,
         rt: &impl Abort,
         alloc: Global,
         at: Moment,
         asked: &Asked,
+        report: &[u8],
     ) -> Vec<u8> {
         let answer = match asked {
             Ok(call) => self.decide(rt, alloc, at, call),
             Err(refusal) => Answer::Refused(*refusal),
         };
-        let report = report_of(rt, alloc, &self.world, &answer);
-        answer_bytes(alloc, &answer, &report, false).expect(rt, "memory")
+        answer_bytes(alloc, &answer, report, false).expect(rt, "memory")
     }
 
     /// Compares the moves of the last call.
@@ -142,71 +158,30 @@ impl InMemory {
         }
         check_text(rt, text.as_str(), wanted, "the moves");
     }
-
-    /// Looks for the row of a job. Rows of other tables are not looked for.
-    fn check_row(&self, rt: &impl Abort, alloc: Global, wanted: &str) {
-        let mut found = !wanted.starts_with("job ");
-        for (id, row) in self.world.jobs.iter() {
-            let phase = phase_word(&row.phase);
-            let text = format!(in alloc;
-                "job {id} {} {} {} {phase}",
-                row.load, row.origin, row.target
-            );
-            if text.expect(rt, "memory").as_str() == wanted {
-                found = true;
-            }
-        }
-        check(rt, found, wanted);
-    }
-
-    /// Plays a step.
-    pub(crate) fn play_step(
-        &mut self,
-        rt: &impl Abort,
-        alloc: Global,
-        routes: &Routes,
-        at: Moment,
-        step: &Step,
-    ) {
-        match step {
-            Step::Call { request, answer } => {
-                let asked = asked(rt, alloc, routes, request.as_str());
-                let found = self.answer(rt, alloc, at, &asked);
-                check_bytes(rt, &found, answer.as_str(), request.as_str());
-            }
-            Step::Moves(moves) => self.check_moves(rt, alloc, moves.as_str()),
-            Step::Row(row) => self.check_row(rt, alloc, row.as_str()),
-            Step::At(_) | Step::Rows(_) => {}
-        }
-    }
 }
 
-impl InMemory {
-    /// The world that it has come to.
-    pub(crate) fn into_world(self) -> World {
-        let InMemory { world, .. } = self;
-        world
-    }
-}
-
-/// The moment of the calls that follow.
-pub(crate) fn moment_after(at: Moment, step: &Step) -> Moment {
-    match step {
-        Step::At(then) => *then,
-        _ => at,
-    }
-}
-
-/// Plays a script over a world in memory, with vehicles for so many loads: 1 to 4.
-pub(crate) fn play_in_memory(rt: &impl Abort, alloc: Global, seats: u32, steps: &[Step]) -> InMemory
+/// Plays a script in memory alone, with vehicles for so many loads: 1 to 4. The bytes of reports are not looked at.
+pub(crate) fn play_in_memory(rt: &impl Abort, alloc: Global, seats: u32, text: &str)
     requires { (1 ≤ seats) × (seats ≤ 4) }
 {
     let routes = Routes::new(alloc).expect(rt, "memory");
     let mut desk = in_memory(alloc, seats);
-    let mut at = Moment::of(MOMENT).expect(rt, "a moment");
-    for step in steps {
-        at = moment_after(at, step);
-        desk.play_step(rt, alloc, &routes, at, step);
+    let mut at = moment(rt, MOMENT);
+    let mut request = String::new(alloc);
+    let mut found = Vec::new(alloc);
+    for said in &said_in(rt, alloc, text) {
+        let (word, rest) = parted(said.line);
+        if asks(word) {
+            request = request_of(rt, alloc, said);
+            let asked = asked(rt, alloc, &routes, request.as_str());
+            found = desk.answer(rt, alloc, at, &asked, b"");
+        } else if word == "at" {
+            at = moment(rt, rest.parse::<i64>().expect(rt, rest));
+        } else if word == "moves" {
+            desk.check_moves(rt, alloc, rest);
+        } else if word.parse::<u32>().is_ok() && said.text.is_empty() {
+            let wanted = answer_of(rt, alloc, request.as_str(), said);
+            check_bytes(rt, &found, wanted.as_str(), request.as_str());
+        }
     }
-    desk
 }

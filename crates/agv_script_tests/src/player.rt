@@ -1,151 +1,229 @@
-//! Scripts are played over a world in memory and by a desk over its tables, whose answers and rows are compared.
+//! Scripts are played in a database: a desk is adopted before each call and released behind it. Each answer is the one that is
+//! wanted and the one that is decided in memory, and the world that is read of the tables is the one in memory. Besides what
+//! `lines` has, a script says of the database:
+//!
+//! ```text
+//! sql                       statements, behind it, that others carry out: from here on nothing is decided in memory
+//! create Damaged            a call that gives a desk, and why it gives none, or `ok`; where it gives none the rows stay
+//! fault Storage             the last call has no other answer
+//! make Ok(())               the desk's tables are made
+//! make used CREATE ..       but for one of them, in whose place this is carried out
+//! stand true                whether the desk's tables stand, ..
+//! room true                 .. whether the database leaves room for them, ..
+//! keyed Ok(true)            .. whether each row has a number of its own, ..
+//! lawful true               .. and whether the world that they have is lawful
+//! ```
 
-use crate::cases::{check, check_bytes};
-use crate::desks::{adopted, made, no_tables, unreached};
-use crate::memory::{Asked, InMemory, MOMENT, asked, in_memory, moment_after, play_in_memory};
-use crate::runs::run_script;
-use crate::steps::{Step, steps_of};
-use crate::streams::stream;
-use crate::tables::{check_read, check_row, check_rows};
+use crate::cases::{check, check_bytes, check_text, moment, shown};
+use crate::desks::{desk, opened};
+use crate::lines::{Said, answer_of, asks, parted, request_of, said_in};
+use crate::memory::{Asked, InMemory, MOMENT, asked, in_memory};
+use crate::tables::{check_read, check_row, check_rows, is_lawful, rows_text};
+use agv_creation::desk_tables::make_desk_tables;
+use agv_creation::standing_tables::tables_stand;
+use agv_creation::table_room::leaves_room;
+use agv_creation::table_texts::creation_texts;
 use agv_desk::Answer;
 use agv_header::Moment;
 use agv_http::{Routes, answer_bytes};
+use agv_rowids::rowid_reading::query_rowids;
 use agv_store::Desk;
 use sqlite::{Alter, Connection};
 use std::alloc::Global;
 use std::process::Abort;
 
-/// What a desk answers. A call's report is asked for behind it.
+/// The name of each table, in the order of the texts that make them.
+const NAMES: [&str; 14] = [
+    "meta", "node", "edge", "station", "vehicle", "trip", "leg", "load", "job", "hold", "used",
+    "capacity", "journey", "act",
+];
+
+/// What a desk answers, and the report that this names; where the store fails, the name of the fault.
 fn answer<S: Alter + Drop>(
     rt: &impl Abort,
     alloc: Global,
     desk: &mut Desk<S>,
     at: Moment,
     asked: &Asked,
-) -> Vec<u8> {
+) -> (Vec<u8>, Vec<u8>) {
     let answer = match asked {
-        Ok(call) => desk.serve(at, call).expect(rt, "an answer"),
         Err(refusal) => Answer::Refused(*refusal),
+        Ok(call) => match desk.serve(at, call) {
+            Ok(answer) => answer,
+            Err(fault) => {
+                check(rt, desk.failed(), "the store has failed");
+                let fault = shown(rt, alloc, &fault);
+                return (fault.into_bytes(), Vec::new(alloc));
+            }
+        },
     };
     let report = desk.report(&answer).expect(rt, "a report");
     check(rt, !desk.failed(), "the store works");
-    answer_bytes(alloc, &answer, &report, false).expect(rt, "memory")
+    let bytes = answer_bytes(alloc, &answer, &report, false).expect(rt, "memory");
+    (bytes, report)
 }
 
-/// A request that comes at a moment: its text, what it asks, and the answer that is wanted.
+/// What has come of a script.
 #[derive(Drop)]
-struct Turn<'s> {
+struct Player {
+    routes: Routes,
+    memory: InMemory,
+    /// Others have changed the rows.
+    changed: bool,
     at: Moment,
-    request: &'s str,
-    asked: Asked,
-    wanted: &'s str,
+    /// The last request, and what it was answered.
+    request: String,
+    found: Vec<u8>,
 }
 
-/// Serves a request in memory and by the desk that the database has, which is adopted before it and released behind it.
-fn play_call<S: Alter + Drop>(
-    rt: &impl Abort,
-    alloc: Global,
-    memory: &mut InMemory,
-    conn: Connection<S>,
-    turn: &Turn<'_>,
-) -> Connection<S> {
-    let found = memory.answer(rt, alloc, turn.at, &turn.asked);
-    check_bytes(rt, &found, turn.wanted, turn.request);
-    let mut desk = adopted(rt, alloc, conn);
-    let found = answer(rt, alloc, &mut desk, turn.at, &turn.asked);
-    check_bytes(rt, &found, turn.wanted, turn.request);
-    let mut conn = desk.release_conn();
-    check_read(rt, alloc, &memory.world, &mut conn);
-    conn
+impl Player {
+    /// Serves a request by the desk that the database has, and in memory.
+    fn call<S: Alter + Drop>(
+        &mut self,
+        rt: &impl Abort,
+        alloc: Global,
+        conn: Connection<S>,
+        said: &Said<'_>,
+    ) -> Connection<S> {
+        self.request = request_of(rt, alloc, said);
+        let asked = asked(rt, alloc, &self.routes, self.request.as_str());
+        let mut desk = desk(rt, alloc, conn, "adopt");
+        let (found, report) = answer(rt, alloc, &mut desk, self.at, &asked);
+        let mut conn = desk.release_conn();
+        if !self.changed {
+            let decided = self.memory.answer(rt, alloc, self.at, &asked, &report);
+            check(rt, found == decided, self.request.as_str());
+            check_read(rt, alloc, &self.memory.world, &mut conn);
+        }
+        self.found = found;
+        conn
+    }
+
+    /// Looks at the database.
+    fn look<S: Alter>(
+        &mut self,
+        rt: &impl Abort,
+        alloc: Global,
+        conn: &mut Connection<S>,
+        said: &Said<'_>,
+    ) {
+        let (word, rest) = parted(said.line);
+        let found = match word {
+            "stand" => shown(
+                rt,
+                alloc,
+                &tables_stand(alloc, conn.schema()).expect(rt, "memory"),
+            ),
+            "room" => shown(rt, alloc, &leaves_room(conn.schema())),
+            "keyed" => shown(rt, alloc, &query_rowids(alloc, conn)),
+            "lawful" => shown(rt, alloc, &is_lawful(rt, alloc, conn)),
+            _ => return self.compare(rt, alloc, conn, said),
+        };
+        check_text(rt, found.as_str(), rest, said.line);
+    }
+
+    /// Compares the last answer, or what has come of it.
+    fn compare<S: Alter>(
+        &mut self,
+        rt: &impl Abort,
+        alloc: Global,
+        conn: &mut Connection<S>,
+        said: &Said<'_>,
+    ) {
+        let (word, rest) = parted(said.line);
+        match word {
+            "at" => self.at = moment(rt, rest.parse::<i64>().expect(rt, rest)),
+            "moves" => self.memory.check_moves(rt, alloc, rest),
+            "row" => check_row(rt, alloc, conn, rest),
+            "rows" => check_rows(rt, alloc, conn, said.text.as_str()),
+            "fault" => check_bytes(rt, &self.found, rest, self.request.as_str()),
+            _ => {
+                let wanted = answer_of(rt, alloc, self.request.as_str(), said);
+                check_bytes(rt, &self.found, wanted.as_str(), self.request.as_str());
+            }
+        }
+    }
 }
 
-/// Plays a step.
-fn play_step<S: Alter + Drop>(
+/// Carries out statements.
+fn execute<S: Alter>(rt: &impl Abort, conn: &mut Connection<S>, texts: &str) {
+    conn.execute_batch(texts).expect(rt, texts);
+}
+
+/// Makes the desk's tables, or all but one, in whose place others are.
+fn make<S: Alter>(rt: &impl Abort, alloc: Global, conn: &mut Connection<S>, rest: &str) {
+    let (other, texts) = parted(rest);
+    if !NAMES.contains(&other) {
+        assert!(rt; conn.is_autocommit(), "idle");
+        let made = shown(rt, alloc, &make_desk_tables(conn));
+        return check_text(rt, made.as_str(), rest, "the making");
+    }
+    for (name, text) in NAMES.iter().zip(creation_texts()) {
+        execute(rt, conn, if *name == other { texts } else { text });
+    }
+}
+
+/// Opens a desk by that call. Where it gives none the rows stay.
+fn open<S: Alter + Drop>(
     rt: &impl Abort,
     alloc: Global,
-    routes: &Routes,
-    memory: &mut InMemory,
     conn: Connection<S>,
-    at: Moment,
-    step: &Step,
+    way: &str,
+    wanted: &str,
 ) -> Connection<S> {
     let mut conn = conn;
-    match step {
-        Step::Call { request, answer } => {
-            let turn = Turn {
-                at,
-                request: request.as_str(),
-                asked: asked(rt, alloc, routes, request.as_str()),
-                wanted: answer.as_str(),
-            };
-            return play_call(rt, alloc, memory, conn, &turn);
+    let before = rows_text(rt, alloc, &mut conn);
+    match opened(rt, alloc, conn, way) {
+        Ok(desk) => {
+            check(rt, wanted == "ok", way);
+            check(rt, !desk.failed(), "the store works");
+            desk.release_conn()
         }
-        Step::Moves(moves) => memory.check_moves(rt, alloc, moves.as_str()),
-        Step::Row(row) => check_row(rt, alloc, &mut conn, row.as_str()),
-        Step::Rows(rows) => check_rows(rt, alloc, &mut conn, rows.as_str()),
-        Step::At(_) => {}
+        Err((conn, why)) => {
+            let mut conn = conn;
+            check_text(rt, shown(rt, alloc, &why).as_str(), wanted, way);
+            check_rows(rt, alloc, &mut conn, before.as_str());
+            conn
+        }
     }
-    conn
 }
 
-/// Plays a script in memory and by a new desk, which is released and adopted again between its calls.
-pub(crate) fn play_over<S: Alter + Drop>(
+/// Plays a script in this database.
+pub(crate) fn play<S: Alter + Drop>(
     rt: &impl Abort,
     alloc: Global,
     conn: Connection<S>,
-    steps: &[Step],
-) {
-    let mut conn = made(rt, alloc, conn).release_conn();
-    let routes = Routes::new(alloc).expect(rt, "memory");
-    let mut memory = in_memory(alloc, 4);
-    let mut at = Moment::of(MOMENT).expect(rt, "a moment");
-    for step in steps {
-        at = moment_after(at, step);
-        conn = play_step(rt, alloc, &routes, &mut memory, conn, at, step);
+    text: &str,
+) -> Connection<S> {
+    let mut conn = conn;
+    let mut player = Player {
+        routes: Routes::new(alloc).expect(rt, "memory"),
+        memory: in_memory(alloc, 4),
+        changed: false,
+        at: moment(rt, MOMENT),
+        request: String::new(alloc),
+        found: Vec::new(alloc),
+    };
+    for said in &said_in(rt, alloc, text) {
+        let (word, rest) = parted(said.line);
+        match word {
+            "create" | "adopt" | "open" | "migrate" => {
+                conn = open(rt, alloc, conn, word, rest);
+            }
+            "sql" => {
+                player.changed = true;
+                execute(rt, &mut conn, rest);
+                execute(rt, &mut conn, said.text.as_str());
+            }
+            "make" => make(rt, alloc, &mut conn, rest),
+            _ => {
+                if asks(word) {
+                    conn = player.call(rt, alloc, conn, said);
+                } else {
+                    player.look(rt, alloc, &mut conn, said);
+                }
+            }
+        }
     }
-}
-
-/// Plays a script by a desk in memory and by one on a disk, as a stream, and as one list of calls.
-fn play_by_desks(rt: &impl Abort, alloc: Global, steps: &[Step]) {
-    play_over(rt, alloc, no_tables(rt, alloc), steps);
-    play_over(rt, alloc, unreached(rt, alloc), steps);
-    stream(rt, alloc, steps);
-    run_script(rt, alloc, steps);
-}
-
-/// Plays a script of vehicles for one load, where there may be vehicles for up to four and where there may not.
-fn play(rt: &impl Abort, alloc: Global, parts: &[&str]) {
-    let steps = steps_of(rt, alloc, parts);
-    play_in_memory(rt, alloc, 1, &steps);
-    play_by_desks(rt, alloc, &steps);
-}
-
-/// Plays scripts of vehicles for one load.
-pub(crate) fn play_all(rt: &impl Abort, alloc: Global, scripts: &[&[&str]]) {
-    for parts in scripts {
-        play(rt, alloc, parts);
-    }
-}
-
-/// Plays scripts that hold only where each vehicle is for one load, in memory.
-pub(crate) fn play_all_for_one(rt: &impl Abort, alloc: Global, scripts: &[&[&str]]) {
-    for parts in scripts {
-        play_in_memory(rt, alloc, 1, &steps_of(rt, alloc, parts));
-    }
-}
-
-/// Plays scripts of vehicles for up to four loads.
-pub(crate) fn play_all_for_four(rt: &impl Abort, alloc: Global, scripts: &[&[&str]]) {
-    for parts in scripts {
-        play_by_desks(rt, alloc, &steps_of(rt, alloc, parts));
-    }
-}
-
-/// Plays long scripts of vehicles for one load, in memory and as one list of calls.
-pub(crate) fn play_all_in_lists(rt: &impl Abort, alloc: Global, scripts: &[&[&str]]) {
-    for parts in scripts {
-        let steps = steps_of(rt, alloc, parts);
-        play_in_memory(rt, alloc, 4, &steps);
-        run_script(rt, alloc, &steps);
-    }
+    conn
 }

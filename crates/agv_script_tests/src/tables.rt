@@ -119,6 +119,16 @@ pub(crate) fn world_text(rt: &impl Abort, alloc: Global, world: &World) -> Strin
     format!(in alloc; "{world:?}").expect(rt, "memory")
 }
 
+/// Whether the tables have the rows of a world, which is lawful whatever is held.
+pub(crate) fn is_lawful<S: Alter>(
+    rt: &impl Abort,
+    alloc: Global,
+    conn: &mut Connection<S>,
+) -> bool {
+    let (world, _) = read_world(alloc, conn).expect(rt, "the world");
+    world.is_lawful(alloc, 4).expect(rt, "memory")
+}
+
 /// The text of the world that the tables have. It is lawful, and its vehicles hold what the tables say.
 pub(crate) fn told_text<S: Alter>(
     rt: &impl Abort,

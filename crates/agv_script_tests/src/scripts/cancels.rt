@@ -1,6 +1,5 @@
 //! Orders are cancelled, and persons set right what was left.
 
-use crate::player::play_all;
 use crate::scripts::starts::{A_TO_B, BOTH_EDGES, LAYOUT, ONE_EDGE, READY};
 
 /// The order of KIT/0001 is to be cancelled.
@@ -114,7 +113,7 @@ GET /report/holds
 "#;
 
 /// Cancelled orders.
-const CANCELS: &[&[&str]] = &[
+pub(crate) const CANCELS: &[&[&str]] = &[
     &[LAYOUT, READY, A_TO_B, ONE_EDGE, CANCELLED, STOPPED, PLACED],
     &[
         LAYOUT,
@@ -128,7 +127,7 @@ const CANCELS: &[&[&str]] = &[
     &[LAYOUT, READY, A_TO_B, BOTH_EDGES, CANCELLED_BY_OLD],
 ];
 
-#[test]
-fn cancels(rt: HostRuntime) {
-    play_all(&rt, rt.alloc(), CANCELS);
-}
+/// An order that is cancelled, and its vehicle set right.
+pub(crate) const PLACED_THEN: &[&str] = &[
+    LAYOUT, READY, A_TO_B, ONE_EDGE, CANCELLED, STOPPED, PLACED,
+];

@@ -1,6 +1,5 @@
 //! Vehicles pause and go on, and numbers of states run out.
 
-use crate::player::play_all;
 use crate::scripts::starts::{LAYOUT, READY};
 
 /// One instant action is pending at a time.
@@ -39,12 +38,7 @@ state 0001 2 - 0 N1 0
 "#;
 
 /// Instant actions.
-const INSTANTS: &[&[&str]] = &[
+pub(crate) const INSTANTS: &[&[&str]] = &[
     &[LAYOUT, READY, PAUSED, RESUMED],
     &[LAYOUT, READY, PAUSED, OLD],
 ];
-
-#[test]
-fn instants(rt: HostRuntime) {
-    play_all(&rt, rt.alloc(), INSTANTS);
-}

@@ -1,6 +1,5 @@
 //! Loads are registered, found elsewhere, and leave.
 
-use crate::player::play_all;
 use crate::scripts::starts::{A_TO_B, LAYOUT, READY};
 
 /// A load comes to the checking place, without a layout.
@@ -65,13 +64,8 @@ row used ref R1
 "#;
 
 /// Loads.
-const LOADS: &[&[&str]] = &[
+pub(crate) const LOADS: &[&[&str]] = &[
     &[TWICE],
     &[LAYOUT, READY, NO_ROOM],
     &[LAYOUT, READY, A_TO_B, LEAVES],
 ];
-
-#[test]
-fn loads(rt: HostRuntime) {
-    play_all(&rt, rt.alloc(), LOADS);
-}

@@ -1,6 +1,5 @@
 //! An order is begun, more of it is released, and a way may be held by another vehicle.
 
-use crate::player::play_all;
 use crate::scripts::starts::{A_TO_B, LAYOUT, ONE_EDGE, READY, READY_AT_N3};
 
 /// The first edge of two is released.
@@ -204,25 +203,15 @@ rows
 "#;
 
 /// Orders in one message.
-const ORDERS: &[&[&str]] = &[
+pub(crate) const ORDERS: &[&[&str]] = &[
     &[LAYOUT, READY, PICKED],
     &[LAYOUT, READY, A_TO_B, ONE_EDGE, BEGUN],
     &[LAYOUT, READY, A_TO_B, ONE_EDGE, RELEASED],
 ];
 
-#[test]
-fn orders(rt: HostRuntime) {
-    play_all(&rt, rt.alloc(), ORDERS);
-}
-
 /// Orders in two messages, and on a way that is held.
-const UPDATES: &[&[&str]] = &[
+pub(crate) const UPDATES: &[&[&str]] = &[
     &[LAYOUT, READY, A_TO_B, ONE_EDGE, LATER],
     &[LAYOUT, READY, READY_AT_N3, A_TO_B, ONE_EDGE, ABOARD, ACROSS],
     &[LAYOUT, READY, A_TO_B, ONE_EDGE, BEGUN, ABOARD, CARRIED],
 ];
-
-#[test]
-fn updates(rt: HostRuntime) {
-    play_all(&rt, rt.alloc(), UPDATES);
-}

@@ -1,6 +1,5 @@
 //! Refusals, each for its own reason, in the order in which a person could meet them.
 
-use crate::player::play_all;
 use crate::scripts::starts::{A_TO_B, LAYOUT, READY};
 
 /// No call of an unknown vehicle is taken.
@@ -186,22 +185,19 @@ POST /orders {"order":"O2","job":"J2","manufacturer":"KIT","serialNumber":"0001"
 "#;
 
 /// What is unknown, held or elsewhere.
-const REFUSALS: &[&[&str]] = &[
+pub(crate) const REFUSALS: &[&[&str]] = &[
     &[LAYOUT, READY, NO_VEHICLE],
     &[LAYOUT, READY, UNKNOWN],
     &[LAYOUT, READY, HELD],
     &[LAYOUT, READY, LOADS],
 ];
 
-#[test]
-fn refusals(rt: HostRuntime) {
-    play_all(&rt, rt.alloc(), REFUSALS);
-}
-
 /// Orders that are refused.
-const REFUSED_ORDERS: &[&[&str]] = &[&[LAYOUT, NOT_READY, A_TO_B, NO_ORDER_YET, BUSY, CANCELLED]];
-
-#[test]
-fn refused_orders(rt: HostRuntime) {
-    play_all(&rt, rt.alloc(), REFUSED_ORDERS);
-}
+pub(crate) const REFUSED_ORDERS: &[&[&str]] = &[&[
+    LAYOUT,
+    NOT_READY,
+    A_TO_B,
+    NO_ORDER_YET,
+    BUSY,
+    CANCELLED,
+]];

@@ -1,6 +1,5 @@
 //! Stocktakes.
 
-use crate::player::play_all;
 use crate::scripts::starts::{A_TO_B, LAYOUT, READY};
 
 /// A load that was at A is found at C.
@@ -135,15 +134,13 @@ POST /stocktakes/R1
 "#;
 
 /// Stocktakes that move what is found elsewhere.
-const STOCKTAKES: &[&[&str]] = &[&[LAYOUT, READY, FOUND], &[LAYOUT, READY, A_TO_B, IN_JOB]];
-
-#[test]
-fn stocktakes(rt: HostRuntime) {
-    play_all(&rt, rt.alloc(), STOCKTAKES);
-}
+pub(crate) const STOCKTAKES: &[&[&str]] = &[
+    &[LAYOUT, READY, FOUND],
+    &[LAYOUT, READY, A_TO_B, IN_JOB],
+];
 
 /// Stocktakes of two loads.
-const OF_TWO_LOADS: &[&[&str]] = &[
+pub(crate) const OF_TWO_LOADS: &[&[&str]] = &[
     &[LAYOUT, READY, TWO_LOADS, NOTHING_COUNTED],
     &[LAYOUT, READY, TWO_LOADS, MISSING],
     &[LAYOUT, READY, TWO_LOADS, UNKNOWN],
@@ -151,8 +148,3 @@ const OF_TWO_LOADS: &[&[&str]] = &[
     &[LAYOUT, READY, TWO_LOADS, BAD_ROWS],
     &[LAYOUT, READY, TWO_LOADS, ABOARD],
 ];
-
-#[test]
-fn stocktakes_of_two_loads(rt: HostRuntime) {
-    play_all(&rt, rt.alloc(), OF_TWO_LOADS);
-}

@@ -1,10 +1,9 @@
 //! Trips are carried out, and states come again.
 
-use crate::player::play_all;
 use crate::scripts::starts::{A_TO_B, BOTH_EDGES, LAYOUT, READY};
 
 /// One state says that the load is picked and dropped.
-pub(crate) const DELIVERED: &str = r#"
+const DELIVERED: &str = r#"
 state 0001 2 O1 0 N3 4 O1.0=FINISHED O1.1=FINISHED
 200 {"accepted":true}
 moves L1 vehicle KIT/0001, L1 station B
@@ -82,7 +81,7 @@ state 0001 2 - 0 N1 0
 "#;
 
 /// Trips.
-const TRIPS: &[&[&str]] = &[
+pub(crate) const TRIPS: &[&[&str]] = &[
     &[
         LAYOUT, READY, A_TO_B, BOTH_EDGES, DELIVERED, AGAIN, BACKWARDS,
     ],
@@ -90,7 +89,5 @@ const TRIPS: &[&[&str]] = &[
     &[LAYOUT, READY, PREFIX],
 ];
 
-#[test]
-fn trips(rt: HostRuntime) {
-    play_all(&rt, rt.alloc(), TRIPS);
-}
+/// An order that is carried out at once.
+pub(crate) const CARRIED_OUT: &[&str] = &[LAYOUT, READY, A_TO_B, BOTH_EDGES, DELIVERED];

@@ -1,6 +1,5 @@
 //! A vehicle for two loads, and orders over two jobs.
 
-use crate::player::{play_all_for_four, play_all_for_one};
 use crate::scripts::starts::LAYOUT;
 
 /// KIT/0003 is ready at N1, and carries two loads.
@@ -141,7 +140,7 @@ POST /vehicles {"manufacturer":"KIT","serialNumber":"0003","node":"N1","capacity
 "#;
 
 /// Two loads.
-const TWO_LOADS: &[&[&str]] = &[
+pub(crate) const TWO_LOADS: &[&[&str]] = &[
     &[
         LAYOUT,
         READY_FOR_TWO,
@@ -153,15 +152,5 @@ const TWO_LOADS: &[&[&str]] = &[
     &[LAYOUT, FOR_FOUR],
 ];
 
-#[test]
-fn two_loads(rt: HostRuntime) {
-    play_all_for_four(&rt, rt.alloc(), TWO_LOADS);
-}
-
 /// One load.
-const ONE_LOAD: &[&[&str]] = &[&[LAYOUT, FOR_ONE]];
-
-#[test]
-fn one_load(rt: HostRuntime) {
-    play_all_for_one(&rt, rt.alloc(), ONE_LOAD);
-}
+pub(crate) const ONE_LOAD: &[&[&str]] = &[&[LAYOUT, FOR_ONE]];

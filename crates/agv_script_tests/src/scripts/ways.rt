@@ -1,6 +1,5 @@
 //! What a vehicle holds on its way, and a way of one node.
 
-use crate::player::play_all;
 use crate::scripts::starts::{LAYOUT, READY_AT_N3};
 
 /// From N3 to the load at N1 and back, over all nodes and edges: a node that is passed twice is freed at its last pass.
@@ -72,12 +71,7 @@ GET /report/holds
 "#;
 
 /// Ways.
-const WAYS: &[&[&str]] = &[
+pub(crate) const WAYS: &[&[&str]] = &[
     &[LAYOUT, READY_AT_N3, THERE_AND_BACK],
     &[LAYOUT, READY_AT_N3, ON_THE_SPOT],
 ];
-
-#[test]
-fn ways(rt: HostRuntime) {
-    play_all(&rt, rt.alloc(), WAYS);
-}

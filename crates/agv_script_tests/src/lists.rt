@@ -1,0 +1,137 @@
+//! The calls of a script in one list, which a desk serves without a break.
+
+use crate::cases::{check, check_bytes, moment};
+use crate::desks::desk;
+use crate::lines::{answer_of, asks, parted, request_of, said_in};
+use crate::memory::{Asked, InMemory, MOMENT, asked, in_memory};
+use crate::tables::{told_text, world_text};
+use agv_desk::{Answer, Call};
+use agv_header::Moment;
+use agv_http::{Routes, answer_bytes};
+use agv_reports::names_report;
+use agv_store::Desk;
+use sqlite::{Alter, Connection};
+use std::alloc::Global;
+use std::process::Abort;
+
+/// The calls of a script.
+#[derive(Drop)]
+pub(crate) struct List {
+    pub(crate) calls: Vec<(Moment, Call)>,
+    /// The bytes of each answer.
+    answers: Vec<String>,
+    /// The texts of the world before the first call, and after each.
+    worlds: Vec<String>,
+}
+
+impl List {
+    /// Puts a call, and the world after it. What is none is left out.
+    fn put(
+        &mut self,
+        rt: &impl Abort,
+        alloc: Global,
+        memory: &mut InMemory,
+        at: Moment,
+        asked: Asked,
+    ) -> bool {
+        memory.answer(rt, alloc, at, &asked, b"");
+        let Ok(call) = asked else {
+            return false;
+        };
+        let world = world_text(rt, alloc, &memory.world);
+        self.calls.push((at, call)).expect(rt, "memory");
+        self.worlds.push(world).expect(rt, "memory");
+        true
+    }
+
+    /// The calls from this one on.
+    pub(crate) fn calls_from(&self, rt: &impl Abort, n: usize) -> &[(Moment, Call)] {
+        self.calls.get(n..).expect(rt, "calls")
+    }
+
+    /// Compares the answers to the first calls from this one on. The bytes of a report aren't among them.
+    pub(crate) fn check_answers(&self, rt: &impl Abort, alloc: Global, n: usize, found: &[Answer]) {
+        let wanted = self.answers.get(n..).expect(rt, "answers");
+        check(rt, found.len() <= wanted.len(), "at most an answer a call");
+        for (answer, text) in found.iter().zip(wanted) {
+            if !names_report(answer) {
+                let bytes = answer_bytes(alloc, answer, b"", false).expect(rt, "memory");
+                check_bytes(rt, &bytes, text.as_str(), text.as_str());
+            }
+        }
+    }
+
+    /// Whether this is the world before call `n`.
+    pub(crate) fn is_before(&self, n: usize, world: &str) -> bool {
+        self.worlds
+            .get(n)
+            .is_some_and(|text| text.as_str() == world)
+    }
+}
+
+/// The calls of a script.
+pub(crate) fn list_of(rt: &impl Abort, alloc: Global, text: &str) -> List {
+    let routes = Routes::new(alloc).expect(rt, "memory");
+    let mut memory = in_memory(alloc, 4);
+    let mut at = moment(rt, MOMENT);
+    let mut list = List {
+        calls: Vec::new(alloc),
+        answers: Vec::new(alloc),
+        worlds: Vec::new(alloc),
+    };
+    let empty = world_text(rt, alloc, &memory.world);
+    list.worlds.push(empty).expect(rt, "memory");
+    let mut request = String::new(alloc);
+    let mut is_call = false;
+    for said in &said_in(rt, alloc, text) {
+        let (word, rest) = parted(said.line);
+        match word {
+            "at" => at = moment(rt, rest.parse::<i64>().expect(rt, rest)),
+            "moves" | "row" | "rows" => {}
+            _ => {
+                if asks(word) {
+                    request = request_of(rt, alloc, said);
+                    let asked = asked(rt, alloc, &routes, request.as_str());
+                    is_call = list.put(rt, alloc, &mut memory, at, asked);
+                } else if is_call {
+                    let answer = answer_of(rt, alloc, request.as_str(), said);
+                    list.answers.push(answer).expect(rt, "memory");
+                }
+            }
+        }
+    }
+    list
+}
+
+/// The desk serves all calls from this one on, and comes to the last world.
+pub(crate) fn serve_from<S: Alter + Drop>(
+    rt: &impl Abort,
+    alloc: Global,
+    mut desk: Desk<S>,
+    list: &List,
+    n: usize,
+) {
+    let calls = list.calls_from(rt, n);
+    let (answers, fault) = desk.run(calls);
+    check(rt, fault.is_none(), "no fault");
+    check(rt, answers.len() == calls.len(), "an answer to each call");
+    list.check_answers(rt, alloc, n, &answers);
+    let mut conn = crate::desks::desk(rt, alloc, desk.release_conn(), "adopt").release_conn();
+    let world = told_text(rt, alloc, &mut conn);
+    check(
+        rt,
+        list.is_before(list.calls.len(), world.as_str()),
+        world.as_str(),
+    );
+}
+
+/// A new desk in this database serves all calls.
+pub(crate) fn serve_list<S: Alter + Drop>(
+    rt: &impl Abort,
+    alloc: Global,
+    conn: Connection<S>,
+    list: &List,
+) {
+    let desk = desk(rt, alloc, conn, "create");
+    serve_from(rt, alloc, desk, list, 0);
+}

@@ -1,0 +1,60 @@
+//! What is tried in a database, in memory and on files behind fuses that aren't reached.
+
+use crate::desks::{blank, desk, open};
+use crate::lists::{List, serve_list};
+use crate::player::play;
+use crate::streams::{Cut, Pace, Whole, patient, serve_cut, stream, ten_reads};
+use sqlite::{Alter, Connection};
+use std::alloc::Global;
+use std::process::Abort;
+
+/// What is tried.
+#[derive(Clone, Copy)]
+pub(crate) enum Way<'t> {
+    /// A script of an empty database.
+    Database(&'t str),
+    /// A script of a new desk, call by call.
+    Calls(&'t str),
+    /// A script as streams.
+    Stream(Pace, &'t str),
+    /// A script as one list.
+    List(&'t List),
+    /// A stream that is cut.
+    Cut(&'t Whole, Cut),
+    /// A stream whose second request waits for the first answer.
+    Patient(&'t Whole),
+    /// A stream with ten reads at most.
+    TenReads(&'t Whole),
+}
+
+impl Way<'_> {
+    /// It is tried in this database.
+    fn go<S: Alter + Drop>(&self, rt: &impl Abort, alloc: Global, conn: Connection<S>) {
+        match self {
+            Way::Database(text) => {
+                play(rt, alloc, conn, text);
+            }
+            Way::Calls(text) => {
+                let conn = desk(rt, alloc, conn, "create").release_conn();
+                play(rt, alloc, conn, text);
+            }
+            Way::Stream(pace, text) => stream(rt, alloc, conn, *pace, text),
+            Way::List(list) => serve_list(rt, alloc, conn, list),
+            Way::Cut(whole, at) => serve_cut(rt, alloc, conn, whole, *at),
+            Way::Patient(whole) => patient(rt, alloc, conn, whole),
+            Way::TenReads(whole) => ten_reads(rt, alloc, conn, whole),
+        }
+    }
+}
+
+/// In memory.
+pub(crate) fn in_memory(rt: &impl Abort, alloc: Global, way: &Way<'_>) {
+    let conn = Connection::open_in_memory(alloc).expect(rt, "memory");
+    way.go(rt, alloc, conn);
+}
+
+/// On files.
+pub(crate) fn on_files(rt: &impl Abort, alloc: Global, way: &Way<'_>) {
+    let conn = open(rt, alloc, blank(alloc));
+    way.go(rt, alloc, conn);
+}
