@@ -18,6 +18,7 @@ from nulvrader.board.shown import Shown
 from nulvrader.board.stores import Stores
 from nulvrader.client import Vehicle
 from nulvrader.layouts import read_layout
+from nulvrader.notes import Noted, Notes, write_notes
 
 PICKED = ('O1.0', 'FINISHED')
 DROPPED = ('O1.1', 'FINISHED')
@@ -215,6 +216,51 @@ class Asks(unittest.TestCase):
         until(lambda: board.get('job', 'J1'), 'the job is found')
         self.assertEqual([board.get('job', 'J1')[name] for name in ('load', 'origin', 'target')], ['L150', 'A', 'B'])
         until(lambda: not board.get('scan'), 'nothing is looked for any more')
+
+
+    def test_what_the_dispatcher_has_noted(self) -> None:
+        """Of two jobs among 200 loads, both from A, the notes tell the loads and where they lead; a load that has no job
+        but is noted is asked, and nothing comes of it. Without the notes neither target would be known. Why a job waits
+        is told for as long as the dispatcher writes."""
+        for number in range(200):
+            self.plant.desk.register_load('L%03d' % number, 'A')
+        for job, load, to in (('J1', 'L150', 'B'), ('J2', 'L151', 'C')):
+            self.plant.desk.add_job(job, load, to)
+        notes = self.plant.path('notes')
+        jobs = {'J1': Noted('L150', 'B'), 'J2': Noted('L151', 'C'), 'J3': Noted('L007', 'C')}
+        write_notes(notes, Notes(jobs, {'job J1': 'no vehicle is free'}))
+        board = self.plant.board('--notes', notes)
+        until(lambda: board.get('job', 'J2'), 'both are found')
+        told = {job: [board.get('job', job)[name] for name in ('load', 'target')] for job in ('J1', 'J2')}
+        self.assertEqual(told, {'J1': ['L150', 'B'], 'J2': ['L151', 'C']})
+        self.assertEqual(sorted(board.all('job')), ['J1', 'J2'])
+        write_notes(notes, Notes(jobs, {'job J1': 'no vehicle is free'}))
+        until(lambda: board.get('why', 'job J1') == 'no vehicle is free', 'why it waits')
+        os.utime(notes, (0, 0))
+        until(lambda: not board.get('why', 'job J1'), 'the notes are old')
+
+    def test_targets_that_are_left_over(self) -> None:
+        """Two jobs from A were there before: either may lead to B or to C. One of them is stopped, so the other leads to
+        where a place is kept still. A job from B can't lead there, so it leads to C."""
+        for load, station in (('L1', 'A'), ('L2', 'A'), ('L3', 'B')):
+            self.plant.desk.register_load(load, station)
+        for job, load, to in (('J1', 'L1', 'B'), ('J2', 'L2', 'C')):
+            self.plant.desk.add_job(job, load, to)
+        board = self.plant.board()
+
+        def told(job: str) -> object:
+            found = board.get('job', job)
+            return found and (found['target'], found['targets'])
+
+        until(lambda: told('J1') == told('J2') == (None, ['B', 'C']), 'either may lead to B or to C')
+        self.plant.desk.stop_job('J2')
+        until(lambda: told('J1') == ('B', []) and not told('J2'), 'J1 leads to B')
+        board.stop()
+        self.plant.desk.stop_job('J1')
+        for job, load, to in (('J4', 'L1', 'B'), ('J5', 'L3', 'C')):
+            self.plant.desk.add_job(job, load, to)
+        board = self.plant.board()
+        until(lambda: (told('J4'), told('J5')) == (('B', []), ('C', [])), 'J5 leads to C, and so J4 to B')
 
 
 class Keeps(Watching):

@@ -12,6 +12,9 @@ from typing import Any
 
 from board_run import ONE, TOOLS, TWO, Plant, Watching, has_loopback, until
 
+from nulvrader import refusals
+from nulvrader.board.tell import advice
+
 
 class Commands(Watching):
     words = ('--user-header', 'X-User')
@@ -227,10 +230,20 @@ class Starts(unittest.TestCase):
             self.assertEqual(self.plant.board().stop(number), (0, ''))
 
 
+class Advice(unittest.TestCase):
+    def test_nothing_that_the_page_has_not(self) -> None:
+        """What to do at a refusal, without a program of the command line. Held names the vehicle, so no more is lost."""
+        for refusal in refusals.BY_NAME.values():
+            self.assertNotIn('tools/ask', advice(refusal.advice), refusal.name)
+        held = 'Wait until the states of that vehicle have freed it, or release fewer edges.'
+        self.assertEqual(advice(refusals.BY_NAME['Held'].advice), held)
+        self.assertEqual(advice('A load stands at one place.'), 'A load stands at one place.')
+
+
 def load_tests(loader: unittest.TestLoader, _: unittest.TestSuite, __: str | None) -> unittest.TestSuite:
     """`Watching` has no tests of its own."""
     suite = unittest.TestSuite()
-    for case in (Commands, MayAsk, ReadOnly, Starts):
+    for case in (Commands, MayAsk, ReadOnly, Starts, Advice):
         suite.addTests(loader.loadTestsFromTestCase(case))
     return suite
 

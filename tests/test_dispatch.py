@@ -5,7 +5,7 @@ import sys
 import tempfile
 import unittest
 
-from programs import TOOLS, ran
+from programs import PATIENCE, TOOLS, ran
 from test_program import Serving, over_sockets
 
 from nulvrader.client import Desk
@@ -15,6 +15,7 @@ from nulvrader.dispatch.traffic import Judge, Still, Traffic
 from nulvrader.dispatch.ways import Ways
 from nulvrader.layouts import read_layout
 from nulvrader.names import VehicleKey
+from nulvrader.notes import Noted, Notes, read_notes
 from nulvrader.questions import held
 
 # A one-way ring a > b > c > d > a, and at each node a bay with a station of its name: at a the bay ab with the station A, and so on.
@@ -59,7 +60,7 @@ class OverTheProgram(unittest.TestCase):
         self.serving = Serving(os.path.join(self.folder.name, 'warehouse.db'), 10 ** 6)
         self.addCleanup(self.serving.__exit__)
         self.address = '127.0.0.1:%d' % self.serving.port
-        self.desk = Desk(self.address)
+        self.desk = Desk(self.address, timeout=PATIENCE)
         self.desk.set_layout(LAYOUT)
         self.desk.register_vehicle(ONE, 'ab', 2)
         self.desk.register_vehicle(TWO, 'cb')
@@ -73,7 +74,7 @@ class OverTheProgram(unittest.TestCase):
 
     def begin(self):
         self.dispatcher = Dispatcher(
-            Desk(self.address), read_layout(LAYOUT), Settings(ahead=2), say=self.lines.append, clock=lambda: self.now)
+            Desk(self.address, timeout=PATIENCE), read_layout(LAYOUT), Settings(ahead=2), say=self.lines.append, clock=lambda: self.now)
 
     def turn(self, seconds=1.0):
         """A turn, and what it has said."""
@@ -170,7 +171,8 @@ class OverTheProgram(unittest.TestCase):
             self.told(key, node, mode='MANUAL')
 
         def book():
-            dispatcher = Dispatcher(Desk(self.address), read_layout(LAYOUT), notes=notes, say=self.lines.append, clock=lambda: self.now)
+            desk = Desk(self.address, timeout=PATIENCE)
+            dispatcher = Dispatcher(desk, read_layout(LAYOUT), notes=notes, say=self.lines.append, clock=lambda: self.now)
             self.assertTrue(dispatcher.turn())
             return dispatcher
 
@@ -179,8 +181,10 @@ class OverTheProgram(unittest.TestCase):
             self.desk.add_job(job, load, target)
             first.turn()
         self.assertEqual(book().book.known, {'J1': 'B', 'J2': 'D'})
+        waits = dict.fromkeys(('job J1', 'job J2'), 'no vehicle is free')
+        self.assertEqual(read_notes(notes), Notes({'J1': Noted('L1', 'B'), 'J2': Noted('L2', 'D')}, waits))
         with open(notes, 'w') as file:
-            file.write('{"J1": "C", "J2": "D"}')
+            file.write('{"jobs": {"J1": {"load": "L1", "to": "C"}, "J2": {"load": "L2", "to": "D"}}, "waits": {}}')
         self.assertEqual(book().book.known, {'J1': 'B', 'J2': 'D'})
         os.remove(notes)
         self.assertEqual(book().book.known, {})
@@ -206,7 +210,7 @@ class OverTheProgram(unittest.TestCase):
             line = ['edge,%s%s,%s,%s' % (x, y, x, y) for x, y in ('ab', 'ba', 'bc', 'cb', 'cd', 'dc')]
             stations = ['station,%s,%s,3' % (name.upper(), name) for name in 'abd']
             layout = '\n'.join(['kind,id,from,to', *('node,%s,,' % name for name in 'abcd'), *line, *stations]).encode() + b'\n'
-            desk = Desk('127.0.0.1:%d' % serving.port)
+            desk = Desk('127.0.0.1:%d' % serving.port, timeout=PATIENCE)
             told = Told(desk)
             desk.set_layout(layout)
             for key, node in ((ONE, 'a'), (TWO, 'd')):
@@ -221,7 +225,7 @@ class OverTheProgram(unittest.TestCase):
                 self.assertTrue(dispatcher.turn())
                 for key, node in ((ONE, 'a'), (TWO, 'd')):
                     told(key, node)
-            self.assertRegex(lines[2], r'^KIT/0001: cancels order \S+, of J1: it and others shut one another in$')
+            self.assertRegex(lines[2], r'^KIT/0001: cancels order \S+, of J1: it and others block one another$')
             self.assertEqual((desk.vehicle(ONE).pending, desk.vehicle(TWO).pending), ('cancelOrder', None))
             self.assertEqual({node: str(key) for node, key in held(desk).nodes.items()}, {'a': 'KIT/0001', 'd': 'KIT/0002'})
 

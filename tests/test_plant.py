@@ -97,7 +97,7 @@ class Demo(unittest.TestCase):
     def test_the_demo(self):
         """The dispatcher is a program of its own there."""
         words = [sys.executable, os.path.join(ROOT, 'examples', 'demo'), '--program', DESK, '--jobs', '2', '--pace', '20']
-        done = subprocess.run(words, capture_output=True, text=True, timeout=600)
+        done = subprocess.run(words, capture_output=True, text=True, timeout=1800)
         self.assertEqual(done.returncode, 0, done.stdout + done.stderr)
         self.assertRegex(done.stdout, r'(?m)^\d\d:\d\d:\d\d KIT/\d+: takes job-1 ')
         self.assertRegex(done.stdout, r'(?m)^[12] jobs done and [01] stopped, in ')

@@ -1,16 +1,85 @@
-"""The desk of a plant: the real program over a file, under a supervisor that starts it again whenever it ends."""
+"""The desk of a plant: the real program over a file, under a supervisor that starts it again whenever it ends; and a client that is
+quick, since a day is some millions of requests."""
 from __future__ import annotations
 
+import contextlib
 import os
 import random
 import re
-import signal
+import socket
 import subprocess
 import threading
+from collections.abc import Iterator
 
+from nulvrader.client import Answer, Desk, NoAnswer
 from nulvrader.machine import free_port
 
 from .truth import Wrong
+
+# How many seconds the desk of a plant has for an answer: a busy machine is no fault.
+PATIENCE = 120.0
+
+
+class Wire:
+    """One connection to a desk for all clients of a plant, since a desk serves one at a time. It reads no more of an answer's head than
+    its status and length."""
+
+    def __init__(self, port: int) -> None:
+        self.port = port
+        self._socket: socket.socket | None = None
+        self._data = b''
+
+    def ask(self, method: str, target: str, body: bytes | None) -> Answer:
+        length = 'Content-Length: %d\r\n' % len(body or b'') if method in ('PUT', 'POST') else ''
+        sent = False
+        try:
+            if self._socket is None:
+                self._socket = socket.create_connection(('127.0.0.1', self.port), PATIENCE)
+                self._socket.setsockopt(socket.IPPROTO_TCP, socket.TCP_NODELAY, 1)
+            sent = True
+            self._socket.sendall(('%s %s HTTP/1.1\r\n%s\r\n' % (method, target, length)).encode() + (body or b''))
+            return self._answer()
+        except OSError as fault:
+            self.close()
+            raise NoAnswer(str(fault), sent) from fault
+
+    def _answer(self) -> Answer:
+        while b'\r\n\r\n' not in self._data:
+            self._read()
+        head, _, self._data = self._data.partition(b'\r\n\r\n')
+        told = re.search(rb'\r\nContent-Length: (\d+)', head)
+        length = int(told.group(1)) if told else 0
+        while len(self._data) < length:
+            self._read()
+        body, self._data = self._data[:length], self._data[length:]
+        return Answer(int(head[9:12]), body)
+
+    def _read(self) -> None:
+        assert self._socket is not None
+        data = self._socket.recv(1 << 20)
+        if not data:
+            raise ConnectionError('the connection was closed before the answer had come')
+        self._data += data
+
+    def close(self) -> None:
+        if self._socket is not None:
+            self._socket.close()
+        self._socket, self._data = None, b''
+
+
+class Wired(Desk):
+    """A client over a wire."""
+
+    def __init__(self, wire: Wire) -> None:
+        super().__init__('127.0.0.1:%d' % wire.port)
+        self.wire = wire
+
+    def ask(self, method: str, target: str, body: bytes | None = None) -> Answer:
+        return self.wire.ask(method, target, body)
+
+    @contextlib.contextmanager
+    def kept(self, count: int | None = None) -> Iterator[Desk]:
+        yield self  # it always is
 
 
 class Served:
@@ -18,7 +87,9 @@ class Served:
 
     def __init__(self, program: str, db: str, port: int = 0) -> None:
         self.program, self.db, self.port = program, db, port or free_port()
+        self.wire = Wire(self.port)
         self.process: subprocess.Popen[str] | None = None
+        self.killer: threading.Timer | None = None
         self.starts = 0
 
     @property
@@ -45,12 +116,25 @@ class Served:
         """Kills it within some milliseconds, whatever it does then."""
         process = self.process
         if process is not None and process.poll() is None:
-            threading.Timer(chance.uniform(0, 0.02), process.send_signal, (signal.SIGKILL,)).start()
+            self.killer = threading.Timer(chance.uniform(0, 0.02), self._kill, (process,))
+            self.killer.start()
+
+    @staticmethod
+    def _kill(process: subprocess.Popen[str]) -> None:
+        process.kill()
+        process.wait()
+
+    def settle(self) -> None:
+        """It runs, and nobody kills it any more."""
+        if self.killer is not None:
+            self.killer.join()
+        self.supervise()
 
     def stop(self) -> None:
+        self.wire.close()
         if self.process is not None:
             self.process.terminate()
-            self.process.wait(60)
+            self.process.wait(120)
             self._close()
 
     def _close(self) -> None:

@@ -18,6 +18,9 @@ from nulvrader.names import new_reference
 class FreeTrack(Judge):
     """Releases whatever is free, without the look. Vehicles that are released so come to stand for good."""
 
+    def is_open(self, traffic: Traffic, vehicle: str, way: Way) -> bool:
+        return True
+
     def may_release(self, traffic: Traffic, vehicle: str, nodes: int) -> bool:
         return True
 

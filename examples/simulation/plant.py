@@ -9,19 +9,21 @@ import time
 from collections import Counter
 from collections.abc import Callable, Mapping
 from dataclasses import dataclass, field
-from typing import Any, Protocol
+from typing import Protocol
 
 from nulvrader.client import Answer, Desk, NoAnswer
 from nulvrader.names import VehicleKey
 from nulvrader.reports import read_holds, read_loads
 
 from .clock import Clock
-from .desks import Served
+from .desks import PATIENCE, Served, Wire, Wired
 from .floors import FLOORS
 from .gateways import Gateway, Line
 from .people import Habits, People
 from .truth import Given, Goods, Track, Wrong
 from .vehicles import Nature, Vehicle
+
+
 
 class Dispatching(Protocol):
     """A dispatcher, as the plant has it: a turn each second."""
@@ -91,11 +93,11 @@ class Killed(Exception):
     """The dispatcher was killed amid its turn."""
 
 
-class Mortal(Desk):
+class Mortal(Wired):
     """The client of a dispatcher that may be killed: before a request is sent, or before its answer has come."""
 
-    def __init__(self, address: str, **more: Any) -> None:
-        super().__init__(address, **more)
+    def __init__(self, wire: Wire) -> None:
+        super().__init__(wire)
         self.left: int | None = None
 
     def ask(self, method: str, target: str, body: bytes | None = None) -> Answer:
@@ -126,7 +128,8 @@ class Plant:
         self._say = say
         self.floor = FLOORS[plan.floor]()
         self.layout = self.floor.layout()
-        self.desk = Desk(served.address)
+        # where others ask too, each call has a connection
+        self.desk = Desk(served.address, timeout=PATIENCE) if dispatcher is None else Wired(served.wire)
         self.track, self.goods, self.given = Track(self.layout.edges), Goods(), Given()
         self.vehicles: dict[str, Vehicle] = {}
         self.gateways: dict[str, Gateway] = {}
@@ -195,7 +198,7 @@ class Plant:
                 self.day.stands = 'the time was over'
             self.day.seconds = self.clock.now
             self.day.real = time.monotonic() - begun
-            self.served.supervise()
+            self.served.settle()
             if self.day.stands is None:
                 self.settle()
         finally:
@@ -221,7 +224,7 @@ class Plant:
         """A turn of the dispatcher; one that was killed is started anew."""
         if self.dispatcher is None:
             assert self.make is not None
-            self.mortal = Mortal(self.served.address)
+            self.mortal = Mortal(self.served.wire)
             self.dispatcher = self.make(self.mortal, self.hear, lambda: self.clock.now)
             self.day.counts['starts of the dispatcher'] += 1
         try:

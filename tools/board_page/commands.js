@@ -34,7 +34,7 @@ export class Commands {
 
   frame(title, ...children) {
     const close = button('×', () => this.dialog.close(), { class: 'close', 'aria-label': 'Close' });
-    this.dialog.replaceChildren(el('h2', { id: 'command-title' }, title), close, ...children);
+    this.dialog.replaceChildren(el('h2', { id: 'command-title' }, title), close, ...children.filter(Boolean));
   }
 
   /** Has an element focused, now or once the dialog is open. */

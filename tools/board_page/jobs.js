@@ -1,8 +1,8 @@
 // The live jobs: which wait and which ride, and how long.
 
 import { button, el, keyed, part, set, show, text } from './dom.js';
-import { colourOf } from './looks.js';
-import { many, span } from './words.js';
+import { colourOf, tellWhy } from './looks.js';
+import { many, span, targetWords } from './words.js';
 
 export class Jobs {
   constructor(root, view) {
@@ -35,6 +35,7 @@ export class Jobs {
         part('span', 'chip'), part('span', 'title', key), part('span', 'where'),
         el('span', { class: 'badges' }, el('span'))),
       part('p', 'acts'),
+      part('p', 'why'),
       el('div', { class: 'actions' },
         button('Start an order', () => this.view.command('order', { stops: key })),
         button('Stop', () => this.view.command('stop', { job: key }))));
@@ -52,8 +53,8 @@ export class Jobs {
     set(badge, 'class', `badge ${riding ? 'busy' : 'warn'}`);
     text(badge, `${riding ? 'Rides' : 'Waits'} ${long}`);
     const on = riding ? `, on ${job.vehicle} by order ${job.order}` : '';
-    const to = job.target ?? 'a station that is known once it rides';
-    text(card.querySelector('.acts'), `From ${job.origin ?? 'a station'} to ${to}${on}`);
+    text(card.querySelector('.acts'), `From ${job.origin ?? 'a station'} to ${targetWords(job)}${on}`);
+    tellWhy(card.querySelector('.why'), riding ? null : store.get('why', `job ${key}`));
     show(card.querySelector('.actions'), this.view.mayCommand && !riding);
   }
 }

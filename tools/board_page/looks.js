@@ -1,5 +1,6 @@
 // How vehicles look: their colours, and what is to be said of how they are.
 
+import { show, text } from './dom.js';
 import { span } from './words.js';
 
 const COLOURS = 6;
@@ -15,6 +16,20 @@ const ACTIONS = {
   stopPause: 'Told to go on',
   cancelOrder: 'Told to cancel its order',
 };
+
+/** Tells why a vehicle or a job waits, as the dispatcher has noted it. */
+export function tellWhy(node, why) {
+  text(node, why ? `Dispatcher: ${why}` : '');
+  show(node, Boolean(why));
+}
+
+/** What a vehicle does that goes on with its order: what there is to do where it stands, or whether it may drive on. */
+function doing(vehicle, way) {
+  const { seen, base, edges, loads } = vehicle;
+  const act = way?.acts.find(({ kind, load, at }) => at === seen && loads.includes(load) === (kind === 'drop'));
+  if (act) return act.kind === 'pick' ? 'Picks up' : 'Drops';
+  return seen !== null && seen === base && base < edges ? 'Waits for a release' : 'On its way';
+}
 
 /**
  * What is to be said of how a vehicle is, the gravest first: each with `level`: `bad` needs a person, `warn` is to be
@@ -36,7 +51,7 @@ export function statesOf(name, vehicle, store) {
   if (vehicle.order_name && vehicle.confirmed !== vehicle.sent) add('busy', 'Not confirmed yet', '');
   const behind = store.behind(name);
   if (!vehicle.order_name && behind.length) add('warn', `In the way of ${behind.join(', ')}`, '');
-  if (!found.length && vehicle.order_name) add('busy', 'On its way', '');
+  if (!found.length && vehicle.order_name) add('busy', doing(vehicle, store.get('way', name)), '');
   if (!found.length) add('good', 'Ready', '');
   return found;
 }

@@ -89,7 +89,7 @@ async function post(path, body) {
     }
     return await answer.json();
   } catch {
-    return { fault: 'The board does not answer. Look what has come of it before you ask again.' };
+    return { fault: 'The board does not answer. Check whether the command was carried out before you send it again.' };
   }
 }
 

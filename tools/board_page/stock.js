@@ -1,7 +1,7 @@
 // Loads and stations: found by their names, where each load is and since when, and how full the stations are.
 
 import { button, el, keyed, part, set, show, text } from './dom.js';
-import { day, many, placeWords, span } from './words.js';
+import { day, many, placeWords, span, targetWords } from './words.js';
 
 const MOST = 60; // rows that are shown at once
 
@@ -118,7 +118,8 @@ export class Stock {
     }
     const load = store.get('load', name);
     const job = store.jobOf(name);
-    const told = JSON.stringify([name, load, job]);
+    const row = job && store.get('job', job);
+    const told = JSON.stringify([name, load, job, row]);
     if (this.shown === told) return;
     this.shown = told;
     const since = !load ? '' : load.since ? `since ${day(load.since)}` : 'since before the board began to look';
@@ -132,7 +133,7 @@ export class Stock {
     }
     const place = load ? placeWords(load.place) : '';
     const words = load ? `${place[0].toUpperCase()}${place.slice(1)}, ${since}.` : 'Not in the warehouse.';
-    const live = job ? ` Its job is ${job}.` : '';
+    const live = job ? ` Its job ${job} ${row.vehicle ? `rides on ${row.vehicle}` : 'waits'}, to ${targetWords(row)}.` : '';
     this.detail.replaceChildren(el('h2', {}, name), el('p', {}, words, live), moves, actions);
     this.view.history(name).then((history) => {
       if (this.shown !== told) return;

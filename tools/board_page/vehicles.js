@@ -1,7 +1,7 @@
 // The list of vehicles: how each is, its order and how far, and who waits for whom.
 
 import { button, el, keyed, part, set, show, text } from './dom.js';
-import { colourOf, statesOf } from './looks.js';
+import { colourOf, statesOf, tellWhy } from './looks.js';
 import { many, span } from './words.js';
 
 const ACTIONS = [
@@ -11,7 +11,7 @@ const ACTIONS = [
   ['resume', 'Go on'],
   ['cancel', 'Cancel'],
   ['place', 'Place'],
-  ['resync', 'Begin anew'],
+  ['resync', 'Accept its states'],
 ];
 
 /** What an order carries, each load with where from and where to: `L1: A → B, on it`. */
@@ -78,6 +78,7 @@ export class Vehicles {
         el('p', { class: 'line' }, part('span', 'said'), part('span', 'far')),
         el('div', { class: 'bar', role: 'img' }, part('i', 'seen'), part('i', 'base'))),
       part('p', 'acts'),
+      part('p', 'why'),
       part('p', 'rest bad'),
       el('div', { class: 'actions' }, ...actions));
   }
@@ -94,6 +95,7 @@ export class Vehicles {
       text(badge, state.words);
     });
     this.changeOrder(card, vehicle, store.get('way', name));
+    tellWhy(card.querySelector('.why'), store.get('why', name));
     const { rest } = vehicle;
     const { edge, node } = rest ?? {};
     text(card.querySelector('.rest'), `Still holds edge ${edge} and node ${node}: it may have gone on to ${node}.`);

@@ -41,6 +41,11 @@ export function placeWords(place) {
   return place === 'left' ? 'has left' : `at ${place.slice(8)}`;
 }
 
+/** Where a job leads, as far as that is known: `B`, `B or C`. */
+export function targetWords(job) {
+  return job.target ?? (job.targets.join(' or ') || 'a station that is known once it rides');
+}
+
 /** A shorter name for a vehicle: its serial number, where no other vehicle has that. */
 export function shortName(name, all) {
   const serial = name.split('/')[1];

@@ -143,7 +143,7 @@ def held(desk: Desk, said: argparse.Namespace) -> Told:
 
 @look('', cost='2 + V')
 def who_waits(desk: Desk, said: argparse.Namespace) -> Told:
-    """Whose next edge is held by whom."""
+    """The vehicles whose next edge is held by another one."""
     rows: Rows = [
         {
             'vehicle': str(one.vehicle),
@@ -157,7 +157,7 @@ def who_waits(desk: Desk, said: argparse.Namespace) -> Told:
     ]
     found = told('vehicle order at waits_for held_by in_circle', rows, 'no vehicle waits for another one')
     if any(row['in_circle'] for row in rows):
-        more = '\n\nThose in a circle get free where one is cancelled and brought out of the way (docs/OPERATE.md).'
+        more = '\n\nTo free those in a circle, cancel one and move it out of the way (docs/OPERATE.md).'
         return Told(found.text + more, found.value)
     return found
 

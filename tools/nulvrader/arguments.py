@@ -28,15 +28,15 @@ def add_desk(
         of.add_argument(option, default=argparse.SUPPRESS if is_behind else value, **how)
 
     known = os.environ.get(PLACE, default) if default else None
-    text = 'the running desk, or the proxy before it: HOST:PORT, http://HOST:PORT or https://HOST'
-    add('--desk', desk_into or words, known, metavar='ADDRESS', help=text + (' (else: %s)' % known if known else ''))
-    text = 'the name that the proxy is told; the password is in the variable %s' % PASSWORD
+    text = 'the running desk, or the proxy in front of it: HOST:PORT, http://HOST:PORT or https://HOST'
+    add('--desk', desk_into or words, known, metavar='ADDRESS', help=text + (' (default: %s)' % known if known else ''))
+    text = 'the user name for the proxy; the password is in the variable %s' % PASSWORD
     add('--%suser' % front, words, None, dest='desk_user', metavar='NAME', help=text)
     text = 'a file whose first line is the password for the proxy'
     add('--%spassword-file' % front, words, None, dest='desk_password_file', metavar='FILE', help=text)
-    text = "certificates (PEM) that vouch for the proxy's, with https"
+    text = "a PEM file with the authority of the proxy's certificate, with https"
     add('--%sca' % front, words, None, dest='desk_ca', metavar='FILE', help=text)
-    text = 'how long an answer of the desk is waited for (else: 10)'
+    text = 'how long to wait for an answer of the desk (default: 10)'
     add('--timeout', words, 10.0, type=seconds, metavar='SECONDS', help=text)
 
 

@@ -58,7 +58,7 @@ def where(station: str | None) -> str:
 
 @ask('layout.csv', FILE)
 def set_layout(desk: Desk, said: argparse.Namespace) -> Told:
-    """Sets the layout, once for good."""
+    """Sets the layout, which can't be changed later."""
     data = data_of(said.file)
     file = LayoutFile(data)
     checked_file(file, said.file)
@@ -71,7 +71,7 @@ def set_layout(desk: Desk, said: argparse.Namespace) -> Told:
     'KIT/0001 --node N1 --capacity 2',
     VEHICLE,
     NODE,
-    word('--capacity', type=number, metavar='N', help='how many loads it carries at once, 1 to 4 (else: 1)'),
+    word('--capacity', type=number, metavar='N', help='how many loads it carries at once, 1 to 4 (default: 1)'),
 )
 def register_vehicle(desk: Desk, said: argparse.Namespace) -> Told:
     """Registers a vehicle at a node."""
@@ -140,7 +140,7 @@ def order(desk: Desk, said: argparse.Namespace) -> Told:
 @ask(
     'KIT/0001 --edges 2',
     VEHICLE,
-    word('--edges', type=number, metavar='N', default=1, help='how many edges more are released (else: 1)'),
+    word('--edges', type=number, metavar='N', default=1, help='how many edges more are released (default: 1)'),
     word('--all', action='store_true', help='all that are left'),
     cost='2, and 3 with --all',
 )
@@ -185,7 +185,7 @@ def resume(desk: Desk, said: argparse.Namespace) -> Told:
 
 @ask('KIT/0001 --node N2', VEHICLE, NODE, REFERENCE)
 def place(desk: Desk, said: argparse.Namespace) -> Told:
-    """Says where a vehicle stands; clear the order on it before, since it is not told."""
+    """Says where a vehicle stands; clear the order on it first, since it gets no message."""
     desk.place(said.vehicle, reference(said), said.node)
     return Told('vehicle %s is at node %s (reference %s)' % (said.vehicle, said.node, said.ref), {'ref': said.ref})
 
@@ -210,7 +210,7 @@ def post_state(desk: Desk, said: argparse.Namespace) -> Told:
 
 @ask('count.csv', FILE, REFERENCE)
 def stocktake(desk: Desk, said: argparse.Namespace) -> Told:
-    """Tells what was counted; `tools/check-count` shows before what would move."""
+    """Sends a count of stations; `tools/check-count` shows first what would move."""
     data = data_of(said.file)
     checked_file(CountFile(data), said.file)
     found = desk.stocktake(reference(said), data)

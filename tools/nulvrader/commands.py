@@ -93,7 +93,7 @@ def number(text: str) -> int:
     return int(text)
 
 
-REFERENCE = named('--ref', 'reference', help='its reference, used once for good (else: one with the day in front)')
+REFERENCE = named('--ref', 'reference', help='its reference, used only once (default: a new one that begins with the day)')
 VEHICLE = word('vehicle', type=arguments.vehicle, metavar='VEHICLE', help='as KIT/0001')
 LOAD = named('load', 'load')
 

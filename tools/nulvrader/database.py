@@ -16,7 +16,7 @@ from .rows import SECOND, TABLES, any_text
 HEAD = b'SQLite format 3\0'
 
 # The columns of each table: `#` is a whole number and the others are texts; `?` may be NULL. Then its keys, each a list
-# of columns, the primary one first.
+# of columns; here the primary one is first, and in a file they may have any order.
 SHAPES: dict[str, tuple[str, list[str]]] = {
     'meta': ('id# schema#', ['id']),
     'node': ('id', ['id']),
@@ -192,9 +192,10 @@ def _oddities(base: sqlite3.Connection, table: str) -> Iterator[str]:
             yield 'has the column %s with the default %s' % (name, default)
         if hidden:
             yield 'has the column %s that is generated' % name
-    if _keys(base, table) != keys:
+    written = _keys(base, table)
+    if {frozenset(key) for key in written} != {frozenset(key.split()) for key in keys}:
         yield 'has the keys %s, and not %s' % tuple(
-            ', '.join('(%s)' % key.replace(' ', ', ') for key in said) for said in (_keys(base, table), keys)
+            ', '.join('(%s)' % ', '.join(key) for key in said) for said in (written, [key.split() for key in keys])
         )
     (without_rowid, strict), = base.execute('SELECT wr, strict FROM pragma_table_list(?)', (table,))
     if not strict:
@@ -206,7 +207,7 @@ def _oddities(base: sqlite3.Connection, table: str) -> Iterator[str]:
     yield from _rules_in_text(base, table)
 
 
-def _keys(base: sqlite3.Connection, table: str) -> list[str]:
+def _keys(base: sqlite3.Connection, table: str) -> list[list[str]]:
     """The primary key and the other ones, in their order, each its columns; `desc` and a collation are told with it."""
     found = []
     for _, name, _, origin, _ in base.execute('PRAGMA index_list("%s")' % table):
@@ -217,7 +218,7 @@ def _keys(base: sqlite3.Connection, table: str) -> list[str]:
                 for _, _, column, desc, collation, key in parts
                 if key
             ]
-            found.append((int(name.rpartition('_')[2]), ' '.join(said)))
+            found.append((int(name.rpartition('_')[2]), said))
     return [said for _, said in sorted(found)]
 
 

@@ -28,7 +28,7 @@ def opened(path: str, room: str | None = None) -> Iterator[sqlite3.Connection]:
     try:
         with database.opened(path, alone=True, room=room) as base:
             if base.execute('SELECT schema FROM meta').fetchall() != [(SCHEMA,)]:
-                raise Unread('%s: it has not schema %d: `./desk migrate` moves one of schema 1' % (path, SCHEMA))
+                raise Unread('%s: it has not schema %d: `./desk migrate` migrates one of schema 1' % (path, SCHEMA))
             yield base
             return
     except BlockingIOError:

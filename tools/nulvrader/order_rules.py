@@ -21,7 +21,7 @@ def orders_have_a_vehicle(rows: Rows) -> Found:
 
 @rule('name of an order')
 def orders_are_used_names(rows: Rows) -> Found:
-    """The name of an open order is among the used ones."""
+    """The name of an open order is among the used names."""
     used = {row.id for row in rows.used if row.kind == 'order'}
     for journey in rows.journey:
         if journey.order_id not in used:
@@ -113,8 +113,8 @@ def bases_are_in_order(rows: Rows) -> Found:
 
 @rule('confirmed updates')
 def updates_are_confirmed(rows: Rows) -> Found:
-    """The last confirmed update is the last one or, where the vehicle hasn't gone further than `first`, the one
-    before; where none is, none but the order itself was sent, and nothing of it was done."""
+    """The last confirmed update is the last one or, if the vehicle hasn't gone further than `first`, the one
+    before; if none is confirmed, only the order itself was sent, and nothing of it was done."""
     for way in rows.ways.values():
         _, _, _, _, first, _, sent, confirmed, seen = way.journey
         if confirmed is None and (sent, first, seen) != (0, 0, 0):
@@ -127,7 +127,7 @@ def updates_are_confirmed(rows: Rows) -> Found:
 
 @rule('finished acts')
 def acts_are_finished_in_turn(rows: Rows) -> Found:
-    """An act is finished only where its place was reached, and a drop only where its pick is finished."""
+    """An act is finished only if its place was reached, and a drop only if its pick is finished."""
     for way in rows.ways.values():
         finished = [act for act in way.acts if act.status == 'FINISHED']
         picked = {act.job for act in finished if act.kind == 'pick'}
@@ -140,7 +140,7 @@ def acts_are_finished_in_turn(rows: Rows) -> Found:
 
 @rule('ended orders')
 def ended_orders_are_gone(rows: Rows) -> Found:
-    """An order whose vehicle is at the end of the way, with all acts finished or failed, is open no longer."""
+    """An order whose vehicle is at the end of the way, with all acts finished or failed, is not open."""
     for way in rows.ways.values():
         if way.acts and way.journey.seen == len(way.legs) and all(act.status in OVER for act in way.acts):
             yield way.journey, 'it has ended'
@@ -172,7 +172,7 @@ def track_is_apart(rows: Rows) -> Found:
 
 @rule('holds')
 def holds_are_what_is_held(rows: Rows) -> Found:
-    """`hold` has just the nodes and edges that are held, each with its vehicle."""
+    """`hold` has exactly the nodes and edges that are held, each with its vehicle."""
     for row in rows.hold:
         if key_of(row) not in rows.held.get((row.kind, row.id), ()):
             yield row, '%s does not hold it' % vehicle_text(key_of(row))

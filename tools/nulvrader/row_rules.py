@@ -21,7 +21,7 @@ def has_schema(rows: Rows) -> Found:
 
 @rule('no old trips')
 def has_no_trips(rows: Rows) -> Found:
-    """`trip` is empty: it has the open orders of the first schema alone."""
+    """`trip` is empty: only the first schema has open orders there."""
     for trip in rows.trip:
         yield trip, 'it belongs to the first schema'
 
@@ -95,7 +95,7 @@ def has_numbers(rows: Rows) -> Found:
 @rule('limits')
 def is_within_limits(rows: Rows) -> Found:
     """There are at most 500 nodes, 1,500 edges, 500 stations, 100 vehicles, and 1,000,000 loads, jobs, orders and
-    references each, those that are over counted."""
+    references each, ended ones included."""
     used = collections.Counter(row.kind for row in rows.used)
     for name, count, most in (
         ('nodes', len(rows.node), 500), ('edges', len(rows.edge), 1500), ('stations', len(rows.station), 500),
@@ -157,7 +157,7 @@ def rests_go_on(rows: Rows) -> Found:
 
 @rule('moments of messages')
 def moments_have_messages(rows: Rows) -> Found:
-    """The moment of a vehicle's last message is 0 where none was sent."""
+    """The moment of a vehicle's last message is 0 if none was sent."""
     for vehicle in rows.vehicle:
         for topic, count, at in (
             ('order', vehicle.order_header, vehicle.order_at),
@@ -169,7 +169,7 @@ def moments_have_messages(rows: Rows) -> Found:
 
 @rule('pending actions')
 def pending_actions_were_sent(rows: Rows) -> Found:
-    """An instant action is pending only where an instantActions message was sent."""
+    """An instant action is pending only if an instantActions message was sent."""
     for vehicle in rows.vehicle:
         if vehicle.pending is not None and vehicle.instant_header == 0:
             yield vehicle, '%s is pending, and no instantActions message was sent to it' % vehicle.pending

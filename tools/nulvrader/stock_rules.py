@@ -8,8 +8,8 @@ from .rows import LIVE, Key, Rows
 
 @rule('places of loads')
 def loads_have_places(rows: Rows) -> Found:
-    """A load is at a station of the layout, on a vehicle, at the checking place, or has left; `station` is NULL but
-    for the first, and `manufacturer` and `serial` but for the second."""
+    """A load is at a station of the layout, on a vehicle, at the checking place, or has left; `station` is NULL
+    except in the first case, and `manufacturer` and `serial` except in the second."""
     for load in rows.load:
         vehicle = (load.manufacturer or '', load.serial or '')
         if (load.station is not None) != (load.kind == 'station'):
@@ -77,7 +77,7 @@ def loads_have_one_live_job(rows: Rows) -> Found:
 
 @rule('riding jobs')
 def jobs_ride_in_orders(rows: Rows) -> Found:
-    """A job rides exactly where an open order is still to drop it."""
+    """A job rides exactly if an open order is still to drop it."""
     for job in rows.job:
         if (job.phase == 'riding') != (job.id in rows.to_drop):
             order = 'the order ' + rows.to_drop[job.id].order_id if job.id in rows.to_drop else 'no open order'
@@ -96,7 +96,7 @@ def dropped_jobs_are_done(rows: Rows) -> Found:
 
 @rule('one order a job')
 def jobs_are_in_one_order(rows: Rows) -> Found:
-    """A job stands in at most one open order."""
+    """A job is in at most one open order."""
     orders: dict[str, set[str]] = collections.defaultdict(set)
     for act in rows.act:
         orders[act.job].add(act.order_id)

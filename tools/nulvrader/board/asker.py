@@ -13,6 +13,7 @@ from typing import TypeVar
 
 from ..client import Desk, NoAnswer, Refused
 from ..names import BadName, VehicleKey
+from ..notes import read_notes
 from ..reports import BadReport, read_holds, read_loads, read_stock
 from .fleet import Fleet
 from .news import News
@@ -53,11 +54,13 @@ class Report:
 
 
 class Asker(threading.Thread):
-    """The one that asks, whatever the number of pages. `days` is how long the record keeps changes."""
+    """The one that asks, whatever the number of pages. `days` is how long the record keeps changes, and `notes` the file
+    of a dispatcher's notes."""
 
-    def __init__(self, desk: Desk, news: News, stores: Stores, fleet: Fleet, days: int):
+    def __init__(self, desk: Desk, news: News, stores: Stores, fleet: Fleet, days: int, notes: str | None = None):
         super().__init__(name='asker', daemon=True)
         self.desk, self.news, self.stores, self.fleet, self.days = desk, news, stores, fleet, days
+        self.notes = notes
         self.holds, self.stock, self.export = Report(HOLDS_EVERY), Report(STOCK_EVERY), Report(EXPORT_EVERY)
         self.details = deque((self.vehicle_question, self.load_question))
         self.up: bool | None = None
@@ -188,6 +191,7 @@ class Asker(threading.Thread):
 
     def ask_stock(self) -> None:
         report = self._read(self.stock, self.desk.stock_report, read_stock)
+        self.stores.take_notes(read_notes(self.notes))
         self.stores.take_stock(report)
         self.fleet.take_stock(report)
 

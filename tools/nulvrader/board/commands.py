@@ -17,7 +17,7 @@ from .record import Record
 from .scene import Scene
 from .shown import Shown
 from .stocktakes import stocktake
-from .tell import count
+from .tell import advice, count
 
 Values = Mapping[str, str]
 
@@ -150,7 +150,7 @@ COMMANDS: dict[str, Command] = {
     'pause': Command('Pause', (VEHICLE,), looks.pause, _pause),
     'resume': Command('Go on', (VEHICLE,), looks.resume, _resume),
     'place': Command('Place', (VEHICLE, Field('node', 'Node', 'node')), looks.place, _place),
-    'resync': Command('Begin anew with its states', (VEHICLE,), looks.resync, _resync),
+    'resync': Command('Accept its states again', (VEHICLE,), looks.resync, _resync),
     'register': Command(
         'Register a load', (Field('load', 'Name of the load', 'name'), STATION), looks.register_load, _register
     ),
@@ -215,7 +215,7 @@ class Commands:
         try:
             told = {'done': True, 'text': COMMANDS[name].do(self.desk, values), 'advice': ''}
         except Refused as refusal:
-            told = {'done': False, 'text': '%s.' % refusal, 'advice': refusal.advice, 'refusal': refusal.name}
+            told = {'done': False, 'text': '%s.' % refusal, 'advice': advice(refusal.advice), 'refusal': refusal.name}
         except NoAnswer as fault:
             lost = 'It may have been done or not: look first, and then ask the same again.' if fault.may_be_done else ''
             told = {'done': False, 'text': '%s.' % fault, 'advice': lost}

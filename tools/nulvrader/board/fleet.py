@@ -152,8 +152,8 @@ class Fleet:
 
     def _end(self, name: str, seen: Seen) -> None:
         if seen.way is not None:
-            for act in seen.way.acts:
-                self.jobs.want(act.load)
+            for load in {act.load for act in seen.way.acts} & self.jobs.live.keys():
+                self.jobs.want(load)
             self.news.event('order', 'Order %s of %s is over' % (seen.way.order, name), vehicle=name)
             seen.way = None
 

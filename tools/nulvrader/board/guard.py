@@ -31,13 +31,13 @@ class Guard:
     def host_fault(self, headers: Message) -> str | None:
         """Why a request is refused that names another host; None where it isn't."""
         host = headers.get('Host', '').lower()
-        return None if host in self.hosts else 'This board is not asked by the name %a.' % host
+        return None if host in self.hosts else 'This board does not answer to the name %a.' % host
 
     def command_fault(self, headers: Message) -> str | None:
         """Why a command is refused: it has no origin of this board, or not its token."""
         scheme, _, host = headers.get('Origin', '').lower().partition('://')
         if scheme not in ('http', 'https') or host not in self.hosts:
-            return 'A command comes from the page of this board alone.'
+            return 'Commands are accepted only from the page of this board.'
         if not hmac.compare_digest(headers.get(TOKEN_HEADER, '').encode(), self.token.encode()):
-            return 'The board was started anew: load the page again.'
+            return 'The board was restarted: reload the page.'
         return None

@@ -1,18 +1,26 @@
 """The live jobs, found out by what the desk tells of loads. No call lists the jobs: a load tells its live job, an
 order message what it picks and drops, and the stock report of each station how many live jobs go there. So loads are
-asked where one has to have a job, or may have lost one. The target of a job whose order was not seen may stay
-unknown."""
+asked where one has to have a job, or may have lost one: first those that the dispatcher has noted, then those that
+moved last, then those at stations where many jobs began. Where a job leads that waits follows from what the stations
+keep; the `targets` of a job are those that are left over for it."""
 from __future__ import annotations
 
-from collections import deque
+from collections import Counter, deque
 from collections.abc import Callable, Iterable, Mapping
 from dataclasses import dataclass, replace
 from typing import Any
 
 from ..client import Load
+from ..notes import Noted
 from .ways import Way
 
 Told = Callable[['Job'], None]
+
+RECENT = 20
+"""So many loads that moved last are asked anew once there is a job more."""
+
+FEW = 4
+"""So many targets of a job are told at most."""
 
 
 @dataclass(frozen=True)
@@ -30,6 +38,7 @@ class Job:
     added: int | None = None
     began: int | None = None
     ended: int | None = None
+    targets: tuple[str, ...] = ()
 
     @property
     def live(self) -> bool:
@@ -48,11 +57,15 @@ class Jobs:
         self._scan: deque[str] = deque()
         self._short: dict[str, int] = {}  # stations with more live jobs than are known, and how many more
         self._asked: dict[str, int] = {}
+        self._fresh: set[str] = set()  # loads whose job is told with the next stock report, which counts it
+        self._noted: dict[str, str] = {}  # by job where it leads, as the dispatcher has noted
+        self.begun: Counter[str] = Counter()  # how many jobs began at each station
         self._before: int | None = None  # how many of these there were when the board began to look
 
     def _put(self, job: Job) -> None:
         if self.live.get(job.load) != job:
             self.live[job.load] = job
+            self._fresh.discard(job.load)
             self.told(job)
 
     def restore(self, jobs: Iterable[Job]) -> None:
@@ -64,6 +77,25 @@ class Jobs:
     def want(self, load: str) -> None:
         """Has a load asked soon."""
         self.wanted[load] = None
+
+    def moved(self, load: str, place: str, at: int) -> None:
+        """A load came or moved. One that rides and is now on its vehicle still has its job, and one that is now where the
+        job leads has it done; else what the load told of a job is old."""
+        self._asked.pop(load, None)
+        job = self.live.get(load)
+        if job is None:
+            return
+        if job.phase == 'riding' and place == 'station %s' % job.target:
+            self._end(job, place, at)
+        elif job.phase != 'riding' or place != 'vehicle %s' % job.vehicle:
+            self.want(load)
+
+    def take_notes(self, notes: Mapping[str, Noted]) -> None:
+        """What the dispatcher has noted. The loads of jobs that are new there are asked whether it is so."""
+        for job, noted in notes.items():
+            if job not in self._noted and noted.load not in self.live:
+                self.want(noted.load)
+        self._noted = {job: noted.to or '' for job, noted in notes.items()}
 
     def added(self, name: str, load: str, origin: str | None, target: str, at: int) -> None:
         """A job was added through the board."""
@@ -82,9 +114,11 @@ class Jobs:
             job = None
         if load.job is not None and job is None:
             origin = load.place.removeprefix('station ') if load.place.startswith('station ') else None
-            target = next(iter(self._short)) if len(self._short) == 1 else None
-            self._put(Job(load.job, load.name, origin, target, added=None if self._before else at))
+            self.live[load.name] = Job(load.job, load.name, origin, None, added=None if self._before else at)
+            self._fresh.add(load.name)
             self._before = max(0, (self._before or 0) - 1)
+            if origin is not None:
+                self.begun[origin] += 1
 
     def _end(self, job: Job, place: str, at: int) -> None:
         there = place == 'station %s' % job.target
@@ -110,35 +144,65 @@ class Jobs:
                 known = replace(job, origin=origins.get(load, job.origin), target=target)
                 self._put(replace(known, phase='riding', order=way.order, vehicle=vehicle, began=began))
 
-    def check(self, reserved: Mapping[str, int], at_stations: Callable[[], Iterable[str]]) -> None:
+    def check(self, reserved: Mapping[str, int], at_stations: Callable[[], Mapping[str, str]]) -> None:
         """Compares what is known with how many live jobs go to each station by the stock report, and sets out to ask
-        the loads that may tell the rest. `at_stations` names the loads that may have a job that isn't known, those
-        that moved last first."""
-        known: dict[str, int] = {}
-        unknown = []
-        for job in self.live.values():
-            if job.target is None:
-                unknown.append(job)
-            else:
-                known[job.target] = known.get(job.target, 0) + 1
+        the loads that may tell the rest. `at_stations` has the loads that stand at stations with these, those that
+        moved last first."""
+        known = Counter(job.target for job in self.live.values() if job.target is not None)
+        unknown = [job for job in self.live.values() if job.target is None]
         for job in list(self.live.values()):
             if job.target is not None and known[job.target] > reserved.get(job.target, 0):
                 self.want(job.load)
-        self._short = {to: count - known.get(to, 0) for to, count in reserved.items() if count > known.get(to, 0)}
-        lacking = sum(self._short.values())
+        self._short = {to: count - known[to] for to, count in reserved.items() if count > known[to]}
+        lacking, before = sum(self._short.values()), self.missing
         self.missing = max(0, lacking - len(unknown))
         self._before = self.missing if self._before is None else min(self._before, self.missing)
         if lacking < len(unknown):
             for job in unknown:
                 self.want(job.load)
-        elif len(self._short) == 1 and self.missing == 0:
-            for job in unknown:
-                self._put(replace(job, target=next(iter(self._short))))
+        else:
+            self._find_targets()
+        for load in self._fresh & self.live.keys():
+            self.told(self.live[load])
+        self._fresh.clear()
         if not self.missing:
             self._scan.clear()
-        elif not self._scan:
-            loads = [load for load in at_stations() if load not in self.live]
-            self._scan.extend(sorted(loads, key=lambda load: self._asked.get(load, 0)))
+        elif before and (not self._scan or self.missing > before):  # in the meantime most are found by their orders
+            self._set_out(at_stations())
+
+    def _find_targets(self) -> None:
+        """Which stations are left over for the jobs whose target isn't known."""
+        for job in [job for job in self.live.values() if job.target is None]:
+            if self._short.get(self._noted.get(job.name, ''), 0) and self._noted[job.name] != job.origin:
+                self._lead(job, self._noted[job.name])
+        found = True
+        while found:
+            found = False
+            for job in [job for job in self.live.values() if job.target is None]:
+                targets = tuple(sorted(name for name in self._short if name != job.origin))
+                if len(targets) == 1:
+                    self._lead(job, targets[0])
+                    found = True
+                else:
+                    self._put(replace(job, targets=targets if len(targets) <= FEW else ()))
+
+    def _lead(self, job: Job, target: str) -> None:
+        """A job leads to this station."""
+        self._put(replace(job, target=target, targets=()))
+        self._short[target] -= 1
+        if not self._short[target]:
+            del self._short[target]
+
+    def _set_out(self, there: Mapping[str, str]) -> None:
+        """Lines up the loads to ask: all, or where that is under way those that moved last once more."""
+        loads = [load for load in there if load not in self.live]
+        if self._scan:
+            self._scan.extendleft(reversed(loads[:RECENT]))
+            return
+        count = Counter(there.values())
+        often = {station: self.begun[station] / count[station] for station in count}
+        asked = self._asked
+        self._scan.extend(sorted(loads, key=lambda load: (load in asked, -often[there[load]], asked.get(load, 0))))
 
     def next_load(self) -> str | None:
         """The load to ask next, or None."""

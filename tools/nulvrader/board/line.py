@@ -32,10 +32,11 @@ def words(text: str) -> argparse.ArgumentParser:
     add('--days', type=int, default=30, help='how many days it keeps changes (default: 30)')
     silent = 'a vehicle of which no state has come for so long is shown as silent (default: 10)'
     add('--silent', type=arguments.seconds, default=10.0, metavar='SECONDS', help=silent)
+    add('--notes', metavar='FILE', help='the file in which tools/dispatch notes the jobs that wait')
     add('--read-only', action='store_true', help='no commands')
-    name = 'a name by which a proxy asks it, as desk.example or desk.example:8443; more than once for more'
+    name = 'a host name that a proxy uses for it, as desk.example or desk.example:8443; may be repeated'
     add('--name', action='append', default=[], metavar='HOST', help=name)
-    user = 'the header in which a proxy says who asks, for the record of commands'
+    user = 'the header in which a proxy names the user, for the record of commands'
     add('--user-header', metavar='NAME', help=user)
     return line
 
@@ -101,7 +102,8 @@ def serve(said: argparse.Namespace) -> bool:
     shown = Shown()
     news = News(shown, record)
     stores = Stores(layout, news)
-    asker = Asker(desks[0], news, stores, Fleet(layout, news, stores.jobs, int(said.silent * 1000)), said.days)
+    fleet = Fleet(layout, news, stores.jobs, int(said.silent * 1000))
+    asker = Asker(desks[0], news, stores, fleet, said.days, said.notes)
     commands = None if said.read_only else Commands(desks[1], layout, shown, record, asker)
     guard = Guard(server.server_port, said.name)
     places = drawn(layout, places_of(layout, digest, record))

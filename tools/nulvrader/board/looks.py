@@ -40,7 +40,7 @@ def correct_load(scene: Scene, said: Mapping[str, str]) -> Look:
     known = _load_here(scene, look, load)
     before = place_words(known['place']) if known else 'unknown'
     after = 'at station %s' % station if station else 'at the checking place'
-    look.says.append('The desk takes it that %s stands %s. By the desk it is %s now.' % (load, after, before))
+    look.says.append('The desk will record that %s stands %s. Recorded now: %s.' % (load, after, before))
     look.says.append('No vehicle moves for it.')
     _check_no_job(scene, look, load)
     _check_room(scene, look, station)
@@ -125,12 +125,12 @@ def _instant(scene: Scene, said: Mapping[str, str], words: str, paused: bool, wa
 def place(scene: Scene, said: Mapping[str, str]) -> Look:
     look, name, node = Look(_with_reference(said)), said['vehicle'], said['node']
     vehicle = scene.vehicle(name)
-    look.says.append('The desk takes it that %s stands at node %s, and that it holds this node alone.' % (name, node))
+    look.says.append('The desk will record that %s stands at node %s, and holds only this node.' % (name, node))
     if vehicle and vehicle['order_name']:
         look.says.append('Its order %s ends, and its jobs that are not done are stopped.' % vehicle['order_name'])
     look.warn(
         True,
-        'The vehicle is not told, and all track that it held is free to others. Make sure that it stands there, and '
+        'The vehicle gets no message, and all track that it held is free to others. Make sure that it stands there, and '
         'that the order on it is cleared.',
     )
     by = scene.holder('node', node)
@@ -143,7 +143,7 @@ def resync(scene: Scene, said: Mapping[str, str]) -> Look:
     look.says.append(
         'The desk forgets the number of the last state of %s, and takes its next one, whatever its number.' % name
     )
-    look.says.append('This is for a vehicle that was restarted and counts anew.')
+    look.says.append('This is for a vehicle that was restarted and counts its headers from the start again.')
     return look
 
 

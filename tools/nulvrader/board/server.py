@@ -155,7 +155,7 @@ class Handler(BaseHTTPRequestHandler):
         if fault:
             self._refuse(403, fault)
         elif board.commands is None:
-            self._refuse(403, 'This board was started to look only.')
+            self._refuse(403, 'This board was started with --read-only.')
         elif self.path == '/may':
             self._json({})
         elif self.path in ('/look', '/do'):

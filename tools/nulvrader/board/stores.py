@@ -2,10 +2,11 @@
 loads tell."""
 from __future__ import annotations
 
-from collections.abc import Iterable, Mapping
+from collections.abc import Mapping
 
 from ..client import Load
 from ..layouts import Layout
+from ..notes import Notes
 from ..reports import Stock
 from . import tell
 from .jobs import Job, Jobs
@@ -23,6 +24,7 @@ class Stores:
         self.left = 0
         self.needs_export = True
         self.jobs = Jobs(self._job)
+        self._waits: Mapping[str, str] = {}
         self._restore()
 
     def _restore(self) -> None:
@@ -38,6 +40,15 @@ class Stores:
         self.jobs.restore(Job(*row[:7], *(None if at is None else moment_of(at) for at in row[7:])) for row in rows)
         for job in self.jobs.live.values():
             self.news.shown.put('job', job.name, tell.job(job))
+        for origin, count in record.rows('SELECT origin, count(*) FROM jobs WHERE origin IS NOT NULL GROUP BY origin'):
+            self.jobs.begun[origin] = count
+
+    def take_notes(self, notes: Notes) -> None:
+        """What the dispatcher has noted."""
+        self.jobs.take_notes(notes.jobs)
+        for name in self._waits.keys() | notes.waits.keys():
+            self.news.shown.put('why', name, notes.waits.get(name))
+        self._waits = notes.waits
 
     def take_stock(self, stock: Stock) -> None:
         """The stock report."""
@@ -66,9 +77,11 @@ class Stores:
         fault = 'The layout file is not the layout of this desk: station %s differs.' % apart[0] if apart else None
         self.news.shown.put('fault', 'stations', fault)
 
-    def _at_stations(self) -> Iterable[str]:
+    def _at_stations(self) -> dict[str, str]:
+        """The loads at stations with these, those that moved last first."""
         loads = [load for load, place in self.places.items() if place.startswith('station ')]
-        return sorted(loads, key=lambda load: -(self.since.get(load) or 0))
+        loads.sort(key=lambda load: -(self.since.get(load) or 0))
+        return {load: self.places[load].removeprefix('station ') for load in loads}
 
     def _move(self, load: str, place: str) -> None:
         before = self.places.get(load)
@@ -77,8 +90,7 @@ class Stores:
         if not self.first:
             self.news.record.load_move(self.news.at, load, before, place)
             self.news.event('load', tell.move(load, before, place), load=load)
-            if load in self.jobs.live:
-                self.jobs.want(load)
+        self.jobs.moved(load, place, self.news.at)
         if place == 'left':
             del self.places[load], self.since[load]
             self.left += 1

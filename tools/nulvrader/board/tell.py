@@ -1,6 +1,7 @@
 """What changes, as the page and the record are told: rows, and sentences for what happened."""
 from __future__ import annotations
 
+import re
 from collections.abc import Mapping, Set
 from typing import Any
 
@@ -16,6 +17,12 @@ def count(number: int, thing: str) -> str:
 
 
 ACTIONS = {'startPause': 'pause', 'stopPause': 'go on', 'cancelOrder': 'cancel its order'}
+
+
+def advice(words: str) -> str:
+    """The advice of a refusal without what `tools/ask` would do, which who looks at the page may not have."""
+    sentences = [one for one in re.split(r'(?<=\.) ', words) if not one.startswith('`tools/ask ')]
+    return ' '.join(one.partition(' `tools/ask ')[0].rstrip(';:.') + '.' for one in sentences)
 
 
 def place_words(place: str) -> str:
@@ -44,6 +51,7 @@ def job(told: Job) -> dict[str, Any]:
         'load': told.load,
         'origin': told.origin,
         'target': told.target,
+        'targets': told.targets,
         'phase': told.phase,
         'order': told.order,
         'vehicle': told.vehicle,
@@ -54,7 +62,7 @@ def job(told: Job) -> dict[str, Any]:
 
 def job_change(told: Job) -> str:
     """A job came to be so."""
-    to = 'to %s' % told.target if told.target else 'to a station that is known once it rides'
+    to = 'to %s' % (told.target or ' or '.join(told.targets) or 'a station that is known once it rides')
     if told.phase == 'waiting':
         return 'Job %s waits: %s %s' % (told.name, told.load, to)
     if told.phase == 'riding':

@@ -1,6 +1,7 @@
 """Which vehicle takes which jobs. Pure: it proposes orders, and the dispatcher gives them."""
 from __future__ import annotations
 
+import itertools
 from collections.abc import Iterator, Sequence
 from dataclasses import dataclass
 
@@ -10,11 +11,14 @@ from .snapshot import Seen
 from .traffic import Judge, Traffic
 from .ways import Ways
 
-NEAREST = 3
-"""So many vehicles are tried for a job, from the nearest on."""
-
 JOBS = 30
 """So many jobs are tried in one turn, from the oldest on."""
+
+TRIES = 60
+"""So many pairs of a job and a vehicle with an open way are tried, from the nearest on."""
+
+AGE = 10.0
+"""So many seconds that a job has waited count as an edge less to it."""
 
 
 @dataclass(frozen=True)
@@ -44,33 +48,32 @@ class Chooser:
         self.ways, self.judge, self.detour = ways, judge, detour
 
     def propose(self, idle: Sequence[Seen], waiting: Sequence[Waiting], traffic: Traffic) -> Proposal | None:
-        """The first order that may be started: for a vehicle that is in the way of others, else for the oldest job that a vehicle can
-        take. Jobs whose target is not known come last."""
+        """The first order that may be started: for a vehicle that is in the way of others, else for a job and a vehicle that is near,
+        where the time counts that the job has waited. Jobs whose target is not known come last."""
         jobs = waiting[:JOBS]
+        known, unknown = [one for one in jobs if one.target is not None], [one for one in jobs if one.target is None]
         blocking = [seen for seen in idle if traffic.in_the_way(seen.name)]
-        for one, seen in [*self._pairs(blocking, jobs), *self._pairs(idle, jobs)]:
-            way = self._whole_way(seen, one)
-            if way is not None and self.judge.may_start(traffic, seen.name, way):
+        for one, seen, way in itertools.chain(self._tries(blocking, known, traffic), self._tries(idle, known, traffic)):
+            if self.judge.may_start(traffic, seen.name, way):
                 return self._with_more(Proposal(seen.name, _stops(one), way, (one,)), one, seen, waiting, traffic)
-        for one in jobs:
-            if one.target is None:
-                for seen in self._nearest(idle, one):
-                    way = self.ways.way((seen.row.node, self.ways.node_of(one.origin)))
-                    if way is not None and self.judge.may_start(traffic, seen.name, way):
-                        return Proposal(seen.name, _stops(one), way, (one,), False)
+        for one, seen, way in self._tries(idle, unknown, traffic):
+            if self.judge.may_start(traffic, seen.name, way):
+                return Proposal(seen.name, _stops(one), way, (one,), False)
         return None
 
-    def _pairs(self, idle: Sequence[Seen], jobs: Sequence[Waiting]) -> Iterator[tuple[Waiting, Seen]]:
-        return ((one, seen) for one in jobs if one.target is not None for seen in self._nearest(idle, one))
-
-    def _nearest(self, idle: Sequence[Seen], one: Waiting) -> list[Seen]:
-        pick = self.ways.node_of(one.origin)
-        far = [(hops, seen.name, seen) for seen in idle if (hops := self.ways.hops(seen.row.node, pick)) is not None]
-        return [seen for _, _, seen in sorted(far, key=lambda one: one[:2])[:NEAREST]]
-
-    def _whole_way(self, seen: Seen, one: Waiting) -> tuple[str, ...] | None:
-        assert one.target is not None
-        return self.ways.way((seen.row.node, self.ways.node_of(one.origin), self.ways.node_of(one.target)))
+    def _tries(self, idle: Sequence[Seen], jobs: Sequence[Waiting], traffic: Traffic) -> Iterator[tuple[Waiting, Seen, tuple[str, ...]]]:
+        """Jobs, each with a vehicle and its open way, the nearest first."""
+        pairs = []
+        for number, one in enumerate(jobs):
+            stops = [self.ways.node_of(name) for name in (one.origin, one.target) if name is not None]
+            for seen in idle:
+                hops = self.ways.hops(seen.row.node, stops[0])
+                if hops is not None:
+                    pairs.append((hops - one.waited / AGE, number, seen.name, seen, (seen.row.node, *stops)))
+        pairs.sort(key=lambda pair: pair[:3])
+        tries = ((jobs[number], seen, self.ways.way(stops)) for _, number, _, seen, stops in pairs)
+        open_ways = ((one, seen, way) for one, seen, way in tries if way is not None and self.judge.is_open(traffic, seen.name, way))
+        return itertools.islice(open_ways, TRIES)
 
     def _with_more(self, first: Proposal, one: Waiting, seen: Seen, waiting: Sequence[Waiting], traffic: Traffic) -> Proposal:
         """The order with further jobs that lie on its way, the oldest first, as far as the vehicle has room."""

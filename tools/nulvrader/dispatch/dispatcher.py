@@ -90,7 +90,7 @@ class Dispatcher:
     def _turn(self) -> None:
         now = self.clock()
         seen = self._last = take(self.desk, self._last)
-        self.book.look(self.desk, seen)
+        self.book.look(self.desk, seen, now)
         for vehicle in seen.vehicles.values():
             self._remember(vehicle, seen, now)
         traffic = self._traffic(seen, now)
@@ -102,6 +102,7 @@ class Dispatcher:
         self._look_deeper(seen, traffic, bool(released or started))
         self._untangle(seen, traffic)
         self._tell_waits(reasons, now)
+        self.book.note(reasons)
 
     # What is remembered and told of the vehicles.
 
@@ -211,8 +212,8 @@ class Dispatcher:
                     return count, 'waits at %s for %s, which %s holds' % (ahead[0].start, thing, held[thing])
             if not self.judge.may_release(traffic, vehicle.name, count + 1):
                 if vehicle.name not in self.judge.finish_now(traffic):
-                    return count, 'waits at %s, since its way is shut%s' % (ahead[0].start, self._by_whom(vehicle, traffic))
-                return count, 'waits at %s, since on %s it would shut others in, or be shut in' % (ahead[0].start, edge.name)
+                    return count, 'waits at %s, since its way is blocked%s' % (ahead[0].start, self._by_whom(vehicle, traffic))
+                return count, 'waits at %s, since on %s it would block others, or be blocked' % (ahead[0].start, edge.name)
         return min(most, len(ahead)), ''
 
     def _by_whom(self, vehicle: Seen, traffic: Traffic) -> str:
@@ -301,7 +302,7 @@ class Dispatcher:
             for name, at in standing.items()
             if node in at
         ]
-        return '; '.join(sorted(found)) or 'no free vehicle gets there without shutting others in, or being shut in'
+        return '; '.join(sorted(found)) or 'no free vehicle gets there without blocking others, or being blocked'
 
     # When nothing moves.
 
@@ -329,7 +330,7 @@ class Dispatcher:
                 self.say('%s: its order is not cancelled: %s' % (vehicle.name, refusal))
                 continue
             told = ', '.join(one.job for one in self._memory[vehicle.name].jobs)
-            self.say('%s: cancels order %s, of %s: it and others shut one another in' % (vehicle.name, vehicle.row.order, told))
+            self.say('%s: cancels order %s, of %s: it and others block one another' % (vehicle.name, vehicle.row.order, told))
             self.judge.times = 1
             return
 

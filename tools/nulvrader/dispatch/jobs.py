@@ -4,15 +4,15 @@ No call of the desk lists jobs. A load tells its live job, but not where that le
 not which. So the jobs are found by asking for loads, and their targets by what is left over: the places that stations keep, less those
 of the jobs whose target is known. Where jobs are seen one after another as they are added, that leaves one station. Where several were
 added between two looks, as before a start of the dispatcher, it leaves some: the `targets` of a job are those that it may have. What
-was found is noted in a file, if there is one, for the next start."""
+was found is noted in a file, if there is one, for the next start and for the board."""
 from __future__ import annotations
 
-import json
-import os
 from collections import Counter
-from dataclasses import dataclass
+from collections.abc import Mapping
+from dataclasses import dataclass, replace
 
 from ..client import Desk, Refused
+from ..notes import Noted, Notes, read_notes, write_notes
 from .snapshot import Snapshot
 
 ASKED = 400
@@ -24,13 +24,14 @@ ANEW = 30
 
 @dataclass(frozen=True)
 class Waiting:
-    """A job that waits: its load, the station where that stands, and the stations where it may lead, one of them where that is
-    known."""
+    """A job that waits: its load, the station where that stands, the stations where it may lead, one of them where that is known, and
+    for how many seconds it has been seen to wait."""
 
     job: str
     load: str
     origin: str
     targets: tuple[str, ...] = ()
+    waited: float = 0.0
 
     @property
     def target(self) -> str | None:
@@ -46,12 +47,14 @@ class JobBook:
         self.waiting: dict[str, Waiting] = {}
         self.taken: dict[str, str] = {}  # by load the job that the desk says does not wait
         self.known: dict[str, str] = {}  # by job its target
-        self._turn = 0
+        self._turn, self._now, self._found = 0, 0.0, False
         self._last = ''  # the load that was asked for last
 
-    def look(self, desk: Desk, seen: Snapshot) -> None:
-        """Brings the book up to date. `ASKED` requests at most, and at times once more for what is known."""
+    def look(self, desk: Desk, seen: Snapshot, now: float = 0.0) -> None:
+        """Brings the book up to date, at this moment in seconds. `ASKED` requests at most, and at times once more for what is known."""
         self._turn += 1
+        self.waiting = {job: replace(one, waited=one.waited + now - self._now) for job, one in self.waiting.items()}
+        self._now = now
         riding = seen.riding()
         by_load = {one.load: one for one in self.waiting.values()}
         for load, one in by_load.items():
@@ -66,17 +69,18 @@ class JobBook:
             first = next((n for n, load in enumerate(loads) if load > self._last), 0)
             self._ask(desk, seen, loads[first:] + loads[:first], expected)
         self._find_targets(seen)
-        if len(self.waiting) + len(self.taken) >= expected:
-            self.note()
+        self._found = len(self.waiting) + len(self.taken) >= expected
+        self.note()
 
-    def note(self) -> None:
-        """Writes the targets that are known, where they are others than those that were written last."""
-        if self.notes is None or self.known == self._noted:
+    def note(self, waits: Mapping[str, str] | None = None) -> None:
+        """Writes the jobs that wait, and why these and vehicles do, once all jobs are found."""
+        if self.notes is None or not self._found:
             return
-        with open(self.notes + '.new', 'w') as file:
-            json.dump(self.known, file)
-        os.replace(self.notes + '.new', self.notes)
-        self._noted = dict(self.known)
+        jobs = {one.job: Noted(one.load, self.known.get(one.job)) for one in self.waiting.values()}
+        noted = Notes(jobs, self._noted.waits if waits is None else dict(waits))
+        if waits is not None or noted != self._noted:  # a file that is written in each turn shows that the dispatcher runs
+            write_notes(self.notes, noted)
+            self._noted = noted
 
     def forget(self, job: str) -> None:
         """The job does not wait any more."""
@@ -113,7 +117,7 @@ class JobBook:
         left.subtract(act.station for _, act in seen.riding().values())
         left.subtract(target for job, target in self.known.items() if job in self.waiting)
         for one in [one for one in self.waiting.values() if one.job not in self.known]:
-            target = self._noted.get(one.job)
+            target = self._noted.jobs[one.job].to if one.job in self._noted.jobs else None
             if target is not None and left[target] > 0 and target != one.origin:
                 self._know(one, target)
                 left[target] -= 1
@@ -123,7 +127,7 @@ class JobBook:
             found = False
             for one in list(open_jobs):
                 targets = tuple(name for name, count in left.items() if count > 0 and name != one.origin)
-                self.waiting[one.job] = Waiting(one.job, one.load, one.origin, targets)
+                self.waiting[one.job] = replace(one, targets=targets)
                 if len(targets) == 1:
                     self._know(one, targets[0])
                     left[targets[0]] -= 1
@@ -132,14 +136,4 @@ class JobBook:
 
     def _know(self, one: Waiting, target: str) -> None:
         self.known[one.job] = target
-        self.waiting[one.job] = Waiting(one.job, one.load, one.origin, (target,))
-
-
-def read_notes(notes: str | None) -> dict[str, str]:
-    """The targets that were noted, by job. None where there is no such file, or it has something else."""
-    try:
-        with open(notes or os.devnull) as file:
-            told = json.load(file)
-    except (OSError, ValueError):
-        return {}
-    return {job: target for job, target in told.items() if isinstance(target, str)} if isinstance(told, dict) else {}
+        self.waiting[one.job] = replace(one, targets=(target,))

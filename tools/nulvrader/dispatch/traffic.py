@@ -26,7 +26,7 @@ class Still:
 @dataclass(frozen=True)
 class Traffic:
     """All vehicles by name. `ways` has those that go on with their order: the last node that each holds, and all behind it. `still`
-    `still` has those that have an order and do not go on. `parked` has the nodes that each vehicle without an order holds. `out` has
+    has those that have an order and do not go on. `parked` has the nodes that each vehicle without an order holds. `out` has
     of each node that is in a dead end the nodes behind it on the way out."""
 
     ways: Mapping[str, Way]
@@ -37,6 +37,11 @@ class Traffic:
     def walls(self) -> frozenset[str]:
         """The nodes that stay taken as long as those that stand do."""
         return frozenset().union(*self.parked.values(), *(one.held for one in self.still.values()))
+
+    def is_open(self, vehicle: str, way: Way) -> bool:
+        """Whether no other vehicle that stands holds a node of this way."""
+        standing = (held for name, held in self.parked.items() if name != vehicle)
+        return all(held.isdisjoint(way) for held in (*standing, *(one.held for name, one in self.still.items() if name != vehicle)))
 
     def all_ways(self) -> dict[str, Way]:
         return {**self.ways, **{name: one.way for name, one in self.still.items()}}
@@ -96,6 +101,10 @@ class Judge:
         """Whether each vehicle that could finish before can after, now and later."""
         return self.finish_now(before) <= self.finish_now(after, False) and self.finish_later(before) <= self.finish_later(after, False)
 
+    def is_open(self, traffic: Traffic, vehicle: str, way: Way) -> bool:
+        """Whether nobody stands on this way of the vehicle who does not go on."""
+        return traffic.is_open(vehicle, way)
+
     def may_release(self, traffic: Traffic, vehicle: str, nodes: int) -> bool:
         """Whether so many nodes more may be released to the vehicle, all of them free. One that can't finish now stays where it is,
         unless it is in the way of another that can."""
@@ -109,6 +118,6 @@ class Judge:
     def may_start(self, traffic: Traffic, vehicle: str, way: Way) -> bool:
         """Whether a vehicle without an order may be given one along this way: it can finish, and so can all that could before."""
         after = traffic.started(vehicle, way)
-        if not after.walls().isdisjoint(way[1:]) or vehicle not in self.finish_now(after, False):
+        if not self.is_open(traffic, vehicle, way) or vehicle not in self.finish_now(after, False):
             return False
         return vehicle in self.finish_later(after, False) and self.keeps(traffic, after)

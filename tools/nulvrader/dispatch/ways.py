@@ -9,6 +9,9 @@ from ..layouts import Layout
 MOST_EDGES = 200
 """So many edges has the way of an order at most."""
 
+KEPT = 20_000
+"""So many ways are kept."""
+
 
 class Ways:
     """The ways of one layout."""
@@ -16,6 +19,7 @@ class Ways:
     def __init__(self, layout: Layout) -> None:
         self.layout = layout
         self._far: dict[str, dict[str, int]] = {}
+        self._kept: dict[tuple[str, ...], tuple[str, ...] | None] = {}
         self._out: dict[str, list[tuple[str, str]]] = defaultdict(list)
         for name, edge in sorted(layout.edges.items()):
             self._out[edge.start].append((name, edge.finish))
@@ -29,6 +33,14 @@ class Ways:
     def way(self, stops: Sequence[str]) -> tuple[str, ...] | None:
         """The nodes of the way from the first of these nodes over all others: from each to the next by the shortest walk, the one of
         the least names. None where there is none, or it is too long for an order."""
+        asked = tuple(stops)
+        if asked not in self._kept:
+            if len(self._kept) >= KEPT:
+                self._kept.clear()
+            self._kept[asked] = self._way(asked)
+        return self._kept[asked]
+
+    def _way(self, stops: Sequence[str]) -> tuple[str, ...] | None:
         nodes = [stops[0]]
         for target in stops[1:]:
             far = self.hops(nodes[-1], target)

@@ -1,0 +1,48 @@
+"""The file in which the dispatcher notes the jobs that wait, for its next start and for the board, and why they and vehicles do. What
+it says of jobs is a hint: the desk decides whether it is so."""
+from __future__ import annotations
+
+import json
+import os
+import time
+from collections.abc import Mapping
+from dataclasses import dataclass, field
+
+OLD = 10.0
+"""A file that was not touched for so many seconds is of a dispatcher that does not run: why something waited then is not told."""
+
+
+@dataclass(frozen=True)
+class Noted:
+    """A job that waits: its load, and the station where it leads, None where that is not known."""
+
+    load: str
+    to: str | None
+
+
+@dataclass(frozen=True)
+class Notes:
+    """Jobs by their names, and by vehicle and by `job J1` why each waits that does."""
+
+    jobs: Mapping[str, Noted] = field(default_factory=dict)
+    waits: Mapping[str, str] = field(default_factory=dict)
+
+
+def write_notes(path: str, notes: Notes) -> None:
+    """Writes notes in place of what is there."""
+    jobs = {job: {'load': noted.load, 'to': noted.to} for job, noted in notes.jobs.items()}
+    with open(path + '.new', 'w') as file:
+        json.dump({'jobs': jobs, 'waits': dict(notes.waits)}, file)
+    os.replace(path + '.new', path)
+
+
+def read_notes(path: str | None) -> Notes:
+    """The notes of a file. None where there is no such file, or it has something else."""
+    try:
+        with open(path or os.devnull) as file:
+            told, touched = json.load(file), os.fstat(file.fileno()).st_mtime
+        jobs = {str(job): Noted(str(row['load']), None if row['to'] is None else str(row['to'])) for job, row in told['jobs'].items()}
+        waits = {str(name): str(why) for name, why in told['waits'].items()}
+    except (OSError, ValueError, AttributeError, TypeError, KeyError):
+        return Notes()
+    return Notes(jobs, waits if time.time() - touched < OLD else {})
