@@ -10,7 +10,7 @@ import tempfile
 import unittest
 
 import programs
-from programs import until
+from programs import PATIENCE, until
 from nulvrader import client
 from nulvrader.machine import free_port
 from test_client import KIT1, told
@@ -43,7 +43,7 @@ class ByMosquitto(unittest.TestCase):
         self.port = free_port()
         serving = Serving(os.path.join(self.folder, 'desk.db'))
         self.addCleanup(serving.__exit__)
-        self.desk = client.Desk('127.0.0.1:%d' % serving.port)
+        self.desk = client.Desk('127.0.0.1:%d' % serving.port, timeout=PATIENCE)
         self.desk.set_layout(LAYOUT.encode())
         self.desk.register_vehicle(KIT1, 'N1')
         self.desk.register_load('L1', 'A')

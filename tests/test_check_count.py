@@ -91,7 +91,7 @@ class Alone(unittest.TestCase):
         with tempfile.TemporaryDirectory() as folder:
             path = os.path.join(folder, 'count.csv')
             for text, status, wanted in (
-                (HEAD + 'A,L1\nB,\n', 0, '2 stations, 1 load, 21 bytes of 65536: a desk takes it\n'),
+                (HEAD + 'A,L1\nB,\n', 0, '2 stations, 1 load, 21 bytes of 65536: a desk accepts it\n'),
                 (HEAD + 'A;L1\n', 1, 'line 2: BadCsv: 1 field, and not the two of station,load: write A,L1\n'
                                      '0 stations, 0 loads, 18 bytes of 65536: a desk answers BadCsv\n'),
             ):
@@ -131,7 +131,7 @@ class OverRecords(unittest.TestCase):
             with self.subTest(rows):
                 ends, lines = self.told(rows, *words)
                 self.assertEqual((ends, lines[:-1]), (1 if answer else 0, faults or more))
-                self.assertTrue(lines[-1].endswith('a desk answers %s' % answer if answer else 'a desk takes it'))
+                self.assertTrue(lines[-1].endswith('a desk answers %s' % answer if answer else 'a desk accepts it'))
 
     def test_of_a_file(self):
         self.check('--db', self.db)

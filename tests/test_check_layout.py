@@ -172,8 +172,8 @@ class CheckLayout(unittest.TestCase):
         with tempfile.TemporaryDirectory() as folder:
             name = os.path.join(folder, 'layout.csv')
             for text, status, wanted in (
-                (LAYOUT, 0, '3 nodes, 4 edges, 3 stations, %d bytes of 65536: a desk takes it\n' % len(LAYOUT)),
-                (one_way, 0, walks + '2 nodes, 1 edge, 2 stations, 80 bytes of 65536: a desk takes it\n'),
+                (LAYOUT, 0, '3 nodes, 4 edges, 3 stations, %d bytes of 65536: a desk accepts it\n' % len(LAYOUT)),
+                (one_way, 0, walks + '2 nodes, 1 edge, 2 stations, 80 bytes of 65536: a desk accepts it\n'),
                 (
                     TWO + N1,
                     1,

@@ -9,7 +9,8 @@ import threading
 import unittest
 from unittest import mock
 
-import programs  # noqa: F401: it puts tools/ on the path
+import programs
+from programs import PATIENCE
 from nulvrader import client, layouts, names, questions, refusals, reports
 from test_program import Serving, over_sockets
 from test_scripts import LAYOUT, state
@@ -32,7 +33,7 @@ class WithADesk(unittest.TestCase):
         self.addCleanup(folder.cleanup)
         serving = Serving(os.path.join(folder.name, 'desk.db'))
         self.addCleanup(serving.__exit__)
-        self.desk = client.Desk('127.0.0.1:%d' % serving.port)
+        self.desk = client.Desk('127.0.0.1:%d' % serving.port, timeout=PATIENCE)
         self.desk.set_layout(self.layout.encode())
         self.desk.register_vehicle(KIT1, 'N1', self.capacity)
         self.desk.register_load('L1', 'A')
@@ -101,7 +102,7 @@ class OverADesk(WithADesk):
         """A desk that serves one connection and no more is asked three times."""
         with tempfile.TemporaryDirectory() as folder:
             with Serving(os.path.join(folder, 'one.db'), connections=1) as serving:
-                desk = client.Desk('http://127.0.0.1:%d/' % serving.port)
+                desk = client.Desk('http://127.0.0.1:%d/' % serving.port, timeout=PATIENCE)
                 with desk.kept(3):
                     desk.register_load('L1')
                     self.assertEqual(self.refused(desk.register_load, 'L1').name, 'Exists')
@@ -200,7 +201,7 @@ class NoDesk(unittest.TestCase):
 
         thread = threading.Thread(target=serve)
         thread.start()
-        desk = client.Desk('127.0.0.1:%d' % listener.getsockname()[1], **named)
+        desk = client.Desk('127.0.0.1:%d' % listener.getsockname()[1], **{'timeout': PATIENCE, **named})
         try:
             desk.register_load('L1')
         except (client.NoAnswer, client.Refused) as fault:

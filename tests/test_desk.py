@@ -56,8 +56,8 @@ class Built(Tree):
         self.make_database('erp.db', 'CREATE TABLE hold (id)', 'CREATE TABLE holder (id)', 'CREATE TABLE legs (id)')
         self.make_database('none.db', journal='wal')
         stands = sorted(os.listdir(self.work))
-        for file, why in (('misspelt.db', 'there is no file'), ('folder', 'is a folder'), ('empty', 'is no database'),
-                          ('letter', 'is no database'), ('erp.db', 'no tables of a desk'), ('none.db', 'no tables of a desk')):
+        for file, why in (('misspelt.db', 'there is no file'), ('folder', 'is a folder'), ('empty', 'is not an SQLite database'),
+                          ('letter', 'is not an SQLite database'), ('erp.db', "without a desk's tables"), ('none.db', "without a desk's tables")):
             for words in (['report', '--db', file, 'stock'], ['report', 'holds', '--db=' + file], ['migrate', '--db', file],
                           ['--unproved', 'report', '--db', file, 'stock']):
                 with self.subTest(words=words):
@@ -100,9 +100,9 @@ class Built(Tree):
         self.write(os.path.join(self.work, 'empty'), '')
         self.make_database('erp.db', 'CREATE TABLE item (id)')
         self.make_database('plain.db', 'CREATE TABLE hold (kind TEXT, id TEXT)', 'CREATE TABLE leg (order_id TEXT)')
-        for name, said in (('new.db', 'desk: new.db is not there: a new warehouse begins in it\n'), ('plain.db', ''), ('no/new.db', ''),
-                           ('empty', "desk: empty has no tables of a desk's: a new warehouse begins in it\n"),
-                           ('erp.db', "desk: erp.db has no tables of a desk's: a new warehouse begins in it\n")):
+        for name, said in (('new.db', 'desk: new.db does not exist: a new warehouse begins in it\n'), ('plain.db', ''), ('no/new.db', ''),
+                           ('empty', "desk: empty has no tables of a desk: a new warehouse begins in it\n"),
+                           ('erp.db', "desk: erp.db has no tables of a desk: a new warehouse begins in it\n")):
             words = ['serve', '--db', name, '--port', '0', '--connections', '1']
             self.assertEqual(self.run_desk(*words), (3, '|'.join(words) + '|', said))
         self.assertEqual(self.run_desk('replay', '--db', 'new.db')[2], '')
@@ -121,7 +121,7 @@ class Built(Tree):
         why = os.path.join(self.top, 'tools', 'why')
         self.assertEqual(self.run_desk('replay', '--db', 'f'), (1, '', 'fault: Net\n'))
         self.write(why, '')
-        told = 'fault: Net\ndesk: what is wrong is told by: %s --db f' % why
+        told = 'fault: Net\ndesk: to see what is wrong, run: %s --db f' % why
         self.assertEqual(self.run_desk('replay', '--db', 'f'), (1, '', told + '\n'))
         self.make_database('f', 'CREATE TABLE hold (kind TEXT, id TEXT)', 'CREATE TABLE leg (order_id TEXT)')
         for words in (['serve', '--db', 'f', '--port', '8'], ['serve', '--db', 'f', '--port=8', '--connections', '5']):
@@ -139,7 +139,7 @@ class Built(Tree):
         for name in ('a b.db', "it's.db", '$HOME;`ls`.db', '"a".db', "'", '*', 'a\\b\nc.db', '\u00e4.db', 'plain-1.db'):
             with self.subTest(name):
                 status, _, said = self.run_desk('replay', '--db', name, '--at', '0')
-                command = said.partition('desk: what is wrong is told by: ')[2]
+                command = said.partition('desk: to see what is wrong, run: ')[2]
                 done = subprocess.run(['sh', '-c', command], cwd=self.work, capture_output=True, text=True)
                 self.assertEqual((status, done.returncode, done.stdout), (1, 0, '--db|%s|' % name))
                 self.assertEqual("'" in command, name != 'plain-1.db')

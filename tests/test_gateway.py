@@ -13,7 +13,7 @@ import types
 import unittest
 import unittest.mock
 
-from programs import module, ran
+from programs import PATIENCE, module, ran
 from nulvrader.client import Answer, Desk, NoAnswer
 from nulvrader.refusals import BY_NAME
 from test_program import Serving, over_sockets
@@ -486,7 +486,7 @@ class States(BetweenStandIns):
         self.turn()
         self.turn()
         self.assertEqual(self.desk.told, [('/uagv/v2/KIT/0001/state', 108)])
-        line = 'the desk can not be asked: no desk'
+        line = 'the desk can not be reached: no desk'
         self.assertEqual(self.said, [line])
         self.desk.is_down = True
         self.turn()
@@ -529,7 +529,7 @@ class States(BetweenStandIns):
         self.assertEqual(len(self.desk.told), 3 * len(good))
         self.assertEqual(len(self.said), len(bad), self.said)
         for vehicle, line in zip(bad, self.said):
-            self.assertTrue(line.startswith('%a is passed over: ' % ('uagv/v2/%s/state' % vehicle)), line)
+            self.assertTrue(line.startswith('%a is ignored: ' % ('uagv/v2/%s/state' % vehicle)), line)
         for topic in ('uagv/v2/KIT/0001/states', 'a/uagv/v2/KIT/0001/state', 'uagv/v2/KIT/0001/state\n'):
             self.broker.states.append((topic, json.dumps(STATE).encode()))
         self.turn()
@@ -570,7 +570,7 @@ class States(BetweenStandIns):
             self.turn()
             lines.append(len(self.said))
         self.assertEqual(lines, [0, 0, 0, 0, 0, 1, 1, 1, 1, 1, 1, 2])
-        self.assertTrue(self.said[0].startswith('KIT/0001: 3 states in a row are old to the desk'))
+        self.assertTrue(self.said[0].startswith('KIT/0001: 3 states in a row are old for the desk'))
         self.assertTrue(self.said[0].endswith('tools/ask --desk 127.0.0.1:8080 resync KIT/0001'))
 
     def test_a_vehicle_that_the_desk_does_not_know(self):
@@ -916,7 +916,7 @@ class Words(unittest.TestCase):
             (['--broker', 'nowhere'], "'nowhere' is not HOST:PORT"),
             (['--broker', 'here:0'], "'here:0' is not HOST:PORT"),
             (['--vehicle', 'KIT 1/0001'], "'KIT 1/0001' is no vehicle: write MANUFACTURER/SERIAL"),
-            (['--front', 'uagv/#'], "'uagv/#' is no front of a topic"),
+            (['--front', 'uagv/#'], "'uagv/#' is no beginning of a topic"),
             (['--every', '0'], '0 is no number of seconds between 0 and 3600'),
             (['--password-file', 'x'], '--password-file needs --user'),
         ):
@@ -969,7 +969,7 @@ class Transport(unittest.TestCase):
         self.folder = tempfile.TemporaryDirectory()
         self.desk = Serving(os.path.join(self.folder.name, 'desk.db'))
         self.broker, self.said = StandIn(), []
-        self.gateway = gateway.Gateway(Desk('127.0.0.1:%d' % self.desk.port), self.broker, said=self.said.append)
+        self.gateway = gateway.Gateway(Desk('127.0.0.1:%d' % self.desk.port, timeout=PATIENCE), self.broker, said=self.said.append)
         self.vehicle = OnBroker(self.broker, 'N1')
 
     def tearDown(self):
@@ -1036,9 +1036,9 @@ class Transport(unittest.TestCase):
         self.vehicle.turn()
         self.gateway.turn(0)
         self.assertEqual(len(self.said), 1)
-        self.assertIn('can not be asked', self.said[0])
+        self.assertIn('can not be reached', self.said[0])
         self.desk = Serving(os.path.join(self.folder.name, 'desk.db'))
-        self.gateway.desk = Desk('127.0.0.1:%d' % self.desk.port)
+        self.gateway.desk = Desk('127.0.0.1:%d' % self.desk.port, timeout=PATIENCE)
         self.gateway.turn(0)
         self.assertEqual(self.vehicle_row()['headerId'], self.vehicle.header)
 
@@ -1053,8 +1053,8 @@ class Transport(unittest.TestCase):
         self.gateway.turn(0)
         self.assertEqual(len(self.said), 5, self.said)
         self.assertTrue(self.said[0].startswith('uagv/v2/KIT/0001/state: '))
-        self.assertTrue(self.said[1].startswith("'uagv/v2/KIT 1/0001/state' is passed over"))
-        self.assertTrue(self.said[2].startswith("'uagv/v2/K\\xd6T/0001/state' is passed over"))
+        self.assertTrue(self.said[1].startswith("'uagv/v2/KIT 1/0001/state' is ignored"))
+        self.assertTrue(self.said[2].startswith("'uagv/v2/K\\xd6T/0001/state' is ignored"))
         self.assertTrue(self.said[3].startswith('KIT/0009: state: WrongVehicle (14)'))
         self.assertTrue(self.said[4].startswith('KIT/0009: unknown to the desk: NoVehicle (20)'))
 
@@ -1095,7 +1095,7 @@ class Transport(unittest.TestCase):
         """Without a gateway; its states are accepted, though it has sent more than one a second."""
         self.begin()
         for _ in range(2):
-            direct = vehicle.Vehicle(Desk('127.0.0.1:%d' % self.desk.port), 'KIT', '0001', 'N1')
+            direct = vehicle.Vehicle(Desk('127.0.0.1:%d' % self.desk.port, timeout=PATIENCE), 'KIT', '0001', 'N1')
             direct.go_on()
             for _ in range(5):
                 direct.turn()

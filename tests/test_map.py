@@ -258,7 +258,7 @@ class OfAFile(unittest.TestCase):
 
     def test_no_file_to_be_opened(self):
         said = refused('--db', self.folder.name)
-        self.assertEqual(said, self.folder.name + ': unable to open database file')
+        self.assertEqual(said, self.folder.name + ': Is a directory')
 
     def test_a_file_that_a_desk_has_open(self):
         plain(self.db, b''.join(map(bytes_of, LINES)))

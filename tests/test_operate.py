@@ -89,14 +89,6 @@ class Page(unittest.TestCase):
             self.assertGreater(len(names), 8)
             self.assertEqual([name for name in names if not os.path.exists(os.path.join(ROOT, name))], [])
 
-    def test_the_version(self):
-        """The first line of the help, docs/openapi.json and the newest release of CHANGELOG.md have the same."""
-        version = json.loads(text_of('docs', 'openapi.json'))['info']['version']
-        self.assertRegex(version, r'^\d+\.\d+\.\d+$')
-        releases = re.findall(r'^## (.*)$', text_of('CHANGELOG.md'), re.M)
-        self.assertEqual(releases[0], version)
-        self.assertEqual(re.match(r'Nulvrader (\S+), ', text_of('docs', 'help', 'desk.txt')).group(1), version)
-
     def test_the_texts_of_the_help(self):
         """docs/HTTP.md has the text of the program and of each subcommand, in their order, as the source has them."""
         source = text_of('crates', 'agv_command_line', 'src', 'line.rt')

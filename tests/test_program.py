@@ -563,7 +563,7 @@ class Demo(ProgramTest):
         words of the plant that looks at every place."""
         demo = os.path.join(HERE, '..', 'examples', 'demo')
         words = ['--program', DESK, '--jobs', '3', '--pace', '20']
-        done = subprocess.run([sys.executable, demo, *words], capture_output=True, timeout=600, text=True)
+        done = subprocess.run([sys.executable, demo, *words], capture_output=True, timeout=1800, text=True)
         self.assertEqual(done.returncode, 0, done.stdout + done.stderr)
         self.assertRegex(done.stdout, r'the board is at http://127\.0\.0\.1:\d+\n')
         ended = re.search(r'\n(\d) jobs done and (\d) stopped, in \d+ minutes of the plant', done.stdout)

@@ -4,14 +4,18 @@ import importlib.util
 import os
 import re
 import shutil
+import socket
 import subprocess
 import sys
 import tempfile
 import unittest
+from unittest import mock
 
 from programs import ROOT, TOOLS, ran
 from test_program import AT, DESK, Serving, over_sockets, run
 from test_scripts import LAYOUT, bytes_of, load, ok, vehicle
+
+from nulvrader import machine
 
 PACKAGE = os.path.join(TOOLS, 'nulvrader')
 PYTHON = '#!/usr/bin/env python3\n'
@@ -73,6 +77,17 @@ class Programs(unittest.TestCase):
                 done = subprocess.run([path, word], capture_output=True, text=True, timeout=600)
                 self.assertEqual((done.returncode, done.stdout), (2, ''))
                 self.assertIn('%s is no port: write %s' % (word, os.path.relpath(path, ROOT)), done.stderr)
+
+    @over_sockets
+    def test_a_free_port(self):
+        """The system gives it to no connection, and a program may listen on it."""
+        for given in (machine.given_ports(), range(1500, 61000)):
+            with mock.patch.object(machine, 'given_ports', lambda: given):
+                for _ in range(10):
+                    port = machine.free_port()
+                    self.assertTrue(1024 <= port < 65536 and port not in given, (port, given))
+                    with socket.create_server(('127.0.0.1', port)) as listener:
+                        self.assertEqual(listener.getsockname()[1], port)
 
     def test_one_client(self):
         """Of all files in Python of tools/ and examples/ one alone speaks HTTP."""

@@ -87,7 +87,7 @@ class Rows(WhyTest):
             said = self.look(expected=0)
             self.assertIn('is of the second schema, so there is nothing to migrate', said)
             self.assertIn('has 6 loads, 5 jobs, 3 vehicles and 1 open orders', said)
-            self.assertIn('nothing stands in the way', said)
+            self.assertIn('nothing keeps a desk from starting', said)
 
     def test_rows_in_the_log(self):
         """What was written last stands in the log alone, and is looked at, too."""
@@ -126,8 +126,8 @@ class Files(WhyTest):
     def test_what_sql_texts_say_besides(self):
         for statements, text in (
             ('DROP TABLE used; CREATE TABLE used (kind TEXT, id TEXT CHECK (id > 0), PRIMARY KEY (kind, id)) STRICT', 'the table used has a CHECK'),
-            ('DROP TABLE used; CREATE TABLE used (kind TEXT, id TEXT, PRIMARY KEY (id, kind)) STRICT', 'has the keys (id, kind), and not (kind, id)'),
-            ('DROP TABLE used; CREATE TABLE used (kind TEXT, id TEXT, PRIMARY KEY (kind, id DESC)) STRICT', 'has the keys (kind, id, DESC)'),
+            ('DROP TABLE used; CREATE TABLE used (kind TEXT NOT NULL, id TEXT PRIMARY KEY) STRICT', 'has the keys (id), and not (kind, id)'),
+            ('DROP TABLE used; CREATE TABLE used (kind TEXT, id TEXT, PRIMARY KEY (kind, id DESC)) STRICT', 'has the keys (kind, id DESC)'),
             ("DROP TABLE used; CREATE TABLE used (kind TEXT, id TEXT DEFAULT 'a', PRIMARY KEY (kind, id)) STRICT", "with the default 'a'"),
             ('DROP TABLE node; CREATE TABLE node (id TEXT COLLATE NOCASE PRIMARY KEY) STRICT', 'the table node has'),
             ('DROP TABLE node; CREATE TABLE NODE (id TEXT PRIMARY KEY) STRICT', "the table NODE has a name of a desk's table"),
