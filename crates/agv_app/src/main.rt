@@ -1,8 +1,8 @@
-//! The program of the desk. `main` reads its words and hands over the real streams. `agv_command_line` says what the words ask
-//! for (`line_of`), and `agv_program` does it (`run_line`) and says how a run ends.
+//! The program of the desk. `main` reads the arguments and passes on the standard streams. `agv_command_line` parses the
+//! arguments (`line_of`), and `agv_program` runs the line that they are (`run_line`) and says how a run ends.
 //!
-//! It exits with 0; with 1 after one line `fault: ..` on standard error; and with 2 where the words
-//! are refused, also at `--help`, with the text on standard error.
+//! It exits with 0; with 1 after a line `fault: ..` on standard error; and with 2 if the arguments are wrong, and for `--help`,
+//! with the text on standard error.
 #![tactic(auto)]
 
 ghost use Rattle.std.specs.Prelude.{◌≡◌, drop, IfErr};
@@ -30,7 +30,7 @@ fn main(rt: HostRuntime) -> ExitCode {
     }
 }
 
-/// The words after the program's name.
+/// The arguments of the program.
 fn words_of(rt: &(impl Env + Alloc<A = Global>)) -> Result<Vec<String>, NoLine>
     ensures { IfErr result IsWithoutWords }
 {
@@ -46,7 +46,7 @@ fn words_of(rt: &(impl Env + Alloc<A = Global>)) -> Result<Vec<String>, NoLine>
     Ok(words)
 }
 
-/// Drops the first word, which is the program's name.
+/// Drops the first argument, which is the program's name.
 fn drop_first(words: &mut Vec<String>)
     ensures { words.new.items ≡ drop 1 words.old.items }
 {
@@ -55,7 +55,7 @@ fn drop_first(words: &mut Vec<String>)
     }
 }
 
-/// Reads the line, carries it out over the standard streams, and gives the exit status.
+/// Parses the arguments, runs them over the standard streams, and returns the exit status.
 fn run_words(rt: &HostRuntime, words: &[String]) -> Result<u8, NoLine> {
     let line = line_of(rt.alloc(), words)?;
     let mut reader = CountingIo::new(rt.reader());

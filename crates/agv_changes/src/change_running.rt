@@ -10,15 +10,15 @@ use crate::change_writes::write_change;
 use agv_world::Change;
 use sqlite::{Alter, Connection, Error};
 
-/// Makes the changes in turn, in one transaction, in the tables of a desk, whatever else the database has.
-/// Where it succeeds all of them are committed, every other table has the rows that it had, the schema is as it was,
-/// and the store is open; after an error that leaves the store open none is made. A store that was shut stays shut. A crash leaves the rows before them or
-/// after all of them, and an opening finds these ([`change_laws`](crate::change_laws)).
+/// Makes the changes in turn, in one transaction, in the tables of a desk, whatever else the database has. Where it
+/// succeeds all of them are committed, every other table has the rows that it had, the schema is as it was, and the store
+/// is open; after an error that leaves the store open none is made. A store that was closed stays closed. A crash leaves
+/// the rows before them or after all of them, and an opening finds these ([`change_laws`](crate::change_laws)).
 ///
 /// # Errors
-/// [`WriteFault::Memory`] when out of memory, and [`WriteFault::Storage`] for any other error of the database. No clause says that
-/// the disk has failed then: SQL refuses a row too, where the changes would give two open trips one vehicle, or two acts one job and one kind, or
-/// where a unique index that isn't the desk's forbids it.
+/// [`WriteFault::Memory`] when out of memory, and [`WriteFault::Storage`] for any other error of the database. No clause
+/// says that the disk has failed then: SQL refuses a row too, where the changes would give two open trips one vehicle, or
+/// two acts one job and one kind, or where a unique index that isn't the desk's forbids it.
 pub fn write_changes<S: Alter>(
     conn: &mut Connection<S>,
     changes: &[Change],

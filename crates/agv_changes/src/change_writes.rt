@@ -13,8 +13,8 @@ ghost use Rattle.agv_rows.specs.RowLists.{listed};
 ghost use Rattle.agv_schema.specs.declared.table_name.TableName.TheVariants as the;
 
 use crate::act_writes::{drop_acts, write_acts};
+use crate::capacity_writes::write_capacity;
 use crate::hold_rows::drop_hold;
-use crate::room_writes::write_room;
 use agv_header::{Name, Thing, VehicleKey};
 use agv_layout::{EdgeEnds, StationSite};
 use agv_rows::key_values::{hold_key_values, leg_key_values, name_key_values, vehicle_key_values};
@@ -120,10 +120,10 @@ fn write_vehicle<S: Alter>(
         → OnOk result (Makes (listed (row.Vehicle key.now vehicle.now)) (state S.Store tx.old.conn.now) (state S.Store tx.new.conn.now)) }
 {
     put_vehicle(tx, key, vehicle)?;
-    write_room(tx, key, vehicle)
+    write_capacity(tx, key, vehicle)
 }
 
-// The row of the vehicle, but for its room for loads.
+// The row of the vehicle, but for its capacity.
 fn put_vehicle<S: Alter>(
     tx: &mut Transaction<'_, S>,
     key: &VehicleKey,

@@ -2,17 +2,17 @@
 //! them or none.
 //!
 //! - [`change_running`] runs the transaction, and [`change_laws`] says what an opening finds after a crash.
-//! - `change_writes` writes each kind of row, [`act_writes`] the acts of a trip, `room_writes` the capacity of a vehicle,
+//! - `change_writes` writes each kind of row, [`act_writes`] the acts of a trip, `capacity_writes` the capacity of a vehicle,
 //!   `hold_rows` what is held; `shown_rows` looks at the rows that are there.
 //! - [`WriteFault`] says why nothing was written.
 #![tactic(auto)]
 
 pub mod act_writes;
+pub(crate) mod capacity_writes;
 pub mod change_laws;
 pub mod change_running;
 pub(crate) mod change_writes;
 pub(crate) mod hold_rows;
-pub(crate) mod room_writes;
 pub(crate) mod shown_rows;
 pub mod write_fault;
 

@@ -2,7 +2,7 @@
 ghost use Rattle.std.specs.Prelude.{◌≡◌, ◌+◌, ◌<◌, ◌^◌, [], ◌∷◌, length, IfSome, IsTrue};
 ghost use Rattle.agv_trip_rows.specs.TripRows.{act_key, act_row};
 ghost use Rattle.agv_changes.specs.ActRows.{AreOfOrder, IsOfOrder};
-ghost use Rattle.agv_rows.specs.Columns.{act_columns, room_columns};
+ghost use Rattle.agv_rows.specs.Columns.{act_columns, vehicle_capacity_columns};
 
 use agv_header::{Name, VehicleKey};
 use agv_order::Act;
@@ -12,24 +12,24 @@ use agv_trip_rows::ActRow;
 use agv_world::VehicleRow;
 use sqlite::Row;
 
-/// Whether the only row is that of this vehicle's room for loads.
-pub(crate) fn is_only_room(rows: &[Row], key: &VehicleKey, vehicle: &VehicleRow) -> bool
-    ensures { IsTrue result → rows.now ≡ room_columns key.now vehicle.now ∷ [] }
+/// Whether the only row is that of this vehicle's capacity.
+pub(crate) fn is_only_capacity(rows: &[Row], key: &VehicleKey, vehicle: &VehicleRow) -> bool
+    ensures { IsTrue result → rows.now ≡ vehicle_capacity_columns key.now vehicle.now ∷ [] }
 {
     match rows {
-        [row] => is_room(row, key, vehicle),
+        [row] => is_of_capacity(row, key, vehicle),
         _ => false,
     }
 }
 
-// Whether the row is that of this vehicle's room for loads.
-fn is_room(row: &Row, key: &VehicleKey, vehicle: &VehicleRow) -> bool
-    ensures { IsTrue result → row.now ≡ room_columns key.now vehicle.now }
+// Whether the row is that of this vehicle's capacity.
+fn is_of_capacity(row: &Row, key: &VehicleKey, vehicle: &VehicleRow) -> bool
+    ensures { IsTrue result → row.now ≡ vehicle_capacity_columns key.now vehicle.now }
 {
     a_row_told_writes_its_columns();
     match decode_capacity(row) {
         None => false,
-        Some((told, room)) => told == *key && room.capacity == vehicle.capacity,
+        Some((told, entry)) => told == *key && entry.capacity == vehicle.capacity,
     }
 }
 

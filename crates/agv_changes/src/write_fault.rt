@@ -10,7 +10,7 @@ pub enum WriteFault {
     /// Out of memory.
     #[error("out of memory")]
     Memory,
-    /// Any other error: the store failed or was shut by an earlier failure, the connection limits the steps of its
+    /// Any other error: the store failed or was closed by an earlier failure, the connection limits the steps of its
     /// queries, or SQL refused what was to be written, which needs no fault of the disk.
     #[error("the database failed")]
     Storage,

@@ -22,9 +22,9 @@ abbrev pub At : {X : Type 0} → (X → Type 0) → Option X → Type 0
 At P None = ⊤
 At P (Some x) = P x
 
-pub found_at : {X : Type 0} (P : X → Type 0) (p : X → Bool) (xs : List X) → Each P xs → At P (find p xs)
-found_at P p [] h = tt
-found_at P p (x ∷ xs) h = go (p x) (found_at P p xs h.1)
+pub find_keeps : {X : Type 0} (P : X → Type 0) (p : X → Bool) (xs : List X) → Each P xs → At P (find p xs)
+find_keeps P p [] h = tt
+find_keeps P p (x ∷ xs) h = go (p x) (find_keeps P p xs h.1)
   where
     go : (b : Bool) → At P (find p xs) → At P (cond b (Some x) (find p xs))
     go true more = h.0
@@ -51,7 +51,7 @@ module _ (Good : Row → Type 0) (c : List Rule) (again : Bool) where
     settled_good : (p : Option (Text × List Text)) (rows : List Row) → option_map_or (λ p. option_map_or (λ a. use_fault again a p.1 rows) (arg_by_id c p.0) []) p [] ≡ []
         → Each Good rows → Each Good (settled_rows c p rows)
     settled_good None rows e g = g
-    settled_good (Some p) rows e g = by_id (arg_by_id c p.0) p.1 rows (found_at Keeps (λ a. bytes_eq a.id p.0) c keeps) e g
+    settled_good (Some p) rows e g = by_id (arg_by_id c p.0) p.1 rows (find_keeps Keeps (λ a. bytes_eq a.id p.0) c keeps) e g
 
     pub settle_keeps : (h : Held) → settle_fault c again h ≡ [] → IsGood h → IsGood (settled c h)
     settle_keeps h e g = settled_good h.pending h.rows e g
@@ -103,7 +103,7 @@ module _ (Good : Row → Type 0) (c : List Rule) (again : Bool) where
         step more (Some x) zero e =
             let rest = drop (length (encode_utf8 x)) flags in
             short_keeps (arg_by_short c x) rest h (flags_fault c again k rest 0) (bundle_met c k rest 0 done)
-            (found_at Keeps _ c keeps) (λ h e g. more rest 0 done h e g) e g
+            (find_keeps Keeps _ c keeps) (λ h e g. more rest 0 done h e g) e g
         step more (Some x) (suc skip) e = more (drop (length (encode_utf8 x)) flags) skip so_far h e g
 
     plain_rows : (waiting : Waiting) (word : Text) (h : Held) → IsGood h → IsGood (plain_word c waiting word h).0
@@ -124,7 +124,7 @@ module _ (Good : Row → Type 0) (c : List Rule) (again : Bool) where
     long_or_short : (waiting : Waiting) (word : Text) (long : Option (Text × Option Text)) (h : Held) → flag_word_fault c again long word h ≡ [] → IsGood h
         → IsGood (long_or_other c waiting word long h).0
     long_or_short waiting word (Some p) h e g =
-        flag_rows waiting word _ _ (long_keeps (arg_by_long c p.0) p.1 h (found_at Keeps _ c keeps) e g)
+        flag_rows waiting word _ _ (long_keeps (arg_by_long c p.0) p.1 h (find_keeps Keeps _ c keeps) e g)
     long_or_short waiting word None h e g = go (short_of word) e
       where
         go : (flags : Option Text) → option_map_or (λ flags. bundle_fault c again flags h) flags [] ≡ [] → IsGood (short_or_plain c waiting word flags h).0

@@ -19,7 +19,7 @@ pub enum ReportKind {
     Holds,
 }
 
-/// What a line asks for.
+/// What the arguments ask for.
 #[derive(Clone, Copy)]
 pub enum Line<'a> {
     /// Answers the requests of standard input.
@@ -53,10 +53,10 @@ pub enum Line<'a> {
     },
 }
 
-/// Why a line asks for nothing.
+/// Why the arguments are not accepted.
 #[derive(Debug, Drop, thiserror::Error)]
 pub enum LineFault {
-    /// The words are refused, or ask for help; the error is the text to show.
+    /// The arguments are wrong, or ask for help; the error is the text to print.
     #[error("{0}")]
     Refused(Error),
     /// Out of memory.
@@ -77,7 +77,7 @@ impl From<AllocError> for LineFault {
 /// The names of the reports.
 static KINDS: [&str; 2] = ["stock", "holds"];
 
-/// Reads the words after the program's name.
+/// Parses the arguments.
 pub fn line_of<'a>(alloc: Global, words: &'a [String]) -> Result<Line<'a>, LineFault>
     ensures line { IfOk result (IsLine (map string_bytes words.now)) }
     ensures fault { IfErr result (IsLineFault (map string_bytes words.now)) }
@@ -146,7 +146,7 @@ fn file_arg<'a>(alloc: Global) -> Arg<'a>
     required_arg(alloc, "db", "FILE", "The file that keeps the records")
 }
 
-/// A required option with one value; `value` stands for it in the help.
+/// A required option with one value; `value` is its name in the help.
 fn required_arg<'a>(alloc: Global, name: &'a str, value: &'a str, help: &'a str) -> Arg<'a>
     ensures rule { rule_of result ≡ required_option name.now }
     ensures local { result.global ≡ false }
@@ -202,7 +202,7 @@ fn report_command<'a>(alloc: Global) -> Result<Command<'a>, AllocError>
         .arg(kind_arg(alloc))
 }
 
-/// The name of a report, which stands by itself.
+/// The name of a report, a positional argument.
 fn kind_arg<'a>(alloc: Global) -> Arg<'a>
     ensures rule { (kinds : Choice) × AreKinds kinds × (rule_of result ≡ report_kind kinds) }
     ensures local { result.global ≡ false }

@@ -60,7 +60,7 @@ impl LoadsByPlace {
     }
 }
 
-/// Puts a load behind those at a place.
+/// Adds a load after those at a place.
 fn put<K: Ord + Copy + Drop>(
     alloc: Global,
     placed: &mut PlacedLoads<K>,

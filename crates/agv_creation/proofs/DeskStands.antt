@@ -35,41 +35,41 @@ use Rattle.agv_creation.proofs.TablesKept.{has_got}
 -- ---- the tables of a schema that grows
 
 -- of these tables none refers to a name, and no two have one tree
-pub record LeaveRoom (name : List ℕ) (tables : List Table) : Type 0 where
+pub record AllowsTable (name : List ℕ) (tables : List Table) : Type 0 where
   pub unreferred : is_unreferred name tables ≡ true
   pub apart : IsAscending (λ (s t : Table). s.tree ≢ t.tree) tables
 
 module _ (name : List ℕ) where
-  abbrev Roomy : Schema → Type 0
-  Roomy s = LeaveRoom name s.tables
+  abbrev Allows : Schema → Type 0
+  Allows s = AllowsTable name s.tables
 
-  created_leaves : (s : Schema) (t : Table) → t.references ≡ [] → Roomy s → Roomy (created s t)
-  created_leaves s t none room = record {
-    unreferred = list_all-append (λ (u : Table). list_all (λ (r : Reference). not (same_name name r.parent)) u.references) s.tables _ ∙ rw (room.unreferred, none) refl;
-    apart = ascending_push (λ (u v : Table). u.tree ≢ v.tree) s.tables _ room.apart (λ u has same. let low = table_below s u has in omega (arith, low, same));
+  created_leaves : (s : Schema) (t : Table) → t.references ≡ [] → Allows s → Allows (created s t)
+  created_leaves s t none allows = record {
+    unreferred = list_all-append (λ (u : Table). list_all (λ (r : Reference). not (same_name name r.parent)) u.references) s.tables _ ∙ rw (allows.unreferred, none) refl;
+    apart = ascending_push (λ (u v : Table). u.tree ≢ v.tree) s.tables _ allows.apart (λ u has same. let low = table_below s u has in omega (arith, low, same));
   }
 
-  sequence_leaves : (s : Schema) → Roomy s → Roomy (with_sequence s)
-  sequence_leaves s room = elim (cases_Bool (lacks_sequence s)) [ inl lacks ↦ rw lacks (created_leaves s sequence_table refl room) | inr has ↦ rw has room ]
+  sequence_leaves : (s : Schema) → Allows s → Allows (with_sequence s)
+  sequence_leaves s allows = elim (cases_Bool (lacks_sequence s)) [ inl lacks ↦ rw lacks (created_leaves s sequence_table refl allows) | inr has ↦ rw has allows ]
 
-  pub tables_leave : (s : Schema) (tables : List Table) → AllByRecursion (λ (t : Table). t.references ≡ []) tables → Roomy s → Roomy (fold with_new_table s tables)
-  tables_leave s [] none room = room
-  tables_leave s (t ∷ tables) none room = tables_leave (with_new_table s t) tables none.1 (sequence_leaves (created s t) (created_leaves s t none.0 room))
+  pub tables_leave : (s : Schema) (tables : List Table) → AllByRecursion (λ (t : Table). t.references ≡ []) tables → Allows s → Allows (fold with_new_table s tables)
+  tables_leave s [] none allows = allows
+  tables_leave s (t ∷ tables) none allows = tables_leave (with_new_table s t) tables none.1 (sequence_leaves (created s t) (created_leaves s t none.0 allows))
 
-  index_leaves : (s : Schema) (index : PlainIndex) → Roomy s → Roomy (with_new_index s index)
-  index_leaves s index room = elim (cases_Bool (is_used s index.name)) [ inl used ↦ rw used room | inr free ↦ rw free (found (option_and_then (slice_get s.tables) (table_named s index.table))) ]
+  index_leaves : (s : Schema) (index : PlainIndex) → Allows s → Allows (with_new_index s index)
+  index_leaves s index allows = elim (cases_Bool (is_used s index.name)) [ inl used ↦ rw used allows | inr free ↦ rw free (found (option_and_then (slice_get s.tables) (table_named s index.table))) ]
     where
-      found : (o : Option Table) → Roomy (unwrap_or (option_map (λ table. indexed s table (index_on table index)) o) s)
-      found None = room
-      found (Some t) = record { unreferred = room.unreferred; apart = room.apart }
+      found : (o : Option Table) → Allows (unwrap_or (option_map (λ table. indexed s table (index_on table index)) o) s)
+      found None = allows
+      found (Some t) = record { unreferred = allows.unreferred; apart = allows.apart }
 
-  indexes_leave : (s : Schema) (indexes : List PlainIndex) → Roomy s → Roomy (fold with_new_index s indexes)
-  indexes_leave s [] room = room
-  indexes_leave s (index ∷ indexes) room = indexes_leave (with_new_index s index) indexes (index_leaves s index room)
+  indexes_leave : (s : Schema) (indexes : List PlainIndex) → Allows s → Allows (fold with_new_index s indexes)
+  indexes_leave s [] allows = allows
+  indexes_leave s (index ∷ indexes) allows = indexes_leave (with_new_index s index) indexes (index_leaves s index allows)
 
-  desk_leaves : (s : Schema) → Roomy s → Roomy (with_desk s)
-  desk_leaves s room = indexes_leave (fold with_new_table s desk_tables) desk_indexes
-      (tables_leave s desk_tables (refl, (refl, (refl, (refl, (refl, (refl, (refl, (refl, (refl, (refl, (refl, (refl, (refl, (refl, tt)))))))))))))) room)
+  desk_leaves : (s : Schema) → Allows s → Allows (with_desk s)
+  desk_leaves s allows = indexes_leave (fold with_new_table s desk_tables) desk_indexes
+      (tables_leave s desk_tables (refl, (refl, (refl, (refl, (refl, (refl, (refl, (refl, (refl, (refl, (refl, (refl, (refl, (refl, tt)))))))))))))) allows)
 
 -- ---- a table by its name
 
@@ -133,13 +133,13 @@ pub have_rows : (width : ℕ) (entries rows : List Row) → AreWide width rows �
 have_rows width entries rows wide h =
     (shaped_are_keyed entries h.0, subst (IsPermutation rows) (sym (all_wide width entries (all-permutation (λ (row : Row). length row ≡ width) rows (map (drop 1) entries) h.1 wide))) h.1)
 
-pub stands_new : (db : Database) → IsDatabase db → HasDesk db first_rows → ((name : TableName) → LeaveRoom (table_for name).name db.schema.tables) → StandsNew db
-stands_new db listed h rooms =
+pub stands_new : (db : Database) → IsDatabase db → HasDesk db first_rows → ((name : TableName) → AllowsTable (table_for name).name db.schema.tables) → StandsNew db
+stands_new db listed h allowed =
     let d = desk db h in
     let have : (name : TableName) → AreWide (width_of name) (table_at (place_of name) first_rows) → HaveRows (width_of name) (db.trees (d.tree name)) (table_at (place_of name) first_rows) =
     λ name wide. have_rows (width_of name) (db.trees (d.tree name)) (table_at (place_of name) first_rows) wide (has_table db h name).rows_are in (
       d,
-      record { stands = λ name. stands db h listed name (rooms name).unreferred; apart = (rooms the.Meta).apart },
+      record { stands = λ name. stands db h listed name (allowed name).unreferred; apart = (allowed the.Meta).apart },
       record {
         schema_is = refl;
         rows = (have the.Meta (refl, tt), (have the.Node tt, (have the.Edge tt, (have the.Station tt, (have the.Vehicle tt, (have the.Trip tt, (have the.Leg tt, (have the.Load tt, (have the.Job tt, (have the.Hold tt, (have the.Used tt, (have the.Capacity tt, (have the.Journey tt, (have the.Act tt, tt))))))))))))));
@@ -187,7 +187,7 @@ found_tables old found tables trees (t ∷ all) [] h = absurd h
 found_tables old found tables trees (t ∷ all) (rows ∷ lists) h = (found_table old found tables trees t rows h.0, found_tables old found tables trees all lists h.1)
 
 pub made_desks_stand : MadeDesksStand
-made_desks_stand old new found room made listed trees =
+made_desks_stand old new found allows made listed trees =
     let tables = trees_tell_tables new found made.listed listed trees in
     stands_new found listed (found_tables new found tables trees desk_tables first_rows made.rows)
-    (λ name. subst (LeaveRoom (table_for name).name) (sym (tables ∙ ap (λ (s : Schema). s.tables) made.schema_is)) (desk_leaves (table_for name).name old.schema (record { unreferred = room.unreferred name; apart = room.apart })))
+    (λ name. subst (AllowsTable (table_for name).name) (sym (tables ∙ ap (λ (s : Schema). s.tables) made.schema_is)) (desk_leaves (table_for name).name old.schema (record { unreferred = allows.unreferred name; apart = allows.apart })))

@@ -8,8 +8,8 @@ pub mod MetaRow
 pub mod NamesKept
 pub mod SchemasTold
 pub mod StepsRun
-pub mod TableRoom
 pub mod TableTexts
+pub mod TablesBeside
 pub mod TablesKept
 pub mod TablesMade
 pub mod TablesStand

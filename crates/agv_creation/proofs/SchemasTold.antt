@@ -135,5 +135,5 @@ pub trees_tell_names : TreesTellNames
 trees_tell_names old found p q same = ap is_name_taken (trees_tell_schemas old found p q same)
 
 pub openings_find_either : OpeningsFindEither
-openings_find_either old found listed room free finds (inl before) = inl (trees_tell_names old found listed finds before ∙ free)
-openings_find_either old found listed room free finds (inr left) = inr (made_desks_stand old left.0 found room left.1 finds left.2)
+openings_find_either old found listed allows free finds (inl before) = inl (trees_tell_names old found listed finds before ∙ free)
+openings_find_either old found listed allows free finds (inr left) = inr (made_desks_stand old left.0 found allows left.1 finds left.2)

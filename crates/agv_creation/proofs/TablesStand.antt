@@ -1,4 +1,4 @@
--- The desk's tables stand where each stands alike, beside tables that leave room for them.
+-- The desk's tables stand where each stands alike, beside tables that allow them.
 use Rattle.std.proofs.Common.{◌≡◌, ◌∙◌, ◌↔◌, Bool, IfOk, IsTrue, Result, Ok, Err, slice_get, refl, sym, ap, subst}
 use Rattle.std.specs.List.{AllByRecursion}
 use Rattle.sqlite_schema.specs.declared.schema.Table.{Table}
@@ -9,7 +9,7 @@ use Rattle.agv_schema.specs.declared.table_name.TableName.{TableName}
 use Rattle.agv_schema.specs.declared.table_name.TableName.TheVariants as the
 use Rattle.agv_schema.specs.DeskRows.{Placing, IsDesk, TableStands, table_for}
 use Rattle.agv_schema.specs.Schema.{desk_tables}
-use Rattle.agv_creation.specs.NewDesk.{LeavesRoom}
+use Rattle.agv_creation.specs.NewDesk.{AllowsDesk}
 use Rattle.agv_creation.specs.StandingTables.{HasNoRules, HaveNoDefaults, IsPlain, StandsAlike, TablesStand}
 
 -- ---- each of the desk's tables is plain
@@ -76,12 +76,12 @@ all_plain = listed IsPlain (λ name. record { rules = no_rules name; defaults = 
 
 -- ---- the placing
 
-pub they_stand : (s : Schema) → LeavesRoom s → AllByRecursion (StandsAlike s) desk_tables → TablesStand s
-they_stand s room all =
+pub they_stand : (s : Schema) → AllowsDesk s → AllByRecursion (StandsAlike s) desk_tables → TablesStand s
+they_stand s allows all =
     let each = named (StandsAlike s) all in
     let at : Placing = record { schema = s; tree = λ name. (each name).tree } in
-    let stands : (name : TableName) → TableStands at name = λ name. let it = each name in record { at = it.at; keys = it.keys; named = it.named; there = it.there; same_keys = it.same_keys; low = it.low; unreferred = room.unreferred name } in
-    (at, record { stands = stands; apart = room.apart }, refl)
+    let stands : (name : TableName) → TableStands at name = λ name. let it = each name in record { at = it.at; keys = it.keys; named = it.named; there = it.there; same_keys = it.same_keys; low = it.low; unreferred = allows.unreferred name } in
+    (at, record { stands = stands; apart = allows.apart }, refl)
 
 alike : (s : Schema) (at : Placing) → IsDesk at → s ≡ at.schema → (name : TableName) → StandsAlike s (table_for name)
 alike s at is same name =
@@ -98,11 +98,11 @@ alike s at is same name =
 pub each_alike : (s : Schema) → TablesStand s → AllByRecursion (StandsAlike s) desk_tables
 each_alike s stand = listed (StandsAlike s) (alike s stand.0 stand.1 stand.2)
 
-pub leave_room : (s : Schema) → TablesStand s → LeavesRoom s
-leave_room s stand = subst LeavesRoom (sym stand.2) (record { unreferred = λ name. (stand.1.stands name).unreferred; apart = stand.1.apart })
+pub stands_allowed : (s : Schema) → TablesStand s → AllowsDesk s
+stands_allowed s stand = subst AllowsDesk (sym stand.2) (record { unreferred = λ name. (stand.1.stands name).unreferred; apart = stand.1.apart })
 
 -- ---- the answer
 
-pub told_so : (s : Schema) (r : Result Bool Memory) → LeavesRoom s → IfOk r (λ b. IsTrue b ↔ AllByRecursion (StandsAlike s) desk_tables) → IfOk r (λ b. IsTrue b ↔ TablesStand s)
-told_so s (Ok b) room h = ((λ yes. they_stand s room (h.0 yes)), (λ stand. h.1 (each_alike s stand)))
-told_so s (Err e) room h = tt
+pub told_so : (s : Schema) (r : Result Bool Memory) → AllowsDesk s → IfOk r (λ b. IsTrue b ↔ AllByRecursion (StandsAlike s) desk_tables) → IfOk r (λ b. IsTrue b ↔ TablesStand s)
+told_so s (Ok b) allows h = ((λ yes. they_stand s allows (h.0 yes)), (λ stand. h.1 (each_alike s stand)))
+told_so s (Err e) allows h = tt

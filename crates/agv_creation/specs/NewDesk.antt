@@ -9,8 +9,8 @@ use Rattle.agv_schema.specs.DeskRows.{Placing, IsDesk, Holds, table_for, is_unre
 use Rattle.agv_creation.specs.DeskSchema.{is_name_taken}
 use Rattle.agv_creation.specs.DeskTables.{LeavesDesk, MakesDesk, first_rows}
 
--- tables that leave room for the desk's: none refers to one of its names, and no two have one tree
-pub record LeavesRoom (schema : Schema) : Type 0 where
+-- tables that allow the desk's beside them: none refers to one of its names, and no two have one tree
+pub record AllowsDesk (schema : Schema) : Type 0 where
   pub unreferred : (name : TableName) → is_unreferred (table_for name).name schema.tables ≡ true
   pub apart : IsAscending (λ (s t : Table). s.tree ≢ t.tree) schema.tables
 
@@ -29,12 +29,12 @@ TreesTellNames = (old found : Database) → IsDatabase old → IsDatabase found 
 -- after a crash of the making an opening finds either: no name of the desk's is taken, or a new desk stands
 abbrev pub OpeningsFindEither : Type 0
 OpeningsFindEither =
-    (old found : Database) → IsDatabase old → LeavesRoom old.schema → is_name_taken old.schema ≡ false → IsDatabase found → (found.trees ≡ old.trees) ⊎ LeavesDesk old found.trees
+    (old found : Database) → IsDatabase old → AllowsDesk old.schema → is_name_taken old.schema ≡ false → IsDatabase found → (found.trees ≡ old.trees) ⊎ LeavesDesk old found.trees
     → (is_name_taken found.schema ≡ false) ⊎ StandsNew found
 
 -- an opening that finds the trees of the making finds a desk: for one, a connection that made them
 abbrev pub MadeDesksStand : Type 0
-MadeDesksStand = (old new found : Database) → LeavesRoom old.schema → MakesDesk old new → IsDatabase found → found.trees ≡ new.trees → StandsNew found
+MadeDesksStand = (old new found : Database) → AllowsDesk old.schema → MakesDesk old new → IsDatabase found → found.trees ≡ new.trees → StandsNew found
 
 -- and one that finds the trees from before it finds the tables from before it
 abbrev pub TreesTellTables : Type 0

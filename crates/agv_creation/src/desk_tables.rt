@@ -22,7 +22,7 @@ pub const NAMES: [&str; 14] = [
 
 /// Makes the fourteen tables, the row of `meta` and the indexes in one transaction, beside whatever the
 /// database has; an index whose name is taken is left out. Where it succeeds all of it is committed, and the
-/// store was open and is; after an error that leaves the store open nothing is; a store that was shut stays shut; and a
+/// store was open and is; after an error that leaves the store open nothing is; a store that was closed stays closed; and a
 /// crash leaves none of it or all.
 ///
 /// # Errors

@@ -5,7 +5,7 @@
 //!   names is taken ([`MakingFault`]). [`making_laws`] says that what it creates is a desk for the statements, and that an
 //!   opening finds it again, after a crash too.
 //! - [`standing_tables`] tells of a schema that anyone made whether the desk's tables stand in it
-//!   (`specs/StandingTables.antt`), and [`table_room`] whether they can be created beside the tables that are there.
+//!   (`specs/StandingTables.antt`), and [`tables_beside`] whether they can be created beside the tables that are there.
 #![tactic(auto)]
 
 pub mod desk_tables;
@@ -14,7 +14,7 @@ pub mod making_laws;
 pub mod standing_tables;
 pub mod step_running;
 pub(crate) mod table_match;
-pub mod table_room;
 pub mod table_texts;
+pub mod tables_beside;
 
 pub use making_fault::MakingFault;

@@ -14,7 +14,7 @@ pub enum MakingFault {
     /// Out of memory.
     #[error("out of memory")]
     Memory,
-    /// Any other error of the database, as that the store failed or was shut by an earlier failure.
+    /// Any other error of the database, for example that the store failed or was closed by an earlier failure.
     #[error("the database failed")]
     Storage,
 }

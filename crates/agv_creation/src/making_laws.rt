@@ -1,7 +1,7 @@
 //! Laws of the making of the desk's tables: what it gives is a desk for the statements, and an opening finds it again.
 ghost use Rattle.agv_creation.specs.NewDesk.{MadeDesksStand, OpeningsFindEither, TreesTellNames, TreesTellSchemas, TreesTellTables};
 
-/// Where the tables that were there leave room, what [`make_desk_tables`](crate::desk_tables::make_desk_tables)
+/// Where the tables that were there allow it, what [`make_desk_tables`](crate::desk_tables::make_desk_tables)
 /// makes is a desk with its first rows, to the connection that made it and to each opening that finds those trees.
 pub fn made_desks_stand()
     ensures { MadeDesksStand }
@@ -14,7 +14,7 @@ pub fn trees_tell_schemas()
     ensures names { TreesTellNames }
 {}
 
-/// After a crash of the making, where the desk's names were free and the tables that were there leave room, an opening finds
+/// After a crash of the making, where the desk's names were free and the tables that were there allow it, an opening finds
 /// none of the names taken, or a desk with its first rows.
 pub fn openings_find_either()
     ensures { OpeningsFindEither }

@@ -6,8 +6,8 @@ ghost use Rattle.sqlite_resolve.specs.Compile.{table_defined_by};
 ghost use Rattle.agv_creation.specs.StandingTables.{IsPlain, StandsAlike, TablesStand};
 
 use crate::table_match::same_table;
-use crate::table_room::leaves_room;
 use crate::table_texts::creation_texts;
+use crate::tables_beside::allows_desk;
 use agv_header::Memory;
 use sqlite_resolve::define_table;
 use sqlite_resolve::error::CompileError;
@@ -17,16 +17,16 @@ use std::alloc::Global;
 // A table has a tree below this number.
 const MAX_TREES: u32 = 1 << 31;
 
-/// Whether the desk's fourteen tables stand in a database, in whatever trees: each with just its columns and keys and no rule
-/// more, no foreign key referring to one of them, and no two tables of the database in one tree. Tables of other names, views and
-/// plain indexes may stand beside them.
+/// Whether the desk's fourteen tables stand in a database, in whatever trees: each with just its columns and keys and no
+/// rule more, no foreign key referring to one of them, and no two tables of the database in one tree. Tables of other
+/// names, views and plain indexes may stand beside them.
 ///
 /// # Errors
 /// [`Memory`] when out of memory.
 pub fn tables_stand(alloc: Global, schema: &Schema) -> Result<bool, Memory>
     ensures { IfOk result (λ stand. IsTrue stand ↔ TablesStand schema.now) }
 {
-    if !leaves_room(schema) {
+    if !allows_desk(schema) {
         return Ok(false);
     }
     stand_by(alloc, schema, &creation_texts())

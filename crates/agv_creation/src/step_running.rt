@@ -7,7 +7,7 @@ ghost use Rattle.agv_creation.specs.TextsRun.{LeavesSteps, RunSteps, RunsSteps};
 use sqlite::{Alter, Connection, Error, Transaction};
 
 /// Carries out those of the steps that are not left out, in one transaction. Where it succeeds what they
-/// do is committed; after an error that leaves the store open nothing is; a store that was shut stays shut; and a crash
+/// do is committed; after an error that leaves the store open nothing is; a store that was closed stays closed; and a crash
 /// leaves none of it or all.
 pub(crate) fn run_steps<S: Alter>(
     conn: &mut Connection<S>,

@@ -1,4 +1,4 @@
-//! Whether a table that stands is just another one, but for its tree and how its keys are written.
+//! Whether a table of a database equals another one, except for its b-tree and how its keys are written.
 ghost use Rattle.std.specs.Prelude.{◌≡◌, ◌↔◌, IsTrue, map};
 ghost use Rattle.std.specs.List.{AllByRecursion};
 ghost use Rattle.sqlite_rules.specs.Lists.{Has};
@@ -12,8 +12,8 @@ use sqlite_schema::schema::{Column, Table};
 use sqlite_value::keys::Order;
 use sqlite_value::value::Value;
 
-/// Whether the first table is the second, but for its tree and how its keys are written, where the second has no rule but its keys
-/// and the kinds of its columns.
+/// Whether the first table is the second, but for its tree and how its keys are written, where the second has no rule but
+/// its keys and the kinds of its columns.
 pub(crate) fn same_table(found: &Table, wanted: &Table) -> bool
     ensures { IsPlain wanted.now → (IsTrue result ↔ IsAlike found.now wanted.now) }
 {

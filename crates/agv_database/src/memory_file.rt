@@ -130,7 +130,7 @@ fn put(bytes: &mut Vec<u8>, at: usize, new: &[u8]) -> Result<(), AllocError>
     Ok(())
 }
 
-/// Puts these bytes behind the end.
+/// Appends these bytes.
 fn append(bytes: &mut Vec<u8>, new: &[u8]) -> Result<(), AllocError>
     ensures written { OnOk result (Holds bytes.new.items (length bytes.old.items) new.now) }
     ensures others { Torn (length bytes.old.items) (length new.now) bytes.old.items bytes.new.items }
@@ -138,7 +138,7 @@ fn append(bytes: &mut Vec<u8>, new: &[u8]) -> Result<(), AllocError>
     bytes.extend_from_slice(new)
 }
 
-/// Sets the length, with zeros behind the old end.
+/// Sets the length, with zeros after the old end.
 fn resize(bytes: &mut Vec<u8>, len: usize) -> Result<(), AllocError>
     ensures len { OnOk result (length bytes.new.items ≡ len) }
     ensures others { Cut len bytes.old.items bytes.new.items }

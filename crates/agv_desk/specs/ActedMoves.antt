@@ -21,9 +21,9 @@ use Rattle.agv_desk.specs.Step.{moves, step, steps}
 use Rattle.agv_desk.specs.declared.call.Call.{Call}
 
 -- a pick finds the load at the job's origin, and a drop finds it on the vehicle
-abbrev pub found_at : ActKind → VehicleKey → JobRow → Place
-found_at Pick key row = place.Station row.origin
-found_at Drop key row = place.Vehicle key
+abbrev pub taken_from : ActKind → VehicleKey → JobRow → Place
+taken_from Pick key row = place.Station row.origin
+taken_from Drop key row = place.Vehicle key
 
 -- a vehicle has a trip of this order open; the job rides, and is for the load that moves, and a place at its target is kept; the load is found as above, and goes to the vehicle, or to the job's target
 pub record FindsItsLoad (world : World) (places : Places) (move : Move) (kind : ActKind) (order job : List ℕ) : Type 0 where
@@ -36,7 +36,7 @@ pub record FindsItsLoad (world : World) (places : Places) (move : Move) (kind : 
   pub rides : row.phase ≡ phase.Riding
   pub kept : 1 ≤ reserved world row.target
   pub load : row.load ≡ move.load
-  pub from : finite.get places move.load ≡ Some (found_at kind key row)
+  pub from : finite.get places move.load ≡ Some (taken_from kind key row)
   pub to : move.place ≡ taken_to key kind row.target
 
 -- each act that becomes finished finds its load where the moves before it have left it

@@ -20,12 +20,12 @@ abbrev pub job_written : List ℕ → JobRow → Effect
 job_written job row = record (answer_only answer.Done) { jobs = (job, row) ∷ [] }
 
 -- the station where a load stands
-abbrev pub station_in : Option Place → Option (List ℕ)
-station_in None = None
-station_in (Some (place.Station id)) = Some id
-station_in (Some (place.Vehicle key)) = None
-station_in (Some place.Checking) = None
-station_in (Some place.Left) = None
+abbrev pub station_of_place : Option Place → Option (List ℕ)
+station_of_place None = None
+station_of_place (Some (place.Station id)) = Some id
+station_of_place (Some (place.Vehicle key)) = None
+station_of_place (Some place.Checking) = None
+station_of_place (Some place.Left) = None
 
 -- the job waits for a vehicle
 abbrev pub is_waiting : Phase → Bool
@@ -38,7 +38,7 @@ is_waiting phase.Stopped = false
 abbrev pub add_job : World → List ℕ → List ℕ → List ℕ → Outcome
 add_job world job load to =
     checked (job_check (is_some (finite.get world.jobs job)) (finite.get world.places load) (is_in_job world load) (goal_of world (Some to)))
-    (refuse_if_none (station_in (finite.get world.places load)) refusal.Elsewhere (λ origin.
+    (refuse_if_none (station_of_place (finite.get world.places load)) refusal.Elsewhere (λ origin.
     refuse_unless (nat_lt (count_of world counted.Jobs) most) refusal.Limit
     (Made (job_written job (record { load = load; origin = origin; target = to; phase = phase.Waiting })))))
 

@@ -18,8 +18,8 @@ place_of None = place.Checking
 place_of (Some station) = place.Station station
 
 -- the load is registered there
-abbrev pub registered : List ℕ → Place → Effect
-registered load to = record (answer_only answer.Done) { moves = move_to load to Registered ∷ [] }
+abbrev pub load_registered : List ℕ → Place → Effect
+load_registered load to = record (answer_only answer.Done) { moves = move_to load to Registered ∷ [] }
 
 -- the load is recorded there, and the reference is used
 abbrev pub recorded : List ℕ → Place → List ℕ → Effect
@@ -30,7 +30,7 @@ abbrev pub register_load : World → List ℕ → Option (List ℕ) → Outcome
 register_load world load station =
     checked (register_check (finite.get world.places load) (goal_of world station))
     (refuse_unless (nat_lt (count_of world counted.Loads) most) refusal.Limit
-    (Made (registered load (place_of station))))
+    (Made (load_registered load (place_of station))))
 
 -- POST /loads/{load}/correct: RefUsed, NoLoad, NoStation, Elsewhere, InJob, SameStation, Full, Limit
 abbrev pub correct_load : World → List ℕ → List ℕ → Option (List ℕ) → Outcome

@@ -139,9 +139,9 @@ trip_for None order = None
 trip_for (Some trip) order = if pointwise nat_eq trip.order order then Some trip else None
 
 -- the vehicle has confirmed the last update that was sent
-abbrev pub is_confirmed : Option ℕ → ℕ → Bool
-is_confirmed None sent = false
-is_confirmed (Some update) sent = update == sent
+abbrev pub is_last_confirmed : Option ℕ → ℕ → Bool
+is_last_confirmed None sent = false
+is_last_confirmed (Some update) sent = update == sent
 
 -- at least one edge is released, and the base does not pass the last node
 abbrev pub can_release : Trip → ℕ → Bool
@@ -164,7 +164,7 @@ send_update world at key row trip update edges =
 abbrev pub take_update : World → ℕ → VehicleKey → VehicleRow → Trip → ℕ → ℕ → Outcome
 take_update world at key row trip update edges =
     refuse_unless (update == trip.sent + 1) (refusal.WrongUpdate trip.sent)
-    (refuse_unless (is_confirmed trip.confirmed trip.sent) refusal.NotConfirmed
+    (refuse_unless (is_last_confirmed trip.confirmed trip.sent) refusal.NotConfirmed
     (refuse_unless row.ready refusal.NotReady
     (refuse_unless (not (is_cancelling row.pending)) refusal.InstantPending
     (send_update world at key row trip update edges))))

@@ -35,8 +35,8 @@ abbrev pub pending_of : VehicleRow → Option Pending
 pending_of row = option_map (λ (kind : InstantKind). record { kind = kind; number = row.instants.count }) row.pending
 
 -- what an accepted state records: its number, its order where that is a name, whether the vehicle is ready and paused; and a pending action that is over is none
-abbrev pub heard : VehicleRow → StateMessage → Bool → VehicleRow
-heard row state over = record row {
+abbrev pub with_state : VehicleRow → StateMessage → Bool → VehicleRow
+with_state row state over = record row {
   last_header = Some state.header_id;
   reported = as_name state.order_id;
   ready = state.ready;
@@ -55,7 +55,7 @@ if_judged (Err why) rest = Refused why
 abbrev pub idle_state : VehicleKey → VehicleRow → StateMessage → Outcome
 idle_state key row state =
     if_judged (judged_idle row.node (pending_of row) state) (λ over.
-    Made (record (answer_only (answer.Accepted true)) { touched = RowOnly key row (heard row state over) }))
+    Made (record (answer_only (answer.Accepted true)) { touched = RowOnly key row (with_state row state over) }))
 
 -- ---- on a trip
 
@@ -65,7 +65,7 @@ trip_left trip progress = if is_some progress.«end» then None else Some (progr
 
 -- the vehicle has reached the node; where its trip is cancelled it may have gone on, to the next edge and node
 abbrev pub row_after : VehicleRow → Trip → StateMessage → Progress → VehicleRow
-row_after row trip state progress = record (heard row state progress.pending_over) {
+row_after row trip state progress = record (with_state row state progress.pending_over) {
   node = unwrap_or (node_at trip progress.seen) row.node;
   rest = progress.rest;
 }

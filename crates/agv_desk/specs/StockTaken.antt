@@ -35,5 +35,5 @@ is_still_at before None = false
 is_still_at before (Some after) = is_same_place before after
 
 -- how many loads have another place afterwards than before
-abbrev pub count_moved : Places → Places → ℕ
-count_moved before after = count_by (λ (load : List ℕ × Place). not (is_still_at load.1 (finite.get after load.0))) (finite.entries before)
+abbrev pub number_moved : Places → Places → ℕ
+number_moved before after = count_by (λ (load : List ℕ × Place). not (is_still_at load.1 (finite.get after load.0))) (finite.entries before)

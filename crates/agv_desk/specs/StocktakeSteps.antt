@@ -94,9 +94,9 @@ is_on_vehicle (Some place.Checking) = false
 is_on_vehicle (Some place.Left) = false
 
 -- the load of a row is on a vehicle
-abbrev pub some_on_vehicle : World → Option (List ℕ) → Bool
-some_on_vehicle world None = false
-some_on_vehicle world (Some load) = is_on_vehicle (finite.get world.places load)
+abbrev pub finds_on_vehicle : World → Option (List ℕ) → Bool
+finds_on_vehicle world None = false
+finds_on_vehicle world (Some load) = is_on_vehicle (finite.get world.places load)
 
 -- the load is registered, and has not left
 abbrev pub is_here : Option Place → Bool
@@ -134,7 +134,7 @@ fits world rows station (Some site) = nat_le (found_here world rows station + re
 -- once the rows are in order: OnVehicle where a found load is on a vehicle, InJob where a load that would move has a live job, Full where the found loads and the live jobs to a counted station exceed its capacity, Limit
 abbrev pub count_loads : World → List ℕ → List Row → Outcome
 count_loads world reference rows =
-    refuse_unless (not (list_any (λ (row : Row). some_on_vehicle world row.1) rows)) refusal.OnVehicle
+    refuse_unless (not (list_any (λ (row : Row). finds_on_vehicle world row.1) rows)) refusal.OnVehicle
     (refuse_unless (not (list_any (λ (move : Move). is_in_job world move.load) (count_moves world rows))) refusal.InJob
     (refuse_unless (list_all (λ (row : Row). fits world rows row.0 (finite.get world.layout.stations row.0)) rows) refusal.Full
     (refuse_unless (nat_lt (count_of world counted.References) most) refusal.Limit

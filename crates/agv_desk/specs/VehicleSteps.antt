@@ -38,8 +38,8 @@ new_vehicle capacity node = record {
 }
 
 -- the vehicle is registered, and not heard of yet
-abbrev pub registered : VehicleKey → List ℕ → ℕ → Effect
-registered key node capacity = record (answer_only answer.Done) { touched = Whole key None (new_vehicle capacity node) }
+abbrev pub vehicle_registered : VehicleKey → List ℕ → ℕ → Effect
+vehicle_registered key node capacity = record (answer_only answer.Done) { touched = Whole key None (new_vehicle capacity node) }
 
 -- POST /vehicles: Exists, NoNode, Held, Limit where there are 100, or the capacity is 0 or above the seats
 abbrev pub register_vehicle : ℕ → World → VehicleKey → List ℕ → ℕ → Outcome
@@ -48,7 +48,7 @@ register_vehicle seats world key node capacity =
     (refuse_unless (set.contains world.layout.nodes node) refusal.NoNode
     (if_free world key (thing.Node node ∷ [])
     (refuse_unless (nat_lt (count_of world counted.Vehicles) 100 && (nat_lt 0 capacity && nat_le capacity seats)) refusal.Limit
-    (Made (registered key node capacity)))))
+    (Made (vehicle_registered key node capacity)))))
 
 -- where a person has put the vehicle: no trip, no rest, and nothing pending
 abbrev pub placed : VehicleRow → List ℕ → Vehicle

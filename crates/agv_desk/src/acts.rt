@@ -54,8 +54,8 @@ fn taken_to(key: &VehicleKey, act: &Act) -> Place
     }
 }
 
-/// Writes the jobs whose phase changes, in the order of the acts; `ended` says whether the trip has.
-pub(crate) fn write_jobs<F: Floor>(
+/// Pushes the change of each job whose phase changes, in the order of the acts; `ended` says whether the trip has.
+pub(crate) fn push_jobs<F: Floor>(
     floor: &mut F,
     ended: bool,
     acts: &[Act],
@@ -65,12 +65,12 @@ pub(crate) fn write_jobs<F: Floor>(
     ensures { Asks F.facts floor.old floor.new result (λ world done. changes.new.items ≡ changes.old.items ++ map (λ (job : List ℕ × JobRowOf). row.Job job.0 job.1) (act_jobs world ended (zip acts.now statuses.now))) }
 {
     for (act, status) in acts.iter().zip(statuses) {
-        write_job(floor, ended, act, *status, changes)?;
+        push_job(floor, ended, act, *status, changes)?;
     }
     Ok(())
 }
 
-/// Writes the jobs that stop where a trip, if there is one, ends as it stands.
+/// Pushes the changes of the jobs that stop where a trip, if there is one, ends as it stands.
 pub(crate) fn stop_jobs<F: Floor>(
     floor: &mut F,
     trip: &Option<Trip>,
@@ -84,18 +84,18 @@ pub(crate) fn stop_jobs<F: Floor>(
     }
 }
 
-// Writes the jobs of acts that stay as they are, where a trip ends with them.
+// Pushes the changes of the jobs of acts that stay as they are, where a trip ends with them.
 fn stop_acts<F: Floor>(floor: &mut F, acts: &[Act], changes: &mut Vec<Change>) -> Result<(), Fault>
     ensures { Asks F.facts floor.old floor.new result (λ world done. changes.new.items ≡ changes.old.items ++ map (λ (job : List ℕ × JobRowOf). row.Job job.0 job.1) (act_jobs world true (map as_it_is acts.now))) }
 {
     for act in acts {
-        write_job(floor, true, act, act.status, changes)?;
+        push_job(floor, true, act, act.status, changes)?;
     }
     Ok(())
 }
 
-// Writes the job of an act, where its phase changes; `ended` says whether the trip has.
-fn write_job<F: Floor>(
+// Pushes the change of the job of an act, where its phase changes; `ended` says whether the trip has.
+fn push_job<F: Floor>(
     floor: &mut F,
     ended: bool,
     act: &Act,

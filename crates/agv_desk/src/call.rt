@@ -10,10 +10,10 @@ use agv_layout::LayoutRow;
 use agv_message::{Sequence, StateMessage};
 use agv_order::Stop;
 
-/// What the desk is asked to do, or to tell.
+/// A request to the desk: a change, or a query.
 #[derive(Debug, Drop)]
 pub enum Call {
-    /// Sets the layout, once for good.
+    /// Sets the layout, which can't be changed later.
     SetLayout {
         rows: Sequence<LayoutRow>,
     },
@@ -45,7 +45,7 @@ pub enum Call {
         load: Name,
         to: Name,
     },
-    /// A job that waits is taken back.
+    /// A waiting job is stopped.
     StopJob {
         job: Name,
     },
@@ -56,7 +56,7 @@ pub enum Call {
         stops: Sequence<Stop>,
         edges: u32,
     },
-    /// The update of this number releases so many edges more.
+    /// The update of this number releases so many further edges.
     Advance {
         key: VehicleKey,
         order: Name,
@@ -75,13 +75,13 @@ pub enum Call {
     Resume {
         key: VehicleKey,
     },
-    /// A person has put the vehicle on this node; its order, if it has one, is over.
+    /// A person says that the vehicle stands at this node, which ends its order, if it has one.
     PlaceVehicle {
         key: VehicleKey,
         reference: Name,
         node: Name,
     },
-    /// The number of the vehicle's last state is forgotten, since the vehicle begins anew.
+    /// Forgets the number of the vehicle's last state, for a vehicle that counts from the start again.
     Resync {
         key: VehicleKey,
     },
@@ -107,7 +107,7 @@ pub enum Call {
     GetLoad {
         load: Name,
     },
-    /// What is known of a vehicle.
+    /// A vehicle: where it stands, its order and its readiness.
     GetVehicle {
         key: VehicleKey,
     },

@@ -36,7 +36,8 @@ use std::alloc::Global;
 /// still open (`world`); that holds, and the answer is so, where the floor's store has given back what was written to it.
 ///
 /// `Memory` where an allocation was refused, `Storage` where the floor has failed: then it says so as the call ends
-/// (`failed`), and over a world in memory it never does ([`laws::calls::never_fails_in_memory`](crate::laws::calls::never_fails_in_memory)).
+/// (`failed`), and over a world in memory it never does
+/// ([`laws::calls::never_fails_in_memory`](crate::laws::calls::never_fails_in_memory)).
 pub fn decide<F: Floor>(
     alloc: Global,
     floor: &mut F,

@@ -2,7 +2,7 @@
 ghost use Rattle.std.specs.Prelude.{◌≡◌, IfOk, [], ◌∷◌};
 ghost use Rattle.agv_desk.specs.Outcomes.{Made, RowOnly, Refused, decided, answer_only};
 
-use crate::vehicle_rows::write_row;
+use crate::vehicle_rows::push_row;
 use crate::{Answer, Decision};
 use agv_header::{Memory, Refusal, VehicleKey};
 use agv_message::Sequence;
@@ -41,6 +41,6 @@ pub(crate) fn row_update(
     ensures { IfOk result (λ decision. decision ≡ decided (Made (record (answer_only answer) { touched = RowOnly key.now old.now new }))) }
 {
     let mut changes = Vec::new(alloc);
-    write_row(key, old, new, &mut changes)?;
+    push_row(key, old, new, &mut changes)?;
     Ok(accepted_with(answer, changes))
 }

@@ -43,8 +43,8 @@ fn other_holder<F: Floor>(
     }
 }
 
-/// Writes what a vehicle holds from now on that it did not hold, and what it does not hold any more.
-pub(crate) fn write_holds(
+/// Pushes the changes of what a vehicle holds from now on that it did not hold, and what it does not hold any more.
+pub(crate) fn push_holds(
     key: &VehicleKey,
     old: &[Thing],
     new: &[Thing],
@@ -52,12 +52,12 @@ pub(crate) fn write_holds(
 ) -> Result<(), Memory>
     ensures { OnOk result (changes.new.items ≡ changes.old.items ++ hold_changes key.now old.now new.now) }
 {
-    write_gained(old, new, &Some(*key), changes)?;
-    write_gained(new, old, &None, changes)
+    push_gained(old, new, &Some(*key), changes)?;
+    push_gained(new, old, &None, changes)
 }
 
-// Writes the holder of what is in the new list and not in the old one.
-fn write_gained(
+// Pushes the change of the holder of what is in the new list and not in the old one.
+fn push_gained(
     old: &[Thing],
     new: &[Thing],
     holder: &Option<VehicleKey>,

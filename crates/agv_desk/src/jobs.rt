@@ -2,7 +2,7 @@
 ghost use Rattle.std.specs.Prelude.{◌≡◌, IfOk, Some, is_some};
 ghost use Rattle.agv_stock.specs.Checks.{is_stored};
 ghost use Rattle.agv_world.specs.Asks.{Asks};
-ghost use Rattle.agv_desk.specs.JobSteps.{station_in, is_waiting, add_job, job_written, stop_job};
+ghost use Rattle.agv_desk.specs.JobSteps.{station_of_place, is_waiting, add_job, job_written, stop_job};
 ghost use Rattle.agv_desk.specs.Outcomes.{Made, decided};
 
 use crate::decisions::{accepted_with, refused};
@@ -34,7 +34,7 @@ pub(crate) fn add_job<F: Floor>(
     if !goal.is_known() {
         return Ok(refused(alloc, Refusal::NoStation));
     }
-    let Some(origin) = station_in(place) else {
+    let Some(origin) = station_of_place(place) else {
         return Ok(refused(alloc, Refusal::Elsewhere));
     };
     let live = is_in_job(floor, load)?;
@@ -90,8 +90,8 @@ fn job_written(alloc: Global, job: Name, row: JobRow) -> Result<Decision, Memory
 }
 
 /// The station that a place is; none where it is no station.
-pub fn station_in(place: Place) -> Option<Name>
-    ensures is { result ≡ station_in (Some place) }
+pub fn station_of_place(place: Place) -> Option<Name>
+    ensures is { result ≡ station_of_place (Some place) }
     ensures stored { is_some result ≡ is_stored place }
 {
     match place {

@@ -12,7 +12,7 @@ use agv_layout::{EdgeEnds, Layout, LayoutFault, LayoutRow, StationSite};
 use agv_world::{Change, Fault, Floor};
 use std::alloc::Global;
 
-/// Why rows are not set as the layout.
+/// Why the layout is not set.
 #[derive(Clone, Copy)]
 enum NotSet {
     Refused(Refusal),
@@ -43,7 +43,7 @@ impl From<Memory> for NotSet {
     }
 }
 
-/// Sets the layout, once for good.
+/// Sets the layout, which can't be changed later.
 pub(crate) fn set_layout<F: Floor>(
     alloc: Global,
     floor: &mut F,
@@ -51,7 +51,7 @@ pub(crate) fn set_layout<F: Floor>(
 ) -> Result<Decision, Fault>
     ensures { Asks F.facts floor.old floor.new result (λ world decision. decision ≡ decided (set_layout world rows.now)) }
 {
-    if floor.layout()?.is_some() {
+    if floor.has_layout()? {
         return Ok(refused(alloc, Refusal::LayoutSet));
     }
     match lay(alloc, rows) {

@@ -1,13 +1,13 @@
 //! The rules of the desk: what each call is answered, and what it changes.
 //!
-//! - A [`Call`] is what the desk is asked. The table of calls is a definition (`specs/Step.antt`, with a file
+//! - A [`Call`] is a request to the desk. The table of calls is a definition (`specs/Step.antt`, with a file
 //!   beside it for each family of calls): a world, a moment and a call give an outcome, a refusal or an effect.
 //! - [`decide`] asks a floor what it needs to know, and gives a [`Decision`]: the [`Answer`] of that table, and the
 //!   rows that change. Each call is one private function, in a file for its family; `decide_call` has
 //!   them all, and `shared` what several of them need.
-//! - [`moves_of`] tells which loads a decision moves, and where to, in their order.
-//! - [`station_in`] is the station that a place is.
-//! - [`counted_by`] tells to which count a call has added one; the counts follow it ([`laws::counts`]).
+//! - [`moves_of`] lists which loads a decision moves, and where to, in order.
+//! - [`station_of_place`] is the station that a place is.
+//! - [`counted_by`] is the count that a call has raised by one; the counts follow it ([`laws::counts`]).
 //! - [`laws::calls`] says that the rows which change take the rows of the world to those of the world after the call.
 //! - From a lawful world each call leads to a lawful world ([`laws::lawful`], of the halves [`laws::vehicles`] and
 //!   [`laws::stock`]), and so does each list of calls; what else holds of lists is in [`laws::histories`].
@@ -41,5 +41,5 @@ pub use answer::{Answer, Decision, OpenOrder};
 pub use call::Call;
 pub use counts::counted_by;
 pub use decide_call::decide;
-pub use jobs::station_in;
+pub use jobs::station_of_place;
 pub use moves::moves_of;

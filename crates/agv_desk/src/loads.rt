@@ -1,7 +1,7 @@
 //! The calls of loads.
 ghost use Rattle.std.specs.Prelude.{◌≡◌, IfOk};
 ghost use Rattle.agv_world.specs.Asks.{Asks};
-ghost use Rattle.agv_desk.specs.LoadSteps.{place_of, register_load, correct_load, leave_load, recorded, registered};
+ghost use Rattle.agv_desk.specs.LoadSteps.{place_of, register_load, correct_load, leave_load, recorded, load_registered};
 ghost use Rattle.agv_desk.specs.Outcomes.{Made, decided};
 ghost use Rattle.agv_desk.specs.Shared.{goal_of};
 
@@ -34,12 +34,12 @@ pub(crate) fn register_load<F: Floor>(
     if floor.count(Counted::Loads)? >= MAX_RECORDS {
         return Ok(refused(alloc, Refusal::Limit));
     }
-    Ok(registered(alloc, load, place_of(station))?)
+    Ok(load_registered(alloc, load, place_of(station))?)
 }
 
 // A load is registered there.
-fn registered(alloc: Global, load: Name, to: Place) -> Result<Decision, Memory>
-    ensures { IfOk result (λ decision. decision ≡ decided (Made (registered load to))) }
+fn load_registered(alloc: Global, load: Name, to: Place) -> Result<Decision, Memory>
+    ensures { IfOk result (λ decision. decision ≡ decided (Made (load_registered load to))) }
 {
     let mut changes = Vec::new(alloc);
     changes.push(Change::Load(load, to))?;

@@ -67,7 +67,7 @@ pub(crate) fn waits(job: &Job) -> bool
 }
 
 /// How many loads are picked.
-pub(crate) fn picks(stops: &[Stop]) -> usize
+pub(crate) fn count_picks(stops: &[Stop]) -> usize
     ensures { result ≡ count_by is_pick stops.now }
 {
     stops.iter().filter(|stop| is_pick(stop)).count()
@@ -112,8 +112,8 @@ fn is_pick(stop: &Stop) -> bool
     !is_drop(stop.kind)
 }
 
-/// Writes the jobs.
-pub(crate) fn write_jobs(jobs: &[(Name, JobRow)], changes: &mut Vec<Change>) -> Result<(), Memory>
+/// Pushes the changes of the jobs.
+pub(crate) fn push_jobs(jobs: &[(Name, JobRow)], changes: &mut Vec<Change>) -> Result<(), Memory>
     ensures { OnOk result (changes.new.items ≡ changes.old.items ++ map (λ (job : List ℕ × RowOf). row.Job job.0 job.1) jobs.now) }
 {
     for (name, row) in jobs {

@@ -10,13 +10,13 @@ ghost use Rattle.agv_world.specs.declared.change.Change.TheVariants as change;
 ghost use Rattle.agv_desk.specs.ActSteps.{act_moves};
 ghost use Rattle.agv_desk.specs.Outcomes.{Move, decided};
 ghost use Rattle.agv_desk.specs.Sizes.{IsOfSize, IsShort};
-ghost use Rattle.agv_desk.specs.StateSteps.{driven, fresh_state, heard, idle_state, is_fresh, pending_of, row_after, take_state, trip_left, trip_state};
+ghost use Rattle.agv_desk.specs.StateSteps.{driven, fresh_state, with_state, idle_state, is_fresh, pending_of, row_after, take_state, trip_left, trip_state};
 
-use crate::acts::{move_loads, write_jobs};
+use crate::acts::{move_loads, push_jobs};
 use crate::decisions::{accepted_with, refused, row_update};
 use crate::shared::standing;
 use crate::sizes::is_of_size;
-use crate::vehicle_rows::write_vehicle;
+use crate::vehicle_rows::push_vehicle;
 use crate::{Answer, Decision};
 use agv_header::{Memory, Name, Refusal, VehicleKey};
 use agv_message::{Sequence, StateMessage, Status};
@@ -93,7 +93,7 @@ fn idle_state(
             Answer::Accepted(true),
             key,
             row,
-            heard(row, state, over),
+            with_state(row, state, over),
         ),
         Err(why) => Ok(refused(alloc, why)),
     }
@@ -108,8 +108,8 @@ fn pending_of(row: &VehicleRow) -> Option<Pending>
 }
 
 // The row of a vehicle from which the state is accepted.
-fn heard(row: &VehicleRow, state: &StateMessage, over: bool) -> VehicleRow
-    ensures { result ≡ heard row.now state.now over }
+fn with_state(row: &VehicleRow, state: &StateMessage, over: bool) -> VehicleRow
+    ensures { result ≡ with_state row.now state.now over }
 {
     VehicleRow {
         last_header: Some(state.header_id),
@@ -141,7 +141,7 @@ fn trip_state<F: Floor>(
     let copied = trip.acts.copy()?;
     let acts = copied.as_slice();
     let mut changes = driven(alloc, key, row, trip, acts, state, &progress)?;
-    write_jobs(floor, ended, acts, &progress.statuses, &mut changes)?;
+    push_jobs(floor, ended, acts, &progress.statuses, &mut changes)?;
     Ok(accepted_with(Answer::Accepted(true), changes))
 }
 
@@ -162,7 +162,7 @@ fn driven(
     let new = standing(&next, trip_left(alloc, &trip, progress)?);
     let old = standing(row, Some(trip));
     let mut changes = Vec::new(alloc);
-    write_vehicle(alloc, key, row, &old, next, &new, &mut changes)?;
+    push_vehicle(alloc, key, row, &old, next, &new, &mut changes)?;
     move_loads(key, acts, &progress.statuses, &mut changes)?;
     Ok(changes)
 }
@@ -174,7 +174,7 @@ fn row_after(row: &VehicleRow, trip: &Trip, state: &StateMessage, progress: &Pro
     VehicleRow {
         node: trip.node_at(progress.seen).unwrap_or(row.node),
         rest: progress.rest,
-        ..heard(row, state, progress.pending_over)
+        ..with_state(row, state, progress.pending_over)
     }
 }
 

@@ -3,7 +3,7 @@ ghost use Rattle.std.specs.Prelude.{◌≡◌, ◌+◌, ◌==◌, IfOk, if◌the
 ghost use Rattle.agv_order.specs.Releases.{released};
 ghost use Rattle.agv_world.specs.Asks.{Asks};
 ghost use Rattle.agv_world.specs.Questions.{trip_of};
-ghost use Rattle.agv_desk.specs.OrderSteps.{advance, can_release, is_confirmed, send_update, take_update, trip_for, update_sent};
+ghost use Rattle.agv_desk.specs.OrderSteps.{advance, can_release, is_last_confirmed, send_update, take_update, trip_for, update_sent};
 ghost use Rattle.agv_desk.specs.Outcomes.{Made, decided};
 ghost use Rattle.agv_desk.specs.Sizes.{IsOfSize, IsShort};
 
@@ -11,7 +11,7 @@ use crate::decisions::{accepted_with, refused};
 use crate::holds::first_held;
 use crate::shared::{Addressee, is_cancelling, is_unready, sent_row, standing};
 use crate::sizes::is_of_size;
-use crate::vehicle_rows::write_vehicle;
+use crate::vehicle_rows::push_vehicle;
 use crate::{Answer, Decision};
 use agv_header::{Memory, Moment, Name, Refusal, VehicleKey, next_number};
 use agv_order::Trip;
@@ -71,7 +71,7 @@ fn take_update<F: Floor>(
     if !is_next(update, trip.sent) {
         return Ok(refused(alloc, Refusal::WrongUpdate { sent: trip.sent }));
     }
-    if !is_confirmed(trip.confirmed, trip.sent) {
+    if !is_last_confirmed(trip.confirmed, trip.sent) {
         return Ok(refused(alloc, Refusal::NotConfirmed));
     }
     if is_unready(to.row) {
@@ -91,8 +91,8 @@ fn is_next(update: u32, sent: u32) -> bool
 }
 
 // Whether the vehicle has confirmed the last update that was sent.
-fn is_confirmed(confirmed: Option<u32>, sent: u32) -> bool
-    ensures { result ≡ is_confirmed confirmed sent }
+fn is_last_confirmed(confirmed: Option<u32>, sent: u32) -> bool
+    ensures { result ≡ is_last_confirmed confirmed sent }
 {
     confirmed == Some(sent)
 }
@@ -153,6 +153,6 @@ fn update_sent(
     let after = standing(to.row, new);
     let mut changes = Vec::new(alloc);
     let sent = sent_row(to.row, to.at, number);
-    write_vehicle(alloc, to.key, to.row, &before, sent, &after, &mut changes)?;
+    push_vehicle(alloc, to.key, to.row, &before, sent, &after, &mut changes)?;
     Ok(accepted_with(Answer::Update(update), changes))
 }

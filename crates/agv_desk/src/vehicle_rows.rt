@@ -6,7 +6,7 @@ ghost use Rattle.agv_world.specs.SameRows.{same_row, same_trip_row};
 ghost use Rattle.agv_world.specs.VehicleChanges.{hold_changes, leg_removals, leg_writes, own_changes, trip_changes};
 ghost use Rattle.agv_desk.specs.Sizes.{IsShort};
 
-use crate::holds::write_holds;
+use crate::holds::push_holds;
 use agv_header::{Memory, Name, VehicleKey};
 use agv_layout::Edge;
 use agv_order::Trip;
@@ -14,8 +14,8 @@ use agv_track::{Standing, footprint};
 use agv_world::{Change, LegKey, TripRow, VehicleRow};
 use std::alloc::Global;
 
-/// Writes a vehicle in place of the old one: its row, its trip with the edges, and what it holds, each where it changes.
-pub(crate) fn write_vehicle(
+/// Pushes the changes of a vehicle: its row, its trip with the edges, and what it holds, each where it changes.
+pub(crate) fn push_vehicle(
     alloc: Global,
     key: &VehicleKey,
     before: &VehicleRow,
@@ -30,13 +30,13 @@ pub(crate) fn write_vehicle(
 {
     let held = footprint(alloc, old)?;
     let holds = footprint(alloc, new)?;
-    write_row(key, before, vehicle, changes)?;
-    write_trip(key, &old.trip, &new.trip, changes)?;
-    write_holds(key, &held, &holds, changes)
+    push_row(key, before, vehicle, changes)?;
+    push_trip(key, &old.trip, &new.trip, changes)?;
+    push_holds(key, &held, &holds, changes)
 }
 
-/// Writes the row of a vehicle in place of the old one, where it changes.
-pub(crate) fn write_row(
+/// Pushes the change of the row of a vehicle, where there is one.
+pub(crate) fn push_row(
     key: &VehicleKey,
     old: &VehicleRow,
     new: VehicleRow,
@@ -57,8 +57,8 @@ fn same_row(old: &VehicleRow, new: &VehicleRow) -> bool
     *old == *new
 }
 
-// Writes a trip that begins, ends or goes on.
-fn write_trip(
+// Pushes the changes of a trip that begins, ends or goes on.
+fn push_trip(
     key: &VehicleKey,
     old: &Option<Trip>,
     new: &Option<Trip>,
@@ -72,7 +72,7 @@ fn write_trip(
         (None, None) => Ok(()),
         (None, Some(begun)) => {
             changes.push(Change::Trip(begun.order, Some(trip_row(key, begun)?)))?;
-            write_legs(&begun.order, begun.edges.as_slice(), changes)
+            push_legs(&begun.order, begun.edges.as_slice(), changes)
         }
         (Some(ended), None) => {
             changes.push(Change::Trip(ended.order, None))?;
@@ -102,8 +102,8 @@ fn trip_row(key: &VehicleKey, trip: &Trip) -> Result<TripRow, Memory>
     })
 }
 
-// Writes a row for each edge of a trip.
-fn write_legs(order: &Name, edges: &[Edge], changes: &mut Vec<Change>) -> Result<(), Memory>
+// Pushes the change of a row for each edge of a trip.
+fn push_legs(order: &Name, edges: &[Edge], changes: &mut Vec<Change>) -> Result<(), Memory>
     requires { length edges.now ≤ 200 }
     ensures { OnOk result (changes.new.items ≡ changes.old.items ++ leg_writes order.now edges.now) }
 {

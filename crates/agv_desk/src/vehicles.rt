@@ -1,17 +1,17 @@
-//! The calls of a vehicle: it is registered, placed by a person, or begins anew.
+//! The calls about a vehicle: it is registered, placed by a person, or resynced.
 ghost use Rattle.std.specs.Prelude.{◌≡◌, ◌++◌, ◌&&◌, nat_le, nat_lt, IfOk, None};
 ghost use Rattle.agv_world.specs.Asks.{Asks};
 ghost use Rattle.agv_world.specs.Questions.{trip_of};
 ghost use Rattle.agv_desk.specs.Outcomes.{Made, decided};
 ghost use Rattle.agv_desk.specs.Sizes.{IsOfSize};
-ghost use Rattle.agv_desk.specs.VehicleSteps.{new_vehicle, none_sent, place_vehicle, placed, put_down, register_vehicle, registered, resync};
+ghost use Rattle.agv_desk.specs.VehicleSteps.{new_vehicle, none_sent, place_vehicle, placed, put_down, register_vehicle, vehicle_registered, resync};
 
 use crate::acts::stop_jobs;
 use crate::decisions::{accepted_with, refused, row_update};
 use crate::holds::first_held;
 use crate::shared::{is_new, reference_used, standing};
 use crate::sizes::is_of_size;
-use crate::vehicle_rows::write_vehicle;
+use crate::vehicle_rows::push_vehicle;
 use crate::{Answer, Decision};
 use agv_header::limits::{MAX_RECORDS, MAX_VEHICLES};
 use agv_header::{Memory, Moment, Name, Refusal, Thing, VehicleKey};
@@ -43,7 +43,7 @@ pub(crate) fn register_vehicle<F: Floor>(
     if count >= MAX_VEHICLES || !may_carry(capacity, seats) {
         return Ok(refused(alloc, Refusal::Limit));
     }
-    Ok(registered(alloc, key, node, capacity)?)
+    Ok(vehicle_registered(alloc, key, node, capacity)?)
 }
 
 // Whether a vehicle may be built for so many loads.
@@ -55,13 +55,13 @@ fn may_carry(capacity: u32, seats: u32) -> bool
 
 // A vehicle is registered that was not heard of yet: its row, and that it holds its node.
 #[tactic(auto, unfolding(agv_track::specs::Footprints::footprint_of, crate::specs::Outcomes::decided))]
-fn registered(
+fn vehicle_registered(
     alloc: Global,
     key: &VehicleKey,
     node: Name,
     capacity: u32,
 ) -> Result<Decision, Memory>
-    ensures { IfOk result (λ decision. decision ≡ decided (Made (registered key.now node capacity))) }
+    ensures { IfOk result (λ decision. decision ≡ decided (Made (vehicle_registered key.now node capacity))) }
 {
     let mut changes = Vec::new(alloc);
     changes.push(Change::Vehicle(*key, new_vehicle(capacity, node)))?;
@@ -146,7 +146,7 @@ fn put_down<F: Floor>(
     let old = standing(row, trip);
     let new = standing(&next, None);
     let mut changes = Vec::new(alloc);
-    write_vehicle(alloc, key, row, &old, next, &new, &mut changes)?;
+    push_vehicle(alloc, key, row, &old, next, &new, &mut changes)?;
     stop_jobs(floor, &old.trip, &mut changes)?;
     changes.push(reference_used(reference))?;
     Ok(accepted_with(Answer::Done, changes))
@@ -164,7 +164,7 @@ fn placed(row: &VehicleRow, node: Name) -> VehicleRow
     }
 }
 
-/// The number of the vehicle's last state is forgotten, since the vehicle begins anew.
+/// Forgets the number of the vehicle's last state, for a vehicle that counts from the start again.
 pub(crate) fn resync<F: Floor>(
     alloc: Global,
     floor: &mut F,

@@ -10,7 +10,7 @@ use Rattle.agv_http.specs.Output.{calls_of, refusal_text}
 use Rattle.agv_http.specs.request.Requests.{Request}
 use Rattle.agv_http.specs.StreamEnds.{HasCallNext, HasMachineFault, IsOfMachine}
 use Rattle.agv_store.specs.Floors.{Keyed}
-use Rattle.agv_face.specs.StreamCalls.{AreDone, AreDoneOrNext}
+use Rattle.agv_face.specs.StreamCalls.{AreDone, AreDoneOrCut, AreDoneOrNext}
 use Rattle.agv_face.specs.StreamEnd.{IsCounted}
 use Rattle.agv_face.specs.CountingIo.{inner_of}
 use Rattle.agv_face.specs.declared.stream_end.Ended.TheVariants as ended_by
@@ -96,7 +96,7 @@ module _ {S R W : Type 0} (g : Ghosts S) (remaining : R → Option (List ℕ)) (
   counts_unread then reader_then writer_then so_far kept done = (s.front ++ buf, Consumes-kept _ _ _ (s.front ++ buf) s.came kept, s.requests, so_far, s.counted, s.none_asked, done)
 
   -- an answer is cut
-  pub counts_cut : (then : Keyed S) (reader_then : CountingIo R) (writer_then : CountingIo W) → (then.failed ≡ desk.failed) ⊎ HasCallNext all s.requests → AreDoneOrNext g at desk then all s.requests
+  pub counts_cut : (then : Keyed S) (reader_then : CountingIo R) (writer_then : CountingIo W) → (then.failed ≡ desk.failed) ⊎ HasCallNext all s.requests → AreDoneOrCut g at desk then all s.requests
       → IsCounted g remaining contents at desk then reader reader_then writer writer_then (Err (fault.Write answers))
   counts_cut then reader_then writer_then fails done = (
     all,

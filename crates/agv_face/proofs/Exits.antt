@@ -17,6 +17,7 @@ use Rattle.agv_face.specs.Bytes.{IsCut, IsPutWhole, IsRead}
 use Rattle.agv_face.specs.StreamEnd.{IsCounted, IsStreamEnd, failed_by, most_reads}
 use Rattle.sqlite.specs.Held.{state}
 use Rattle.sqlite.specs.State.{Survives}
+use Rattle.agv_http.specs.request.Cut.{Cut, faulty}
 use Rattle.agv_http.specs.request.Fronts.{HasNext}
 use Rattle.agv_face.specs.Nexts.{IsNext, IsNextFault, LeavesNext}
 use Rattle.agv_face.specs.StreamCalls.{AreDone, AreDoneOrNext}
@@ -31,10 +32,10 @@ use Rattle.agv_face.specs.declared.stream_end.StreamFault.{StreamFault}
 use Rattle.agv_face.specs.declared.stream_end.StreamFault.TheVariants as fault
 use Rattle.agv_face.specs.declared.counting_io.CountingIo.{CountingIo}
 use Rattle.agv_face.proofs.Counting.{counts_at_end, counts_closed, counts_cut, counts_faulty, counts_refused, counts_unread}
-use Rattle.agv_face.proofs.Kept.{FindsKnown, HasKept, are_done, are_done_or_next, kept_on, none_next, or_next}
+use Rattle.agv_face.proofs.Kept.{FindsKnown, HasKept, are_done, are_done_or_next, kept_on}
 use Rattle.agv_face.proofs.Serving.{later_still, survives_still}
 use Rattle.agv_face.proofs.InTurn.{AnswersInTurn, CallsInTurn, GoesOnBehind, WorldsInTurn}
-use Rattle.agv_face.proofs.Streams.{HasServed, cut_answer, cut_faulty, cut_refused, ends_at_end, ends_closed, ends_faulty, ends_refused, ends_unread, has_call, has_request, input, machine_fault, more, no_call_asked, none_served, none_yet, parts, reads_on, serves_on, world_then}
+use Rattle.agv_face.proofs.Streams.{HasServed, cut_answer, cut_faulty, cut_refused, ends_at_end, ends_closed, ends_faulty, ends_refused, ends_unread, follows, has_call, has_request, input, machine_fault, more, no_call_asked, none_served, none_yet, parts, reads_on, serves_on, world_then}
 use Rattle.agv_face.proofs.Writing.{failed_then}
 
 -- ---- a fault of HTTP is none of the machine
@@ -147,8 +148,15 @@ module _ {S R W : Type 0} (g : Ghosts S) (remaining : R → Option (List ℕ)) (
     pub cut_counted : IsCounted g remaining contents at desk desk_then reader reader_now writer writer_then (Err (fault.Write answers))
     cut_counted =
         let found = of (next.Fault why) is in
+        let CutSo : List ℕ → Type 0 = λ bytes. Cut bytes so_far.requests (faulty why) in
+        let goes = hears so_far.front buf ended so_far.requests (heard.Fault why) so_far.cut found.0 in
         counts_cut g remaining contents at desk reader writer now reader_now writer_now ended buf answers so_far desk_then reader_now writer_then (inl (ap (λ (d : Keyed S). d.failed) found.2 ∙ so_far.failed))
-        (none_next g at desk desk_then whole so_far.requests (done_same found.2))
+        (inr (inl (
+          why,
+          subst CutSo (sym (parts g remaining contents at desk reader writer now reader_now writer_now ended buf answers so_far))
+              (goes (more g remaining contents at desk reader writer now reader_now writer_now ended buf answers so_far) (follows g remaining contents at desk reader writer now reader_now writer_now ended buf answers so_far)),
+          done_same found.2,
+        )))
 
     pub fault_cut : IsPutWhole contents writer_now writer_then sent false
         → IsStreamEnd g remaining contents at reads desk desk_then reader reader_now writer writer_then (Err (fault.Write answers))
@@ -196,8 +204,7 @@ module _ {S R W : Type 0} (g : Ghosts S) (remaining : R → Option (List ℕ)) (
         let goes = hears so_far.front buf ended so_far.requests (heard.Request found.request) so_far.cut found.heard_is in
         let HasNextSo : List ℕ → Type 0 = λ bytes. HasNext bytes so_far.requests goes.0 in
         counts_cut g remaining contents at desk reader writer now reader_now writer_now ended buf answers so_far desk_then reader_now writer_then (inl (failed ∙ so_far.failed))
-        (or_next g at desk finds now so_far.requests so_far.kept so_far.world_is desk_then whole goes.0
-        (subst HasNextSo (sym (parts g remaining contents at desk reader writer now reader_now writer_now ended buf answers so_far)) (goes.1.next (more g remaining contents at desk reader writer now reader_now writer_now ended buf answers so_far))) step.later.clean done_then)
+        (inl (goes.0, subst HasNextSo (sym (parts g remaining contents at desk reader writer now reader_now writer_now ended buf answers so_far)) (goes.1.next (more g remaining contents at desk reader writer now reader_now writer_now ended buf answers so_far)), done_then))
 
     pub some_bytes : (0 < len) × (len ≤ length buf)
     some_bytes =
@@ -251,7 +258,7 @@ module _ {S R W : Type 0} (g : Ghosts S) (remaining : R → Option (List ℕ)) (
     (so_far : HasServed g remaining contents at desk reader writer now reader_now writer_now ended buf answers) (hears : GoesOnBehind)
     (step : IsLaterDesk g now desk_then) (left : IsClean g desk_then.held → IsOpen g desk_then.held → world_at g desk_then.held ≡ world_at g now.held)
     (knows : IsClean g desk_then.held → IsOpen g desk_then.held → Knows g desk_then.held (world_at g desk_then.held))
-    (seen : List ℕ) (seen_is : seen ≡ buf) (comes : ((so_far.requests ≡ []) × (why ≡ machine.Memory)) ⊎ IsNextFault seen ended why)
+    (seen : List ℕ) (seen_is : seen ≡ buf) (comes : ((so_far.requests ≡ []) × (why ≡ machine.Memory) × (desk_then ≡ desk)) ⊎ IsNextFault seen ended why)
     (finds : FindsKnown g) (worlds_turn : WorldsInTurn) (crash : Survives (state g now.held) (state g desk_then.held) (LeavesNext g now.held at seen ended)) where
   abbrev all : List ℕ
   all = input g remaining contents at desk reader writer now reader_now writer_now ended buf answers so_far
@@ -268,10 +275,10 @@ module _ {S R W : Type 0} (g : Ghosts S) (remaining : R → Option (List ℕ)) (
 
   -- no memory could be reserved, or a request comes next
   abbrev HasCause : Fault → Type 0
-  HasCause f = ((so_far.requests ≡ []) × (f ≡ machine.Memory)) ⊎ IsNextFault buf ended f
+  HasCause f = ((so_far.requests ≡ []) × (f ≡ machine.Memory) × (desk_then ≡ desk)) ⊎ IsNextFault buf ended f
 
   has_cause : HasCause why
-  has_cause = let Comes : List ℕ → Type 0 = λ bytes. ((so_far.requests ≡ []) × (why ≡ machine.Memory)) ⊎ IsNextFault bytes ended why in subst Comes seen_is comes
+  has_cause = let Comes : List ℕ → Type 0 = λ bytes. ((so_far.requests ≡ []) × (why ≡ machine.Memory) × (desk_then ≡ desk)) ⊎ IsNextFault bytes ended why in subst Comes seen_is comes
 
   is_fault_by : (f : Fault) → HasCause f → HasMachineFault all so_far.requests (refusal_for f)
   is_fault_by f (inl none) =
@@ -307,6 +314,12 @@ module _ {S R W : Type 0} (g : Ghosts S) (remaining : R → Option (List ℕ)) (
   fails machine.Storage (inl none) same = absurd (let e : machine.Storage ≡ machine.Memory = none.1 in cc)
   fails machine.Storage (inr found) same = inr (of_call machine.Storage found refl)
 
+  -- then the desk is as it was, or a request comes next
+  is_begun : (f : Fault) → HasCause f → (desk_then ≡ desk) ⊎ HasRequestNext all so_far.requests
+  is_begun f (inl none) = inl none.2
+  is_begun machine.Memory (inr found) = inr (has_request g remaining contents at desk reader writer now reader_now writer_now ended buf answers so_far found.0 found.1)
+  is_begun machine.Storage (inr found) = let next = of_call machine.Storage found refl in inr (next.0, next.1)
+
   done_or_next : AreDoneOrNext g at desk desk_then all so_far.requests
   done_or_next =
       let Left : List ℕ → Type 0 = λ bytes. Survives (state g now.held) (state g desk_then.held) (LeavesNext g now.held at bytes ended) in
@@ -315,6 +328,7 @@ module _ {S R W : Type 0} (g : Ghosts S) (remaining : R → Option (List ℕ)) (
       let goes = hears so_far.front buf ended so_far.requests (heard.Request lent) so_far.cut told in
       let HasNextSo : List ℕ → Type 0 = λ bytes. HasNext bytes so_far.requests goes.0 in
       (goes.0, goes.1.is_lent, subst HasNextSo (sym (parts g remaining contents at desk reader writer now reader_now writer_now ended buf answers so_far)) (goes.1.next (more g remaining contents at desk reader writer now reader_now writer_now ended buf answers so_far))))
+      (is_begun why has_cause)
 
   pub machine_counted : desk_then.failed ≡ failed_after {A = Next} (Err why) now.failed → (result : Result Served StreamFault) → IsRefused contents writer_now writer_then why answers result
       → IsCounted g remaining contents at desk desk_then reader reader_now writer writer_then result
@@ -324,19 +338,19 @@ module _ {S R W : Type 0} (g : Ghosts S) (remaining : R → Option (List ℕ)) (
   machine_counted same (Err (fault.Read n)) told = absurd told
   machine_counted same (Err (fault.Write n)) told =
       let Counted : ℕ → Type 0 = λ m. IsCounted g remaining contents at desk desk_then reader reader_now writer writer_then (Err (fault.Write m)) in
-      subst Counted (sym told.0) (counts_cut g remaining contents at desk reader writer now reader_now writer_now ended buf answers so_far desk_then reader_now writer_then (fails why has_cause same) done_or_next)
+      subst Counted (sym told.0) (counts_cut g remaining contents at desk reader writer now reader_now writer_now ended buf answers so_far desk_then reader_now writer_then (fails why has_cause same) (inr (inr (refusal_for why, is_fault, done_or_next))))
 
--- no room could be reserved
+-- no memory could be reserved
 module _ {S R W : Type 0} (g : Ghosts S) (remaining : R → Option (List ℕ)) (contents : W → Option (List ℕ)) (at reads : ℕ) (desk : Keyed S) (reader : CountingIo R) (writer writer_then : CountingIo W)
     (hears : GoesOnBehind) (knows : IsClean g desk.held → IsOpen g desk.held → Knows g desk.held (world_at g desk.held))
     (result : Result Served StreamFault) (told : IsRefused contents writer writer_then machine.Memory 0 result)
     (finds : FindsKnown g) (worlds_turn : WorldsInTurn) where
-  pub no_room : IsStreamEnd g remaining contents at reads desk desk reader reader writer writer_then result
-  no_room =
+  pub no_memory_reserved : IsStreamEnd g remaining contents at reads desk desk reader reader writer writer_then result
+  no_memory_reserved =
       machine_failed g remaining contents at reads desk desk desk reader reader writer writer writer_then false [] 0 machine.Memory (none_served g remaining contents at desk reader writer) hears
-      (later_still g desk) (λ _ _. refl) knows [] refl (inl (none_yet g remaining contents at desk reader writer, refl)) finds worlds_turn (survives_still (state g desk.held) _) result told
+      (later_still g desk) (λ _ _. refl) knows [] refl (inl (none_yet g remaining contents at desk reader writer, refl, refl)) finds worlds_turn (survives_still (state g desk.held) _) result told
 
-  pub no_room_counted : IsCounted g remaining contents at desk desk reader reader writer writer_then result
-  no_room_counted =
+  pub no_memory_counted : IsCounted g remaining contents at desk desk reader reader writer writer_then result
+  no_memory_counted =
       machine_counted g remaining contents at reads desk desk desk reader reader writer writer writer_then false [] 0 machine.Memory (none_served g remaining contents at desk reader writer) hears
-      (later_still g desk) (λ _ _. refl) knows [] refl (inl (none_yet g remaining contents at desk reader writer, refl)) finds worlds_turn (survives_still (state g desk.held) _) refl result told
+      (later_still g desk) (λ _ _. refl) knows [] refl (inl (none_yet g remaining contents at desk reader writer, refl, refl)) finds worlds_turn (survives_still (state g desk.held) _) refl result told

@@ -13,6 +13,7 @@ use Rattle.agv_http.specs.request.Fronts.{HasNext}
 use Rattle.agv_http.specs.request.Heard.{IsHeard, IsLent}
 use Rattle.agv_http.specs.request.Requests.{Request}
 use Rattle.agv_http.specs.Output.{calls_of, timed_call, world_after}
+use Rattle.agv_http.specs.StreamEnds.{HasRequestNext}
 use Rattle.agv_http.specs.declared.request.heard.Heard.TheVariants as heard
 use Rattle.agv_http.specs.declared.request.heard.RequestRef.{RequestRef}
 use Rattle.agv_schema.specs.Connections.{IsClean}
@@ -121,7 +122,8 @@ module _ {S : Type 0} (g : Ghosts S) (at : ℕ) (desk : Keyed S) where
     -- another request was begun, and has no answer
     module _ (then : Keyed S) (turn : WorldsInTurn) (input buf : List ℕ) (ended : Bool)
         (crash : Survives (state g now.held) (state g then.held) (LeavesNext g now.held at buf ended)) (later : IsClean g then.held → IsClean g now.held)
-        (goes : (lent : RequestRef) → IsHeard buf ended (heard.Request lent) → (request : Request) × IsLent request lent × HasNext input requests request) where
+        (goes : (lent : RequestRef) → IsHeard buf ended (heard.Request lent) → (request : Request) × IsLent request lent × HasNext input requests request)
+        (begun : (then ≡ desk) ⊎ HasRequestNext input requests) where
       abbrev FoundSo : Database → Type 0
       FoundSo found = FoundIn found (world_after desk_seats start at requests)
           ⊎ ((request : Request) × HasNext input requests request × FoundIn found (world_after desk_seats start at (requests ++ request ∷ [])))
@@ -144,18 +146,7 @@ module _ {S : Type 0} (g : Ghosts S) (at : ℕ) (desk : Keyed S) where
 
       pub are_done_or_next : AreDoneOrNext g at desk then input requests
       are_done_or_next = record {
+        begun = begun;
         knew = λ clean some. kept.knew (later clean) some;
         crash = λ clean knew trees left. found_either (later clean) (kept.still (later clean) knew) trees (crash.crash clean trees left);
       }
-
-    -- or its answer was cut
-    pub or_next : (then : Keyed S) (input : List ℕ) (request : Request) → HasNext input requests request → (IsClean g then.held → IsClean g now.held) → AreDone g at desk then (requests ++ request ∷ [])
-        → AreDoneOrNext g at desk then input requests
-    or_next then input request next later done = record {
-      knew = λ clean some. kept.knew (later clean) some;
-      crash = λ clean knew trees left. has_weaker (λ found has. inr (request, next, has)) (done.crash clean knew trees left);
-    }
-
--- nothing more was begun
-pub none_next : {S : Type 0} (g : Ghosts S) (at : ℕ) (desk then : Keyed S) (input : List ℕ) (requests : List Request) → AreDone g at desk then requests → AreDoneOrNext g at desk then input requests
-none_next g at desk then input requests done = record { knew = done.knew; crash = λ clean knew trees left. has_weaker (λ found has. inl has) (done.crash clean knew trees left) }

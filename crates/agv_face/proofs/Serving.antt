@@ -100,36 +100,36 @@ refused_so world at call why reply is told none =
     let So : Result Call Refusal → Type 0 = λ c. IsCallAnswered world world at c reply in
     subst So (sym is) (record { answer_is = told; report_is = none ∙ sym (ap (λ (a : Answer). report_of world a) told); world_is = refl })
 
--- ---- after a commit there is room for the answer
+-- ---- after a commit there is memory for the answer
 
 abbrev pub OutcomesFit : Answer → Type 0
 OutcomesFit told = (seats : ℕ) (world : World) (at : ℕ) (route : Route) (body : List ℕ) (made : Call) (report : List ℕ) (close : Bool)
     → call_of_body route body ≡ Ok made → length body ≤ most_body → only_tells made ≡ false → told ≡ answer_of (step seats world at made)
     → length (answer_text told report close) ≤ most_answer
 
-abbrev pub HasRoom : Answer → Type 0
-HasRoom told = (report : List ℕ) (close : Bool) → length (answer_text told report close) ≤ most_answer
+abbrev pub FitsBuffer : Answer → Type 0
+FitsBuffer told = (report : List ℕ) (close : Bool) → length (answer_text told report close) ≤ most_answer
 
 module _ (changes_none : TellsWithoutChange) (told : Answer) (fits : OutcomesFit told) (world world_then : World) (at : ℕ) (body : List ℕ) (short : length body ≤ most_body) where
   of_call : (route : Route) (made : Call) → call_of_body route body ≡ Ok made → told ≡ answer_of (step desk_seats world at made) → world_then ≡ after world (step desk_seats world at made)
-      → (b : Bool) → only_tells made ≡ b → (world_then ≡ world) ⊎ HasRoom told
+      → (b : Bool) → only_tells made ≡ b → (world_then ≡ world) ⊎ FitsBuffer told
   of_call route made is so leads true asks = inl (leads ∙ (changes_none desk_seats world at made asks).0)
   of_call route made is so leads false asks = inr (λ report close. fits desk_seats world at route body made report close is short asks so)
 
   of_read : (route : Route) (read : Result Call Refusal) → call_of_body route body ≡ read → told ≡ answer_of (outcome_in world at read) → world_then ≡ after world (outcome_in world at read)
-      → (world_then ≡ world) ⊎ HasRoom told
+      → (world_then ≡ world) ⊎ FitsBuffer told
   unfolding after
   of_read route (Err why) is so leads = inl leads
   of_read route (Ok made) is so leads = of_call route made is so leads (only_tells made) refl
 
   of_route : (route : Result Route Refusal) → told ≡ answer_of (outcome_in world at (call_of_routed body route)) → world_then ≡ after world (outcome_in world at (call_of_routed body route))
-      → (world_then ≡ world) ⊎ HasRoom told
+      → (world_then ≡ world) ⊎ FitsBuffer told
   unfolding after
   of_route (Err why) so leads = inl leads
   of_route (Ok route) so leads = of_read route (call_of_body route body) refl so leads
 
 pub stays_or_fits : TellsWithoutChange → (world world_then : World) (at : ℕ) (request : RequestRef) (reply : Reply) → OutcomesFit reply.answer → length request.body.now ≤ most_body
-    → IsCallAnswered world world_then at (call_of request) reply → (world_then ≡ world) ⊎ HasRoom reply.answer
+    → IsCallAnswered world world_then at (call_of request) reply → (world_then ≡ world) ⊎ FitsBuffer reply.answer
 stays_or_fits changes_none world world_then at request reply fits short served =
     of_route changes_none reply.answer fits world world_then at request.body.now short (route_at request.method request.target.now) served.answer_is served.world_is
 

@@ -4,10 +4,12 @@ use Rattle.sqlite_trees.specs.Tree.{Trees}
 use Rattle.sqlite_trees.specs.declared.store.Store.{Ghosts}
 use Rattle.sqlite.specs.Effect.{Database}
 use Rattle.sqlite.specs.Held.{state}
+use Rattle.agv_http.specs.request.Cut.{Cut, faulty}
 use Rattle.agv_http.specs.request.Fronts.{HasNext}
 use Rattle.agv_http.specs.request.Requests.{Request}
 use Rattle.agv_http.specs.Output.{calls_of, world_after}
-use Rattle.agv_http.specs.StreamEnds.{IsOfMachine}
+use Rattle.agv_http.specs.StreamEnds.{HasMachineFault, HasRequestNext, IsOfMachine}
+use Rattle.agv_header.specs.declared.refusal.Refusal.{Refusal}
 use Rattle.agv_schema.specs.Connections.{IsClean}
 use Rattle.agv_schema.specs.SchemaNumbers.{desk_seats}
 use Rattle.agv_store.specs.Floors.{Keyed, Knows, world_at}
@@ -40,9 +42,18 @@ module _ {S : Type 0} (g : Ghosts S) (at : ℕ) (desk desk_then : Keyed S) where
 
   -- these requests were answered, and the next one of the input may have been begun
   pub record AreDoneOrNext (input : List ℕ) (requests : List Request) : Type 0 where
+    -- where there is no next one, the desk is as it was
+    pub begun : (desk_then ≡ desk) ⊎ HasRequestNext input requests
     pub knew : IsClean g desk_then.held → calls_of requests at ≢ [] → Knows g desk.held (world_at g desk.held)
     pub crash : CrashLeaves (λ found. FoundIn found (world_of requests)
         ⊎ ((request : Request) × HasNext input requests request × FoundIn found (world_of (requests ++ request ∷ []))))
+
+  -- behind these requests an answer is cut: that to the next request, which is done; that to a fault of HTTP; or that to a fault of the machine
+  abbrev pub AreDoneOrCut : List ℕ → List Request → Type 0
+  AreDoneOrCut input requests =
+      ((request : Request) × HasNext input requests request × AreDone (requests ++ request ∷ []))
+      ⊎ ((why : Refusal) × Cut input requests (faulty why) × AreDone requests)
+      ⊎ ((why : Refusal) × HasMachineFault input requests why × AreDoneOrNext input requests)
 
   -- as a stream is served to this end
   abbrev pub AreDoneBy : List ℕ → List Request → Ended → Type 0

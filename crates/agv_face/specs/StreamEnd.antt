@@ -13,7 +13,7 @@ use Rattle.agv_schema.specs.SchemaNumbers.{desk_seats}
 use Rattle.agv_schema.specs.Connections.{IsClean, IsOpen}
 use Rattle.agv_world.specs.Worlds.{World}
 use Rattle.agv_face.specs.CountingIo.{inner_of, FailedOnce, FailedNever, RanOut}
-use Rattle.agv_face.specs.StreamCalls.{AreDone, AreDoneBy, AreDoneOrNext}
+use Rattle.agv_face.specs.StreamCalls.{AreDone, AreDoneBy, AreDoneOrCut}
 use Rattle.agv_face.specs.declared.stream_end.Ended.{Ended}
 use Rattle.agv_face.specs.declared.stream_end.Ended.TheVariants as ended
 use Rattle.agv_face.specs.declared.stream_end.Served.{Served}
@@ -134,4 +134,4 @@ module _ {S R W : Type 0} (g : Ghosts S) (remaining : R → Option (List ℕ)) (
   IsCounted (Err (fault.Write answers)) =
       (input : List ℕ) × IsInput remaining reader input × (requests : List Request) × Begins input requests
       × (answers ≡ length requests) × AskNothing requests × ((desk_then.failed ≡ desk.failed) ⊎ HasCallNext input requests)
-      × AreDoneOrNext g at desk desk_then input requests
+      × AreDoneOrCut g at desk desk_then input requests

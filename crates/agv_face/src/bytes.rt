@@ -10,7 +10,7 @@ use std::io::{Read, Write};
 /// The longest request, its head and its body together, in bytes: more have never to be held at once.
 pub(crate) const LONGEST_REQUEST: usize = 73_728;
 
-/// The bytes that one read asks for at most.
+/// The most bytes that one read requests.
 const ONE_READ: usize = 4096;
 
 /// The reader failed.
@@ -32,7 +32,7 @@ pub fn write_whole<W: Write>(writer: &mut CountingIo<W>, bytes: &[u8]) -> bool
     true
 }
 
-/// The bytes behind the first `n`.
+/// The bytes after the first `n`.
 pub(crate) fn behind(buf: &Vec<u8>, n: usize) -> &[u8]
     requires { n ≤ vec_len buf.now }
     ensures { result.now ≡ drop n buf.now.items }
@@ -44,24 +44,24 @@ pub(crate) fn behind(buf: &Vec<u8>, n: usize) -> &[u8]
 pub(crate) fn drop_front(buf: &mut Vec<u8>, n: usize)
     requires { n ≤ vec_len buf.old }
     ensures items { buf.new.items ≡ drop n buf.old.items }
-    ensures room { vec_capacity buf.new ≡ vec_capacity buf.old }
+    ensures capacity { vec_capacity buf.new ≡ vec_capacity buf.old }
 {
     buf.rotate_left(n);
     buf.truncate(buf.len() - n);
 }
 
-/// One read, whose bytes go to the end of a buffer that has room for some more of a request: `false` at the end of the
+/// One read, whose bytes go to the end of a buffer that has memory for some more of a request: `false` at the end of the
 /// input.
 pub(crate) fn read_some<R: Read>(
     reader: &mut CountingIo<R>,
     buf: &mut Vec<u8>,
 ) -> Result<bool, NotRead>
     requires some { vec_len buf.old < 73728 }
-    requires room { 73728 ≤ vec_capacity buf.old }
+    requires capacity { 73728 ≤ vec_capacity buf.old }
     ensures read { IfOk result (IsRead R.remaining reader.old reader.new buf.old.items buf.new.items) }
     ensures failed { OnErr result (FailedOnce reader.old reader.new × Keeps (R.remaining (inner_of reader.old)) (R.remaining (inner_of reader.new))) }
     ensures kept { OnErr result (buf.new.items ≡ buf.old.items) }
-    ensures room { vec_capacity buf.old ≤ vec_capacity buf.new }
+    ensures capacity { vec_capacity buf.old ≤ vec_capacity buf.new }
     ensures calls { HadCall reader.old reader.new }
 {
     let mut chunk = [0; ONE_READ];
@@ -75,11 +75,11 @@ pub(crate) fn read_some<R: Read>(
     }
 }
 
-/// Puts bytes to the end of a buffer that has room for them.
+/// Puts bytes to the end of a buffer that has memory for them.
 fn put_reserved(buf: &mut Vec<u8>, bytes: &[u8])
     requires { vec_len buf.old + length bytes.now ≤ vec_capacity buf.old }
     ensures items { buf.new.items ≡ buf.old.items ++ bytes.now }
-    ensures room { vec_capacity buf.old ≤ vec_capacity buf.new }
+    ensures capacity { vec_capacity buf.old ≤ vec_capacity buf.new }
 {
     match buf.extend_from_slice(bytes) {
         Ok(()) => (),

@@ -17,18 +17,17 @@ use agv_header::Moment;
 use agv_http::laws::streams::{asks_well_typed_calls, serves_its_calls};
 use sqlite::Alter;
 
-/// Where a stream has answered a call, it was served from a lawful world (`start`), also where a fault of the machine or a cut
-/// answer came behind (`cut`); the world that it has left is that of its calls, one after the other (`left`), and these are
-/// well typed (`typed`). So what `agv_desk` says of lists of calls from a
-/// lawful world (its module `laws::histories`) holds of the stream: that the world stays lawful, where each load then stands,
-/// that each act moves its load once, and that repeated states move nothing. It reads the moment and does nothing: its clauses
-/// are the law.
+/// Where a stream has answered a call, it was served from a lawful world (`start`), also where a fault of the machine came
+/// behind it (`begun`); the world that it has left is that of its calls, one after the other (`world`), and these are well
+/// typed (`typed`). So what `agv_desk` says of lists of calls from a lawful world (its module `laws::histories`) holds of the
+/// stream: that the world stays lawful, where each load then stands, that each act moves its load once, and that repeated
+/// states move nothing. It reads the moment and does nothing: its clauses are the law.
 pub fn streams_have_histories<S: Alter>(at: Moment)
     ensures start { (desk desk_then : Keyed S) (requests : List Request) → AreDone S.Store at desk desk_then requests
         → IsClean S.Store desk_then.held → calls_of requests at ≢ [] → IsLawful desk_seats (world_at S.Store desk.held) }
-    ensures cut { (desk desk_then : Keyed S) (input : List ℕ) (requests : List Request) → AreDoneOrNext S.Store at desk desk_then input requests
+    ensures begun { (desk desk_then : Keyed S) (input : List ℕ) (requests : List Request) → AreDoneOrNext S.Store at desk desk_then input requests
         → IsClean S.Store desk_then.held → calls_of requests at ≢ [] → IsLawful desk_seats (world_at S.Store desk.held) }
-    ensures left { (world : World) (requests : List Request) → world_after desk_seats world at requests ≡ steps desk_seats world (calls_of requests at) }
+    ensures world { (world : World) (requests : List Request) → world_after desk_seats world at requests ≡ steps desk_seats world (calls_of requests at) }
     ensures typed { (requests : List Request) → AreWellTyped (calls_of requests at) }
 {
     serves_its_calls();

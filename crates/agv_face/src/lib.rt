@@ -3,7 +3,7 @@
 //! A reader gives bytes, cut as it likes. `agv_http` finds the next request in what has come so far, and which call of
 //! the desk it is; `agv_store` serves the call, whose changes are committed before it is answered, and gives the report
 //! that the answer names; and the answer's bytes are written before the next request is looked at. [`serve_stream`] does
-//! so to the end of the stream, in room that is reserved before the first call: 73,728 bytes for the longest request and
+//! so to the end of the stream, in memory that is reserved before the first call: 73,728 bytes for the longest request and
 //! 131,072 for the answer to any call that changes something. [`serve_stream_within`] takes the most reads beside.
 //! Both take their reader and their writer as [`CountingIo`], so that a clause can say why a stream ended.
 //!

@@ -34,7 +34,7 @@ pub(crate) enum Next {
 
 /// Serves the next request of the buffer, where it has come whole, and puts the bytes of its answer into `out`; those of
 /// the refusal where there is a fault of HTTP. `ended` says that no byte follows.
-pub(crate) fn serve_next<S: Alter + Drop>(
+pub(crate) fn serve_request<S: Alter + Drop>(
     alloc: Global,
     routes: &Routes,
     desk: &mut Desk<S>,
@@ -72,7 +72,7 @@ pub(crate) fn serve_next<S: Alter + Drop>(
 /// Puts the bytes of the refusal after which the stream ends into `out`, which has memory for them.
 fn refuse(why: &Refusal, out: &mut Vec<u8>)
     requires empty { out.old.items ≡ [] }
-    requires room { most_answer ≤ vec_capacity out.old }
+    requires capacity { most_answer ≤ vec_capacity out.old }
     ensures text { out.new.items ≡ refusal_text why.now }
     ensures grown { vec_capacity out.old ≤ vec_capacity out.new }
 {

@@ -31,7 +31,7 @@ pub(crate) struct Reply {
     pub(crate) report: Vec<u8>,
 }
 
-/// Serves the request, and puts the bytes of its answer into `out`, which has room for each answer to a call that changes
+/// Serves the request, and puts the bytes of its answer into `out`, which has memory for each answer to a call that changes
 /// something: after a commit no memory is taken.
 pub(crate) fn answer_request<S: Alter + Drop>(
     alloc: Global,
@@ -42,7 +42,7 @@ pub(crate) fn answer_request<S: Alter + Drop>(
     out: &mut Vec<u8>,
 ) -> Result<(), Fault>
     requires empty { out.old.items ≡ [] }
-    requires room { most_answer ≤ vec_capacity out.old }
+    requires capacity { most_answer ≤ vec_capacity out.old }
     requires short { length request.now.body.now ≤ most_body }
     ensures later { IsLaterDesk S.Store desk.old desk.new }
     ensures answers { IsClean S.Store desk.new.held → OnOk result (IsAnswered (world_at S.Store desk.old.held) (world_at S.Store desk.new.held) at request.now out.new.items) }

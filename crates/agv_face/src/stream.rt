@@ -8,7 +8,7 @@ ghost use Rattle.agv_http.specs.answers.Sizes.{most_answer};
 
 use crate::bytes::{LONGEST_REQUEST, behind, drop_front, read_some, write_whole};
 use crate::counting_io::CountingIo;
-use crate::next::{Next, serve_next};
+use crate::next::{Next, serve_request};
 use crate::stream_end::{Ended, Served, StreamFault};
 use agv_header::{Memory, Moment, Refusal};
 use agv_http::laws::streams::{answers_in_turn, hears_how_it_goes_on};
@@ -26,13 +26,13 @@ const MAX_READS: u64 = 16_777_216;
 /// The most reads that a stream can have at all. So there are fewer answers than a `u64` can count.
 const READS_AT_ALL: u64 = 4_503_599_627_370_495;
 
-/// The bytes that are reserved for an answer: there is room for each answer to a call that changes something.
+/// The bytes that are reserved for an answer: they hold each answer to a call that changes something.
 const LONGEST_ANSWER: usize = 131_072;
 
 /// What a stream keeps in memory: the table of calls, the bytes that have come and aren't served yet, and the bytes of the
 /// next answer.
 #[derive(Drop)]
-struct Room {
+struct Buffers {
     routes: Routes,
     input: Vec<u8>,
     output: Vec<u8>,
@@ -58,23 +58,24 @@ pub fn serve_stream<S: Alter + Drop, R: Read, W: Write>(
 /// Serves a stream of requests, each at this moment, with at most so many reads: a number above 4,503,599,627,370,495
 /// counts as that.
 ///
-/// Room for the longest request and for the answer to each call that changes something is reserved before the first call.
-/// Each request is served once it has come whole, and its answer is written before the next one is looked at. A call is
+/// Memory for the longest request and for the answer to each call that changes something is reserved before the first call.
+/// Each request is served once it has arrived completely, and its answer is written before the next one is read. A call is
 /// committed before it is answered.
 ///
-/// `IsStreamEnd` (`specs/StreamEnd.antt`) says of each end what has come of the input, what was written, and which world the
-/// desk then knows: the output of `agv_http`, whole, or a front of it, or a front of it and the refusal for a fault of the
+/// `IsStreamEnd` (`specs/StreamEnd.antt`) says for each end which input has arrived, what was written, and which world the
+/// desk then knows: the output of `agv_http`, complete, or a prefix of it, or a prefix of it and the refusal for a fault of the
 /// machine. Where the store has failed as the stream ends, `failed` says by which end. No clause says that an answer is
 /// written before more is read; a test does.
 ///
 /// Which requests were answered, and how many, holds whatever the disk answers (`counts`). It says besides what their calls
 /// have made of the desk (`specs/StreamCalls.antt`): a call is answered only by a desk that knew a lawful world, and a crash
-/// leaves the rows of the world after the requests that were answered; behind a fault of the machine or a cut answer it may
-/// leave those after one request more. At each other end, where a call was answered, the store is open, and the desk knows the
-/// world that is left; where none was, the desk is as it was.
+/// leaves the rows of the world after the requests that were answered; after a fault of the machine possibly those after one
+/// more request. A request whose answer is cut is done. At each other end, where a call was answered, the store is open, and
+/// the desk knows the world that is left; where none was, the desk is as it was. So it is, too, where no memory could be
+/// reserved.
 ///
-/// However the stream ends, the store is open then where it was, unless its disk had a fault meanwhile, and where it is open
-/// it was open before: so another stream goes on from the world that is known (`later`, and
+/// However the stream ends, the store is then as open as it was, unless its disk had a fault meanwhile, and if it is open it
+/// was open before: so another stream can go on from the world that is known (`later`, and
 /// [`laws::streams_leave_the_store_open`](crate::laws::streams_leave_the_store_open)). A desk that had failed before stays as
 /// it is and serves no call: the first one is answered `Storage`, and the stream ends.
 ///
@@ -101,21 +102,21 @@ pub fn serve_stream_within<S: Alter + Drop, R: Read, W: Write>(
     desk.knows();
     let _calls = reader.calls();
     match reserve(alloc) {
-        Ok(room) => {
-            let mut room = room;
-            serve_requests(alloc, &mut room, desk, at, reader, writer, max_reads)
+        Ok(buffers) => {
+            let mut buffers = buffers;
+            serve_requests(alloc, &mut buffers, desk, at, reader, writer, max_reads)
         }
         Err(_) => refuse(writer, Fault::Memory, 0),
     }
 }
 
 /// Reserves all that a stream needs before its first call.
-fn reserve(alloc: Global) -> Result<Room, Memory>
-    ensures none { IfOk result (λ room. room.input.items ≡ []) }
-    ensures input { IfOk result (λ room. 73728 ≤ vec_capacity room.input) }
-    ensures output { IfOk result (λ room. most_answer ≤ vec_capacity room.output) }
+fn reserve(alloc: Global) -> Result<Buffers, Memory>
+    ensures none { IfOk result (λ buffers. buffers.input.items ≡ []) }
+    ensures input { IfOk result (λ buffers. 73728 ≤ vec_capacity buffers.input) }
+    ensures output { IfOk result (λ buffers. most_answer ≤ vec_capacity buffers.output) }
 {
-    Ok(Room {
+    Ok(Buffers {
         routes: Routes::new(alloc)?,
         input: Vec::with_capacity(alloc, LONGEST_REQUEST)?,
         output: Vec::with_capacity(alloc, LONGEST_ANSWER)?,
@@ -125,16 +126,16 @@ fn reserve(alloc: Global) -> Result<Room, Memory>
 /// Serves requests, one after another, to the end of the stream.
 fn serve_requests<S: Alter + Drop, R: Read, W: Write>(
     alloc: Global,
-    room: &mut Room,
+    buffers: &mut Buffers,
     desk: &mut Desk<S>,
     at: Moment,
     reader: &mut CountingIo<R>,
     writer: &mut CountingIo<W>,
     max_reads: u64,
 ) -> Result<Served, StreamFault>
-    requires none { room.old.input.items ≡ [] }
-    requires input { 73728 ≤ vec_capacity room.old.input }
-    requires output { most_answer ≤ vec_capacity room.old.output }
+    requires none { buffers.old.input.items ≡ [] }
+    requires input { 73728 ≤ vec_capacity buffers.old.input }
+    requires output { most_answer ≤ vec_capacity buffers.old.output }
     ensures ends { IsStreamEnd S.Store R.remaining W.contents at max_reads desk.old desk.new reader.old reader.new writer.old writer.new result }
     ensures counts { IsCounted S.Store R.remaining W.contents at desk.old desk.new reader.old reader.new writer.old writer.new result }
     ensures later { IsLaterDesk S.Store desk.old desk.new }
@@ -151,14 +152,14 @@ fn serve_requests<S: Alter + Drop, R: Read, W: Write>(
     // Of the bytes that have come, so many are served; they are dropped before the next read.
     let mut served = 0;
     loop {
-        let next = serve_next(
+        let next = serve_request(
             alloc,
-            &room.routes,
+            &buffers.routes,
             desk,
             at,
-            behind(&room.input, served),
+            behind(&buffers.input, served),
             ended,
-            &mut room.output,
+            &mut buffers.output,
         );
         desk.knows();
         match next {
@@ -173,15 +174,15 @@ fn serve_requests<S: Alter + Drop, R: Read, W: Write>(
                     return Err(StreamFault::Read { answers });
                 }
                 reads += 1;
-                drop_front(&mut room.input, served);
+                drop_front(&mut buffers.input, served);
                 served = 0;
-                match read_some(reader, &mut room.input) {
+                match read_some(reader, &mut buffers.input) {
                     Ok(more) => ended = !more,
                     Err(_) => return Err(StreamFault::Read { answers }),
                 }
             }
             Ok(Next::Request { len, close }) => {
-                if !write_whole(writer, &room.output) {
+                if !write_whole(writer, &buffers.output) {
                     return Err(StreamFault::Write { answers });
                 }
                 answers += 1;
@@ -194,7 +195,7 @@ fn serve_requests<S: Alter + Drop, R: Read, W: Write>(
                 served += len;
             }
             Ok(Next::Fault(why)) => {
-                if !write_whole(writer, &room.output) {
+                if !write_whole(writer, &buffers.output) {
                     return Err(StreamFault::Write { answers });
                 }
                 return Ok(Served {
@@ -207,7 +208,7 @@ fn serve_requests<S: Alter + Drop, R: Read, W: Write>(
     }
 }
 
-/// Ends a stream, behind so many answers, with the refusal for a fault of the machine. It takes no memory.
+/// Ends a stream, after so many answers, with the refusal for a fault of the machine. It takes no memory.
 fn refuse<W: Write>(
     writer: &mut CountingIo<W>,
     fault: Fault,

@@ -16,7 +16,7 @@ pub enum Ended {
     Refused(Refusal),
 }
 
-/// What a stream came to that was served to its end.
+/// How a stream ended that was served to its end.
 #[derive(Clone, Copy, Debug, PartialEq, Eq)]
 pub struct Served {
     /// How many answers were written, the last refusal among them.
@@ -30,10 +30,10 @@ pub enum StreamFault {
     /// A read failed, or the stream has had the most reads and needs one more.
     #[error("a read failed, behind {answers} answers")]
     Read {
-        /// How many answers were written: those to all requests that had come whole.
+        /// How many answers were written: those to all requests that had arrived completely.
         answers: u64,
     },
-    /// A write failed, or took no byte. The call whose answer was cut stands.
+    /// A write failed, or took no byte. The call whose answer was cut is done.
     #[error("a write failed, behind {answers} answers")]
     Write {
         /// How many answers were written whole.

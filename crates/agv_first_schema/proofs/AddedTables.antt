@@ -19,7 +19,7 @@ use Rattle.agv_schema.specs.DeskRows.{HaveRows, Holds, IsDesk, Placing, TableSta
 use Rattle.agv_creation.specs.DeskSchema.{sequence_table, with_new_table}
 use Rattle.agv_creation.specs.DeskTables.{HasTable}
 use Rattle.agv_schema.proofs.DeskPlaces.{as_made, is_among, own_keys, same_as_themselves}
-use Rattle.agv_creation.proofs.DeskStands.{LeaveRoom, have_rows, low_tree}
+use Rattle.agv_creation.proofs.DeskStands.{AllowsTable, have_rows, low_tree}
 use Rattle.agv_creation.proofs.NamesKept.{position_kept}
 use Rattle.agv_creation.proofs.TablesKept.{got_kept, has_got}
 use Rattle.agv_creation.proofs.TablesMade.{HaveTables}
@@ -113,7 +113,7 @@ pub record AreAdded (first : Placing) (old mid : Database) : Type 0 where
   pub is : IsFirstDesk first
   pub has : old.schema ≡ first.schema
   pub made : HaveTables old mid added_tables
-  pub rooms : (name : TableName) → LeaveRoom (table_for name).name mid.schema.tables
+  pub allowed : (name : TableName) → AllowsTable (table_for name).name mid.schema.tables
 
 module _ (first : Placing) (old mid : Database) (added : AreAdded first old mid) where
   abbrev pub second : Placing
@@ -126,7 +126,7 @@ module _ (first : Placing) (old mid : Database) (added : AreAdded first old mid)
   longer = subst (λ s. Extends s mid.schema) added.has (subst (Extends old.schema) (sym added.made.schema_is) (all_extend old.schema added_tables))
 
   first_stands : (name : TableName) → is_first name ≡ true → TableStands second name
-  first_stands name is = stands_still first second name (added.is.stands name is) longer (tree_is name is) (added.rooms name).unreferred
+  first_stands name is = stands_still first second name (added.is.stands name is) longer (tree_is name is) (added.allowed name).unreferred
 
   second_stands : (name : TableName) → TableStands second name
   second_stands the.Meta = first_stands the.Meta refl
@@ -140,12 +140,12 @@ module _ (first : Placing) (old mid : Database) (added : AreAdded first old mid)
   second_stands the.Job = first_stands the.Job refl
   second_stands the.Hold = first_stands the.Hold refl
   second_stands the.Used = first_stands the.Used refl
-  second_stands the.Capacity = stands_new mid added.made.listed second.tree the.Capacity [] added.made.stand.0 refl (added.rooms the.Capacity).unreferred
-  second_stands the.Journey = stands_new mid added.made.listed second.tree the.Journey [] added.made.stand.1.0 refl (added.rooms the.Journey).unreferred
-  second_stands the.Act = stands_new mid added.made.listed second.tree the.Act [] added.made.stand.1.1.0 refl (added.rooms the.Act).unreferred
+  second_stands the.Capacity = stands_new mid added.made.listed second.tree the.Capacity [] added.made.stand.0 refl (added.allowed the.Capacity).unreferred
+  second_stands the.Journey = stands_new mid added.made.listed second.tree the.Journey [] added.made.stand.1.0 refl (added.allowed the.Journey).unreferred
+  second_stands the.Act = stands_new mid added.made.listed second.tree the.Act [] added.made.stand.1.1.0 refl (added.allowed the.Act).unreferred
 
   pub is_second : IsDesk second
-  is_second = record { stands = second_stands; apart = (added.rooms the.Meta).apart }
+  is_second = record { stands = second_stands; apart = (added.allowed the.Meta).apart }
 
   -- a table that was there has the rows that it had
   pub rows_stay : (t : Table) → Has old.schema.tables t → mid.trees t.tree ≡ old.trees t.tree

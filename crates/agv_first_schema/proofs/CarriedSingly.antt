@@ -1,4 +1,4 @@
--- The vehicles of a lawful world carry one load each, where each has room for one.
+-- The vehicles of a lawful world carry one load each, where each has the capacity 1.
 use Rattle.std.proofs.Common.{◌≡◌, ℕ, ◌*◌, ◌≤◌, suc, not, ◌&&◌, nat_eq, true, false, cond, List, [], ◌∷◌, map, filter, length, count_by, Option, Some, None, IsTrue, refl, sym, ap, subst, ◌∙◌, arith}
 use Rattle.std.proofs.lemmas.Bool.{and_parts, and_from}
 use Rattle.std.proofs.lemmas.List.Sums.{length-filter}
@@ -38,7 +38,7 @@ pub record IsTripOfJob (rows : Rows) (order : List ℕ) (trip : TripRow) : Type 
   pub known : finite.get rows.jobs line.job ≡ Some job
   pub told : trip_told line job ≡ trip
 
--- each vehicle has room for one load, and each open trip is of one job, which is known: the first schema tells no more
+-- each vehicle has the capacity 1, and each open trip is of one job, which is known: the first schema tells no more
 pub record CarriesOneEach (rows : Rows) : Type 0 where
   pub vehicles : (key : VehicleKey) (vehicle : VehicleRow) → finite.get rows.vehicles key ≡ Some vehicle → vehicle.capacity ≡ 1
   pub trips : (order : List ℕ) (trip : TripRow) → finite.get rows.trips order ≡ Some trip → IsTripOfJob rows order trip
@@ -168,7 +168,7 @@ lawful_single twice world lawful = record {
         let own = of_one order trip.order (trip_row key trip) row found in
         let kept = lawful.vehicles.trips key vehicle trip at is in
         let seats = lawful.vehicles.vehicles key vehicle at in
-        let few : count_by picks trip.acts ≤ 1 = between _ _ kept.seated seats.seated in
+        let few : count_by picks trip.acts ≤ 1 = between _ _ kept.picks_fit seats.seated in
         let pair = pair_of twice trip.acts kept.well_formed.planned.stops few in
         subst (λ q. IsTripOfJob (rows_of world) q row) (sym own.0)
         (subst (IsTripOfJob (rows_of world) trip.order) own.1

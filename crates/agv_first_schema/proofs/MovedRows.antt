@@ -22,8 +22,8 @@ use Rattle.agv_world.specs.declared.row.VehicleRow.{VehicleRow}
 use Rattle.agv_world.specs.declared.world.World.{World as Tables}
 use Rattle.agv_schema.specs.declared.table_name.TableName.TheVariants as the
 use Rattle.agv_first_schema.specs.FirstRows.{first_lists}
-use Rattle.agv_first_schema.specs.Moved.{for_each, moved_lists, with_journey, with_room}
-use Rattle.agv_rows.specs.Columns.{act_columns, edge_columns, hold_columns, job_columns, journey_columns, leg_columns, load_columns, meta_columns, node_columns, room_columns, station_columns, used_columns, vehicle_columns}
+use Rattle.agv_first_schema.specs.Moved.{for_each, moved_lists, with_journey, with_vehicle_capacity}
+use Rattle.agv_rows.specs.Columns.{act_columns, edge_columns, hold_columns, job_columns, journey_columns, leg_columns, load_columns, meta_columns, node_columns, vehicle_capacity_columns, station_columns, used_columns, vehicle_columns}
 use Rattle.agv_schema.specs.DeskRows.{with_rows}
 use Rattle.agv_rows.specs.RowLists.{AreAlike, row_lists, rows_for, rows_in, rows_of_acts}
 use Rattle.agv_schema.specs.SchemaNumbers.{schema_number}
@@ -50,8 +50,8 @@ onto_nothing xs = IsPermutation-sym _ _ (subst (λ ys. IsPermutation ys (onto xs
 
 -- ---- the rows of vehicles and trips
 
-abbrev room : VehicleKey × VehicleRow → Row
-room entry = room_columns entry.0 entry.1
+abbrev vehicle_capacity : VehicleKey × VehicleRow → Row
+vehicle_capacity entry = vehicle_capacity_columns entry.0 entry.1
 
 abbrev journey : List ℕ × TripRow → Row
 journey entry = journey_columns entry.0 (journey_of entry.1)
@@ -62,11 +62,11 @@ acts entry = rows_of_acts (act_rows entry.0 entry.1)
 module _ (meta nodes edges stations vehicles trips legs loads jobs holds used : List Row) where
   -- the eleven lists, and those of the three tables
   abbrev beside : List Row → List Row → List Row → List (List Row)
-  beside rooms journeys acts = meta ∷ nodes ∷ edges ∷ stations ∷ vehicles ∷ trips ∷ legs ∷ loads ∷ jobs ∷ holds ∷ used ∷ rooms ∷ journeys ∷ acts ∷ []
+  beside capacities journeys acts = meta ∷ nodes ∷ edges ∷ stations ∷ vehicles ∷ trips ∷ legs ∷ loads ∷ jobs ∷ holds ∷ used ∷ capacities ∷ journeys ∷ acts ∷ []
 
-  rooms_added : (es : List (VehicleKey × VehicleRow)) (a b c : List Row) → for_each with_room es (beside a b c) ≡ beside (onto (map room es) a) b c
-  rooms_added [] a b c = refl
-  rooms_added (e ∷ es) a b c = rooms_added es (room e ∷ a) b c
+  capacities_added : (es : List (VehicleKey × VehicleRow)) (a b c : List Row) → for_each with_vehicle_capacity es (beside a b c) ≡ beside (onto (map vehicle_capacity es) a) b c
+  capacities_added [] a b c = refl
+  capacities_added (e ∷ es) a b c = capacities_added es (vehicle_capacity e ∷ a) b c
 
   acts_added : (rows : List Row) (a b c : List Row) → with_rows the.Act rows (beside a b c) ≡ beside a b (onto rows c)
   acts_added [] a b c = refl
@@ -78,9 +78,9 @@ module _ (meta nodes edges stations vehicles trips legs loads jobs holds used : 
       ap (for_each with_journey es) (acts_added (acts e) a (journey e ∷ b) c) ∙ trips_added es a (journey e ∷ b) (onto (acts e) c)
       ∙ ap (beside a (onto (map journey (e ∷ es)) b)) (sym (onto_more (acts e) (flat_map acts es) c))
 
-  all_added : (rooms : List (VehicleKey × VehicleRow)) (opened : List (List ℕ × TripRow))
-      → for_each with_journey opened (for_each with_room rooms (beside [] [] [])) ≡ beside (onto (map room rooms) []) (onto (map journey opened) []) (onto (flat_map acts opened) [])
-  all_added rooms opened = ap (for_each with_journey opened) (rooms_added rooms [] [] []) ∙ trips_added opened (onto (map room rooms) []) [] []
+  all_added : (capacities : List (VehicleKey × VehicleRow)) (opened : List (List ℕ × TripRow))
+      → for_each with_journey opened (for_each with_vehicle_capacity capacities (beside [] [] [])) ≡ beside (onto (map vehicle_capacity capacities) []) (onto (map journey opened) []) (onto (flat_map acts opened) [])
+  all_added capacities opened = ap (for_each with_journey opened) (capacities_added capacities [] [] []) ∙ trips_added opened (onto (map vehicle_capacity capacities) []) [] []
 
 -- ---- the tables of journeys and acts
 
@@ -108,8 +108,8 @@ moved_alike journeys listed tables world keeps =
     let rows = rows_of world in
     let vehicles = finite.entries tables.vehicles in
     let trips = finite.entries tables.trips in
-    let rooms_are : IsPermutation (onto (map room vehicles) []) (rows_in room_columns rows.vehicles) =
-    subst (λ (m : finite.FinMap key_cmp VehicleRow). IsPermutation (onto (map room vehicles) []) (rows_in room_columns m)) keeps.vehicles (onto_nothing (map room vehicles)) in
+    let capacities_are : IsPermutation (onto (map vehicle_capacity vehicles) []) (rows_in vehicle_capacity_columns rows.vehicles) =
+    subst (λ (m : finite.FinMap key_cmp VehicleRow). IsPermutation (onto (map vehicle_capacity vehicles) []) (rows_in vehicle_capacity_columns m)) keeps.vehicles (onto_nothing (map vehicle_capacity vehicles)) in
     let journeys_moved : IsPermutation (onto (map journey trips) []) (rows_in journey_columns (journeys_of rows.trips)) =
     subst (λ (m : finite.FinMap name_cmp TripRow). IsPermutation (onto (map journey trips) []) (rows_in journey_columns (journeys_of m))) keeps.trips
     (subst (IsPermutation (onto (map journey trips) [])) (journeys_are journeys tables.trips) (onto_nothing (map journey trips))) in
@@ -122,4 +122,4 @@ moved_alike journeys listed tables world keeps =
     subst (λ lists. AreAlike lists (row_lists rows))
     (sym (all_added (meta_columns 1 schema_number ∷ []) (rows_for node_columns rows.nodes) (rows_in edge_columns rows.edges) (rows_in station_columns rows.stations) (rows_in vehicle_columns rows.vehicles) []
     (rows_in leg_columns rows.legs) (rows_in load_columns rows.loads) (rows_in job_columns rows.jobs) (rows_in hold_columns rows.holds) (rows_for used_columns rows.used) vehicles trips))
-    (number, (same _, (same _, (same _, (same _, (same _, (same _, (same _, (same _, (same _, (same _, (rooms_are, (journeys_moved, (acts_moved, tt))))))))))))))
+    (number, (same _, (same _, (same _, (same _, (same _, (same _, (same _, (same _, (same _, (same _, (capacities_are, (journeys_moved, (acts_moved, tt))))))))))))))

@@ -30,7 +30,7 @@ use Rattle.agv_rows.proofs.ListsHeld.{held_alike}
 use Rattle.agv_rows.proofs.TripRowLaws.{ActsListed, JourneysListed}
 use Rattle.agv_creation.proofs.Creations.{DefinesTable, unused}
 use Rattle.agv_creation.proofs.DeskMade.{free_of, tables_own}
-use Rattle.agv_creation.proofs.DeskStands.{LeaveRoom, tables_leave}
+use Rattle.agv_creation.proofs.DeskStands.{AllowsTable, tables_leave}
 use Rattle.agv_creation.proofs.NamesKept.{position_all}
 use Rattle.agv_creation.proofs.TableTexts.{each_defined}
 use Rattle.agv_creation.proofs.TablesMade as tables
@@ -63,14 +63,14 @@ module _ (first : Placing) (old mid : Database) (is : IsFirstDesk first) (has : 
     | inr other ↦ can.unreferred name other
   ]
 
-  pub rooms : (name : TableName) → LeaveRoom (table_for name).name mid.schema.tables
-  rooms name =
-      subst (λ (s : Schema). LeaveRoom (table_for name).name s.tables) (sym made.schema_is)
+  pub allowed : (name : TableName) → AllowsTable (table_for name).name mid.schema.tables
+  allowed name =
+      subst (λ (s : Schema). AllowsTable (table_for name).name s.tables) (sym made.schema_is)
       (tables_leave (table_for name).name old.schema added_tables (refl, (refl, (refl, tt)))
       (record { unreferred = unreferred name; apart = subst (λ (s : Schema). IsAscending (λ (a b : Table). a.tree ≢ b.tree) s.tables) (sym has) is.apart }))
 
   abbrev pub are_added : AreAdded first old mid
-  are_added = record { is = is; has = has; made = made; rooms = rooms }
+  are_added = record { is = is; has = has; made = made; allowed = allowed }
 
   -- no table that was there has the tree of one of the three
   newer : (name : TableName) (h : HasTable mid (table_for name) []) → is_used old.schema (table_for name).name ≡ false → (t : Table) → Has old.schema.tables t → t.tree ≢ h.tree

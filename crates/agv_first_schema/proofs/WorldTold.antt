@@ -12,7 +12,7 @@ use Rattle.agv_header.specs.KeyOrder.{key_cmp-IsAntisymmetric, key_cmp-total}
 use Rattle.agv_header.specs.Name.{name_cmp}
 use Rattle.agv_header.specs.ThingOrder.{thing_cmp-IsAntisymmetric, thing_cmp-total}
 use Rattle.agv_track.specs.Holds.{Holds as Holders}
-use Rattle.agv_world.specs.GoodOrder.{InGoodOrder}
+use Rattle.agv_world.specs.GoodOrder.{HasConsistentTrips}
 use Rattle.agv_world.specs.Kept.{Keeps}
 use Rattle.agv_world.specs.KeyOrders.{leg_cmp-IsAntisymmetric, leg_cmp-total, use_cmp-IsAntisymmetric, use_cmp-total}
 use Rattle.agv_world.specs.Lawful.{IsLawful}
@@ -134,7 +134,7 @@ one_row (row ∷ (other ∷ rows)) is = absurd (cc is)
 
 -- ---- the lists of a lawful world tell its tables
 
-module _ (world : World) (first : IsLawful 1 world) (good : InGoodOrder world) (single : CarriesOneEach (rows_of world)) (values : HaveValues (rows_of world).trips)
+module _ (world : World) (first : IsLawful 1 world) (good : HasConsistentTrips world) (single : CarriesOneEach (rows_of world)) (values : HaveValues (rows_of world).trips)
     (lists : List (List Row)) (alike : AreAlike (first_lists (rows_of world)) lists) where
   lawful : IsLawful desk_seats world
   lawful = more_seats world first

@@ -1,4 +1,4 @@
--- The first schema: eleven of the desk's tables, and the rows that they have of a world in which each vehicle has room for one load.
+-- The first schema: eleven of the desk's tables, and the rows that they have of a world in which each vehicle has the capacity 1.
 use Rattle.std.specs.Prelude.{◌≡◌, ◌≢◌, ℕ, Bool, true, false, List, [], ◌∷◌}
 use Rattle.std.specs.FinMap as finite
 use Rattle.std.specs.List.{AllZip, flat_map}
@@ -70,7 +70,7 @@ first_lists rows =
 
 -- ---- a database
 
--- the eleven tables in the database have the rows of this lawful world, in which each vehicle has room for one load
+-- the eleven tables in the database have the rows of this lawful world, in which each vehicle has the capacity 1
 pub record HasFirstWorld (desk : Placing) (db : Database) (world : World) : Type 0 where
   pub stands : IsFirstDesk desk
   pub lawful : IsLawful 1 world

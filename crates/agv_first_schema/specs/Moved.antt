@@ -19,7 +19,7 @@ use Rattle.agv_schema.specs.declared.table_name.TableName.{TableName}
 use Rattle.agv_schema.specs.declared.table_name.TableName.TheVariants as the
 use Rattle.agv_first_schema.specs.FirstRows.{HasFirstWorld, is_first}
 use Rattle.agv_row_reading.specs.WorldAnswers.{HasWorld}
-use Rattle.agv_rows.specs.Columns.{journey_columns, meta_columns, room_columns}
+use Rattle.agv_rows.specs.Columns.{journey_columns, meta_columns, vehicle_capacity_columns}
 use Rattle.agv_schema.specs.DeskRows.{Placing, is_unreferred, on_table, place_of, table_for, with_row, with_rows}
 use Rattle.agv_rows.specs.RowLists.{rows_of_acts}
 use Rattle.agv_creation.specs.DeskSchema.{with_new_table}
@@ -55,9 +55,9 @@ without_all name = on_table (place_of name) (λ rows. [])
 abbrev pub numbered_anew : List (List Row) → List (List Row)
 numbered_anew lists = with_row the.Meta (meta_columns 1 schema_number) (without_all the.Meta lists)
 
--- with the room of a vehicle
-abbrev pub with_room : VehicleKey × VehicleRow → List (List Row) → List (List Row)
-with_room entry = with_row the.Capacity (room_columns entry.0 entry.1)
+-- with the capacity of a vehicle
+abbrev pub with_vehicle_capacity : VehicleKey × VehicleRow → List (List Row) → List (List Row)
+with_vehicle_capacity entry = with_row the.Capacity (vehicle_capacity_columns entry.0 entry.1)
 
 -- with the journey and the acts of an open trip
 abbrev pub with_journey : List ℕ × TripRow → List (List Row) → List (List Row)
@@ -68,11 +68,11 @@ abbrev pub for_each : {E : Type 0} → (E → List (List Row) → List (List Row
 for_each step [] lists = lists
 for_each step (e ∷ es) lists = for_each step es (step e lists)
 
--- the number of the schema, the rooms of the vehicles, and the open trips as journeys and acts
+-- the number of the schema, the capacities of the vehicles, and the open trips as journeys and acts
 abbrev pub moved_lists : Tables → List (List Row) → List (List Row)
 moved_lists tables lists =
     for_each with_journey (finite.entries tables.trips)
-    (for_each with_room (finite.entries tables.vehicles)
+    (for_each with_vehicle_capacity (finite.entries tables.vehicles)
     (numbered_anew (without_all the.Trip lists)))
 
 -- ---- what is made of a database

@@ -12,7 +12,7 @@ ghost use Rattle.agv_rows.specs.RowLists.{AreAlike};
 use agv_order::laws::stops_twice;
 use agv_trip_rows::row_laws::tables_have_rows;
 use agv_trip_rows::trip_laws::lawful_rows_have_values;
-use agv_world::lawful_laws::is_in_good_order;
+use agv_world::lawful_laws::has_consistent_trips;
 
 /// The rows of a lawful world, with one place on each vehicle, tell its tables and what its vehicles hold, in any order.
 pub fn first_rows_tell_their_world()
@@ -21,5 +21,5 @@ pub fn first_rows_tell_their_world()
     stops_twice();
     tables_have_rows();
     lawful_rows_have_values();
-    is_in_good_order();
+    has_consistent_trips();
 }

@@ -7,8 +7,8 @@ ghost use Rattle.sqlite.specs.State.{HasCleanDisk, KeepsCommit, Survives};
 ghost use Rattle.sqlite.specs.Held.{state};
 ghost use Rattle.sqlite.specs.Values.{bound};
 ghost use Rattle.agv_schema.specs.declared.table_name.TableName.TheVariants as the;
-ghost use Rattle.agv_first_schema.specs.Moved.{for_each, moved_lists, numbered_anew, with_journey, with_room, without_all};
-ghost use Rattle.agv_rows.specs.Columns.{journey_columns, meta_columns, room_columns};
+ghost use Rattle.agv_first_schema.specs.Moved.{for_each, moved_lists, numbered_anew, with_journey, with_vehicle_capacity, without_all};
+ghost use Rattle.agv_rows.specs.Columns.{journey_columns, meta_columns, vehicle_capacity_columns};
 ghost use Rattle.agv_schema.specs.DeskRows.{Makes, with_row};
 ghost use Rattle.agv_schema.specs.SchemaNumbers.{schema_number};
 
@@ -22,7 +22,8 @@ use agv_world::{ByName, ByVehicle, TripRow, VehicleRow, World};
 use sqlite::types::{ToSql, ValueRef};
 use sqlite::{Alter, Error, Transaction};
 
-/// The open trips stand as journeys and acts, each vehicle has a row of its room, and `meta` has the number of the second schema.
+/// The open trips stand as journeys and acts, each vehicle has a row of its capacity, and `meta` has the number of the
+/// second schema.
 pub(crate) fn move_rows<S: Alter>(tx: &mut Transaction<'_, S>, tables: &World) -> Result<(), Error>
     ensures same_reference { tx.new.conn.ghost_name ≡ tx.old.conn.ghost_name }
     ensures survives { Survives (state S.Store tx.old.conn.now) (state S.Store tx.new.conn.now) (λ _. ⊥) }
@@ -32,7 +33,7 @@ pub(crate) fn move_rows<S: Alter>(tx: &mut Transaction<'_, S>, tables: &World) -
 {
     empty_trips(tx)?;
     number_anew(tx)?;
-    add_rooms(tx, &tables.vehicles)?;
+    add_capacities(tx, &tables.vehicles)?;
     add_trips(tx, &tables.trips)
 }
 
@@ -91,8 +92,8 @@ fn number_values() -> [ValueRef<'static>; 2]
     [1u32.to_sql(), 2u32.to_sql()]
 }
 
-// Adds the room of each vehicle.
-fn add_rooms<S: Alter>(
+// Adds the capacity of each vehicle.
+fn add_capacities<S: Alter>(
     tx: &mut Transaction<'_, S>,
     vehicles: &ByVehicle<VehicleRow>,
 ) -> Result<(), Error>
@@ -100,16 +101,16 @@ fn add_rooms<S: Alter>(
     ensures survives { Survives (state S.Store tx.old.conn.now) (state S.Store tx.new.conn.now) (λ _. ⊥) }
     ensures kept { HasCleanDisk (state S.Store tx.new.conn.now) → KeepsCommit (state S.Store tx.old.conn.now) (state S.Store tx.new.conn.now) }
     ensures made { HasCleanDisk (state S.Store tx.new.conn.now) → IsTrue (state S.Store tx.old.conn.now).in_transaction
-        → OnOk result (Makes (for_each with_room (finite.entries vehicles.now)) (state S.Store tx.old.conn.now) (state S.Store tx.new.conn.now)) }
+        → OnOk result (Makes (for_each with_vehicle_capacity (finite.entries vehicles.now)) (state S.Store tx.old.conn.now) (state S.Store tx.new.conn.now)) }
 {
     for (key, vehicle) in vehicles.iter() {
-        add_room(tx, key, vehicle)?;
+        add_capacity(tx, key, vehicle)?;
     }
     Ok(())
 }
 
-// Adds the room of a vehicle.
-fn add_room<S: Alter>(
+// Adds the capacity of a vehicle.
+fn add_capacity<S: Alter>(
     tx: &mut Transaction<'_, S>,
     key: &VehicleKey,
     vehicle: &VehicleRow,
@@ -118,7 +119,7 @@ fn add_room<S: Alter>(
     ensures survives { Survives (state S.Store tx.old.conn.now) (state S.Store tx.new.conn.now) (λ _. ⊥) }
     ensures kept { HasCleanDisk (state S.Store tx.new.conn.now) → KeepsCommit (state S.Store tx.old.conn.now) (state S.Store tx.new.conn.now) }
     ensures made { HasCleanDisk (state S.Store tx.new.conn.now)
-        → OnOk result (Makes (with_row the.Capacity (room_columns key.now vehicle.now)) (state S.Store tx.old.conn.now) (state S.Store tx.new.conn.now)) }
+        → OnOk result (Makes (with_row the.Capacity (vehicle_capacity_columns key.now vehicle.now)) (state S.Store tx.old.conn.now) (state S.Store tx.new.conn.now)) }
 {
     insert_row(tx, WorldTable::Capacity, &capacity_values(key, vehicle))
 }

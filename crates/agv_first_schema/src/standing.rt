@@ -4,15 +4,15 @@ ghost use Rattle.agv_first_schema.specs.FirstFound.{FirstTablesStand};
 
 use agv_creation::desk_tables::NAMES;
 use agv_creation::standing_tables::stand_by;
-use agv_creation::table_room::{are_apart, are_unreferred};
 use agv_creation::table_texts::{creation_texts, texts_define_the_tables};
+use agv_creation::tables_beside::{are_apart, are_unreferred};
 use agv_header::Memory;
 use sqlite_schema::schema::Schema;
 use std::alloc::Global;
 
-/// Whether the eleven tables of the first schema stand in a database, in whatever trees: each with just its columns and keys and
-/// no rule more, no foreign key referring to one of them, and no two tables of the database in one tree. Tables of other names,
-/// views and plain indexes may stand beside them.
+/// Whether the eleven tables of the first schema stand in a database, in whatever trees: each with just its columns and
+/// keys and no rule more, no foreign key referring to one of them, and no two tables of the database in one tree. Tables of
+/// other names, views and plain indexes may stand beside them.
 ///
 /// # Errors
 /// [`Memory`] when out of memory.

@@ -11,8 +11,8 @@ use crate::row_moving::move_rows;
 use agv_creation::MakingFault;
 use agv_creation::desk_tables::is_any_used;
 use agv_creation::step_running::run_text;
-use agv_creation::table_room::are_unreferred;
 use agv_creation::table_texts::{ACT, CAPACITY, JOURNEY};
+use agv_creation::tables_beside::are_unreferred;
 use agv_trip_rows::row_laws::rows_have_keys;
 use agv_world::World;
 use sqlite::{Alter, Connection, Error, Transaction};
@@ -30,11 +30,11 @@ pub fn can_be_added(schema: &Schema) -> bool
 }
 
 /// Moves a database of the first schema to the second in one transaction, where it has the rows of a world, of which these
-/// are the tables in memory: it makes the tables `capacity`, `journey` and `act`, gives each vehicle a row of its room for
-/// loads, writes each open trip as a journey with its acts, empties `trip`, and sets the number of the schema. Where it
+/// are the tables in memory: it makes the tables `capacity`, `journey` and `act`, gives each vehicle a row of its capacity,
+/// writes each open trip as a journey with its acts, empties `trip`, and sets the number of the schema. Where it
 /// succeeds all of it is committed, the fourteen tables have the rows of that world, every other table has the rows that it
-/// had, and the store was open and is; after an error that leaves the store open nothing is; a store that was shut stays shut; and
-/// a crash leaves none of it or all.
+/// had, and the store was open and is; after an error that leaves the store open nothing is; a store that was closed stays
+/// closed; and a crash leaves none of it or all.
 ///
 /// # Errors
 /// [`MakingFault::Taken`] where the three tables can't be made beside what the database has ([`can_be_added`]), and only

@@ -115,7 +115,7 @@ fn tables_in_lists(alloc: Global, lists: &[Vec<Row>]) -> Result<World, ReadingFa
     })
 }
 
-// The vehicles that these rows tell, each with room for one load.
+// The vehicles that these rows tell, each with capacity 1.
 fn first_vehicles_in_rows(
     alloc: Global,
     rows: &[Row],

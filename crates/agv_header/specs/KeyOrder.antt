@@ -14,7 +14,8 @@ pub key_cmp-total : IsTotalOrder key_cmp
 key_cmp-total =
     then_total (on_total (λ (key : VehicleKey). key.manufacturer) nat_list_cmp_total) (on_total (λ (key : VehicleKey). key.serial) nat_list_cmp_total)
 
-both_equal : (a b : Ordering) → ordering_then a b ≡ Equal → (a ≡ Equal) × (b ≡ Equal)
+-- where the first decides, and then the second, only what ties in both ties
+pub both_equal : (a b : Ordering) → ordering_then a b ≡ Equal → (a ≡ Equal) × (b ≡ Equal)
 both_equal Less b e = cc
 both_equal Equal b e = (refl, e)
 both_equal Greater b e = cc

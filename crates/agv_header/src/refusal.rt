@@ -30,21 +30,21 @@ impl Verb {
     }
 }
 
-/// Why the desk refuses a request. The numbers stay as they are for good.
+/// Why the desk refuses a request. The numbers never change.
 #[derive(Clone, Copy, Debug, PartialEq, Eq)]
 pub enum Refusal {
     // The face of HTTP; each of the first four ends the stream.
     /// The head of the request can't be read.
     BadHead,
-    /// A PUT or POST that doesn't say its length.
+    /// A PUT or POST without Content-Length.
     NoLength,
     /// A body of more than 65,536 bytes.
     TooLarge,
-    /// A body that is sent in a transfer coding.
+    /// A body with a transfer coding.
     Coding,
     /// No such path.
     NoPath,
-    /// The path is served by another method alone, `allow`.
+    /// The path has only the method `allow`.
     BadMethod { allow: Verb },
 
     // The body.
@@ -56,11 +56,11 @@ pub enum Refusal {
     Position,
     /// A member is missing or of the wrong kind.
     BadBody,
-    /// The body isn't the table that it should be.
+    /// The body isn't the CSV table that the call takes.
     BadCsv,
     /// A message of another major version than 2.
     Version,
-    /// A timestamp that is none.
+    /// A timestamp that can't be read, or is not from 1970 to 2099.
     BadTimestamp,
     /// A message of another vehicle than the path names.
     WrongVehicle,
@@ -79,7 +79,7 @@ pub enum Refusal {
     Exists,
     /// The layout is set already.
     LayoutSet,
-    /// The rows are no layout.
+    /// The rows are not a valid layout.
     LayoutBad,
     /// The vehicle `by` holds the node or edge `what`.
     Held { what: Thing, by: VehicleKey },
@@ -95,7 +95,7 @@ pub enum Refusal {
     Busy,
     /// The vehicle stands between two nodes.
     Astray,
-    /// The loads on the vehicle and the jobs of the order are more than it has room for.
+    /// The loads on the vehicle and the order's jobs are more than it has room for.
     Loaded,
     /// The vehicle isn't ready.
     NotReady,
@@ -121,7 +121,7 @@ pub enum Refusal {
     Limit,
     /// The vehicle reports an order of this name.
     OrderKnown,
-    /// No stops, or some job's pick doesn't stand once with its drop once after it.
+    /// No stops, or a job without exactly one pick and, after it, one drop.
     BadStops,
 
     // Reported states.

@@ -1,4 +1,4 @@
--- Answers byte by byte: how long heads and bodies are, that an answer fits in the room for it, and what holds at the end of each ladder of refusals.
+-- Answers byte by byte: how long heads and bodies are, that an answer fits in the buffer for it, and what holds at the end of each ladder of refusals.
 pub mod Escapes
 pub mod Fitting
 pub mod Ladders

@@ -37,8 +37,8 @@ fn check_put(
     check_bytes(rt, &out, whole.as_str());
 }
 
-/// Writes the answer alone, then behind another where there is just enough room, where there is a byte too little, and where there is
-/// none.
+/// Writes the answer alone, then behind another where there is just enough room, where there is a byte too little, and
+/// where there is none.
 fn check_written(
     rt: &impl Abort,
     alloc: Global,

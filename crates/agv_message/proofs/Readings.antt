@@ -46,13 +46,13 @@ use Rattle.agv_message.proofs.Written.{depth-instant_data, depth-order_data, has
 -- ---- a text, a number and a truth value
 
 pub text-readable : (s : List ℕ) → IsUtf8 s → IsReadable (text s)
-text-readable s u = record { utf8 = IsUtf8-quoted s u; numbers = tt; same = refl }
+text-readable s u = record { utf8 = IsUtf8-quoted s u; numbers = tt; reads_back = refl }
 
 pub whole-readable : (n : ℕ) → n < 2 ^ 64 → IsReadable (whole n)
-whole-readable n h = record { utf8 = IsUtf8-from_ascii (decimal n) (IsAscii-decimal n h); numbers = IsNumber-decimal n h; same = ap (option_map number) (number_of-decimal n h) }
+whole-readable n h = record { utf8 = IsUtf8-from_ascii (decimal n) (IsAscii-decimal n h); numbers = IsNumber-decimal n h; reads_back = ap (option_map number) (number_of-decimal n h) }
 
 pub truth-readable : (b : Bool) → IsReadable (truth b)
-truth-readable b = record { utf8 = IsUtf8-boolean b; numbers = tt; same = refl }
+truth-readable b = record { utf8 = IsUtf8-boolean b; numbers = tt; reads_back = refl }
 
 plain-readable : (s : List ℕ) → are_ascii s ≡ true → IsReadable (text s)
 plain-readable s h = text-readable s (IsUtf8-are_ascii s h)
@@ -90,14 +90,14 @@ items-numbers (d ∷ ds) h = ((All-head IsReadable d ds h).numbers, items-number
 items-same : (ds : List Data) → All IsReadable ds → of_items (items_outline (items_of ds)) ≡ Some (items_of ds)
 items-same [] h = refl
 items-same (d ∷ ds) h =
-    ap (option_and_then (λ (e : Data). option_map (item e) (of_items (items_outline (items_of ds))))) (All-head IsReadable d ds h).same
+    ap (option_and_then (λ (e : Data). option_map (item e) (of_items (items_outline (items_of ds))))) (All-head IsReadable d ds h).reads_back
     ∙ ap (option_map (item d)) (items-same ds (All-tail IsReadable d ds h))
 
 pub list-readable : (ds : List Data) → All IsReadable ds → IsReadable (list ds)
 list-readable ds h = record {
   utf8 = IsUtf8-append (91 ∷ []) (items_text false (items_of ds)) (IsUtf8-are_ascii (91 ∷ []) refl) (items-utf8 false ds h);
   numbers = items-numbers ds h;
-  same = ap (option_map array) (items-same ds h);
+  reads_back = ap (option_map array) (items-same ds h);
 }
 
 -- an array of what is made of each
@@ -139,14 +139,14 @@ put_all (f ∷ fs) found = put_all fs (put f.0 f.1 found)
 members-same : (fs : List Field) (found : Members) → AreReadable fs → of_members (members_outline (in_order fs)) found ≡ Some (put_all fs found)
 members-same [] found h = refl
 members-same (f ∷ fs) found h =
-    ap (option_and_then (λ (d : Data). of_members (members_outline (in_order fs)) (put f.0 d found))) h.0.1.same
+    ap (option_and_then (λ (d : Data). of_members (members_outline (in_order fs)) (put f.0 d found))) h.0.1.reads_back
     ∙ members-same fs (put f.0 f.1 found) h.1
 
 pub object-readable : (fs : List Field) → AreReadable fs → put_all fs no_members ≡ in_order fs → IsReadable (object_of fs)
 object-readable fs h sorted = record {
   utf8 = IsUtf8-append (123 ∷ []) (members_text false (in_order fs)) (IsUtf8-are_ascii (123 ∷ []) refl) (members-utf8 false fs h);
   numbers = members-numbers fs h;
-  same = ap (option_map object) (members-same fs no_members h ∙ ap Some sorted);
+  reads_back = ap (option_map object) (members-same fs no_members h ∙ ap Some sorted);
 }
 
 -- ---- a body
@@ -175,7 +175,7 @@ text-read d h shallow =
     let within : tree.depth (outline d) ≤ 127 = omega (arith, depth-outline d) in
     ap (λ (ts : List Token). option_and_then of_json (option_and_then (λ p. if_last p.0 p.1) (value max_depth ts))) printed
     ∙ ap (λ o. option_and_then of_json (option_and_then (λ p. if_last p.0 p.1) o)) (value-json_tokens (outline d) 127 [] within)
-    ∙ h.same
+    ∙ h.reads_back
 
 -- a value that is readable, not too deep and without fractions, is what its text is read as
 pub body-back : (d : Data) → IsReadable d → depth d ≤ 127 → has_float d ≡ false → body_of (compact_text d) ≡ Ok d

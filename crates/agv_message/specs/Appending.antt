@@ -4,14 +4,14 @@ use Rattle.std.specs.Borrow.{Bor}
 use Rattle.std.specs.declared.alloc.Global.{Global}
 use Rattle.agv_header.specs.declared.memory.Memory.{Memory}
 
--- the text was appended, or a part of it where memory was refused; where it fits, it was; the room has not shrunk
+-- the text was appended, or a part of it where memory was refused; where it fits, it was; the reserved memory has not shrunk
 pub record Appended (result : Result (Unit {0}) Memory) (old new : Vec ℕ Global) (text : List ℕ) : Type 0 where
   pub whole : OnOk result (new.items ≡ old.items ++ text)
   pub part : (more : List ℕ) × (new.items ≡ old.items ++ more)
   pub fits : vec_len old + length text ≤ vec_capacity old → IsOk result
   pub grown : vec_capacity old ≤ vec_capacity new
 
--- the text was appended, and the room has not shrunk; no public clause cites this
+-- the text was appended, and the reserved memory has not shrunk; no public clause cites this
 abbrev pub SoFar : Vec ℕ Global → Vec ℕ Global → List ℕ → Type 0
 SoFar old new text = (new.items ≡ old.items ++ text) × (vec_capacity old ≤ vec_capacity new)
 

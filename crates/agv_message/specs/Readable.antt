@@ -16,7 +16,7 @@ use Rattle.agv_message.specs.declared.piece.Piece.TheVariants as piece
 pub record IsReadable (d : Data) : Type 0 where
   pub utf8 : IsUtf8 (compact_text d)
   pub numbers : HasNumbers (outline d)
-  pub same : of_json (outline d) ≡ Some d
+  pub reads_back : of_json (outline d) ≡ Some d
 
 -- so is the value that the piece is, if it is a text or a number
 abbrev pub PieceIsReadable : Piece → Type 0

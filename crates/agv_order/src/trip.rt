@@ -13,7 +13,7 @@ use agv_message::Sequence;
 /// base of the order: the vehicle may drive there. The others are its horizon (VDA 5050 2.0, order).
 #[derive(Debug, Drop, PartialEq, Eq)]
 pub struct Trip {
-    /// The order's name (`orderId`), which is used once for good.
+    /// The order's name (`orderId`), which is used only once.
     pub order: Name,
     /// The vehicle that carries it out.
     pub vehicle: VehicleKey,
@@ -33,7 +33,8 @@ pub struct Trip {
     pub confirmed: Option<u32>,
     /// The place of the last node that the vehicle has reported, half of `lastNodeSequenceId`.
     pub seen: u32,
-    /// What is done on the way (the `actions` of nodes), in this order: of a well-formed trip two acts for each of one to four jobs.
+    /// What is done on the way (the `actions` of nodes), in this order: of a well-formed trip two acts for each of one to
+    /// four jobs.
     pub acts: Sequence<Act>,
 }
 

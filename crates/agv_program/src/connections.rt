@@ -85,9 +85,8 @@ fn serve_connections<S: Alter + Drop>(
     Ok(())
 }
 
-/// Accepts one connection, and serves its requests at the moment at which it is accepted. It ends where for
-/// `MAX_WAIT_SECONDS` nothing comes from its client, or the system takes nothing more of an answer to it: that is a fault of
-/// the connection.
+/// Accepts one connection, and serves its requests at the moment at which it is accepted. It ends if for `MAX_WAIT_SECONDS`
+/// nothing comes from its client, or the system takes nothing more of an answer to it: that is a fault of the connection.
 pub fn serve_next<S: Alter + Drop>(
     rt: &HostRuntime,
     alloc: Global,

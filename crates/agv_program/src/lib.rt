@@ -1,11 +1,11 @@
-//! What the program does with its line, as a library: whoever has a line of `agv_command_line` can have it carried out.
+//! What the program does, as a library: it runs a line of `agv_command_line`.
 //!
 //! [`run_line`] carries a line out over a reader of its input, a writer of its output and one of its faults, and gives the
 //! exit status. What comes of a replay in memory, and of any line's end, is `specs/Runs.antt`.
 //!
-//! - `run` opens the file or the memory that a line names, and hands the connection on.
+//! - `run` opens the file or the database in memory that a line names, and passes the connection on.
 //! - `desks` has what is done over any store: a desk is opened in it, and the requests of a stream are answered, a report is
-//!   printed, or a file of the first schema is moved to the second.
+//!   printed, or a file of the first schema is migrated to the second.
 //! - `connections` listens on a port and serves one connection after another ([`serve_next`]).
 //! - `outcome` says how a run ends ([`RunFault`]), and what is said where there is no line to carry out ([`NoLine`]).
 #![tactic(auto)]

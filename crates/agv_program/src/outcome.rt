@@ -1,4 +1,4 @@
-//! How a run of the program ends, and what it says where it has no line to carry out.
+//! How a run of the program ends, and what it prints if the arguments are not accepted.
 ghost use Rattle.std.specs.Prelude.{◌≡◌};
 ghost use Rattle.agv_program.specs.Runs.{end_by, end_of, fault_line, opening_fault, said_of, status_without};
 
@@ -9,7 +9,7 @@ use agv_store::OpenFault;
 use clap::Error;
 use std::{error, fmt};
 
-/// Why a run came to no end, as the program says it.
+/// Why a run failed, as the program prints it.
 #[derive(Clone, Copy, Debug, PartialEq, Eq, thiserror::Error)]
 pub enum RunFault {
     /// The file has no tables of a desk, or what they have breaks a rule of the desk.
@@ -27,10 +27,10 @@ pub enum RunFault {
     /// Standard output can't be written.
     #[error("standard output can't be written")]
     Write,
-    /// The port can't be listened on, or a connection can't be had.
+    /// The port can't be listened on, or a connection can't be accepted.
     #[error("the port can't be listened on, or a connection can't be had")]
     Net,
-    /// The clock shows no moment from 1970 to 2099.
+    /// The clock is not between 1970 and 2099.
     #[error("the clock shows no moment from 1970 to 2099")]
     Clock,
 }
@@ -69,19 +69,19 @@ impl From<OpenFault> for RunFault {
     }
 }
 
-/// Why there is no line to carry out. It is shown as the text that goes to standard error.
+/// Why the arguments are not accepted, as the text that is printed to standard error.
 #[derive(Debug, Drop)]
 pub enum NoLine {
-    /// The words are refused, or ask for help; the error is the text.
+    /// The arguments are wrong, or ask for help; the error is the text.
     Refused(Error),
-    /// A word is no text.
+    /// An argument is not UTF-8.
     NotText,
     /// Out of memory.
     Memory,
 }
 
 impl NoLine {
-    /// The exit status: 2 where the words are refused, 1 when out of memory.
+    /// The exit status: 2 if the arguments are wrong, 1 if out of memory.
     pub fn status(&self) -> u8
         ensures { result ≡ status_without self.now }
     {

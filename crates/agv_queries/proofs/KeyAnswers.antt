@@ -20,7 +20,7 @@ use Rattle.agv_world.specs.Worlds.{World}
 use Rattle.agv_world.specs.declared.key.UseKey.{UseKey}
 use Rattle.agv_world.specs.declared.row.JobRow.{JobRow}
 use Rattle.agv_world.specs.declared.row.VehicleRow.{VehicleRow}
-use Rattle.agv_rows.specs.Columns.{capacity_in, edge_columns, edge_in, hold_columns, hold_in, job_columns, job_in, load_columns, load_in, node_columns, room_columns, station_columns, station_in, used_columns, vehicle_columns, vehicle_in}
+use Rattle.agv_rows.specs.Columns.{capacity_in, edge_columns, edge_in, hold_columns, hold_in, job_columns, job_in, load_columns, load_in, node_columns, vehicle_capacity_columns, station_columns, station_in, used_columns, vehicle_columns, vehicle_in}
 use Rattle.agv_schema.specs.DeskRows.{rows_of_key, table_for}
 use Rattle.agv_row_reading.specs.FirstRow.{first_in, value_of}
 use Rattle.agv_rows.specs.RowKeys.{hold_key, name_key, vehicle_key}
@@ -78,29 +78,29 @@ tested rows row false h = ap (λ n. not (n == 0)) (length_permutation _ _ h)
 
 -- ---- the queries
 
--- the vehicle as if it had room for one load, and its room
+-- the vehicle as if its capacity was 1, and its capacity
 abbrev single : VehicleRow → VehicleRow
 single row = record row { capacity = 1 }
 
-abbrev room_for : VehicleRow → CapacityRow
-room_for row = record { capacity = row.capacity }
+abbrev capacity_row_of : VehicleRow → CapacityRow
+capacity_row_of row = record { capacity = row.capacity }
 
 -- both are there, or neither is
 pub neither : (o : Option VehicleRow) → None ≡ option_map single o → None ≡ o
 neither None none = refl
 neither (Some row) none = absurd (cc none)
 
-pub not_one : (o : Option VehicleRow) (vehicle : VehicleRow) → Some vehicle ≡ option_map single o → ¬ (None ≡ option_map room_for o)
+pub not_one : (o : Option VehicleRow) (vehicle : VehicleRow) → Some vehicle ≡ option_map single o → ¬ (None ≡ option_map capacity_row_of o)
 not_one None vehicle one none = cc one
 not_one (Some row) vehicle one none = cc none
 
 -- and both are the row
-pub joined : (o : Option VehicleRow) (vehicle : VehicleRow) (room : CapacityRow) → Some vehicle ≡ option_map single o → Some room ≡ option_map room_for o → Some (record vehicle { capacity = room.capacity }) ≡ o
+pub joined : (o : Option VehicleRow) (vehicle : VehicleRow) (room : CapacityRow) → Some vehicle ≡ option_map single o → Some room ≡ option_map capacity_row_of o → Some (record vehicle { capacity = room.capacity }) ≡ o
 joined None vehicle room one two = absurd (cc one)
 joined (Some row) vehicle room one two =
     let same : vehicle ≡ single row = same_Some _ _ one in
-    let same_room : room ≡ room_for row = same_Some _ _ two in
-    ap₂ (λ (v : VehicleRow) (r : CapacityRow). Some (record v { capacity = r.capacity })) same same_room
+    let same_capacity : room ≡ capacity_row_of row = same_Some _ _ two in
+    ap₂ (λ (v : VehicleRow) (r : CapacityRow). Some (record v { capacity = r.capacity })) same same_capacity
 
 -- the key of what is held is of the kinds of its columns
 pub fits_hold : (thing : Thing) → FitsColumns the.Hold (table_for the.Hold).primary (hold_key thing)
@@ -138,19 +138,19 @@ module _ (world : World) (lawful : IsLawful desk_seats world) where
       tells_it edge_in (edge_columns id) id (finite.get world.layout.edges id) (λ ends at. edge_kept id ends (edge_named world lawful id ends at) (ends_value world lawful id ends at))
       (rows_of_key the.Edge key lists) rows (ap (λ k. rows_of_key the.Edge k lists) is ∙ edge_shown lists (rows_of world) its_own id) shown
 
-  -- its row, as if it had room for one load
+  -- its row, as if its capacity was 1
   pub tells_vehicle : (id : VehicleKey) (key : Row) → key ≡ vehicle_key id → (rows : List Row) → IsPermutation (rows_of_key the.Vehicle key lists) rows
       → (r : Result (Option VehicleRow) ReadingFault) → r ≡ first_in vehicle_in rows → Follows r (λ row. row ≡ option_map single (row_of world id))
   tells_vehicle id key is rows shown =
       tells_part vehicle_in (vehicle_columns id) id single (row_of world id) (λ row at. let its = vehicle_value world lawful id row at in vehicle_kept id row its.0 its.1)
       (rows_of_key the.Vehicle key lists) rows (ap (λ k. rows_of_key the.Vehicle k lists) is ∙ vehicle_shown lists (rows_of world) its_own id ∙ ap (row_if (vehicle_columns id)) (row_at world id)) shown
 
-  -- its room
+  -- its capacity
   pub tells_capacity : (id : VehicleKey) (key : Row) → key ≡ vehicle_key id → (rows : List Row) → IsPermutation (rows_of_key the.Capacity key lists) rows
-      → (r : Result (Option CapacityRow) ReadingFault) → r ≡ first_in capacity_in rows → Follows r (λ room. room ≡ option_map room_for (row_of world id))
+      → (r : Result (Option CapacityRow) ReadingFault) → r ≡ first_in capacity_in rows → Follows r (λ room. room ≡ option_map capacity_row_of (row_of world id))
   tells_capacity id key is rows shown =
-      tells_part capacity_in (room_columns id) id room_for (row_of world id) (λ row at. let its = vehicle_value world lawful id row at in capacity_kept id (room_for row) its.0 its.1.capacity)
-      (rows_of_key the.Capacity key lists) rows (ap (λ k. rows_of_key the.Capacity k lists) is ∙ capacity_shown lists (rows_of world) its_own id ∙ ap (row_if (room_columns id)) (row_at world id)) shown
+      tells_part capacity_in (vehicle_capacity_columns id) id capacity_row_of (row_of world id) (λ row at. let its = vehicle_value world lawful id row at in capacity_kept id (capacity_row_of row) its.0 its.1.capacity)
+      (rows_of_key the.Capacity key lists) rows (ap (λ k. rows_of_key the.Capacity k lists) is ∙ capacity_shown lists (rows_of world) its_own id ∙ ap (row_if (vehicle_capacity_columns id)) (row_at world id)) shown
 
   pub tells_holder : (thing : Thing) → IsThing thing → (key : Row) → key ≡ hold_key thing → (rows : List Row) → IsPermutation (rows_of_key the.Hold key lists) rows
       → (r : Result (Option VehicleKey) ReadingFault) → r ≡ first_in hold_in rows → Follows r (λ holder. holder ≡ holder_of world thing)

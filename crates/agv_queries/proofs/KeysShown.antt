@@ -18,7 +18,7 @@ use Rattle.agv_world.specs.Rows.{Rows}
 use Rattle.agv_world.specs.declared.key.LegKey.{LegKey}
 use Rattle.agv_world.specs.declared.key.UseKey.{UseKey}
 use Rattle.agv_rows.specs.ValueEncodings.{number_cell}
-use Rattle.agv_rows.specs.Columns.{meta_columns, node_columns, edge_columns, station_columns, vehicle_columns, room_columns, journey_columns, act_columns, leg_columns, load_columns, job_columns, hold_columns, used_columns}
+use Rattle.agv_rows.specs.Columns.{meta_columns, node_columns, edge_columns, station_columns, vehicle_columns, vehicle_capacity_columns, journey_columns, act_columns, leg_columns, load_columns, job_columns, hold_columns, used_columns}
 use Rattle.agv_schema.specs.DeskRows.{has_key, rows_of_key, table_at}
 use Rattle.agv_rows.specs.RowKeys.{name_key, vehicle_key, leg_key, hold_key}
 use Rattle.agv_rows.specs.RowLists.{ShowAll, TellRows, marked, row_if, row_lists, rows_for, rows_in}
@@ -78,10 +78,10 @@ module _ (lists : List (List Row)) (rows : Rows) (told : TellRows lists rows) wh
   vehicle_shown key =
       shown key_cmp-total key_cmp-IsAntisymmetric vehicle_columns (λ k. has_key the.Vehicle (vehicle_key k)) vehicle_tested rows.vehicles (table_at 4 lists) key (alike_at 4 lists (row_lists rows) told)
 
-  pub capacity_shown : (key : VehicleKey) → rows_of_key the.Capacity (vehicle_key key) lists ≡ row_if (room_columns key) (get rows.vehicles key)
+  pub capacity_shown : (key : VehicleKey) → rows_of_key the.Capacity (vehicle_key key) lists ≡ row_if (vehicle_capacity_columns key) (get rows.vehicles key)
   unfolding row_lists
   capacity_shown key =
-      shown key_cmp-total key_cmp-IsAntisymmetric room_columns (λ k. has_key the.Capacity (vehicle_key k)) capacity_tested rows.vehicles (table_at 11 lists) key (alike_at 11 lists (row_lists rows) told)
+      shown key_cmp-total key_cmp-IsAntisymmetric vehicle_capacity_columns (λ k. has_key the.Capacity (vehicle_key k)) capacity_tested rows.vehicles (table_at 11 lists) key (alike_at 11 lists (row_lists rows) told)
 
   pub journey_shown : (order : List ℕ) → rows_of_key the.Journey (name_key order) lists ≡ row_if (journey_columns order) (get (journeys_of rows.trips) order)
   unfolding row_lists
@@ -128,7 +128,7 @@ module _ (lists : List (List Row)) (rows : Rows) (told : TellRows lists rows) wh
     jobs = rows-shown job_columns rows.jobs _ (alike_at 8 lists (row_lists rows) told);
     holds = rows-shown hold_columns rows.holds _ (alike_at 9 lists (row_lists rows) told);
     used = rows-shown (λ key nothing. used_columns key) (marked rows.used) _ (alike_at 10 lists (row_lists rows) told);
-    capacities = rows-shown room_columns rows.vehicles _ (alike_at 11 lists (row_lists rows) told);
+    capacities = rows-shown vehicle_capacity_columns rows.vehicles _ (alike_at 11 lists (row_lists rows) told);
     journeys = rows-shown journey_columns (journeys_of rows.trips) _ (alike_at 12 lists (row_lists rows) told);
     acts = rows-shown act_columns (acts_of rows.trips) _ (alike_at 13 lists (row_lists rows) told);
   }

@@ -19,7 +19,7 @@ use Rattle.agv_trip_rows.specs.TripRows.{acts_of, is_of, journeys_of}
 use Rattle.agv_trip_rows.specs.TripsTold.{act_told, acts_told, trip_told}
 use Rattle.agv_trip_rows.specs.declared.act_row.ActRow.{ActRow}
 use Rattle.agv_trip_rows.specs.declared.journey_row.JourneyRow.{JourneyRow}
-use Rattle.agv_world.specs.GoodOrder.{InGoodOrder}
+use Rattle.agv_world.specs.GoodOrder.{HasConsistentTrips}
 use Rattle.agv_world.specs.KeyOrders.{leg_cmp-IsAntisymmetric, leg_cmp-total}
 use Rattle.agv_world.specs.Keys.{leg_cmp}
 use Rattle.agv_world.specs.Lawful.{IsLawful}
@@ -233,7 +233,7 @@ pub all_of : {A : Type 0} (P Q : A → Type 0) → ((a : A) → P a → Q a) →
 all_of P Q so [] h = tt
 all_of P Q so (x ∷ xs) h = (so x h.0, all_of P Q so xs h.1)
 
-module _ (world : World) (lawful : IsLawful desk_seats world) (good : InGoodOrder world) (order : List ℕ) where
+module _ (world : World) (lawful : IsLawful desk_seats world) (good : HasConsistentTrips world) (order : List ℕ) where
   abbrev pub legs_there : finite.FinMap leg_cmp (List ℕ)
   legs_there = passing (is_of_order order) (rows_of world).legs
 

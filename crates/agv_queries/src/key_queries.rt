@@ -53,7 +53,7 @@ pub fn query_vehicle<S: Alter>(
     }
 }
 
-// The row of a vehicle, as if it had room for one load; none where there is no such vehicle.
+// The row of a vehicle, as if its capacity was 1; none where there is no such vehicle.
 fn query_vehicle_row<S: Alter>(
     conn: &mut Connection<S>,
     key: &VehicleKey,
@@ -64,7 +64,7 @@ fn query_vehicle_row<S: Alter>(
     vehicle_in_rows(rows.as_slice())
 }
 
-// The row of a vehicle that the rows of its key tell, as if it had room for one load.
+// The row of a vehicle that the rows of its key tell, as if its capacity was 1.
 fn vehicle_in_rows(rows: &[Row]) -> Result<Option<VehicleRow>, ReadingFault>
     ensures { result ≡ first_in vehicle_in rows.now }
 {
@@ -77,7 +77,7 @@ fn vehicle_in_rows(rows: &[Row]) -> Result<Option<VehicleRow>, ReadingFault>
     }
 }
 
-// The room of a vehicle; none where there is no such vehicle.
+// The capacity of a vehicle; none where there is no such vehicle.
 fn query_capacity<S: Alter>(
     conn: &mut Connection<S>,
     key: &VehicleKey,
@@ -88,7 +88,7 @@ fn query_capacity<S: Alter>(
     capacity_in_rows(rows.as_slice())
 }
 
-// The room of a vehicle that the rows of its key tell.
+// The capacity of a vehicle that the rows of its key tell.
 fn capacity_in_rows(rows: &[Row]) -> Result<Option<CapacityRow>, ReadingFault>
     ensures { result ≡ first_in capacity_in rows.now }
 {

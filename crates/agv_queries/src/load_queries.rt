@@ -1,7 +1,7 @@
 //! Queries of the tables about loads and live jobs: how many there are, the live job of a load, and the room of a station.
 //!
-//! Each answers what the lawful world says whose rows the tables have (`WorldAnswers.antt` of agv_row_reading), where a layout that
-//! is given is that of this world.
+//! Each answers what the lawful world says whose rows the tables have (`WorldAnswers.antt` of agv_row_reading), where a
+//! layout that is given is that of this world.
 ghost use Rattle.std.specs.Prelude.{◌≡◌, ◌&&◌, true, length, nat_eq, count_by, find};
 ghost use Rattle.std.specs.Cmp.Lexicographic.{pointwise};
 ghost use Rattle.std.specs.FinMap as map;

@@ -10,7 +10,7 @@ ghost use Rattle.agv_world.specs.declared.key.LegKey.{LegKey};
 ghost use Rattle.agv_world.specs.declared.key.UseKey.{UseKey};
 ghost use Rattle.agv_queries.specs.QueriedRows.{ShowAsked};
 ghost use Rattle.agv_rows.specs.ValueEncodings.{number_cell};
-ghost use Rattle.agv_rows.specs.Columns.{meta_columns, node_columns, edge_columns, station_columns, vehicle_columns, room_columns, journey_columns, act_columns, leg_columns, load_columns, job_columns, hold_columns, used_columns};
+ghost use Rattle.agv_rows.specs.Columns.{meta_columns, node_columns, edge_columns, station_columns, vehicle_columns, vehicle_capacity_columns, journey_columns, act_columns, leg_columns, load_columns, job_columns, hold_columns, used_columns};
 ghost use Rattle.agv_schema.specs.DeskRows.{rows_of_key};
 ghost use Rattle.agv_rows.specs.RowKeys.{name_key, vehicle_key, leg_key, hold_key};
 ghost use Rattle.agv_rows.specs.RowLists.{ShowAll, TellRows, row_if};
@@ -30,7 +30,7 @@ pub fn a_key_shows_its_row()
     ensures vehicle { (lists : List (List Row)) (rows : Rows) → TellRows lists rows → (key : VehicleKey)
         → rows_of_key the.Vehicle (vehicle_key key) lists ≡ row_if (vehicle_columns key) (finite.get rows.vehicles key) }
     ensures capacity { (lists : List (List Row)) (rows : Rows) → TellRows lists rows → (key : VehicleKey)
-        → rows_of_key the.Capacity (vehicle_key key) lists ≡ row_if (room_columns key) (finite.get rows.vehicles key) }
+        → rows_of_key the.Capacity (vehicle_key key) lists ≡ row_if (vehicle_capacity_columns key) (finite.get rows.vehicles key) }
     ensures journey { (lists : List (List Row)) (rows : Rows) → TellRows lists rows → (order : List ℕ)
         → rows_of_key the.Journey (name_key order) lists ≡ row_if (journey_columns order) (finite.get (journeys_of rows.trips) order) }
     ensures act { (lists : List (List Row)) (rows : Rows) → TellRows lists rows → (key : LegKey)

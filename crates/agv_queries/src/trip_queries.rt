@@ -29,7 +29,7 @@ use agv_rows::key_values::{name_key_values, vehicle_key_values};
 use agv_rows::trip_laws::rows_tell_trips;
 use agv_schema::rows_by::RowsBy;
 use agv_trip_rows::JourneyRow;
-use agv_world::lawful_laws::is_in_good_order;
+use agv_world::lawful_laws::has_consistent_trips;
 use sqlite::{Alter, Connection, Row};
 use std::alloc::Global;
 
@@ -149,7 +149,7 @@ fn query_way<S: Alter>(
 ) -> Result<Sequence<Edge>, ReadingFault>
     ensures { AnswersQuery S.Store conn.old conn.new result (λ world edges. AgreesWith known.now world → edges ≡ edges_of (tables_of (rows_of world)) order.now) }
 {
-    is_in_good_order();
+    has_consistent_trips();
     let rows = query_rows_by(conn, RowsBy::OrderLegs, &name_key_values(order))?;
     let legs = legs_in_rows(alloc, rows.as_slice())?;
     let mut edges = Vec::new(alloc);

@@ -1,5 +1,5 @@
 -- The report that an answer of the desk names, to the byte: the stock report, the hold report or the export of loads (this project's formats).
-use Rattle.std.specs.Prelude.{ℕ, ◌+◌, Bool, true, false, List, [], map}
+use Rattle.std.specs.Prelude.{ℕ, ◌+◌, Bool, List, [], map, Option, None, Some, is_some}
 use Rattle.std.specs.FinMap as finite
 use Rattle.std.specs.FinSet as set
 use Rattle.std.specs.Map.{keys_of}
@@ -11,6 +11,8 @@ use Rattle.agv_world.specs.Rows.{rows_of}
 use Rattle.agv_world.specs.Worlds.{World}
 use Rattle.agv_desk.specs.declared.answer.Answer.{Answer}
 use Rattle.agv_desk.specs.declared.answer.Answer.TheVariants as answer
+use Rattle.agv_reports.specs.declared.report.Report.{Report}
+use Rattle.agv_reports.specs.declared.report.Report.TheVariants as report
 
 -- a station with its name
 abbrev pub station_named : List ℕ × StationSite → Station
@@ -20,16 +22,28 @@ station_named site = record { id = site.0; node = site.1.node; capacity = site.1
 abbrev pub stations_told : World → List (Station × ℕ)
 stations_told world = map (λ (site : List ℕ × StationSite). (station_named site, reserved world site.0)) (finite.entries world.layout.stations)
 
--- the report that an answer names, of this world: the stock report, the hold report or the export
-abbrev pub report_of : World → Answer → List ℕ
-report_of world answer.StockReport = stock_text (stations_told world) (finite.entries world.places) (keys_of (finite.entries world.vehicles))
-report_of world answer.HoldReport = hold_text (finite.entries (rows_of world).holds) (set.len world.layout.nodes + finite.len world.layout.edges)
-report_of world answer.LoadsExport = loads_text (finite.entries world.places)
-report_of world _ = []
+-- the text of a report of this world
+abbrev pub report_text : World → Report → List ℕ
+report_text world report.Stock = stock_text (stations_told world) (finite.entries world.places) (keys_of (finite.entries world.vehicles))
+report_text world report.Holds = hold_text (finite.entries (rows_of world).holds) (set.len world.layout.nodes + finite.len world.layout.edges)
+report_text world report.Loads = loads_text (finite.entries world.places)
+
+-- the report that an answer names, if it names one
+abbrev pub report_named : Answer → Option Report
+report_named answer.StockReport = Some report.Stock
+report_named answer.HoldReport = Some report.Holds
+report_named answer.LoadsExport = Some report.Loads
+report_named _ = None
 
 -- the answer names a report
 abbrev pub names_report : Answer → Bool
-names_report answer.StockReport = true
-names_report answer.HoldReport = true
-names_report answer.LoadsExport = true
-names_report _ = false
+names_report told = is_some (report_named told)
+
+-- the text of a report, if there is one
+abbrev pub text_of : World → Option Report → List ℕ
+text_of world (Some report) = report_text world report
+text_of world None = []
+
+-- the text of the report that an answer names; empty where it names none
+abbrev pub report_of : World → Answer → List ℕ
+report_of world told = text_of world (report_named told)

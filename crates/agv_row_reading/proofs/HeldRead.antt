@@ -16,6 +16,7 @@ use Rattle.agv_row_reading.specs.declared.held_things.HeldThings.{HeldThings}
 use Rattle.agv_row_reading.specs.declared.reading_fault.ReadingFault.{ReadingFault}
 use Rattle.agv_row_reading.specs.declared.reading_fault.ReadingFault.TheVariants as fault
 use Rattle.agv_row_reading.proofs.Asking.{Follows}
+use Rattle.agv_row_reading.proofs.AskingAll.{IsNoStorage}
 use Rattle.agv_row_reading.proofs.TableReading.{added, no_entries}
 
 pub table_follows : (r : Result HeldThings ReadingFault) (says : Holds → Type 0) → Follows (table_read r) says → Follows r (λ held. says held.table)
@@ -27,6 +28,10 @@ table_follows (Err fault.Damaged) says h = h
 pub table_if_ok : (r : Result HeldThings ReadingFault) (says : Holds → Type 0) → IfOk (table_read r) says → IfOk r (λ held. says held.table)
 table_if_ok (Ok held) says h = h
 table_if_ok (Err why) says h = h
+
+pub table_no_storage : (r : Result HeldThings ReadingFault) → IsNoStorage (table_read r) → IsNoStorage r
+table_no_storage (Ok held) h = h
+table_no_storage (Err why) h = h
 
 -- ---- the list of what is held
 

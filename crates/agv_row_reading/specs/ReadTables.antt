@@ -56,6 +56,6 @@ abbrev pub table_read : Result HeldThings ReadingFault → Result Holds ReadingF
 table_read (Ok held) = Ok held.table
 table_read (Err why) = Err why
 
--- each of the rooms is that of a vehicle
+-- each of the capacities is that of a vehicle
 abbrev pub are_of_vehicles : FinMap key_cmp VehicleRow → FinMap key_cmp CapacityRow → Bool
-are_of_vehicles vehicles rooms = list_all (λ (room : VehicleKey × CapacityRow). is_some (get vehicles room.0)) (entries rooms)
+are_of_vehicles vehicles capacities = list_all (λ (room : VehicleKey × CapacityRow). is_some (get vehicles room.0)) (entries capacities)

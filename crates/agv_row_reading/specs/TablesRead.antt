@@ -1,7 +1,7 @@
 -- What is read of whole tables, whatever rows they have.
 use Rattle.std.specs.FinMap as finite
 use Rattle.std.specs.Ordering.{nat_cmp}
-use Rattle.std.specs.Prelude.{◌≡◌, ℕ, List, [], Result, IfOk, IsPermutation}
+use Rattle.std.specs.Prelude.{◌≡◌, ℕ, List, [], Result, IfErr, IfOk, IsPermutation}
 use Rattle.sqlite_trees.specs.declared.store.Store.{Ghosts}
 use Rattle.sqlite_value.specs.Order.{Row}
 use Rattle.sqlite.specs.Held.{Held, state}
@@ -10,12 +10,14 @@ use Rattle.agv_track.specs.Holds.{Holds as Holders}
 use Rattle.agv_trip_rows.specs.TripRows.{acts_of, journeys_of}
 use Rattle.agv_world.specs.Worlds.{World}
 use Rattle.agv_world.specs.declared.world.World.{World as Tables}
-use Rattle.agv_rows.specs.Columns.{act_columns, edge_columns, journey_columns, hold_columns, job_columns, leg_columns, load_columns, meta_columns, node_columns, room_columns, station_columns, used_columns, vehicle_columns}
+use Rattle.agv_rows.specs.Columns.{act_columns, edge_columns, journey_columns, hold_columns, job_columns, leg_columns, load_columns, meta_columns, node_columns, vehicle_capacity_columns, station_columns, used_columns, vehicle_columns}
+use Rattle.agv_schema.specs.Connections.{HasStorageCause}
 use Rattle.agv_schema.specs.DeskRows.{Placing, Holds, IsDesk, place_of, table_at}
 use Rattle.agv_rows.specs.RowLists.{rows_for, rows_in}
 use Rattle.agv_schema.specs.SchemaNumbers.{schema_number}
 use Rattle.agv_row_reading.specs.WorldAnswers.{AnswersQuery}
 use Rattle.agv_row_reading.specs.declared.reading_fault.ReadingFault.{ReadingFault}
+use Rattle.agv_row_reading.specs.declared.reading_fault.ReadingFault.TheVariants as fault
 use Rattle.agv_schema.specs.declared.table_name.TableName.TheVariants as the
 
 -- what is answered is so of the rows that the desk's tables have, whatever rows these are
@@ -24,6 +26,10 @@ Shows g old new result says =
     HasCleanDisk (state g new)
     → IfOk result (λ answer. (desk : Placing) → IsDesk desk → (lists : List (List Row)) → Holds desk (state g old).now lists → says lists answer)
 
+-- wherever the desk's tables stand, whatever rows they have, a fault of the store has a cause
+abbrev pub HasCauseOverTables : {S : Type 0} → Ghosts S → Held S → Held S → Type 0
+HasCauseOverTables g old new = (desk : Placing) → IsDesk desk → (state g old).now.schema ≡ desk.schema → HasStorageCause g old new
+
 module _ {S A : Type 0} (g : Ghosts S) (old new : Held S) (result : Result A ReadingFault) (says : World → A → Type 0) (shows : List (List Row) → A → Type 0) where
   -- how the reading of whole tables ends
   pub record TellsAll : Type 0 where
@@ -31,6 +37,8 @@ module _ {S A : Type 0} (g : Ghosts S) (old new : Held S) (result : Result A Rea
     pub tells : AnswersQuery g old new result says
     -- and whatever rows they have
     pub exact : Shows g old new result shows
+    -- a fault of the store comes only where the store failed, had been shut, or limits the steps of a query, whatever rows they have
+    pub caused : HasCleanDisk (state g new) → IfErr result (λ why. why ≡ fault.Storage → HasCauseOverTables g old new)
 
 -- the one row of `meta`: the number of the schema
 abbrev pub desk_meta : finite.FinMap nat_cmp ℕ
@@ -46,7 +54,7 @@ pub record HaveTables (lists : List (List Row)) (tables : Tables) : Type 0 where
   pub loads : IsPermutation (table_at (place_of the.Load) lists) (rows_in load_columns tables.loads)
   pub jobs : IsPermutation (table_at (place_of the.Job) lists) (rows_in job_columns tables.jobs)
   pub used : IsPermutation (table_at (place_of the.Used) lists) (rows_for used_columns tables.used)
-  pub capacities : IsPermutation (table_at (place_of the.Capacity) lists) (rows_in room_columns tables.vehicles)
+  pub capacities : IsPermutation (table_at (place_of the.Capacity) lists) (rows_in vehicle_capacity_columns tables.vehicles)
   pub journeys : IsPermutation (table_at (place_of the.Journey) lists) (rows_in journey_columns (journeys_of tables.trips))
   pub acts : IsPermutation (table_at (place_of the.Act) lists) (rows_in act_columns (acts_of tables.trips))
   -- the trips of the first schema are gone

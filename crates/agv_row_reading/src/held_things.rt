@@ -13,7 +13,7 @@ use agv_header::{Memory, Thing, VehicleKey};
 use agv_schema::schema_numbers::DESK_SEATS;
 use agv_track::hold_laws::tests_membership;
 use agv_track::{HoldTable, Standing, footprint};
-use agv_world::lawful_laws::is_in_good_order;
+use agv_world::lawful_laws::has_consistent_trips;
 use agv_world::laws::{holds_are_footprints, tables_tell_the_world};
 use agv_world::{ByVehicle, Floor, PlainFloor, VehicleRow, World};
 use std::alloc::Global;
@@ -36,7 +36,7 @@ impl HeldThings {
     pub fn are_footprints(&self, alloc: Global, tables: &World) -> Result<bool, Memory>
         ensures { IfOk result (λ are. (world : WorldOf) → Keeps tables.now world → IsLawful desk_seats world → IsTrue are ↔ (self.now.table ≡ (rows_of world).holds)) }
     {
-        is_in_good_order();
+        has_consistent_trips();
         holds_are_footprints();
         tables_tell_the_world();
         tests_membership();

@@ -1,4 +1,4 @@
-//! Why the desk's tables aren't read.
+//! Why the desk's tables can't be read.
 ghost use Rattle.std.specs.Prelude.{◌≡◌};
 ghost use Rattle.agv_row_reading.specs.ReadingFault.{reading_fault_of};
 
@@ -6,7 +6,7 @@ use agv_header::Memory;
 use sqlite::{Error, ErrorCode};
 use std::alloc::{AllocError, AllocFailed};
 
-/// Why the desk's tables aren't read.
+/// Why the desk's tables can't be read.
 ///
 /// Wherever these tables stand, whatever rows they have, a query that fails so and leaves the store open changes
 /// nothing, but that it may end the transaction and so undo it.
@@ -15,10 +15,10 @@ pub enum ReadingFault {
     /// Out of memory.
     #[error("out of memory")]
     Memory,
-    /// The store failed, or was shut by an earlier failure.
+    /// The store failed, or was closed by an earlier failure.
     #[error("the database failed")]
     Storage,
-    /// A row of a table tells no row of the world, or what it tells is told already or stands on a row that isn't there:
+    /// A row of a table is not valid, or contradicts another row or refers to one that doesn't exist:
     /// a key that another row has, a trip without its job or its edges. Tables that have the rows of a lawful world
     /// are never damaged.
     #[error("the rows of the desk's tables tell no world")]

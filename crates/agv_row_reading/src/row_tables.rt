@@ -85,7 +85,7 @@ pub fn has_vehicle(table: &ByVehicle<VehicleRow>, key: &VehicleKey) -> bool
     table.get(*key).is_some()
 }
 
-/// The table that these rows tell, where these are the rooms of vehicles.
+/// The table that these rows tell, where these are the capacities of vehicles.
 pub fn vehicles_in_rows(
     alloc: Global,
     rows: &[Row],
@@ -108,7 +108,7 @@ pub fn vehicles_in_rows(
     Ok(table)
 }
 
-// The vehicle that a row tells, with its room, if that is known.
+// The vehicle that a row tells, with its capacity, if that is known.
 fn vehicle_in_row(
     row: &Row,
     capacities: &ByVehicle<CapacityRow>,

@@ -25,7 +25,7 @@ use Rattle.agv_world.specs.declared.key.LegKey.{LegKey}
 use Rattle.agv_world.specs.declared.row.JobRow.{JobRow}
 use Rattle.agv_world.specs.declared.row.VehicleRow.{VehicleRow}
 use Rattle.agv_rows.specs.ValueEncodings.{number_cell, flag_cell, flag_in, phase_name, phase_in, status_in, instant_in, act_kind_in}
-use Rattle.agv_rows.specs.Columns.{meta_columns, edge_columns, station_columns, vehicle_columns, room_columns, journey_columns, act_columns, leg_columns, load_columns, job_columns, hold_columns}
+use Rattle.agv_rows.specs.Columns.{meta_columns, edge_columns, station_columns, vehicle_columns, vehicle_capacity_columns, journey_columns, act_columns, leg_columns, load_columns, job_columns, hold_columns}
 use Rattle.agv_rows.proofs.CellLemmas.{flag_kept, phase_kept, status_kept, instant_kept, act_kind_kept}
 
 -- ---- values
@@ -99,10 +99,10 @@ station_tells id a b e =
     let capacity = number a.capacity b.capacity (same_at _ _ 2 e) in
     λ i. record { node = node i; capacity = capacity i }
 
-pub room_tells : (key : VehicleKey) (a b : VehicleRow) → room_columns key a ≡ room_columns key b → a.capacity ≡ b.capacity
-room_tells key a b e = number a.capacity b.capacity (same_at _ _ 2 e)
+pub capacity_tells : (key : VehicleKey) (a b : VehicleRow) → vehicle_capacity_columns key a ≡ vehicle_capacity_columns key b → a.capacity ≡ b.capacity
+capacity_tells key a b e = number a.capacity b.capacity (same_at _ _ 2 e)
 
--- its room isn't there
+-- its capacity isn't there
 pub vehicle_tells : (key : VehicleKey) (a b : VehicleRow) → a.capacity ≡ b.capacity → vehicle_columns key a ≡ vehicle_columns key b → a ≡ b
 vehicle_tells key a b capacity e =
     let node : a.node ≡ b.node = text (same_at _ _ 2 e) in

@@ -30,7 +30,7 @@ use Rattle.agv_world.specs.declared.row.JobRow.{JobRow}
 use Rattle.agv_world.specs.declared.row.VehicleRow.{VehicleRow}
 use Rattle.agv_schema.proofs.Truths.{truth_of}
 use Rattle.agv_rows.specs.ValueEncodings.{number_cell, use_name}
-use Rattle.agv_rows.specs.Columns.{meta_columns, node_columns, edge_columns, station_columns, vehicle_columns, room_columns, journey_columns, act_columns, leg_columns, load_columns, job_columns, hold_columns, used_columns}
+use Rattle.agv_rows.specs.Columns.{meta_columns, node_columns, edge_columns, station_columns, vehicle_columns, vehicle_capacity_columns, journey_columns, act_columns, leg_columns, load_columns, job_columns, hold_columns, used_columns}
 use Rattle.agv_schema.specs.DeskRows.{has_columns, has_key, is_equal}
 use Rattle.agv_rows.specs.RowKeys.{name_key, vehicle_key, leg_key, hold_key}
 use Rattle.agv_schema.specs.RowTexts.{columns_deleted}
@@ -98,7 +98,7 @@ station_tested k q x = one_name k q
 pub vehicle_tested : (k q : VehicleKey) (x : VehicleRow) → has_key the.Vehicle (vehicle_key k) (vehicle_columns q x) ≡ eq_by_cmp key_cmp k q
 vehicle_tested k q x = both_tied _ _ (name_cmp k.manufacturer q.manufacturer) (name_cmp k.serial q.serial) (texts_equal k.manufacturer q.manufacturer) (one_name k.serial q.serial)
 
-pub capacity_tested : (k q : VehicleKey) (x : VehicleRow) → has_key the.Capacity (vehicle_key k) (room_columns q x) ≡ eq_by_cmp key_cmp k q
+pub capacity_tested : (k q : VehicleKey) (x : VehicleRow) → has_key the.Capacity (vehicle_key k) (vehicle_capacity_columns q x) ≡ eq_by_cmp key_cmp k q
 capacity_tested k q x = both_tied _ _ (name_cmp k.manufacturer q.manufacturer) (name_cmp k.serial q.serial) (texts_equal k.manufacturer q.manufacturer) (one_name k.serial q.serial)
 
 pub journey_tested : (k q : List ℕ) (x : JourneyRow) → has_key the.Journey (name_key k) (journey_columns q x) ≡ eq_by_cmp name_cmp k q

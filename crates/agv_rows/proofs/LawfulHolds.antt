@@ -17,7 +17,7 @@ use Rattle.agv_order.specs.Trips.{node_at}
 use Rattle.agv_order.specs.WellFormed.{IsEdgeOf}
 use Rattle.agv_order.specs.declared.trip.Trip.{Trip}
 use Rattle.agv_track.specs.Footprints.{along, footprint_of, from_node, once, rest_things, things_by}
-use Rattle.agv_world.specs.GoodOrder.{InGoodOrder}
+use Rattle.agv_world.specs.GoodOrder.{HasConsistentTrips}
 use Rattle.agv_world.specs.Lawful.{IsLawful}
 use Rattle.agv_world.specs.Rows.{hold_rows, rows_of, standing_of}
 use Rattle.agv_world.specs.Worlds.{Vehicle, World}
@@ -45,7 +45,7 @@ named_once (first ∷ things) are = (are.0, all-filter IsThing (λ (other : Thin
 
 -- ---- footprints
 
-module _ (world : World) (lawful : IsLawful desk_seats world) (good : InGoodOrder world) where
+module _ (world : World) (lawful : IsLawful desk_seats world) (good : HasConsistentTrips world) where
   named_along : (edges : List Edge) → AllByRecursion (IsEdgeOf world.layout) edges → AllByRecursion IsThing (along edges)
   named_along [] are = tt
   named_along (edge ∷ edges) are =

@@ -19,7 +19,7 @@ use Rattle.agv_trip_rows.specs.RowValues.{IsActKey, IsActValue, IsJourneyValue}
 use Rattle.agv_trip_rows.specs.TripRows.{journey_of, journeys_of}
 use Rattle.agv_trip_rows.specs.declared.act_row.ActRow.{ActRow}
 use Rattle.agv_trip_rows.specs.declared.journey_row.JourneyRow.{JourneyRow}
-use Rattle.agv_world.specs.GoodOrder.{InGoodOrder}
+use Rattle.agv_world.specs.GoodOrder.{HasConsistentTrips}
 use Rattle.agv_world.specs.KeyOrders.{leg_cmp-IsAntisymmetric, leg_cmp-total}
 use Rattle.agv_world.specs.Keys.{leg_cmp}
 use Rattle.agv_world.specs.Lawful.{IsLawful}
@@ -151,7 +151,7 @@ numbered_one P order n (edge ∷ edges) are q id is =
           (later.0, omega (arith, low), later.2, later.3, later.4)
     ] refl is
 
-leg_of : (world : World) (good : InGoodOrder world) (key : VehicleKey) (vehicle : Vehicle) (o : Option Trip) → vehicle.trip ≡ o → finite.get world.vehicles key ≡ Some vehicle → (q : LegKey) (id : List ℕ) → finite.find leg_cmp q (legs_of_trip o) ≡ Some id
+leg_of : (world : World) (good : HasConsistentTrips world) (key : VehicleKey) (vehicle : Vehicle) (o : Option Trip) → vehicle.trip ≡ o → finite.get world.vehicles key ≡ Some vehicle → (q : LegKey) (id : List ℕ) → finite.find leg_cmp q (legs_of_trip o) ≡ Some id
     → (trip : Trip) × (vehicle.trip ≡ Some trip) × (q.order ≡ trip.order) × (q.k ≤ length trip.edges) × (edge : Edge) × (edge.id ≡ id) × IsEdgeOf world.layout edge
 leg_of world good key vehicle None is at q id found = absurd (cc found)
 leg_of world good key vehicle (Some trip) is at q id found =
@@ -159,7 +159,7 @@ leg_of world good key vehicle (Some trip) is at q id found =
     let low : q.k ≤ 0 + length trip.edges = one.1 in
     (trip, is, one.0, omega (arith, low), one.2, one.3, one.4)
 
-module _ (world : World) (lawful : IsLawful desk_seats world) (good : InGoodOrder world) where
+module _ (world : World) (lawful : IsLawful desk_seats world) (good : HasConsistentTrips world) where
   -- the layout has the edge of each row, and the values of the row are in their ranges
   pub leg_value : (q : LegKey) (id : List ℕ) → finite.get (rows_of world).legs q ≡ Some id → IsLegKey q × IsName id × (ends : EdgeEnds) × (finite.get world.layout.edges id ≡ Some ends)
   leg_value q id at =

@@ -17,7 +17,7 @@ use Rattle.agv_world.specs.Rows.{Rows}
 use Rattle.agv_world.specs.declared.change.Change.{Change}
 use Rattle.agv_world.specs.declared.change.Change.TheVariants as row
 use Rattle.agv_world.specs.declared.row.TripRow.{TripRow}
-use Rattle.agv_rows.specs.Columns.{node_columns, edge_columns, station_columns, vehicle_columns, room_columns, journey_columns, act_columns, leg_columns, load_columns, job_columns, hold_columns, used_columns}
+use Rattle.agv_rows.specs.Columns.{node_columns, edge_columns, station_columns, vehicle_columns, vehicle_capacity_columns, journey_columns, act_columns, leg_columns, load_columns, job_columns, hold_columns, used_columns}
 use Rattle.agv_schema.specs.DeskRows.{on_table, table_at, place_of, has_columns, has_key, with_put, with_rows, without_key, without_rows}
 use Rattle.agv_rows.specs.RowKeys.{name_key, vehicle_key, leg_key, hold_key}
 use Rattle.agv_rows.specs.RowLists.{AreAlike, TellRows, row_lists, marked, rows_for, rows_in, rows_of_acts, listed, listed_all}
@@ -111,10 +111,10 @@ follows laws lists rows (row.Edge id ends) h = put-alike the.Edge (name_key id) 
     (row-written nat_list_cmp_total names_apart edge_columns (λ k. has_key the.Edge (name_key k)) edge_tested rows.edges (table_at 2 lists) id ends)
 follows laws lists rows (row.Station id site) h = put-alike the.Station (name_key id) (station_columns id site) _ lists (row_lists rows) h
     (row-written nat_list_cmp_total names_apart station_columns (λ k. has_key the.Station (name_key k)) station_tested rows.stations (table_at 3 lists) id site)
-follows laws lists rows (row.Vehicle key vehicle) h = put-alike the.Capacity (vehicle_key key) (room_columns key vehicle) _ _ _
+follows laws lists rows (row.Vehicle key vehicle) h = put-alike the.Capacity (vehicle_key key) (vehicle_capacity_columns key vehicle) _ _ _
     (put-alike the.Vehicle (vehicle_key key) (vehicle_columns key vehicle) _ lists (row_lists rows) h
     (row-written key_cmp-total key_cmp-IsAntisymmetric vehicle_columns (λ k. has_key the.Vehicle (vehicle_key k)) vehicle_tested rows.vehicles (table_at 4 lists) key vehicle))
-    (row-written key_cmp-total key_cmp-IsAntisymmetric room_columns (λ k. has_key the.Capacity (vehicle_key k)) capacity_tested rows.vehicles _ key vehicle)
+    (row-written key_cmp-total key_cmp-IsAntisymmetric vehicle_capacity_columns (λ k. has_key the.Capacity (vehicle_key k)) capacity_tested rows.vehicles _ key vehicle)
 follows laws lists rows (row.Trip order None) h = on_table-alike 13 _ _ _ _
     (removed-alike the.Journey (name_key order) _ lists (row_lists rows) h (journeys-removed laws rows.trips (table_at 12 lists) order))
     (acts-removed laws rows.trips _ order)

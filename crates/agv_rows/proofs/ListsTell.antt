@@ -18,12 +18,12 @@ use Rattle.agv_world.specs.KeyOrders.{leg_cmp-total, leg_cmp-IsAntisymmetric, us
 use Rattle.agv_world.specs.Rows.{Rows}
 use Rattle.agv_world.specs.declared.row.JobRow.{JobRow}
 use Rattle.agv_rows.specs.ValueEncodings.{number_cell}
-use Rattle.agv_rows.specs.Columns.{meta_columns, node_columns, edge_columns, station_columns, vehicle_columns, room_columns, journey_columns, act_columns, leg_columns, load_columns, job_columns, hold_columns, used_columns}
+use Rattle.agv_rows.specs.Columns.{meta_columns, node_columns, edge_columns, station_columns, vehicle_columns, vehicle_capacity_columns, journey_columns, act_columns, leg_columns, load_columns, job_columns, hold_columns, used_columns}
 use Rattle.agv_schema.specs.DeskRows.{table_at, has_key}
 use Rattle.agv_rows.specs.RowKeys.{name_key, vehicle_key, leg_key, hold_key}
 use Rattle.agv_rows.specs.RowLists.{ActsAreOfJobs, AreAlike, TellRows, row_lists, marked, rows_for, rows_in}
 use Rattle.agv_schema.specs.declared.table_name.TableName.TheVariants as the
-use Rattle.agv_rows.proofs.ColumnsTell.{meta_tells, edge_tells, station_tells, room_tells, vehicle_tells, journey_tells, act_tells, leg_tells, load_tells, job_tells, hold_tells}
+use Rattle.agv_rows.proofs.ColumnsTell.{meta_tells, edge_tells, station_tells, capacity_tells, vehicle_tells, journey_tells, act_tells, leg_tells, load_tells, job_tells, hold_tells}
 use Rattle.agv_rows.proofs.KeyedRows.{one_row, one_table, row-found, rows_at, same_row}
 use Rattle.agv_rows.proofs.TripRowLaws.{TellOneTable}
 use Rattle.agv_rows.proofs.KeyTests.{act_tested, capacity_tested, journey_tested, meta_tested, names_apart, node_tested, edge_tested, station_tested, vehicle_tested, leg_tested, load_tested, job_tested, hold_tested, used_tested}
@@ -77,10 +77,10 @@ one_rows one lists a b known other_known h g =
     (alike_at 2 lists (row_lists a) h) (alike_at 2 lists (row_lists b) g) (λ k x y _ _. edge_tells k x y) in
     let stations = one_table nat_list_cmp_total names_apart station_columns (λ k. has_key the.Station (name_key k)) station_tested a.stations b.stations (table_at 3 lists)
     (alike_at 3 lists (row_lists a) h) (alike_at 3 lists (row_lists b) g) (λ k x y _ _. station_tells k x y) in
-    let rooms = same_columns key_cmp-total key_cmp-IsAntisymmetric room_columns (λ k. has_key the.Capacity (vehicle_key k)) capacity_tested a.vehicles b.vehicles (table_at 11 lists)
+    let capacities = same_columns key_cmp-total key_cmp-IsAntisymmetric vehicle_capacity_columns (λ k. has_key the.Capacity (vehicle_key k)) capacity_tested a.vehicles b.vehicles (table_at 11 lists)
     (alike_at 11 lists (row_lists a) h) (alike_at 11 lists (row_lists b) g) in
     let vehicles = one_table key_cmp-total key_cmp-IsAntisymmetric vehicle_columns (λ k. has_key the.Vehicle (vehicle_key k)) vehicle_tested a.vehicles b.vehicles (table_at 4 lists)
-    (alike_at 4 lists (row_lists a) h) (alike_at 4 lists (row_lists b) g) (λ k x y at there. vehicle_tells k x y (room_tells k x y (rooms k x y at there))) in
+    (alike_at 4 lists (row_lists a) h) (alike_at 4 lists (row_lists b) g) (λ k x y at there. vehicle_tells k x y (capacity_tells k x y (capacities k x y at there))) in
     let legs = one_table leg_cmp-total leg_cmp-IsAntisymmetric leg_columns (λ k. has_key the.Leg (leg_key k)) leg_tested a.legs b.legs (table_at 6 lists)
     (alike_at 6 lists (row_lists a) h) (alike_at 6 lists (row_lists b) g) (λ k x y _ _. leg_tells k x y) in
     let loads = one_table nat_list_cmp_total names_apart load_columns (λ k. has_key the.Load (name_key k)) load_tested a.loads b.loads (table_at 7 lists)

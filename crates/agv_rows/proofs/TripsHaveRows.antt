@@ -5,7 +5,7 @@ use Rattle.std.specs.Option.{option_and_then}
 use Rattle.agv_header.specs.Name.{name_cmp}
 use Rattle.agv_header.specs.declared.key.VehicleKey.{VehicleKey}
 use Rattle.agv_order.specs.declared.trip.Trip.{Trip}
-use Rattle.agv_world.specs.GoodOrder.{HasTrip, InGoodOrder}
+use Rattle.agv_world.specs.GoodOrder.{HasTrip, HasConsistentTrips}
 use Rattle.agv_world.specs.Questions.{trip_of}
 use Rattle.agv_world.specs.Rows.{rows_of, rows_of_trip, trip_row}
 use Rattle.agv_world.specs.Told.{edges_of}
@@ -22,7 +22,7 @@ open_there : (o : Option Vehicle) (trip : Trip) → option_and_then (λ (vehicle
 open_there None trip is = absurd (cc is)
 open_there (Some vehicle) trip is = (vehicle, refl, is)
 
-module _ (world : World) (good : InGoodOrder world) (ways : (key : VehicleKey) (trip : Trip) → trip_of world key ≡ Some trip → trip.edges ≡ edges_of (tables_of (rows_of world)) trip.order) where
+module _ (world : World) (good : HasConsistentTrips world) (ways : (key : VehicleKey) (trip : Trip) → trip_of world key ≡ Some trip → trip.edges ≡ edges_of (tables_of (rows_of world)) trip.order) where
   rows_there : (key : VehicleKey) (trip : Trip) → trip_of world key ≡ Some trip → (trip.vehicle ≡ key) × HasTripRows (rows_of world) trip
   rows_there key trip is =
       let has : HasTrip world key trip = open_there (finite.get world.vehicles key) trip is in

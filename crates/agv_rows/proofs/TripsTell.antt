@@ -17,7 +17,7 @@ use Rattle.agv_order.specs.declared.trip.Trip.{Trip}
 use Rattle.agv_trip_rows.specs.TripRows.{act_rows, acts_of, is_of, journey_of, journeys_of, rows_if}
 use Rattle.agv_trip_rows.specs.TripsTold.{acts_told, trip_told}
 use Rattle.agv_trip_rows.specs.declared.journey_row.JourneyRow.{JourneyRow}
-use Rattle.agv_world.specs.GoodOrder.{InGoodOrder}
+use Rattle.agv_world.specs.GoodOrder.{HasConsistentTrips}
 use Rattle.agv_world.specs.Kept.{Keeps}
 use Rattle.agv_world.specs.Questions.{trip_of}
 use Rattle.agv_world.specs.Rows.{rows_of}
@@ -56,9 +56,9 @@ vehicles_at tables q =
 
 -- ---- the trip of a vehicle
 
--- the tables of a world in good order tell that world
+-- the tables of a world with consistent trips tell that world
 abbrev pub TablesTell : Type 0
-TablesTell = (tables : Tables) (world : World) → Keeps tables world → InGoodOrder world → world_of tables ≡ world
+TablesTell = (tables : Tables) (world : World) → Keeps tables world → HasConsistentTrips world → world_of tables ≡ world
 
 -- the row of the trip of a vehicle: the first that names it
 abbrev trip_row_for : World → VehicleKey → Option (List ℕ × TripRow)
@@ -122,7 +122,7 @@ module _ (journeys : JourneysListed) (acts : ActsListed) (found : ActsFound) (to
   journey_is : (key : VehicleKey) → journey_for (rows_of world) key ≡ option_map journey_at (trip_row_for world key)
   journey_is key = ap (find (is_driven_by key)) (journeys trips) ∙ driven key (finite.entries trips)
 
-  module _ (tell : TablesTell) (good : InGoodOrder world) where
+  module _ (tell : TablesTell) (good : HasConsistentTrips world) where
     abbrev tables : Tables
     tables = tables_of (rows_of world)
 

@@ -89,7 +89,7 @@ rest_in edge node = if_some (maybe_in name_in edge) (λ edge. if_some (maybe_in 
 unfoldable pub sent_in : Value → Value → Option Sent
 sent_in count at = if_some (number_in count) (λ count. if_some (moment_in at) (λ at. Some (record { count = count; at = at })))
 
--- its room for loads stands in `capacity`
+-- its capacity stands in `capacity`
 abbrev pub vehicle_columns : VehicleKey → VehicleRow → Row
 vehicle_columns key row =
     Text key.manufacturer ∷ Text key.serial ∷ Text row.node
@@ -99,7 +99,7 @@ vehicle_columns key row =
     ∷ number_cell row.orders.count ∷ number_cell row.orders.at ∷ number_cell row.instants.count ∷ number_cell row.instants.at
     ∷ or_null (λ kind. Text (instant_name kind)) row.pending ∷ []
 
--- as if it had room for one load
+-- as if its capacity was 1
 unfoldable pub vehicle_in : Row → Option (VehicleKey × VehicleRow)
 vehicle_in row = if_columns 14 row (
     if_some (key_in (column row 0) (column row 1)) (λ key.
@@ -120,8 +120,8 @@ abbrev pub capacity_columns : VehicleKey → CapacityRow → Row
 capacity_columns key room = Text key.manufacturer ∷ Text key.serial ∷ number_cell room.capacity ∷ []
 
 -- that of a vehicle
-abbrev pub room_columns : VehicleKey → VehicleRow → Row
-room_columns key vehicle = capacity_columns key (record { capacity = vehicle.capacity })
+abbrev pub vehicle_capacity_columns : VehicleKey → VehicleRow → Row
+vehicle_capacity_columns key vehicle = capacity_columns key (record { capacity = vehicle.capacity })
 
 unfoldable pub capacity_in : Row → Option (VehicleKey × CapacityRow)
 capacity_in row = if_columns 3 row (

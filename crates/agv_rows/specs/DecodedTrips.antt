@@ -1,4 +1,4 @@
--- The vehicles and the open trips, as the tables of rows tell them: a vehicle with its room, and a trip with its journey, its acts, the rows of their jobs and its edges.
+-- The vehicles and the open trips, as the tables of rows tell them: a vehicle with its capacity, and a trip with its journey, its acts, the rows of their jobs and its edges.
 use Rattle.std.specs.Prelude.{◌≡◌, Bool, List, ℕ, Option, Some, filter, map}
 use Rattle.std.specs.FinMap as finite
 use Rattle.std.specs.List.{filter_map, find}
@@ -28,11 +28,11 @@ use Rattle.agv_rows.specs.ValueEncodings.{if_some}
 
 -- ---- vehicles
 
--- the rooms of these vehicles
+-- the capacities of these vehicles
 unfoldable pub capacities_of : finite.FinMap key_cmp VehicleRow → finite.FinMap key_cmp CapacityRow
 capacities_of vehicles = finite.from_entries (map (λ (entry : VehicleKey × VehicleRow). (entry.0, record { capacity = entry.1.capacity })) (finite.entries vehicles))
 
--- the vehicle that a row of SQL tells, where its room is one of these
+-- the vehicle that a row of SQL tells, where its capacity is one of these
 abbrev pub vehicle_with : finite.FinMap key_cmp CapacityRow → Row → Option (VehicleKey × VehicleRow)
 vehicle_with capacities row =
     if_some (vehicle_in row) (λ vehicle. if_some (finite.get capacities vehicle.0) (λ (room : CapacityRow). Some (vehicle.0, record vehicle.1 { capacity = room.capacity })))

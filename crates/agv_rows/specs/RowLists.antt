@@ -13,7 +13,7 @@ use Rattle.agv_world.specs.declared.change.Change.{Change}
 use Rattle.agv_world.specs.declared.change.Change.TheVariants as row
 use Rattle.agv_world.specs.declared.row.TripRow.{TripRow}
 use Rattle.agv_world.specs.declared.row.VehicleRow.{VehicleRow}
-use Rattle.agv_rows.specs.Columns.{meta_columns, node_columns, edge_columns, station_columns, vehicle_columns, room_columns, journey_columns, act_columns, leg_columns, load_columns, job_columns, hold_columns, used_columns}
+use Rattle.agv_rows.specs.Columns.{meta_columns, node_columns, edge_columns, station_columns, vehicle_columns, vehicle_capacity_columns, journey_columns, act_columns, leg_columns, load_columns, job_columns, hold_columns, used_columns}
 use Rattle.agv_schema.specs.DeskRows.{Placing, Holds, place_of, table_at, with_put, with_rows, without_key, without_rows}
 use Rattle.agv_rows.specs.RowKeys.{name_key, vehicle_key, leg_key, hold_key}
 use Rattle.agv_schema.specs.RowTexts.{columns_deleted}
@@ -57,7 +57,7 @@ row_lists rows =
     ∷ rows_in job_columns rows.jobs
     ∷ rows_in hold_columns rows.holds
     ∷ rows_for used_columns rows.used
-    ∷ rows_in room_columns rows.vehicles
+    ∷ rows_in vehicle_capacity_columns rows.vehicles
     ∷ rows_in journey_columns (journeys_of rows.trips)
     ∷ rows_in act_columns (acts_of rows.trips) ∷ []
 
@@ -89,15 +89,15 @@ pub record ShowAll (lists : List (List Row)) (rows : Rows) : Type 0 where
   pub jobs : ShowEntries (table_at (place_of the.Job) lists) job_columns rows.jobs
   pub holds : ShowEntries (table_at (place_of the.Hold) lists) hold_columns rows.holds
   pub used : ShowEntries (table_at (place_of the.Used) lists) (λ key nothing. used_columns key) (marked rows.used)
-  pub capacities : ShowEntries (table_at (place_of the.Capacity) lists) room_columns rows.vehicles
+  pub capacities : ShowEntries (table_at (place_of the.Capacity) lists) vehicle_capacity_columns rows.vehicles
   pub journeys : ShowEntries (table_at (place_of the.Journey) lists) journey_columns (journeys_of rows.trips)
   pub acts : ShowEntries (table_at (place_of the.Act) lists) act_columns (acts_of rows.trips)
 
 -- ---- what a change does to the lists
 
--- the row of a vehicle, and that of its room
+-- the row of a vehicle, and that of its capacity
 abbrev pub with_vehicle : VehicleKey → VehicleRow → List (List Row) → List (List Row)
-with_vehicle key vehicle lists = with_put the.Capacity (vehicle_key key) (room_columns key vehicle) (with_put the.Vehicle (vehicle_key key) (vehicle_columns key vehicle) lists)
+with_vehicle key vehicle lists = with_put the.Capacity (vehicle_key key) (vehicle_capacity_columns key vehicle) (with_put the.Vehicle (vehicle_key key) (vehicle_columns key vehicle) lists)
 
 -- without the acts of an order
 abbrev pub without_acts : List ℕ → List (List Row) → List (List Row)

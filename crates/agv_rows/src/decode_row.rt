@@ -75,7 +75,7 @@ pub fn key_at(row: &Row, first: usize, second: usize) -> Option<VehicleKey>
     })
 }
 
-/// A vehicle, as if it had room for one load, but for its open trip.
+/// A vehicle, as if its capacity was 1, but for its open trip.
 #[tactic(auto, unfolding(crate::specs::Columns::vehicle_in))]
 pub fn decode_vehicle(row: &Row) -> Option<(VehicleKey, VehicleRow)>
     ensures { result ≡ vehicle_in row.now }

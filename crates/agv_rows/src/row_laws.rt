@@ -18,7 +18,7 @@ ghost use Rattle.agv_rows.specs.declared.capacity_row.CapacityRow.{CapacityRow};
 ghost use Rattle.agv_trip_rows.specs.declared.act_row.ActRow.{ActRow};
 ghost use Rattle.agv_trip_rows.specs.declared.journey_row.JourneyRow.{JourneyRow};
 
-/// The columns that a row of the world writes tell that row, but for the room of a vehicle, which has a row of its own.
+/// The columns that a row of the world writes tell that row, but for the capacity of a vehicle, which has a row of its own.
 pub fn columns_tell_their_row()
     ensures meta { (id schema : ℕ) → IsNumber id → IsNumber schema → meta_in (meta_columns id schema) ≡ Some (id, schema) }
     ensures node { (id : List ℕ) → IsName id → node_in (node_columns id) ≡ Some id }

@@ -15,7 +15,7 @@ ghost use Rattle.agv_schema.specs.declared.table_name.TableName.TheVariants as t
 
 use agv_trip_rows::row_laws::{rows_follow_changes, rows_have_keys};
 use agv_trip_rows::trip_laws::{lawful_rows_tell_trips, rows_tell_one_table};
-use agv_world::lawful_laws::is_in_good_order;
+use agv_world::lawful_laws::has_consistent_trips;
 use agv_world::laws::rows_tell_the_world;
 
 /// Lists that tell the rows of a world tell, after a change of the lists, the rows after that change; and so they
@@ -69,6 +69,6 @@ pub fn a_database_tells_one_world()
 {
     lists_tell_one_world();
     lawful_acts_are_of_jobs();
-    is_in_good_order();
+    has_consistent_trips();
     rows_tell_the_world();
 }

@@ -5,7 +5,7 @@ ghost use Rattle.sqlite_value.specs.Value.{owned};
 ghost use Rattle.sqlite_value.specs.declared.value.Value.TheVariants.{Null, Text};
 ghost use Rattle.agv_message.specs.Instant.{instant_name};
 ghost use Rattle.agv_rows.specs.ValueEncodings.{number_cell};
-ghost use Rattle.agv_rows.specs.Columns.{node_columns, edge_columns, station_columns, vehicle_columns, room_columns, journey_columns, act_columns, leg_columns, load_columns, job_columns, hold_columns, used_columns};
+ghost use Rattle.agv_rows.specs.Columns.{node_columns, edge_columns, station_columns, vehicle_columns, vehicle_capacity_columns, journey_columns, act_columns, leg_columns, load_columns, job_columns, hold_columns, used_columns};
 
 use crate::words::{phase_text, use_text};
 use agv_header::{Name, Thing, VehicleKey};
@@ -52,7 +52,7 @@ pub fn station_values<'a>(id: &'a Name, site: &'a StationSite) -> [ValueRef<'a>;
     ]
 }
 
-/// The row of a vehicle, but for its room for loads.
+/// The row of a vehicle, but for its capacity.
 pub fn vehicle_values<'a>(key: &'a VehicleKey, row: &'a VehicleRow) -> [ValueRef<'a>; 14]
     ensures { bound result ≡ vehicle_columns key.now row.now }
 {
@@ -106,9 +106,9 @@ fn instant_value(kind: Option<InstantKind>) -> ValueRef<'static>
     }
 }
 
-/// The row of a vehicle's room for loads.
+/// The row of a vehicle's capacity.
 pub fn capacity_values<'a>(key: &'a VehicleKey, row: &'a VehicleRow) -> [ValueRef<'a>; 3]
-    ensures { bound result ≡ room_columns key.now row.now }
+    ensures { bound result ≡ vehicle_capacity_columns key.now row.now }
 {
     [
         name_value(&key.manufacturer),

@@ -1,4 +1,5 @@
-//! What the rows of a lawful world tell of its open trips and its vehicles. The functions do nothing: their clauses are the law.
+//! What the rows of a lawful world tell of its open trips and its vehicles. The functions do nothing: their clauses are the
+//! law.
 ghost use Rattle.std.specs.Prelude.{◌≡◌, ◌↔◌, ℕ, List, Some, filter, true};
 ghost use Rattle.std.specs.FinMap as finite;
 ghost use Rattle.std.specs.Option.{option_and_then};
@@ -24,13 +25,13 @@ use agv_trip_rows::row_laws::{rows_are_of_trips, rows_have_keys, tables_have_row
 use agv_trip_rows::trip_laws::{
     lawful_rows_have_values, lawful_rows_tell_trips, rows_tell_one_table,
 };
-use agv_world::lawful_laws::is_in_good_order;
+use agv_world::lawful_laws::has_consistent_trips;
 use agv_world::laws::tables_tell_the_world;
 
-/// In a lawful world the open trip of a vehicle is what the journey that names the vehicle tells, with the acts of its order,
-/// the rows of their jobs and the rows of its edges: there is a trip just where there is a journey. Journeys that name one
-/// vehicle are one. The acts of any order are told, and all trips by all journeys and acts. Numbers are in their ranges, and names are
-/// names.
+/// In a lawful world the open trip of a vehicle is what the journey that names the vehicle tells, with the acts of its
+/// order, the rows of their jobs and the rows of its edges: there is a trip just where there is a journey. Journeys that
+/// name one vehicle are one. The acts of any order are told, and all trips by all journeys and acts. Numbers are in their
+/// ranges, and names are names.
 pub fn rows_tell_trips()
     ensures trip { (world : World) → IsLawful desk_seats world → (key : VehicleKey)
         → trip_of world key ≡ option_and_then (told_by_journey (rows_of world)) (journey_for (rows_of world) key) }
@@ -54,7 +55,7 @@ pub fn rows_tell_trips()
     lawful_rows_tell_trips();
     rows_tell_one_table();
     lawful_rows_have_values();
-    is_in_good_order();
+    has_consistent_trips();
     tables_tell_the_world();
 }
 
@@ -63,7 +64,7 @@ pub fn rows_have_trips()
     ensures { (world : World) → IsLawful desk_seats world → (key : VehicleKey) (trip : Trip)
         → (trip_of world key ≡ Some trip) ↔ ((trip.vehicle ≡ key) × HasTripRows (rows_of world) trip) }
 {
-    is_in_good_order();
+    has_consistent_trips();
     rows_tell_trips();
 }
 

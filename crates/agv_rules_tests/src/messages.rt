@@ -11,7 +11,7 @@ use std::alloc::Global;
 use std::process::Abort;
 use std::str;
 
-/// A state of the vehicle KIT/0001 at rest on N1.
+/// A state of the vehicle KIT/0001 without an order at N1.
 pub(crate) const STATE: &str =
     r#"{"headerId":1,"timestamp":"2023-11-14T22:13:19.50Z","version":"2.0.0","manufacturer":"KIT","serialNumber":"0001","orderId":"","orderUpdateId":0,"lastNodeId":"N1","lastNodeSequenceId":0,"driving":false,"nodeStates":[],"edgeStates":[],"actionStates":[],"batteryState":{"batteryCharge":80,"charging":false},"operatingMode":"AUTOMATIC","errors":[],"safetyState":{"eStop":"NONE","fieldViolation":false}}"#;
 
@@ -116,8 +116,8 @@ fn fault(rt: &impl Abort, alloc: Global, call: &str, text: &str) -> &'static str
     }
 }
 
-/// Each member of a state at rest, of one under way with two nodes ahead and an action done, and of one with an action of
-/// each status; how ready a state says that its vehicle is; statuses; and instant actions.
+/// Each member of a state without an order, of one under way with two nodes ahead and an action done, and of one with an
+/// action of each status; how ready a state says that its vehicle is; statuses; and instant actions.
 const READ: &str =
     r#"state {"headerId":1,"timestamp":"2023-11-14T22:13:19.50Z","version":"2.0.0","manufacturer":"KIT","serialNumber":"0001","orderId":"","orderUpdateId":0,"lastNodeId":"N1","lastNodeSequenceId":0,"driving":false,"nodeStates":[],"edgeStates":[],"actionStates":[],"batteryState":{"batteryCharge":80,"charging":false},"operatingMode":"AUTOMATIC","errors":[],"safetyState":{"eStop":"NONE","fieldViolation":false}} => Ok(StateMessage { header_id: 1, at: Moment { ms: 1699999999500 }, manufacturer: Text { text: "KIT" }, serial: Text { text: "0001" }, order_id: Text { text: "" }, update: 0, last_node: Text { text: "N1" }, last_seq: 0, node_seqs: Sequence { kept: [] }, actions: Sequence { kept: [] }, ready: true, paused: false })
 state {"headerId":1207,"timestamp":"2024-02-29T06:14:07.5Z","version":"2.0.0","manufacturer":"ACME","serialNumber":"agv-17","orderId":"order-311","orderUpdateId":2,"zoneSetId":"night","lastNodeId":"n4","lastNodeSequenceId":6,"driving":true,"paused":false,"newBaseRequest":true,"distanceSinceLastNode":3,"operatingMode":"AUTOMATIC","nodeStates":[{"nodeId":"n5","sequenceId":8,"nodeDescription":"gate","released":true},{"nodeId":"n9","sequenceId":10,"released":false}],"edgeStates":[{"edgeId":"e45","sequenceId":7,"edgeDescription":"ramp","released":true},{"edgeId":"e59","sequenceId":9,"released":false}],"actionStates":[{"actionId":"order-311.0","actionType":"pick","actionDescription":"from rack 3","actionStatus":"FINISHED","resultDescription":"ok"},{"actionId":"order-311.1","actionType":"drop","actionStatus":"WAITING"}],"loads":[{"loadId":"P-8","loadType":"EPAL","weight":212}],"batteryState":{"batteryCharge":64,"batteryVoltage":48,"batteryHealth":97,"charging":false,"reach":5400},"errors":[],"information":[],"safetyState":{"eStop":"NONE","fieldViolation":false}} => Ok(StateMessage { header_id: 1207, at: Moment { ms: 1709187247500 }, manufacturer: Text { text: "ACME" }, serial: Text { text: "agv-17" }, order_id: Text { text: "order-311" }, update: 2, last_node: Text { text: "n4" }, last_seq: 6, node_seqs: Sequence { kept: [8, 10] }, actions: Sequence { kept: [(Text { text: "order-311.0" }, Finished), (Text { text: "order-311.1" }, Waiting)] }, ready: true, paused: false })

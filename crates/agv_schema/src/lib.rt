@@ -5,12 +5,12 @@
 //!   [`rows_counted`] a count by other columns. `specs/RowTexts.antt` has the texts of SQL that write a row.
 //! - `specs/DeskRows.antt` says where the tables stand in a database, and which rows they have.
 //! - `specs/Connections.antt` says what holds of a connection and of the next moment; [`laws`] has what follows. What a
-//!   database has is stated for a clean store: one whose disk has so far given back what was written to it. A store in
+//!   database has is stated for a clean store: one whose disk has so far returned what was written to it. A store in
 //!   memory is always clean.
 //!
-//! Above it stand agv_creation (tables made or recognized), agv_rows (rows in columns), agv_statements (SQL on rows),
+//! The crates above it are agv_creation (tables made or recognized), agv_rows (rows in columns), agv_statements (SQL on rows),
 //! agv_changes (what is written), agv_row_reading, agv_rowids and agv_world_reading (what is read), agv_queries (what a
-//! floor is asked) and agv_first_schema (the move from the first schema).
+//! floor is asked) and agv_first_schema (the migration from the first schema).
 #![tactic(auto)]
 
 pub mod laws;

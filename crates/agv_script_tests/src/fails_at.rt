@@ -121,6 +121,11 @@ impl Floor for FailsAt<'_> {
         self.floor.used(kind, name)
     }
 
+    fn has_layout(&mut self) -> Result<bool, Fault> {
+        self.ask()?;
+        self.floor.has_layout()
+    }
+
     fn layout(&mut self) -> Result<Option<Layout>, Fault> {
         self.ask()?;
         self.floor.layout()

@@ -1,5 +1,5 @@
-//! A reader and a writer that take their time and fail once, when they are told to; and a reader that fails unless a writer that
-//! counts its bytes has taken enough of them.
+//! A reader and a writer that take their time and fail once, when they are told to; and a reader that fails unless a writer
+//! that counts its bytes has taken enough of them.
 
 use agv_face::CountingIo;
 use std::alloc::Global;

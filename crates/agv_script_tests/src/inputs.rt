@@ -1,7 +1,7 @@
 //! Streams of one or a few requests: how they end, what is waited for, and readers and writers that fail.
 
 use crate::lines::whole;
-use crate::streams::{Cut, FAST, Pace, whole_of};
+use crate::streams::{Cut, FAST, PACES, whole_of};
 use crate::ways::{Way, in_memory, on_files};
 use std::alloc::Global;
 use std::process::Abort;
@@ -97,7 +97,8 @@ in GET /loads/L2 HTTP/1.1~Connection: CLOSE~~
 end Close
 "#;
 
-/// Bodies that are 127 deep at most, and the longest head and the longest body, of 8,192 and 65,536 bytes, with one request behind.
+/// Bodies that are 127 deep at most, and the longest head and the longest body, of 8,192 and 65,536 bytes, with one request
+/// behind.
 const LARGE: &str = r#"
 in POST /loads HTTP/1.1~Content-Length: 254~~
 fill 127 [
@@ -119,9 +120,6 @@ GET /loads/L9
 /// Each at each pace, in memory and on files.
 const INPUTS: [&[&str]; 5] = [&[FIRST, AGAIN], &[THREE, BOTH], &[ENDS], &[PATHS], &[LARGE]];
 
-/// The paces of these.
-const PACES: [Pace; 4] = [(1, 5), (7, 1), (4096, 5), FAST];
-
 #[test]
 fn inputs(rt: HostRuntime) {
     for parts in INPUTS {
@@ -129,12 +127,13 @@ fn inputs(rt: HostRuntime) {
         for pace in PACES {
             in_memory(&rt, rt.alloc(), &Way::Stream(pace, text.as_str()));
         }
+        in_memory(&rt, rt.alloc(), &Way::Stream(FAST, text.as_str()));
         on_files(&rt, rt.alloc(), &Way::Stream(FAST, text.as_str()));
     }
 }
 
-/// Beginnings of a request, behind which the reader fails: what is waited for ends by that, and what is refused by its head is refused
-/// at once. A head has at most 32 lines, and ends within 8,192 bytes, which two reads give.
+/// Beginnings of a request, behind which the reader fails: what is waited for ends by that, and what is refused by its head
+/// is refused at once. A head has at most 32 lines, and ends within 8,192 bytes, which two reads give.
 const BEGINNINGS: &str = r#"
 fails 0
 end Read

@@ -8,7 +8,7 @@ use crate::tables::{told_text, world_text};
 use agv_desk::{Answer, Call};
 use agv_header::Moment;
 use agv_http::{Routes, answer_bytes};
-use agv_reports::names_report;
+use agv_reports::report_named;
 use agv_store::Desk;
 use sqlite::{Alter, Connection};
 use std::alloc::Global;
@@ -54,7 +54,7 @@ impl List {
         let wanted = self.answers.get(n..).expect(rt, "answers");
         check(rt, found.len() <= wanted.len(), "at most an answer a call");
         for (answer, text) in found.iter().zip(wanted) {
-            if !names_report(answer) {
+            if report_named(answer).is_none() {
                 let bytes = answer_bytes(alloc, answer, b"", false).expect(rt, "memory");
                 check_bytes(rt, &bytes, text.as_str(), text.as_str());
             }

@@ -21,8 +21,8 @@ use crate::memory::{Asked, InMemory, MOMENT, asked, in_memory};
 use crate::tables::{check_read, check_row, check_rows, is_lawful, rows_text};
 use agv_creation::desk_tables::make_desk_tables;
 use agv_creation::standing_tables::tables_stand;
-use agv_creation::table_room::leaves_room;
 use agv_creation::table_texts::creation_texts;
+use agv_creation::tables_beside::allows_desk;
 use agv_desk::Answer;
 use agv_header::Moment;
 use agv_http::{Routes, answer_bytes};
@@ -114,7 +114,7 @@ impl Player {
                 alloc,
                 &tables_stand(alloc, conn.schema()).expect(rt, "memory"),
             ),
-            "room" => shown(rt, alloc, &leaves_room(conn.schema())),
+            "room" => shown(rt, alloc, &allows_desk(conn.schema())),
             "keyed" => shown(rt, alloc, &query_rowids(alloc, conn)),
             "lawful" => shown(rt, alloc, &is_lawful(rt, alloc, conn)),
             _ => return self.compare(rt, alloc, conn, said),

@@ -17,7 +17,7 @@ use crate::lines::whole;
 use crate::lists::list_of;
 use crate::memory::play_in_memory;
 use crate::stops::stop_script;
-use crate::streams::{FAST, Pace};
+use crate::streams::{FAST, PACES};
 use crate::ways::{Way, in_memory, on_files};
 use std::alloc::Global;
 use std::process::Abort;
@@ -39,9 +39,6 @@ const FOR_ONE: [&[&[&str]]; 14] = [
     ways::WAYS,
     written::WRITTEN,
 ];
-
-/// The paces at which streams go.
-const PACES: [Pace; 6] = [(1, 1), (1, 5), (7, 1), (7, 5), (4096, 1), (4096, 5)];
 
 /// Plays a script call by call, in memory and on files.
 fn play(rt: &impl Abort, alloc: Global, text: &str) {

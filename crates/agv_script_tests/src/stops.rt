@@ -22,8 +22,8 @@ pub(crate) enum Work<'w> {
     Move(&'w str, &'w str),
 }
 
-/// The log is copied into the database file at the first change behind so many pages, so that the files are called for that in the
-/// middle of a script, too.
+/// The log is copied into the database file at the first change behind so many pages, so that the files are called for that
+/// in the middle of a script, too.
 fn with_short_log() -> Options {
     let mut options = Options::new(7);
     options.checkpoint_frames = 16;
@@ -45,8 +45,8 @@ fn check_stays_failed<S: Alter + Drop>(
     check(rt, desk.failed(), "it has failed still");
 }
 
-/// Serves the calls up to the first fault of the store, if there is one: that call is answered `Storage`, and so is each later one.
-/// It gives how many were answered before.
+/// Serves the calls up to the first fault of the store, if there is one: that call is answered `Storage`, and so is each
+/// later one. It gives how many were answered before.
 fn serve_until_it_fails<S: Alter + Drop>(
     rt: &impl Abort,
     alloc: Global,
@@ -108,8 +108,8 @@ impl Work<'_> {
     }
 }
 
-/// The database has the world after the calls that were answered, or after one call more, and the desk that is opened there serves
-/// the others.
+/// The database has the world after the calls that were answered, or after one call more, and the desk that is opened there
+/// serves the others.
 fn serve_rest<S: Alter + Drop>(
     rt: &impl Abort,
     alloc: Global,

@@ -1,16 +1,16 @@
-//! Tables that anyone made: whether they are a desk's, whether they leave room for a desk's, and whether each row of them has a
+//! Tables that anyone made: whether they are a desk's, whether they allow a desk's, and whether each row of them has a
 //! number of its own. Each line is tried in a database of its own.
 //!
-//! What a desk's tables are is in docs/TABLES.md: each with just those columns, in that order, with those types and keys, STRICT,
-//! with no rule more, and no foreign key refers to one of them. A key is a set of columns, whether PRIMARY KEY or UNIQUE. How the
-//! statements are typed makes no difference, nor do other tables, views and indexes.
+//! What a desk's tables are is in docs/TABLES.md: each with just those columns, in that order, with those types and keys,
+//! STRICT, with no rule more, and no foreign key refers to one of them. A key is a set of columns, whether PRIMARY KEY or
+//! UNIQUE. How the statements are typed makes no difference, nor do other tables, views and indexes.
 
 use crate::databases::check_each;
 use crate::ways::{Way, in_memory};
 
-/// What a person may type: small letters, lines, comments, names in quotes, INT for INTEGER, keys apart from their columns or with
-/// NOT NULL, columns that say that they may be NULL; and a row of each table, and rows whose numbers are given, the least and the
-/// greatest too. Where no table stands none is a desk's, and the question for the rows fails.
+/// What a person may type: small letters, lines, comments, names in quotes, INT for INTEGER, keys apart from their columns
+/// or with NOT NULL, columns that say that they may be NULL; and a row of each table, and rows whose numbers are given, the
+/// least and the greatest too. Where no table stands none is a desk's, and the question for the rows fails.
 const TYPED: &str = r#"
 stand false
 keyed Err(Storage)
@@ -102,9 +102,10 @@ stand true
 keyed Ok(true)
 "#;
 
-/// A table in other words: quotes, the order ascending and the collation BINARY said, NOT NULL said of a key, a rule with a name or
-/// one that the key has already, INT for INTEGER, NULL and DEFAULT NULL, the key said twice, and what a conflict does anyway; and a key
-/// with its columns in another order, also beside the first, or UNIQUE in the place of PRIMARY KEY, and the keys in another order.
+/// A table in other words: quotes, the order ascending and the collation BINARY said, NOT NULL said of a key, a rule with a
+/// name or one that the key has already, INT for INTEGER, NULL and DEFAULT NULL, the key said twice, and what a conflict
+/// does anyway; and a key with its columns in another order, also beside the first, or UNIQUE in the place of PRIMARY KEY,
+/// and the keys in another order.
 const ALIKE: &str = r"
 node CREATE TABLE 'node' ('id' TEXT PRIMARY KEY ASC) STRICT
 node CREATE TABLE node (id TEXT COLLATE BINARY PRIMARY KEY) STRICT
@@ -127,8 +128,8 @@ capacity CREATE TABLE capacity (manufacturer TEXT, serial TEXT, capacity INTEGER
 trip CREATE TABLE trip (order_id TEXT PRIMARY KEY, manufacturer TEXT NOT NULL, serial TEXT NOT NULL, job TEXT NOT NULL UNIQUE, start TEXT NOT NULL, first INTEGER NOT NULL, base INTEGER NOT NULL, sent INTEGER NOT NULL, confirmed INTEGER, seen INTEGER NOT NULL, pick_at INTEGER NOT NULL, drop_at INTEGER NOT NULL, pick_status TEXT NOT NULL, drop_status TEXT NOT NULL, UNIQUE (manufacturer, serial)) STRICT
 ";
 
-/// Tables that are missing, have another name or one in capitals, a view or an index of the name, and one that refers to a table of
-/// the desk's.
+/// Tables that are missing, have another name or one in capitals, a view or an index of the name, and one that refers to a
+/// table of the desk's.
 const ELSEWHERE: &str = r#"
 meta -- no table meta
 used -- no table used
@@ -265,8 +266,8 @@ const JOURNEY: &str =
 const ACT: &str =
     "make act CREATE TABLE act (order_id TEXT, n INTEGER, job TEXT NOT NULL, kind TEXT NOT NULL, place_at INTEGER NOT NULL, status TEXT NOT NULL, ";
 
-/// Other tables, views and indexes, the desk's own indexes away, a table made again, one that referred to the desk's and is gone.
-/// A UNIQUE index is no part of a table.
+/// Other tables, views and indexes, the desk's own indexes away, a table made again, one that referred to the desk's and is
+/// gone. A UNIQUE index is no part of a table.
 const BESIDE: &str = r"
 sql CREATE TABLE other (a TEXT); CREATE INDEX by_a ON other (a)%make Ok(())
 sql CREATE TABLE other (a TEXT)%make Ok(())%sql CREATE TABLE more (a TEXT REFERENCES other, b INTEGER CHECK (b > 0))
@@ -292,7 +293,7 @@ make Ok(())%sql DROP TABLE hold
 make Ok(())%sql DROP TABLE node; CREATE VIEW node AS SELECT start AS id FROM edge
 "#;
 
-/// Databases with room for a desk's tables: that the names are free is another question.
+/// Databases that allow a desk's tables: that the names are free is another question.
 const ROOM: &str = r"
 -- nothing
 CREATE TABLE other (a TEXT); CREATE INDEX by_a ON other (a); CREATE VIEW some AS SELECT a FROM other
@@ -342,7 +343,7 @@ CREATE TABLE other (a TEXT); CREATE TABLE LEG (a TEXT)
 CREATE TABLE journey (a TEXT)
 ";
 
-/// A desk leaves room itself, and a table that refers to it leaves none.
+/// A desk allows one itself, and a table that refers to it does not.
 const ROOM_BESIDE: &str = "
 make Ok(())
 room true

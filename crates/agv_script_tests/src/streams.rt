@@ -28,6 +28,9 @@ pub(crate) type Pace = (usize, usize);
 /// The pace at which most comes at once.
 pub(crate) const FAST: Pace = (4096, 4096);
 
+/// The paces at which streams go.
+pub(crate) const PACES: [Pace; 6] = [(1, 1), (1, 5), (7, 1), (7, 5), (4096, 1), (4096, 5)];
+
 /// A stream: when it comes and at which pace, after how many reads and writes one fails, its input, and the answers and the end
 /// that are wanted.
 #[derive(Drop)]

@@ -13,8 +13,8 @@ abbrev pub Checked : Type 0
 Checked = Result (Unit {0}) Refusal
 
 -- go on where the test passes, else refuse
-abbrev pub require : Bool → Refusal → Checked → Checked
-require test why rest = if test then rest else Err why
+abbrev pub check_that : Bool → Refusal → Checked → Checked
+check_that test why rest = if test then rest else Err why
 
 -- nothing is left to check
 abbrev pub passed : Checked
@@ -46,42 +46,42 @@ is_stored place.Checking = false
 is_stored place.Left = false
 
 -- go on with the place of a load that is known
-abbrev pub found : Option Place → (Place → Checked) → Checked
-found None rest = Err refusal.NoLoad
-found (Some place) rest = rest place
+abbrev pub check_load : Option Place → (Place → Checked) → Checked
+check_load None rest = Err refusal.NoLoad
+check_load (Some place) rest = rest place
 
 -- registering a load: Exists, NoStation, Full
 abbrev pub register_check : Option Place → Goal → Checked
 register_check place goal =
-    require (not (is_some place)) refusal.Exists
-    (require (is_known goal) refusal.NoStation
-    (require (has_room goal) refusal.Full
+    check_that (not (is_some place)) refusal.Exists
+    (check_that (is_known goal) refusal.NoStation
+    (check_that (has_room goal) refusal.Full
     passed))
 
 -- correcting a load's place: NoLoad, NoStation, Elsewhere where it has left, InJob, SameStation where it is there, Full
 abbrev pub correct_check : Option Place → Bool → Goal → Checked
-correct_check known live goal = found known (λ place.
-    require (is_known goal) refusal.NoStation
-    (require (not (has_left place)) refusal.Elsewhere
-    (require (not live) refusal.InJob
-    (require (not (is_there goal place)) refusal.SameStation
-    (require (has_room goal) refusal.Full
+correct_check known live goal = check_load known (λ place.
+    check_that (is_known goal) refusal.NoStation
+    (check_that (not (has_left place)) refusal.Elsewhere
+    (check_that (not live) refusal.InJob
+    (check_that (not (is_there goal place)) refusal.SameStation
+    (check_that (has_room goal) refusal.Full
     passed)))))
 
 -- a load leaves: NoLoad, Elsewhere where it has left, InJob
 abbrev pub leave_check : Option Place → Bool → Checked
-leave_check known live = found known (λ place.
-    require (not (has_left place)) refusal.Elsewhere
-    (require (not live) refusal.InJob
+leave_check known live = check_load known (λ place.
+    check_that (not (has_left place)) refusal.Elsewhere
+    (check_that (not live) refusal.InJob
     passed))
 
 -- a job for a load: Exists, NoLoad, NoStation, Elsewhere where it is at no station, InJob, SameStation, Full
 abbrev pub job_check : Bool → Option Place → Bool → Goal → Checked
 job_check job_known known live goal =
-    require (not job_known) refusal.Exists (found known (λ place.
-    require (is_known goal) refusal.NoStation
-    (require (is_stored place) refusal.Elsewhere
-    (require (not live) refusal.InJob
-    (require (not (is_there goal place)) refusal.SameStation
-    (require (has_room goal) refusal.Full
+    check_that (not job_known) refusal.Exists (check_load known (λ place.
+    check_that (is_known goal) refusal.NoStation
+    (check_that (is_stored place) refusal.Elsewhere
+    (check_that (not live) refusal.InJob
+    (check_that (not (is_there goal place)) refusal.SameStation
+    (check_that (has_room goal) refusal.Full
     passed))))))

@@ -3,7 +3,7 @@ ghost use Rattle.std.specs.Prelude.{◌≡◌};
 
 use agv_header::Name;
 
-/// A job to carry a load. Its name is used once for good.
+/// A job to carry a load. Its name is used only once.
 #[derive(Clone, Copy, Debug, PartialEq, Eq)]
 pub struct Job {
     pub name: Name,
@@ -26,7 +26,7 @@ pub enum Phase {
     Riding,
     /// The load was dropped at the target.
     Done,
-    /// It was taken back, or its order ended before the load was dropped.
+    /// It was stopped by a call, or its order ended before the load was dropped.
     Stopped,
 }
 

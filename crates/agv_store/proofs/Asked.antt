@@ -35,10 +35,10 @@ module _ {S : Type 0} (g : Ghosts S) where
       record {
         survives = survives_then (state g a) (state g b) (state g c) _ _ _ (λ _ _ never. never) (λ _ _ never. never) one.survives two.survives;
         was_open = λ clean still. one.was_open (clean_b clean) (two.was_open clean still);
-        same = λ clean still settled.
+        unchanged = λ clean still settled.
             let still_b = two.was_open clean still in
-            let now = one.same (clean_b clean) still_b settled in
-            two.same clean still (one.committed (clean_b clean) still_b ∙ settled ∙ sym now) ∙ now;
+            let now = one.unchanged (clean_b clean) still_b settled in
+            two.unchanged clean still (one.committed (clean_b clean) still_b ∙ settled ∙ sym now) ∙ now;
         committed = λ clean still. two.committed clean still ∙ one.committed (clean_b clean) (two.was_open clean still);
         idle = λ idle. two.idle (one.idle idle);
       }
@@ -46,7 +46,7 @@ module _ {S : Type 0} (g : Ghosts S) where
   -- what is known stays known
   pub knows_still : (old new : Held S) → IsAsked g old new → IsClean g new → IsOpen g new → (world : World) → Knows g old world → Knows g new world
   knows_still old new asked clean still world was =
-      let now = asked.same clean still was.settled in
+      let now = asked.unchanged clean still was.settled in
       record {
         is_open = still;
         idle = asked.idle was.idle;
@@ -83,7 +83,7 @@ module _ {S : Type 0} (g : Ghosts S) where
       record {
         survives = tells.survives;
         was_open = λ clean still. open_by old new (either clean) still;
-        same = λ clean still settled. now_by old new (either clean) still settled;
+        unchanged = λ clean still settled. now_by old new (either clean) still settled;
         committed = λ clean still. committed_by old new (either clean) still;
         idle = tells.idle;
       }
@@ -95,7 +95,7 @@ module _ {S : Type 0} (g : Ghosts S) where
     knew clean still = is.knows (clean_before old new asked clean) (asked.was_open clean still)
 
     pub world_same : IsClean g new → IsOpen g new → world_at g new ≡ world_at g old
-    world_same clean still = ap world_in (asked.same clean still (knew clean still).settled)
+    world_same clean still = ap world_in (asked.unchanged clean still (knew clean still).settled)
 
     knows_new : IsClean g new → IsOpen g new → Knows g new (world_at g new)
     knows_new clean still = subst (λ world. Knows g new world) (sym (world_same clean still)) (knows_still old new asked clean still (world_at g old) (knew clean still))

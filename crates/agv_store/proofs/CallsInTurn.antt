@@ -80,7 +80,7 @@ empty_or_some (answer ∷ given) = inr (omega arith)
 
 -- without memory for the answers
 pub stopped_unreserved : {S : Type 0} (desk : Keyed S) (calls : List (ℕ × Call)) (capacity : ℕ) (given : List Answer) → given ≡ [] → (length calls ≤ capacity → ⊥) → IsStopped desk desk calls capacity given (Some machine.Memory)
-stopped_unreserved desk calls capacity given none lacks = record { same = refl; none = none; ends = λ has. absurd (lacks has) }
+stopped_unreserved desk calls capacity given none lacks = record { unchanged = refl; none = none; ends = λ has. absurd (lacks has) }
 
 module _ {S : Type 0} (g : Ghosts S) where
   -- these calls were answered between the two moments, and none came after them
@@ -224,7 +224,7 @@ module _ {S : Type 0} (g : Ghosts S) where
           let none = none_given so_far had_failed in
           let stopped = stops failed in
           record {
-            same = stopped.1 ∙ so_far.untouched none;
+            unchanged = stopped.1 ∙ so_far.untouched none;
             none = none;
             ends = λ _. ap Some (storage_by why stopped.0) ∙ sym (stopped_first calls low);
           }
@@ -267,4 +267,4 @@ module _ {S : Type 0} (g : Ghosts S) where
     stopped_to_end capacity all had_failed =
         let none = none_given so_far had_failed in
         let e : length given ≡ 0 = ap length none in
-        record { same = so_far.untouched none; none = none; ends = λ _. sym (stopped_none calls (omega (arith, e, all))) }
+        record { unchanged = so_far.untouched none; none = none; ends = λ _. sym (stopped_none calls (omega (arith, e, all))) }

@@ -11,7 +11,7 @@ use Rattle.sqlite.specs.State.{Survives}
 use Rattle.sqlite.proofs.StateLemmas.{survives_then, survives_weaker}
 use Rattle.agv_world.specs.Asks.{Answers, IsFaulted, Kept, failed_after}
 use Rattle.agv_world.specs.Changes.{changed}
-use Rattle.agv_world.specs.GoodOrder.{InGoodOrder}
+use Rattle.agv_world.specs.GoodOrder.{HasConsistentTrips}
 use Rattle.agv_world.specs.Lawful.{IsLawful}
 use Rattle.agv_world.specs.Rows.{rows_of}
 use Rattle.agv_world.specs.Worlds.{World}
@@ -56,7 +56,7 @@ module _ {S : Type 0} (g : Ghosts S) where
   asked_here held = record {
     survives = record { clean = le_refl _; shield = λ is. is; counts = le_refl _; limit = refl; closes = λ clean still. inl still; crash = λ clean trees before. inl before };
     was_open = λ clean still. still;
-    same = λ clean still settled. refl;
+    unchanged = λ clean still settled. refl;
     committed = λ clean still. refl;
     idle = λ idle. idle;
   }
@@ -88,7 +88,7 @@ module _ {S : Type 0} (g : Ghosts S) where
     knows_before clean still = knew (clean_old clean) (asked.was_open clean still)
 
     pub same_now : IsClean g mid → IsOpen g mid → LeavesAll g old mid
-    same_now clean still = asked.same clean still (knows_before clean still).settled
+    same_now clean still = asked.unchanged clean still (knows_before clean still).settled
 
     pub same_world : IsClean g mid → IsOpen g mid → world_at g mid ≡ world_at g old
     same_world clean still = ap world_in (same_now clean still)
@@ -108,7 +108,7 @@ module _ {S : Type 0} (g : Ghosts S) where
       decides_mid clean = subst (λ world. Decides world at call decision) (sym (same_world clean (knows clean).is_open)) (decides_old clean)
 
       -- where no row changes
-      pub told : ((seats : ℕ) (world : World) → IsLawful seats world → InGoodOrder world) → ((world other : World) → InGoodOrder world → InGoodOrder other → rows_of world ≡ rows_of other → world ≡ other)
+      pub told : ((seats : ℕ) (world : World) → IsLawful seats world → HasConsistentTrips world) → ((world other : World) → HasConsistentTrips world → HasConsistentTrips other → rows_of world ≡ rows_of other → world ≡ other)
           → decision.changes ≡ [] → IsClean g mid → IsServedBy g old mid at call decision.answer
       unfolding changed
       told good one none clean =

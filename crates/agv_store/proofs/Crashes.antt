@@ -71,6 +71,15 @@ module _ {S : Type 0} (g : Ghosts S) (only_committed : (s : S) (db : Trees) → 
     pub opened : (new : Held S) → IsClean g new → Survives (state g old) (state g new) (λ trees. CanBeMade (state g old).now.schema × LeavesDesk (state g old).now trees) → (state g new).may_leave trees → NoneOrAll
     opened new clean survives left = none_or_all (survives.crash clean trees left)
 
+  -- ---- of what only reads
+
+  pub only_read : (old new : Held S) → IsOpen g old → (state g old).committed ≡ (state g old).now → IsDatabase (state g old).now
+      → IsClean g new → Survives (state g old) (state g new) (λ _. ⊥) → (trees : Trees) → (state g new).may_leave trees → HasDatabase (λ found. found ≡ (state g old).now) trees
+  only_read old new is_open settled listed clean survives trees left = elim (survives.crash clean trees left) [
+    | inl before ↦ record { found = (state g old).now; listed = listed; trees_are = left_now old is_open settled trees before; is_so = refl }
+    | inr never ↦ absurd never
+  ]
+
   -- ---- of a move from the first schema
 
   module _ (old : Held S) (is_open : IsOpen g old) (settled : (state g old).committed ≡ (state g old).now) (listed : IsDatabase (state g old).now) (trees : Trees) where

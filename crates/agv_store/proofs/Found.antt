@@ -16,20 +16,20 @@ use Rattle.agv_world.specs.Worlds.{World}
 use Rattle.agv_world.specs.declared.world.World.{World as Tables}
 use Rattle.agv_row_reading.specs.WorldAnswers.{HasNoWorld, HasWorld, AnswersQuery}
 use Rattle.agv_rowids.specs.Rowids.{AreTablesKeyed, TellsKeyed}
-use Rattle.agv_row_reading.specs.TablesRead.{HaveAll, TellsAll}
+use Rattle.agv_row_reading.specs.TablesRead.{HasCauseOverTables, HaveAll, TellsAll}
 use Rattle.agv_world_reading.specs.WorldIn.{world_in}
 use Rattle.agv_schema.specs.DeskRows.{AreKeyed, HaveRows, Holds, Placing, columns_in, table_names, width_of}
 use Rattle.agv_rows.specs.RowLists.{HoldsWorld}
 use Rattle.agv_schema.specs.SchemaNumbers.{desk_seats}
 use Rattle.agv_creation.specs.StandingTables.{TablesStand}
-use Rattle.agv_schema.specs.Connections.{IsClean, IsOpen}
+use Rattle.agv_schema.specs.Connections.{HasStorageCause, IsClean, IsOpen}
 use Rattle.agv_row_reading.specs.declared.reading_fault.ReadingFault.{ReadingFault}
 use Rattle.agv_row_reading.specs.declared.reading_fault.ReadingFault.TheVariants as reading
 use Rattle.agv_row_reading.specs.declared.held_things.HeldThings.{HeldThings}
 use Rattle.agv_schema.specs.declared.table_name.TableName.{TableName}
 use Rattle.agv_store.specs.Floors.{IsAsked, IsKept, Knows, world_at}
 use Rattle.agv_store.specs.OpenFaults.{of_reading}
-use Rattle.agv_store.specs.Opening.{Finds, HasCauseOverWorld}
+use Rattle.agv_store.specs.Opening.{Finds}
 use Rattle.agv_store.specs.Known.{IsKnownIn}
 use Rattle.agv_store.specs.declared.known.Known.{Known}
 use Rattle.agv_store.specs.declared.open_fault.OpenFault.{OpenFault}
@@ -83,7 +83,7 @@ module _ {S : Type 0} (g : Ghosts S) where
   -- ---- a look that ends without a desk
 
   finds_none : (old new : Held S) (r : Result Known OpenFault) (why : OpenFault) → IsErrAnd r (λ made. made ≡ why) → (IsClean g new → why ≡ fault.Damaged → HasNoWorld (state g old).now)
-      → (IsClean g new → why ≡ fault.Storage → HasCauseOverWorld g old new) → IsAsked g old new → Finds g old new r
+      → (IsClean g new → why ≡ fault.Storage → HasStorageCause g old new) → IsAsked g old new → Finds g old new r
   finds_none old new (Ok found) why is none caused asked = absurd is
   finds_none old new (Err made) why is none caused asked = record {
     found = λ _. tt;
@@ -92,12 +92,13 @@ module _ {S : Type 0} (g : Ghosts S) where
     asked = asked;
   }
 
-  -- the first question failed
-  pub finds_fault : {A : Type 0} (old new : Held S) (r : Result Known OpenFault) (why : ReadingFault) (says : World → A → Type 0) → IsErrAnd r (λ made. made ≡ of_reading why) → AnswersQuery g old new (Err why) says → Finds g old new r
-  finds_fault old new r why says made tells =
+  -- the first question failed, where the tables stand
+  pub finds_fault : {A : Type 0} (old new : Held S) (r : Result Known OpenFault) (why : ReadingFault) (says : World → A → Type 0) → IsErrAnd r (λ made. made ≡ of_reading why) → AnswersQuery g old new (Err why) says
+      → TablesStand (state g old).now.schema → (IsClean g new → why ≡ reading.Storage → HasCauseOverTables g old new) → Finds g old new r
+  finds_fault old new r why says made tells stand caused =
       finds_none old new r (of_reading why) made
       (λ clean damaged. tells.damaged clean (read_damaged why damaged))
-      (λ clean stored. tells.caused clean (read_stored why stored))
+      (λ clean stored. caused clean (read_stored why stored) stand.0 stand.1 stand.2)
       (asked_by g old new (Err why) says tells)
 
   -- ---- each row has a key of its own
@@ -113,15 +114,16 @@ module _ {S : Type 0} (g : Ghosts S) where
     asked_keys : IsAsked g old mid
     asked_keys = asked_by g old mid (Ok yes) (λ world keyed. keyed ≡ true) asked
 
-    -- the reading failed
-    pub finds_fault_then : {A : Type 0} (r : Result Known OpenFault) (why : ReadingFault) (says : World → A → Type 0) → IsErrAnd r (λ made. made ≡ of_reading why) → AnswersQuery g mid new (Err why) says → Finds g old new r
-    finds_fault_then r why says made tells =
-        let later = asked_by g mid new (Err why) says tells in
+    -- the reading failed, where the tables stand
+    pub finds_fault_then : {A : Type 0} (r : Result Known OpenFault) (why : ReadingFault) (says : World → A → Type 0) (has : List (List Row) → A → Type 0) → IsErrAnd r (λ made. made ≡ of_reading why)
+        → TellsAll g mid new (Err why) says has → TablesStand (state g old).now.schema → Finds g old new r
+    finds_fault_then r why says has made read stand =
+        let later = asked_by g mid new (Err why) says read.tells in
         finds_none old new r (of_reading why) made
-        (λ clean damaged. none_before (clean_before g mid new later clean) (tells.damaged clean (read_damaged why damaged)))
-        (λ clean stored at world has.
-        let there = subst (λ (db : Database). HasWorld at db world) (sym (same_mid (clean_before g mid new later clean))) has in
-        fault_later g old mid new (later_by g old mid asked.survives) (later_by g mid new tells.survives) clean (tells.caused clean (read_stored why stored) at world there))
+        (λ clean damaged. none_before (clean_before g mid new later clean) (read.tells.damaged clean (read_damaged why damaged)))
+        (λ clean stored.
+        fault_later g old mid new (later_by g old mid asked.survives) (later_by g mid new read.tells.survives) clean
+        (read.caused clean (read_stored why stored) stand.0 stand.1 (ap (λ (db : Database). db.schema) (same_mid (clean_before g mid new later clean)) ∙ stand.2)))
         (asked_then g old mid new asked_keys later)
 
     module _ (tables : Tables) (holds : HeldThings)
@@ -164,7 +166,7 @@ module _ {S : Type 0} (g : Ghosts S) where
         opens clean = ((asked.answering (clean_mid clean)).0, (read.tells.answering clean).1)
 
         world_is : IsClean g new → (state g old).committed ≡ (state g old).now → world_at g new ≡ world
-        world_is clean settled = ap world_in (asked_both.same clean (opens clean).1 settled) ∙ tells_its_world stand.0 (state g old).now world (has_world clean)
+        world_is clean settled = ap world_in (asked_both.unchanged clean (opens clean).1 settled) ∙ tells_its_world stand.0 (state g old).now world (has_world clean)
 
         module _ (idle : old.in_transaction ≡ false) (settled : IsOpen g old → (state g old).now ≡ (state g old).committed) (live : IsOpen g old → IsDatabase (state g old).now) where
           knows : IsClean g new → Knows g new (world_at g new)

@@ -23,7 +23,7 @@ use Rattle.agv_world.specs.Worlds.{World}
 use Rattle.agv_world.specs.declared.change.Change.{Change}
 use Rattle.agv_world.specs.declared.change.Change.TheVariants as row
 use Rattle.agv_world.proofs.lists.Orders.{names_apart, names_total}
-use Rattle.agv_desk.specs.JobSteps.{station_in}
+use Rattle.agv_desk.specs.JobSteps.{station_of_place}
 use Rattle.agv_desk.proofs.lists.SameNames.{same_name}
 use Rattle.agv_desk.proofs.lists.Writes.{is_written, one_if, tally, tally-written}
 use Rattle.agv_store.specs.KeptLayouts.{is_of_layout}
@@ -168,7 +168,7 @@ still_left rooms (row.Load id to) laid none rows left other room there =
     let same : one_if (is_at other to) ≡ 0 = ap one_if (not_there to other none) in
     (site, known, omega (arith, more, same, within))
   where
-    not_there : (to : Place) (other : List ℕ) → station_in (Some to) ≡ None → is_at other to ≡ false
+    not_there : (to : Place) (other : List ℕ) → station_of_place (Some to) ≡ None → is_at other to ≡ false
     not_there (place.Station at) other is = absurd (cc is)
     not_there (place.Vehicle key) other is = refl
     not_there place.Checking other is = refl

@@ -92,7 +92,7 @@ module _ {S : Type 0} (g : Ghosts S) where
   asked_first old new r finds = record {
     survives = finds.survives;
     was_open = λ clean still. open_by old new (stays old new r finds clean) still;
-    same = λ clean still settled. now_by old new (stays old new r finds clean) still settled;
+    unchanged = λ clean still settled. now_by old new (stays old new r finds clean) still settled;
     committed = λ clean still. committed_by old new (stays old new r finds clean) still;
     idle = finds.idle;
   }
@@ -148,7 +148,7 @@ module _ {S : Type 0} (g : Ghosts S) where
     same_mid : IsClean g mid → (state g mid).now ≡ (state g old).now
     same_mid clean =
         let found = finds.found clean in
-        finds.asked.same clean found.1 (sym (settled found.0))
+        finds.asked.unchanged clean found.1 (sym (settled found.0))
 
     abbrev had : IsClean g mid → FirstFound (state g old).now
     had clean = (finds.found clean).2.0
@@ -208,7 +208,7 @@ module _ {S : Type 0} (g : Ghosts S) where
       let named : Refused why ≡ Refused making.Taken = ap Refused (taken_only why (sym told_is ∙ damaged_only new told is)) in
       let early : IsClean g mid = subst (IsClean g) (unchanged named) clean in
       let found = finds.found early in
-      let same = finds.asked.same early found.1 (sym (settled found.0)) in
+      let same = finds.asked.unchanged early found.1 (sym (settled found.0)) in
       inr (subst (λ (db : Database). ¬ CanBeAdded db.schema) same (taken.0 named))
 
   -- a fault of the store in the move comes only of a database that can be moved
@@ -223,7 +223,7 @@ module _ {S : Type 0} (g : Ghosts S) where
   can_be_migrated old mid new tables known finds settled crash why told told_is taken clean is =
       let early : IsClean g mid = (later_by g mid new crash).clean clean in
       let found = finds.found early in
-      let same = finds.asked.same early found.1 (sym (settled found.0)) in
+      let same = finds.asked.unchanged early found.1 (sym (settled found.0)) in
       let stored : of_making why ≡ fault.Storage = sym told_is ∙ storage_only new told is in
       record {
         had = found.2.0;
@@ -243,5 +243,5 @@ module _ {S : Type 0} (g : Ghosts S) where
   could_be_added old mid new tables known finds settled crash it taken clean =
       let early : IsClean g mid = (later_by g mid new crash).clean clean in
       let found = finds.found early in
-      let same = finds.asked.same early found.1 (sym (settled found.0)) in
+      let same = finds.asked.unchanged early found.1 (sym (settled found.0)) in
       subst (λ (db : Database). CanBeAdded db.schema) same (not_denied_added (state g mid).now (λ cannot. not_taken it making.Taken (taken.1 cannot)))

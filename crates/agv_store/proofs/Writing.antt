@@ -67,7 +67,7 @@ AddsBelow = (seats : ℕ) (world : World) (at : ℕ) (call : Call) (what : Count
 pub record IsWritten {S : Type 0} (g : Ghosts S) (old new : Held S) (changes : List Change) (r : Result (Unit {0}) WriteFault) : Type 0 where
   pub made : IsClean g new → OnOk r (MakesChanges changes (state g old).now (state g new).committed)
   pub worlds : MakesNextWorld
-  pub same : IsClean g new → OnOk r ((state g new).now ≡ (state g new).committed)
+  pub all_committed : IsClean g new → OnOk r ((state g new).now ≡ (state g new).committed)
   pub opened : IsClean g new → OnOk r (IsTrue (state g old).is_open × IsTrue (state g new).is_open)
   pub was_open : IsClean g new → IsTrue (state g new).is_open → IsTrue (state g old).is_open
   pub undone : IsClean g new → IsTrue (state g new).is_open → OnErr r (((state g new).now ≡ (state g old).committed) × ((state g new).committed ≡ (state g old).committed))
@@ -99,7 +99,7 @@ module _ {S : Type 0} (g : Ghosts S) (law : DatabaseTells) where
     pub knows_next : r ≡ Ok tt → IsClean g new → Knows g new next
     knows_next ok clean =
         let was = knows (clean_old clean) in
-        let same = on_ok ok (writes.same clean) in
+        let same = on_ok ok (writes.all_committed clean) in
         let made = on_ok ok (writes.made clean) in
         record {
           is_open = (on_ok ok (writes.opened clean)).1;
@@ -126,7 +126,7 @@ module _ {S : Type 0} (g : Ghosts S) (law : DatabaseTells) where
     served ok clean = record {
       answer_is = answer_is clean;
       knows = knows_next ok clean;
-      others = λ desk stands schema. subst (λ (db : Database). KeepsOthers desk (state g old).now db) (sym (on_ok ok (writes.same clean))) ((on_ok ok (writes.made clean)).others desk stands schema);
+      others = λ desk stands schema. subst (λ (db : Database). KeepsOthers desk (state g old).now db) (sym (on_ok ok (writes.all_committed clean))) ((on_ok ok (writes.made clean)).others desk stands schema);
     }
 
     -- what is known follows

@@ -62,7 +62,7 @@ module _ {S : Type 0} (g : Ghosts S) where
     pub survives : Survives (state g start) (state g now) (λ _. ⊥)
     pub was_open : IsClean g now → IsOpen g now → IsOpen g start
     -- where the store is open, all tables are as they were, those of others too
-    pub same : IsClean g now → IsOpen g now → (state g start).committed ≡ (state g start).now → (state g now).now ≡ (state g start).now
+    pub unchanged : IsClean g now → IsOpen g now → (state g start).committed ≡ (state g start).now → (state g now).now ≡ (state g start).now
     pub committed : IsClean g now → IsOpen g now → (state g now).committed ≡ (state g start).committed
     pub idle : start.in_transaction ≡ false → now.in_transaction ≡ false
 

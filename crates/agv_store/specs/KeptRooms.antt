@@ -10,7 +10,7 @@ use Rattle.agv_world.specs.Rows.{Rows}
 use Rattle.agv_world.specs.StockInvariant.{coming, stored}
 use Rattle.agv_world.specs.declared.change.Change.{Change}
 use Rattle.agv_world.specs.declared.change.Change.TheVariants as row
-use Rattle.agv_desk.specs.JobSteps.{station_in}
+use Rattle.agv_desk.specs.JobSteps.{station_of_place}
 
 abbrev pub RoomsLeft : Type 0
 RoomsLeft = tree.BTreeMap (List ℕ) ℕ
@@ -38,7 +38,7 @@ takes_room_at (row.Station id site) = None
 takes_room_at (row.Vehicle key vehicle) = None
 takes_room_at (row.Trip order trip) = None
 takes_room_at (row.Leg key edge) = None
-takes_room_at (row.Load id place) = station_in (Some place)
+takes_room_at (row.Load id place) = station_of_place (Some place)
 takes_room_at (row.Job id job) = if is_live job.phase then Some job.target else None
 takes_room_at (row.Hold thing key) = None
 takes_room_at (row.Used key) = None

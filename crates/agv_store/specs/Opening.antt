@@ -3,13 +3,12 @@ use Rattle.std.specs.Prelude.{◌≡◌, false, Result, Ok, Err, IfErr, IfOk}
 use Rattle.sqlite_trees.specs.declared.store.Store.{Ghosts}
 use Rattle.sqlite_schema.specs.declared.schema.Schema.{Schema}
 use Rattle.sqlite.specs.Held.{Held, state}
-use Rattle.agv_world.specs.Worlds.{World, empty_world}
-use Rattle.agv_row_reading.specs.WorldAnswers.{HasNoWorld, HasWorld}
+use Rattle.agv_world.specs.Worlds.{empty_world}
+use Rattle.agv_row_reading.specs.WorldAnswers.{HasNoWorld}
 use Rattle.agv_creation.specs.DeskSchema.{is_name_taken}
 use Rattle.agv_creation.specs.DeskTables.{MakesDesk}
-use Rattle.agv_creation.specs.NewDesk.{LeavesRoom}
+use Rattle.agv_creation.specs.NewDesk.{AllowsDesk}
 use Rattle.agv_schema.specs.Connections.{HasStorageCause, IsClean, IsOpen}
-use Rattle.agv_schema.specs.DeskRows.{Placing}
 use Rattle.agv_store.specs.Floors.{IsAsked, Keyed, Knows, world_at}
 use Rattle.agv_store.specs.Known.{IsKnownIn}
 use Rattle.agv_store.specs.declared.known.Known.{Known}
@@ -41,7 +40,7 @@ IsStorage (Err (held, fault.Storage)) = Unit {0}
 
 -- the desk's tables can be made beside what a database has: none of their names is taken, no key refers to one, and no two tables have one tree
 abbrev pub CanBeMade : Schema → Type 0
-CanBeMade schema = (is_name_taken schema ≡ false) × LeavesRoom schema
+CanBeMade schema = (is_name_taken schema ≡ false) × AllowsDesk schema
 
 module _ {S : Type 0} (g : Ghosts S) where
   -- a new desk was made in the database, beside what it had, by an open store
@@ -53,16 +52,12 @@ module _ {S : Type 0} (g : Ghosts S) where
   -- the database had the rows of a lawful world, and all that it has is as it was
   pub record Adopts (old : Held S) (desk : Keyed S) : Type 0 where
     pub was_open : IsOpen g old
-    pub same : (state g desk.held).now ≡ (state g old).now
+    pub unchanged : (state g desk.held).now ≡ (state g old).now
     pub knows : Knows g desk.held (world_at g desk.held)
-
-  -- where the database has the rows of a lawful world, a fault of the store has a cause
-  abbrev pub HasCauseOverWorld : Held S → Held S → Type 0
-  HasCauseOverWorld old new = (at : Placing) (world : World) → HasWorld at (state g old).now world → HasStorageCause g old new
 
   -- how it ends that a desk is looked for in a database: with what is known of the lawful world whose rows its tables have; as damaged only where they have those of none
   pub record Finds (old new : Held S) (result : Result Known OpenFault) : Type 0 where
     pub found : IsClean g new → IfOk result (λ known. IsOpen g old × Knows g new (world_at g new) × IsKnownIn known (world_at g new))
     pub damaged : IsClean g new → IfErr result (λ why. why ≡ fault.Damaged → HasNoWorld (state g old).now)
-    pub caused : IsClean g new → IfErr result (λ why. why ≡ fault.Storage → HasCauseOverWorld old new)
+    pub caused : IsClean g new → IfErr result (λ why. why ≡ fault.Storage → HasStorageCause g old new)
     pub asked : IsAsked g old new

@@ -43,7 +43,7 @@ stopped_end (made ∷ calls) = Some machine.Storage
 
 -- a list of calls on a desk that had failed: it stays as it is and gives no answer, and with memory for the answers the list ends so
 pub record IsStopped {S : Type 0} (desk desk_then : Keyed S) (calls : List (ℕ × Call)) (capacity : ℕ) (given : List Answer) (ended : Option Fault) : Type 0 where
-  pub same : desk_then ≡ desk
+  pub unchanged : desk_then ≡ desk
   pub none : given ≡ []
   pub ends : length calls ≤ capacity → ended ≡ stopped_end calls
 

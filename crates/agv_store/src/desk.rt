@@ -1,4 +1,4 @@
-//! The desk: a connection to the desk's tables that is served calls.
+//! The desk: a connection to the desk's tables, over which calls are served.
 ghost use Rattle.std.specs.Prelude.{◌≡◌, false, true, Err, IfOk, OnErr, OnOk};
 ghost use Rattle.sqlite.specs.Held.{state};
 ghost use Rattle.sqlite.specs.State.{Survives};
@@ -44,7 +44,7 @@ impl<S: Alter + Drop> Desk<S> {
     }
 
     /// Whether its database has answered a call with an error other than that memory ran out. Then every call is answered
-    /// `Storage`, until the connection is adopted anew.
+    /// `Storage`, until the connection is adopted again.
     pub fn failed(&self) -> bool
         ensures { result ≡ self.now.failed }
     {
@@ -62,7 +62,7 @@ impl<S: Alter + Drop> Desk<S> {
     /// # Errors
     /// `Memory` when out of memory; then, where the store is still open, all is as before the call. `Storage` where the store
     /// failed or had failed before: exactly where [`failed`](Desk::failed) is `true` as the call ends (`ends`). A desk that had
-    /// failed before asks nothing, and stays as it is (`stopped`). A fault that leaves the store open leaves all that the
+    /// failed before queries nothing, and stays as it is (`stopped`). A fault that leaves the store open leaves all that the
     /// database has as it was (`unchanged_on_err`).
     pub fn serve(&mut self, at: Moment, call: &Call) -> Result<Answer, Fault>
         ensures knew { IsClean S.Store self.new.held → OnOk result (Knows S.Store self.old.held (world_at S.Store self.old.held)) }

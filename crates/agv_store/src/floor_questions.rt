@@ -31,7 +31,7 @@ impl<S: Alter + Drop> Floor for KeyedFloor<S> {
     ghost starts = { λ floor. record {
       survives = record { clean = le_refl _; shield = λ is. is; counts = le_refl _; limit = refl; closes = λ clean still. inl still; crash = λ clean trees left. inl left };
       was_open = λ clean still. still;
-      same = λ clean still settled. refl;
+      unchanged = λ clean still settled. refl;
       committed = λ clean still. refl;
       idle = λ idle. idle;
     } };
@@ -139,6 +139,15 @@ impl<S: Alter + Drop> Floor for KeyedFloor<S> {
     fn used(&mut self, kind: UseKind, name: Name) -> Result<bool, Fault> {
         let asked = query_used(&mut self.conn, &UseKey { kind, name });
         note(&mut self.failed, &mut self.in_doubt, asked)
+    }
+
+    fn has_layout(&mut self) -> Result<bool, Fault> {
+        if self.keeps_layout() {
+            self.settle()?;
+            return Ok(true);
+        }
+        let layout = self.layout_asked()?;
+        Ok(layout.is_some())
     }
 
     fn layout(&mut self) -> Result<Option<Layout>, Fault> {

@@ -1,6 +1,6 @@
 //! The layout that is kept beside the connection, so that it is read once. It is set once for good, so what was read stays
 //! true; where a row of it is written, it is kept no more.
-ghost use Rattle.std.specs.Prelude.{◌≡◌, true, Some, IfOk, IfSome};
+ghost use Rattle.std.specs.Prelude.{◌≡◌, is_some, true, Some, IfOk, IfSome};
 ghost use Rattle.std.specs.FinMap as map;
 ghost use Rattle.std.specs.FinSet as set;
 ghost use Rattle.agv_world.specs.Asks.{Asks};
@@ -36,6 +36,20 @@ impl<S: Alter + Drop> KeyedFloor<S> {
         ensures { IfSome result (λ site. IsClean S.Store self.now.held → IsOpen S.Store self.now.held → map.get (world_at S.Store self.now.held).layout.stations id ≡ Some site) }
     {
         known_station(&self.known.layout, id)
+    }
+
+    // Whether a layout is kept.
+    pub(crate) fn keeps_layout(&self) -> bool
+        ensures { result ≡ true → IsClean S.Store self.now.held → IsOpen S.Store self.now.held → is_some (layout_set (world_at S.Store self.now.held)) ≡ true }
+    {
+        gives_itself();
+        match &self.known.layout {
+            None => false,
+            Some(layout) => {
+                layout.layout_law();
+                true
+            }
+        }
     }
 
     // A copy of the layout that is kept.

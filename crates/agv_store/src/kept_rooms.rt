@@ -11,7 +11,7 @@ ghost use Rattle.agv_store.specs.KeptRooms.{AreLeft, IsLowered, IsRoomLeft, take
 
 use crate::kept_layout::is_of_layout;
 use crate::keyed_floor::KeyedFloor;
-use agv_desk::station_in;
+use agv_desk::station_of_place;
 use agv_header::{Memory, Name};
 use agv_world::Change;
 use sqlite::Alter;
@@ -86,7 +86,7 @@ fn takes_room_at(change: &Change) -> Option<Name>
     ensures { result ≡ takes_room_at change.now }
 {
     match change {
-        Change::Load(_, place) => station_in(*place),
+        Change::Load(_, place) => station_of_place(*place),
         Change::Job(_, job) => {
             if job.phase.is_live() {
                 Some(job.target)

@@ -23,7 +23,7 @@ use agv_header::Memory;
 use agv_layout::Layout;
 use agv_layout::laws::{gives_itself, needs_a_node};
 use agv_world::change_laws::changes_in_turn;
-use agv_world::lawful_laws::is_in_good_order;
+use agv_world::lawful_laws::has_consistent_trips;
 use agv_world::laws::tables_tell_the_world;
 use agv_world::{Change, Counted, World};
 use std::alloc::Global;
@@ -60,7 +60,7 @@ impl Known {
     pub(crate) fn of(alloc: Global, tables: &World) -> Result<Known, Memory>
         ensures { IfOk result (λ known. (seats : ℕ) (world : WorldOf) → IsLawful seats world → Keeps tables.now world → IsKnownIn known world) }
     {
-        is_in_good_order();
+        has_consistent_trips();
         tables_tell_the_world();
         gives_itself();
         needs_a_node();

@@ -3,7 +3,7 @@
 //! What a crash leaves is said of all trees that it may leave: they are those of a database, which is as is said there. No
 //! other database has the same trees (`making_laws::trees_tell_schemas` of `agv_creation`).
 ghost use Rattle.std.specs.Prelude.{◌≡◌, ◌⊎◌, ℕ, List, Option, length};
-ghost use Rattle.sqlite.specs.Effect.{IsDatabase};
+ghost use Rattle.sqlite.specs.Effect.{Database, IsDatabase};
 ghost use Rattle.sqlite.specs.Held.{Held, state};
 ghost use Rattle.sqlite.specs.State.{Survives};
 ghost use Rattle.sqlite_trees.specs.Tree.{Trees};
@@ -19,7 +19,7 @@ ghost use Rattle.agv_store.specs.Opening.{CanBeMade};
 ghost use Rattle.agv_store.specs.Running.{HasDatabase, IsRun, world_till};
 ghost use Rattle.agv_store.specs.Serving.{FoundIn, LeavesCall, world_after};
 
-use agv_creation::making_laws::made_desks_stand;
+use agv_creation::making_laws::{made_desks_stand, trees_tell_schemas};
 use agv_world_reading::new_desk_laws::new_desks_know_nothing;
 use sqlite::Alter;
 
@@ -59,6 +59,22 @@ pub fn crashes_leave_the_first_schema_or_this<S: Alter>()
         → (trees : Trees) → (state S.Store new).may_leave trees
         → HasDatabase (λ found. (found ≡ (state S.Store old).now) ⊎ ((had : FirstFound (state S.Store old).now) × FoundIn found had.world)) trees }
 {}
+
+/// After a crash in the middle of [`Desk::adopt`](crate::Desk::adopt), of a connection that was open, in no transaction, an
+/// opening finds the database as it was; and so it does after a crash of [`Desk::report`](crate::Desk::report).
+pub fn crashes_leave_what_is_only_read<S: Alter>()
+    ensures { (old new : Held S) → IsOpen S.Store old → (state S.Store old).committed ≡ (state S.Store old).now → IsDatabase (state S.Store old).now
+        → IsClean S.Store new → Survives (state S.Store old) (state S.Store new) (λ _. ⊥)
+        → (trees : Trees) → (state S.Store new).may_leave trees → HasDatabase (λ found. found ≡ (state S.Store old).now) trees }
+{}
+
+/// Trees tell the world whose rows they have: what an opening finds after a crash has the same world in each database with these
+/// trees, so [`Desk::adopt`](crate::Desk::adopt) doesn't find it damaged.
+pub fn trees_tell_worlds()
+    ensures { (found other : Database) (world : World) → IsDatabase found → IsDatabase other → other.trees ≡ found.trees → FoundIn found world → FoundIn other world }
+{
+    trees_tell_schemas();
+}
 
 /// However a list of calls ends, a desk whose store was open knows the world after the calls that were answered, and goes on
 /// from there, unless its disk had a fault meanwhile.

@@ -3,16 +3,16 @@
 //!
 //! - [`Desk`] is made in a database, or adopted from one (`opening`; [`OpenFault`] says why there is none). It serves one
 //!   call, or a list of calls in turn up to the first fault (`running`), and keeps its world lawful. A database of the first
-//!   schema is moved to the second, and its desk taken over (`migration`).
-//! - `keyed_floor` has a connection to the desk's tables that is asked by keys and indexes, as `agv_desk` asks a floor.
+//!   schema is migrated to the second, and its desk adopted (`migration`).
+//! - `keyed_floor` answers the questions of `agv_desk` to a floor by keys and indexes, over a connection to the desk's tables.
 //!   Beside the connection it has what is known beside the tables (`known`): five counts (`counts`), the layout
 //!   (`kept_layout`), the room at stations (`kept_rooms`), the open trips of orders (`kept_trips`) and the rows of vehicles
 //!   (`kept_vehicles`). `serving` serves one call over it.
 //! - An answer that names a report doesn't hold it: [`Desk::report`] gives its bytes (`reports`). What a report lists is
 //!   gathered from whole tables (`report_lists`, `whole_tables`), and `agv_count` writes the text.
 //!
-//! What a desk keeps true of its connection is `specs/Floors.antt`, of what it knows beside it `specs/Known.antt`, what it
-//! makes of a call `specs/Serving.antt`, of a list of calls `specs/Running.antt`, how it is opened `specs/Opening.antt`, and
+//! What a desk keeps true of its connection is `specs/Floors.antt`, of what it knows beside it `specs/Known.antt`, how it
+//! serves a call `specs/Serving.antt`, of a list of calls `specs/Running.antt`, how it is opened `specs/Opening.antt`, and
 //! what a move gives `specs/Migration.antt`.
 #![tactic(auto)]
 

@@ -1,4 +1,4 @@
-//! Why a database gives no desk.
+//! Why no desk can be opened in a database.
 ghost use Rattle.std.specs.Prelude.{◌≡◌};
 ghost use Rattle.agv_store.specs.OpenFaults.{of_making, of_reading};
 
@@ -7,13 +7,13 @@ use agv_header::Memory;
 use agv_row_reading::ReadingFault;
 use thiserror::Error;
 
-/// Why a database gives no desk.
+/// Why no desk can be opened in a database.
 #[derive(Clone, Copy, Debug, PartialEq, Eq, Error)]
 pub enum OpenFault {
     /// For [`Desk::create`](crate::Desk::create): a name of the desk's tables is taken, a foreign key refers to one of them,
-    /// or two tables lie in one tree.
+    /// or two tables share a b-tree.
     /// For [`Desk::adopt`](crate::Desk::adopt) and [`Desk::open`](crate::Desk::open): the database has the rows of no lawful
-    /// world, or a table is missing or is another.
+    /// world, or a table is missing or has other columns or keys.
     /// For [`Desk::migrate`](crate::Desk::migrate): the database has the first schema's rows of no lawful world, or one of its
     /// eleven tables is missing or is another; or a table, a view or an index has the name of one of the three tables that the
     /// second schema has besides, or a foreign key refers to one of them.
@@ -22,7 +22,7 @@ pub enum OpenFault {
     /// Out of memory.
     #[error("out of memory")]
     Memory,
-    /// Any other error of the database: the store failed or was shut by an earlier failure, or the steps of its queries are
+    /// Any other error of the database: the store failed or was closed by an earlier failure, or the steps of its queries are
     /// limited.
     #[error("the database failed")]
     Storage,

@@ -9,18 +9,18 @@ ghost use Rattle.agv_world.specs.Worlds.{World as WorldOf};
 ghost use Rattle.agv_row_reading.specs.WorldAnswers.{HasNoWorld};
 ghost use Rattle.agv_creation.specs.DeskTables.{LeavesDesk};
 ghost use Rattle.agv_schema.specs.SchemaNumbers.{desk_seats};
-ghost use Rattle.agv_schema.specs.Connections.{IsClean, IsOpen};
-ghost use Rattle.agv_store.specs.Opening.{Adopts, CanBeMade, Finds, HasCauseOverWorld, IsDamaged, IsStorage, Makes, left_by};
+ghost use Rattle.agv_schema.specs.Connections.{HasStorageCause, IsClean, IsOpen};
+ghost use Rattle.agv_store.specs.Opening.{Adopts, CanBeMade, Finds, IsDamaged, IsStorage, Makes, left_by};
 
 use crate::counts::Counts;
 use crate::desk::Desk;
 use crate::keyed_floor::KeyedFloor;
 use crate::known::Known;
 use crate::open_fault::OpenFault;
-use agv_creation::desk_tables::make_desk_tables;
+use agv_creation::desk_tables::{NAMES, is_any_used, make_desk_tables};
 use agv_creation::making_laws::made_desks_stand;
 use agv_creation::standing_tables::tables_stand;
-use agv_creation::table_room::leaves_room;
+use agv_creation::tables_beside::allows_desk;
 use agv_header::Memory;
 use agv_row_reading::HeldThings;
 use agv_rowids::rowid_reading::query_rowids;
@@ -31,6 +31,7 @@ use agv_world_reading::reading_laws::tables_read_tell_the_world;
 use agv_world_reading::world_laws::a_database_tells_its_world;
 use agv_world_reading::world_reading::read_world;
 use sqlite::{Alter, Connection};
+use sqlite_schema::schema::Schema;
 use std::alloc::Global;
 
 impl<S: Alter + Drop> Desk<S> {
@@ -39,8 +40,9 @@ impl<S: Alter + Drop> Desk<S> {
     /// # Errors
     /// `Damaged` where a table, a view or an index has the name of one of the desk's tables, a foreign key refers to one of
     /// them, or two tables lie in one tree, as in no sound database, and only there: nothing is touched then. Else `Memory`
-    /// when out of memory, and `Storage` for any other error of the database: the store failed or had been shut, or SQL refuses a
-    /// statement, as where the database has 65,536 trees. The connection comes back; one that is open has what it had.
+    /// when out of memory, and `Storage` for any other error of the database: the store failed or had been shut, or SQL
+    /// refuses a statement, as where the database has 65,536 trees. The connection comes back; one that is open has what it
+    /// had.
     pub fn create(alloc: Global, conn: Connection<S>) -> Result<Desk<S>, (Connection<S>, OpenFault)>
         requires { conn.in_transaction ≡ false }
         ensures made { IfOk result (λ desk. IsClean S.Store desk.held → Makes S.Store conn desk) }
@@ -58,7 +60,7 @@ impl<S: Alter + Drop> Desk<S> {
         a_database_tells_its_world();
         let mut conn = conn;
         let _settled = conn.is_autocommit();
-        if !leaves_room(conn.schema()) {
+        if !allows_desk(conn.schema()) {
             return Err((conn, OpenFault::Damaged));
         }
         match make_desk_tables(&mut conn) {
@@ -78,15 +80,15 @@ impl<S: Alter + Drop> Desk<S> {
     /// # Errors
     /// `Damaged` where the database has the rows of no lawful world: a table is missing or is another, a row tells nothing,
     /// the rows break a rule of the desk, or what is held isn't what the vehicles hold. A database that has the rows of a
-    /// lawful world is never damaged. Else `Memory` when out of memory, and `Storage` for any other error of the database: over
-    /// the rows of a lawful world only where the store failed, had been shut, or limits the steps of a query. The connection
-    /// comes back; one that is open has what it had.
+    /// lawful world is never damaged. Else `Memory` when out of memory, and `Storage` only where the store failed, had been
+    /// shut, or limits the steps of a query, whatever the database has. The connection comes back; one that is open has what
+    /// it had.
     pub fn adopt(alloc: Global, conn: Connection<S>) -> Result<Desk<S>, (Connection<S>, OpenFault)>
         requires { conn.in_transaction ≡ false }
         ensures adopted { IfOk result (λ desk. IsClean S.Store desk.held → Adopts S.Store conn desk) }
         ensures works { IfOk result (λ desk. desk.failed ≡ false) }
         ensures damaged { IsClean S.Store (left_by result) → IsDamaged result → HasNoWorld (state S.Store conn).now }
-        ensures caused { IsClean S.Store (left_by result) → IsStorage result → HasCauseOverWorld S.Store conn (left_by result) }
+        ensures caused { IsClean S.Store (left_by result) → IsStorage result → HasStorageCause S.Store conn (left_by result) }
         ensures unchanged { IsClean S.Store (left_by result) → IsOpen S.Store (left_by result)
             → IsOpen S.Store conn × ((state S.Store (left_by result)).now ≡ (state S.Store conn).now) }
         ensures idle { (left_by result).in_transaction ≡ false }
@@ -102,8 +104,8 @@ impl<S: Alter + Drop> Desk<S> {
         }
     }
 
-    /// Opens a database as a desk: makes one ([`Desk::create`]), and where that is `Damaged` adopts the one that is there
-    /// ([`Desk::adopt`]).
+    /// Opens a database as a desk: makes one ([`Desk::create`]) where its tables can be made beside what the database has, and
+    /// else adopts the one that is there ([`Desk::adopt`]).
     ///
     /// # Errors
     /// As these two. `Damaged` only where a desk can't be made, and the database has the rows of no lawful world; `Storage` has
@@ -113,20 +115,27 @@ impl<S: Alter + Drop> Desk<S> {
         ensures opened { IfOk result (λ desk. IsClean S.Store desk.held → (CanBeMade (state S.Store conn).now.schema × Makes S.Store conn desk) ⊎ ((¬ CanBeMade (state S.Store conn).now.schema) × Adopts S.Store conn desk)) }
         ensures works { IfOk result (λ desk. desk.failed ≡ false) }
         ensures damaged { IsClean S.Store (left_by result) → IsDamaged result → (¬ CanBeMade (state S.Store conn).now.schema) × HasNoWorld (state S.Store conn).now }
-        ensures caused { IsClean S.Store (left_by result) → IsStorage result → CanBeMade (state S.Store conn).now.schema ⊎ HasCauseOverWorld S.Store conn (left_by result) }
+        ensures caused { IsClean S.Store (left_by result) → IsStorage result → CanBeMade (state S.Store conn).now.schema ⊎ HasStorageCause S.Store conn (left_by result) }
         ensures undone { IsClean S.Store (left_by result) → IsOpen S.Store (left_by result)
             → OnErr result (IsOpen S.Store conn × ((state S.Store (left_by result)).now ≡ (state S.Store conn).now)) }
         ensures idle { (left_by result).in_transaction ≡ false }
         ensures crash { Survives (state S.Store conn) (state S.Store (left_by result)) (λ trees. CanBeMade (state S.Store conn).now.schema × LeavesDesk (state S.Store conn).now trees) }
     {
-        match Desk::create(alloc, conn) {
-            Ok(desk) => Ok(desk),
-            Err((conn, why)) => match why {
-                OpenFault::Damaged => Desk::adopt(alloc, conn),
-                OpenFault::Memory | OpenFault::Storage => Err((conn, why)),
-            },
+        let mut conn = conn;
+        let _settled = conn.is_autocommit();
+        if can_be_made(conn.schema()) {
+            Desk::create(alloc, conn)
+        } else {
+            Desk::adopt(alloc, conn)
         }
     }
+}
+
+// Whether the desk's tables can be made beside what the database has.
+fn can_be_made(schema: &Schema) -> bool
+    ensures { IsTrue result ↔ CanBeMade schema.now }
+{
+    !is_any_used(schema, &NAMES) && allows_desk(schema)
 }
 
 // What is known of the world whose rows the desk's tables have, where they have the rows of a lawful one.

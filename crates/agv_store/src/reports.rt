@@ -5,8 +5,8 @@ ghost use Rattle.sqlite.specs.State.{Survives};
 ghost use Rattle.agv_world.specs.Asks.{Asks};
 ghost use Rattle.agv_world.specs.Lawful.{IsLawful};
 ghost use Rattle.agv_world.specs.declared.fault.Fault.TheVariants as fault;
-ghost use Rattle.agv_desk.specs.declared.answer.Answer.TheVariants as answer;
-ghost use Rattle.agv_reports.specs.Reports.{names_report, report_of};
+ghost use Rattle.agv_reports.specs.Reports.{names_report, report_of, report_text};
+ghost use Rattle.agv_reports.specs.declared.report.Report.TheVariants as report;
 ghost use Rattle.agv_schema.specs.SchemaNumbers.{desk_seats};
 ghost use Rattle.agv_schema.specs.Connections.{IsClean, IsOpen};
 ghost use Rattle.agv_store.specs.Flags.{EndsAs};
@@ -17,8 +17,7 @@ use crate::desk::Desk;
 use crate::keyed_floor::KeyedFloor;
 use agv_count::{hold_report, loads_csv, stock_report};
 use agv_desk::Answer;
-use agv_reports::laws::gives_only_what_is_named;
-use agv_reports::names_report;
+use agv_reports::{Report, report_named};
 use agv_world::Fault;
 use sqlite::Alter;
 
@@ -28,8 +27,8 @@ impl<S: Alter + Drop> Desk<S> {
     /// after [`serve`](Desk::serve) has the report of the world in which the call was answered.
     ///
     /// It asks questions and writes nothing. Where the store is open afterwards, it was open before, and all that the
-    /// database has is as it was (`unchanged`, `was_open`); a crash leaves what it could leave before (`crash`). Where the answer
-    /// names no report nothing is asked, no memory is taken, and there is no fault (`silent`).
+    /// database has is as it was (`unchanged`, `was_open`); a crash leaves what it could leave before (`crash`). Where the
+    /// answer names no report nothing is asked, no memory is taken, and there is no fault (`silent`).
     ///
     /// # Errors
     /// `Memory` when out of memory. `Storage` where the store failed or had failed before: exactly where
@@ -65,42 +64,40 @@ impl<S: Alter + Drop> KeyedFloor<S> {
         ensures fails { self.old.failed ≡ true → self.new.failed ≡ true }
         ensures stopped { names_report told.now ≡ true → self.old.failed ≡ true → (result ≡ Err fault.Storage) × (self.new ≡ self.old) }
     {
-        gives_only_what_is_named();
         self.knows();
-        if !names_report(told) {
-            return Ok(Vec::new(self.alloc));
+        match report_named(told) {
+            None => Ok(Vec::new(self.alloc)),
+            Some(report) => self.reported(report),
         }
-        self.reported(told)
     }
 
-    // The report that the answer names, by a store that was open before it and is after it.
-    fn reported(&mut self, told: &Answer) -> Result<Vec<u8>, Fault>
-        ensures tells { Asks (facts_of S.Store) self.old self.new result (λ world bytes. IsLawful desk_seats world → bytes.items ≡ report_of world told.now) }
+    // The report, by a store that was open before it and is after it.
+    fn reported(&mut self, report: Report) -> Result<Vec<u8>, Fault>
+        ensures tells { Asks (facts_of S.Store) self.old self.new result (λ world bytes. IsLawful desk_seats world → bytes.items ≡ report_text world report) }
         ensures knows { IsClean S.Store self.new.held → OnOk result (Knows S.Store self.new.held (world_at S.Store self.new.held)) }
         ensures ends { EndsAs result self.new.failed }
         ensures stopped { self.old.failed ≡ true → (result ≡ Err fault.Storage) × (self.new ≡ self.old) }
     {
         self.settle()?;
-        let bytes = self.bytes_of(told)?;
+        let bytes = self.bytes_of(report)?;
         self.settle()?;
         Ok(bytes)
     }
 
-    // The report that the answer names.
-    fn bytes_of(&mut self, told: &Answer) -> Result<Vec<u8>, Fault>
-        ensures { Asks (facts_of S.Store) self.old self.new result (λ world bytes. IsLawful desk_seats world → bytes.items ≡ report_of world told.now) }
+    // The bytes of the report.
+    fn bytes_of(&mut self, report: Report) -> Result<Vec<u8>, Fault>
+        ensures { Asks (facts_of S.Store) self.old self.new result (λ world bytes. IsLawful desk_seats world → bytes.items ≡ report_text world report) }
     {
-        match told {
-            Answer::StockReport => self.stock(),
-            Answer::HoldReport => self.holds(),
-            Answer::LoadsExport => self.export(),
-            _ => Ok(Vec::new(self.alloc)),
+        match report {
+            Report::Stock => self.stock(),
+            Report::Holds => self.holds(),
+            Report::Loads => self.export(),
         }
     }
 
     // The stations with their loads and the live jobs to them, the vehicles with their loads, and how many have left.
     fn stock(&mut self) -> Result<Vec<u8>, Fault>
-        ensures { Asks (facts_of S.Store) self.old self.new result (λ world bytes. IsLawful desk_seats world → bytes.items ≡ report_of world answer.StockReport) }
+        ensures { Asks (facts_of S.Store) self.old self.new result (λ world bytes. IsLawful desk_seats world → bytes.items ≡ report_text world report.Stock) }
     {
         let alloc = self.alloc;
         let stations = self.stations_told()?;
@@ -111,7 +108,7 @@ impl<S: Alter + Drop> KeyedFloor<S> {
 
     // What is held, by whom, and how many nodes and edges there are.
     fn holds(&mut self) -> Result<Vec<u8>, Fault>
-        ensures { Asks (facts_of S.Store) self.old self.new result (λ world bytes. IsLawful desk_seats world → bytes.items ≡ report_of world answer.HoldReport) }
+        ensures { Asks (facts_of S.Store) self.old self.new result (λ world bytes. IsLawful desk_seats world → bytes.items ≡ report_text world report.Holds) }
     {
         let alloc = self.alloc;
         let holds = self.holds_told()?;
@@ -121,7 +118,7 @@ impl<S: Alter + Drop> KeyedFloor<S> {
 
     // Where each load is.
     fn export(&mut self) -> Result<Vec<u8>, Fault>
-        ensures { Asks (facts_of S.Store) self.old self.new result (λ world bytes. bytes.items ≡ report_of world answer.LoadsExport) }
+        ensures { Asks (facts_of S.Store) self.old self.new result (λ world bytes. bytes.items ≡ report_text world report.Loads) }
     {
         let alloc = self.alloc;
         let loads = self.loads_told()?;

@@ -21,7 +21,7 @@ use agv_desk::laws::lawful::{keeps_lawful, serves_lawful_worlds};
 use agv_desk::{Answer, Call, Decision, counted_by, decide};
 use agv_header::Moment;
 use agv_world::Fault;
-use agv_world::lawful_laws::is_in_good_order;
+use agv_world::lawful_laws::has_consistent_trips;
 use agv_world::laws::rows_tell_the_world;
 use agv_world_reading::world_laws::a_database_tells_its_world;
 use sqlite::Alter;
@@ -39,7 +39,7 @@ impl<S: Alter + Drop> KeyedFloor<S> {
         ensures stopped { self.old.failed ≡ true → (result ≡ Err fault.Storage) × (self.new ≡ self.old) }
     {
         self.knows();
-        is_in_good_order();
+        has_consistent_trips();
         rows_tell_the_world();
         let decision = self.decided(at, call)?;
         if decision.changes.is_empty() {

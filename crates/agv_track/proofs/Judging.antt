@@ -16,7 +16,7 @@ use Rattle.agv_order.specs.WellFormed.{IsConfirmed, IsPlanned, IsUnderWay, IsWel
 use Rattle.agv_order.specs.declared.act.Act.{Act}
 use Rattle.agv_order.specs.declared.trip.Trip.{Trip}
 use Rattle.agv_track.specs.Judgements.{new_statuses, new_acts, goes_back, way_refusals, act_refusals, first_of, unless, eight, is_through, end_by, end_after, next_of, rest_after, progress_of, judged}
-use Rattle.agv_track.specs.Progressed.{progressed, GoesOn, IsNextOf, Advances}
+use Rattle.agv_track.specs.Progressed.{progressed, ActGoesOn, IsNextOf, Advances}
 use Rattle.agv_track.specs.Reached.{is_at_start, reported_node, is_named, names_node, is_our_node, is_before, base_of}
 use Rattle.agv_track.specs.Reports.{with_status, renewed, is_cancelled}
 use Rattle.agv_track.proofs.Eight.{zip-eight, length-new_statuses}
@@ -166,7 +166,7 @@ or-right true b e = cc
 or-right false b e = e
 
 act-after : (acts : List Act) (statuses : List Status) → length acts ≡ length statuses → list_any goes_back (zip acts statuses) ≡ false
-    → (k : ℕ) (before : Act) → slice_get acts k ≡ Some before → (after : Act) × (slice_get (renewed acts statuses) k ≡ Some after) × GoesOn before after
+    → (k : ℕ) (before : Act) → slice_get acts k ≡ Some before → (after : Act) × (slice_get (renewed acts statuses) k ≡ Some after) × ActGoesOn before after
 act-after [] statuses same back k before at = absurd (no_act before at)
   where
     no_act : (act : Act) → None ≡ Some act → ⊥
@@ -174,7 +174,7 @@ act-after [] statuses same back k before at = absurd (no_act before at)
 act-after (u ∷ acts) [] same back k before at = absurd (omega arith)
 act-after (u ∷ acts) (s ∷ statuses) same back zero before at =
     let is : u ≡ before = same_act u before at in
-    subst (λ (b : Act). (after : Act) × (Some (with_status (u, s)) ≡ Some after) × GoesOn b after) is (with_status (u, s), refl, record { task = refl; follows = follows-of u.status s (or-left _ _ back) })
+    subst (λ (b : Act). (after : Act) × (Some (with_status (u, s)) ≡ Some after) × ActGoesOn b after) is (with_status (u, s), refl, record { task = refl; follows = follows-of u.status s (or-left _ _ back) })
   where
     same_act : (a b : Act) → Some a ≡ Some b → a ≡ b
     same_act a b e = cc
@@ -266,7 +266,7 @@ advances trip pending state under few p =
       released = in-base trip state under within;
       node = node-found trip state p.ours;
       acts = λ k before at.
-          subst (λ all. (after : Act) × (slice_get all k ≡ Some after) × GoesOn before after) (sym same) (act-after trip.acts (new_statuses trip state) (length-new_statuses trip state) p.follows k before at);
+          subst (λ all. (after : Act) × (slice_get all k ≡ Some after) × ActGoesOn before after) (sym same) (act-after trip.acts (new_statuses trip state) (length-new_statuses trip state) p.follows k before at);
       under_way = under-way-after trip pending state under p _ same;
       rest = rest-cases trip pending state;
     }
@@ -287,7 +287,7 @@ judged-well-formed layout trip pending state progress well e open-still =
     few-acts trip few = omega (arith, length-map trip.acts task_of)
 
 -- a status that is final stays, so an act becomes finished at most once
-pub final-stays : (before after : Act) → GoesOn before after → is_over before ≡ true → after.status ≡ before.status
+pub final-stays : (before after : Act) → ActGoesOn before after → is_over before ≡ true → after.status ≡ before.status
 final-stays before after goes over = by_status before.status after.status goes.follows over
   where
     by_status : (old new : Status) → may_follow old new ≡ true → is_final old ≡ true → new ≡ old

@@ -16,7 +16,7 @@ abbrev pub progressed : Trip → Progress → Trip
 progressed trip progress = record trip { confirmed = Some progress.confirmed; seen = progress.seen; acts = renewed trip.acts progress.statuses }
 
 -- act k before and after: the same task, and a status that may follow
-pub record GoesOn (before : Act) (after : Act) : Type 0 where
+pub record ActGoesOn (before : Act) (after : Act) : Type 0 where
   pub task : task_of after ≡ task_of before
   pub follows : IsTrue (may_follow before.status after.status)
 
@@ -34,6 +34,6 @@ pub record Advances (trip : Trip) (progress : Progress) : Type 0 where
   pub forward : trip.seen ≤ progress.seen
   pub released : progress.seen ≤ trip.base
   pub node : (name : List ℕ) × (node_at trip progress.seen ≡ Some name)
-  pub acts : (k : ℕ) (before : Act) → slice_get trip.acts k ≡ Some before → (after : Act) × (slice_get (progressed trip progress).acts k ≡ Some after) × GoesOn before after
+  pub acts : (k : ℕ) (before : Act) → slice_get trip.acts k ≡ Some before → (after : Act) × (slice_get (progressed trip progress).acts k ≡ Some after) × ActGoesOn before after
   pub under_way : progress.«end» ≡ None → IsUnderWay (progressed trip progress)
   pub rest : (rest : List ℕ × List ℕ) → progress.rest ≡ Some rest → (progress.«end» ≡ Some Stopped) × IsNextOf trip progress.seen rest

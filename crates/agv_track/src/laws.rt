@@ -11,7 +11,7 @@ ghost use Rattle.agv_order.specs.declared.act.Act.{Act};
 ghost use Rattle.agv_order.specs.declared.trip.Trip.{Trip};
 ghost use Rattle.agv_track.specs.Footprints.{Occupies, IsOnBase, footprint_of};
 ghost use Rattle.agv_track.specs.Judgements.{judged};
-ghost use Rattle.agv_track.specs.Progressed.{progressed, GoesOn, Advances};
+ghost use Rattle.agv_track.specs.Progressed.{progressed, ActGoesOn, Advances};
 ghost use Rattle.agv_track.specs.declared.pending.Pending.{Pending};
 ghost use Rattle.agv_track.specs.declared.progress.Progress.{Progress};
 ghost use Rattle.agv_track.specs.declared.standing.Standing.{Standing};
@@ -30,7 +30,7 @@ pub fn lists_each_once()
 
 /// A trip that is under way advances by each state that is accepted: its base and its plan stay, the
 /// node and the statuses only go forward, within what is released, and it is under way afterwards or
-/// has ended. A vehicle rests only where its trip ends Stopped, on the next released edge.
+/// has ended. A vehicle has a rest only where its trip ends Stopped, on the next released edge.
 pub fn advances()
     ensures { (trip : Trip) (pending : Option Pending) (state : StateMessage) (progress : Progress)
         → IsUnderWay trip → length trip.acts ≤ 8 → judged trip pending state ≡ Ok progress → Advances trip progress }
@@ -45,5 +45,5 @@ pub fn stays_well_formed()
 
 /// An act that is over stays as it is, so no act becomes finished twice.
 pub fn keeps_final()
-    ensures { (before after : Act) → GoesOn before after → IsTrue (is_over before) → after.status ≡ before.status }
+    ensures { (before after : Act) → ActGoesOn before after → IsTrue (is_over before) → after.status ≡ before.status }
 {}

@@ -1,4 +1,4 @@
--- A lawful world is in good order. Where its vehicles are lawful, its loads are lawful just where the stock invariant holds.
+-- A lawful world has consistent trips. Where its vehicles are lawful, its loads are lawful just where the stock invariant holds.
 pub mod ActPlaces
 pub mod CapacityCounts
 pub mod LawfulOrder

@@ -1,4 +1,4 @@
--- The world that the tables tell: what it has at each key, how many there are, and who holds a node or an edge. The tables of a world in good order tell that world.
+-- The world that the tables tell: what it has at each key, how many there are, and who holds a node or an edge. The tables of a world with consistent trips tell that world.
 pub mod Counts
 pub mod EdgesTold
 pub mod HeldBy

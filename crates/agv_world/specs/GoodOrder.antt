@@ -39,7 +39,7 @@ abbrev pub SharesNothing : World → Type 0
 SharesNothing world = (one other : VehicleKey) (thing : Thing) → IsHolder world one thing → IsHolder world other thing → one ≡ other
 
 -- what the rows need to tell the world
-pub record InGoodOrder (world : World) : Type 0 where
+pub record HasConsistentTrips (world : World) : Type 0 where
   pub one_trip : HasOneTripAnOrder world
   pub own : NamesItsVehicle world
   pub known : DrivesOnLayout world

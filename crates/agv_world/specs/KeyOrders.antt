@@ -1,21 +1,15 @@
 -- The orders of the keys of legs and of used names are total, and only equal keys tie.
 use Rattle.std.proofs.Common.{arith, ◌≡◌, Bool, Some, refl}
-use Rattle.std.specs.Ordering.{nat_cmp, ordering_then, eq_by_cmp}
-use Rattle.std.specs.declared.cmp.Ordering.{Ordering}
-use Rattle.std.specs.declared.cmp.Ordering.TheVariants.{Less, Equal, Greater}
+use Rattle.std.specs.Ordering.{nat_cmp, eq_by_cmp}
 use Rattle.std.specs.Cmp.{IsTotalOrder, IsEquivalence, IsPartialOrder, nat_cmp_total, eq_by_cmp_equiv, on_total, then_total, partial_order_from_agreeing_total}
 use Rattle.std.specs.Cmp.Lexicographic.{slice_cmp, nat_list_cmp_total}
 use Rattle.std.specs.FinMap.{IsAntisymmetric, nat_cmp-IsAntisymmetric, slice_cmp-IsAntisymmetric}
+use Rattle.agv_header.specs.KeyOrder.{both_equal}
 use Rattle.agv_world.specs.Keys.{leg_cmp, use_rank, use_cmp}
 use Rattle.agv_world.specs.declared.key.LegKey.{LegKey}
 use Rattle.agv_world.specs.declared.key.UseKey.{UseKey}
 use Rattle.agv_world.specs.declared.key.UseKind.{UseKind}
 use Rattle.agv_world.specs.declared.key.UseKind.TheVariants.{Order, Reference}
-
-both_equal : (a b : Ordering) → ordering_then a b ≡ Equal → (a ≡ Equal) × (b ≡ Equal)
-both_equal Less b e = cc
-both_equal Equal b e = (refl, e)
-both_equal Greater b e = cc
 
 -- ---- legs
 pub leg_cmp-total : IsTotalOrder leg_cmp

@@ -72,7 +72,7 @@ picks act = not (is_drop act.kind)
 pub record IsTripOf (layout : Layout) (key : VehicleKey) (row : VehicleRow) (trip : Trip) : Type 0 where
   pub well_formed : IsWellFormed layout trip
   pub own : trip.vehicle ≡ key
-  pub seated : count_by picks trip.acts ≤ row.capacity
+  pub picks_fit : count_by picks trip.acts ≤ row.capacity
   pub sent : 0 < row.orders.count
   pub stands : node_at trip trip.seen ≡ Some row.node
   pub no_rest : row.rest ≡ None

@@ -209,7 +209,7 @@ tally_of tables = with_jobs (with_loads finite.empty (finite.entries tables.load
 abbrev pub have_room : Tables → Bool
 have_room tables = list_all (λ (station : List ℕ × StationSite). nat_le (tallied (tally_of tables) station.0) station.1.capacity) (finite.entries tables.stations)
 
--- ---- room on vehicles
+-- ---- capacity of vehicles
 
 -- the row's trip is to drop the load
 abbrev pub is_load_by : List ℕ → List Act → Bool

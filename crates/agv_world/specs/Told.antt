@@ -108,7 +108,7 @@ names_of tables kind = set.from_list (names_in kind (set.items tables.used))
 
 -- ---- all of it
 
--- the world that the tables tell; in good order it is the world whose rows they are
+-- the world that the tables tell; with consistent trips it is the world whose rows they are
 abbrev pub world_of : Tables → World
 world_of tables = record {
   layout = layout_of_tables tables;

@@ -73,10 +73,10 @@ vehicle_changes key old new =
     ++ (trip_changes key (trip_before old) new.trip ++ hold_changes key (held_before old) (footprint_of (standing_of new)))
 
 -- a trip that goes on keeps its order and its edges
-abbrev pub GoesOn : Option Trip → Option Trip → Type 0
-GoesOn None new = Unit {0}
-GoesOn (Some old) None = Unit {0}
-GoesOn (Some old) (Some new) = (new.order ≡ old.order) × (new.edges ≡ old.edges)
+abbrev pub KeepsOrderAndEdges : Option Trip → Option Trip → Type 0
+KeepsOrderAndEdges None new = Unit {0}
+KeepsOrderAndEdges (Some old) None = Unit {0}
+KeepsOrderAndEdges (Some old) (Some new) = (new.order ≡ old.order) × (new.edges ≡ old.edges)
 
 -- the vehicle stands where it stood, with the trip that it had
 pub record StandsAsBefore (old : Vehicle) (new : Vehicle) : Type 0 where

@@ -14,7 +14,7 @@ ghost use Rattle.agv_world.specs.Changes.{changed};
 ghost use Rattle.agv_world.specs.GoodOrder.{HasOneTripAnOrder, HasTrip, SharesNothing};
 ghost use Rattle.agv_world.specs.Rows.{Rows, rows_of, standing_of};
 ghost use Rattle.agv_world.specs.TableChanges.{job_changes, layout_changes, load_changes, written, with_use};
-ghost use Rattle.agv_world.specs.VehicleChanges.{GoesOn, StandsAsBefore, own_changes, trip_before, vehicle_changes, with_vehicle};
+ghost use Rattle.agv_world.specs.VehicleChanges.{KeepsOrderAndEdges, StandsAsBefore, own_changes, trip_before, vehicle_changes, with_vehicle};
 ghost use Rattle.agv_world.specs.Worlds.{Vehicle, World, empty_layout};
 ghost use Rattle.agv_world.specs.declared.change.Change.{Change};
 ghost use Rattle.agv_world.specs.declared.change.Change.TheVariants as row;
@@ -81,7 +81,7 @@ pub fn follows_a_vehicle()
     ensures { (world : World) (key : VehicleKey) (vehicle : Vehicle)
         → HasOneTripAnOrder world → SharesNothing world
         → HasOneTripAnOrder (with_vehicle world key vehicle) → SharesNothing (with_vehicle world key vehicle)
-        → GoesOn (trip_before (finite.get world.vehicles key)) vehicle.trip
+        → KeepsOrderAndEdges (trip_before (finite.get world.vehicles key)) vehicle.trip
         → changed (vehicle_changes key (finite.get world.vehicles key) vehicle) (rows_of world) ≡ rows_of (with_vehicle world key vehicle) }
 {}
 

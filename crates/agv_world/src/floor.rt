@@ -28,9 +28,9 @@ pub enum Counted {
 
 /// What answers questions to a world: tables in memory, or a store.
 ///
-/// An answer is what the world says, where the store has given back what was written to it. A question
+/// An answer is that of the world, if the store has returned what was written to it. A question
 /// changes nothing (`specs/Asks.antt`). Each has two faults: `Memory` where an allocation was refused, and
-/// `Storage` where the store failed; only the second one raises `failed`, which nothing lowers.
+/// `Storage` if the store failed; only the second one sets `failed`, which stays set.
 pub trait Floor {
     /// What is known of it at a moment.
     ghost facts: { Facts Self };
@@ -39,7 +39,7 @@ pub trait Floor {
     fn failed(&self) -> bool
         ensures { result ≡ facts.failed self.now };
 
-    /// How many loads a vehicle may be built for: 1 to 4.
+    /// The largest capacity of a vehicle: 1 to 4.
     fn seats(&self) -> u32
         ensures is { result ≡ facts.seats self.now }
         ensures few { (1 ≤ result) × (result ≤ 4) };
@@ -87,6 +87,10 @@ pub trait Floor {
     /// Whether a name was used, in its kind.
     fn used(&mut self, kind: UseKind, name: Name) -> Result<bool, Fault>
         ensures { Asks facts self.old self.new result (λ world used. used ≡ is_used world kind name) };
+
+    /// Whether the layout is set.
+    fn has_layout(&mut self) -> Result<bool, Fault>
+        ensures { Asks facts self.old self.new result (λ world has. has ≡ is_some (layout_set world)) };
 
     /// A copy of the layout; none before it is set.
     fn layout(&mut self) -> Result<Option<Layout>, Fault>

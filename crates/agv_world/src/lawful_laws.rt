@@ -1,7 +1,7 @@
 //! What follows where a world is lawful, for every world. Each function does nothing: its clause is the law.
 ghost use Rattle.std.specs.Prelude.{◌↔◌, ℕ};
 ghost use Rattle.agv_world.specs.StockInvariant.{HasStockInvariant};
-ghost use Rattle.agv_world.specs.GoodOrder.{InGoodOrder};
+ghost use Rattle.agv_world.specs.GoodOrder.{HasConsistentTrips};
 ghost use Rattle.agv_world.specs.Lawful.{HasLawfulLoads, HasLawfulVehicles, IsLawful};
 ghost use Rattle.agv_world.specs.Worlds.{World, empty_world};
 
@@ -16,9 +16,9 @@ pub fn loads_meet_invariant()
     stops_twice();
 }
 
-/// A lawful world is in good order: its rows tell it, and so do its tables.
-pub fn is_in_good_order()
-    ensures { (seats : ℕ) (world : World) → IsLawful seats world → InGoodOrder world }
+/// A lawful world has consistent trips: its rows tell it, and so do its tables.
+pub fn has_consistent_trips()
+    ensures { (seats : ℕ) (world : World) → IsLawful seats world → HasConsistentTrips world }
 {}
 
 /// The world of a desk that knows nothing yet is lawful, whatever number of places a vehicle may have.

@@ -3,7 +3,7 @@ ghost use Rattle.std.specs.Prelude.{◌≡◌, ◌↔◌, Some};
 ghost use Rattle.std.specs.FinMap as map;
 ghost use Rattle.agv_header.specs.declared.key.Thing.{Thing};
 ghost use Rattle.agv_header.specs.declared.key.VehicleKey.{VehicleKey};
-ghost use Rattle.agv_world.specs.GoodOrder.{InGoodOrder, IsHolder, SharesNothing};
+ghost use Rattle.agv_world.specs.GoodOrder.{HasConsistentTrips, IsHolder, SharesNothing};
 ghost use Rattle.agv_world.specs.Kept.{Keeps};
 ghost use Rattle.agv_world.specs.Rows.{rows_of};
 ghost use Rattle.agv_world.specs.Told.{world_of};
@@ -17,14 +17,14 @@ pub fn holds_are_footprints()
         → (map.get (rows_of world).holds thing ≡ Some key) ↔ IsHolder world key thing }
 {}
 
-/// Two worlds in good order that have the same rows are one.
+/// Two worlds with consistent trips that have the same rows are one.
 #[tactic(auto, using(crate::proofs::world_rows::Unique::one_world))]
 pub fn rows_tell_the_world()
-    ensures { (world other : World) → InGoodOrder world → InGoodOrder other → rows_of world ≡ rows_of other → world ≡ other }
+    ensures { (world other : World) → HasConsistentTrips world → HasConsistentTrips other → rows_of world ≡ rows_of other → world ≡ other }
 {}
 
-/// The tables of a world in good order tell that world.
+/// The tables of a world with consistent trips tell that world.
 #[tactic(auto, using(crate::proofs::told_worlds::WorldTold::told_world))]
 pub fn tables_tell_the_world()
-    ensures { (tables : Tables) (world : World) → Keeps tables world → InGoodOrder world → world_of tables ≡ world }
+    ensures { (tables : Tables) (world : World) → Keeps tables world → HasConsistentTrips world → world_of tables ≡ world }
 {}

@@ -13,7 +13,7 @@ use std::alloc::Global;
 /// A world in memory that answers questions, and stays as it is as long as it is asked.
 ///
 /// It answers whatever its tables hold: the world that they tell (`specs/Told.antt`), which is the world
-/// that they keep, where that one is in good order. It never fails, save when out of memory. Vehicles,
+/// that they keep, where that one has consistent trips. It never fails, save when out of memory. Vehicles,
 /// places, jobs, nodes, stations and used names are looked up by their keys; for the other questions it
 /// goes through tables, so it is for tests and small worlds.
 ///
@@ -108,6 +108,10 @@ impl Floor for PlainFloor<'_> {
 
     fn used(&mut self, kind: UseKind, name: Name) -> Result<bool, Fault> {
         Ok(self.world.is_used(kind, name))
+    }
+
+    fn has_layout(&mut self) -> Result<bool, Fault> {
+        Ok(self.world.layout(self.alloc)?.is_some())
     }
 
     fn layout(&mut self) -> Result<Option<Layout>, Fault> {

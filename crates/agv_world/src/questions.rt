@@ -231,7 +231,7 @@ impl World {
                 return self.is_on_trip(*order, trip, thing);
             }
         }
-        is_at_rest_on(row, thing)
+        holds_without_trip(row, thing)
     }
 
     // Whether the vehicle with the trip of this row holds the node or edge.
@@ -288,7 +288,7 @@ impl World {
 }
 
 // Whether a vehicle without a trip that stands so holds the node or edge.
-fn is_at_rest_on(row: &VehicleRow, thing: &Thing) -> bool
+fn holds_without_trip(row: &VehicleRow, thing: &Thing) -> bool
     ensures { result ≡ is_among thing.now (things_by row.now.node row.now.rest None) }
 {
     Thing::Node(row.node) == *thing || is_on_rest(row.rest, thing)

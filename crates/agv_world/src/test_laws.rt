@@ -29,8 +29,8 @@ pub fn tests_trips()
     ensures { (tables : Tables) → IsTrue (are_trips tables) → IsTrue (are_legs tables) → Keeps tables (world_of tables) }
 {}
 
-/// Tables that pass the tests of the layout, the vehicles and their trips are those of the world that they tell, and it has lawful
-/// vehicles; and the tables of any world with lawful vehicles pass.
+/// Tables that pass the tests of the layout, the vehicles and their trips are those of the world that they tell, and it has
+/// lawful vehicles; and the tables of any world with lawful vehicles pass.
 pub fn tests_vehicles()
     ensures passed { (seats : ℕ) (tables : Tables) → HasValues tables → IsTrue (are_lawful_vehicles seats tables)
         → Keeps tables (world_of tables) × HasLawfulVehicles seats (world_of tables) }

@@ -1,8 +1,8 @@
+pub mod CapacityTables
 pub mod LayoutAnswers
 pub mod MetaAnswers
 pub mod NewDesks
 pub mod ReadWorld
-pub mod RoomTables
 pub mod RowsTaken
 pub mod TableAnswers
 pub mod TripTableAnswers

@@ -19,6 +19,7 @@ use Rattle.agv_row_reading.specs.declared.reading_fault.ReadingFault.{ReadingFau
 use Rattle.agv_row_reading.specs.declared.reading_fault.ReadingFault.TheVariants as fault
 use Rattle.agv_schema.specs.declared.table_name.TableName.TheVariants as the
 use Rattle.agv_row_reading.proofs.Asking.{Follows}
+use Rattle.agv_row_reading.proofs.AskingAll.{IsNoStorage}
 use Rattle.agv_rows.proofs.ColumnsKept.{meta_kept}
 use Rattle.agv_rows.proofs.ColumnsWritten.{meta_written}
 use Rattle.agv_row_reading.proofs.TableReading.{added, no_entries}
@@ -40,6 +41,19 @@ unfolding row_lists
 tells_meta world rows shown r read =
     let alone = one_permutation (meta_columns 1 schema_number) rows (subst (λ l. IsPermutation l rows) one_row shown) in
     subst (λ q. Follows q (λ nothing. Unit {0})) (sym (read ∙ ap meta_read alone ∙ is_read)) tt
+
+-- no row of it is a fault of the store
+read_no_storage : (rows : List Row) → IsNoStorage (meta_read rows)
+read_no_storage [] = λ is. cc is
+read_no_storage (row ∷ []) =
+    elim (is_desk_meta (meta_in row)) as (λ b. IsNoStorage {A = Unit {0}} (cond b (Ok tt) (Err fault.Damaged))) [
+      | true ↦ tt
+      | false ↦ λ is. cc is
+    ]
+read_no_storage (row ∷ (other ∷ rows)) = λ is. cc is
+
+pub meta_no_storage : (rows : List Row) (r : Result (Unit {0}) ReadingFault) → r ≡ meta_read rows → IsNoStorage r
+meta_no_storage rows r read = subst (λ (q : Result (Unit {0}) ReadingFault). IsNoStorage q) (sym read) (read_no_storage rows)
 
 first_is : (row : Row) (o : Option (ℕ × ℕ)) → meta_in row ≡ o → is_desk_meta o ≡ true → row ≡ meta_columns 1 schema_number
 first_is row None from is = absurd (cc is)

@@ -10,7 +10,7 @@ use Rattle.agv_world.specs.Kept.{Keeps}
 use Rattle.agv_world.specs.Rows.{rows_of}
 use Rattle.agv_world.specs.Worlds.{World}
 use Rattle.agv_world.specs.declared.world.World.{World as Tables}
-use Rattle.agv_rows.specs.Columns.{act_columns, edge_columns, hold_columns, job_columns, journey_columns, leg_columns, load_columns, node_columns, room_columns, station_columns, used_columns, vehicle_columns}
+use Rattle.agv_rows.specs.Columns.{act_columns, edge_columns, hold_columns, job_columns, journey_columns, leg_columns, load_columns, node_columns, vehicle_capacity_columns, station_columns, used_columns, vehicle_columns}
 use Rattle.agv_schema.specs.DeskRows.{Placing, HaveRows, Holds, table_at, table_names, width_of}
 use Rattle.agv_rows.specs.RowLists.{AreAlike, HoldsWorld, TellRows, row_lists, rows_for, rows_in}
 use Rattle.agv_row_reading.specs.TablesRead.{HaveAll}
@@ -49,7 +49,7 @@ rows_told desk db lists tables holds world held have keeps are =
     let jobs : IsPermutation (table_at 8 lists) (table_at 8 (row_lists (rows_of world))) = subst (λ t. IsPermutation (table_at 8 lists) (rows_in job_columns t)) keeps.jobs read.jobs in
     let holds : IsPermutation (table_at 9 lists) (table_at 9 (row_lists (rows_of world))) = subst (λ t. IsPermutation (table_at 9 lists) (rows_in hold_columns t)) are have.holds in
     let used : IsPermutation (table_at 10 lists) (table_at 10 (row_lists (rows_of world))) = subst (λ t. IsPermutation (table_at 10 lists) (rows_for used_columns t)) keeps.used read.used in
-    let capacities : IsPermutation (table_at 11 lists) (table_at 11 (row_lists (rows_of world))) = subst (λ t. IsPermutation (table_at 11 lists) (rows_in room_columns t)) keeps.vehicles read.capacities in
+    let capacities : IsPermutation (table_at 11 lists) (table_at 11 (row_lists (rows_of world))) = subst (λ t. IsPermutation (table_at 11 lists) (rows_in vehicle_capacity_columns t)) keeps.vehicles read.capacities in
     let journeys : IsPermutation (table_at 12 lists) (table_at 12 (row_lists (rows_of world))) = subst (λ t. IsPermutation (table_at 12 lists) (rows_in journey_columns (journeys_of t))) keeps.trips read.journeys in
     let acts : IsPermutation (table_at 13 lists) (table_at 13 (row_lists (rows_of world))) = subst (λ t. IsPermutation (table_at 13 lists) (rows_in act_columns (acts_of t))) keeps.trips read.acts in
     all_alike (λ name rows. HaveRows (width_of name) (db.trees (desk.tree name)) rows) table_names lists (row_lists (rows_of world)) held.rows refl

@@ -39,7 +39,7 @@ use Rattle.agv_statements.proofs.sql.Selecting.{IsSilent, all_selects, select_su
 use Rattle.agv_schema.proofs.StatesThen.{failed_then, unchanged_then}
 use Rattle.agv_statements.proofs.DeskStatements.{all_given}
 use Rattle.agv_statements.proofs.QueryMeanings.{all_rows_asked}
-use Rattle.agv_row_reading.proofs.Asking.{tables_then, tells_error}
+use Rattle.agv_row_reading.proofs.Asking.{tables_then}
 use Rattle.agv_row_reading.proofs.AskingAll.{all_error, all_passes}
 
 -- a statement with no RETURNING shows no rows of a write
@@ -100,9 +100,8 @@ module _ {S : Type 0} (g : Ghosts S) (name : TableName) (old new : Held S) (sql 
       → (HasCleanDisk (state g new) → FailsToQuery sql [] (state g old) (state g new) e) → (old.in_transaction ≡ false → new.in_transaction ≡ false)
       → Survives (state g old) (state g new) (CommitsShowing sql [] (state g old)) → TellsAll g old new r means holds
   not_begun means holds e r is fails idle survives =
-      all_error g old new e reading_fault_of means holds r is
-      (tells_error g old new means r e is (λ clean. query_fails sql [] (state g old) (state g new) e (fails clean))
-      (λ clean stored desk is has. all_caused [] (state g old) (state g new) (Err e) sql (fails clean) name refl text stored desk (one_stands desk is name) has) idle (saved survives))
+      all_error g old new e means holds r is (λ clean. query_fails sql [] (state g old) (state g new) e (fails clean))
+      (λ clean stored desk is has. all_caused [] (state g old) (state g new) (Err e) sql (fails clean) name refl text stored desk (one_stands desk is name) has) idle (saved survives)
 
 -- ---- the rows
 
@@ -143,13 +142,12 @@ module _ {S K X : Type 0} {R : K → K → Ordering} (g : Ghosts S) (name : Tabl
         → (HasCleanDisk (state g new) → FailsToAdvance g now new e) → TellsAll g old new r means holds
     taking_failed means holds e r is fails =
         let failed : HasCleanDisk (state g new) → FailsToQuery (all_rows_text name) [] (state g now) (state g new) e = λ clean. fails clean (all_rows_text name) [] so_far.given (so_far.gives (early clean)) in
-        all_error g old new e reading_fault_of means holds r is
-        (tells_error g old new means r e is
+        all_error g old new e means holds r is
         (λ clean. failed_then (state g old) (state g now) (state g new) (so_far.same (early clean)) (query_fails (all_rows_text name) [] (state g now) (state g new) e (failed clean)))
         (λ clean stored desk stands has.
         fault_later g old now new (later_by g old now so_far.survives) (later_by g now new survives) clean
         (all_caused [] (state g now) (state g new) (Err e) (all_rows_text name) (failed clean) name refl refl stored desk (one_stands desk stands name) (ap (λ (db : Database). db.schema) (so_far.same (early clean)).0.now_is ∙ has)))
-        (λ was. idle (so_far.idle was)) saved_all)
+        (λ was. idle (so_far.idle was)) saved_all
 
     module _ (same : HasCleanDisk (state g new) → IsUnchanged (state g now) (state g new)) where
       same_all : HasCleanDisk (state g new) → IsUnchanged (state g old) (state g new)
@@ -173,6 +171,7 @@ module _ {S K X : Type 0} {R : K → K → Ordering} (g : Ghosts S) (name : Tabl
               survives = saved_all;
             };
             exact = answers;
+            caused = λ _. tt;
           }
 
       pub read_all : read_rows told (empty {X = X} {R = R}) so_far.given ≡ Some table
@@ -206,7 +205,7 @@ module _ {S K X : Type 0} {R : K → K → Ordering} (g : Ghosts S) (name : Tabl
         pub refused : {A : Type 0} (means : World → A → Type 0) (holds : List (List Row) → A → Type 0)
             → ((world : World) → IsLawful desk_seats world → (rows : List Row) → says name world rows → ¬ (read_rows told (empty {X = X} {R = R}) rows ≡ None))
             → (why : ReadingFault) → ((rest : List Row) → Reads (Err why) (read_rows told table (row ∷ rest))) → (r : Result A ReadingFault) → IsErrAnd r (λ f. f ≡ why) → TellsAll g old new r means holds
-        refused means holds never why reads r is = all_passes g old new why (says name) (shown name) means holds r is (record { tells = ended why reads; exact = λ _. tt })
+        refused means holds never why reads r is = all_passes g old new why (says name) (shown name) means holds r is (record { tells = ended why reads; exact = λ _. tt; caused = λ clean stored. absurd (not_stored why reads stored) })
           where
             by_row : (why : ReadingFault) → ((rest : List Row) → Reads (Err why) (read_rows told table (row ∷ rest))) → HasCleanDisk (state g new) → why ≡ fault.Damaged → HasNoWorld (state g old).now
             by_row fault.Memory reads clean is = absurd (cc is)

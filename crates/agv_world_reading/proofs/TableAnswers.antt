@@ -12,7 +12,7 @@ use Rattle.agv_header.specs.declared.key.VehicleKey.{VehicleKey}
 use Rattle.agv_layout.specs.declared.edge.EdgeEnds.{EdgeEnds}
 use Rattle.agv_layout.specs.declared.station.StationSite.{StationSite}
 use Rattle.agv_stock.specs.declared.place.Place.{Place}
-use Rattle.agv_world.specs.GoodOrder.{InGoodOrder}
+use Rattle.agv_world.specs.GoodOrder.{HasConsistentTrips}
 use Rattle.agv_world.specs.KeyOrders.{leg_cmp-IsAntisymmetric, leg_cmp-total, use_cmp-IsAntisymmetric, use_cmp-total}
 use Rattle.agv_world.specs.Keys.{leg_cmp, use_cmp}
 use Rattle.agv_world.specs.Lawful.{IsLawful}
@@ -36,7 +36,7 @@ use Rattle.agv_rows.proofs.LawfulHolds.{held_value}
 use Rattle.agv_rows.proofs.LawfulTrips.{leg_value}
 use Rattle.agv_rows.proofs.LawfulValues.{edge_named, ends_value, holder_value, job_value, node_named, place_value, row_at, site_value, station_named, used_is, used_named, vehicle_value}
 use Rattle.agv_rows.proofs.ListsFollow.{names_apart}
-use Rattle.agv_world_reading.proofs.RoomTables.{room_known, room_rows, told_with, vehicle_of}
+use Rattle.agv_world_reading.proofs.CapacityTables.{capacity_known, capacity_rows, told_with, vehicle_of}
 use Rattle.agv_row_reading.proofs.TableReading.{reads_all, reads_it}
 use Rattle.agv_row_reading.proofs.TablesBack.{reads_members}
 
@@ -65,18 +65,18 @@ module _ (world : World) (lawful : IsLawful desk_seats world) (rows : List Row) 
       (reads_all key_cmp-total key_cmp-IsAntisymmetric (capacities_of vehicles) capacity_columns capacity_in (λ key room at.
       let its = vehicle_of vehicles key room at in
       let value = vehicle_value world lawful key its.0 (sym (row_at world key) ∙ its.1) in
-      capacity_kept key room value.0 (subst (λ (x : CapacityRow). IsNumber x.capacity) its.2 value.1.capacity)) rows (subst (λ l. IsPermutation l rows) (room_rows vehicles) shown))
+      capacity_kept key room value.0 (subst (λ (x : CapacityRow). IsNumber x.capacity) its.2 value.1.capacity)) rows (subst (λ l. IsPermutation l rows) (capacity_rows vehicles) shown))
 
-  -- the vehicles, where these are their rooms
-  pub reads_vehicles : (rooms : finite.FinMap key_cmp CapacityRow) → rooms ≡ capacities_of (rows_of world).vehicles → IsPermutation (all_rows_of the.Vehicle (row_lists (rows_of world))) rows
-      → read_rows (vehicle_with rooms) finite.empty rows ≡ Some (rows_of world).vehicles
+  -- the vehicles, where these are their capacities
+  pub reads_vehicles : (capacities : finite.FinMap key_cmp CapacityRow) → capacities ≡ capacities_of (rows_of world).vehicles → IsPermutation (all_rows_of the.Vehicle (row_lists (rows_of world))) rows
+      → read_rows (vehicle_with capacities) finite.empty rows ≡ Some (rows_of world).vehicles
   unfolding row_lists
-  reads_vehicles rooms are shown =
+  reads_vehicles capacities are shown =
       let vehicles = (rows_of world).vehicles in
       ap (λ (r : finite.FinMap key_cmp CapacityRow). read_rows (vehicle_with r) finite.empty rows) are
       ∙ reads_all key_cmp-total key_cmp-IsAntisymmetric vehicles vehicle_columns (vehicle_with (capacities_of vehicles)) (λ key row at.
       let its = vehicle_value world lawful key row (sym (row_at world key) ∙ at) in
-      told_with (capacities_of vehicles) (vehicle_columns key row) key (record row { capacity = 1 }) (record { capacity = row.capacity }) (vehicle_kept key row its.0 its.1) (room_known vehicles key row at)) rows shown
+      told_with (capacities_of vehicles) (vehicle_columns key row) key (record row { capacity = 1 }) (record { capacity = row.capacity }) (vehicle_kept key row its.0 its.1) (capacity_known vehicles key row at)) rows shown
 
   pub tells_nodes : IsPermutation (all_rows_of the.Node (row_lists (rows_of world))) rows → (r : Result (set.FinSet name_cmp) ReadingFault) → Reads r (read_members node_in set.empty rows) → Follows r (λ nodes. nodes ≡ world.layout.nodes)
   unfolding row_lists
@@ -90,7 +90,7 @@ module _ (world : World) (lawful : IsLawful desk_seats world) (rows : List Row) 
       reads_it (rows_of world).used r (read_members used_in set.empty rows) read
       (reads_members use_cmp-total use_cmp-IsAntisymmetric used_columns used_in (rows_of world).used (λ key there. used_kept key (used_named world lawful key.kind key.name (sym (used_is world key.kind key.name) ∙ there))) rows shown)
 
-module _ (world : World) (lawful : IsLawful desk_seats world) (good : InGoodOrder world) (rows : List Row) where
+module _ (world : World) (lawful : IsLawful desk_seats world) (good : HasConsistentTrips world) (rows : List Row) where
   pub tells_legs : IsPermutation (all_rows_of the.Leg (row_lists (rows_of world))) rows → (r : Result (finite.FinMap leg_cmp (List ℕ)) ReadingFault) → Reads r (read_rows leg_in finite.empty rows) → Follows r (λ table. table ≡ (rows_of world).legs)
   unfolding row_lists
   tells_legs shown r read =

@@ -7,7 +7,7 @@ use Rattle.sqlite_schema.specs.declared.schema.Schema.{Schema}
 use Rattle.sqlite.specs.Effect.{Database}
 use Rattle.agv_header.specs.Key.{key_cmp}
 use Rattle.agv_trip_rows.specs.TripRows.{acts_of, journeys_of}
-use Rattle.agv_world.specs.GoodOrder.{InGoodOrder}
+use Rattle.agv_world.specs.GoodOrder.{HasConsistentTrips}
 use Rattle.agv_world.specs.Kept.{Keeps}
 use Rattle.agv_world.specs.Lawful.{IsLawful}
 use Rattle.agv_world.specs.Rows.{rows_of}
@@ -66,20 +66,20 @@ given_by table nothing (Some t) follows = follows (Ok t) refl
 abbrev TellsTrips : World → Type 0
 TellsTrips world = trips_with (journeys_of (rows_of world).trips) (acts_of (rows_of world).trips) (rows_of world).jobs ≡ (rows_of world).trips
 
-pub tables_kept : (world : World) → IsLawful desk_seats world → InGoodOrder world → AreJourneyValues world → AreActValues world → TellsTrips world
+pub tables_kept : (world : World) → IsLawful desk_seats world → HasConsistentTrips world → AreJourneyValues world → AreActValues world → TellsTrips world
     → (lists : List (List Row)) → AreAlike (row_lists (rows_of world)) lists → Keeps (tables_in lists) world
 tables_kept world lawful good journey_values act_values told lists alike =
     let rows : TableName → List Row = λ name. table_at (place_of name) lists in
     let shown : (name : TableName) → IsPermutation (table_at (place_of name) (row_lists (rows_of world))) (rows name) = λ name. alike_at (place_of name) (row_lists (rows_of world)) lists alike in
     let jobs : jobs_in lists ≡ world.jobs = given_by world.jobs finite.empty _ (tells_jobs world lawful (rows the.Job) (shown the.Job)) in
-    let rooms : capacities_in lists ≡ capacities_of (rows_of world).vehicles = given_by (capacities_of (rows_of world).vehicles) finite.empty _ (tells_capacities world lawful (rows the.Capacity) (shown the.Capacity)) in
+    let capacities : capacities_in lists ≡ capacities_of (rows_of world).vehicles = given_by (capacities_of (rows_of world).vehicles) finite.empty _ (tells_capacities world lawful (rows the.Capacity) (shown the.Capacity)) in
     let journeys : journeys_in lists ≡ journeys_of (rows_of world).trips = given_by (journeys_of (rows_of world).trips) finite.empty _ (tells_journeys world (rows the.Journey) journey_values (shown the.Journey)) in
     let acts : acts_in lists ≡ acts_of (rows_of world).trips = given_by (acts_of (rows_of world).trips) finite.empty _ (tells_acts world (rows the.Act) act_values (shown the.Act)) in
     record {
       nodes = given_by _ _ _ (tells_nodes world lawful (rows the.Node) (shown the.Node));
       edges = given_by _ _ _ (tells_edges world lawful (rows the.Edge) (shown the.Edge));
       stations = given_by _ _ _ (tells_stations world lawful (rows the.Station) (shown the.Station));
-      vehicles = ap (λ (o : Option (finite.FinMap key_cmp VehicleRow)). unwrap_or o finite.empty) (reads_vehicles world lawful (rows the.Vehicle) (capacities_in lists) rooms (shown the.Vehicle));
+      vehicles = ap (λ (o : Option (finite.FinMap key_cmp VehicleRow)). unwrap_or o finite.empty) (reads_vehicles world lawful (rows the.Vehicle) (capacities_in lists) capacities (shown the.Vehicle));
       trips = (λ i. trips_with (journeys i) (acts i) (jobs i)) ∙ told;
       legs = given_by _ _ _ (tells_legs world lawful good (rows the.Leg) (shown the.Leg));
       loads = given_by _ _ _ (tells_places world lawful (rows the.Load) (shown the.Load));
@@ -89,8 +89,8 @@ tables_kept world lawful good journey_values act_values told lists alike =
 
 -- ---- the world
 
-pub world_told : ((world : World) → IsLawful desk_seats world → InGoodOrder world) → ((world : World) → IsLawful desk_seats world → AreJourneyValues world) → ((world : World) → IsLawful desk_seats world → AreActValues world)
-    → ((world : World) → IsLawful desk_seats world → TellsTrips world) → ((tables : Tables) (world : World) → Keeps tables world → InGoodOrder world → world_of tables ≡ world) → (desk : Placing) (db : Database) (world : World) → HasWorld desk db world → world_in db ≡ world
+pub world_told : ((world : World) → IsLawful desk_seats world → HasConsistentTrips world) → ((world : World) → IsLawful desk_seats world → AreJourneyValues world) → ((world : World) → IsLawful desk_seats world → AreActValues world)
+    → ((world : World) → IsLawful desk_seats world → TellsTrips world) → ((tables : Tables) (world : World) → Keeps tables world → HasConsistentTrips world → world_of tables ≡ world) → (desk : Placing) (db : Database) (world : World) → HasWorld desk db world → world_in db ≡ world
 unfolding world_in
 world_told good journeys acts all told desk db world has =
     let lawful = has.lawful in

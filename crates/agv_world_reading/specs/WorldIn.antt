@@ -60,7 +60,7 @@ members_told told rows = unwrap_or (read_members told set.empty rows) set.empty
 abbrev pub jobs_in : List (List Row) → finite.FinMap name_cmp JobRow
 jobs_in lists = table_told job_in (table_at (place_of the.Job) lists)
 
--- the room of each vehicle, the journeys and the acts that they tell
+-- the capacity of each vehicle, the journeys and the acts that they tell
 abbrev pub capacities_in : List (List Row) → finite.FinMap key_cmp CapacityRow
 capacities_in lists = table_told capacity_in (table_at (place_of the.Capacity) lists)
 
@@ -70,7 +70,7 @@ journeys_in lists = table_told journey_in (table_at (place_of the.Journey) lists
 abbrev pub acts_in : List (List Row) → finite.FinMap leg_cmp ActRow
 acts_in lists = table_told act_in (table_at (place_of the.Act) lists)
 
--- the tables that the lists tell, a vehicle with its room, and a trip with its journey, its acts and the rows of their jobs; a world has none of `meta`, and tells itself what is held
+-- the tables that the lists tell, a vehicle with its capacity, and a trip with its journey, its acts and the rows of their jobs; a world has none of `meta`, and tells itself what is held
 abbrev pub tables_in : List (List Row) → Tables
 tables_in lists = record {
   nodes = members_told node_in (table_at (place_of the.Node) lists);

@@ -17,7 +17,7 @@ use agv_row_reading::queried_rows::query_all_rows;
 use agv_rows::decode_row::decode_meta;
 use agv_schema::schema_numbers::SCHEMA_NUMBER;
 use agv_schema::table_name::TableName;
-use agv_world::lawful_laws::is_in_good_order;
+use agv_world::lawful_laws::has_consistent_trips;
 use sqlite::{Alter, Connection, Row};
 use std::alloc::Global;
 
@@ -30,7 +30,7 @@ pub fn query_holds<S: Alter>(
 ) -> Result<HeldThings, ReadingFault>
     ensures { TellsAll S.Store conn.old conn.new result (λ world held. held.table ≡ (rows_of world).holds) (λ lists held. IsPermutation (table_at (place_of the.Hold) lists) (rows_in hold_columns held.table)) }
 {
-    is_in_good_order();
+    has_consistent_trips();
     let rows = query_all_rows(conn, TableName::Hold)?;
     holds_in_rows(alloc, rows.as_slice())
 }

@@ -1,11 +1,11 @@
 //! Whole tables are read, but those of the trips and of what is held.
 //!
-//! Each answers what the lawful world says whose rows the tables have (`WorldAnswers.antt` of agv_row_reading); and whatever rows
-//! they have, what is read has just these (`TablesRead.antt` of agv_row_reading). The places of the loads are read one row at a time,
-//! and any other table as the list of its rows.
+//! Each answers what the lawful world says whose rows the tables have (`WorldAnswers.antt` of agv_row_reading); and
+//! whatever rows they have, what is read has just these (`TablesRead.antt` of agv_row_reading). The places of the loads are
+//! read one row at a time, and any other table as the list of its rows.
 ghost use Rattle.std.specs.Prelude.{◌≡◌, IsPermutation};
 ghost use Rattle.agv_world.specs.Rows.{rows_of};
-ghost use Rattle.agv_rows.specs.Columns.{capacity_columns, edge_columns, job_columns, leg_columns, load_columns, node_columns, room_columns, station_columns, used_columns, vehicle_columns};
+ghost use Rattle.agv_rows.specs.Columns.{capacity_columns, edge_columns, job_columns, leg_columns, load_columns, node_columns, vehicle_capacity_columns, station_columns, used_columns, vehicle_columns};
 ghost use Rattle.agv_rows.specs.DecodedTrips.{capacities_of};
 ghost use Rattle.agv_schema.specs.DeskRows.{place_of, table_at};
 ghost use Rattle.agv_rows.specs.RowLists.{rows_for, rows_in};
@@ -24,7 +24,7 @@ use agv_rows::CapacityRow;
 use agv_schema::table_name::TableName;
 use agv_statements::query_texts::all_rows;
 use agv_stock::Place;
-use agv_world::lawful_laws::is_in_good_order;
+use agv_world::lawful_laws::has_consistent_trips;
 use agv_world::{ByLeg, ByName, ByVehicle, JobRow, Names, UsedNames, VehicleRow};
 use sqlite::{Alter, Connection};
 use std::alloc::Global;
@@ -65,8 +65,8 @@ pub fn query_stations<S: Alter>(
     stations_in_rows(alloc, rows.as_slice())
 }
 
-/// The vehicles, each by its maker and its serial number, with its room for loads, but for their open trips. Each has a row of
-/// its room, and no other vehicle has one.
+/// The vehicles, each by its maker and its serial number, with its capacity, but for their open trips. Each has a row of
+/// its capacity, and no other vehicle has one.
 ///
 /// It fails as [`ReadingFault`] says.
 pub fn query_vehicles<S: Alter>(
@@ -75,7 +75,7 @@ pub fn query_vehicles<S: Alter>(
 ) -> Result<ByVehicle<VehicleRow>, ReadingFault>
     ensures { TellsAll S.Store conn.old conn.new result (λ world table. table ≡ (rows_of world).vehicles)
         (λ lists table. IsPermutation (table_at (place_of the.Vehicle) lists) (rows_in vehicle_columns table)
-        × IsPermutation (table_at (place_of the.Capacity) lists) (rows_in room_columns table)) }
+        × IsPermutation (table_at (place_of the.Capacity) lists) (rows_in vehicle_capacity_columns table)) }
 {
     let capacities = query_capacities(alloc, conn)?;
     let rows = query_all_rows(conn, TableName::Vehicle)?;
@@ -87,7 +87,7 @@ pub fn query_vehicles<S: Alter>(
     }
 }
 
-// The room of each vehicle for loads.
+// The capacity of each vehicle.
 fn query_capacities<S: Alter>(
     alloc: Global,
     conn: &mut Connection<S>,
@@ -100,11 +100,13 @@ fn query_capacities<S: Alter>(
     capacities_in_rows(alloc, rows.as_slice())
 }
 
-// Whether each of the rooms is that of a vehicle.
-fn are_of_vehicles(vehicles: &ByVehicle<VehicleRow>, rooms: &ByVehicle<CapacityRow>) -> bool
-    ensures { result ≡ are_of_vehicles vehicles.now rooms.now }
+// Whether each of the capacities is that of a vehicle.
+fn are_of_vehicles(vehicles: &ByVehicle<VehicleRow>, capacities: &ByVehicle<CapacityRow>) -> bool
+    ensures { result ≡ are_of_vehicles vehicles.now capacities.now }
 {
-    rooms.iter().all(|(key, _)| vehicles.get(*key).is_some())
+    capacities
+        .iter()
+        .all(|(key, _)| vehicles.get(*key).is_some())
 }
 
 /// The place of each load, by the name of the load. There may be a million of them: so each row is taken into the table
@@ -138,7 +140,7 @@ pub(crate) fn query_legs<S: Alter>(
 ) -> Result<ByLeg, ReadingFault>
     ensures { TellsAll S.Store conn.old conn.new result (λ world table. table ≡ (rows_of world).legs) (λ lists table. IsPermutation (table_at (place_of the.Leg) lists) (rows_in leg_columns table)) }
 {
-    is_in_good_order();
+    has_consistent_trips();
     let rows = query_all_rows(conn, TableName::Leg)?;
     legs_in_rows(alloc, rows.as_slice())
 }

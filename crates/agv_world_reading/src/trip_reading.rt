@@ -1,4 +1,5 @@
-//! The jobs and the open trips are read, whole tables: the rows of its journey and its acts tell a trip, with those of their jobs.
+//! The jobs and the open trips are read, whole tables: the rows of its journey and its acts tell a trip, with those of
+//! their jobs.
 //!
 //! It answers as the other readings do (`TablesRead.antt` of agv_row_reading).
 ghost use Rattle.std.specs.Prelude.{◌≡◌, [], IsPermutation};

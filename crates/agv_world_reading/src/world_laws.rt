@@ -7,7 +7,7 @@ ghost use Rattle.agv_row_reading.specs.WorldAnswers.{HasWorld};
 ghost use Rattle.agv_world_reading.specs.WorldIn.{world_in};
 
 use agv_rows::trip_laws::rows_tell_trips;
-use agv_world::lawful_laws::is_in_good_order;
+use agv_world::lawful_laws::has_consistent_trips;
 use agv_world::laws::tables_tell_the_world;
 
 /// A database in which the desk's tables have the rows of a lawful world tells that world.
@@ -15,6 +15,6 @@ pub fn a_database_tells_its_world()
     ensures { (desk : Placing) (db : Database) (world : World) → HasWorld desk db world → world_in db ≡ world }
 {
     rows_tell_trips();
-    is_in_good_order();
+    has_consistent_trips();
     tables_tell_the_world();
 }

@@ -4,7 +4,7 @@
 ghost use Rattle.std.specs.Prelude.{◌≡◌, IsPermutation};
 ghost use Rattle.agv_world.specs.Kept.{Keeps};
 ghost use Rattle.agv_world.specs.Rows.{rows_of};
-ghost use Rattle.agv_rows.specs.Columns.{leg_columns, load_columns, room_columns, used_columns, vehicle_columns};
+ghost use Rattle.agv_rows.specs.Columns.{leg_columns, load_columns, vehicle_capacity_columns, used_columns, vehicle_columns};
 ghost use Rattle.agv_schema.specs.DeskRows.{place_of, table_at};
 ghost use Rattle.agv_rows.specs.RowLists.{rows_for, rows_in};
 ghost use Rattle.agv_row_reading.specs.TablesRead.{HaveAll, HaveTables, TellsAll};
@@ -54,7 +54,7 @@ fn query_traffic_tables<S: Alter>(
     ensures { TellsAll S.Store conn.old conn.new result
         (λ world tables. (tables.0 ≡ (rows_of world).vehicles) × (tables.1 ≡ (rows_of world).legs))
         (λ lists tables. IsPermutation (table_at (place_of the.Vehicle) lists) (rows_in vehicle_columns tables.0)
-        × IsPermutation (table_at (place_of the.Capacity) lists) (rows_in room_columns tables.0)
+        × IsPermutation (table_at (place_of the.Capacity) lists) (rows_in vehicle_capacity_columns tables.0)
         × IsPermutation (table_at (place_of the.Leg) lists) (rows_in leg_columns tables.1)) }
 {
     let vehicles = query_vehicles(alloc, conn)?;
@@ -79,9 +79,9 @@ fn query_stock_tables<S: Alter>(
 
 /// All tables: those of the world in memory, and who holds what. The row of `meta` is that of the second schema.
 ///
-/// Where [`World::is_lawful`](agv_world::World::is_lawful), asked with [`DESK_SEATS`](agv_schema::DESK_SEATS) places on each vehicle,
-/// and [`HeldThings::are_footprints`] both answer `true`, the database has the rows of a lawful world with at most so many places
-/// on each vehicle (`reading_laws`); where one answers `false`, it has those of none.
+/// Where [`World::is_lawful`](agv_world::World::is_lawful), asked with [`DESK_SEATS`](agv_schema::DESK_SEATS) places on
+/// each vehicle, and [`HeldThings::are_footprints`] both answer `true`, the database has the rows of a lawful world with at
+/// most so many places on each vehicle (`reading_laws`); where one answers `false`, it has those of none.
 ///
 /// It fails as [`ReadingFault`] says.
 pub fn read_world<S: Alter>(

@@ -22,7 +22,7 @@ use Rattle.agv_world.specs.Questions.{row_of, trip_of}
 use Rattle.agv_world.specs.Worlds.{Vehicle, World}
 use Rattle.agv_world.specs.declared.row.VehicleRow.{VehicleRow}
 use Rattle.agv_desk.specs.Outcomes.{Effect, Outcome, Refused, Made, RowOnly, Whole, after, answer_of, with_touched, with_effect}
-use Rattle.agv_desk.specs.StateSteps.{idle_state, pending_of, heard, trip_left, trip_state, fresh_state, take_state}
+use Rattle.agv_desk.specs.StateSteps.{idle_state, pending_of, with_state, trip_left, trip_state, fresh_state, take_state}
 use Rattle.agv_desk.specs.declared.answer.Answer.TheVariants as answer
 use Rattle.agv_desk.proofs.outcomes.EffectParts.{effect_orders, effect_vehicles, written_vehicle}
 use Rattle.agv_desk.proofs.histories.HeardStates.{IsAsTold, IsHeard, IsTold}
@@ -64,7 +64,7 @@ module _ (world : World) (key : VehicleKey) (state : StateMessage) where
   }
 
   hears_idle : (row : VehicleRow) → ((trip : Trip) → HasTrip world key trip → trip.order ≡ state.order_id → ⊥) → IfMade P (idle_state key row state)
-  hears_idle row apart = made_judged P _ _ (λ over is. idle_leaves _ row (heard row state over) refl refl apart)
+  hears_idle row apart = made_judged P _ _ (λ over is. idle_leaves _ row (with_state row state over) refl refl apart)
 
   module _ (seats : ℕ) (lawful : HasLawfulVehicles seats world) where
     module _ (row : VehicleRow) (trip : Trip) (has : HasTrip world key trip) (progress : Progress) (is : IsJudged trip (pending_of row) state progress) where

@@ -29,7 +29,7 @@ use Rattle.agv_world.specs.declared.row.VehicleRow.{VehicleRow}
 use Rattle.agv_desk.specs.Histories.{CancelsSince}
 use Rattle.agv_desk.specs.ActSteps.{act_moves}
 use Rattle.agv_desk.specs.Outcomes.{Effect, Outcome, Refused, Made, Nothing, RowOnly, Whole, after, moves_of, with_effect, with_touched}
-use Rattle.agv_desk.specs.StateSteps.{is_fresh, idle_state, pending_of, heard, row_after, trip_left, trip_state, fresh_state, take_state}
+use Rattle.agv_desk.specs.StateSteps.{is_fresh, idle_state, pending_of, with_state, row_after, trip_left, trip_state, fresh_state, take_state}
 use Rattle.agv_desk.proofs.outcomes.EffectParts.{effect_vehicles}
 use Rattle.agv_desk.proofs.row_changes.Given.{AdvancesTrips}
 use Rattle.agv_desk.proofs.histories.HeardStates.{IsAsTold, IsHeard, IsInstructedSince, IsTold}
@@ -160,7 +160,7 @@ module _ (advances : AdvancesTrips) (footprints : HoldsAreFootprints) (seats : �
         (λ i. footprint_of (record { node = node i; rest = rest i; trip = trip_of world key })) moves
 
     pub quiet_idle : (row : VehicleRow) → row_of world key ≡ Some row → IfMade P (idle_state key row state)
-    quiet_idle row there = made_judged P _ _ (λ over is. quiet_noted _ row (heard row state over) there refl refl refl refl)
+    quiet_idle row there = made_judged P _ _ (λ over is. quiet_noted _ row (with_state row state over) there refl refl refl refl)
 
     -- a state that is not fresh moves nothing
     pub quiet_old : (number : ℕ) → state.header_id ≤ number → IsHeard key number world → IfMade P (take_state world key state)

@@ -19,7 +19,7 @@ use Rattle.agv_world.specs.declared.row.VehicleRow.{VehicleRow}
 use Rattle.agv_desk.specs.Histories.{times}
 use Rattle.agv_desk.specs.ActSteps.{Renewed, act_moves}
 use Rattle.agv_desk.specs.Outcomes.{Effect, Whole, Outcome, branch, with_effect}
-use Rattle.agv_desk.specs.StateSteps.{is_fresh, pending_of, heard, idle_state, row_after, trip_left, trip_state, fresh_state, take_state}
+use Rattle.agv_desk.specs.StateSteps.{is_fresh, pending_of, with_state, idle_state, row_after, trip_left, trip_state, fresh_state, take_state}
 use Rattle.agv_desk.proofs.histories.ActsCounted.{HasOnce, IsCarriedOut, none_or_one}
 use Rattle.agv_desk.proofs.outcomes.EffectParts.{effect_orders}
 use Rattle.agv_desk.proofs.row_changes.Given.{AdvancesTrips}
@@ -46,7 +46,7 @@ still_pending : (over : Bool) (there : Option InstantKind) (kind : InstantKind) 
 still_pending true there kind is = none_some is
 still_pending false there kind is = is
 
-heard_goes_on : (forgotten : Type 0) (row : VehicleRow) (state : StateMessage) (over : Bool) → is_fresh row.last_header state.header_id ≡ true → RowGoesOn forgotten row (heard row state over)
+heard_goes_on : (forgotten : Type 0) (row : VehicleRow) (state : StateMessage) (over : Bool) → is_fresh row.last_header state.header_id ≡ true → RowGoesOn forgotten row (with_state row state over)
 heard_goes_on forgotten row state over fresh = record {
   count = omega arith;
   pending = λ same kind is. still_pending over row.pending kind is;

@@ -17,7 +17,7 @@ use Rattle.agv_order.specs.declared.act.Act.{Act}
 use Rattle.agv_order.specs.declared.stop.Stop.{Stop}
 use Rattle.agv_order.specs.declared.trip.Trip.{Trip}
 use Rattle.std.specs.Prelude.{IsTrue}
-use Rattle.agv_track.specs.Progressed.{progressed, Advances, GoesOn}
+use Rattle.agv_track.specs.Progressed.{progressed, Advances, ActGoesOn}
 use Rattle.agv_track.specs.Reports.{with_status, renewed}
 use Rattle.agv_track.specs.declared.progress.End.{End}
 use Rattle.agv_track.specs.declared.progress.Progress.{Progress}
@@ -90,7 +90,7 @@ progress_continues trip progress step = record {
       let one = renewed_act trip.acts progress.statuses k act there in
       let was = zipped_act trip.acts progress.statuses k one.0 one.1 in
       let now = step.acts k one.0.0 was in
-      (one.0.0, was, subst (λ (after : Act). GoesOn one.0.0 after) (same_some (sym now.1 ∙ there)) now.2);
+      (one.0.0, was, subst (λ (after : Act). ActGoesOn one.0.0 after) (same_some (sym now.1 ∙ there)) now.2);
 }
 
 -- ---- which trip is left

@@ -7,7 +7,7 @@ use Rattle.agv_message.specs.declared.status.Status.TheVariants.{Waiting, Initia
 use Rattle.agv_order.specs.Statuses.{is_waiting, is_final, may_follow}
 use Rattle.agv_order.specs.declared.act.Act.{Act}
 use Rattle.agv_order.specs.declared.trip.Trip.{Trip}
-use Rattle.agv_track.specs.Progressed.{GoesOn}
+use Rattle.agv_track.specs.Progressed.{ActGoesOn}
 use Rattle.agv_world.specs.Worlds.{World}
 use Rattle.agv_desk.proofs.outcomes.Keeping.{Continues, Follows}
 
@@ -59,10 +59,10 @@ status_through Failed two three first second = subst (λ status. IsTrue (may_fol
 
 -- ---- acts and trips
 
-act_itself : (act : Act) → GoesOn act act
+act_itself : (act : Act) → ActGoesOn act act
 act_itself act = record { task = refl; follows = status_itself act.status }
 
-act_through : (one two three : Act) → GoesOn one two → GoesOn two three → GoesOn one three
+act_through : (one two three : Act) → ActGoesOn one two → ActGoesOn two three → ActGoesOn one three
 act_through one two three first second = record {
   task = second.task ∙ first.task;
   follows = status_through one.status two.status three.status first.follows second.follows;

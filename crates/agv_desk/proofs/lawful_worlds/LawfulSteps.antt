@@ -30,8 +30,8 @@ ActsFindTheirLoads = (seats : ℕ) (world : World) (at : ℕ) (call : Call) (eff
 
 pub step_lawful : KeepsVehiclesLawful → KeepsStockInvariant → LoadsMeetInvariant → (seats : ℕ) → IsSeats seats
     → (world : World) (at : ℕ) (call : Call) → IsLawful seats world → IsMoment at → IsWellTyped call → IsLawful seats (after world (step seats world at call))
-step_lawful vehicles stock loads seats seated world at call lawful moment typed =
-    let kept = vehicles seats world at call seated moment typed lawful.vehicles in
+step_lawful vehicles stock loads seats is_seats world at call lawful moment typed =
+    let kept = vehicles seats world at call is_seats moment typed lawful.vehicles in
     let joined = stock seats world at call typed lawful.vehicles ((loads seats world lawful.vehicles).0 lawful.loads) in
     record {
       vehicles = kept;

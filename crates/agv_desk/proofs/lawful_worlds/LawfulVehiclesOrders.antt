@@ -24,7 +24,7 @@ use Rattle.agv_world.specs.Worlds.{World}
 use Rattle.agv_world.specs.declared.floor.Counted.TheVariants as counted
 use Rattle.agv_world.specs.declared.key.UseKind.TheVariants as used
 use Rattle.agv_world.specs.declared.row.VehicleRow.{VehicleRow}
-use Rattle.agv_desk.specs.OrderSteps.{is_confirmed, can_release, sent_on, send_trip, send_order, take_order, start_order, send_update, advance}
+use Rattle.agv_desk.specs.OrderSteps.{is_last_confirmed, can_release, sent_on, send_trip, send_order, take_order, start_order, send_update, advance}
 use Rattle.agv_desk.specs.Outcomes.{Effect}
 use Rattle.agv_desk.specs.Shared.{most}
 use Rattle.agv_desk.specs.WellTyped.{IsMoment, IsSeats}
@@ -48,7 +48,7 @@ few_stops : (stops : List Stop) (loads capacity seats : ℕ) → length stops �
 few_stops stops loads capacity seats twice fits seated few = omega (arith, twice, length-filter is_pick stops, fits, seated, few)
 
 -- the last update was confirmed
-confirmed_is : (confirmed : Option ℕ) (sent : ℕ) → is_confirmed confirmed sent ≡ true → confirmed ≡ Some sent
+confirmed_is : (confirmed : Option ℕ) (sent : ℕ) → is_last_confirmed confirmed sent ≡ true → confirmed ≡ Some sent
 confirmed_is None sent h = absurd (true≢false (sym h))
 confirmed_is (Some update) sent h = ap Some (eqb-true update sent h)
 
@@ -59,7 +59,7 @@ can_be_released trip edges h = let each = and_parts (nat_lt 0 edges) (nat_le (tr
 record MayBeSent (layout : Layout) (key : VehicleKey) (row : VehicleRow) (trip : Trip) : Type 0 where
   well_formed : IsWellFormed layout trip
   own : trip.vehicle ≡ key
-  seated : count_by picks trip.acts ≤ row.capacity
+  picks_fit : count_by picks trip.acts ≤ row.capacity
   stands : node_at trip trip.seen ≡ Some row.node
   no_rest : row.rest ≡ None
 
@@ -68,7 +68,7 @@ is_sent_on : (layout : Layout) (key : VehicleKey) (row : VehicleRow) (at number 
 is_sent_on layout key row at number trip may sent = record {
   well_formed = may.well_formed;
   own = may.own;
-  seated = may.seated;
+  picks_fit = may.picks_fit;
   sent = sent;
   stands = may.stands;
   no_rest = may.no_rest;
@@ -89,13 +89,13 @@ module _ (given : Given) (more : GivenMore) (seats : ℕ) (world : World) (lawfu
   may_be_sent : (order : List ℕ) (key : VehicleKey) (row : VehicleRow) (stops : List Stop) (jobs : List Job) (edges : ℕ) (trip : Trip)
       → planned world.layout key jobs stops order row.node edges ≡ Ok trip → stops_fit stops ≡ true → length stops ≤ 8 → count_by is_pick stops ≤ row.capacity → row.rest ≡ None
       → MayBeSent world.layout key row trip
-  may_be_sent order key row stops jobs edges trip plan fit few seated no_rest =
+  may_be_sent order key row stops jobs edges trip plan fit few picks_fit no_rest =
       let begun = plan_begins world.layout key jobs stops order row.node edges trip plan in
       let goes = more.goes world.layout jobs key stops order row.node edges trip plan in
       record {
         well_formed = more.plans world.layout key jobs stops order row.node edges trip fit few plan;
         own = begun.own;
-        seated = subst (λ n. n ≤ row.capacity) (sym (planned_picks world.layout jobs row.node 0 stops trip.edges trip.acts goes.goes)) seated;
+        picks_fit = subst (λ n. n ≤ row.capacity) (sym (planned_picks world.layout jobs row.node 0 stops trip.edges trip.acts goes.goes)) picks_fit;
         stands = begun.stands;
         no_rest = no_rest;
       }
@@ -126,27 +126,27 @@ module _ (given : Given) (more : GivenMore) (seats : ℕ) (world : World) (lawfu
       → IsMoment at → IsName order → is_used world used.Order order ≡ false → row_of world key ≡ Some row → trip_of world key ≡ None
       → stops_fit stops ≡ true → length stops ≤ 8 → count_by is_pick stops ≤ row.capacity → row.rest ≡ None
       → IfMade P (send_order world at order key row stops jobs edges)
-  sends_order at order key row stops jobs edges moment named unused there idle fit few seated no_rest =
+  sends_order at order key row stops jobs edges moment named unused there idle fit few picks_fit no_rest =
       made_found P _ _ _ (λ layout is_set. made_planned P _ _ (λ trip is_plan.
       let keeps = keeps_rules seats world lawful key (vehicle_with row (trip_of world key)) (known world key row there) in
       let plan = subst (λ layout. planned layout key jobs stops order row.node edges ≡ Ok trip) (layout_is layout keeps is_set) is_plan in
       sends_trip at order key row stops jobs trip moment named unused there idle (plan_of_order layout key jobs stops order row.node edges trip is_plan)
-      (may_be_sent order key row stops jobs edges trip plan fit few seated no_rest)))
+      (may_be_sent order key row stops jobs edges trip plan fit few picks_fit no_rest)))
 
   takes_order : (at : ℕ) (order : List ℕ) (key : VehicleKey) (row : VehicleRow) (stops : List Stop) (jobs : List Job) (edges : ℕ)
       → IsSeats seats → IsMoment at → IsName order → is_used world used.Order order ≡ false → row_of world key ≡ Some row → stops_fit stops ≡ true
       → IfMade P (take_order world at order key row stops jobs edges)
-  takes_order at order key row stops jobs edges seated moment named unused there fit =
+  takes_order at order key row stops jobs edges is_seats moment named unused there fit =
       made_require P _ _ _ (λ a. made_require P _ _ _ (λ b. made_require P _ _ _ (λ idle. made_require P _ _ _ (λ astray. made_require P _ _ _ (λ within_capacity. made_require P _ _ _ (λ e. made_require P _ _ _ (λ f.
       let fits = leb-true (loads_on world key + count_by is_pick stops) row.capacity within_capacity in
       let places = (lawful.vehicles key (vehicle_with row (trip_of world key)) (known world key row there)).seated in
-      let few = few_stops stops (loads_on world key) row.capacity seats (more.twice stops fit) fits places seated.1 in
+      let few = few_stops stops (loads_on world key) row.capacity seats (more.twice stops fit) fits places is_seats.1 in
       sends_order at order key row stops jobs edges moment named unused there (missing _ idle) fit few (omega (arith, fits)) (missing _ astray))))))))
 
   pub starts_order : (at : ℕ) (order : List ℕ) (key : VehicleKey) (stops : List Stop) (edges : ℕ) → IsSeats seats → IsMoment at → IsName order → IfMade P (start_order world at order key stops edges)
-  starts_order at order key stops edges seated moment named =
+  starts_order at order key stops edges is_seats moment named =
       made_require P _ _ _ (λ unused. made_found P _ _ _ (λ row there. made_require P _ _ _ (λ fit. made_found P _ _ _ (λ jobs are.
-      takes_order at order key row stops jobs edges seated moment named (not_true _ unused) there fit))))
+      takes_order at order key row stops jobs edges is_seats moment named (not_true _ unused) there fit))))
 
   -- ---- an update
 
@@ -162,7 +162,7 @@ module _ (given : Given) (more : GivenMore) (seats : ℕ) (world : World) (lawfu
       let may : MayBeSent world.layout key row further = record {
         well_formed = more.releases world.layout trip edges of.well_formed confirmed (can_be_released trip edges can);
         own = of.own;
-        seated = of.seated;
+        picks_fit = of.picks_fit;
         stands = of.stands;
         no_rest = of.no_rest;
       } in

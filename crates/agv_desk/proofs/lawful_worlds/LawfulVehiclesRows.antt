@@ -12,7 +12,7 @@ use Rattle.agv_world.specs.declared.row.Sent.{Sent}
 use Rattle.agv_world.specs.declared.row.VehicleRow.{VehicleRow}
 use Rattle.agv_desk.specs.OrderSteps.{sent_on}
 use Rattle.agv_desk.specs.Shared.{next_sent}
-use Rattle.agv_desk.specs.StateSteps.{heard}
+use Rattle.agv_desk.specs.StateSteps.{with_state}
 use Rattle.agv_desk.specs.VehicleSteps.{new_vehicle, placed}
 use Rattle.agv_desk.specs.WellTyped.{IsMoment}
 use Rattle.agv_desk.proofs.outcomes.Known.{none_some, same_some}
@@ -53,7 +53,7 @@ pends true pending kind e = none_some e
 pends false pending kind e = e
 
 module _ (seats : ℕ) (layout : Layout) (row : VehicleRow) (lawful : IsVehicleOf seats layout row) where
-  pub heard_row : (state : StateMessage) (over : Bool) → state.header_id ≤ 4294967295 → IsVehicleOf seats layout (heard row state over)
+  pub heard_row : (state : StateMessage) (over : Bool) → state.header_id ≤ 4294967295 → IsVehicleOf seats layout (with_state row state over)
   heard_row state over numbered = record {
     carries = lawful.carries;
     seated = lawful.seated;
@@ -161,7 +161,7 @@ pub same_trip : (layout : Layout) (key : VehicleKey) (row new : VehicleRow) (tri
 same_trip layout key row new trip capacity orders node rest of = record {
   well_formed = of.well_formed;
   own = of.own;
-  seated = subst (λ n. count_by picks trip.acts ≤ n) (sym capacity) of.seated;
+  picks_fit = subst (λ n. count_by picks trip.acts ≤ n) (sym capacity) of.picks_fit;
   sent = subst (λ (sent : Sent). 0 < sent.count) (sym orders) of.sent;
   stands = of.stands ∙ ap Some (sym node);
   no_rest = rest ∙ of.no_rest;

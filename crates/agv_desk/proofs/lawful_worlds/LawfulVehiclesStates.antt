@@ -19,7 +19,7 @@ use Rattle.agv_world.specs.VehicleChanges.{with_vehicle}
 use Rattle.agv_world.specs.Worlds.{World}
 use Rattle.agv_world.specs.declared.row.VehicleRow.{VehicleRow}
 use Rattle.agv_desk.specs.Outcomes.{Effect}
-use Rattle.agv_desk.specs.StateSteps.{pending_of, heard, row_after, trip_state, fresh_state, take_state}
+use Rattle.agv_desk.specs.StateSteps.{pending_of, with_state, row_after, trip_state, fresh_state, take_state}
 use Rattle.agv_desk.proofs.row_changes.Given.{Given}
 use Rattle.agv_desk.proofs.outcomes.Keeping.{KeepsVehicles}
 use Rattle.agv_desk.proofs.outcomes.Known.{none_some, same_some, vehicle_with, known}
@@ -58,7 +58,7 @@ module _ (more : GivenMore) (seats : ℕ) (layout : Layout) (key : VehicleKey) (
 
   pub lawful_after : KeepsRules layout → state.header_id ≤ 4294967295 → IsVehicleOf seats layout row → IsVehicleOf seats layout (row_after row trip state progress)
   lawful_after keeps numbered vehicle =
-      moved_row seats layout (heard row state progress.pending_over) (heard_row seats layout row vehicle state progress.pending_over numbered) (unwrap_or (node_at trip progress.seen) row.node) progress.rest
+      moved_row seats layout (with_state row state progress.pending_over) (heard_row seats layout row vehicle state progress.pending_over numbered) (unwrap_or (node_at trip progress.seen) row.node) progress.rest
       (subst (IsNode layout) (sym reached) (reached_node keeps))
       (subst (λ node. IsRestAt layout node progress.rest) (sym reached) (rest_there progress.rest refl))
 
@@ -71,7 +71,7 @@ module _ (more : GivenMore) (seats : ℕ) (layout : Layout) (key : VehicleKey) (
   trip_after is goes_on = record {
     well_formed = more.stays layout trip (pending_of row) state progress of.well_formed is goes_on;
     own = of.own;
-    seated = subst (λ n. n ≤ row.capacity) (sym (same_picks (progressed trip progress).acts trip.acts (ap (λ (plan : Plan). plan.tasks) step.plan))) of.seated;
+    picks_fit = subst (λ n. n ≤ row.capacity) (sym (same_picks (progressed trip progress).acts trip.acts (ap (λ (plan : Plan). plan.tasks) step.plan))) of.picks_fit;
     sent = of.sent;
     stands = step.node.1 ∙ ap Some (sym reached);
     no_rest = rest_none progress.rest refl goes_on;

@@ -5,7 +5,7 @@ use Rattle.std.specs.List.{slice_get}
 use Rattle.agv_header.specs.declared.key.VehicleKey.{VehicleKey}
 use Rattle.agv_order.specs.declared.act.Act.{Act}
 use Rattle.agv_order.specs.declared.trip.Trip.{Trip}
-use Rattle.agv_track.specs.Progressed.{GoesOn}
+use Rattle.agv_track.specs.Progressed.{ActGoesOn}
 use Rattle.agv_world.specs.StockInvariant.{HasStockInvariant}
 use Rattle.agv_world.specs.GoodOrder.{HasTrip}
 use Rattle.agv_world.specs.Lawful.{HasLawfulVehicles}
@@ -24,7 +24,7 @@ pub record KeepsStock (world : World) (effect : Effect) : Type 0 where
 pub record Continues (before after : Trip) : Type 0 where
   pub order : after.order ≡ before.order
   pub further : before.seen ≤ after.seen
-  pub acts : (k : ℕ) (act : Act) → slice_get after.acts k ≡ Some act → (old : Act) × (slice_get before.acts k ≡ Some old) × GoesOn old act
+  pub acts : (k : ℕ) (act : Act) → slice_get after.acts k ≡ Some act → (old : Act) × (slice_get before.acts k ≡ Some old) × ActGoesOn old act
 
 -- one world comes after another: used orders stay used, and each open trip is one that went on, of the same vehicle, or its order was not used before
 pub record Follows (before after : World) : Type 0 where

@@ -18,7 +18,7 @@ use Rattle.agv_order.specs.Plans.{stop_routes_to, planned, trip_along, trip_over
 use Rattle.agv_order.specs.declared.fault.PlanFault.TheVariants as unplanned
 use Rattle.agv_order.specs.declared.stop.Stop.{Stop}
 use Rattle.agv_order.specs.declared.trip.Trip.{Trip}
-use Rattle.agv_stock.specs.Checks.{Checked, correct_check, has_room, is_known, is_stored, is_there, job_check, leave_check, passed, register_check, require as require_load}
+use Rattle.agv_stock.specs.Checks.{Checked, correct_check, has_room, is_known, is_stored, is_there, job_check, leave_check, passed, register_check, check_that}
 use Rattle.agv_stock.specs.Rooms.{has_left}
 use Rattle.agv_stock.specs.declared.goal.Goal.{Goal}
 use Rattle.agv_stock.specs.declared.job.Job.{Job}
@@ -129,28 +129,28 @@ by_plan layout vehicle jobs stops order at base rest h =
 
 -- ---- the checks of a load
 
-load_require : (test : Bool) (why : Refusal) (rest : Checked) → is_of_call why ≡ true → IsFitIn rest → IsFitIn (require_load test why rest)
+load_require : (test : Bool) (why : Refusal) (rest : Checked) → is_of_call why ≡ true → IsFitIn rest → IsFitIn (check_that test why rest)
 load_require true why rest of h = h
 load_require false why rest of h = of
 
 module _ (goal : Goal) where
   abbrev with_room : Checked
-  with_room = require_load (has_room goal) refusal.Full passed
+  with_room = check_that (has_room goal) refusal.Full passed
 
   has_space : IsFitIn with_room
   has_space = load_require (has_room goal) refusal.Full passed refl tt
 
   registers_load : (there : Option Place) → IsFitIn (register_check there goal)
   registers_load there =
-      load_require (not (is_some there)) refusal.Exists (require_load (is_known goal) refusal.NoStation with_room) refl
+      load_require (not (is_some there)) refusal.Exists (check_that (is_known goal) refusal.NoStation with_room) refl
       (load_require (is_known goal) refusal.NoStation with_room refl has_space)
 
   module _ (place : Place) (live : Bool) where
     abbrev apart : Checked
-    apart = require_load (not (is_there goal place)) refusal.SameStation with_room
+    apart = check_that (not (is_there goal place)) refusal.SameStation with_room
 
     abbrev free : Checked
-    free = require_load (not live) refusal.InJob apart
+    free = check_that (not live) refusal.InJob apart
 
     is_free : IsFitIn free
     is_free = load_require (not live) refusal.InJob apart refl (load_require (not (is_there goal place)) refusal.SameStation with_room refl has_space)
@@ -158,20 +158,20 @@ module _ (goal : Goal) where
   corrects_load : (there : Option Place) (live : Bool) → IsFitIn (correct_check there live goal)
   corrects_load None live = refl
   corrects_load (Some place) live =
-      load_require (is_known goal) refusal.NoStation (require_load (not (has_left place)) refusal.Elsewhere (free place live)) refl
+      load_require (is_known goal) refusal.NoStation (check_that (not (has_left place)) refusal.Elsewhere (free place live)) refl
       (load_require (not (has_left place)) refusal.Elsewhere (free place live) refl (is_free place live))
 
   adds_job : (known : Bool) (there : Option Place) (live : Bool) → IsFitIn (job_check known there live goal)
   adds_job true there live = refl
   adds_job false None live = refl
   adds_job false (Some place) live =
-      load_require (is_known goal) refusal.NoStation (require_load (is_stored place) refusal.Elsewhere (free place live)) refl
+      load_require (is_known goal) refusal.NoStation (check_that (is_stored place) refusal.Elsewhere (free place live)) refl
       (load_require (is_stored place) refusal.Elsewhere (free place live) refl (is_free place live))
 
 lets_load_leave : (there : Option Place) (live : Bool) → IsFitIn (leave_check there live)
 lets_load_leave None live = refl
 lets_load_leave (Some place) live =
-    load_require (not (has_left place)) refusal.Elsewhere (require_load (not live) refusal.InJob passed) refl (load_require (not live) refusal.InJob passed refl tt)
+    load_require (not (has_left place)) refusal.Elsewhere (check_that (not live) refusal.InJob passed) refl (load_require (not live) refusal.InJob passed refl tt)
 
 -- ---- what a state is judged
 

@@ -18,7 +18,7 @@ use Rattle.agv_track.specs.declared.standing.Standing.{Standing}
 use Rattle.agv_world.specs.Changes.{changed}
 use Rattle.agv_world.specs.GoodOrder.{HasTrip, HasOneTripAnOrder, SharesNothing}
 use Rattle.agv_world.specs.Rows.{rows_of, standing_of}
-use Rattle.agv_world.specs.VehicleChanges.{GoesOn, StandsAsBefore, own_changes, trip_before, vehicle_changes, with_vehicle}
+use Rattle.agv_world.specs.VehicleChanges.{KeepsOrderAndEdges, StandsAsBefore, own_changes, trip_before, vehicle_changes, with_vehicle}
 use Rattle.agv_world.specs.TableChanges.{with_use}
 use Rattle.agv_world.specs.Worlds.{Vehicle, World, empty_layout}
 use Rattle.agv_world.specs.declared.change.Change.TheVariants as row
@@ -54,7 +54,7 @@ abbrev pub FollowsAVehicle : Type 0
 FollowsAVehicle = (world : World) (key : VehicleKey) (vehicle : Vehicle)
     → HasOneTripAnOrder world → SharesNothing world
     → HasOneTripAnOrder (with_vehicle world key vehicle) → SharesNothing (with_vehicle world key vehicle)
-    → GoesOn (trip_before (finite.get world.vehicles key)) vehicle.trip
+    → KeepsOrderAndEdges (trip_before (finite.get world.vehicles key)) vehicle.trip
     → changed (vehicle_changes key (finite.get world.vehicles key) vehicle) (rows_of world) ≡ rows_of (with_vehicle world key vehicle)
 
 abbrev pub NotesAVehicle : Type 0

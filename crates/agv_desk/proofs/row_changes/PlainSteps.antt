@@ -6,7 +6,7 @@ use Rattle.agv_message.specs.declared.state.StateMessage.{StateMessage}
 use Rattle.agv_order.specs.declared.trip.Trip.{Trip}
 use Rattle.agv_track.specs.Footprints.{footprint_of}
 use Rattle.agv_world.specs.Questions.{row_of, trip_of}
-use Rattle.agv_world.specs.VehicleChanges.{GoesOn}
+use Rattle.agv_world.specs.VehicleChanges.{KeepsOrderAndEdges}
 use Rattle.agv_world.specs.Worlds.{World}
 use Rattle.agv_world.specs.declared.row.VehicleRow.{VehicleRow}
 use Rattle.agv_desk.specs.InOrder.{IsInOrder}
@@ -103,6 +103,6 @@ module _ (given : Given) (world : World) (in_order : IsInOrder world) where
       leads given world in_order _ (lays_none world)
       (puts given world in_order key (Some (vehicle_with row (trip_of world key))) new (known world key row there) (given.without world key new in_order.one_trip refl) (given.by_claim world key new in_order.apart opened) (ended (trip_of world key))))))))
     where
-      ended : (trip : Option Trip) → GoesOn trip None
+      ended : (trip : Option Trip) → KeepsOrderAndEdges trip None
       ended None = tt
       ended (Some trip) = tt

@@ -14,7 +14,7 @@ use Rattle.agv_track.specs.Progressed.{progressed, Advances, IsNextOf}
 use Rattle.agv_track.specs.declared.progress.Progress.{Progress}
 use Rattle.agv_world.specs.Questions.{row_of, trip_of}
 use Rattle.agv_world.specs.Rows.{standing_of}
-use Rattle.agv_world.specs.VehicleChanges.{GoesOn, with_vehicle}
+use Rattle.agv_world.specs.VehicleChanges.{KeepsOrderAndEdges, with_vehicle}
 use Rattle.agv_world.specs.GoodOrder.{HasOneTripAnOrder}
 use Rattle.agv_world.specs.Worlds.{Vehicle, World}
 use Rattle.agv_world.specs.declared.row.VehicleRow.{VehicleRow}
@@ -107,7 +107,7 @@ module _ (given : Given) (world : World) (in_order : IsInOrder world) where
         given.further world key (vehicle_after row trip state progress) in_order.one_trip trip (progressed trip progress) (has_trip world key trip same) (ap (λ b. cond b None (Some (progressed trip progress))) is) refl
 
     -- the trip goes on or ends
-    goes : (progress : Progress) (ended : Bool) → GoesOn (Some trip) (cond ended None (Some (progressed trip progress)))
+    goes : (progress : Progress) (ended : Bool) → KeepsOrderAndEdges (Some trip) (cond ended None (Some (progressed trip progress)))
     goes progress true = tt
     goes progress false = (refl, refl)
 

@@ -6,7 +6,7 @@ use Rattle.agv_world.specs.Changes.{changed}
 use Rattle.agv_world.specs.GoodOrder.{HasOneTripAnOrder, SharesNothing}
 use Rattle.agv_world.specs.Questions.{row_of, trip_of}
 use Rattle.agv_world.specs.Rows.{rows_of}
-use Rattle.agv_world.specs.VehicleChanges.{GoesOn, trip_before, vehicle_changes, with_vehicle}
+use Rattle.agv_world.specs.VehicleChanges.{KeepsOrderAndEdges, trip_before, vehicle_changes, with_vehicle}
 use Rattle.agv_world.specs.Worlds.{Vehicle, World}
 use Rattle.agv_world.specs.declared.row.VehicleRow.{VehicleRow}
 use Rattle.agv_desk.specs.InOrder.{IsInOrder}
@@ -44,8 +44,8 @@ module _ (given : Given) (world : World) (in_order : IsInOrder world) where
 
   -- a vehicle is written in place of the old one
   pub puts : (key : VehicleKey) (old : Option Vehicle) (new : Vehicle) → finite.get world.vehicles key ≡ old
-      → HasOneTripAnOrder (with_vehicle world key new) → SharesNothing (with_vehicle world key new) → GoesOn (trip_before old) new.trip
+      → HasOneTripAnOrder (with_vehicle world key new) → SharesNothing (with_vehicle world key new) → KeepsOrderAndEdges (trip_before old) new.trip
       → TouchesRows world (Whole key old new)
   puts key old new is one apart goes =
-      subst (λ there. GoesOn (trip_before there) new.trip → changed (vehicle_changes key there new) (rows_of world) ≡ rows_of (with_vehicle world key new)) is
+      subst (λ there. KeepsOrderAndEdges (trip_before there) new.trip → changed (vehicle_changes key there new) (rows_of world) ≡ rows_of (with_vehicle world key new)) is
       (given.follows world key new in_order.one_trip in_order.apart one apart) goes

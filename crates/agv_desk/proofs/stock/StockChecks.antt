@@ -22,7 +22,7 @@ use Rattle.agv_world.specs.Worlds.{World}
 use Rattle.agv_world.specs.declared.row.JobRow.{JobRow}
 use Rattle.agv_world.proofs.lists.Entries.{same_Some}
 use Rattle.agv_world.proofs.lists.Orders.{names_total}
-use Rattle.agv_desk.specs.JobSteps.{station_in}
+use Rattle.agv_desk.specs.JobSteps.{station_of_place}
 use Rattle.agv_desk.specs.LoadSteps.{place_of}
 use Rattle.agv_desk.specs.Shared.{goal_at, goal_of, is_in_job}
 use Rattle.agv_desk.proofs.stock.StockInvariantChanges.{IsFree}
@@ -34,11 +34,11 @@ use Rattle.agv_desk.proofs.lists.Writes.{none_passes, one_if}
 err_ok : {X : Type 0} (why : Refusal) → ◌≡◌ {A = Checked} (Err why) (Ok tt) → X
 err_ok why e = cc
 
-passed_test : (test : Bool) (why : Refusal) (rest : Checked) → check.require test why rest ≡ Ok tt → (test ≡ true) × (rest ≡ Ok tt)
+passed_test : (test : Bool) (why : Refusal) (rest : Checked) → check.check_that test why rest ≡ Ok tt → (test ≡ true) × (rest ≡ Ok tt)
 passed_test true why rest e = (refl, e)
 passed_test false why rest e = err_ok why e
 
-passed_found : (known : Option Place) (rest : Place → Checked) → check.found known rest ≡ Ok tt → (at : Place) × (known ≡ Some at) × (rest at ≡ Ok tt)
+passed_found : (known : Option Place) (rest : Place → Checked) → check.check_load known rest ≡ Ok tt → (at : Place) × (known ≡ Some at) × (rest at ≡ Ok tt)
 passed_found None rest e = err_ok _ e
 passed_found (Some at) rest e = (at, refl, e)
 
@@ -86,7 +86,7 @@ adds job_known known live goal e =
     (not-true job_known new.0, not-true live free.0, there.0, room.0)
 
 -- a load that stands at a station is there
-pub station_there : (there : Option Place) (origin : List ℕ) → station_in there ≡ Some origin → there ≡ Some (place.Station origin)
+pub station_there : (there : Option Place) (origin : List ℕ) → station_of_place there ≡ Some origin → there ≡ Some (place.Station origin)
 station_there None origin e = none_some e
 station_there (Some (place.Station id)) origin e = ap (λ (name : List ℕ). Some (place.Station name)) (same_Some _ _ e)
 station_there (Some (place.Vehicle key)) origin e = none_some e

@@ -22,7 +22,7 @@ use Rattle.agv_world.proofs.lists.Entries.{entries_found, same_Some}
 use Rattle.agv_world.proofs.lists.Orders.{names_total, names_apart}
 use Rattle.agv_desk.specs.Outcomes.{Effect, Move, moved}
 use Rattle.agv_desk.specs.Shared.{is_in_job}
-use Rattle.agv_desk.specs.StocktakeSteps.{Row, count_move, count_moves, some_on_vehicle, fits, found_at, found_here, has_load, is_counted, new_entry, new_place, recounted, take_stock}
+use Rattle.agv_desk.specs.StocktakeSteps.{Row, count_move, count_moves, finds_on_vehicle, fits, found_at, found_here, has_load, is_counted, new_entry, new_place, recounted, take_stock}
 use Rattle.agv_desk.proofs.stock.StockInvariantChanges.{IsFree}
 use Rattle.agv_desk.proofs.stocktakes.CountedRoom.{counted_few}
 use Rattle.agv_desk.proofs.stocktakes.CountedWhole.{passes}
@@ -252,7 +252,7 @@ fits_is world rows station (Some other) site is fit =
     le_of n m e = grind (arith, nat_tests)
 
 module _ (world : World) (stock : HasStockInvariant world) where
-  room_after : (rows : List Row) (known : AreKnown world rows rows) (ashore : list_any (λ (row : Row). some_on_vehicle world row.1) rows ≡ false) → list_all (λ (row : Row). fits world rows row.0 (finite.get world.layout.stations row.0)) rows ≡ true
+  room_after : (rows : List Row) (known : AreKnown world rows rows) (ashore : list_any (λ (row : Row). finds_on_vehicle world row.1) rows ≡ false) → list_all (λ (row : Row). fits world rows row.0 (finite.get world.layout.stations row.0)) rows ≡ true
       → (station : List ℕ) (site : StationSite) → IsStation world.layout station site → stored (moved world.places (count_moves world rows)) station + coming world.jobs station ≤ site.capacity
   room_after rows known ashore room station site there =
       elim (is_counted rows station) as (λ b. is_counted rows station ≡ b → stored (moved world.places (count_moves world rows)) station + coming world.jobs station ≤ site.capacity) [

@@ -28,7 +28,7 @@ use Rattle.agv_desk.specs.LayoutSteps.{set_layout}
 use Rattle.agv_desk.specs.OrderSteps.{advance, send_update, sent_on, trip_for}
 use Rattle.agv_desk.specs.Outcomes.{Effect, answer_only}
 use Rattle.agv_desk.specs.ReadSteps.{get_instant, get_load, get_order, get_vehicle}
-use Rattle.agv_desk.specs.StateSteps.{heard, idle_state}
+use Rattle.agv_desk.specs.StateSteps.{with_state, idle_state}
 use Rattle.agv_desk.specs.VehicleSteps.{new_vehicle, register_vehicle, resync}
 use Rattle.agv_desk.specs.declared.answer.Answer.{Answer}
 use Rattle.agv_desk.proofs.stock.StockInvariantChanges.{action_views_told, vehicle_kept}
@@ -103,7 +103,7 @@ module _ (world : World) (stock : HasStockInvariant world) where
   resync_keeps key = made_found P _ _ _ (λ row there. record { stock = noted key row _ there refl })
 
   pub idle_keeps : (key : VehicleKey) (row : VehicleRow) (state : StateMessage) → row_of world key ≡ Some row → IfMade P (idle_state key row state)
-  idle_keeps key row state there = made_judged P _ _ (λ over is. record { stock = noted key row (heard row state over) there refl })
+  idle_keeps key row state there = made_judged P _ _ (λ over is. record { stock = noted key row (with_state row state over) there refl })
 
   -- ---- a new vehicle
   pub register_keeps : (seats : ℕ) (key : VehicleKey) (node : List ℕ) (capacity : ℕ) → IfMade P (register_vehicle seats world key node capacity)

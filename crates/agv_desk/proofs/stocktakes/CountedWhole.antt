@@ -20,7 +20,7 @@ use Rattle.agv_world.proofs.lists.Orders.{names_total}
 use Rattle.agv_desk.specs.CountParts.{all_have_room, count_by_parts, found_in, has_room_for, is_found_at, moves_list, count_at, counted_loads, standing, stations_in, unknown_one}
 use Rattle.agv_desk.specs.Outcomes.{Outcome, Made, Move, Refused, refuse_unless, answer_only}
 use Rattle.agv_desk.specs.Shared.{most, is_in_job, reference_key}
-use Rattle.agv_desk.specs.StocktakeSteps.{Row, are_known, count_loads, count_move, some_on_vehicle, finds_known, fits, found_here, is_on_vehicle, is_counted, is_here, new_places, unknown_in, unknown_on}
+use Rattle.agv_desk.specs.StocktakeSteps.{Row, are_known, count_loads, count_move, finds_on_vehicle, finds_known, fits, found_here, is_on_vehicle, is_counted, is_here, new_places, unknown_in, unknown_on}
 use Rattle.agv_desk.specs.declared.answer.Answer.TheVariants as answer
 use Rattle.agv_desk.specs.declared.stocktake.counted_load.CountedLoad.{CountedLoad}
 use Rattle.agv_desk.proofs.stocktakes.CountedMoves.{get-stations_in, has-stations_in, moves_are}
@@ -69,11 +69,11 @@ no_more false n = omega arith
 
 module _ (world : World) where
   -- ---- what was found
-  on_vehicle_are : (rows : List Row) → list_any (λ (one : CountedLoad). is_on_vehicle one.place) (counted_loads world rows) ≡ list_any (λ (row : Row). some_on_vehicle world row.1) rows
+  on_vehicle_are : (rows : List Row) → list_any (λ (one : CountedLoad). is_on_vehicle one.place) (counted_loads world rows) ≡ list_any (λ (row : Row). finds_on_vehicle world row.1) rows
   unfolding counted_loads
   on_vehicle_are [] = refl
   on_vehicle_are (row ∷ rows) =
-      elim row.1 as (λ load. list_any (λ (one : CountedLoad). is_on_vehicle one.place) (counted_loads world ((row.0, load) ∷ rows)) ≡ (some_on_vehicle world load || list_any (λ (row : Row). some_on_vehicle world row.1) rows)) [
+      elim row.1 as (λ load. list_any (λ (one : CountedLoad). is_on_vehicle one.place) (counted_loads world ((row.0, load) ∷ rows)) ≡ (finds_on_vehicle world load || list_any (λ (row : Row). finds_on_vehicle world row.1) rows)) [
         | None ↦ on_vehicle_are rows
         | Some load ↦ ap (λ b. is_on_vehicle (finite.get world.places load) || b) (on_vehicle_are rows)
       ]

@@ -15,7 +15,7 @@ use Rattle.agv_world.specs.Worlds.{World}
 use Rattle.agv_world.proofs.lists.Orders.{names_total}
 use Rattle.agv_desk.specs.Outcomes.{Effect, Outcome, Made, Refused, moved, refuse_unless, with_effect}
 use Rattle.agv_desk.specs.StockTaken.{IsStockTaken}
-use Rattle.agv_desk.specs.StocktakeSteps.{Row, count_move, count_moves, some_on_vehicle, found_at, has_load, is_on_vehicle, is_counted, is_here, new_place, new_places, recounted, take_stock}
+use Rattle.agv_desk.specs.StocktakeSteps.{Row, count_move, count_moves, finds_on_vehicle, found_at, has_load, is_on_vehicle, is_counted, is_here, new_place, new_places, recounted, take_stock}
 use Rattle.agv_desk.proofs.stocktakes.PlacedLoads.{Loads, Places, find_below, find_moved, sorted_moved}
 use Rattle.agv_desk.proofs.lists.SameNames.{same_name, tie_turned}
 
@@ -124,11 +124,11 @@ gone_after counted found (Some (place.Vehicle key)) gone = refl
 gone_after counted found (Some place.Checking) gone = absurd (false≢true (sym gone))
 gone_after counted found (Some place.Left) gone = refl
 
-not_on_vehicle : (world : World) (rows : List Row) (load station : List ℕ) → list_any (λ (row : Row). some_on_vehicle world row.1) rows ≡ false → found_at rows load ≡ Some station → is_on_vehicle (finite.get world.places load) ≡ false
+not_on_vehicle : (world : World) (rows : List Row) (load station : List ℕ) → list_any (λ (row : Row). finds_on_vehicle world row.1) rows ≡ false → found_at rows load ≡ Some station → is_on_vehicle (finite.get world.places load) ≡ false
 not_on_vehicle world [] load station none found = absurd (false≢true (ap is_some found))
 not_on_vehicle world (row ∷ rows) load station none found =
-    let parts = or_parts (some_on_vehicle world row.1) _ none in
-    elim row.1 as (λ on. some_on_vehicle world on ≡ false → cond (has_load load on) (Some row.0) (found_at rows load) ≡ Some station → is_on_vehicle (finite.get world.places load) ≡ false) [
+    let parts = or_parts (finds_on_vehicle world row.1) _ none in
+    elim row.1 as (λ on. finds_on_vehicle world on ≡ false → cond (has_load load on) (Some row.0) (found_at rows load) ≡ Some station → is_on_vehicle (finite.get world.places load) ≡ false) [
       | None ↦ λ _ later. not_on_vehicle world rows load station parts.1 later
       | Some name ↦ λ ashore. elim (pointwise nat_eq name load) as (λ b. pointwise nat_eq name load ≡ b → cond b (Some row.0) (found_at rows load) ≡ Some station → is_on_vehicle (finite.get world.places load) ≡ false) [
         | true ↦ λ same _. ap (λ k. is_on_vehicle (finite.get world.places k)) (sym (same_name name load same)) ∙ ashore
@@ -137,7 +137,7 @@ not_on_vehicle world (row ∷ rows) load station none found =
     ] parts.0 found
 
 -- ---- the whole
-pub taken : (world : World) (rows : List Row) → list_any (λ (row : Row). some_on_vehicle world row.1) rows ≡ false → IsStockTaken world rows (moved world.places (count_moves world rows))
+pub taken : (world : World) (rows : List Row) → list_any (λ (row : Row). finds_on_vehicle world row.1) rows ≡ false → IsStockTaken world rows (moved world.places (count_moves world rows))
 taken world rows ashore = record {
   found = λ station load counted.
       let is = get-after world rows load in (

@@ -16,7 +16,7 @@ use Rattle.agv_world.proofs.lists.Orders.{names_total}
 use Rattle.agv_world.specs.StockInvariant.{Places}
 use Rattle.agv_world.specs.Worlds.{World}
 use Rattle.agv_desk.specs.Outcomes.{Effect, Made, moved, with_effect}
-use Rattle.agv_desk.specs.StockTaken.{count_moved, is_still_at}
+use Rattle.agv_desk.specs.StockTaken.{number_moved, is_still_at}
 use Rattle.agv_desk.specs.StocktakeSteps.{Row, count_move, count_moves, found_at, from_station, is_counted, new_place, new_places, recounted, take_stock, unknown_in}
 use Rattle.agv_desk.specs.declared.answer.Answer.TheVariants as answer
 use Rattle.agv_desk.proofs.stocktakes.PlacedLoads.{Loads}
@@ -77,7 +77,7 @@ module _ (world : World) (rows : List Row) where
       moves_or_stays (is_counted rows) (found_at rows load.0) load.1
       ∙ ap (λ at. not (is_still_at load.1 at)) (sym (get-after world rows load.0 ∙ ap (after (is_counted rows) (found_at rows load.0)) there))
 
-  pub moved_number : length (count_moves world rows) ≡ count_moved world.places (moved world.places (count_moves world rows))
+  pub moved_number : length (count_moves world rows) ≡ number_moved world.places (moved world.places (count_moves world rows))
   unfolding afterwards
   moved_number =
       length-map (new_places world rows) count_move
@@ -85,7 +85,7 @@ module _ (world : World) (rows : List Row) where
       (all_through _ _ stays (finite.entries world.places) (entries_found names_total world.places))
 
 pub number_told : (world : World) (reference : List ℕ) (rows : List Row) (effect : Effect) → take_stock world reference rows ≡ Made effect
-    → effect.answer ≡ answer.Counted (count_moved world.places (with_effect world effect).places) (unknown_in world rows)
+    → effect.answer ≡ answer.Counted (number_moved world.places (with_effect world effect).places) (unknown_in world rows)
 number_told world reference rows effect made =
     let fresh = require_made _ _ _ effect made in
     let known = require_made _ _ _ effect fresh.1 in
@@ -94,5 +94,5 @@ number_told world reference rows effect made =
     let free = require_made _ _ _ effect ashore.1 in
     let room = require_made _ _ _ effect free.1 in
     let few = require_made _ _ _ effect room.1 in
-    subst (λ (e : Effect). e.answer ≡ answer.Counted (count_moved world.places (with_effect world e).places) (unknown_in world rows)) (same_made _ effect few.1)
+    subst (λ (e : Effect). e.answer ≡ answer.Counted (number_moved world.places (with_effect world e).places) (unknown_in world rows)) (same_made _ effect few.1)
     (ap (λ number. answer.Counted number (unknown_in world rows)) (moved_number world rows))

@@ -13,7 +13,7 @@ use Rattle.agv_order.specs.Stops.{is_drop}
 use Rattle.agv_order.specs.Trips.{stop_of, task_of}
 use Rattle.agv_order.specs.WellFormed.{is_in_turn, is_picked}
 use Rattle.agv_order.specs.declared.act.Act.{Act}
-use Rattle.agv_track.specs.Progressed.{GoesOn}
+use Rattle.agv_track.specs.Progressed.{ActGoesOn}
 use Rattle.agv_track.specs.Reports.{renewed, with_status}
 use Rattle.agv_world.specs.StockInvariant.{ActionView, action_view, action_views}
 use Rattle.agv_desk.specs.ActSteps.{Renewed, act_moves, as_it_is}
@@ -67,7 +67,7 @@ finished_stays Failed new f e = absurd (true≢false (sym e))
 
 -- each act goes on
 abbrev pub AllGoOn : List Act → List Status → Type 0
-AllGoOn acts statuses = (k : ℕ) (before : Act) → slice_get acts k ≡ Some before → (after : Act) × (slice_get (renewed acts statuses) k ≡ Some after) × GoesOn before after
+AllGoOn acts statuses = (k : ℕ) (before : Act) → slice_get acts k ≡ Some before → (after : Act) × (slice_get (renewed acts statuses) k ≡ Some after) × ActGoesOn before after
 
 -- there is no act without a status
 left_out : {A : Type 0} (act : Act) (acts : List Act) → AllGoOn (act ∷ acts) [] → A

@@ -2,7 +2,7 @@
 ghost use Rattle.std.specs.Prelude.{◌≡◌, ℕ, List};
 ghost use Rattle.agv_world.specs.Worlds.{World};
 ghost use Rattle.agv_desk.specs.Outcomes.{Effect, Made, with_effect};
-ghost use Rattle.agv_desk.specs.StockTaken.{IsStockTaken, count_moved};
+ghost use Rattle.agv_desk.specs.StockTaken.{IsStockTaken, number_moved};
 ghost use Rattle.agv_desk.specs.StocktakeSteps.{Row, take_stock, unknown_in};
 ghost use Rattle.agv_desk.specs.declared.answer.Answer.TheVariants as answer;
 
@@ -16,5 +16,5 @@ pub fn what_was_counted_is_there()
 /// The number in the answer is that of the loads which have another place after the stocktake than before.
 pub fn counts_the_loads_that_moved()
     ensures { (world : World) (reference : List ℕ) (rows : List Row) (effect : Effect) → take_stock world reference rows ≡ Made effect
-        → effect.answer ≡ answer.Counted (count_moved world.places (with_effect world effect).places) (unknown_in world rows) }
+        → effect.answer ≡ answer.Counted (number_moved world.places (with_effect world effect).places) (unknown_in world rows) }
 {}

@@ -1,4 +1,4 @@
--- The answer to a call that may change something fits in the room for it.
+-- The answer to a call that may change something fits in the buffer for it.
 use Rattle.std.proofs.Common.{◌≡◌, ℕ, ◌≤◌, ◌+◌, Bool, true, false, List, length, Ok, refl, subst, sym, arith, lit≤}
 use Rattle.agv_world.specs.Worlds.{World}
 use Rattle.agv_desk.specs.Outcomes.{answer_of}
@@ -11,7 +11,7 @@ use Rattle.agv_desk.specs.declared.call.Call.TheVariants as call
 use Rattle.agv_http.specs.answers.Answers.{answer_text}
 use Rattle.agv_http.specs.bodies.BodyCalls.{call_of_body}
 use Rattle.agv_http.specs.request.Requests.{most_body}
-use Rattle.agv_http.specs.answers.Sizes.{IsOfItsTypes, is_outcome, most_answer, names_size, outcome_room}
+use Rattle.agv_http.specs.answers.Sizes.{IsOfItsTypes, is_outcome, most_answer, names_size, outcome_bytes}
 use Rattle.agv_http.specs.declared.routing.route.Route.{Route}
 use Rattle.agv_http.proofs.bodies.CountNames.{unknown_named}
 use Rattle.agv_http.proofs.bodies.CountSizes.{unknown_within}
@@ -51,47 +51,47 @@ pub told_outcome : (seats : ℕ) (world : World) (at : ℕ) (made : Call) → on
 told_outcome seats world at made more =
     outcome_of IsTold (record { refused = λ why. refl; done = refl; update = λ n. refl; instructed = λ n. refl; accepted = λ newer. refl }) world seats at made more (told_count world made)
 
--- there is room for it
-abbrev pub HasRoom : Answer → Type 0
-HasRoom a = (outcome_room a ≤ most_answer) × AreFewNames a
+-- it fits in the buffer
+abbrev pub FitsBuffer : Answer → Type 0
+FitsBuffer a = (outcome_bytes a ≤ most_answer) × AreFewNames a
 
-counted_room : (world : World) (made : Call) (n : ℕ) → n ≤ most_body + 1 → CountsWithin n made → IsOfCount HasRoom world made
-counted_room world (call.SetLayout rows) n less h = tt
-counted_room world (call.RegisterVehicle key node capacity) n less h = tt
-counted_room world (call.RegisterLoad load station) n less h = tt
-counted_room world (call.CorrectLoad load reference station) n less h = tt
-counted_room world (call.LeaveLoad load reference) n less h = tt
-counted_room world (call.AddJob job load to) n less h = tt
-counted_room world (call.StopJob job) n less h = tt
-counted_room world (call.StartOrder order key stops edges) n less h = tt
-counted_room world (call.Advance key order update edges) n less h = tt
-counted_room world (call.Cancel key) n less h = tt
-counted_room world (call.Pause key) n less h = tt
-counted_room world (call.Resume key) n less h = tt
-counted_room world (call.PlaceVehicle key reference node) n less h = tt
-counted_room world (call.Resync key) n less h = tt
-counted_room world (call.State key state) n less h = tt
-counted_room world (call.GetOrder key) n less h = tt
-counted_room world (call.GetInstant key) n less h = tt
-counted_room world (call.Stocktake reference rows) n less h =
+counted_fits : (world : World) (made : Call) (n : ℕ) → n ≤ most_body + 1 → CountsWithin n made → IsOfCount FitsBuffer world made
+counted_fits world (call.SetLayout rows) n less h = tt
+counted_fits world (call.RegisterVehicle key node capacity) n less h = tt
+counted_fits world (call.RegisterLoad load station) n less h = tt
+counted_fits world (call.CorrectLoad load reference station) n less h = tt
+counted_fits world (call.LeaveLoad load reference) n less h = tt
+counted_fits world (call.AddJob job load to) n less h = tt
+counted_fits world (call.StopJob job) n less h = tt
+counted_fits world (call.StartOrder order key stops edges) n less h = tt
+counted_fits world (call.Advance key order update edges) n less h = tt
+counted_fits world (call.Cancel key) n less h = tt
+counted_fits world (call.Pause key) n less h = tt
+counted_fits world (call.Resume key) n less h = tt
+counted_fits world (call.PlaceVehicle key reference node) n less h = tt
+counted_fits world (call.Resync key) n less h = tt
+counted_fits world (call.State key state) n less h = tt
+counted_fits world (call.GetOrder key) n less h = tt
+counted_fits world (call.GetInstant key) n less h = tt
+counted_fits world (call.Stocktake reference rows) n less h =
     let few : names_size (unknown_in world rows) ≤ n = omega (arith, unknown_within world rows, h.0) in
     (omega arith, (omega arith, unknown_named world rows h.1))
-counted_room world (call.GetLoad load) n less h = tt
-counted_room world (call.GetVehicle key) n less h = tt
-counted_room world call.StockReport n less h = tt
-counted_room world call.HoldReport n less h = tt
-counted_room world call.LoadsExport n less h = tt
+counted_fits world (call.GetLoad load) n less h = tt
+counted_fits world (call.GetVehicle key) n less h = tt
+counted_fits world call.StockReport n less h = tt
+counted_fits world call.HoldReport n less h = tt
+counted_fits world call.LoadsExport n less h = tt
 
-pub has_room : (seats : ℕ) (world : World) (at : ℕ) (line : Route) (body : List ℕ) (made : Call) → call_of_body line body ≡ Ok made → length body ≤ most_body → only_tells made ≡ false
-    → HasRoom (answer_of (step seats world at made))
-has_room seats world at line body made is short more =
-    outcome_of HasRoom
+pub fits_buffer : (seats : ℕ) (world : World) (at : ℕ) (line : Route) (body : List ℕ) (made : Call) → call_of_body line body ≡ Ok made → length body ≤ most_body → only_tells made ≡ false
+    → FitsBuffer (answer_of (step seats world at made))
+fits_buffer seats world at line body made is short more =
+    outcome_of FitsBuffer
     (record { refused = λ why. (lit≤ tt, tt); done = (lit≤ tt, tt); update = λ n. (lit≤ tt, tt); instructed = λ n. (lit≤ tt, tt); accepted = λ newer. (lit≤ tt, tt) })
-    world seats at made more (counted_room world made (length body + 1) (omega arith) (counts_within line body made is))
+    world seats at made more (counted_fits world made (length body + 1) (omega arith) (counts_within line body made is))
 
-pub room_of : (seats : ℕ) (world : World) (at : ℕ) (line : Route) (body : List ℕ) (made : Call) → call_of_body line body ≡ Ok made → length body ≤ most_body → only_tells made ≡ false
-    → outcome_room (answer_of (step seats world at made)) ≤ most_answer
-room_of seats world at line body made is short more = (has_room seats world at line body made is short more).0
+pub outcome_fits : (seats : ℕ) (world : World) (at : ℕ) (line : Route) (body : List ℕ) (made : Call) → call_of_body line body ≡ Ok made → length body ≤ most_body → only_tells made ≡ false
+    → outcome_bytes (answer_of (step seats world at made)) ≤ most_answer
+outcome_fits seats world at line body made is short more = (fits_buffer seats world at line body made is short more).0
 
 -- what is known of an answer at hand
 pub text_within : (a : Answer) → IsOfItsTypes a
@@ -100,5 +100,5 @@ pub text_within : (a : Answer) → IsOfItsTypes a
     → length (answer_text a report close) ≤ most_answer
 text_within a types seats world at line body made report close is fits more same =
     let told : is_outcome a ≡ true = subst (λ (b : Answer). is_outcome b ≡ true) (sym same) (told_outcome seats world at made more) in
-    let room : HasRoom a = subst HasRoom (sym same) (has_room seats world at line body made is fits more) in
+    let room : FitsBuffer a = subst FitsBuffer (sym same) (fits_buffer seats world at line body made is fits more) in
     omega (arith, room.0, outcome_short a told types room.1 report close)

@@ -26,7 +26,7 @@ use Rattle.agv_message.specs.Json.{list, text}
 use Rattle.agv_http.specs.answers.Answers.{allowed, answer_text}
 use Rattle.agv_http.specs.answers.Bodies.{accepted_data, counted_data, held_data, instructed_data, plain_refusal_data, refusal_data, update_data, wrong_update_data}
 use Rattle.agv_http.specs.answers.Heads.{allow_line, connection_line, content_lines, head_text, line_end, status_line}
-use Rattle.agv_http.specs.answers.Sizes.{IsBrief, IsOfItsTypes, IsToldBriefly, is_outcome, names_size, outcome_room}
+use Rattle.agv_http.specs.answers.Sizes.{IsBrief, IsOfItsTypes, IsToldBriefly, is_outcome, names_size, outcome_bytes}
 use Rattle.agv_message.proofs.Escapes.{escape-name, escape-decimal}
 use Rattle.agv_http.proofs.answers.Escapes.{escape-key}
 use Rattle.agv_http.proofs.answers.RefusalNames.{escape-refusal}
@@ -301,7 +301,7 @@ AreFewNames (answer.Counted moved unknown) = (names_size unknown < 2 ^ 32) × Al
 AreFewNames _ = Unit {0}
 
 -- an outcome
-pub outcome_short : (a : Answer) → is_outcome a ≡ true → IsOfItsTypes a → AreFewNames a → (report : List ℕ) (close : Bool) → length (answer_text a report close) ≤ outcome_room a
+pub outcome_short : (a : Answer) → is_outcome a ≡ true → IsOfItsTypes a → AreFewNames a → (report : List ℕ) (close : Bool) → length (answer_text a report close) ≤ outcome_bytes a
 outcome_short (answer.Refused r) is h few report close = brief (answer.Refused r) report close h
 outcome_short answer.Done is h few report close = brief answer.Done report close tt
 outcome_short (answer.Update n) is h few report close = brief (answer.Update n) report close h

@@ -15,7 +15,7 @@ use Rattle.agv_http.specs.request.Requests.{IsRequest, Request, length_needed, l
 use Rattle.agv_http.specs.answers.Sizes.{IsOfItsTypes, is_outcome, most_answer, only_asks}
 use Rattle.agv_http.specs.routing.Table.{route_at}
 use Rattle.agv_http.specs.declared.routing.route.Route.{Route}
-use Rattle.agv_http.proofs.answers.Fitting.{HasRoom, has_room, told_outcome}
+use Rattle.agv_http.proofs.answers.Fitting.{FitsBuffer, fits_buffer, told_outcome}
 use Rattle.agv_http.proofs.answers.Lengths.{outcome_short}
 
 -- ---- the body of a request
@@ -44,13 +44,13 @@ body_short bytes request (head, body, begins, needed, same) =
 
 module _ (seats : ℕ) (world : World) (at : ℕ) where
   abbrev Fits : Answer → Type 0
-  Fits a = (is_outcome a ≡ true) × HasRoom a
+  Fits a = (is_outcome a ≡ true) × FitsBuffer a
 
   by_call : (line : Route) (body : List ℕ) → length body ≤ most_body → (read : Result Call Refusal) → call_of_body line body ≡ read → only_asks read ≡ false
       → Fits (answer_of (outcome_by seats world at read))
   unfolding answer_of
   by_call line body short (Err why) is more = (refl, (lit≤ tt, tt))
-  by_call line body short (Ok made) is more = (told_outcome seats world at made more, has_room seats world at line body made is short more)
+  by_call line body short (Ok made) is more = (told_outcome seats world at made more, fits_buffer seats world at line body made is short more)
 
   by_route : (read : Result Route Refusal) (body : List ℕ) → length body ≤ most_body → only_asks (call_of_routed body read) ≡ false
       → Fits (answer_of (outcome_by seats world at (call_of_routed body read)))
@@ -68,5 +68,5 @@ pub request_within : (a : Answer) → IsOfItsTypes a
     → IsRequest bytes request → only_asks (call_of_request request) ≡ false → a ≡ answer_of (outcome_for seats world at request)
     → length (answer_text a report close) ≤ most_answer
 request_within a types seats world at bytes request report close is more same =
-    let fits : (is_outcome a ≡ true) × HasRoom a = subst (λ (b : Answer). (is_outcome b ≡ true) × HasRoom b) (sym same) (answer_fits seats world at bytes request is more) in
+    let fits : (is_outcome a ≡ true) × FitsBuffer a = subst (λ (b : Answer). (is_outcome b ≡ true) × FitsBuffer b) (sym same) (answer_fits seats world at bytes request is more) in
     omega (arith, fits.1.0, outcome_short a fits.0 types fits.1.1 report close)

@@ -77,9 +77,9 @@ each_within (fields ∷ records) =
     one_more (fields_size fields) (records_size records) (records_size (fields ∷ records)) (count_row fields) (each count_row records)
     (row_within fields) (each_within records) (omega (arith, sum_by-cons fields_size fields records))
 
-more_room : (n m : ℕ) (rows : Option (List Row)) → AreWithin n rows → n ≤ m → AreWithin m rows
-more_room n m None h less = tt
-more_room n m (Some rows) h less = omega arith
+within_more : (n m : ℕ) (rows : Option (List Row)) → AreWithin n rows → n ≤ m → AreWithin m rows
+within_more n m None h less = tt
+within_more n m (Some rows) h less = omega arith
 
 by_header : (n : ℕ) (test : Bool) (rows : Option (List Row)) → AreWithin n rows → AreWithin n (cond test rows None)
 by_header n true rows h = h
@@ -89,10 +89,10 @@ under_within : (records : List (List (List ℕ))) → AreWithin (records_size re
 under_within [] = tt
 under_within (first ∷ rest) =
     by_header (records_size (first ∷ rest)) (is_record count_columns first) (each count_row rest)
-    (more_room (records_size rest) (records_size (first ∷ rest)) (each count_row rest) (each_within rest) (omega (arith, sum_by-cons fields_size first rest)))
+    (within_more (records_size rest) (records_size (first ∷ rest)) (each count_row rest) (each_within rest) (omega (arith, sum_by-cons fields_size first rest)))
 
 pub file_within : (bytes : List ℕ) → AreWithin (length bytes + 1) (count_in bytes)
-file_within bytes = more_room (records_size (records_of bytes)) (length bytes + 1) (count_in bytes) (under_within (records_of bytes)) (records_within bytes)
+file_within bytes = within_more (records_size (records_of bytes)) (length bytes + 1) (count_in bytes) (under_within (records_of bytes)) (records_within bytes)
 
 pub rows_within : (bytes : List ℕ) (rows : List Row) → count_in bytes ≡ Some rows → rows_size rows ≤ length bytes + 1
 rows_within bytes rows is = subst (AreWithin (length bytes + 1)) is (file_within bytes)

@@ -66,7 +66,7 @@ open_head buf front is short none partial =
 -- ---- a head
 
 module _ (buf front : List ℕ) (headers : List HeaderSpan) (spans : RequestSpans) (head : RequestHead)
-    (is : front ≡ take 8192 buf) (room : length headers ≤ 32) (fits : spans.len ≤ length front) (at : IsRequestAt front headers spans head) where
+    (is : front ≡ take 8192 buf) (few_headers : length headers ≤ 32) (fits : spans.len ≤ length front) (at : IsRequestAt front headers spans head) where
   after : List ℕ
   after = drop spans.len front ++ drop 8192 buf
 

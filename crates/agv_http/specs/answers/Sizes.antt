@@ -1,4 +1,4 @@
--- How long answers are; for the room that an answer needs.
+-- How long answers are; for the memory that an answer needs.
 use Rattle.std.specs.Prelude.{◌<◌, ◌+◌, ◌^◌, ℕ, Bool, true, false, List, length, Option, Some, None, Result, Ok, Err}
 use Rattle.std.specs.List.{sum_by}
 use Rattle.agv_header.specs.Key.{thing_name}
@@ -45,9 +45,9 @@ is_outcome (answer.Counted moved unknown) = true
 is_outcome _ = false
 
 -- the bytes that such an answer has at most
-abbrev pub outcome_room : Answer → ℕ
-outcome_room (answer.Counted moved unknown) = 1024 + names_size unknown
-outcome_room _ = 1024
+abbrev pub outcome_bytes : Answer → ℕ
+outcome_bytes (answer.Counted moved unknown) = 1024 + names_size unknown
+outcome_bytes _ = 1024
 
 -- what an outcome holds is of its types: names, and numbers of their widths; of the unknown names of a count nothing is said
 abbrev pub IsOfItsTypes : Answer → Type 0

@@ -1,4 +1,4 @@
-//! How long answers are, so that who keeps room can tell that none will lack it.
+//! How long answers are, so that who keeps memory can tell that none will lack it.
 ghost use Rattle.std.specs.Prelude.{◌≡◌, ◌≤◌, ◌<◌, ◌+◌, ◌^◌, ℕ, Bool, true, false, List, All, Option, Ok, length};
 ghost use Rattle.agv_count.specs.ExportRecords.{IsPlaceNamed};
 ghost use Rattle.agv_desk.specs.declared.answer.OpenOrder.{OpenOrder};
@@ -18,7 +18,7 @@ ghost use Rattle.agv_http.specs.bodies.BodyCalls.{call_of_body};
 ghost use Rattle.agv_http.specs.declared.routing.route.Route.{Route};
 ghost use Rattle.agv_http.specs.Output.{call_of_request, outcome_for};
 ghost use Rattle.agv_http.specs.request.Requests.{IsRequest, Request, most_body};
-ghost use Rattle.agv_http.specs.answers.Sizes.{IsBrief, IsNameIfAny, IsOrderShort, IsVehicleShort, is_outcome, most_answer, names_size, only_asks, outcome_room};
+ghost use Rattle.agv_http.specs.answers.Sizes.{IsBrief, IsNameIfAny, IsOrderShort, IsVehicleShort, is_outcome, most_answer, names_size, only_asks, outcome_bytes};
 
 use crate::answers::outcome::{is_of_its_types, refusal_is_short};
 use agv_desk::Answer;
@@ -65,12 +65,12 @@ pub fn tells_outcomes()
         → only_tells made ≡ false → is_outcome (answer_of (step seats world at made)) ≡ true }
 {}
 
-/// There is room for that answer in 131,072 bytes, where the call is what a body of at most 65,536 bytes says: a
+/// That answer fits in 131,072 bytes, where the call is what a body of at most 65,536 bytes says: a
 /// stocktake names no more unknown loads than stand in its file.
-pub fn outcomes_have_room()
+pub fn outcome_bytes_fit()
     ensures { (seats : ℕ) (world : World) (at : ℕ) (route : Route) (body : List ℕ) (made : Call)
         → call_of_body route body ≡ Ok made → length body ≤ most_body → only_tells made ≡ false
-        → outcome_room (answer_of (step seats world at made)) ≤ most_answer }
+        → outcome_bytes (answer_of (step seats world at made)) ≤ most_answer }
 {}
 
 /// An answer that is the one to such a call has at most 131,072 bytes, with its head, whether or not the stream ends

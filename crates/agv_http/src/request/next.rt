@@ -77,7 +77,7 @@ fn with_head<'b>(
     ended: bool,
 ) -> Next<'b>
     requires front { front.now ≡ take 8192 buf.now }
-    requires room { length headers.now ≤ 32 }
+    requires few_headers { length headers.now ≤ 32 }
     requires within { IsRequestWithin front.now headers.now head }
     requires reads { IsRequestOf front.now headers.now head }
     ensures { IsNext buf.now ended result }

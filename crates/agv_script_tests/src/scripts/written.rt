@@ -1,5 +1,5 @@
-//! All rows that the tables have: of a transport, and of two vehicles, of which one is cancelled on its way and then holds the next
-//! edge and node, until a person places it.
+//! All rows that the tables have: of a transport, and of two vehicles, of which one is cancelled on its way and then holds
+//! the next edge and node, until a person places it.
 
 use crate::scripts::starts::{LAYOUT, READY, READY_AT_N3};
 
@@ -115,8 +115,8 @@ rows
 | capacity KIT 0001 1
 ";
 
-/// KIT/0001 has picked its load at A and is to drop it at B, but its order is to be cancelled: it holds the way to N2. KIT/0002 picks
-/// at C, to drop at A, and holds its node.
+/// KIT/0001 has picked its load at A and is to drop it at B, but its order is to be cancelled: it holds the way to N2.
+/// KIT/0002 picks at C, to drop at A, and holds its node.
 const MEETING: &str = r#"
 POST /loads {"load":"L1","station":"A"}
 200 {}
@@ -174,8 +174,8 @@ rows
 | act O2 1 J2 drop 2 WAITING
 "#;
 
-/// The order of KIT/0001 ends where it may be on its way, so that it rests before E12 and N2 and holds them; its load is aboard, and
-/// its job is stopped. KIT/0002 has picked.
+/// The order of KIT/0001 ends where it may be on its way, so that E12 and N2 are its rest, and it holds them; its load is
+/// aboard, and its job is stopped. KIT/0002 has picked.
 const CANCELLED: &str = r#"
 state 0001 3 O1 0 N1 0 O1.0=FINISHED instant-1=FINISHED
 200 {"accepted":true}

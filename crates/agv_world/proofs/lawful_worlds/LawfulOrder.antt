@@ -1,4 +1,4 @@
--- A lawful world is in good order, and the world of a desk that knows nothing yet is lawful.
+-- A lawful world has consistent trips, and the world of a desk that knows nothing yet is lawful.
 use Rattle.std.proofs.Common.{◌≡◌, ℕ, ◌≤◌, true, List, Some, Ordering, inl, refl, sym, ◌∙◌, true≢false, arith}
 use Rattle.std.specs.FinMap as finite
 use Rattle.std.specs.FinSet as set
@@ -9,16 +9,16 @@ use Rattle.agv_header.specs.declared.key.VehicleKey.{VehicleKey}
 use Rattle.agv_order.specs.WellFormed.{IsEdgeOf}
 use Rattle.agv_order.specs.declared.trip.Trip.{Trip}
 use Rattle.agv_stock.specs.declared.place.Place.{Place}
-use Rattle.agv_world.specs.GoodOrder.{HasTrip, InGoodOrder, IsVehicle}
+use Rattle.agv_world.specs.GoodOrder.{HasTrip, HasConsistentTrips, IsVehicle}
 use Rattle.agv_world.specs.Lawful.{HasLawfulLoads, HasLawfulVehicles, IsJob, IsLawful}
 use Rattle.agv_world.specs.Worlds.{Vehicle, World, empty_world}
 use Rattle.agv_world.specs.declared.row.JobRow.{JobRow}
 use Rattle.agv_world.proofs.lists.Entries.{no_more}
 
--- ---- in good order
+-- ---- consistent trips
 
-pub in_good_order : (seats : ℕ) (world : World) → IsLawful seats world → InGoodOrder world
-in_good_order seats world lawful = record {
+pub consistent_trips : (seats : ℕ) (world : World) → IsLawful seats world → HasConsistentTrips world
+consistent_trips seats world lawful = record {
   one_trip = lawful.vehicles.one_trip;
   own = λ key trip has. (lawful.vehicles.trips key has.0 trip has.1 has.2).own;
   known = λ key trip has. recursion_from_All (IsEdgeOf world.layout) trip.edges (lawful.vehicles.trips key has.0 trip has.1 has.2).well_formed.planned.edges;

@@ -15,7 +15,7 @@ use Rattle.agv_stock.specs.Phase.{is_live}
 use Rattle.agv_stock.specs.declared.job.Phase.{Phase}
 use Rattle.agv_stock.specs.declared.job.Phase.TheVariants as phase
 use Rattle.agv_stock.specs.declared.place.Place.{Place}
-use Rattle.agv_world.specs.GoodOrder.{InGoodOrder}
+use Rattle.agv_world.specs.GoodOrder.{HasConsistentTrips}
 use Rattle.agv_world.specs.Kept.{Keeps}
 use Rattle.agv_world.specs.Lawful.{HasAct, IsJob, carried_at, station_for}
 use Rattle.agv_world.specs.LoadTests.{are_acts, are_jobs_apart, is_act, is_act_of, is_apart_from, is_as_acted, is_carried_at, is_done, is_riding, is_same_job, is_shared, names_its_job}
@@ -58,7 +58,7 @@ is_carried : (key : VehicleKey) (origin : List ℕ) (finished : Bool) (found : O
 is_carried key origin false found at = is_at_station origin found at
 is_carried key origin true found at = is_on_vehicle key found at
 
-module _ (tables : Tables) (keeps : Keeps tables (world_of tables)) (good : InGoodOrder (world_of tables)) where
+module _ (tables : Tables) (keeps : Keeps tables (world_of tables)) (good : HasConsistentTrips (world_of tables)) where
   -- the job and its load are where the act has brought them
   pub record Acted (key : VehicleKey) (row : JobRow) (kind : ActKind) (finished : Bool) : Type 0 where
     pub pick : kind ≡ Pick → is_live row.phase ≡ true → get tables.loads row.load ≡ Some (carried_at key row.origin finished)

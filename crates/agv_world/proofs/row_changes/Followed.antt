@@ -15,7 +15,7 @@ use Rattle.agv_world.specs.KeyOrders.{leg_cmp-total, leg_cmp-IsAntisymmetric}
 use Rattle.agv_world.specs.Keys.{leg_cmp}
 use Rattle.agv_world.specs.Rows.{Rows, rows_of, vehicle_rows, trip_rows, rows_of_trip, leg_rows, legs_of_trip, hold_rows, standing_of}
 use Rattle.agv_world.specs.Spread.{spread}
-use Rattle.agv_world.specs.VehicleChanges.{GoesOn, StandsAsBefore, row_before, trip_before, held_before, own_changes, trip_changes, hold_changes, vehicle_changes, with_vehicle}
+use Rattle.agv_world.specs.VehicleChanges.{KeepsOrderAndEdges, StandsAsBefore, row_before, trip_before, held_before, own_changes, trip_changes, hold_changes, vehicle_changes, with_vehicle}
 use Rattle.agv_world.specs.Worlds.{Vehicle, World}
 use Rattle.agv_world.specs.declared.key.LegKey.{LegKey}
 use Rattle.agv_world.specs.declared.row.TripRow.{TripRow}
@@ -48,7 +48,7 @@ module _ (world : World) (key : VehicleKey) (vehicle : Vehicle) (once : HasOneTr
   abbrev old : Option Vehicle
   old = get world.vehicles key
 
-  trips_now : GoesOn (trip_before old) vehicle.trip → trip_table key (trip_before old) vehicle.trip (spread name_cmp trip_rows world.vehicles) ≡ spread name_cmp trip_rows (insert world.vehicles key vehicle)
+  trips_now : KeepsOrderAndEdges (trip_before old) vehicle.trip → trip_table key (trip_before old) vehicle.trip (spread name_cmp trip_rows world.vehicles) ≡ spread name_cmp trip_rows (insert world.vehicles key vehicle)
   trips_now goes = respread key_cmp-total key_cmp-IsAntisymmetric name_cmp names_total names_apart trip_rows world.vehicles key vehicle (trips_apart world once) (trips_apart (with_vehicle world key vehicle) once_now)
       (trip_table key (trip_before old) vehicle.trip (spread name_cmp trip_rows world.vehicles))
       (λ q. trips_at key (trip_before old) vehicle.trip goes (spread name_cmp trip_rows world.vehicles) q (λ y e. stood_trip q y (sym (given_trip key old q) ∙ e))
@@ -57,7 +57,7 @@ module _ (world : World) (key : VehicleKey) (vehicle : Vehicle) (once : HasOneTr
       stood_trip : (q : List ℕ) (y : TripRow) → given name_cmp trip_rows key old q ≡ Some y → get (spread name_cmp trip_rows world.vehicles) q ≡ Some y
       stood_trip = stood key_cmp-total key_cmp-IsAntisymmetric name_cmp names_total names_apart trip_rows world.vehicles key vehicle (trips_apart world once) (trips_apart (with_vehicle world key vehicle) once_now)
 
-  legs_now : GoesOn (trip_before old) vehicle.trip → leg_table (trip_before old) vehicle.trip (spread leg_cmp leg_rows world.vehicles) ≡ spread leg_cmp leg_rows (insert world.vehicles key vehicle)
+  legs_now : KeepsOrderAndEdges (trip_before old) vehicle.trip → leg_table (trip_before old) vehicle.trip (spread leg_cmp leg_rows world.vehicles) ≡ spread leg_cmp leg_rows (insert world.vehicles key vehicle)
   legs_now goes = respread key_cmp-total key_cmp-IsAntisymmetric leg_cmp leg_cmp-total leg_cmp-IsAntisymmetric leg_rows world.vehicles key vehicle (legs_apart world once) (legs_apart (with_vehicle world key vehicle) once_now)
       (leg_table (trip_before old) vehicle.trip (spread leg_cmp leg_rows world.vehicles))
       (λ q. legs_at (trip_before old) vehicle.trip goes (spread leg_cmp leg_rows world.vehicles) q (λ y e. stood_leg q y (sym (given_legs key old q) ∙ e))
@@ -76,7 +76,7 @@ module _ (world : World) (key : VehicleKey) (vehicle : Vehicle) (once : HasOneTr
       stood_hold : (q : Thing) (y : VehicleKey) → given thing_cmp hold_rows key old q ≡ Some y → get (spread thing_cmp hold_rows world.vehicles) q ≡ Some y
       stood_hold = stood key_cmp-total key_cmp-IsAntisymmetric thing_cmp thing_cmp-total thing_cmp-IsAntisymmetric hold_rows world.vehicles key vehicle (holds_apart world shares) (holds_apart (with_vehicle world key vehicle) shares_now)
 
-  pub followed : GoesOn (trip_before old) vehicle.trip → changed (vehicle_changes key old vehicle) (rows_of world) ≡ rows_of (with_vehicle world key vehicle)
+  pub followed : KeepsOrderAndEdges (trip_before old) vehicle.trip → changed (vehicle_changes key old vehicle) (rows_of world) ≡ rows_of (with_vehicle world key vehicle)
   unfolding changed
   followed goes =
       let own = own_changes key (row_before old) vehicle.row in

@@ -19,7 +19,7 @@ use Rattle.agv_world.specs.KeyOrders.{leg_cmp-total, leg_cmp-IsAntisymmetric}
 use Rattle.agv_world.specs.Keys.{leg_cmp}
 use Rattle.agv_world.specs.Rows.{Rows, rows_of_trip, trip_rows, trip_row, leg_rows, legs_of_trip, hold_rows, vehicle_rows}
 use Rattle.agv_world.specs.SameRows.{same_row, same_trip_row}
-use Rattle.agv_world.specs.VehicleChanges.{GoesOn, own_changes, trip_changes, hold_changes, row_before, trip_before, held_before}
+use Rattle.agv_world.specs.VehicleChanges.{KeepsOrderAndEdges, own_changes, trip_changes, hold_changes, row_before, trip_before, held_before}
 use Rattle.agv_world.specs.Changes.{changed}
 use Rattle.agv_world.specs.Worlds.{Vehicle}
 use Rattle.agv_world.specs.declared.change.Change.TheVariants as row
@@ -100,7 +100,7 @@ went_on key old new order t q stood false is =
     ∙ rewritten (eq_by_cmp name_cmp q new.order) (trip_row key new) (trip_row key old) (get t q)
     ∙ ap (λ o. replaced (cond (eq_by_cmp name_cmp q new.order) (Some (trip_row key new)) None) (cond (eq_by_cmp name_cmp q o) (Some (trip_row key old)) None) (get t q)) order
 
-pub trips_at : (key : VehicleKey) (old new : Option Trip) → GoesOn old new → (t : FinMap name_cmp TripRow) (q : List ℕ)
+pub trips_at : (key : VehicleKey) (old new : Option Trip) → KeepsOrderAndEdges old new → (t : FinMap name_cmp TripRow) (q : List ℕ)
     → ((y : TripRow) → find name_cmp q (rows_of_trip key old) ≡ Some y → get t q ≡ Some y)
     → get (trip_table key old new t) q ≡ replaced (find name_cmp q (rows_of_trip key new)) (find name_cmp q (rows_of_trip key old)) (get t q)
 trips_at key None None goes t q stood = refl
@@ -147,7 +147,7 @@ leg_table None (Some new) t = edit_all (leg_puts new.order 0 new.edges) t
 leg_table (Some old) None t = edit_all (leg_drops old.order 0 old.edges) t
 leg_table (Some old) (Some new) t = t
 
-pub legs_at : (old new : Option Trip) → GoesOn old new → (t : FinMap leg_cmp (List ℕ)) (q : LegKey) → ((y : List ℕ) → find leg_cmp q (legs_of_trip old) ≡ Some y → get t q ≡ Some y)
+pub legs_at : (old new : Option Trip) → KeepsOrderAndEdges old new → (t : FinMap leg_cmp (List ℕ)) (q : LegKey) → ((y : List ℕ) → find leg_cmp q (legs_of_trip old) ≡ Some y → get t q ≡ Some y)
     → get (leg_table old new t) q ≡ replaced (find leg_cmp q (legs_of_trip new)) (find leg_cmp q (legs_of_trip old)) (get t q)
 legs_at None None goes t q stood = refl
 legs_at None (Some new) goes t q stood = get-edit_all leg_cmp-total (leg_puts new.order 0 new.edges) t q ∙ edited-puts q new.order 0 new.edges (get t q)

@@ -8,7 +8,7 @@ use Rattle.agv_header.specs.declared.key.VehicleKey.{VehicleKey}
 use Rattle.agv_order.specs.WellFormed.{IsEdgeOf}
 use Rattle.agv_order.specs.declared.act.Act.{Act}
 use Rattle.agv_order.specs.declared.trip.Trip.{Trip}
-use Rattle.agv_world.specs.GoodOrder.{HasTrip, InGoodOrder, IsVehicle}
+use Rattle.agv_world.specs.GoodOrder.{HasTrip, HasConsistentTrips, IsVehicle}
 use Rattle.agv_world.specs.Kept.{Keeps}
 use Rattle.agv_world.specs.Lawful.{HasAct, HasLawfulVehicles}
 use Rattle.agv_world.specs.Rows.{rows_of_trip, trip_row}
@@ -52,14 +52,14 @@ module _ (tables : Tables) where
 
 -- ---- trips
 
-pub good_vehicles : {seats : ℕ} (world : World) → HasLawfulVehicles seats world → InGoodOrder world
+pub good_vehicles : {seats : ℕ} (world : World) → HasLawfulVehicles seats world → HasConsistentTrips world
 good_vehicles world vehicles = record {
   one_trip = vehicles.one_trip;
   own = λ key trip has. (vehicles.trips key has.0 trip has.1 has.2).own;
   known = λ key trip has. recursion_from_All (IsEdgeOf world.layout) trip.edges (vehicles.trips key has.0 trip has.1 has.2).well_formed.planned.edges;
 }
 
-module _ (tables : Tables) (world : World) (keeps : Keeps tables world) (good : InGoodOrder world) where
+module _ (tables : Tables) (world : World) (keeps : Keeps tables world) (good : HasConsistentTrips world) where
   -- an open trip has its row
   pub row_of_trip : (key : VehicleKey) (trip : Trip) → HasTrip world key trip → get tables.trips trip.order ≡ Some (trip_row key trip)
   row_of_trip key trip has =

@@ -1,4 +1,4 @@
--- The tables of a world in good order tell that world.
+-- The tables of a world with consistent trips tell that world.
 use Rattle.std.proofs.Common.{◌≡◌, Bool, true, false, cond, ℕ, List, [], ◌∷◌, Option, Some, None, option_map, refl, sym, ap, subst, ◌∙◌}
 use Rattle.std.specs.Cmp.{tied_itself}
 use Rattle.std.specs.FinMap as finite
@@ -11,7 +11,7 @@ use Rattle.agv_header.specs.Name.{name_cmp}
 use Rattle.agv_header.specs.declared.key.VehicleKey.{VehicleKey}
 use Rattle.agv_layout.specs.declared.edge.EdgeEnds.{EdgeEnds}
 use Rattle.agv_order.specs.declared.trip.Trip.{Trip}
-use Rattle.agv_world.specs.GoodOrder.{InGoodOrder, HasTrip}
+use Rattle.agv_world.specs.GoodOrder.{HasConsistentTrips, HasTrip}
 use Rattle.agv_world.specs.Kept.{Keeps}
 use Rattle.agv_world.specs.Keys.{leg_cmp}
 use Rattle.agv_world.specs.Rows.{legs_of_trip, rows_of_trip, trip_row}
@@ -61,7 +61,7 @@ own_vehicle : (key : VehicleKey) → key_eq key key ≡ true
 own_vehicle key = key_cmp-ties key key ∙ ap is_eq (tied_itself key_cmp-total key)
 
 -- ---- trips
-module _ (tables : Tables) (world : World) (keeps : Keeps tables world) (good : InGoodOrder world) where
+module _ (tables : Tables) (world : World) (keeps : Keeps tables world) (good : HasConsistentTrips world) where
   -- the vehicle's trip has the rows of its order
   edges_again : (key : VehicleKey) (trip : Trip) → HasTrip world key trip → edges_of tables trip.order ≡ trip.edges
   unfolding edges_of
@@ -149,7 +149,7 @@ module _ (tables : Tables) (world : World) (keeps : Keeps tables world) (good : 
           absurd (no_more from.1 (sym none ∙ ap (get world.vehicles) one.0 ∙ from.2))
 
 -- ---- worlds
-pub told_world : (tables : Tables) (world : World) → Keeps tables world → InGoodOrder world → world_of tables ≡ world
+pub told_world : (tables : Tables) (world : World) → Keeps tables world → HasConsistentTrips world → world_of tables ≡ world
 told_world tables world keeps good =
     let vehicles : vehicles_of tables ≡ world.vehicles = finite.same_map key_cmp-total key_cmp-IsAntisymmetric _ _ (vehicle_again tables world keeps good) in
     let orders : names_of tables Order ≡ world.orders = set.same_set names_total names_apart _ _ (λ name. contains-names_of tables Order name ∙ ap (λ used. set.contains used (order_key name)) keeps.used ∙ used_order world name) in

@@ -15,7 +15,7 @@ use Rattle.agv_layout.specs.declared.edge.Edge.{Edge}
 use Rattle.agv_order.specs.Trips.{node_at}
 use Rattle.agv_order.specs.WellFormed.{IsEdgeOf, IsWellFormed}
 use Rattle.agv_order.specs.declared.trip.Trip.{Trip}
-use Rattle.agv_world.specs.GoodOrder.{HasTrip, InGoodOrder}
+use Rattle.agv_world.specs.GoodOrder.{HasTrip, HasConsistentTrips}
 use Rattle.agv_world.specs.Kept.{Keeps}
 use Rattle.agv_world.specs.KeyOrders.{leg_cmp-total, leg_cmp-IsAntisymmetric}
 use Rattle.agv_world.specs.Keys.{leg_cmp}
@@ -45,13 +45,13 @@ use Rattle.agv_world.proofs.told_worlds.ToldVehicles.{told_vehicle, vehicle_told
 use Rattle.agv_world.proofs.vehicle_tests.VehicleRowTests.{vehicle_row_again}
 use Rattle.agv_world.proofs.told_worlds.WorldTold.{told_world}
 
--- ---- a world with lawful vehicles is in good order
+-- ---- a world with lawful vehicles has consistent trips
 each_edge : (layout : Layout) (edges : List Edge) → All (IsEdgeOf layout) edges → AllByRecursion (IsEdgeOf layout) edges
 each_edge layout [] each = tt
 each_edge layout (edge ∷ edges) each = (All-head (IsEdgeOf layout) edge edges each, each_edge layout edges (All-tail (IsEdgeOf layout) edge edges each))
 
-pub good_order : (seats : ℕ) (world : World) → HasLawfulVehicles seats world → InGoodOrder world
-good_order seats world lawful = record {
+pub trips_consistent : (seats : ℕ) (world : World) → HasLawfulVehicles seats world → HasConsistentTrips world
+trips_consistent seats world lawful = record {
   one_trip = lawful.one_trip;
   own = λ key trip has. (lawful.trips key has.0 trip has.1 has.2).own;
   known = λ key trip has. each_edge world.layout trip.edges (lawful.trips key has.0 trip has.1 has.2).well_formed.planned.edges;
@@ -119,12 +119,12 @@ module _ (below : Below) (seats : ℕ) (tables : Tables) (keeps : Keeps tables (
 
   turn_again : (key : VehicleKey) (trip : Trip) → HasTrip (world_of tables) key trip → are_in_turn tables trip.order 0 (finite.entries tables.legs) ≡ true
   turn_again key trip has =
-      turns tables trip.order 0 trip.edges (known_edges tables trip.edges ((good_order seats (world_of tables) lawful).known key trip has)) (finite.entries tables.legs) (rows_again key trip has)
+      turns tables trip.order 0 trip.edges (known_edges tables trip.edges ((trips_consistent seats (world_of tables) lawful).known key trip has)) (finite.entries tables.legs) (rows_again key trip has)
 
   -- ---- trips
   trip_passes : (key : VehicleKey) (vehicle : Vehicle) (trip : Trip) → IsTripOf (layout_of_tables tables) key vehicle.row trip → is_trip_of_row vehicle.row trip ≡ true
   trip_passes key vehicle trip is =
-      and_from _ _ (le-leb (count_by picks trip.acts) vehicle.row.capacity is.seated)
+      and_from _ _ (le-leb (count_by picks trip.acts) vehicle.row.capacity is.picks_fit)
       (and_from _ _ (lt-ltb 0 vehicle.row.orders.count is.sent)
       (and_from _ _ (name_again (node_at trip trip.seen) vehicle.row.node is.stands) (is_nothing vehicle.row.rest is.no_rest)))
 
@@ -179,4 +179,4 @@ module _ (below : Below) (seats : ℕ) (tables : Tables) (keeps : Keeps tables (
 
 -- the tables of any world with lawful vehicles tell that world
 pub told_again : (seats : ℕ) (tables : Tables) (world : World) → Keeps tables world → HasLawfulVehicles seats world → world_of tables ≡ world
-told_again seats tables world keeps lawful = told_world tables world keeps (good_order seats world lawful)
+told_again seats tables world keeps lawful = told_world tables world keeps (trips_consistent seats world lawful)

@@ -90,7 +90,7 @@ module _ (below : Below) (seats : ℕ) (tables : Tables) (values : HasValues tab
       record {
         well_formed = subst (λ (t : Trip). IsWellFormed (layout_of_tables tables) t) told.is (fit_told below tables laid_so passes.fit trip.order told.row told.here);
         own = ap (λ (t : Trip). t.vehicle) (sym told.is) ∙ told.by;
-        seated = leb-true (count_by picks trip.acts) vehicle.row.capacity one.0;
+        picks_fit = leb-true (count_by picks trip.acts) vehicle.row.capacity one.0;
         sent = ltb-true 0 vehicle.row.orders.count two.0;
         stands = named_node (node_at trip trip.seen) vehicle.row.node three.0;
         no_rest = nothing _ three.1;

@@ -1,4 +1,4 @@
--- The rows of a world in good order tell which world it is.
+-- The rows of a world with consistent trips tell which world it is.
 use Rattle.std.proofs.Common.{◌≡◌, ℕ, ◌+◌, List, [], ◌∷◌, Some, refl, sym, ap, subst, ◌∙◌}
 use Rattle.std.specs.FinMap.{FinMap, get, find, same_map}
 use Rattle.std.specs.FinSet as set
@@ -12,7 +12,7 @@ use Rattle.agv_layout.specs.declared.edge.Edge.{Edge}
 use Rattle.agv_layout.specs.declared.edge.EdgeEnds.{EdgeEnds}
 use Rattle.agv_order.specs.WellFormed.{IsEdgeOf}
 use Rattle.agv_order.specs.declared.trip.Trip.{Trip}
-use Rattle.agv_world.specs.GoodOrder.{InGoodOrder, HasTrip}
+use Rattle.agv_world.specs.GoodOrder.{HasConsistentTrips, HasTrip}
 use Rattle.agv_world.specs.KeyOrders.{leg_cmp-total}
 use Rattle.agv_world.specs.Keys.{leg_cmp}
 use Rattle.agv_world.specs.Rows.{Rows, rows_of, vehicle_rows, trip_rows, rows_of_trip, trip_row, leg_rows, legs_of_trip}
@@ -31,10 +31,10 @@ use Rattle.agv_world.proofs.world_rows.Spreads.{IsSpread, spread_is}
 pub vehicles_of : (world : World) → IsSpread key_cmp vehicle_rows world.vehicles
 vehicles_of world = spread_is key_cmp-total key_cmp-IsAntisymmetric key_cmp key_cmp-total vehicle_rows world.vehicles (vehicles_apart world)
 
-pub trips_of : (world : World) → InGoodOrder world → IsSpread name_cmp trip_rows world.vehicles
+pub trips_of : (world : World) → HasConsistentTrips world → IsSpread name_cmp trip_rows world.vehicles
 trips_of world good = spread_is key_cmp-total key_cmp-IsAntisymmetric name_cmp names_total trip_rows world.vehicles (trips_apart world good.one_trip)
 
-pub legs_of : (world : World) → InGoodOrder world → IsSpread leg_cmp leg_rows world.vehicles
+pub legs_of : (world : World) → HasConsistentTrips world → IsSpread leg_cmp leg_rows world.vehicles
 legs_of world good = spread_is key_cmp-total key_cmp-IsAntisymmetric leg_cmp leg_cmp-total leg_rows world.vehicles (legs_apart world good.one_trip)
 
 -- ---- edges
@@ -59,7 +59,7 @@ same_edges layout order i (x ∷ xs) (y ∷ ys) h k f g =
     λ j. head j ∷ tail j
 
 -- ---- trips
-module _ (w v : World) (W : InGoodOrder w) (V : InGoodOrder v) (e : rows_of w ≡ rows_of v) where
+module _ (w v : World) (W : HasConsistentTrips w) (V : HasConsistentTrips v) (e : rows_of w ≡ rows_of v) where
   -- the rows of a trip's edges stand in the other world too
   legs_over : (a b : VehicleKey) (t u : Trip) → HasTrip w a t → HasTrip v b u → t.order ≡ u.order → Among t.order 0 t.edges u.edges
   legs_over a b t u h k s q n f =
@@ -72,7 +72,7 @@ module _ (w v : World) (W : InGoodOrder w) (V : InGoodOrder v) (e : rows_of w �
       let vehicle : g.1 ≡ k.0 = same_Some _ _ (sym g.2 ∙ ap (get v.vehicles) owner ∙ k.1) in
       ap (λ o. find leg_cmp q (numbered o 0 u.edges)) s ∙ sym (ap (λ o. find leg_cmp q (legs_of_trip o)) (ap (λ (x : Vehicle). x.trip) vehicle ∙ k.2)) ∙ g.3
 
-module _ (w v : World) (W : InGoodOrder w) (V : InGoodOrder v) (e : rows_of w ≡ rows_of v) where
+module _ (w v : World) (W : HasConsistentTrips w) (V : HasConsistentTrips v) (e : rows_of w ≡ rows_of v) where
   trip_over : (a : VehicleKey) (x y : Vehicle) (t : Trip) → get w.vehicles a ≡ Some x → get v.vehicles a ≡ Some y → x.trip ≡ Some t → y.trip ≡ Some t
   trip_over a x y t g h s =
       let here : get (spread name_cmp trip_rows w.vehicles) t.order ≡ Some (trip_row a t) = (trips_of w W).into a x t.order (trip_row a t) g (ap (λ o. find name_cmp t.order (rows_of_trip a o)) s ∙ own_key names_total t.order (trip_row a t)) in
@@ -104,7 +104,7 @@ module _ (w v : World) (W : InGoodOrder w) (V : InGoodOrder v) (e : rows_of w �
       sym (ap (λ (x : Vehicle). x.trip) vehicle) ∙ r.1 ∙ ap Some (sym trip)
 
 -- ---- vehicles
-module _ (w v : World) (W : InGoodOrder w) (V : InGoodOrder v) (e : rows_of w ≡ rows_of v) where
+module _ (w v : World) (W : HasConsistentTrips w) (V : HasConsistentTrips v) (e : rows_of w ≡ rows_of v) where
   vehicle_over : (a : VehicleKey) (x : Vehicle) → get w.vehicles a ≡ Some x → get v.vehicles a ≡ Some x
   vehicle_over a x g =
       let here : get (spread key_cmp vehicle_rows w.vehicles) a ≡ Some x.row = (vehicles_of w).into a x a x.row g (own_key key_cmp-total a x.row) in
@@ -119,7 +119,7 @@ module _ (w v : World) (W : InGoodOrder w) (V : InGoodOrder v) (e : rows_of w �
       at ∙ ap Some (sym vehicle)
 
 -- ---- worlds
-pub one_world : (w v : World) → InGoodOrder w → InGoodOrder v → rows_of w ≡ rows_of v → w ≡ v
+pub one_world : (w v : World) → HasConsistentTrips w → HasConsistentTrips v → rows_of w ≡ rows_of v → w ≡ v
 one_world w v W V e =
     let vehicles : w.vehicles ≡ v.vehicles = same_map key_cmp-total key_cmp-IsAntisymmetric w.vehicles v.vehicles (λ a. alike (get w.vehicles a) (get v.vehicles a) (vehicle_over w v W V e a) (vehicle_over v w V W (sym e) a)) in
     let orders : w.orders ≡ v.orders = set.same_set names_total names_apart w.orders v.orders (λ name. sym (used_order w name) ∙ ap (λ (r : Rows). set.contains r.used (order_key name)) e ∙ used_order v name) in

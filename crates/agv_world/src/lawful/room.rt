@@ -1,4 +1,4 @@
-//! Whether stations and vehicles have room for their loads and jobs.
+//! Whether stations have room for their loads and jobs, and vehicles the capacity.
 ghost use Rattle.std.specs.Prelude.{◌≡◌, count_by, IfOk, OnOk};
 ghost use Rattle.std.specs.FinMap as map;
 ghost use Rattle.agv_world.specs.Lawful.{is_to_drop};

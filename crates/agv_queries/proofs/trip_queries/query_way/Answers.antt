@@ -22,14 +22,14 @@ returns-in_err-rows g c = passes g.S.Store c.args.conn.now c.query_rows_by.new.c
 pub returns-in_err-legs : goal.returns-in_err-legs
 returns-in_err-legs g c =
     follows g.S.Store c.args.conn.now c.query_rows_by.new.conn c.in_ok-rows.rows _ _ c.from_residual-in_err-legs.result
-    (λ world lawful shown. fails_there world lawful (c.is_in_good_order.ensures desk_seats world lawful) c.args.order.now _ c.name_key_values.ensures c.in_ok-rows.rows.items shown c.in_err-legs.field-0.0
+    (λ world lawful shown. fails_there world lawful (c.has_consistent_trips.ensures desk_seats world lawful) c.args.order.now _ c.name_key_values.ensures c.in_ok-rows.rows.items shown c.in_err-legs.field-0.0
     (subst (λ rows. Reads {A = map.FinMap leg_cmp (List ℕ)} (Err c.in_err-legs.field-0.0) (read_rows leg_in map.empty rows)) c.as_slice.ensures.value c.in_err-legs.ensures) c.from_residual-in_err-legs.result c.from_residual-in_err-legs.ensures.1 _)
     c.in_ok-rows.ensures
 
 pub loop-id-init : goal.loop-id-init
 loop-id-init g c =
     follows g.S.Store c.args.conn.now c.query_rows_by.new.conn c.in_ok-rows.rows _ _ (Ok tt)
-    (λ world lawful shown. begins world lawful (c.is_in_good_order.ensures desk_seats world lawful) c.args.order.now _ c.name_key_values.ensures c.in_ok-rows.rows.items shown c.in_ok-legs.legs
+    (λ world lawful shown. begins world lawful (c.has_consistent_trips.ensures desk_seats world lawful) c.args.order.now _ c.name_key_values.ensures c.in_ok-rows.rows.items shown c.in_ok-legs.legs
     (subst (λ rows. Reads {A = map.FinMap leg_cmp (List ℕ)} (Ok c.in_ok-legs.legs) (read_rows leg_in map.empty rows)) c.as_slice.ensures.value c.in_ok-legs.ensures)
     c.args.known.now _ _ c.new-edges.ensures.items (c.into_iter-id-iterator.ensures.into_iter_gives ∙ c.iter-id-items.ensures))
     c.in_ok-rows.ensures

@@ -5,5 +5,5 @@ use Rattle.agv_rows.proofs.row_list_laws.a_database_tells_one_world.Goals as goa
 
 pub returns : goal.returns
 returns c = λ desk again db world other is too lawful too_lawful h g.
-    c.rows_tell_the_world.ensures world other (c.is_in_good_order.ensures desk_seats world lawful) (c.is_in_good_order.ensures desk_seats other too_lawful)
+    c.rows_tell_the_world.ensures world other (c.has_consistent_trips.ensures desk_seats world lawful) (c.has_consistent_trips.ensures desk_seats other too_lawful)
     (one_rows_held c.lists_tell_one_world.ensures desk again db (rows_of world) (rows_of other) is too (c.lawful_acts_are_of_jobs.ensures world lawful) (c.lawful_acts_are_of_jobs.ensures other too_lawful) h g)

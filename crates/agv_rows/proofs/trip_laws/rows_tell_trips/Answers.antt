@@ -10,7 +10,7 @@ pub returns : goal.returns
 returns c = record {
   trip = λ world lawful.
       trip_again c.rows_have_keys.ensures.journeys_listed c.rows_have_keys.ensures.acts_listed c.rows_are_of_trips.ensures.acts c.rows_tell_one_table.ensures.acts world (c.lawful_rows_tell_trips.ensures.all desk_seats world lawful).of_jobs
-      c.tables_tell_the_world.ensures (c.is_in_good_order.ensures desk_seats world lawful);
+      c.tables_tell_the_world.ensures (c.has_consistent_trips.ensures desk_seats world lawful);
   one = λ world lawful. one_journey c.tables_have_rows.ensures.journeys world;
   acts = λ world lawful.
       acts_known c.rows_have_keys.ensures.journeys_listed c.rows_have_keys.ensures.acts_listed c.rows_are_of_trips.ensures.acts c.rows_tell_one_table.ensures.acts world (c.lawful_rows_tell_trips.ensures.all desk_seats world lawful).of_jobs;
@@ -21,5 +21,5 @@ returns c = record {
   ways = λ world lawful key trip is.
       told_way world (journey_for (rows_of world) key) trip
       (sym (trip_again c.rows_have_keys.ensures.journeys_listed c.rows_have_keys.ensures.acts_listed c.rows_are_of_trips.ensures.acts c.rows_tell_one_table.ensures.acts world (c.lawful_rows_tell_trips.ensures.all desk_seats world lawful).of_jobs
-      c.tables_tell_the_world.ensures (c.is_in_good_order.ensures desk_seats world lawful) key) ∙ is);
+      c.tables_tell_the_world.ensures (c.has_consistent_trips.ensures desk_seats world lawful) key) ∙ is);
 }

@@ -8,12 +8,14 @@ pub returns-in_err-query_rowids : goal.returns-in_err-query_rowids
 returns-in_err-query_rowids g c =
     finds_fault g.S.Store c.args.conn.now c.query_rowids.new.conn
     c.from_residual-in_err-query_rowids.result c.in_err-query_rowids.field-0.0 _ c.from_residual-in_err-query_rowids.ensures.1 c.in_err-query_rowids.ensures.tells
+    (subst TablesStand c.schema.ensures.value (c.in_ok-tables_stand.ensures.0 c.if-not-branch.false)) c.in_err-query_rowids.ensures.exact.caused
 
 pub returns-in_err-tables : goal.returns-in_err-tables
 returns-in_err-tables g c =
     let keyed = c.in_ok-query_rowids.ensures in
     finds_fault_then g.S.Store c.args.conn.now c.query_rowids.new.conn c.read_world.new.conn c.in_ok-query_rowids.field-0 c.if-not-branch-2.false keyed.exact keyed.tells
-    c.from_residual-in_err-tables.result c.in_err-tables.field-0.0 _ c.from_residual-in_err-tables.ensures.1 c.in_err-tables.ensures.tells
+    c.from_residual-in_err-tables.result c.in_err-tables.field-0.0 _ _ c.from_residual-in_err-tables.ensures.1 c.in_err-tables.ensures
+    (subst TablesStand c.schema.ensures.value (c.in_ok-tables_stand.ensures.0 c.if-not-branch.false))
 
 pub returns-in_err-are_of_a_lawful_world : goal.returns-in_err-are_of_a_lawful_world
 returns-in_err-are_of_a_lawful_world g c =

@@ -1,7 +1,7 @@
 use Rattle.std.proofs.Common.{ap, ◌∙◌}
 use Rattle.agv_row_reading.specs.ReadTables.{meta_read}
 use Rattle.agv_row_reading.proofs.AskingAll.{all_follows, all_passes}
-use Rattle.agv_world_reading.proofs.MetaAnswers.{shows_meta, tells_meta}
+use Rattle.agv_world_reading.proofs.MetaAnswers.{meta_no_storage, shows_meta, tells_meta}
 use Rattle.agv_world_reading.proofs.hold_reading.query_meta.Goals as goal
 
 pub returns-in_err-rows : goal.returns-in_err-rows
@@ -10,5 +10,5 @@ returns-in_err-rows g c = all_passes g.S.Store c.args.conn.now c.query_all_rows.
 pub returns : goal.returns
 returns g c =
     let read = c.meta_in_rows.ensures ∙ ap meta_read c.as_slice.ensures.value in
-    all_follows g.S.Store c.args.conn.now c.query_all_rows.new.conn c.in_ok-rows.rows _ _ _ _ c.meta_in_rows.result
+    all_follows g.S.Store c.args.conn.now c.query_all_rows.new.conn c.in_ok-rows.rows _ _ _ _ c.meta_in_rows.result (meta_no_storage c.in_ok-rows.rows.items c.meta_in_rows.result read)
     (λ world lawful shown. tells_meta world c.in_ok-rows.rows.items shown c.meta_in_rows.result read) (λ lists shown. shows_meta _ c.in_ok-rows.rows.items c.meta_in_rows.result read shown) c.in_ok-rows.ensures

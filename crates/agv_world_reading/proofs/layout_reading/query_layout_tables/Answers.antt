@@ -20,5 +20,5 @@ pub returns : goal.returns
 returns g c =
     all_then_follows g.S.Store c.args.conn.now c.query_edges.new.conn c.query_stations.new.conn c.in_ok-edges.edges _ _
     (all_then g.S.Store c.args.conn.now c.query_nodes.new.conn c.query_edges.new.conn c.in_ok-nodes.nodes _ _ c.in_ok-nodes.ensures (Ok c.in_ok-edges.edges) _ _ c.in_ok-edges.ensures)
-    c.in_ok-stations.stations _ _ _ _ (Ok (c.in_ok-nodes.nodes, c.in_ok-edges.edges, c.in_ok-stations.stations))
+    c.in_ok-stations.stations _ _ _ _ (Ok (c.in_ok-nodes.nodes, c.in_ok-edges.edges, c.in_ok-stations.stations)) tt
     (λ world lawful two three. (two.0, two.1, three)) (λ lists two three. (two.0, two.1, three)) c.in_ok-stations.ensures

@@ -43,7 +43,7 @@ returns-in_default g c =
     let given = so_far.given in
     let read = read_all g.S.Store the.Load load_in c.args.conn.now c.rows.rows.conn.now c.advance.new.self.conn.now c.rows.table so_far its.survives its.mode its.same in
     told_at g.S.Store c.args.conn.now c.advance.new.self.conn.now _ (search rules)
-    (all_follows g.S.Store c.args.conn.now c.advance.new.self.conn.now given _ _ _ _ (Ok c.rows.table)
+    (all_follows g.S.Store c.args.conn.now c.advance.new.self.conn.now given _ _ _ _ (Ok c.rows.table) tt
     (λ world lawful shown. tells_places world lawful given shown (Ok c.rows.table) read)
     (λ lists shown. shows_table nat_list_cmp_total names_apart load_columns load_in load_written _ given (Ok c.rows.table) read shown)
     (taken_all g.S.Store the.Load load_in c.args.conn.now c.rows.rows.conn.now c.advance.new.self.conn.now c.rows.table so_far its.survives its.mode its.same

@@ -7,8 +7,8 @@ use Rattle.agv_world.specs.declared.row.VehicleRow.{VehicleRow}
 use Rattle.agv_rows.specs.DecodedTrips.{vehicle_with}
 use Rattle.agv_row_reading.specs.ReadTables.{Reads, read_rows}
 use Rattle.agv_row_reading.specs.declared.reading_fault.ReadingFault.TheVariants as fault
-use Rattle.agv_row_reading.proofs.AskingAll.{all_passes, all_then_follows, all_then_passes, if_err}
-use Rattle.agv_world_reading.proofs.RoomTables.{none_left_over, vehicles_shown}
+use Rattle.agv_row_reading.proofs.AskingAll.{all_passes, all_then_follows, all_then_passes, if_err, passes_no_storage, reads_no_storage}
+use Rattle.agv_world_reading.proofs.CapacityTables.{none_left_over, vehicles_shown}
 use Rattle.agv_world_reading.proofs.TableAnswers.{reads_vehicles}
 use Rattle.agv_row_reading.proofs.TableReading.{reads_fails}
 use Rattle.agv_world_reading.proofs.table_reading.query_vehicles.Goals as goal
@@ -24,30 +24,32 @@ returns-in_err-rows g c =
 pub returns-in_err-vehicles : goal.returns-in_err-vehicles
 returns-in_err-vehicles g c =
     let r = c.from_residual-in_err-vehicles.result in
-    let rooms = c.in_ok-capacities.capacities in
-    let read = subst (λ rows. Reads {A = map.FinMap key_cmp VehicleRow} (Err c.in_err-vehicles.field-0.0) (read_rows (vehicle_with rooms) map.empty rows)) c.as_slice.ensures.value c.in_err-vehicles.ensures in
-    all_then_follows g.S.Store c.args.conn.now c.query_capacities.new.conn c.query_all_rows.new.conn rooms _ _ c.in_ok-capacities.ensures
+    let capacities = c.in_ok-capacities.capacities in
+    let read = subst (λ rows. Reads {A = map.FinMap key_cmp VehicleRow} (Err c.in_err-vehicles.field-0.0) (read_rows (vehicle_with capacities) map.empty rows)) c.as_slice.ensures.value c.in_err-vehicles.ensures in
+    all_then_follows g.S.Store c.args.conn.now c.query_capacities.new.conn c.query_all_rows.new.conn capacities _ _ c.in_ok-capacities.ensures
     c.in_ok-rows.rows _ _ _ _ r
-    (λ world lawful one two. reads_fails (rows_of world).vehicles c.in_err-vehicles.field-0.0 _ read (reads_vehicles world lawful c.in_ok-rows.rows.items rooms one two) r c.from_residual-in_err-vehicles.ensures.1 _)
+    (passes_no_storage c.in_err-vehicles.field-0.0 r c.from_residual-in_err-vehicles.ensures.1
+    (reads_no_storage {A = map.FinMap key_cmp VehicleRow} (Err c.in_err-vehicles.field-0.0) (read_rows (vehicle_with capacities) map.empty c.in_ok-rows.rows.items) read))
+    (λ world lawful one two. reads_fails (rows_of world).vehicles c.in_err-vehicles.field-0.0 _ read (reads_vehicles world lawful c.in_ok-rows.rows.items capacities one two) r c.from_residual-in_err-vehicles.ensures.1 _)
     (λ lists one two. if_err c.in_err-vehicles.field-0.0 r c.from_residual-in_err-vehicles.ensures.1 _) c.in_ok-rows.ensures
 
 pub returns-then-are_of_vehicles : goal.returns-then-are_of_vehicles
 returns-then-are_of_vehicles g c =
-    let rooms = c.in_ok-capacities.capacities in
+    let capacities = c.in_ok-capacities.capacities in
     let vehicles = c.in_ok-vehicles.vehicles in
-    let read = subst (λ rows. Reads {A = map.FinMap key_cmp VehicleRow} (Ok vehicles) (read_rows (vehicle_with rooms) map.empty rows)) c.as_slice.ensures.value c.in_ok-vehicles.ensures in
-    all_then_follows g.S.Store c.args.conn.now c.query_capacities.new.conn c.query_all_rows.new.conn rooms _ _ c.in_ok-capacities.ensures
-    c.in_ok-rows.rows _ _ _ _ (Ok vehicles)
-    (λ world lawful one two. same_Some vehicles (rows_of world).vehicles (sym read ∙ reads_vehicles world lawful c.in_ok-rows.rows.items rooms one two))
-    (λ lists one two. vehicles_shown rooms vehicles c.in_ok-rows.rows.items _ _ read (sym c.are_of_vehicles.ensures ∙ c.if-are_of_vehicles.true) two one) c.in_ok-rows.ensures
+    let read = subst (λ rows. Reads {A = map.FinMap key_cmp VehicleRow} (Ok vehicles) (read_rows (vehicle_with capacities) map.empty rows)) c.as_slice.ensures.value c.in_ok-vehicles.ensures in
+    all_then_follows g.S.Store c.args.conn.now c.query_capacities.new.conn c.query_all_rows.new.conn capacities _ _ c.in_ok-capacities.ensures
+    c.in_ok-rows.rows _ _ _ _ (Ok vehicles) tt
+    (λ world lawful one two. same_Some vehicles (rows_of world).vehicles (sym read ∙ reads_vehicles world lawful c.in_ok-rows.rows.items capacities one two))
+    (λ lists one two. vehicles_shown capacities vehicles c.in_ok-rows.rows.items _ _ read (sym c.are_of_vehicles.ensures ∙ c.if-are_of_vehicles.true) two one) c.in_ok-rows.ensures
 
 pub returns : goal.returns
 returns g c =
-    let rooms = c.in_ok-capacities.capacities in
+    let capacities = c.in_ok-capacities.capacities in
     let vehicles = c.in_ok-vehicles.vehicles in
-    let read = subst (λ rows. Reads {A = map.FinMap key_cmp VehicleRow} (Ok vehicles) (read_rows (vehicle_with rooms) map.empty rows)) c.as_slice.ensures.value c.in_ok-vehicles.ensures in
-    all_then_follows g.S.Store c.args.conn.now c.query_capacities.new.conn c.query_all_rows.new.conn rooms _ _ c.in_ok-capacities.ensures
-    c.in_ok-rows.rows _ _ _ _ (Err fault.Damaged)
+    let read = subst (λ rows. Reads {A = map.FinMap key_cmp VehicleRow} (Ok vehicles) (read_rows (vehicle_with capacities) map.empty rows)) c.as_slice.ensures.value c.in_ok-vehicles.ensures in
+    all_then_follows g.S.Store c.args.conn.now c.query_capacities.new.conn c.query_all_rows.new.conn capacities _ _ c.in_ok-capacities.ensures
+    c.in_ok-rows.rows _ _ _ _ (Err fault.Damaged) (λ is. cc is)
     (λ world lawful one two.
-    none_left_over (rows_of world).vehicles vehicles rooms (same_Some vehicles (rows_of world).vehicles (sym read ∙ reads_vehicles world lawful c.in_ok-rows.rows.items rooms one two)) one (sym c.are_of_vehicles.ensures ∙ c.if-are_of_vehicles.false))
+    none_left_over (rows_of world).vehicles vehicles capacities (same_Some vehicles (rows_of world).vehicles (sym read ∙ reads_vehicles world lawful c.in_ok-rows.rows.items capacities one two)) one (sym c.are_of_vehicles.ensures ∙ c.if-are_of_vehicles.false))
     (λ lists one two. tt) c.in_ok-rows.ensures

@@ -9,10 +9,10 @@ returns-in_err-rows g c = all_passes g.S.Store c.args.conn.now c.query_all_rows.
 
 pub returns-then-is_empty : goal.returns-then-is_empty
 returns-then-is_empty g c =
-    all_follows g.S.Store c.args.conn.now c.query_all_rows.new.conn c.in_ok-rows.rows _ _ _ _ (Ok tt)
+    all_follows g.S.Store c.args.conn.now c.query_all_rows.new.conn c.in_ok-rows.rows _ _ _ _ (Ok tt) tt
     (λ world lawful shown. tt) (λ lists shown. none_shown _ c.in_ok-rows.rows.items (ap (λ n. nat_eq n 0) (sym c.in_ok-rows.rows.ok.0) ∙ sym c.is_empty.ensures ∙ c.if-is_empty.true) shown) c.in_ok-rows.ensures
 
 pub returns : goal.returns
 returns g c =
-    all_follows g.S.Store c.args.conn.now c.query_all_rows.new.conn c.in_ok-rows.rows _ _ _ _ (Err fault.Damaged)
+    all_follows g.S.Store c.args.conn.now c.query_all_rows.new.conn c.in_ok-rows.rows _ _ _ _ (Err fault.Damaged) (λ is. cc is)
     (λ world lawful shown. tells_no_trips world c.in_ok-rows.rows.items shown (ap (λ n. nat_eq n 0) (sym c.in_ok-rows.rows.ok.0) ∙ sym c.is_empty.ensures ∙ c.if-is_empty.false)) (λ lists shown. tt) c.in_ok-rows.ensures

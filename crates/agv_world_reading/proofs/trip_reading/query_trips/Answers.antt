@@ -6,7 +6,7 @@ use Rattle.agv_world.specs.Rows.{rows_of}
 use Rattle.agv_world.specs.declared.row.TripRow.{TripRow}
 use Rattle.agv_schema.specs.SchemaNumbers.{desk_seats}
 use Rattle.agv_row_reading.specs.declared.reading_fault.ReadingFault.TheVariants as fault
-use Rattle.agv_row_reading.proofs.AskingAll.{all_passes, all_then, all_then_follows, all_then_passes, if_err}
+use Rattle.agv_row_reading.proofs.AskingAll.{all_passes, all_then, all_then_follows, all_then_passes, if_err, passes_no_storage}
 use Rattle.agv_row_reading.proofs.TableReading.{runs_short}
 use Rattle.agv_world_reading.proofs.TripTableAnswers.{shows_acts, shows_journeys, tells_trips}
 use Rattle.agv_world_reading.proofs.trip_reading.query_trips.Goals as goal
@@ -41,7 +41,7 @@ returns-in_err-told g c =
     (all_then g.S.Store c.args.conn.now c.query_jobs.new.conn c.query_journeys.new.conn c.in_ok-jobs.jobs _ _
     (all_then g.S.Store c.args.conn.now c.query_no_trips.new.conn c.query_jobs.new.conn tt _ _ c.in_ok-query_no_trips.ensures (Ok c.in_ok-jobs.jobs) _ _ c.in_ok-jobs.ensures)
     (Ok c.in_ok-journeys.journeys) _ _ c.in_ok-journeys.ensures)
-    c.in_ok-acts.acts _ _ _ _ r (λ world lawful before acts. runs_short r c.from_residual-in_err-told.ensures.1 _) (λ lists before acts. if_err fault.Memory r c.from_residual-in_err-told.ensures.1 _) c.in_ok-acts.ensures
+    c.in_ok-acts.acts _ _ _ _ r (passes_no_storage fault.Memory r c.from_residual-in_err-told.ensures.1 (λ is. cc is)) (λ world lawful before acts. runs_short r c.from_residual-in_err-told.ensures.1 _) (λ lists before acts. if_err fault.Memory r c.from_residual-in_err-told.ensures.1 _) c.in_ok-acts.ensures
 
 pub returns-in-None : goal.returns-in-None
 returns-in-None g c =
@@ -49,7 +49,7 @@ returns-in-None g c =
     (all_then g.S.Store c.args.conn.now c.query_jobs.new.conn c.query_journeys.new.conn c.in_ok-jobs.jobs _ _
     (all_then g.S.Store c.args.conn.now c.query_no_trips.new.conn c.query_jobs.new.conn tt _ _ c.in_ok-query_no_trips.ensures (Ok c.in_ok-jobs.jobs) _ _ c.in_ok-jobs.ensures)
     (Ok c.in_ok-journeys.journeys) _ _ c.in_ok-journeys.ensures)
-    c.in_ok-acts.acts _ _ _ _ (Err fault.Damaged)
+    c.in_ok-acts.acts _ _ _ _ (Err fault.Damaged) (λ is. cc is)
     (λ world lawful before acts.
     let wrong : ◌≡◌ {A = Option (map.FinMap name_cmp TripRow)} None (Some (rows_of world).trips) =
     sym c.in-None.is ∙ tells_trips c.in_ok-journeys.journeys c.in_ok-acts.acts c.in_ok-jobs.jobs c.in_ok-told.told c.in_ok-told.ensures world (c.lawful_rows_tell_trips.ensures.all desk_seats world lawful) before.0.1 before.1 acts in
@@ -68,7 +68,7 @@ returns-in-Some g c =
     (all_then g.S.Store c.args.conn.now c.query_jobs.new.conn c.query_journeys.new.conn jobs _ _
     (all_then g.S.Store c.args.conn.now c.query_no_trips.new.conn c.query_jobs.new.conn tt _ _ c.in_ok-query_no_trips.ensures (Ok jobs) _ _ c.in_ok-jobs.ensures)
     (Ok journeys) _ _ c.in_ok-journeys.ensures)
-    acts _ _ _ _ (Ok (jobs, trips))
+    acts _ _ _ _ (Ok (jobs, trips)) tt
     (λ world lawful before its. (
       before.0.1,
       same_Some trips (rows_of world).trips (sym c.in-Some.is ∙ tells_trips journeys acts jobs told just world (c.lawful_rows_tell_trips.ensures.all desk_seats world lawful) before.0.1 before.1 its),

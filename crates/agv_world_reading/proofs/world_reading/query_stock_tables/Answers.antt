@@ -13,4 +13,4 @@ returns-in_err-used g c =
 pub returns : goal.returns
 returns g c =
     all_then_follows g.S.Store c.args.conn.now c.query_places.new.conn c.query_used.new.conn c.in_ok-places.places _ _ c.in_ok-places.ensures
-    c.in_ok-used.used _ _ _ _ (Ok (c.in_ok-places.places, c.in_ok-used.used)) (λ world lawful one two. (one, two)) (λ lists one two. (one, two)) c.in_ok-used.ensures
+    c.in_ok-used.used _ _ _ _ (Ok (c.in_ok-places.places, c.in_ok-used.used)) tt (λ world lawful one two. (one, two)) (λ lists one two. (one, two)) c.in_ok-used.ensures

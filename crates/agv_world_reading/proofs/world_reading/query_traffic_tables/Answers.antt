@@ -13,4 +13,4 @@ returns-in_err-legs g c =
 pub returns : goal.returns
 returns g c =
     all_then_follows g.S.Store c.args.conn.now c.query_vehicles.new.conn c.query_legs.new.conn c.in_ok-vehicles.vehicles _ _ c.in_ok-vehicles.ensures
-    c.in_ok-legs.legs _ _ _ _ (Ok (c.in_ok-vehicles.vehicles, c.in_ok-legs.legs)) (λ world lawful one two. (one, two)) (λ lists one two. (one.0, one.1, two)) c.in_ok-legs.ensures
+    c.in_ok-legs.legs _ _ _ _ (Ok (c.in_ok-vehicles.vehicles, c.in_ok-legs.legs)) tt (λ world lawful one two. (one, two)) (λ lists one two. (one.0, one.1, two)) c.in_ok-legs.ensures

@@ -30,7 +30,7 @@ returns g c =
     (all_then g.S.Store c.args.conn.now c.query_traffic_tables.new.conn c.query_trips.new.conn c.in_ok-traffic.traffic _ _
     (all_then g.S.Store c.args.conn.now c.query_layout_tables.new.conn c.query_traffic_tables.new.conn c.in_ok-layout.layout _ _ c.in_ok-layout.ensures (Ok c.in_ok-traffic.traffic) _ _ c.in_ok-traffic.ensures)
     (Ok c.in_ok-work.work) _ _ c.in_ok-work.ensures)
-    c.in_ok-stock.stock _ _ _ _ (Ok _)
+    c.in_ok-stock.stock _ _ _ _ (Ok _) tt
     (λ world lawful before stock.
     let layout = before.0.0 in
     let traffic = before.0.1 in

@@ -20,5 +20,5 @@ pub returns : goal.returns
 returns g c =
     all_then_follows g.S.Store c.args.conn.now c.read_tables.new.conn c.query_holds.new.conn c.in_ok-tables.tables _ _
     (all_then g.S.Store c.args.conn.now c.query_meta.new.conn c.read_tables.new.conn tt _ _ c.in_ok-query_meta.ensures (Ok c.in_ok-tables.tables) _ _ c.in_ok-tables.ensures)
-    c.in_ok-holds.holds _ _ _ _ (Ok (c.in_ok-tables.tables, c.in_ok-holds.holds))
+    c.in_ok-holds.holds _ _ _ _ (Ok (c.in_ok-tables.tables, c.in_ok-holds.holds)) tt
     (λ world lawful before holds. (before.1, holds)) (λ lists before holds. record { meta = before.0; tables = before.1; holds = holds }) c.in_ok-holds.ensures

@@ -5,7 +5,7 @@ use Rattle.agv_desk.proofs.laws.vehicles.keeps_vehicles_lawful.Goals as goal
 
 -- src/laws/vehicles.rt:22:1
 pub returns : goal.returns
-returns c = λ seats world at call seated moment typed lawful. lawful_after given more seats world lawful at call seated moment typed
+returns c = λ seats world at call is_seats moment typed lawful. lawful_after given more seats world lawful at call is_seats moment typed
   where
     given : Given
     given = record {

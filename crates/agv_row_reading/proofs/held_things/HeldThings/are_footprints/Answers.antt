@@ -16,6 +16,6 @@ returns c =
     each_ok c.hold_their_own.result
     (λ b own world keeps lawful.
     fits_just_so world (c.holds_are_footprints.ensures world lawful.vehicles.apart) c.tests_membership.ensures c.args.self.now.table c.args.self.now.pairs.items c.args.self.now.entries c.args.self.now.whole
-    vehicles keeps.vehicles _ (c.tables_tell_the_world.ensures c.args.tables.now world keeps (c.is_in_good_order.ensures desk_seats world lawful))
+    vehicles keeps.vehicles _ (c.tables_tell_the_world.ensures c.args.tables.now world keeps (c.has_consistent_trips.ensures desk_seats world lawful))
     (sym (c.are_holders.ensures ∙ ap (are_holders vehicles) c.deref.ensures.value) ∙ c.if-not-are_holders.false) b own)
     c.hold_their_own.ensures

@@ -8,7 +8,7 @@ use Rattle.agv_world.specs.Worlds.{World, empty_world}
 use Rattle.agv_creation.specs.DeskSchema.{is_name_taken}
 use Rattle.agv_creation.specs.DeskTables.{MakesDesk}
 use Rattle.agv_world_reading.specs.NewWorld.{KnowsNothing}
-use Rattle.agv_creation.specs.NewDesk.{LeavesRoom, MadeDesksStand, StandsNew}
+use Rattle.agv_creation.specs.NewDesk.{AllowsDesk, MadeDesksStand, StandsNew}
 use Rattle.agv_schema.specs.Connections.{IsClean, IsOpen}
 use Rattle.agv_store.specs.Floors.{IsKept, Keyed, Knows, world_at}
 use Rattle.agv_store.specs.Known.{IsKnownIn}
@@ -17,7 +17,7 @@ use Rattle.agv_store.specs.declared.known.Known.{Known}
 use Rattle.agv_store.proofs.Found.{TellsItsWorld}
 use Rattle.agv_store.proofs.desk.Desk.create.Goals as goal
 
-module _ {S : Type 0} (g : Ghosts S) (made_stand : MadeDesksStand) (knows_nothing : (db : Database) → StandsNew db → KnowsNothing db) (old new : Held S) (free : LeavesRoom (state g old).now.schema)
+module _ {S : Type 0} (g : Ghosts S) (made_stand : MadeDesksStand) (knows_nothing : (db : Database) → StandsNew db → KnowsNothing db) (old new : Held S) (free : AllowsDesk (state g old).now.schema)
     (idle : new.in_transaction ≡ false)
     (opens : IsClean g new → IsOpen g old × IsOpen g new)
     (same : IsClean g new → (state g new).now ≡ (state g new).committed)
@@ -46,29 +46,29 @@ module _ {S : Type 0} (g : Ghosts S) (made_stand : MadeDesksStand) (knows_nothin
       is_known = λ clean _. subst (IsKnownIn known) (sym (nothing_told clean)) is_known;
     }
 
-can_be_made : (schema : Schema) → LeavesRoom schema → (is_name_taken schema ≡ true → ⊥) → CanBeMade schema
+can_be_made : (schema : Schema) → AllowsDesk schema → (is_name_taken schema ≡ true → ⊥) → CanBeMade schema
 can_be_made schema free taken = (false_from_ne_true (is_name_taken schema) taken, free)
 
 pub returns-in-Ok-clause-possible : goal.returns-in-Ok-clause-possible
 returns-in-Ok-clause-possible g c _ =
-    let free = subst LeavesRoom c.schema.ensures.value (c.if-not-leaves_room.ensures.0 refl) in
+    let free = subst AllowsDesk c.schema.ensures.value (c.if-not-allows_desk.ensures.0 refl) in
     can_be_made (state g.S.Store c.args.conn).now.schema free (λ is. absurd (cc (c.in-Ok.ensures.taken.1 is)))
 
 pub returns-in-Ok-clause-damaged : goal.returns-in-Ok-clause-damaged
 returns-in-Ok-clause-damaged g c =
-    let free = subst LeavesRoom c.schema.ensures.value (c.if-not-leaves_room.ensures.0 refl) in
+    let free = subst AllowsDesk c.schema.ensures.value (c.if-not-allows_desk.ensures.0 refl) in
     (λ is. absurd is, λ no. no (can_be_made (state g.S.Store c.args.conn).now.schema free (λ is. absurd (cc (c.in-Ok.ensures.taken.1 is)))))
 
 pub new-requires : goal.new-requires
 new-requires g c =
     let its = c.in-Ok.ensures in
-    let free = subst LeavesRoom c.schema.ensures.value (c.if-not-leaves_room.ensures.0 refl) in
+    let free = subst AllowsDesk c.schema.ensures.value (c.if-not-allows_desk.ensures.0 refl) in
     new_kept g.S.Store c.made_desks_stand.ensures c.new_desks_know_nothing.ensures.world c.args.conn c.make_desk_tables.new.conn free its.idle its.open its.all_committed its.made c.a_database_tells_its_world.ensures
     c.new-known.result (c.new-known.ensures empty_world c.none.ensures tt)
 
 pub returns-in-Ok-clause-made : goal.returns-in-Ok-clause-made
 returns-in-Ok-clause-made g c =
     let its = c.in-Ok.ensures in
-    let free = subst LeavesRoom c.schema.ensures.value (c.if-not-leaves_room.ensures.0 refl) in
+    let free = subst AllowsDesk c.schema.ensures.value (c.if-not-allows_desk.ensures.0 refl) in
     subst (λ (desk : Keyed g.row.S.Denot). IsClean g.S.Store desk.held → Makes g.S.Store c.args.conn desk) (sym c.new.ensures)
     (makes_desk g.S.Store c.made_desks_stand.ensures c.new_desks_know_nothing.ensures.world c.args.conn c.make_desk_tables.new.conn free its.idle its.open its.all_committed its.made)

@@ -1,6 +1,6 @@
 use Rattle.std.proofs.Common.{◌≡◌}
 use Rattle.agv_world.specs.Lawful.{IsLawful}
-use Rattle.agv_reports.specs.Reports.{report_of}
+use Rattle.agv_reports.specs.Reports.{report_text}
 use Rattle.agv_schema.specs.SchemaNumbers.{desk_seats}
 use Rattle.agv_store.proofs.Deciding.{ends_faulted, err_of}
 use Rattle.agv_store.proofs.InTurn.{asked_between}
@@ -13,4 +13,4 @@ returns-in_err-bytes-clause-ends g c =
 
 pub returns-clause-tells : goal.returns-clause-tells
 returns-clause-tells g c =
-    asked_between (λ world. IsLawful desk_seats world → c.in_ok-bytes.bytes.items ≡ report_of world c.args.told.now) c.in_ok-settle.ensures.asks c.in_ok-bytes.ensures c.in_ok-settle-2.ensures.asks
+    asked_between (λ world. IsLawful desk_seats world → c.in_ok-bytes.bytes.items ≡ report_text world c.args.report) c.in_ok-settle.ensures.asks c.in_ok-bytes.ensures c.in_ok-settle-2.ensures.asks

@@ -23,4 +23,4 @@ returns c =
     let is : None ≡ open_trip tables c.args.key =
     ap (λ es. option_map (trip_in tables) (find (names_vehicle c.args.key) es)) (sym c.in-None.ensures.steps.0)
     ∙ ap (option_map (trip_in tables)) c.loop-order.invariant in
-    c.is_at_rest_on.ensures ∙ sym (held_by tables c.args.thing.now c.args.key c.args.row.now None (sym is))
+    c.holds_without_trip.ensures ∙ sym (held_by tables c.args.thing.now c.args.key c.args.row.now None (sym is))

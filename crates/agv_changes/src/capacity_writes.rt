@@ -1,0 +1,59 @@
+//! The capacity of a vehicle is written inside a transaction; its row stays where it is there already.
+ghost use Rattle.std.specs.Prelude.{◌≡◌, IsTrue, OnOk};
+ghost use Rattle.sqlite.specs.State.{HasCleanDisk, KeepsCommit, Survives};
+ghost use Rattle.sqlite.specs.Held.{state};
+ghost use Rattle.agv_rows.specs.Columns.{vehicle_capacity_columns};
+ghost use Rattle.agv_schema.specs.DeskRows.{Makes, with_put};
+ghost use Rattle.agv_rows.specs.RowKeys.{vehicle_key};
+ghost use Rattle.agv_schema.specs.declared.table_name.TableName.TheVariants as the;
+
+use crate::shown_rows::is_only_capacity;
+use agv_header::VehicleKey;
+use agv_rows::key_values::vehicle_key_values;
+use agv_rows::row_values::capacity_values;
+use agv_schema::row_of::RowOf;
+use agv_schema::world_table::WorldTable;
+use agv_statements::row_finds::find_rows_inside;
+use agv_statements::row_writes::put_new;
+use agv_world::VehicleRow;
+use sqlite::{Alter, Error, Transaction};
+
+/// The vehicle has this capacity. It has the same as long as it is registered, so its row is looked up first, and written
+/// only where it is not there.
+pub(crate) fn write_capacity<S: Alter>(
+    tx: &mut Transaction<'_, S>,
+    key: &VehicleKey,
+    vehicle: &VehicleRow,
+) -> Result<usize, Error>
+    ensures same_reference { tx.new.conn.ghost_name ≡ tx.old.conn.ghost_name }
+    ensures survives { Survives (state S.Store tx.old.conn.now) (state S.Store tx.new.conn.now) (λ _. ⊥) }
+    ensures kept { HasCleanDisk (state S.Store tx.new.conn.now) → KeepsCommit (state S.Store tx.old.conn.now) (state S.Store tx.new.conn.now) }
+    ensures made { HasCleanDisk (state S.Store tx.new.conn.now) → IsTrue (state S.Store tx.old.conn.now).in_transaction
+        → OnOk result (Makes (with_put the.Capacity (vehicle_key key.now) (vehicle_capacity_columns key.now vehicle.now)) (state S.Store tx.old.conn.now) (state S.Store tx.new.conn.now)) }
+{
+    let rows = find_rows_inside(tx, RowOf::Capacity, &vehicle_key_values(key))?;
+    if is_only_capacity(rows.as_slice(), key, vehicle) {
+        return Ok(0);
+    }
+    put_capacity(tx, key, vehicle)
+}
+
+// The capacity is put in place of the one that is there.
+fn put_capacity<S: Alter>(
+    tx: &mut Transaction<'_, S>,
+    key: &VehicleKey,
+    vehicle: &VehicleRow,
+) -> Result<usize, Error>
+    ensures same_reference { tx.new.conn.ghost_name ≡ tx.old.conn.ghost_name }
+    ensures survives { Survives (state S.Store tx.old.conn.now) (state S.Store tx.new.conn.now) (λ _. ⊥) }
+    ensures kept { HasCleanDisk (state S.Store tx.new.conn.now) → KeepsCommit (state S.Store tx.old.conn.now) (state S.Store tx.new.conn.now) }
+    ensures made { HasCleanDisk (state S.Store tx.new.conn.now)
+        → OnOk result (Makes (with_put the.Capacity (vehicle_key key.now) (vehicle_capacity_columns key.now vehicle.now)) (state S.Store tx.old.conn.now) (state S.Store tx.new.conn.now)) }
+{
+    put_new(
+        tx,
+        WorldTable::Capacity,
+        &vehicle_key_values(key),
+        &capacity_values(key, vehicle),
+    )
+}
