@@ -280,6 +280,23 @@ class Keeps(Watching):
         self.rows(question, moves)
         self.said('L2 is at B, it was at A')
 
+    def test_an_order_that_goes_on(self) -> None:
+        """A board that is started again does not tell once more of an order that it has told of; it tells of its end."""
+        self.desk.add_job('J1', 'L1', 'B')
+        self.desk.start_order('O1', ONE, job='J1', edges=1)
+        begins = 'Order O1 of KIT/0001, 2 edges: pick L1 at A, drop L1 at B'
+        self.said(begins)
+        self.wait('vehicle', 'KIT/0001', order_name='O1')
+        self.board.stop()
+        self.board = self.plant.board()
+        until(lambda: self.board.get('way', 'KIT/0001'), 'the order is known')
+        self.said(begins)
+        self.assertEqual([event['text'] for event in self.board.events if 'Order' in event['text']], [begins])
+        self.board.stop()
+        self.desk.place(ONE, 'R1', 'N1')
+        self.board = self.plant.board()
+        self.said('Order O1 of KIT/0001 is over')
+
     def test_anyone_reads_at_any_time(self) -> None:
         base = sqlite3.connect('file:%s?mode=ro' % self.board.db, uri=True)
         self.addCleanup(base.close)

@@ -39,6 +39,7 @@ class Commands(Watching):
         self.wait('load', 'L8', place='station C')
         self.wait('station', 'C', taken=1, reserved=0)
         self.refused(do('correct', load='L7', station='C'), 'Full', 'Station C (1 of 1 taken, 0 reserved) is full.')
+        self.refused(do('correct', load='L8', station='C'), 'SameStation', 'L8 is recorded there already.')
         self.check(do('leave', load='L8'), 'L8 has left.')
         until(lambda: not self.board.get('load', 'L8'), 'it has left')
         self.refused(do('leave', load='L8'), 'Elsewhere', 'No load L8 is in the warehouse.')
@@ -69,7 +70,7 @@ class Commands(Watching):
         self.wait('vehicle', 'KIT/0001', base=2, sent=1)
         self.check(do('pause', vehicle='KIT/0001'), 'KIT/0001 is told to pause (instant-1).')
         self.wait('vehicle', 'KIT/0001', pending='startPause')
-        pending = 'Another instant action, startPause, is not over yet.'
+        pending = 'Another instant action, to pause, is not over yet.'
         self.refused(do('resume', vehicle='KIT/0001'), 'InstantPending', pending)
         self.refused(do('cancel', vehicle='KIT/0001'), 'InstantPending', pending)
         self.plant.state(ONE, 'N1', 'O1', 1, 0, (('instant-1', 'FINISHED'),), paused=True)
@@ -102,11 +103,15 @@ class Commands(Watching):
         look = self.board.post('/look', 'stocktake', file=bad)
         told = self.board.do('stocktake', file=bad)
         self.assertEqual((told['done'], told['refusal']), (False, 'BadCsv'))
-        for line in (
-            'Line 3: NoStation: there is no station X',
-            'Line 4: CountTwice: load L1 stands in line 2 already',
-        ):
+        self.assertTrue(told['advice'])
+        self.assertEqual(look['says'][1:], ['The desk will refuse this file as a whole: no load moves.'])
+        for line in ('Line 3: there is no station X', 'Line 4: load L1 stands in line 2 already'):
             self.assertTrue(any(warning.startswith(line) for warning in look['warns']), (line, look['warns']))
+        self.check(self.board.do('job', load='L1', to='C', job='J1'), 'Job J1 waits.')
+        self.wait('job', 'J1', phase='waiting')
+        look = self.board.post('/look', 'stocktake', file='station,load\nA,\n')
+        job = 'load L1 was not found at station A, and would move, but has the live job J1: stop it while it waits.'
+        self.assertEqual(look['warns'], ['Line 2: %s' % job])
 
     def test_what_is_no_command(self) -> None:
         cases: tuple[tuple[str, dict[str, str], str], ...] = (
@@ -115,6 +120,7 @@ class Commands(Watching):
             ('pause', {'vehicle': 'KIT'}, "'KIT' is no vehicle"),
             ('correct', {'load': 'L1', 'station': 'X'}, 'There is no station X.'),
             ('place', {'vehicle': 'KIT/0001', 'node': 'X'}, 'There is no node X.'),
+            ('register', {'load': 'L 1'}, "'L 1' is no name for a load: "),
             ('advance', {'vehicle': 'KIT/0001', 'edges': '-1'}, "'-1' is no number"),
             ('order', {'vehicle': 'KIT/0001', 'edges': '1', 'order': 'O1', 'stops': 'lift J1'}, "'lift J1' is no stop"),
         )
@@ -135,9 +141,14 @@ class Commands(Watching):
 
     def test_a_command_while_the_desk_is_down(self) -> None:
         self.plant.served.stop()
+        self.wait('desk', '', up=False)
         told = self.board.do('leave', load='L2')
         self.assertEqual(told['done'], False)
-        self.assertIn('no program listens there', str(told['text']))
+        self.assertIn('The desk does not answer: nothing can be done now', told['warns'][0])
+        self.assertRegex(told['text'], r'^The desk does not answer: .*no program listens there.*\?$')
+        self.assertEqual(told['advice'], 'Nothing was done. Ask again once the desk answers.')
+        self.board.refresh()
+        self.assertEqual([event['kind'] for event in self.board.events if 'A load leaves' in event['text']], ['failed'])
 
 
 class MayAsk(Watching):
@@ -234,10 +245,12 @@ class Advice(unittest.TestCase):
     def test_nothing_that_the_page_has_not(self) -> None:
         """What to do at a refusal, without a program of the command line. Held names the vehicle, so no more is lost."""
         for refusal in refusals.BY_NAME.values():
-            self.assertNotIn('tools/ask', advice(refusal.advice), refusal.name)
+            self.assertNotRegex(advice(refusal.advice), '`|tools/(ask|check)', refusal.name)
         held = 'Wait until the states of that vehicle have freed it, or release fewer edges.'
         self.assertEqual(advice(refusals.BY_NAME['Held'].advice), held)
         self.assertEqual(advice('A load stands at one place.'), 'A load stands at one place.')
+        full = 'The loads at the station and the live jobs to it fill it. Take another station, or stop a job to it.'
+        self.assertEqual(advice(refusals.BY_NAME['Full'].advice), full)
 
 
 def load_tests(loader: unittest.TestLoader, _: unittest.TestSuite, __: str | None) -> unittest.TestSuite:

@@ -71,6 +71,10 @@ class Page(unittest.TestCase):
         )
         until(lambda: all(word in self.browser.run(script, kind, name) for word in words), '%s: %s' % (name, words))
 
+    def has_focus(self, member: str, value: str) -> None:
+        """Waits until what has the focus has this value."""
+        until(lambda: self.browser.run('return document.activeElement.%s' % member) == value, '%s %s' % (member, value))
+
     def classes(self, css: str) -> set[str]:
         return set((self.browser.value(css, 'class') or '').split())
 
@@ -146,9 +150,20 @@ class AtWork(Page):
         self.misses('#alarms', 'The desk has not')
 
     def test_a_board_that_is_stopped(self) -> None:
-        """The page says so; the questions that nobody answers are the only errors of the console."""
+        """The page says so, and to commands too; the questions that nobody answers are the only errors of the console.
+        Once the board was started again the page goes on, and gives commands."""
+        self.browser.click('.vehicle-card .head')
         self.board.stop()
         self.sees('#alarms', 'The board has not answered for')
+        self.browser.press('Pause', '.vehicle-card')
+        self.sees('#command', 'The board does not answer: nothing was done.')
+        self.browser.press('Close', '#command')
+        self.plant.board(*self.words, port=self.board.port)
+        self.misses('#alarms', 'The board has not')
+        self.browser.press('Pause', '.vehicle-card')
+        self.sees('#command', 'KIT/0001 is told to pause.')
+        self.browser.press('Do it', '#command')
+        self.sees('#command .answer', 'KIT/0001 is told to pause (instant-1).')
         self.browser.open('about:blank')  # the page asks no more
         lines = [line for line in self.browser.console() if line.startswith('SEVERE')]
         self.assertGreater(len(lines), 0)
@@ -170,6 +185,7 @@ class FallsSilent(Page):
         until(
             lambda: is_heard('MANUAL') and 'Not ready' in self.browser.text('.vehicle-card'), 'not ready'
         )
+        self.sees('.vehicle-card', "it is not under the desk's control")
 
 
 class Gives(Page):
@@ -209,6 +225,11 @@ class Gives(Page):
     def test_loads(self) -> None:
         page = self.browser
         page.click('#tab-stock')
+        page.press('Register a load', '#stock')
+        page.write('#field-load', 'L 7')
+        page.press('What will it do?', '#command')
+        self.sees('#command', "'L 7' is no name for a load")
+        page.press('Close', '#command')
         for answer in ('L7 is registered.', 'The name is taken'):
             page.press('Register a load', '#stock')
             page.write('#field-load', 'L7')
@@ -223,7 +244,7 @@ class Gives(Page):
         self.on_the_map('station', 'Station C', '1 of 1 taken')
         self.on_load('L7', 'Correct its place')
         page.write('#field-station', 'C')
-        self.look('Station C (1 of 1 taken, 0 reserved) is full.')
+        self.look('L7 is recorded there already.')
         self.do('The load is at that station already')
         self.on_load('L7', 'It leaves')
         self.look('L7 leaves the warehouse for good.')
@@ -292,7 +313,7 @@ class Gives(Page):
         self.sees('.vehicle-card', 'Told to pause')
         for title in ('Pause', 'Cancel'):
             self.on_vehicle(title)
-            self.look('Another instant action, startPause, is not over yet.')
+            self.look('Another instant action, to pause, is not over yet.')
             self.do('An instant action is pending')
         self.plant.state(ONE, 'N1', 'O1', 1, 0, (('instant-1', 'FINISHED'),), paused=True)
         self.sees('.vehicle-card', 'Paused')
@@ -344,7 +365,7 @@ class Gives(Page):
             file.flush()
             self.browser.press('Stocktake from a file', '#stock')
             self.browser.write('#field-file', file.name)
-            self.look('Line 2: NoStation: there is no station X')
+            self.look('Line 2: there is no station X')
             self.do('No station of that name')
 
 
@@ -379,10 +400,6 @@ class EyesAndHands(Page):
         self.browser.keys('ESCAPE')
         until(lambda: not self.browser.run('return document.getElementById("command").open'), 'it is closed')
         self.has_focus('dataset.command', 'order')
-
-    def has_focus(self, member: str, value: str) -> None:
-        """Waits until what has the focus has this value."""
-        until(lambda: self.browser.run('return document.activeElement.%s' % member) == value, '%s %s' % (member, value))
 
     def test_sizes_and_colours(self) -> None:
         """On a screen of 1280 by 800 and on a phone nothing is wider than the page; words have contrast in both."""

@@ -2,13 +2,12 @@
 
 const CLOSEST = 120; // units of the drawing that are seen across, at least
 const STEP = 1.3;
+const EDGE = 8; // pixels from the edge of the map, within which a point is not seen well
 
 export class Camera {
   /** `bounds` is the box around all; `changed` is called with how many pixels a unit has. */
   constructor(element, bounds, changed) {
-    this.element = element;
-    this.bounds = bounds;
-    this.changed = changed;
+    Object.assign(this, { element, bounds, changed });
     this.pointers = new Map();
     this.moved = false;
     this.all();
@@ -69,12 +68,12 @@ export class Camera {
     this.show();
   }
 
-  /** Has a point in the middle, unless it is seen well already. */
+  /** Has a point in the middle, unless it is seen already. */
   lookAt([x, y]) {
     const [left, top, width, height] = this.box;
     const far = [x - left - width / 2, y - top - height / 2].map(Math.abs);
     const { clientWidth, clientHeight } = this.element;
-    if (far[0] * this.scale < clientWidth * 0.46 && far[1] * this.scale < clientHeight * 0.46) return;
+    if (far[0] * this.scale < clientWidth / 2 - EDGE && far[1] * this.scale < clientHeight / 2 - EDGE) return;
     this.box = [x - width / 2, y - height / 2, width, height];
     this.show();
   }

@@ -5,13 +5,22 @@ import { button, el } from './dom.js';
 export class Commands {
   /** `ask(path, body)` asks the board; `options(kind)` names what a field may be filled with. */
   constructor(dialog, ask, options) {
-    this.dialog = dialog;
-    this.ask = ask;
-    this.options = options;
+    Object.assign(this, { dialog, ask, options });
     this.listed = new Map();
     dialog.addEventListener('click', (event) => {
       if (event.target === dialog) dialog.close();
     });
+    dialog.addEventListener('close', () => this.giveBack());
+  }
+
+  /** Gives the focus to what opened the command or, where that is not seen any more, to what stands there now. */
+  giveBack() {
+    const { from, near } = this;
+    const seen = (one) => one?.isConnected && one.getClientRects().length > 0;
+    if (!from || seen(from)) return;
+    const buttons = [...(near?.querySelectorAll('button') ?? [])].filter(seen);
+    const same = buttons.find((one) => from.dataset.command && one.dataset.command === from.dataset.command);
+    (same ?? buttons[0] ?? document.querySelector('[role="tab"][aria-selected="true"]')).focus();
   }
 
   /** Takes the commands as the board lists them. */
@@ -24,12 +33,24 @@ export class Commands {
     this.take(listed);
     const command = this.listed.get(name);
     if (!command) return;
+    this.from = document.activeElement;
+    this.near = this.from?.closest('.card, .detail');
     const given = (field) => [field.name, values[field.name] ?? field.given];
     if (command.fields.every((field) => field.name in values)) await this.look(command, values);
     else this.form(command, Object.fromEntries(command.fields.map(given)));
     const focused = this.dialog.querySelector('[autofocus]');
     this.dialog.showModal();
-    focused?.focus();
+    focused?.focus({ preventScroll: true });
+  }
+
+  /** Says why there is no command. */
+  fail(words) {
+    const close = button('Close', () => this.dialog.close(), { class: 'main' });
+    this.frame('Command',
+      el('p', { class: 'answer failed', role: 'alert' }, words),
+      el('div', { class: 'buttons' }, close));
+    this.focus(close);
+    if (!this.dialog.open) this.dialog.showModal();
   }
 
   frame(title, ...children) {
@@ -41,7 +62,7 @@ export class Commands {
   focus(element) {
     if (!element) return;
     element.setAttribute('autofocus', '');
-    if (this.dialog.open) element.focus();
+    if (this.dialog.open) element.focus({ preventScroll: true });
   }
 
   form(command, values, fault = '') {

@@ -13,6 +13,7 @@ const KINDS = {
   desk: 'Desk',
   command: 'Command',
   refused: 'Refused',
+  failed: 'Failed',
 };
 
 export class Events {

@@ -16,7 +16,7 @@ const HIDDEN = 5000; // while the page is not seen
 const TABS = ['vehicles', 'stock', 'jobs', 'events'];
 
 const byId = (id) => document.getElementById(id);
-const token = document.querySelector('meta[name=token]').content;
+let token = document.querySelector('meta[name=token]').content;
 const store = new Store();
 
 const view = {
@@ -33,7 +33,7 @@ const view = {
     if (view.picked) lookAt(kind, name);
     view.redraw();
     const chosen = document.querySelector('.panel .chosen');
-    if (chosen) chosen.scrollIntoView({ block: 'nearest' });
+    if (chosen && view.picked) chosen.scrollIntoView({ block: 'nearest' });
   },
 
   /** Picks a thing, or where it is picked nothing. */
@@ -46,7 +46,11 @@ const view = {
   },
 
   async command(name, values) {
-    await commands.open(name, values, await answerOf('commands'));
+    try {
+      await commands.open(name, values, await answerOf('commands'));
+    } catch {
+      commands.fail('The board does not answer: nothing was done.');
+    }
   },
 
   history: (load) => answerOf(`history?load=${encodeURIComponent(load)}`),
@@ -179,10 +183,26 @@ function drawAlarms(silent, desk) {
   keyed(byId('alarms'), rows, made, (alarm, row) => text(alarm, row.words));
 }
 
+/** Whether commands may be given, and the token for them: another one once the board was started again. */
+async function askWhether(again) {
+  if (again) {
+    const page = new DOMParser().parseFromString(await (await fetch('./')).text(), 'text/html');
+    token = page.querySelector('meta[name=token]').content;
+  }
+  view.mayCommand = token ? !(await post('may', {})).fault : false;
+  document.body.classList.toggle('may', view.mayCommand);
+}
+
+let askedOf = ''; // the run of the board that was asked whether commands may be given
+
 async function turn() {
   try {
     const changed = store.take(await answerOf(`data?run=${store.run}&since=${store.version}`));
     if (changed.size) view.redraw(changed);
+    if (askedOf !== store.run) {
+      await askWhether(askedOf !== '');
+      askedOf = store.run;
+    }
   } catch {
     drawHeader();
   }
@@ -220,8 +240,6 @@ async function start() {
   }
   plan = new Plan(byId('plan'), view.layout, view.toggle);
   listen();
-  if (token) view.mayCommand = !(await post('may', {})).fault;
-  document.body.classList.toggle('may', view.mayCommand);
   setInterval(() => view.redraw(new Set(['time'])), 1000);
   await turn();
 }

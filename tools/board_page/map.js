@@ -4,26 +4,26 @@
 import { Camera } from './camera.js';
 import { keyed, set, svg, text } from './dom.js';
 import { colourOf, statesOf } from './looks.js';
-import { MOST_SLOTS, RADIUS, SLOT, boundsOf, edgesOf, namesOf, stationsOf } from './places.js';
+import { MOST_SLOTS, RADIUS, SLOT, areFew, boundsOf, edgesOf, growthOf, namesOf, stationsOf } from './places.js';
 import { shortName } from './words.js';
 
 const FAR = 0.6; // pixels a unit, below which nodes have no names, and stations no numbers
-const FARTHEST = 0.28; // below which stations have no names and no places
+const FARTHEST = 0.28; // below which stations have no names and no places, where they are many
 const MANY = 30; // vehicles, beyond which none glides from node to node
 
 export class Plan {
   /** `pick(kind, name)` is called for what is clicked. */
   constructor(element, layout, pick) {
-    this.element = element;
-    this.layout = layout;
-    this.pick = pick;
+    Object.assign(this, { element, layout, pick });
     this.at = new Map(layout.nodes.map(([name, x, y]) => [name, [x, y]]));
     this.ends = edgesOf(layout, this.at);
     this.boxes = stationsOf(layout, this.at);
     this.below = namesOf(this.at, layout, this.boxes);
     this.parts = {};
+    this.farthest = areFew(layout.stations) ? FARTHEST / 2 : FARTHEST;
     this.draw();
-    this.camera = new Camera(element, boundsOf(this.at, this.boxes), (scale) => this.scaled(scale));
+    element.style.setProperty('--most', growthOf(layout.stations));
+    this.camera = new Camera(element, boundsOf(this.at, layout, this.boxes), (scale) => this.scaled(scale));
   }
 
   draw() {
@@ -77,10 +77,14 @@ export class Plan {
     const number = svg('text', { class: 'number', x: width - 6, y: 14 });
     const title = svg('title', {}, `Station ${name} at ${node}`);
     const onclick = () => this.click('station', name);
-    const group = svg('g', { class: 'station', transform: `translate(${left} ${top})`, onclick },
-      title, svg('g', { class: 'body' },
-        svg('rect', { class: 'box', width, height: bottom - top, rx: 5 }),
-        svg('text', { x: 6, y: 14, class: 'called' }, name), number, slots));
+    const body = svg('g', { class: 'body' },
+      svg('rect', { class: 'box', width, height: bottom - top, rx: 5 }),
+      svg('text', { x: 6, y: 14, class: 'called' }, name), number, slots);
+    // from afar it grows away from its node, so that a vehicle there does not cover it
+    const [x, y] = this.at.get(node);
+    body.style.setProperty('--x', `${x - left}px`);
+    body.style.setProperty('--y', `${y - top}px`);
+    const group = svg('g', { class: 'station', transform: `translate(${left} ${top})`, onclick }, title, body);
     this.stations.set(name, { group, number, title, slots: [...slots.children], capacity, node });
     return group;
   }
@@ -91,7 +95,7 @@ export class Plan {
 
   scaled(scale) {
     this.element.classList.toggle('far', scale < FAR);
-    this.element.classList.toggle('farthest', scale < FARTHEST);
+    this.element.classList.toggle('farthest', scale < this.farthest);
     this.element.style.setProperty('--grow', Math.min(3.5, Math.max(1, FAR / scale)).toFixed(2));
   }
 

@@ -2,7 +2,8 @@
 
 export const RADIUS = 9; // of a node
 const BESIDE = 5; // how far an edge lies to the right of the straight line, so that two ways stand apart
-const MARGIN = 28; // around all: from afar stations are drawn larger
+const MARGIN = 12; // around all
+const FEW = 40; // stations, up to which there is room to draw them much larger from afar
 const HEIGHT = 34; // of a station
 const SLOT = 9; // the width of a place of a station
 export const MOST_SLOTS = 12; // a station of more places has a bar
@@ -28,6 +29,17 @@ export function edgesOf(layout, at) {
   }
   return found;
 }
+
+export const areFew = (stations) => stations.length <= FEW;
+
+/** How many times as large stations are drawn from afar, at most. */
+export const growthOf = (stations) => (areFew(stations) ? 2.4 : 1.6);
+
+/** A box that has grown away from a point, so many times as large. */
+const grown = (box, [x, y], by) => box.map((side, turn) => {
+  const from = turn % 2 ? y : x;
+  return from + (side - from) * by;
+});
 
 /** The size of a station's box. */
 function sizeOf([name, , capacity]) {
@@ -63,6 +75,8 @@ function boxesAt([x, y], [width, height], shift) {
 export function stationsOf(layout, at) {
   const found = new Map();
   const boxes = [];
+  const large = [];
+  const growth = growthOf(layout.stations);
   const count = new Map();
   for (const station of layout.stations) {
     const [name, node] = station;
@@ -80,9 +94,11 @@ export function stationsOf(layout, at) {
       price += 3 * edges.filter(([, start, finish]) => crosses(box, at.get(start), at.get(finish))).length;
       price += 10 * nodes.filter(([, [x, y]]) => meet(wide, [x, y, x, y])).length;
       price += 12 * boxes.filter((other) => meet(box, other)).length;
+      price += 2 * large.filter((other) => meet(grown(box, place, growth), other)).length;
       if (best === null || price < best.price) best = { price, box };
     });
     boxes.push(best.box);
+    large.push(grown(best.box, place, growth));
     found.set(name, best.box);
   }
   return found;
@@ -101,13 +117,14 @@ export function namesOf(at, layout, stations) {
 }
 
 /** The box around all that is drawn, with a margin. */
-export function boundsOf(at, stations) {
+export function boundsOf(at, layout, stations) {
   let [left, top, right, bottom] = [Infinity, Infinity, -Infinity, -Infinity];
   for (const [x, y] of at.values()) {
     [left, top] = [Math.min(left, x - 24), Math.min(top, y - 30)];
     [right, bottom] = [Math.max(right, x + 24), Math.max(bottom, y + 24)];
   }
-  for (const box of stations.values()) {
+  for (const [name, node] of layout.stations) {
+    const box = grown(stations.get(name), at.get(node), growthOf(layout.stations));
     [left, top] = [Math.min(left, box[0]), Math.min(top, box[1])];
     [right, bottom] = [Math.max(right, box[2]), Math.max(bottom, box[3])];
   }

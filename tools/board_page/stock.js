@@ -18,6 +18,9 @@ export class Stock {
       autocomplete: 'off',
       spellcheck: 'false',
       oninput: () => view.redraw(),
+      onkeydown: (event) => {
+        if (event.key === 'Enter' && this.found) view.pick(...this.found);
+      },
     });
     this.chips = el('div', { class: 'chips', role: 'group', 'aria-label': 'Stations' });
     for (const [name, title] of [['all', 'All stations'], ['full', 'Full'], ['checking', 'Checking place']]) {
@@ -46,16 +49,18 @@ export class Stock {
 
   update(store, picked) {
     show(this.actions, this.view.mayCommand);
-    for (const chip of this.chips.children) set(chip, 'aria-pressed', String(chip.dataset.filter === this.filter));
     const words = this.search.value.trim().toLowerCase();
+    for (const chip of this.chips.children) {
+      set(chip, 'aria-pressed', String(!words && chip.dataset.filter === this.filter));
+    }
     const has = (name) => name.toLowerCase().includes(words);
     const byPlace = store.loadsByPlace();
     const station = picked && picked.kind === 'station' ? picked.name : null;
-    this.updateStations(store, words, has);
+    const stations = this.updateStations(store, words, has);
     const at = (place) => byPlace.get(place) ?? [];
     let [names, title] = [store.loads(), 'Loads'];
-    if (words) names = names.filter(has);
-    else if (this.filter === 'checking') [names, title] = [at('checking'), 'Loads at the checking place'];
+    if (words && !(station && has(station))) names = names.filter(has);
+    else if (this.filter === 'checking' && !words) [names, title] = [at('checking'), 'Loads at the checking place'];
     else if (station) [names, title] = [at(`station ${station}`), `Loads at ${station}`];
     text(this.titles[1], `${title} ${names.length.toLocaleString('en')}`);
     const rows = names.slice(0, MOST).map((name) => ({ key: name, load: store.get('load', name) }));
@@ -68,9 +73,17 @@ export class Stock {
     text(this.more, left > 0 ? `And ${many(left, 'load')} more: type a part of a name.` : names.length ? '' : 'None.');
     show(this.past, Boolean(words) && names.length === 0);
     text(this.past, `Where was ${this.search.value.trim()}?`);
+    this.found = words ? this.firstOf(words, names, stations) : null;
     this.updateDetail(store, picked);
   }
 
+  /** What Enter picks of what was found: the load or the station of that name, else the first. */
+  firstOf(words, loads, stations) {
+    const found = [...loads.map((name) => ['load', name]), ...stations.map((name) => ['station', name])];
+    return found.find(([, name]) => name.toLowerCase() === words) ?? found[0] ?? ['load', this.search.value.trim()];
+  }
+
+  /** The names of the stations that are shown. */
   updateStations(store, words, has) {
     const rows = [];
     for (const [name, node, capacity] of this.view.layout.stations) {
@@ -82,7 +95,7 @@ export class Stock {
     }
     const title = this.filter === 'full' && !words ? 'Full stations' : 'Stations';
     text(this.titles[0], `${title} ${rows.length}`);
-    show(this.titles[0], this.filter !== 'checking' || Boolean(words));
+    show(this.titles[0], words ? rows.length > 0 : this.filter !== 'checking');
     keyed(this.stations, rows.slice(0, MOST), (row) => this.madeStation(row), (item, row) => {
       const more = row.reserved ? `, ${row.reserved} reserved` : '';
       text(item.querySelector('.number'), `${row.taken} of ${row.capacity}${more}`);
@@ -92,6 +105,7 @@ export class Stock {
       reserved.style.width = `${(100 * Math.min(row.capacity, row.taken + row.reserved)) / row.capacity}%`;
       set(item.firstChild, 'aria-pressed', String(this.view.isPicked('station', row.key)));
     });
+    return rows.map((row) => row.key);
   }
 
   madeStation(row) {
@@ -125,7 +139,10 @@ export class Stock {
     const since = !load ? '' : load.since ? `since ${day(load.since)}` : 'since before the board began to look';
     const moves = el('ol', { class: 'moves' });
     const actions = el('div', { class: 'actions' });
-    const act = (command, title) => actions.append(button(title, () => this.view.command(command, { load: name })));
+    const act = (command, title) => {
+      const onclick = () => this.view.command(command, { load: name });
+      actions.append(button(title, onclick, { 'data-command': command }));
+    };
     if (load && this.view.mayCommand) {
       if (!job && load.place.startsWith('station ')) act('job', 'Add a job');
       act('correct', 'Correct its place');
@@ -134,7 +151,8 @@ export class Stock {
     const place = load ? placeWords(load.place) : '';
     const words = load ? `${place[0].toUpperCase()}${place.slice(1)}, ${since}.` : 'Not in the warehouse.';
     const live = job ? ` Its job ${job} ${row.vehicle ? `rides on ${row.vehicle}` : 'waits'}, to ${targetWords(row)}.` : '';
-    this.detail.replaceChildren(el('h2', {}, name), el('p', {}, words, live), moves, actions);
+    const close = button('×', () => this.view.pick('load', null), { class: 'close', 'aria-label': 'Close' });
+    this.detail.replaceChildren(el('h2', {}, name), el('p', {}, words, live), moves, actions, close);
     this.view.history(name).then((history) => {
       if (this.shown !== told) return;
       for (const [at, before, after] of history.moves.slice(0, 8)) {

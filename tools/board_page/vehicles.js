@@ -14,13 +14,16 @@ const ACTIONS = [
   ['resync', 'Accept its states'],
 ];
 
-/** What an order carries, each load with where from and where to: `L1: A → B, on it`. */
+const UNREADY = "By its last state it is not under the desk's control, or can't drive: look at the vehicle.";
+
+/** What an order carries, each load with where from, if that is known, and where to: `L1: A → B, on it`. */
 function carriedWords(way, loads) {
-  const station = (kind, load) => way.acts.find((act) => act.kind === kind && act.load === load)?.station ?? '..';
+  const station = (kind, load) => way.acts.find((act) => act.kind === kind && act.load === load)?.station ?? '';
   const names = [...new Set(way.acts.map((act) => act.load))];
   const others = loads.filter((load) => !names.includes(load)).map((load) => `${load}, on it`);
   const on = (load) => (loads.includes(load) ? ', on it' : '');
-  const carried = names.map((load) => `${load}: ${station('pick', load)} → ${station('drop', load)}${on(load)}`);
+  const from = (load) => (station('pick', load) ? `${station('pick', load)} → ` : 'to ');
+  const carried = names.map((load) => `${load}: ${from(load)}${station('drop', load)}${on(load)}`);
   return [...carried, ...others].join(' · ');
 }
 
@@ -79,6 +82,7 @@ export class Vehicles {
         el('div', { class: 'bar', role: 'img' }, part('i', 'seen'), part('i', 'base'))),
       part('p', 'acts'),
       part('p', 'why'),
+      part('p', 'why unready', UNREADY),
       part('p', 'rest bad'),
       el('div', { class: 'actions' }, ...actions));
   }
@@ -95,7 +99,10 @@ export class Vehicles {
       text(badge, state.words);
     });
     this.changeOrder(card, vehicle, store.get('way', name));
-    tellWhy(card.querySelector('.why'), store.get('why', name));
+    // what the dispatcher has noted may be old: a vehicle that drives does not wait
+    const drives = vehicle.seen !== null && vehicle.seen < vehicle.base;
+    tellWhy(card.querySelector('.why'), drives ? null : store.get('why', name));
+    show(card.querySelector('.unready'), Boolean(vehicle.heard) && !vehicle.ready);
     const { rest } = vehicle;
     const { edge, node } = rest ?? {};
     text(card.querySelector('.rest'), `Still holds edge ${edge} and node ${node}: it may have gone on to ${node}.`);

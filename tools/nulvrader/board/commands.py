@@ -9,7 +9,7 @@ from typing import Any, Protocol
 
 from ..client import Desk, NoAnswer, Refused, Stop
 from ..layouts import Layout
-from ..names import NAME_RULE, BadName, VehicleKey, checked
+from ..names import BadName, VehicleKey, checked
 from . import looks, order_looks
 from .asker import now
 from .looks import Look
@@ -17,9 +17,14 @@ from .record import Record
 from .scene import Scene
 from .shown import Shown
 from .stocktakes import stocktake
-from .tell import advice, count
+from .tell import advice, count, ended
 
 Values = Mapping[str, str]
+
+# What to do where the desk has not answered, and where a refusal has no advice that is of use on the page.
+MAY_BE_DONE = 'It may have been done or not: look first, and then ask the same again.'
+NOT_DONE = 'Nothing was done. Ask again once the desk answers.'
+LOOK_AGAIN = 'Go back, and look again at what it will do: what is wrong is named there.'
 
 
 class NoCommand(ValueError):
@@ -168,7 +173,7 @@ COMMANDS: dict[str, Command] = {
     ),
     'stop': Command('Stop a job', (Field('job', 'Job', 'job'),), looks.stop_job, _stop_job),
     'stocktake': Command(
-        'Stocktake', (Field('file', 'File of the count: lines station,load', 'file'),), stocktake, _stocktake
+        'Stocktake', (Field('file', 'File of the count (first line: station,load)', 'file'),), stocktake, _stocktake
     ),
 }
 
@@ -206,7 +211,10 @@ class Commands:
             look = COMMANDS[name].look(Scene(self.layout, self.shown), values)
         except (BadName, order_looks.BadStops) as fault:
             raise NoCommand(str(fault)) from fault
-        return {'title': COMMANDS[name].title, 'says': look.says, 'warns': look.warns, 'values': look.values}
+        desk = self.shown.get('desk', '')
+        down = ['The desk does not answer: nothing can be done now, and what the board knows is old.']
+        warns = look.warns if desk is None or desk['up'] else down + look.warns
+        return {'title': COMMANDS[name].title, 'says': look.says, 'warns': warns, 'values': look.values}
 
     def do(self, said: Mapping[str, Any], who: str) -> dict[str, Any]:
         """Carries a command out. What is told says whether it was done, what is to be said of it, and what to do."""
@@ -215,10 +223,11 @@ class Commands:
         try:
             told = {'done': True, 'text': COMMANDS[name].do(self.desk, values), 'advice': ''}
         except Refused as refusal:
-            told = {'done': False, 'text': '%s.' % refusal, 'advice': advice(refusal.advice), 'refusal': refusal.name}
+            words = advice(refusal.advice) or LOOK_AGAIN
+            told = {'done': False, 'text': '%s.' % refusal, 'advice': words, 'refusal': refusal.name}
         except NoAnswer as fault:
-            lost = 'It may have been done or not: look first, and then ask the same again.' if fault.may_be_done else ''
-            told = {'done': False, 'text': '%s.' % fault, 'advice': lost}
+            words = MAY_BE_DONE if fault.may_be_done else NOT_DONE
+            told = {'done': False, 'text': ended('The desk does not answer: %s' % fault), 'advice': words}
         except (BadName, order_looks.BadStops, KeyError) as fault:
             raise NoCommand(str(fault)) from fault
         self._keep(name, values, who, told)
@@ -228,7 +237,7 @@ class Commands:
         at = now()
         by = ' by %s' % who if who else ''
         words = '%s%s: %s' % (COMMANDS[name].title, by, told['text'])
-        kind = 'command' if told['done'] else 'refused'
+        kind = 'command' if told['done'] else 'refused' if 'refusal' in told else 'failed'
         self.shown.event({'at': at, 'kind': kind, 'text': words})
         self.record.event(at, kind, words, {})
         self.record.command(at, who, name, values, told['done'], told['text'])
@@ -255,7 +264,7 @@ class Commands:
             if field.kind == 'vehicle':
                 VehicleKey.parse(text)
             elif field.kind in ('name', 'load', 'job'):
-                checked(text, field.kind)
+                checked(text, field.name)
         except BadName as fault:
             raise NoCommand('%s.' % fault) from fault
         if field.kind == 'number' and not re.fullmatch('[0-9]{1,3}', text):
@@ -263,4 +272,4 @@ class Commands:
         if field.kind == 'station' and text not in self.layout.stations:
             raise NoCommand('There is no station %s.' % text)
         if field.kind == 'node' and text not in self.layout.nodes:
-            raise NoCommand('There is no node %s. A node is %s.' % (text, NAME_RULE))
+            raise NoCommand('There is no node %s.' % text)

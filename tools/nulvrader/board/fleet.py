@@ -48,6 +48,9 @@ class Fleet:
         for kind, name, vehicle in news.record.rows('SELECT kind, name, vehicle FROM holds'):
             self.holders[kind, name] = vehicle
             news.shown.put('hold', '%s %s' % (kind, name), vehicle)
+        rows = news.record.rows('SELECT vehicle, order_name FROM vehicles WHERE order_name IS NOT NULL')
+        # the orders that were open when the board was stopped
+        self.earlier = {str(vehicle): str(order) for vehicle, order in rows}
         news.record.end_waits(news.at)
 
     def again(self) -> None:
@@ -115,6 +118,8 @@ class Fleet:
         elif seen.heard is not None and seen.silent is None and at - seen.heard >= self.silent_after:
             seen.silent = seen.heard
             self.news.event('vehicle', 'No state of %s comes any more' % name, vehicle=name)
+        if self.earlier.get(name) not in (None, row.order):
+            self._is_over(name, self.earlier.pop(name))
         if row.order is None or (seen.way is not None and seen.way.order != row.order):
             self._end(name, seen)
         if row.order is not None and (seen.way is None or self._has_more(seen.way, row, seen.held)):
@@ -138,7 +143,8 @@ class Fleet:
         way = joined(seen.way, message)
         seen.way = placed(way, seen.held) or replace(way, seen=None)
         if new:
-            self.news.event('order', tell.order(name, way), vehicle=name)
+            if self.earlier.pop(name, None) != way.order:
+                self.news.event('order', tell.order(name, way), vehicle=name)
             self.jobs.begins(way)
         self.jobs.rides(name, way, self.news.at)
         self._show(name, seen)
@@ -154,8 +160,11 @@ class Fleet:
         if seen.way is not None:
             for load in {act.load for act in seen.way.acts} & self.jobs.live.keys():
                 self.jobs.want(load)
-            self.news.event('order', 'Order %s of %s is over' % (seen.way.order, name), vehicle=name)
+            self._is_over(name, seen.way.order)
             seen.way = None
+
+    def _is_over(self, name: str, order: str) -> None:
+        self.news.event('order', 'Order %s of %s is over' % (order, name), vehicle=name)
 
     def _show(self, name: str, seen: Seen) -> None:
         row, way = seen.row, seen.way

@@ -7,7 +7,7 @@ from typing import Any
 
 from ..names import new_reference
 from .scene import Scene
-from .tell import place_words
+from .tell import ACTIONS, place_words
 
 Values = dict[str, str]
 
@@ -42,8 +42,11 @@ def correct_load(scene: Scene, said: Mapping[str, str]) -> Look:
     after = 'at station %s' % station if station else 'at the checking place'
     look.says.append('The desk will record that %s stands %s. Recorded now: %s.' % (load, after, before))
     look.says.append('No vehicle moves for it.')
+    there = known is not None and known['place'] == ('station %s' % station if station else 'checking')
+    look.warn(there, '%s is recorded there already.' % load)
     _check_no_job(scene, look, load)
-    _check_room(scene, look, station)
+    if not there:
+        _check_room(scene, look, station)
     return look
 
 
@@ -169,5 +172,6 @@ def _check_no_job(scene: Scene, look: Look, load: str) -> None:
 
 
 def _check_not_pending(look: Look, vehicle: Mapping[str, object] | None) -> None:
-    pending = vehicle['pending'] if vehicle else None
-    look.warn(pending is not None, 'Another instant action, %s, is not over yet.' % pending)
+    pending = str(vehicle['pending']) if vehicle and vehicle['pending'] else None
+    words = ACTIONS.get(pending or '', pending)
+    look.warn(pending is not None, 'Another instant action, to %s, is not over yet.' % words)

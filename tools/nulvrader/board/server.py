@@ -162,7 +162,7 @@ class Handler(BaseHTTPRequestHandler):
             try:
                 self._json(board.commands.look(said) if self.path == '/look' else board.commands.do(said, self._user()))
             except NoCommand as wrong:
-                self._refuse(400, str(wrong))
+                self._json({'fault': str(wrong)})  # no error: the page has asked, and is told
         else:
             self._refuse(404, 'There is nothing at %s.' % self.path)
 

@@ -2,6 +2,7 @@
 which loads will move."""
 from __future__ import annotations
 
+import re
 from collections.abc import Mapping
 
 from ..counts import CountFile, Records
@@ -21,6 +22,12 @@ def stocktake(scene: Scene, values: Mapping[str, str]) -> Look:
     look.says.append(
         'Counted: %s. Found: %s.' % (count(len(file.stations()), 'station'), count(len(file.found()), 'load'))
     )
+    if file.faults:
+        look.says.append('The desk will refuse this file as a whole: no load moves.')
+        look.warns += [sentence(str(fault)) for fault in file.faults[:MOST]]
+        if len(file.faults) > MOST:
+            look.warns.append('And %d more.' % (len(file.faults) - MOST))
+        return look
     look.says.append('Moved by it: %s.' % count(len(moves), 'load'))
     for move in moves[:MOST]:
         look.says.append(
@@ -31,7 +38,6 @@ def stocktake(scene: Scene, values: Mapping[str, str]) -> Look:
     unknown = [str(row.load) for row in file.unknown(records)]
     if unknown:
         look.says.append('Names that no load here has: %s.' % ', '.join(unknown[:MOST]))
-    look.warns += [sentence(str(fault)) for fault in file.faults[:MOST]]
     return look
 
 
@@ -46,5 +52,8 @@ def records_of(scene: Scene) -> Records:
 
 
 def sentence(words: str) -> str:
-    """Words with a capital before and a full stop behind."""
+    """A fault of a file in words of the page: without the name of the refusal, and with what is to be done there."""
+    words = re.sub('^((?:line [0-9]+: )?)[A-Z][A-Za-z]+: ', r'\1', words)
+    words = re.sub('`tools/ask stop-job [^`]*`', 'stop it', words)
+    words = re.sub('`tools/ask correct [^`]*`', 'correct its place', words)
     return '%s%s.' % (words[:1].upper(), words[1:])

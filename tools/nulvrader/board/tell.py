@@ -20,9 +20,16 @@ ACTIONS = {'startPause': 'pause', 'stopPause': 'go on', 'cancelOrder': 'cancel i
 
 
 def advice(words: str) -> str:
-    """The advice of a refusal without what `tools/ask` would do, which who looks at the page may not have."""
-    sentences = [one for one in re.split(r'(?<=\.) ', words) if not one.startswith('`tools/ask ')]
-    return ' '.join(one.partition(' `tools/ask ')[0].rstrip(';:.') + '.' for one in sentences)
+    """The advice of a refusal without programs of the command line, which who looks at the page may not have, and
+    without marks of code. It may be empty."""
+    sentences = [one for one in re.split(r'(?<=\.) ', words) if not one.startswith('`tools/')]
+    told = ' '.join(one.partition(' `tools/ask ')[0].rstrip(';:.') + '.' for one in sentences)
+    return re.sub(', as the stock report shows: `[^`]*`', '', told).replace('`', '')
+
+
+def ended(words: str) -> str:
+    """Words with a full stop behind, where they don't end as a sentence."""
+    return words if words.endswith(('.', '?', '!')) else words + '.'
 
 
 def place_words(place: str) -> str:

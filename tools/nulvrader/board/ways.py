@@ -5,18 +5,15 @@ from collections.abc import Mapping, Set
 from dataclasses import dataclass, replace
 from typing import Any
 
-from ..messages import read_order
+from ..messages import Act, read_order
 
 Thing = tuple[str, str]  # `('node', 'N1')` or `('edge', 'E12')`
 
 
 @dataclass(frozen=True)
-class Act:
-    """A pick or a drop of an order: `kind` is `pick` or `drop`, `at` the place of its node on the way."""
+class PlacedAct(Act):
+    """A pick or a drop of an order; `at` is the place of its node on the way."""
 
-    kind: str
-    load: str
-    station: str
     at: int
 
 
@@ -32,7 +29,7 @@ class Way:
     nodes: tuple[str, ...]
     edges: tuple[str, ...]
     base: int
-    acts: tuple[Act, ...]
+    acts: tuple[PlacedAct, ...]
     seen: int | None = None
 
     @property
@@ -57,7 +54,11 @@ def way_of(message: Mapping[str, Any]) -> Way:
     """The way that an order message tells, from its first node to its last."""
     order = read_order(message)
     first = message['nodes'][0]['sequenceId'] // 2
-    acts = [Act(act.kind, act.load, act.station, first + k) for k, node in enumerate(order.nodes) for act in node.acts]
+    acts = [
+        PlacedAct(act.number, act.kind, act.load, act.station, at)
+        for at, node in enumerate(order.nodes, first)
+        for act in node.acts
+    ]
     return Way(
         order=order.name,
         update=order.update,
