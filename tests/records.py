@@ -5,8 +5,6 @@ import shutil
 import sqlite3
 import tempfile
 
-import programs  # noqa: F401 the package of the tools is found by it
-
 from model.desk import Model, compact
 from nulvrader.rows import TABLES, Rows, columns
 from nulvrader.rules import breaches

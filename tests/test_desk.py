@@ -6,7 +6,7 @@ import sqlite3
 import subprocess
 import unittest
 
-from desk_tree import HERE, TOP, Tree
+from desk_tree import TOP, Tree
 
 PROGRAM = os.path.abspath(os.environ.get('DESK', os.path.join(TOP, 'build', 'desk')))
 HELP: dict[str, list[str]] = {'alone': [], 'desk': ['--help'], **{it: [it, '--help'] for it in ('replay', 'serve', 'report', 'migrate')}}
@@ -208,7 +208,7 @@ class Check(Tree):
 
     @unittest.skipUnless(shutil.which('flock'), 'flock is not here')
     def test_it_removes_what_a_killed_build_has_left(self) -> None:
-        self.write('build/rooms/agv_first/crates/agv_first/src/lib.rt', 'text')
+        self.write('build/workspaces/agv_first/crates/agv_first/src/lib.rt', 'text')
         self.check('check')
         self.assertEqual(os.listdir(os.path.join(self.top, 'build')), ['lock'])
 

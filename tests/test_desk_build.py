@@ -162,7 +162,7 @@ class Building(Tree):
         self.assertEqual((status, out), (1, ''))
         self.assertTrue(said.endswith('fn agv_left::one: not proved\nlogic=not-proved\n'), said)
         self.assertFalse(os.path.exists(os.path.join(self.notes, 'ended-agv_right')))
-        self.assertFalse(os.path.exists(os.path.join(self.top, 'build', 'rooms')))
+        self.assertFalse(os.path.exists(os.path.join(self.top, 'build', 'workspaces')))
         self.assertTrue(os.path.exists(os.path.join(self.top, 'crates', 'agv_right', 'out', 'old')))
 
     def test_a_program_whose_sources_no_longer_prove_is_not_run(self) -> None:
@@ -174,10 +174,10 @@ class Building(Tree):
 
     def test_what_a_killed_build_had_proved_is_kept(self) -> None:
         shutil.rmtree(os.path.join(self.top, 'crates', 'agv_middle', 'out'))
-        self.write('build/rooms/agv_middle/crates/agv_middle/out/kept', 'text')
+        self.write('build/workspaces/agv_middle/crates/agv_middle/out/kept', 'text')
         self.assertEqual(self.run_desk('replay')[0], 3)
         self.assertEqual(sorted(os.listdir(os.path.join(self.top, 'crates', 'agv_middle', 'out'))), ['kept', 'rlib'])
-        self.assertFalse(os.path.exists(os.path.join(self.top, 'build', 'rooms')))
+        self.assertFalse(os.path.exists(os.path.join(self.top, 'build', 'workspaces')))
 
     def test_a_signal_ends_the_build(self) -> None:
         for number in (signal.SIGTERM, signal.SIGINT, signal.SIGHUP):

@@ -16,15 +16,13 @@ import unittest
 from unittest import mock
 import xml.etree.ElementTree as ElementTree
 
-import programs  # noqa: F401: it puts tools/ on the path
+from programs import ROOT, TOOLS  # tools/ is on the path by it
 from nulvrader import drawing, layouts, positions, warehouse
 from test_openapi import Asked
 from test_program import AT, Serving, over_sockets, requests_of, run
 from test_scripts import FIRST_EDGE, LAYOUT, accepted, bytes_of, load, state, vehicle
 
-HERE = os.path.dirname(os.path.abspath(__file__))
-ROOT = os.path.join(HERE, '..')
-MAP = os.path.join(ROOT, 'tools', 'map')
+MAP = os.path.join(TOOLS, 'map')
 PLAIN = os.path.join(ROOT, 'bench', 'plain_desk.py')
 SVG = '{http://www.w3.org/2000/svg}'
 

@@ -16,11 +16,10 @@ if os.path.join(ROOT, 'examples') not in sys.path:
 assert TOOLS in sys.path
 
 from simulation.floors import FLOORS  # noqa: E402
-from simulation.gateways import Line  # noqa: E402
-from simulation.people import Habits  # noqa: E402
-from simulation.plant import CALM, Plan, Plant, Trouble  # noqa: E402
+from simulation.plan import CALM, Habits, Line, Nature, Plan, Trouble  # noqa: E402
+from simulation.plant import Plant  # noqa: E402
 from simulation.truth import Given, Goods, Track, Wrong  # noqa: E402
-from simulation.vehicles import Nature, Vehicle  # noqa: E402
+from simulation.vehicles import Vehicle  # noqa: E402
 from simulation.words import run, told  # noqa: E402
 
 JOBS = int(os.environ.get('PLANT_JOBS', '200'))

@@ -21,8 +21,9 @@ PATIENCE = 120.0
 
 
 class Wire:
-    """One connection to a desk for all clients of a plant, since a desk serves one at a time. It reads no more of an answer's head than
-    its status and length."""
+    """One connection to a desk for all clients of a plant, since a desk serves one at a time; after a fault the next request makes a
+    new one. It reads no more of an answer's head than its status and length: all that the client of tools/ does for proxies would
+    take about as long as the desk takes for a request."""
 
     def __init__(self, port: int) -> None:
         self.port = port

@@ -3,29 +3,17 @@ from __future__ import annotations
 
 import random
 from collections.abc import Callable
-from dataclasses import dataclass
 from typing import Any
 
 from nulvrader.client import Desk, NoAnswer, Refused
 
 from .clock import Clock
+from .plan import Line
 from .truth import Given
 from .vehicles import Vehicle
 
 AGAIN = 5.0
 """A message that no state has named is handed to the vehicle again after so many seconds."""
-
-
-@dataclass(frozen=True)
-class Line:
-    """How a line is: of a hundred messages so many are lost, so many come twice, and each is late by so many seconds at most, some by
-    `late`. A vehicle posts a state at least every `beat` seconds."""
-
-    lost: int = 3
-    twice: int = 3
-    delay: float = 0.4
-    late: float = 6.0
-    beat: float = 5.0
 
 
 class Gateway:

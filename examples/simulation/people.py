@@ -7,28 +7,15 @@ import random
 import re
 from collections import Counter
 from collections.abc import Callable, Mapping
-from dataclasses import dataclass
 
 from nulvrader.client import Desk, NoAnswer, Refused
 from nulvrader.layouts import Layout
 from nulvrader.reports import read_holds, read_stock
 
 from .clock import Clock
+from .plan import Habits
 from .truth import Goods, Track
 from .vehicles import Vehicle
-
-
-@dataclass(frozen=True)
-class Habits:
-    """Seconds between two jobs that are added, two acts by chance and two looks at what needs hands; how many jobs wait at most; which part
-    of the jobs, from 0 to 1, stays on the ring of its load; and how long a vehicle stands in the way before somebody drives it away."""
-
-    jobs: float = 2.0
-    chance: float = 60.0
-    looks: float = 20.0
-    backlog: int = 30
-    near: float = 0.8
-    patience: float = 240.0
 
 
 class People:

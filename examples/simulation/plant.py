@@ -18,10 +18,11 @@ from nulvrader.reports import read_holds, read_loads
 from .clock import Clock
 from .desks import PATIENCE, Served, Wire, Wired
 from .floors import FLOORS
-from .gateways import Gateway, Line
-from .people import Habits, People
+from .gateways import Gateway
+from .people import People
+from .plan import Plan
 from .truth import Given, Goods, Track, Wrong
-from .vehicles import Nature, Vehicle
+from .vehicles import Vehicle
 
 
 
@@ -31,40 +32,6 @@ class Dispatching(Protocol):
     def turn(self) -> bool: ...
 
     def waits(self) -> Mapping[str, str]: ...
-
-
-@dataclass(frozen=True)
-class Trouble:
-    """Seconds between two kills of the desk, of the dispatcher and of a gateway. None: never. `people`: whether people cancel, count
-    and carry by chance."""
-
-    desk: float | None = 240.0
-    dispatcher: float | None = 300.0
-    gateway: float | None = 120.0
-    people: bool = True
-
-
-CALM = Trouble(None, None, None, False)
-
-
-@dataclass(frozen=True)
-class Plan:
-    """What a plant is: its floor, how many vehicles, loads and jobs, and what goes wrong in it."""
-
-    floor: str = 'large'
-    vehicles: int = 20
-    loads: int = 300
-    jobs: int = 200
-    seed: int = 1
-    trouble: Trouble = Trouble()
-    nature: Nature = Nature()
-    line: Line = Line()
-    habits: Habits = Habits()
-    every: float = 1.0  # seconds between two turns of the dispatcher
-    audit: float = 5.0  # seconds between two looks at what the desk holds
-    stands: float = 1800.0  # where no vehicle has moved for so many seconds although there are jobs, the plant stands for good
-    limit: float = 200_000.0  # seconds until the plant is given up
-    pace: float | None = None
 
 
 @dataclass

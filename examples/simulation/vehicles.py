@@ -4,27 +4,15 @@ from __future__ import annotations
 
 import random
 from collections.abc import Callable
-from dataclasses import dataclass
 from typing import Any
 
 from nulvrader.names import VehicleKey
 
 from .clock import Clock
+from .plan import Nature
 from .truth import Given, Goods, Track
 
 OVER = ('FINISHED', 'FAILED')
-
-
-@dataclass(frozen=True)
-class Nature:
-    """How vehicles are: metres a second, how long an action takes (seconds, from .. to), how many of a thousand picks and drops fail,
-    and how many metres a battery lasts, behind which the vehicle is out of service for `service` seconds until it has another one."""
-
-    speed: float = 1.6
-    action: tuple[float, float] = (6.0, 14.0)
-    failing: int = 10
-    battery: float = 6000.0
-    service: float = 90.0
 
 
 class Vehicle:

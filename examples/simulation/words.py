@@ -15,7 +15,8 @@ from nulvrader.layouts import Layout
 from .desks import Served
 from .floors import FLOORS
 from .others import FirstCome, FreeTrack
-from .plant import Day, Dispatching, Plan, Plant
+from .plan import Plan
+from .plant import Day, Dispatching, Plant
 
 DISPATCHERS = {
     'look': 'that of tools/dispatch',

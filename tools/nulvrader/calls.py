@@ -14,6 +14,7 @@ from .commands import LOAD, REFERENCE, VEHICLE, Command, Told, Wrong, command, n
 from .counts import CountFile
 from .layouts import LayoutFile
 from .messages import read_order
+from .tables import TableFile
 
 CALLS: list[Command] = []
 ask = functools.partial(command, CALLS, changes=True)
@@ -45,7 +46,7 @@ def data_of(path: str) -> bytes:
         raise Wrong('%s: %s' % (path, fault.strerror)) from None
 
 
-def checked_file(file: LayoutFile | CountFile, path: str) -> None:
+def checked_file(file: TableFile, path: str) -> None:
     """`Wrong` with each fault of a file where a desk would refuse it."""
     if file.faults:
         raise Wrong('%s is not sent:\n%s' % (path, '\n'.join(map(str, file.faults))))

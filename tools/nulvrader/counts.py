@@ -4,17 +4,17 @@ from __future__ import annotations
 
 from collections.abc import Mapping
 from dataclasses import dataclass, field
+from typing import NamedTuple
 
 from .names import NAME_RULE, is_name
-from .tables import BODY, Fault, records_of, said, shown
+from .tables import TableFile, records_of, said, shown
 
 HEADER = [b'station', b'load']
 # The refusals of a stocktake, in the order in which a desk looks for them.
 REFUSALS = ('TooLarge', 'BadCsv', 'NoStation', 'CountTwice', 'OnVehicle', 'InJob', 'Full')
 
 
-@dataclass(frozen=True)
-class Row:
+class Row(NamedTuple):
     """A row: its line, the station that was counted, and the load that was found there, if any."""
 
     line: int
@@ -43,29 +43,16 @@ class Move:
     after: str
 
 
-class CountFile:
-    """What a file says, and its faults in the order of their lines."""
+class CountFile(TableFile):
+    """A stocktake file."""
 
     def __init__(self, data: bytes) -> None:
-        self.size = len(data)
-        self.faults: list[Fault] = []
+        super().__init__(data, REFUSALS, ': count some of the stations by another file')
         self.rows: list[Row] = []
-        if self.size > BODY:
-            rule = 'the file has %d bytes, and a body at most %d: count some of the stations by another file'
-            self.fault(None, 'TooLarge', rule % (self.size, BODY))
         records = records_of(data)
         for line, fields in records[1:] if self.has_header(data, records) else records:
             self.read(line, fields)
         self.check_twice()
-
-    def fault(self, line: int | None, refusal: str, rule: str) -> None:
-        """Notes one."""
-        self.faults.append(Fault(line, refusal, rule))
-
-    def answer(self) -> str | None:
-        """What a desk answers: the first refusal, or none."""
-        told = {fault.refusal for fault in self.faults}
-        return next((refusal for refusal in REFUSALS if refusal in told), None)
 
     def has_header(self, data: bytes, records: list[tuple[int, list[bytes]]]) -> bool:
         """Whether the first record is no row, be it the header or something else in its place."""

@@ -8,7 +8,7 @@ from collections.abc import Iterable, Mapping
 from dataclasses import dataclass
 
 from .names import NAME_RULE, is_name
-from .tables import BODY, Fault, records_of, said, shown
+from .tables import Fault, TableFile, records_of, said, shown
 
 MOST = {'node': 500, 'edge': 1500, 'station': 500}
 HEADER = [b'kind', b'id', b'from', b'to']
@@ -124,16 +124,13 @@ class Row:
     finish: bytes
 
 
-class LayoutFile:
-    """What a file says, and its faults in the order of their lines."""
+class LayoutFile(TableFile):
+    """A layout file."""
 
-    def __init__(self, data: bytes):
-        self.size = len(data)
-        self.faults: list[Fault] = []
+    def __init__(self, data: bytes) -> None:
+        super().__init__(data, REFUSALS)
         self.rows: dict[str, dict[bytes, Row]] = {kind: {} for kind in MOST}
         self.counts: collections.Counter[str] = collections.Counter()
-        if self.size > BODY:
-            self.fault(None, 'TooLarge', 'the file has %d bytes, and a body at most %d' % (self.size, BODY))
         records = records_of(data)
         for line, fields in records[1:] if self.has_header(records) else records:
             self.read(line, fields)
@@ -144,15 +141,6 @@ class LayoutFile:
             self.fault(None, 'LayoutBad', 'there is no node')
         self.check_rows()
         self.faults.sort(key=lambda fault: fault.line or 0)
-
-    def fault(self, line: int | None, refusal: str, rule: str) -> None:
-        """Notes one."""
-        self.faults.append(Fault(line, refusal, rule))
-
-    def answer(self) -> str | None:
-        """What a desk without a layout answers: the first refusal, or none."""
-        told = {fault.refusal for fault in self.faults}
-        return next((refusal for refusal in REFUSALS if refusal in told), None)
 
     def layout(self) -> Layout:
         """The layout of a file without faults."""

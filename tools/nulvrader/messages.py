@@ -5,6 +5,7 @@ from collections.abc import Mapping
 from dataclasses import dataclass
 from typing import Any
 
+from .layouts import Edge
 from .names import VehicleKey
 
 
@@ -28,12 +29,9 @@ class OrderNode:
 
 
 @dataclass(frozen=True)
-class OrderEdge:
-    """An edge of the way, with its ends, and whether it is released."""
+class OrderEdge(Edge):
+    """An edge of the way, and whether it is released."""
 
-    name: str
-    start: str
-    finish: str
     released: bool
 
 

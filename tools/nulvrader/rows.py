@@ -1,48 +1,55 @@
 """The rows of a desk's file as docs/TABLES.md has them: a type for the rows of each table, all rows of a file, and
 what follows from them that more than one rule asks for: the way of each open order, and what each vehicle holds."""
+from __future__ import annotations
+
 import collections
 import dataclasses
 import functools
 import sqlite3
-from collections.abc import Iterable, Iterator
-from typing import Any, NamedTuple
+from collections.abc import Callable, Iterable, Iterator
+from typing import Any, NamedTuple, TypeVar
 
 LIVE = ('waiting', 'riding')
+Of = TypeVar('Of', bound=type[tuple[Any, ...]])
 
 
+def told_as(form: str) -> Callable[[Of], Of]:
+    """Has `str()` of a row tell its table and its key, which are its first columns."""
+    columns_told = form.count('%')
+
+    def with_text(of: Of) -> Of:
+        setattr(of, '__str__', lambda row: form % row[:columns_told])
+        return of
+
+    return with_text
+
+
+@told_as('meta %d, %d')
 class Meta(NamedTuple):
     id: int
     schema: int
 
-    def __str__(self) -> str:
-        return 'meta %d, %d' % self
 
-
+@told_as('node %s')
 class Node(NamedTuple):
     id: str
 
-    def __str__(self) -> str:
-        return 'node ' + self.id
 
-
+@told_as('edge %s')
 class Edge(NamedTuple):
     id: str
     start: str
     finish: str
 
-    def __str__(self) -> str:
-        return 'edge ' + self.id
 
-
+@told_as('station %s')
 class Station(NamedTuple):
     id: str
     node: str
     capacity: int
 
-    def __str__(self) -> str:
-        return 'station ' + self.id
 
-
+@told_as('vehicle %s/%s')
 class Vehicle(NamedTuple):
     manufacturer: str
     serial: str
@@ -59,10 +66,8 @@ class Vehicle(NamedTuple):
     instant_at: int
     pending: str | None
 
-    def __str__(self) -> str:
-        return 'vehicle %s/%s' % self[:2]
 
-
+@told_as('trip %s')
 class Trip(NamedTuple):
     """An open order as the first schema has it; in the second one this table is empty."""
 
@@ -81,19 +86,15 @@ class Trip(NamedTuple):
     pick_status: str
     drop_status: str
 
-    def __str__(self) -> str:
-        return 'trip ' + self.order_id
 
-
+@told_as('leg %s, %d')
 class Leg(NamedTuple):
     order_id: str
     k: int
     edge: str
 
-    def __str__(self) -> str:
-        return 'leg %s, %d' % self[:2]
 
-
+@told_as('load %s')
 class Load(NamedTuple):
     id: str
     kind: str
@@ -101,10 +102,8 @@ class Load(NamedTuple):
     manufacturer: str | None
     serial: str | None
 
-    def __str__(self) -> str:
-        return 'load ' + self.id
 
-
+@told_as('job %s')
 class Job(NamedTuple):
     id: str
     load: str
@@ -112,37 +111,29 @@ class Job(NamedTuple):
     target: str
     phase: str
 
-    def __str__(self) -> str:
-        return 'job ' + self.id
 
-
+@told_as('hold %s %s')
 class Hold(NamedTuple):
     kind: str
     id: str
     manufacturer: str
     serial: str
 
-    def __str__(self) -> str:
-        return 'hold %s %s' % self[:2]
 
-
+@told_as('used %s %s')
 class Used(NamedTuple):
     kind: str
     id: str
 
-    def __str__(self) -> str:
-        return 'used %s %s' % self
 
-
+@told_as('capacity %s/%s')
 class Capacity(NamedTuple):
     manufacturer: str
     serial: str
     capacity: int
 
-    def __str__(self) -> str:
-        return 'capacity %s/%s' % self[:2]
 
-
+@told_as('journey %s')
 class Journey(NamedTuple):
     order_id: str
     manufacturer: str
@@ -154,10 +145,8 @@ class Journey(NamedTuple):
     confirmed: int | None
     seen: int
 
-    def __str__(self) -> str:
-        return 'journey ' + self.order_id
 
-
+@told_as('act %s, %d')
 class Act(NamedTuple):
     order_id: str
     n: int
@@ -165,9 +154,6 @@ class Act(NamedTuple):
     kind: str
     place_at: int
     status: str
-
-    def __str__(self) -> str:
-        return 'act %s, %d' % self[:2]
 
 
 Row = (
@@ -206,6 +192,14 @@ class Way:
                 yield 'edge', self.legs[k].edge
 
 
+Named = TypeVar('Named', Edge, Station, Load, Job)
+
+
+def by_name(rows_of: Callable[[Rows], list[Named]]) -> functools.cached_property[dict[str, Named]]:
+    """The rows of a table by their names, made when they are first asked for."""
+    return functools.cached_property(lambda rows: {row.id: row for row in rows_of(rows)})
+
+
 @dataclasses.dataclass(frozen=True)
 class Rows:
     """All rows of a file of the second schema."""
@@ -234,21 +228,10 @@ class Rows:
     def nodes(self) -> set[str]:
         return {row.id for row in self.node}
 
-    @functools.cached_property
-    def edges(self) -> dict[str, Edge]:
-        return {row.id: row for row in self.edge}
-
-    @functools.cached_property
-    def stations(self) -> dict[str, Station]:
-        return {row.id: row for row in self.station}
-
-    @functools.cached_property
-    def loads(self) -> dict[str, Load]:
-        return {row.id: row for row in self.load}
-
-    @functools.cached_property
-    def jobs(self) -> dict[str, Job]:
-        return {row.id: row for row in self.job}
+    edges = by_name(lambda rows: rows.edge)
+    stations = by_name(lambda rows: rows.station)
+    loads = by_name(lambda rows: rows.load)
+    jobs = by_name(lambda rows: rows.job)
 
     @functools.cached_property
     def vehicles(self) -> dict[Key, Vehicle]:
@@ -286,13 +269,13 @@ class Rows:
         stands and its rest, of one with an order what is released to it."""
         found: dict[Thing, list[Key]] = collections.defaultdict(list)
         for key, vehicle in self.vehicles.items():
-            things: Iterable[Thing] = self.ways[key].released() if key in self.ways else _at_rest(vehicle)
+            things: Iterable[Thing] = self.ways[key].released() if key in self.ways else _without_order(vehicle)
             for thing in dict.fromkeys(things):
                 found[thing].append(key)
         return found
 
 
-def _at_rest(vehicle: Vehicle) -> Iterator[Thing]:
+def _without_order(vehicle: Vehicle) -> Iterator[Thing]:
     yield 'node', vehicle.node
     if vehicle.rest_edge is not None:
         yield 'edge', vehicle.rest_edge

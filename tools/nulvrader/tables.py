@@ -22,6 +22,26 @@ class Fault:
         return '%s%s: %s' % ('line %d: ' % self.line if self.line else '', self.refusal, self.rule)
 
 
+class TableFile:
+    """What a file with a table says, and its faults in the order of their lines. `refusals` are those of such a table,
+    in the order in which a desk looks for them; `advice` is what to do where the file is too large."""
+
+    def __init__(self, data: bytes, refusals: Sequence[str], advice: str = '') -> None:
+        self.size, self.refusals = len(data), refusals
+        self.faults: list[Fault] = []
+        if self.size > BODY:
+            self.fault(None, 'TooLarge', 'the file has %d bytes, and a body at most %d%s' % (self.size, BODY, advice))
+
+    def fault(self, line: int | None, refusal: str, rule: str) -> None:
+        """Notes one."""
+        self.faults.append(Fault(line, refusal, rule))
+
+    def answer(self) -> str | None:
+        """What a desk answers, one without a layout where this is a layout: the first refusal, or none."""
+        told = {fault.refusal for fault in self.faults}
+        return next((refusal for refusal in self.refusals if refusal in told), None)
+
+
 def records_of(data: bytes) -> list[tuple[int, list[bytes]]]:
     """The records of a CSV text, each with the number of the line in which it begins: a quote inside a field stands
     for itself, empty lines are passed over, and so is a byte order mark at the beginning."""
