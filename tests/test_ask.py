@@ -9,7 +9,7 @@ from unittest import mock
 
 import programs
 from programs import ran, within
-from nulvrader import bodies, refusals
+from nulvrader import bodies, calls, client, refusals
 from test_client import told
 from test_program import DESK, Serving, over_sockets
 from test_scripts import LAYOUT
@@ -154,6 +154,16 @@ class Commands(Asking):
         lines = dict(line.split() for line in self.ask('vehicle KIT/0001').splitlines())
         self.assertEqual([lines[name] for name in ('vehicle', 'node', 'ready', 'order')], ['KIT/0001', 'N1', 'no', '-'])
 
+    def test_names_that_the_desk_does_not_have(self):
+        """A question about a place that is unknown is told, and not answered by an empty table."""
+        for line, wanted in (
+            ('loads --station Z', 'there is no station Z: the desk has A, B, C'),
+            ('loads --vehicle KIT/0009', 'there is no vehicle KIT/0009: the desk has KIT/0001'),
+            ('held --vehicle KIT/0009', 'there is no vehicle KIT/0009: the desk has KIT/0001'),
+        ):
+            self.assertEqual(self.ask(line, status=2), 'ask: %s\n' % wanted)
+        self.assertEqual(self.ask('loads --vehicle KIT/0001'), 'there are no loads there\n')
+
     def test_who_waits(self):
         """KIT/0001 may go no further than N2, since KIT/0002 stands on N3."""
         self.ask('register-vehicle KIT/0002 --node N3')
@@ -231,6 +241,7 @@ class Words(unittest.TestCase):
             ('regster-load L1', 'there is no command regster-load; register-load was probably meant'),
             ('vehicels', 'there is no command vehicels; vehicles was probably meant'),
             ('register-load L1 --staton A', 'there is no option --staton here; --station was probably meant'),
+            ('stop-job J1 --ref R1', 'there is no option --ref here; other commands have it'),
             ('register-load', 'the following arguments are required: LOAD'),
             ('register-load L#1', "'L#1' is no name for a load: a name is 1 to 32 of A-Z a-z 0-9 _ . : -"),
             ('register-vehicle KIT-0001 --node N1', 'write MANUFACTURER/SERIAL, as KIT/0001'),
@@ -269,6 +280,26 @@ class Words(unittest.TestCase):
     def test_a_refusal_is_explained(self):
         for word in ('held', '33'):
             self.assertTrue(within(ask, 'refusal', word)[1].startswith('Held (33): The vehicle `by` holds'))
+
+    def test_each_call_has_a_command(self):
+        """The commands, by their examples, send each call of docs/openapi.json, but for `call`, which sends any."""
+        files = {'layout.csv': PLANT.encode(), 'count.csv': b'station,load\nA,\n', 'state.json': json.dumps(told(1)).encode()}
+        row = dict.fromkeys(('ready', 'paused', 'astray', 'pending', 'confirmed', 'headerId'))  # of `advance`, which asks for it
+        row.update(manufacturer='KIT', serialNumber='0001', node='N1', capacity=1, order='O1', sent=0)
+        known, sent = bodies.description(), set()
+
+        def answer(_, method, target, body=None):
+            operation = known.operation(method, target)
+            sent.add((operation.method, operation.path))
+            if (method, target) == ('GET', '/vehicles/KIT/0001'):
+                return client.Answer(200, json.dumps(row).encode())
+            return client.Answer(404, b'{"name":"NoVehicle","refusal":20}')
+
+        with mock.patch.object(client.Desk, 'ask', answer), mock.patch.object(calls, 'data_of', files.get):
+            for name, command in ask.COMMANDS.items():
+                if name != 'call':
+                    within(ask, name, *command.example.split())
+        self.assertEqual(sent, {(one.method, one.path) for one in known.operations})
 
     def test_the_help(self):
         """Each command has an example, which its words take, and says what it costs."""

@@ -27,7 +27,8 @@ FAULTS = {
     'station,load\nA,\n'.encode('utf-16'): (1, 'BadCsv', 'the file is UTF-16: save it as CSV in UTF-8'),
     HEAD.encode() + b'A;L1\n': (2, 'BadCsv', '1 field, and not the two of station,load: write A,L1'),
     HEAD.encode() + b'A\n': (2, 'BadCsv', '1 field, and not the two of station,load: write A,, where no load was found there'),
-    HEAD.encode() + b'A,L1,1\n': (2, 'BadCsv', '3 fields, and not the two of station,load'),
+    HEAD.encode() + b'A,L1,1\n': (2, 'BadCsv', '3 fields, and not the two of station,load: write one load a row, and nothing behind it'),
+    HEAD.encode() + b'A,L1,,\n': (2, 'BadCsv', '4 fields, and not the two of station,load: write A,L1'),
     HEAD.encode() + b'A, L1\n': (2, 'BadCsv', "the load is ' L1'" + NO_NAME + ': write L1 without blanks'),
     HEAD.encode() + b'A ,L1\n': (2, 'BadCsv', "the station is 'A '" + NO_NAME + ': write A without blanks'),
     HEAD.encode() + b',L1\n': (2, 'BadCsv', "the station is ''" + NO_NAME),
@@ -65,8 +66,12 @@ OVER = {
     'C,L2\nC,L1\n': ('InJob', [
         'line 3: InJob: load L1 is recorded at station A, and would move, but has the live job J1: '
         '`tools/ask stop-job J1` while it waits'], []),
-    'B,L2\n': ('Full', ['line 2: Full: station B has room for 1; found there: 1; live jobs to it: 1'], []),
-    'C,L2\nC,L3\nC,L4\n': ('Full', ['line 2: Full: station C has room for 2; found there: 3; live jobs to it: 0'], []),
+    'B,L2\n': ('Full', [
+        'line 2: Full: station B has room for 1; found there: 1; live jobs to it: 1: '
+        'stop one of these jobs, or carry a load elsewhere and write it there'], []),
+    'C,L2\nC,L3\nC,L4\n': ('Full', [
+        'line 2: Full: station C has room for 2; found there: 3; live jobs to it: 0: '
+        'carry a load elsewhere and write it there'], []),
 }
 
 

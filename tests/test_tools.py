@@ -90,10 +90,13 @@ class Programs(unittest.TestCase):
                         self.assertEqual(listener.getsockname()[1], port)
 
     def test_one_client(self):
-        """Of all files in Python of tools/ and examples/ one alone speaks HTTP."""
+        """Of all files in Python of tools/ and examples/ one alone has a client of HTTP, but for the simulated plant, whose
+        wire is quicker and says why; no other one begins a connection."""
         files = files_below(TOOLS) + files_below(EXAMPLES)
         spoken = re.compile(r'^\s*(?:import|from) (?:http\.client|http import client|urllib\.request|urllib import request)\b', re.M)
         self.assertEqual([os.path.basename(path) for path in files if spoken.search(text_of(path))], ['client.py'])
+        begun = re.compile(r'\bcreate_connection\(|\.connect\(\(')
+        self.assertEqual([os.path.relpath(path, ROOT) for path in files if begun.search(text_of(path))], ['examples/simulation/desks.py'])
         self.assertGreater(len(files), 20)
 
     @over_sockets

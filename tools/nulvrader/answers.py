@@ -4,6 +4,7 @@ from __future__ import annotations
 import argparse
 import dataclasses
 import functools
+from collections.abc import Sequence
 
 from . import arguments, questions, refusals
 from .client import Desk
@@ -21,6 +22,13 @@ def told(heads: str, rows: Rows, none: str) -> Told:
     names = heads.split()
     text = table([name.replace('_', ' ') for name in names], [[row[name] for name in names] for row in rows])
     return Told(text if rows else none, rows)
+
+
+def want(what: str, name: object, known: Sequence[object]) -> None:
+    """`Wrong` where a station or a vehicle is named that the desk doesn't have."""
+    if name is not None and name not in known:
+        listed = ', '.join(map(str, known[:10])) + ', ..' * (len(known) > 10)
+        raise Wrong('there is no %s %s: the desk has %s' % (what, name, listed or 'none'))
 
 
 @look('PAL-1', LOAD)
@@ -70,8 +78,8 @@ def loads(desk: Desk, said: argparse.Namespace) -> Told:
         raise Wrong('give one of --station, --vehicle and --checking')
     place = asked[0] if asked else None
     stock = questions.stock(desk)
-    if said.station and said.station not in stock.stations:
-        raise Wrong('there is no station %s: the desk has %s' % (said.station, ', '.join(stock.stations) or 'none'))
+    want('station', said.station, list(stock.stations))
+    want('vehicle', said.vehicle, list(stock.vehicles))
     rows: Rows = [{'load': name, 'place': at} for name, at in sorted(stock.places().items()) if place in (None, at)]
     return told('load place', rows, 'there are no loads' + (' there' if place else ''))
 
@@ -135,6 +143,8 @@ def orders(desk: Desk, said: argparse.Namespace) -> Told:
 def held(desk: Desk, said: argparse.Namespace) -> Told:
     """The nodes and edges that are held."""
     holds = questions.held(desk)
+    # each vehicle holds the node where it stands
+    want('vehicle', said.vehicle, sorted(set(holds.nodes.values())))
     rows: Rows = [{'thing': 'node ' + name, 'vehicle': str(key)} for name, key in holds.nodes.items()]
     rows += [{'thing': 'edge ' + name, 'vehicle': str(key)} for name, key in holds.edges.items()]
     rows = [row for row in rows if said.vehicle is None or row['vehicle'] == str(said.vehicle)]

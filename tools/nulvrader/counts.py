@@ -80,6 +80,10 @@ class CountFile(TableFile):
                     rule += ': write %s' % fields[0].replace(mark, b',').decode('ascii', 'backslashreplace')
                 elif is_name(fields[0].decode('latin-1')):
                     rule += ': write %s, where no load was found there' % (fields[0].decode() + ',')
+            elif any(fields[2:]):
+                rule += ': write one load a row, and nothing behind it'
+            else:
+                rule += ': write %s' % b','.join(fields[:2]).decode('ascii', 'backslashreplace')
             self.fault(line, 'BadCsv', rule)
             return
         station, load = (one.decode('latin-1') for one in fields)
@@ -162,5 +166,7 @@ class CountFile(TableFile):
             here = sum(1 for load in loads if records.places[str(load)] != 'left')
             coming, room = records.reserved.get(station, 0), records.capacities.get(station)
             if room is not None and here + coming > room:
-                rule = 'station %s has room for %d; found there: %d; live jobs to it: %d'
-                self.fault(line, 'Full', rule % (station, room, here, coming))
+                rule = 'station %s has room for %d; found there: %d; live jobs to it: %d: %s'
+                stop = 'stop one of these jobs, or ' if here <= room else ''
+                do = stop + 'carry a load elsewhere and write it there'
+                self.fault(line, 'Full', rule % (station, room, here, coming, do))
