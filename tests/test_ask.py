@@ -251,7 +251,7 @@ class Words(unittest.TestCase):
             ('order O1 --vehicle KIT/0001 --job J1 --pick J1 --edges 1', 'give the order either --job, or --pick'),
             ('loads --station A --checking', 'give one of --station, --vehicle and --checking'),
             ('call POST /vehicle {}', 'POST /vehicle: there is no such call; POST /vehicles was probably meant'),
-            ('call GET /loads', 'GET /loads: the path is asked by POST'),
+            ('call GET /loads', 'GET /loads: the method of this path is POST'),
             ('call POST /loads {"load"', 'the body is no JSON'),
             ('refusal Heldd', "'Heldd' is neither the name nor the number of a refusal"),
             ('--timeout 0 vehicles', '0 is no number of seconds'),
@@ -260,7 +260,7 @@ class Words(unittest.TestCase):
             with self.subTest(line):
                 self.assertIn(wanted, self.refused(*line.split()))
         said = within(ask, '--desk', 'desk:nowhere', 'jobs')[2]
-        self.assertIn("'desk:nowhere' is no address of a desk: write HOST:PORT", said)
+        self.assertIn("'desk:nowhere' is not the address of a desk: write HOST:PORT", said)
 
     def test_no_desk(self):
         ends, out, said = ran('ask', '--desk', '127.0.0.1:1', 'place', 'KIT/0001', '--node', 'N1')

@@ -13,7 +13,7 @@ from board_run import LAYOUT, ONE, TOOLS, TWO, Plant, Watching, has_loopback, un
 
 from nulvrader.board.fleet import Fleet
 from nulvrader.board.news import News
-from nulvrader.board.record import Record
+from nulvrader.board.record import OLD, Record
 from nulvrader.board.shown import Shown
 from nulvrader.board.stores import Stores
 from nulvrader.client import Vehicle
@@ -69,6 +69,7 @@ class Follows(Watching):
         self.rows(job, [('L1', 'A', 'B', 'done', 'O1', 'KIT/0001', 1)])
         self.rows("SELECT place FROM loads WHERE load = 'L1'", [('station B',)])
         self.rows('SELECT kind, name, vehicle FROM holds', [('node', 'N3', 'KIT/0001')])
+        self.rows('SELECT vehicle, node, order_name, ready FROM vehicles', [('KIT/0001', 'N3', None, 1)])
         self.rows("SELECT taken, reserved, capacity FROM stations WHERE station = 'B'", [(1, 0, 2)])
         edges = "SELECT vehicle FROM hold_changes WHERE kind = 'edge' AND name = 'E12' ORDER BY n"
         self.rows(edges, [('KIT/0001',), (None,)])
@@ -217,7 +218,6 @@ class Asks(unittest.TestCase):
         self.assertEqual([board.get('job', 'J1')[name] for name in ('load', 'origin', 'target')], ['L150', 'A', 'B'])
         until(lambda: not board.get('scan'), 'nothing is looked for any more')
 
-
     def test_what_the_dispatcher_has_noted(self) -> None:
         """Of two jobs among 200 loads, both from A, the notes tell the loads and where they lead; a load that has no job
         but is noted is asked, and nothing comes of it. Without the notes neither target would be known. Why a job waits
@@ -340,16 +340,51 @@ class Keeps(Watching):
         self.assertEqual({row[0] for row in idle}, {'KIT/0001', 'KIT/0002'})
         self.assertEqual([row[1:3] for row in commands], [('', 'leave')])
 
+    def test_a_board_that_is_killed_at_many_moments(self) -> None:
+        """Whenever it is killed its file is whole, and what it says of a load fits together: each move begins where the
+        one before it ended, and the last one leads to where the load is."""
+        question = "SELECT from_place, to_place FROM load_moves WHERE load = 'L1' ORDER BY n"
+        for turn in range(8):
+            self.desk.correct_load('L1', 'R%d' % turn, 'CB'[turn % 2])
+            time.sleep(0.15 * turn)
+            self.board.stop(signal.SIGKILL)
+            self.assertEqual(self.board.rows('PRAGMA integrity_check'), [('ok',)])
+            moves = self.board.rows(question)
+            self.assertEqual([before for before, _ in moves], ['station A', *(after for _, after in moves)][: len(moves)])
+            place = self.board.rows("SELECT place FROM loads WHERE load = 'L1'")
+            self.assertEqual(place, [(moves[-1][1] if moves else 'station A',)])
+            self.board = self.plant.board()
+        self.wait('load', 'L1', place='station B')
+        self.rows("SELECT place FROM loads WHERE load = 'L1'", [('station B',)])
+        self.rows('SELECT kind, name, vehicle FROM holds', [('node', 'N1', 'KIT/0001')])
+
     def test_old_rows_are_removed(self) -> None:
+        """Of each table that grows; younger rows stay. Of each table the columns of a row, of which the first has a mark."""
         self.board.stop()
+        tables: dict[str, dict[str, object]] = {
+            'load_moves': {'load': '', 'to_place': 'left', 'at': ''},
+            'vehicle_states': {'vehicle': '', 'node': 'N1', 'ready': 1, 'paused': 0, 'astray': 0, 'at': ''},
+            'hold_changes': {'name': '', 'kind': 'node', 'at': ''},
+            'waits': {'vehicle': '', 'kind': 'node', 'name': 'N1', 'holder': 'KIT/0001', 'began': '', 'ended': ''},
+            'desk_times': {'fault': '', 'answers': 0, 'at': ''},
+            'commands': {'who': '', 'command': 'leave', 'said': '{}', 'done': 1, 'answer': '', 'at': ''},
+            'events': {'words': '', 'kind': 'move', 'at': ''},
+            'jobs': {'job': '', 'load': 'L1', 'phase': 'done', 'ended': ''},
+        }
+        self.assertEqual(tables.keys(), OLD.keys())
         base = sqlite3.connect(self.board.db)
-        move = 'INSERT INTO load_moves (at, load, to_place) VALUES (?, ?, ?)'
-        base.execute(move, ('2020-01-01T00:00:00.000Z', 'OLD', 'left'))
-        base.execute(move, (time.strftime('%Y-%m-%dT%H:%M:%S.000Z', time.gmtime(time.time() - 80000)), 'NEW', 'left'))
+        for mark, seconds in (('old', 90000), ('new', 80000)):
+            at = time.strftime('%Y-%m-%dT%H:%M:%S.000Z', time.gmtime(time.time() - seconds))
+            for table, row in tables.items():
+                values = [at if name in ('at', 'began', 'ended') else value for name, value in row.items()]
+                marks = ', '.join('?' * len(row))
+                base.execute('INSERT INTO %s (%s) VALUES (%s)' % (table, ', '.join(row), marks), [mark, *values[1:]])
         base.commit()
         base.close()
         self.board = self.plant.board('--days', '1')
-        self.rows('SELECT load FROM load_moves', [('NEW',)])
+        for table, row in tables.items():
+            mark = next(iter(row))
+            self.rows("SELECT %s FROM %s WHERE %s IN ('old', 'new')" % (mark, table, mark), [('new',)])
 
 
 def load_tests(loader: unittest.TestLoader, _: unittest.TestSuite, __: str | None) -> unittest.TestSuite:

@@ -91,6 +91,11 @@ class Commands(Watching):
         told = self.board.do('place', vehicle='KIT/0001', node='N3')
         self.refused(told, 'Held', 'KIT/0002 holds node N3.')
 
+    def test_a_vehicle_that_is_not_registered(self) -> None:
+        for command, values in (('pause', {}), ('resume', {}), ('cancel', {}), ('resync', {}), ('place', {'node': 'N2'})):
+            told = self.board.do(command, vehicle='KIT/0009', **values)
+            self.refused(told, 'NoVehicle', 'No vehicle KIT/0009 is registered.')
+
     def test_a_stocktake(self) -> None:
         look = self.board.post('/look', 'stocktake', file='station,load\nA,L1\nB,L2\nC,L9\n')
         says = ['Counted: 3 stations. Found: 3 loads.', 'Moved by it: 1 load.', 'L2, which is at A, is then at B.']
@@ -234,7 +239,7 @@ class Starts(unittest.TestCase):
         with socket.create_server(('127.0.0.1', 0)) as taken:
             port = str(taken.getsockname()[1])
             self.assertIn('port %s: ' % port, self.told('--layout', self.plant.layout, '--port', port))
-        self.assertIn('is no address of a desk', self.told('--layout', self.plant.layout, '--desk', 'ftp://x'))
+        self.assertIn('is not the address of a desk', self.told('--layout', self.plant.layout, '--desk', 'ftp://x'))
 
     def test_it_is_stopped(self) -> None:
         for number in (signal.SIGINT, signal.SIGTERM):

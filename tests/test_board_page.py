@@ -345,6 +345,11 @@ class Gives(Page):
         self.on_vehicle('Accept its states')
         self.look('The desk forgets the number of the last state of KIT/0001')
         self.do('The next state of KIT/0001 is taken, whatever its number.')
+        self.on_vehicle('Accept its states')
+        self.browser.press('Back', '#command')
+        self.browser.write('#field-vehicle', 'KIT/0009')
+        self.look('No vehicle KIT/0009 is registered.')
+        self.do('No vehicle of that key')
 
     def test_a_stocktake(self) -> None:
         with tempfile.NamedTemporaryFile('w', suffix='.csv') as file:

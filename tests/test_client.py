@@ -211,9 +211,9 @@ class NoDesk(unittest.TestCase):
 
     def test_bytes(self):
         for data, words, may_be_done in (
-            (b'', 'closed before the answer had come', True),
-            (b'SSH-2.0\r\n', 'closed before the answer had come', True),
-            (b'HTTP/1.1 200 OK\r\nContent-Length: 30\r\n\r\n{', 'closed before the answer had come', True),
+            (b'', 'closed before the answer arrived', True),
+            (b'SSH-2.0\r\n', 'closed before the answer arrived', True),
+            (b'HTTP/1.1 200 OK\r\nContent-Length: 30\r\n\r\n{', 'closed before the answer arrived', True),
             (b'HTTP/1.1 200 OK\r\nContent-Length: 2\r\n\r\nok', 'no desk', True),
             (b'HTTP/1.1 404 Not Found\r\nContent-Length: 2\r\n\r\nno', 'no desk: status 404, no', False),
             (b'HTTP/1.1 502 Bad Gateway\r\nContent-Length: 0\r\n\r\n', 'no desk: status 502', True),

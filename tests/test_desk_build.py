@@ -252,7 +252,7 @@ class Unproved(Tree):
         self.note('no-module', 'src/main.rt:1:1: error: wrong\n')
         status, out, said = self.run_desk('--unproved', 'replay')
         self.assertEqual((status, out), (1, ''))
-        self.assertTrue(said.endswith('ends so:\nsrc/main.rt:1:1: error: wrong\n'), said)
+        self.assertTrue(said.endswith('ended with:\nsrc/main.rt:1:1: error: wrong\n'), said)
 
     def test_a_signal_ends_the_build(self) -> None:
         self.write(os.path.join(self.kit, 'toolchain/bin/clang'), '#!/bin/sh\ntouch module-1.o.tmp "$NOTES/compiles"\nexec sleep 600\n')

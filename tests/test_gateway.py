@@ -916,7 +916,7 @@ class Words(unittest.TestCase):
             (['--broker', 'nowhere'], "'nowhere' is not HOST:PORT"),
             (['--broker', 'here:0'], "'here:0' is not HOST:PORT"),
             (['--vehicle', 'KIT 1/0001'], "'KIT 1/0001' is no vehicle: write MANUFACTURER/SERIAL"),
-            (['--front', 'uagv/#'], "'uagv/#' is no beginning of a topic"),
+            (['--front', 'uagv/#'], "'uagv/#' is not the beginning of a topic"),
             (['--every', '0'], '0 is no number of seconds between 0 and 3600'),
             (['--password-file', 'x'], '--password-file needs --user'),
         ):

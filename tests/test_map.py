@@ -357,7 +357,7 @@ class OfADesk(unittest.TestCase):
             address = '127.0.0.1:%d' % taken.getsockname()[1]
             said = refused('--desk', address, '--layout', self.layout)
         self.assertRegex(said, '^%s: no program listens there' % address)
-        self.assertRegex(refused('--desk', 'desk:port', '--layout', self.layout), '^.desk:port. is no address of a desk: write HOST:PORT')
+        self.assertRegex(refused('--desk', 'desk:port', '--layout', self.layout), '^.desk:port. is not the address of a desk: write HOST:PORT')
 
 
 class Places(unittest.TestCase):

@@ -90,8 +90,8 @@ class ByNginx(unittest.TestCase):
             self.assertEqual(self.ask('load L1', 'otto'), 'load L1: checking, job -\n')
             self.assertEqual(self.ask('loads', 'anna'), 'load  place\nL1    checking\n')
             said = self.ask('register-load L2', 'otto', 1)
-            self.assertIn('Forbidden: The proxy does not allow this user to ask that', said)
-            self.assertIn('Unauthorized: The proxy wants to know who asks', self.ask('load L1', status=1))
+            self.assertIn('Forbidden: The proxy does not allow this user to make this call', said)
+            self.assertIn('Unauthorized: The proxy requires a user', self.ask('load L1', status=1))
         said = self.ask('load L1', 'anna', 3)
         self.assertIn('What answers there is no desk: status 502', said)
 

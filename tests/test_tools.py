@@ -145,7 +145,7 @@ class Programs(unittest.TestCase):
                 file.write(b'\xd9\xd5\x05\xf9\x20\xa1\x63\xd7' + bytes(504))
             status, out, said = ran('map', '--db', db)
             self.assertEqual((status, out), (1, ''))
-            self.assertIn('another SQLite was stopped amid a change: tools/why says what to do', said)
+            self.assertIn('another SQLite was stopped in the middle of a change: tools/why says what to do', said)
 
     @unittest.skipUnless(command('mypy'), 'mypy is not here')
     def test_types(self):

@@ -36,7 +36,7 @@ class Mistakes(WhyTest):
     def test_a_file_in_the_place_of_a_folder(self):
         with open(self.db, 'w'):
             self.db += '/warehouse.db'
-        self.check_fault('Storage', '%s is no folder' % os.path.dirname(self.db))
+        self.check_fault('Storage', '%s is not a folder' % os.path.dirname(self.db))
 
     def test_no_database(self):
         with open(self.db, 'w') as file:
@@ -65,7 +65,7 @@ class Mistakes(WhyTest):
         self.fill()
         os.chmod(self.db, 0o666)
         os.chmod(self.folder, 0o666)
-        self.check_fault('Storage', 'may not look into the folder %s (drw-rw-rw- ' % self.folder, user=another_user())
+        self.check_fault('Storage', 'may not enter the folder %s (drw-rw-rw- ' % self.folder, user=another_user())
 
     @unittest.skipUnless(os.geteuid() == 0, 'the rights of another user are asked for by root')
     def test_the_log_of_another_user(self):
@@ -99,7 +99,7 @@ class Mistakes(WhyTest):
                 self.assertEqual(len(told(self.db).reasons), wanted)
 
     def test_a_journal(self):
-        """Another SQLite was stopped amid a change."""
+        """Another SQLite was stopped in the middle of a change."""
         self.fill()
         line = ("import os, sqlite3; base = sqlite3.connect(%r); base.execute('PRAGMA journal_mode = DELETE'); base.execute('PRAGMA cache_size = 1'); "
                 "base.execute('BEGIN'); base.execute(\"UPDATE load SET id = id || 'x'\"); base.execute('CREATE TABLE more AS SELECT * FROM node, edge, "
@@ -114,9 +114,9 @@ class Mistakes(WhyTest):
     def test_a_desk_that_runs_already(self):
         with Serving(self.db) as desk:
             program = 'the program %d (%s serve --db %s ' % (desk.process.pid, DESK, self.db)
-            self.check_fault('Storage', program, 'has %s open, and a desk has its file alone' % self.db)
+            self.check_fault('Storage', program, 'has %s open, and a desk needs its file to itself' % self.db)
             said = self.look('--port', str(desk.port))
-            self.assertIn('A desk runs already: ' + program, said)
+            self.assertIn('A desk is running already: ' + program, said)
             self.assertIn('listens on port %d. Ask that one, or end it first' % desk.port, said)
         self.look('--port', str(desk.port), expected=0)
 
@@ -147,7 +147,7 @@ class Mistakes(WhyTest):
             said = self.look('--port', str(listener.getsockname()[1]), user=OTHER)
             self.assertIn('a program of the user root (root sees which) listens on port', said)
         if machine.first_port() > 1:
-            self.assertIn('may have no port below', self.look('--port', '1', user=OTHER))
+            self.assertIn('may not use a port below', self.look('--port', '1', user=OTHER))
 
     def test_a_file_of_the_first_schema(self):
         """The command that is told moves it."""
@@ -189,7 +189,7 @@ class Mistakes(WhyTest):
         self.fill(log=True)
         with mock.patch('shutil.copyfile', side_effect=OSError(errno.ENOSPC, 'No space left on device')):
             (reason,) = told(self.db).reasons
-        self.assertIn('could not be looked at: [Errno 28] No space left on device', reason)
+        self.assertIn('could not be read: [Errno 28] No space left on device', reason)
 
     def test_the_clock(self):
         with mock.patch('time.time', lambda: 4102444800.0):

@@ -59,7 +59,7 @@ class Wire:
         assert self._socket is not None
         data = self._socket.recv(1 << 20)
         if not data:
-            raise ConnectionError('the connection was closed before the answer had come')
+            raise ConnectionError('the connection was closed before the answer arrived')
         self._data += data
 
     def close(self) -> None:

@@ -87,7 +87,7 @@ class Description:
         """What is wrong with a request that is no call."""
         for operation in self.operations:
             if self.operation(operation.method, target):
-                return '%s %s: the path is asked by %s' % (method, target, operation.method)
+                return '%s %s: the method of this path is %s' % (method, target, operation.method)
         known = ['%s %s' % (operation.method, operation.path) for operation in self.operations]
         return '%s %s: there is no such call%s' % (method, target, hint('%s %s' % (method, target), known))
 

@@ -17,8 +17,8 @@ from .names import VehicleKey, checked
 
 ADDRESS = '127.0.0.1:8080'
 PROXY = {
-    401: ('Unauthorized', 'The proxy wants to know who asks', 'Give a user and the password.'),
-    403: ('Forbidden', 'The proxy does not allow this user to ask that', 'Ask as a user with another role.'),
+    401: ('Unauthorized', 'The proxy requires a user', 'Give a user and the password.'),
+    403: ('Forbidden', 'The proxy does not allow this user to make this call', 'Use a user with another role.'),
 }
 
 
@@ -140,7 +140,7 @@ class Desk:
         except ValueError:
             port = -1
         if parts.scheme not in ('http', 'https') or not parts.hostname or port == -1:
-            raise ValueError('%a is no address of a desk: write HOST:PORT, http://HOST:PORT or https://HOST' % address)
+            raise ValueError('%a is not the address of a desk: write HOST:PORT, http://HOST:PORT or https://HOST' % address)
         self.address, self.timeout = address, timeout
         self._host, self._port, self._front = parts.hostname, port, parts.path.rstrip('/')
         self._context = ssl.create_default_context(cafile=cafile) if parts.scheme == 'https' else None
@@ -211,10 +211,10 @@ class Desk:
         if isinstance(fault, ConnectionRefusedError):
             return '%s: no program listens there: is the desk started, and on this port?' % self.address
         if isinstance(fault, TimeoutError):
-            what = 'no answer came' if sent else 'no connection came about'
+            what = 'no answer came' if sent else 'no connection was made'
             return '%s: %s within %g seconds' % (self.address, what, self.timeout)
         if sent:
-            return '%s: the connection was closed before the answer had come: %s' % (
+            return '%s: the connection was closed before the answer arrived: %s' % (
                 self.address,
                 fault or type(fault).__name__,
             )

@@ -24,7 +24,7 @@ def opened(path: str, room: str | None = None) -> Iterator[sqlite3.Connection]:
     if not os.path.exists(path):
         raise Unread('%s: there is no such file' % path)
     if database.has_journal(path):
-        raise Unread('%s: another SQLite was stopped amid a change: tools/why says what to do' % path)
+        raise Unread('%s: another SQLite was stopped in the middle of a change: tools/why says what to do' % path)
     try:
         with database.opened(path, alone=True, room=room) as base:
             if base.execute('SELECT schema FROM meta').fetchall() != [(SCHEMA,)]:

@@ -176,7 +176,7 @@ class LayoutFile(TableFile):
                 rule = 'the %s of the %s is %s, and no name: %s'
                 self.fault(line, 'BadCsv', rule % (of, kind, shown(field), NAME_RULE))
         if kind == 'node' and (start or finish):
-            self.fault(line, 'BadCsv', 'node %s has something behind its name' % called(name))
+            self.fault(line, 'BadCsv', 'node %s has something after its name' % called(name))
         if kind == 'station' and not CAPACITY.fullmatch(finish):
             rule = 'station %s has room for %s, and not for 1 to 999'
             self.fault(line, 'BadCsv', rule % (called(name), shown(finish)))

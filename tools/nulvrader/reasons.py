@@ -30,7 +30,7 @@ def look(path: str, port: int | None, user: User, rows_of_a_rule: int) -> Told:
     """The reasons, with at most so many rows for each rule that they break."""
     told = Told()
     if not 0 <= time.time() <= LAST_SECOND:
-        told.reasons.append('The clock shows no moment from 1970 to 2099 (`fault: Clock`): set it.')
+        told.reasons.append('The clock is not between 1970 and 2099 (`fault: Clock`): set it.')
     is_free, holders = _look_at_path(told, path, user)
     if port is not None:
         _look_at_port(told, path, port, user, holders)
@@ -46,7 +46,7 @@ def look(path: str, port: int | None, user: User, rows_of_a_rule: int) -> Told:
 
 def _has_file(path: str, holders: list[Program]) -> str:
     whose = ' and '.join(map(str, holders))
-    text = '%s has %s open, and a desk has its file alone (`fault: Storage`): end it, or name another file.'
+    text = '%s has %s open, and a desk needs its file to itself (`fault: Storage`): end it, or name another file.'
     return text % (whose, path)
 
 
@@ -55,7 +55,7 @@ def _look_at_port(told: Told, path: str, port: int, user: User, holders: list[Pr
     listeners = machine.who_listens(port)
     for listener in listeners:
         if listener.program in holders:
-            text = 'A desk runs already: %s has %s open and listens on port %d. Ask that one, or end it first.'
+            text = 'A desk is running already: %s has %s open and listens on port %d. Ask that one, or end it first.'
             told.reasons.append(text % (listener.program, path, port))
         else:
             who = listener.program or 'a program of the user %s (root sees which)' % listener.user
@@ -65,7 +65,7 @@ def _look_at_port(told: Told, path: str, port: int, user: User, holders: list[Pr
     if rest:
         told.reasons.append(_has_file(path, rest))
     if user.uid != 0 and port < machine.first_port():
-        text = 'The user %s may have no port below %d (`fault: Net`): name another one than %d.'
+        text = 'The user %s may not use a port below %d (`fault: Net`): name another one than %d.'
         told.reasons.append(text % (user, machine.first_port(), port))
 
 
@@ -102,9 +102,9 @@ def _folder(folder: str, user: User) -> str | None:
         if not os.path.exists(part):
             return 'The folder %s is missing: make it, `mkdir -p %s`, or name another file.' % (part, shlex.quote(folder))
         if not os.path.isdir(part):
-            return '%s is no folder, so no file lies in it: name another file.' % part
+            return '%s is not a folder: name another file.' % part
         if not user.may(part, os.X_OK):
-            return 'The user %s may not look into the folder %s (%s): %s' % (user, part, machine.owner(part), GRANT)
+            return 'The user %s may not enter the folder %s (%s): %s' % (user, part, machine.owner(part), GRANT)
     return None
 
 
@@ -122,7 +122,7 @@ def _no_writing(folder: str, user: User) -> str:
 
 def _mounted(path: str) -> str | None:
     readable = os.statvfs(path).f_flag & os.ST_RDONLY
-    return 'its disk is mounted to be read alone: mount it to be written.' if readable else None
+    return 'its disk is mounted read-only: mount it read-write.' if readable else None
 
 
 def _file(path: str, user: User) -> str | None:
@@ -130,7 +130,7 @@ def _file(path: str, user: User) -> str | None:
     if os.path.isdir(path):
         return '%s is a folder: name a file in it, as %s.' % (path, os.path.join(path, 'warehouse.db'))
     if not stat.S_ISREG(os.stat(path).st_mode):
-        return '%s is no file of a disk: name another file.' % path
+        return '%s is not a regular file: name another file.' % path
     for name in (path, path + '-wal'):
         for bit, what in ((os.R_OK, 'read'), (os.W_OK, 'write')):
             if os.path.exists(name) and not user.may(name, bit):
@@ -147,8 +147,8 @@ def _look_into(told: Told, path: str, rows_of_a_rule: int) -> None:
     """Whether the file has the rows of a lawful desk; nobody has it, and the user of this program may read it."""
     if database.has_journal(path):
         text = (
-            '%s-journal lies beside the file: another SQLite was stopped amid a change (`fault: Storage`). Have it '
-            "taken back: `sqlite3 %s 'SELECT 1 FROM sqlite_master'`."
+            '%s-journal lies beside the file: another SQLite was stopped in the middle of a change (`fault: Storage`). '
+            "Roll it back: `sqlite3 %s 'SELECT 1 FROM sqlite_master'`."
         )
         told.reasons.append(text % (path, shlex.quote(path)))
         return
@@ -172,8 +172,8 @@ def _look_into(told: Told, path: str, rows_of_a_rule: int) -> None:
         told.reasons.append(text % (path, error, COPY))
     except OSError as error:
         text = (
-            'The rows of %s could not be looked at: %s. Run this as root, with room for a copy of the file where TMPDIR '
-            'says.'
+            'The rows of %s could not be read: %s. Run this as root, with room for a copy of the file in the folder '
+            'TMPDIR.'
         )
         told.reasons.append(text % (path, error))
 
@@ -212,7 +212,7 @@ def _look_at_tables(told: Told, path: str, base: sqlite3.Connection, rows_of_a_r
     else:
         lines = ['the table %s is missing' % name for name in found.missing] + found.odd
         text = (
-            "The tables of %s aren't those of a desk (`fault: Damaged`). Mend them as docs/TABLES.md has them, or put a "
+            "The tables of %s aren't those of a desk (`fault: Damaged`). Make them those of docs/TABLES.md, or put a "
             'copy back: %s.%s'
         )
         told.reasons.append(text % (path, COPY, ''.join('\n  ' + line for line in lines)))
@@ -225,7 +225,7 @@ def _look_at_first(told: Told, path: str, base: sqlite3.Connection, rows_of_a_ru
     if not broken:
         text = (
             '%s is of the first schema, as an earlier desk made it (`fault: Damaged`). Copy it, `sqlite3 %s '
-            "'.backup before.db'`, and move it: `./desk migrate --db %s` (docs/OPERATE.md, *Migrate a file*)."
+            "'.backup before.db'`, and migrate it: `./desk migrate --db %s` (docs/OPERATE.md, *Migrate a file*)."
         )
         told.reasons.append(text % (path, shlex.quote(path), shlex.quote(path)))
 
@@ -235,7 +235,7 @@ def _look_at_rows(told: Told, path: str, broken: list[Breach], rows_of_a_rule: i
     if not broken:
         return
     text = (
-        'Rows of %s break rules of the desk (`fault: Damaged`). Take back what was written into the file, or put a copy '
+        'Rows of %s break rules of the desk (`fault: Damaged`). Undo what was written into the file, or put a copy '
         'back: %s.'
     )
     lines = [text % (path, COPY)]

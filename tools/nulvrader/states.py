@@ -39,7 +39,7 @@ def whole(text: str) -> int:
     try:
         number = decimal.Decimal(text)
     except decimal.InvalidOperation:
-        raise ValueError('%s is out of all range' % text[:40]) from None
+        raise ValueError('%s is out of range' % text[:40]) from None
     return int(min(max(number, LEAST), MOST).to_integral_value(decimal.ROUND_HALF_EVEN))
 
 

@@ -92,7 +92,7 @@ def stop_job(scene: Scene, said: Mapping[str, str]) -> Look:
 
 def cancel(scene: Scene, said: Mapping[str, str]) -> Look:
     look, name = Look(dict(said)), said['vehicle']
-    vehicle, way = scene.vehicle(name), scene.way(name)
+    vehicle, way = vehicle_here(scene, look, name), scene.way(name)
     order = vehicle['order_name'] if vehicle else None
     look.says.append(
         '%s is told to cancel its order%s, and stops as soon as it can.' % (name, ' %s' % order if order else '')
@@ -118,7 +118,7 @@ def resume(scene: Scene, said: Mapping[str, str]) -> Look:
 def _instant(scene: Scene, said: Mapping[str, str], words: str, paused: bool, warning: str) -> Look:
     """What a vehicle is told to do, and a warning where it has paused, or has not."""
     look, name = Look(dict(said)), said['vehicle']
-    vehicle = scene.vehicle(name)
+    vehicle = vehicle_here(scene, look, name)
     look.says.append('%s is told %s' % (name, words))
     look.warn(vehicle is not None and bool(vehicle['paused']) == paused, warning)
     _check_not_pending(look, vehicle)
@@ -127,7 +127,7 @@ def _instant(scene: Scene, said: Mapping[str, str], words: str, paused: bool, wa
 
 def place(scene: Scene, said: Mapping[str, str]) -> Look:
     look, name, node = Look(_with_reference(said)), said['vehicle'], said['node']
-    vehicle = scene.vehicle(name)
+    vehicle = vehicle_here(scene, look, name)
     look.says.append('The desk will record that %s stands at node %s, and holds only this node.' % (name, node))
     if vehicle and vehicle['order_name']:
         look.says.append('Its order %s ends, and its jobs that are not done are stopped.' % vehicle['order_name'])
@@ -143,11 +143,19 @@ def place(scene: Scene, said: Mapping[str, str]) -> Look:
 
 def resync(scene: Scene, said: Mapping[str, str]) -> Look:
     look, name = Look(dict(said)), said['vehicle']
+    vehicle_here(scene, look, name)
     look.says.append(
         'The desk forgets the number of the last state of %s, and takes its next one, whatever its number.' % name
     )
     look.says.append('This is for a vehicle that was restarted and counts its headers from the start again.')
     return look
+
+
+def vehicle_here(scene: Scene, look: Look, name: str) -> dict[str, Any] | None:
+    """A vehicle of the desk; where there is none of that name, None and a warning."""
+    vehicle = scene.vehicle(name)
+    look.warn(vehicle is None, 'No vehicle %s is registered.' % name)
+    return vehicle
 
 
 def _with_reference(said: Mapping[str, str]) -> Values:

@@ -6,7 +6,7 @@ from collections.abc import Mapping, Sequence
 from dataclasses import dataclass
 
 from ..layouts import Layout
-from .looks import Look
+from .looks import Look, vehicle_here
 from .scene import Scene
 from .tell import count
 
@@ -41,7 +41,7 @@ def stops_of(text: str) -> list[Planned]:
 
 def start_order(scene: Scene, said: Mapping[str, str]) -> Look:
     look, name = Look(dict(said)), said['vehicle']
-    vehicle = scene.vehicle(name)
+    vehicle = vehicle_here(scene, look, name)
     stops, edges = stops_of(said['stops']), int(said['edges'])
     look.says.append('%s gets the order %s:' % (name, said['order']))
     walk: Walk | None = []
