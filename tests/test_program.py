@@ -618,8 +618,8 @@ REFUSED = [
     (('report', '--db', 'a.db', 'stock', 'holds'), "error: unexpected argument 'holds' found"),
     (('x',) * 20_000, "error: unrecognized subcommand 'x'"),
     (('x' * 100_000,), "error: unrecognized subcommand '%s'" % ('x' * 100_000)),
-    ((b'\xff',), 'error: a word of the line is not UTF-8\n'),
-    (MEMORY + ('--at', b'\xff'), 'error: a word of the line is not UTF-8\n'),
+    ((b'\xff',), 'error: an argument is not UTF-8\n'),
+    (MEMORY + ('--at', b'\xff'), 'error: an argument is not UTF-8\n'),
     (('--help',), 'Nulvrader 0.1.0, the control desk of one warehouse: its vehicles, loads and orders\n\nUsage: desk <COMMAND>\n\nCommands:\n  replay  '),
     (('replay', '--help'), 'Reads requests from standard input and writes the answers to standard output\n\nUsage: '),
     (('report', '--help'), 'Prints a report of the records: where the loads are, or what the vehicles hold\n\nUsage: '),
@@ -632,14 +632,14 @@ REFUSED = [
 FILE_OPTION = {'--db <FILE>': 'The file that keeps the records'}
 OPTIONS = {
     'replay': {
-        '--db <FILE|memory>': 'The file that keeps the records; `memory` keeps them for this run alone',
+        '--db <FILE|memory>': 'The file that keeps the records; `memory` keeps them for this run only',
         '--at <MILLIS>': 'The moment of all requests, in milliseconds since the start of 1970 (UTC)'},
     'serve': {
-        **FILE_OPTION, '--port <P>': 'The port on this machine, 0 to 65535; at 0 a free one is chosen and printed',
+        **FILE_OPTION, '--port <P>': 'The port on this machine, 0 to 65535; 0 picks a free one and prints it',
         '--connections <N>': 'How many connections are served, one after another, before the program ends'},
     'report': {
         **FILE_OPTION,
-        '<REPORT>': '`stock`: each load and its place; `holds`: what each vehicle holds of the floor [possible values: stock, holds]'},
+        '<REPORT>': '`stock`: each load and its place; `holds`: the nodes and edges that each vehicle holds [possible values: stock, holds]'},
     'migrate': FILE_OPTION,
 }
 EXAMPLES = {

@@ -36,7 +36,7 @@ pub enum Line<'a> {
         db: &'a str,
         /// The port on this machine; at 0 the system picks one.
         port: u16,
-        /// After so many connections the program ends.
+        /// The number of connections after which the program ends.
         connections: u32,
     },
     /// Prints a report.
@@ -127,7 +127,7 @@ fn replay_command<'a>(alloc: Global) -> Result<Command<'a>, AllocError>
             alloc,
             "db",
             "FILE|memory",
-            "The file that keeps the records; `memory` keeps them for this run alone",
+            "The file that keeps the records; `memory` keeps them for this run only",
         ))?
         .arg(number_arg(
             alloc,
@@ -180,7 +180,7 @@ fn serve_command<'a>(alloc: Global) -> Result<Command<'a>, AllocError>
             "port",
             "P",
             65_535,
-            "The port on this machine, 0 to 65535; at 0 a free one is chosen and printed",
+            "The port on this machine, 0 to 65535; 0 picks a free one and prints it",
         ))?
         .arg(number_arg(
             alloc,
@@ -212,7 +212,9 @@ fn kind_arg<'a>(alloc: Global) -> Arg<'a>
         .action(ArgAction::Set)
         .value_name("REPORT")
         .value_parser(KINDS.as_slice())
-        .help("`stock`: each load and its place; `holds`: what each vehicle holds of the floor")
+        .help(
+            "`stock`: each load and its place; `holds`: the nodes and edges that each vehicle holds",
+        )
 }
 
 /// The subcommand `migrate`.

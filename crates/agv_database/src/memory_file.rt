@@ -7,7 +7,7 @@ use sqlite_disk::{Disk, Tally, digest_of};
 use std::alloc::{AllocError, Global};
 use std::io;
 
-/// A file in memory, for a database that is for this run alone.
+/// A file in memory, for a database that lasts for this run only.
 ///
 /// It keeps what was written and no history, so that a sync has nothing to do, and a write costs what its bytes cost. A
 /// write or a longer length for which there is no memory is a fault of the file (`ErrorKind::OutOfMemory`), as a write
@@ -17,7 +17,7 @@ use std::io;
 pub struct MemoryFile {
     bytes: Vec<u8>,
     faults: u64,
-    /// The reads that met other bytes than their digest told.
+    /// The reads whose bytes did not match their digest.
     mismatches: u64,
 }
 

@@ -17,7 +17,7 @@ pub enum Call {
     SetLayout {
         rows: Sequence<LayoutRow>,
     },
-    /// Registers a vehicle that stands at a node, and carries so many loads at once.
+    /// Registers a vehicle that stands at a node, and carries at most this many loads at once.
     RegisterVehicle {
         key: VehicleKey,
         node: Name,
@@ -56,7 +56,7 @@ pub enum Call {
         stops: Sequence<Stop>,
         edges: u32,
     },
-    /// The update of this number releases so many further edges.
+    /// The update of this number releases this many further edges.
     Advance {
         key: VehicleKey,
         order: Name,

@@ -28,7 +28,7 @@ use std::alloc::Global;
 /// What a call is answered at a moment in the world of a floor, and the rows that it changes.
 ///
 /// The answer is that of the table of calls (`specs/Step.antt`), and from a world in order the changes take the rows of
-/// the world to the rows of the world after the call; a call that is refused or only tells changes nothing. An update, a
+/// the world to the rows of the world after the call; a call that is refused or only reads changes nothing. An update, a
 /// place, a state and the question for the last order message are answered so where the vehicle's trip has at most 200
 /// edges and eight acts, and no more updates than released edges, as every trip of a lawful world.
 ///

@@ -1,4 +1,4 @@
-//! The calls that give a vehicle an instant action: it is told to cancel, to pause or to go on.
+//! The calls that give a vehicle an instant action: to cancel its order, to pause or to go on.
 ghost use Rattle.std.specs.Prelude.{◌≡◌, IfOk, Some};
 ghost use Rattle.agv_world.specs.Asks.{Asks};
 ghost use Rattle.agv_desk.specs.InstantSteps.{cancel, instruct, pause, resume};

@@ -19,7 +19,7 @@ use agv_track::{Standing, footprint};
 use agv_world::{Fault, Floor};
 use std::alloc::Global;
 
-/// Releases so many edges more of an open order.
+/// Releases this many edges more of an open order.
 pub(crate) fn advance<F: Floor>(
     alloc: Global,
     floor: &mut F,

@@ -46,7 +46,7 @@ pub(crate) fn register_vehicle<F: Floor>(
     Ok(vehicle_registered(alloc, key, node, capacity)?)
 }
 
-// Whether a vehicle may be built for so many loads.
+// Whether a vehicle may be built for this many loads.
 fn may_carry(capacity: u32, seats: u32) -> bool
     ensures { result ≡ (nat_lt 0 capacity && nat_le capacity seats) }
 {

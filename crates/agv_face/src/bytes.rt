@@ -7,7 +7,7 @@ ghost use Rattle.agv_face.specs.CountingIo.{FailedOnce, HadCall, inner_of};
 use crate::counting_io::CountingIo;
 use std::io::{Read, Write};
 
-/// The longest request, its head and its body together, in bytes: more have never to be held at once.
+/// The longest request, its head and its body together, in bytes: no more are ever buffered.
 pub(crate) const LONGEST_REQUEST: usize = 73_728;
 
 /// The most bytes that one read requests.
@@ -17,7 +17,7 @@ const ONE_READ: usize = 4096;
 #[derive(Clone, Copy)]
 pub(crate) struct NotRead;
 
-/// Writes all the bytes, and tells whether they were written. A write that takes none is a fault, and so is any error.
+/// Writes all the bytes, and returns whether they were written. A write that takes none is a fault, and so is any error.
 pub fn write_whole<W: Write>(writer: &mut CountingIo<W>, bytes: &[u8]) -> bool
     ensures { IsPutWhole W.contents writer.old writer.new bytes.now result }
 {

@@ -127,7 +127,7 @@ fn add_one(number: &mut u64)
     *number = number.saturating_add(1);
 }
 
-/// Whether a write that took so many of the bytes took none, where there were some.
+/// Whether a write that took this many of the bytes took none, where there were some.
 fn took_none(n: usize, bytes: &[u8]) -> bool
     ensures { result ≡ (n == 0 && not (length bytes.now == 0)) }
 {

@@ -34,7 +34,7 @@ pub fn streams_have_histories<S: Alter>(at: Moment)
     asks_well_typed_calls(at);
 }
 
-/// However a stream ends, a store that was open is open then, unless its disk had a fault meanwhile. So behind a cut answer or
+/// However a stream ends, a store that was open is open then, unless its disk had a fault meanwhile. So after a cut answer or
 /// a refusal for memory, too, the desk knows the world that the stream has left, and goes on from there.
 pub fn streams_leave_the_store_open<S: Alter>()
     ensures { (desk desk_then : Keyed S) → IsLaterDesk S.Store desk desk_then → IsClean S.Store desk_then.held → IsOpen S.Store desk.held

@@ -26,7 +26,7 @@ pub(crate) enum Next {
     Need,
     /// The input is at its end.
     End,
-    /// A request of so many bytes, which was served: it is the last of its stream, or not.
+    /// A request that was served, with its number of bytes: it is the last of its stream, or not.
     Request { len: usize, close: bool },
     /// There is none, but this fault of HTTP.
     Fault(Refusal),

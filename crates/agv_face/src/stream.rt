@@ -55,7 +55,7 @@ pub fn serve_stream<S: Alter + Drop, R: Read, W: Write>(
     serve_stream_within(alloc, desk, at, reader, writer, MAX_READS)
 }
 
-/// Serves a stream of requests, each at this moment, with at most so many reads: a number above 4,503,599,627,370,495
+/// Serves a stream of requests, each at this moment, with at most this many reads: a number above 4,503,599,627,370,495
 /// counts as that.
 ///
 /// Memory for the longest request and for the answer to each call that changes something is reserved before the first call.
@@ -74,8 +74,8 @@ pub fn serve_stream<S: Alter + Drop, R: Read, W: Write>(
 /// the desk knows the world that is left; where none was, the desk is as it was. So it is, too, where no memory could be
 /// reserved.
 ///
-/// However the stream ends, the store is then as open as it was, unless its disk had a fault meanwhile, and if it is open it
-/// was open before: so another stream can go on from the world that is known (`later`, and
+/// However the stream ends, the store is still open if it was open before, unless its disk had a fault meanwhile, and if it
+/// is open it was open before: so another stream can go on from the world that is known (`later`, and
 /// [`laws::streams_leave_the_store_open`](crate::laws::streams_leave_the_store_open)). A desk that had failed before stays as
 /// it is and serves no call: the first one is answered `Storage`, and the stream ends.
 ///
@@ -149,7 +149,7 @@ fn serve_requests<S: Alter + Drop, R: Read, W: Write>(
     let mut ended = false;
     let mut reads = 0;
     let mut answers = 0;
-    // Of the bytes that have come, so many are served; they are dropped before the next read.
+    // This many of the bytes that have come are served; they are dropped before the next read.
     let mut served = 0;
     loop {
         let next = serve_request(
@@ -208,7 +208,7 @@ fn serve_requests<S: Alter + Drop, R: Read, W: Write>(
     }
 }
 
-/// Ends a stream, after so many answers, with the refusal for a fault of the machine. It takes no memory.
+/// Ends a stream, after this many answers, with the refusal for a fault of the machine. It takes no memory.
 fn refuse<W: Write>(
     writer: &mut CountingIo<W>,
     fault: Fault,

@@ -20,9 +20,9 @@ use std::alloc::Global;
 /// database, whoever wrote them: the tables, every row and what is held are looked at, and nothing is changed.
 ///
 /// # Errors
-/// `Damaged` just where the database has the rows of no such world: a table is missing or is another, a row tells nothing, the
+/// `Damaged` exactly if the rows are not those of such a world: a table is missing or differs, a row can't be decoded, the
 /// rows break a rule of the desk, or what is held isn't what the vehicles hold. Else as [`ReadingFault`] says. All rows are in
-/// memory at once, beside the tables that they tell.
+/// memory at once, beside the tables that they encode.
 pub fn find_first_world<S: Alter>(
     alloc: Global,
     conn: &mut Connection<S>,

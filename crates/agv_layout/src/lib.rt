@@ -7,7 +7,7 @@
 //! - [`Layout::nodes`], [`Layout::edges`] and [`Layout::stations`] go through a layout in the order of names, and
 //!   [`Layout::node_count`] and its like count, all without memory.
 //! - [`Layout::hops`] is the least number of edges from one node to another, and [`Layout::route`]
-//!   the way to go: of all walks of so many edges the first by the names of its edges.
+//!   the way to go: of all walks of this many edges the first by the names of its edges.
 //! - [`laws`] says that the definitions of these contracts agree.
 #![tactic(auto)]
 

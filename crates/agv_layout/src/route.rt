@@ -21,8 +21,8 @@ impl Layout {
     /// The least number of edges of a walk from one node to another: none where no walk leads there,
     /// and so where one of the names is unknown; 0 from a node to itself.
     ///
-    /// The time is that of the nodes and the edges, each times the depth of a map. `Memory` for want
-    /// of memory alone.
+    /// The time is that of the nodes and the edges, each times the depth of a map. `Memory` only when
+    /// out of memory.
     pub fn hops(&self, alloc: Global, from: Name, to: Name) -> Result<Option<u32>, Memory>
         ensures hops { IfOk result (IsHops self.now from to) }
         ensures exact { IfOk result (λ hops. hops ≡ hops_of self.now from to) }
@@ -109,7 +109,7 @@ fn is_nearer(distances: &Distances, ends: &EdgeEnds) -> bool
     }
 }
 
-/// The walk of so many edges that takes each node's edge.
+/// The walk of this many edges that takes each node's edge.
 fn follow(alloc: Global, ways: &Ways, from: Name, hops: u32) -> Result<Vec<Name>, Memory>
     ensures { IfOk result (λ ids. ids.items ≡ followed ways.now from hops) }
 {

@@ -65,7 +65,7 @@ impl Trip {
     }
 }
 
-/// The routes from a node to each stop in turn; `NoWalk` where one of them can't be had.
+/// The routes from a node to each stop in turn; `NoWalk` where one of them doesn't exist.
 fn stop_routes_to(
     alloc: Global,
     layout: &Layout,

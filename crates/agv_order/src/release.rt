@@ -33,7 +33,7 @@ impl Trip {
         Ok(())
     }
 
-    /// Whether so many edges more can be released.
+    /// Whether this many edges more can be released.
     fn can_release(&self, n: u32) -> bool
         ensures { IsTrue result ↔ CanRelease self.now n }
     {

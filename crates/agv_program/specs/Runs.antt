@@ -113,7 +113,7 @@ module _ {R W : Type 0} (remaining : R → Option (List ℕ)) (contents : W → 
   abbrev pub IsReplayed : {S : Type 0} → Ghosts S → ℕ → Keyed S → RunEnd → Type 0
   IsReplayed g at desk end = (at ≤ last_moment → IsServedRun g at desk end) × (last_moment < at → IsUntouched × (end ≡ Err fault.Clock))
 
-  -- no desk could be had in a new database, or the input was served from the world of a desk that knows nothing yet
+  -- no desk could be made in a new database, or the input was served from the world of a desk that knows nothing yet
   abbrev pub IsReplayedAnew : {S : Type 0} → Ghosts S → ℕ → RunEnd → Type 0
   IsReplayedAnew {S = S} g at end =
       (IsUntouched × ((end ≡ Err fault.Memory) ⊎ (end ≡ Err fault.Storage)))
@@ -154,9 +154,9 @@ status_without without.Memory = 1
 -- what is said then; of a refused line that is the text of `clap`, of which no clause says anything
 abbrev pub said_of : NoLine → Option (List ℕ)
 said_of (without.Refused error) = None
-said_of without.NotText = Some (codes "error: a word of the line is not UTF-8\n")
+said_of without.NotText = Some (codes "error: an argument is not UTF-8\n")
 said_of without.Memory = Some (fault_line fault.Memory)
 
--- the words couldn't be had
+-- the arguments couldn't be read
 abbrev pub IsWithoutWords : NoLine → Type 0
 IsWithoutWords why = (why ≡ without.NotText) ⊎ (why ≡ without.Memory)

@@ -16,11 +16,11 @@ use std::time::{Duration, SystemTime, UNIX_EPOCH};
 /// Why no connection was served.
 #[derive(Clone, Copy, Debug, PartialEq, Eq, thiserror::Error)]
 pub enum NextFault {
-    /// None could be had.
-    #[error("no connection could be had")]
+    /// No connection could be accepted.
+    #[error("no connection could be accepted")]
     Net,
-    /// The clock shows no moment from 1970 to 2099.
-    #[error("the clock shows no moment from 1970 to 2099")]
+    /// The clock is not between 1970 and 2099.
+    #[error("the clock is not between 1970 and 2099")]
     Clock,
 }
 
@@ -63,7 +63,7 @@ fn listener_at<W: Write>(
     Ok(listener)
 }
 
-/// Serves so many connections, one after another. A fault of a connection ends that connection; one of the store ends the
+/// Serves this many connections, one after another. A fault of a connection ends that connection; one of the store ends the
 /// program.
 fn serve_connections<S: Alter + Drop>(
     rt: &HostRuntime,
@@ -114,7 +114,7 @@ fn limit_waits(stream: &TcpStream) -> io::Result<()> {
     stream.set_write_timeout(most)
 }
 
-/// The moment that the clock shows.
+/// The moment now, by the clock.
 fn moment_now(rt: &HostRuntime) -> Option<Moment> {
     let Ok(now) = SystemTime::now(rt) else {
         return None;

@@ -78,7 +78,7 @@ fn replay_on<S: Alter + Drop, R: Read, W: Write>(
     end_of(serve_stream(alloc, &mut desk, at, reader, writer))
 }
 
-/// The moment at so many milliseconds since 1970, up to 2099.
+/// The moment this many milliseconds since 1970, up to 2099.
 fn moment_of(ms: u64) -> Result<Moment, RunFault>
     ensures moment { IfOk result (λ at. (at ≡ ms) × (ms ≤ last_moment)) }
     ensures none { IfErr result (λ why. (why ≡ fault.Clock) × (last_moment < ms)) }

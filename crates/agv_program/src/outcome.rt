@@ -31,7 +31,7 @@ pub enum RunFault {
     #[error("the port can't be listened on, or a connection can't be had")]
     Net,
     /// The clock is not between 1970 and 2099.
-    #[error("the clock shows no moment from 1970 to 2099")]
+    #[error("the clock is not between 1970 and 2099")]
     Clock,
 }
 
@@ -111,7 +111,7 @@ impl fmt::Display for NoLine {
     fn fmt<W: fmt::Write>(&self, f: &mut fmt::Formatter<W>) -> fmt::Result {
         match self {
             NoLine::Refused(error) => write!(f, "{error}"),
-            NoLine::NotText => write!(f, "error: a word of the line is not UTF-8\n"),
+            NoLine::NotText => write!(f, "error: an argument is not UTF-8\n"),
             NoLine::Memory => write!(f, "{}", RunFault::Memory.line()),
         }
     }
@@ -119,7 +119,7 @@ impl fmt::Display for NoLine {
 
 impl error::Error for NoLine {}
 
-/// How a run ends whose stream has ended so: its last answer was the refusal for a fault of the machine, or it was served
+/// How a run ends after this end of its stream: its last answer was the refusal for a fault of the machine, or it was served
 /// or refused as its requests had it.
 pub fn end_of(ended: Result<Served, StreamFault>) -> Result<(), RunFault>
     ensures { result ≡ end_of ended }

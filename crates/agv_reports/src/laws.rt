@@ -1,4 +1,4 @@
-//! What holds of reports. The function says it by its clause alone.
+//! What holds of reports. The function's clause says it.
 ghost use Rattle.std.specs.Prelude.{◌≡◌, false, []};
 ghost use Rattle.agv_desk.specs.declared.answer.Answer.{Answer};
 ghost use Rattle.agv_world.specs.Worlds.{World};

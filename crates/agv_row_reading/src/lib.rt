@@ -4,7 +4,7 @@
 //!   answer changes nothing, and a failure that leaves the store open nothing but that it may end the transaction and so
 //!   undo it (`specs/WorldAnswers.antt`).
 //! - [`row_tables`]: the rows of each table are read into a table of the world in memory (`specs/ReadTables.antt`); a row
-//!   that tells nothing, or a key that is told twice, is damaged (`specs/TablesRead.antt`).
+//!   that can't be decoded, or a key that stands twice, is damaged (`specs/TablesRead.antt`).
 //! - [`HeldThings`] is what is held, and tells whether that is what the vehicles of a world hold; [`held_rows`] reads it.
 #![tactic(auto)]
 

@@ -23,7 +23,7 @@ use agv_world::{ByLeg, ByName, ByVehicle, JobRow, LegKey, Names, UseKey, UsedNam
 use sqlite::Row;
 use std::alloc::Global;
 
-/// The table that these rows tell.
+/// The table that these rows encode.
 pub fn nodes_in_rows(alloc: Global, rows: &[Row]) -> Result<Names, ReadingFault>
     ensures { Reads result (read_members node_in set.empty rows.now) }
 {
@@ -42,7 +42,7 @@ pub fn nodes_in_rows(alloc: Global, rows: &[Row]) -> Result<Names, ReadingFault>
     Ok(table)
 }
 
-/// The table that these rows tell.
+/// The table that these rows encode.
 pub fn edges_in_rows(alloc: Global, rows: &[Row]) -> Result<ByName<EdgeEnds>, ReadingFault>
     ensures { Reads result (read_rows edge_in map.empty rows.now) }
 {
@@ -60,7 +60,7 @@ pub fn edges_in_rows(alloc: Global, rows: &[Row]) -> Result<ByName<EdgeEnds>, Re
     Ok(table)
 }
 
-/// The table that these rows tell.
+/// The table that these rows encode.
 pub fn stations_in_rows(alloc: Global, rows: &[Row]) -> Result<ByName<StationSite>, ReadingFault>
     ensures { Reads result (read_rows station_in map.empty rows.now) }
 {
@@ -120,7 +120,7 @@ fn vehicle_in_row(
     Some((key, vehicle))
 }
 
-/// The table that these rows tell.
+/// The table that these rows encode.
 pub fn capacities_in_rows(
     alloc: Global,
     rows: &[Row],
@@ -149,7 +149,7 @@ fn has_capacity(table: &ByVehicle<CapacityRow>, key: &VehicleKey) -> bool
     table.get(*key).is_some()
 }
 
-/// The table that these rows tell.
+/// The table that these rows encode.
 pub fn journeys_in_rows(alloc: Global, rows: &[Row]) -> Result<ByName<JourneyRow>, ReadingFault>
     ensures { Reads result (read_rows journey_in map.empty rows.now) }
 {
@@ -167,7 +167,7 @@ pub fn journeys_in_rows(alloc: Global, rows: &[Row]) -> Result<ByName<JourneyRow
     Ok(table)
 }
 
-/// The table that these rows tell.
+/// The table that these rows encode.
 pub fn acts_in_rows(alloc: Global, rows: &[Row]) -> Result<ByAct, ReadingFault>
     ensures { Reads result (read_rows act_in map.empty rows.now) }
 {
@@ -193,7 +193,7 @@ fn has_act(table: &ByAct, key: &LegKey) -> bool
     table.get(*key).is_some()
 }
 
-/// The table that these rows tell.
+/// The table that these rows encode.
 pub fn legs_in_rows(alloc: Global, rows: &[Row]) -> Result<ByLeg, ReadingFault>
     ensures { Reads result (read_rows leg_in map.empty rows.now) }
 {
@@ -219,7 +219,7 @@ fn has_leg(table: &ByLeg, key: &LegKey) -> bool
     table.get(*key).is_some()
 }
 
-/// The table takes in what one more row tells.
+/// Adds what one more row encodes.
 pub fn take_place(table: &mut ByName<Place>, row: &Row) -> Result<(), ReadingFault>
     ensures taken { OnOk result ((rest : List SqlRow) → read_rows load_in table.old (row.now ∷ rest) ≡ read_rows load_in table.new rest) }
     ensures refused { IfErr result (λ why. (rest : List SqlRow) → Reads (Err why) (read_rows load_in table.old (row.now ∷ rest))) }
@@ -235,7 +235,7 @@ pub fn take_place(table: &mut ByName<Place>, row: &Row) -> Result<(), ReadingFau
     }
 }
 
-/// The table that these rows tell.
+/// The table that these rows encode.
 pub fn places_in_rows(alloc: Global, rows: &[Row]) -> Result<ByName<Place>, ReadingFault>
     ensures { Reads result (read_rows load_in map.empty rows.now) }
 {
@@ -246,7 +246,7 @@ pub fn places_in_rows(alloc: Global, rows: &[Row]) -> Result<ByName<Place>, Read
     Ok(table)
 }
 
-/// The table that these rows tell.
+/// The table that these rows encode.
 pub fn jobs_in_rows(alloc: Global, rows: &[Row]) -> Result<ByName<JobRow>, ReadingFault>
     ensures { Reads result (read_rows job_in map.empty rows.now) }
 {
@@ -264,7 +264,7 @@ pub fn jobs_in_rows(alloc: Global, rows: &[Row]) -> Result<ByName<JobRow>, Readi
     Ok(table)
 }
 
-/// The table that these rows tell.
+/// The table that these rows encode.
 pub fn used_in_rows(alloc: Global, rows: &[Row]) -> Result<UsedNames, ReadingFault>
     ensures { Reads result (read_members used_in set.empty rows.now) }
 {

@@ -4,7 +4,7 @@
 //!   (`specs/Columns.antt`); [`decode_row`] reads them back, and [`row_laws`] and [`row_fits`] say that the two fit each
 //!   other and the tables.
 //! - [`row_list_laws`]: the rows of a world are one list for each table (`specs/RowLists.antt`). The lists follow each
-//!   change, and they, and a database that has them, tell one lawful world alone.
+//!   change, and they, and a database that has them, encode only one lawful world.
 //! - [`capacity_row`] is a vehicle's capacity; the rows of journeys and acts are those of agv_trip_rows. [`trip_laws`] says
 //!   that the rows of its journey, its acts, their jobs and its edges tell a trip whole.
 #![tactic(auto)]

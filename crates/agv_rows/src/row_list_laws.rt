@@ -29,7 +29,7 @@ pub fn lists_follow_changes()
     rows_follow_changes();
 }
 
-/// Lists tell the rows of one world alone, where each act has the load and the station of its job.
+/// Lists encode the rows of only one world, where each act has the load and the station of its job.
 pub fn lists_tell_one_world()
     ensures { (lists : List (List Row)) (rows others : Rows) → ActsAreOfJobs rows → ActsAreOfJobs others
         → TellRows lists rows → TellRows lists others → rows ≡ others }

@@ -9,6 +9,6 @@ pub enum Goal {
     Checking,
     /// To a station that the layout does not have.
     Unknown,
-    /// To the station of this name, which has room for at least so many loads more; 0 only where none fits.
+    /// To the station of this name, which has room for at least this many loads more; 0 only where none fits.
     At(Name, u32),
 }

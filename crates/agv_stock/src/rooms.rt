@@ -37,7 +37,7 @@ impl Job {
     }
 }
 
-/// The room that is left of a capacity with so many loads and so many live jobs.
+/// The room that is left of a capacity with these numbers of loads and live jobs.
 pub fn room_left(capacity: u32, loads: usize, jobs: usize) -> u32
     ensures { result ≡ room_left capacity loads jobs }
 {

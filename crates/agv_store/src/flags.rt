@@ -6,8 +6,8 @@ use agv_changes::WriteFault;
 use agv_row_reading::ReadingFault;
 use agv_world::Fault;
 
-// How a question ends, for who asks a floor. A fault of the store is noted, and so is that memory ran out: it may have shut
-// the store.
+// How a question ends, for whoever asks a floor. A fault of the store is noted, and so is that memory ran out: it may have
+// closed the store.
 pub(crate) fn note<T>(
     failed: &mut bool,
     in_doubt: &mut bool,

@@ -1,4 +1,4 @@
-//! The questions of a floor, each by look-ups of a key or an index in the desk's tables; the layout alone is read whole, and
+//! The questions of a floor, each by look-ups of a key or an index in the desk's tables; only the layout is read whole, and
 //! kept then. A node, a station, the edges of a trip and the layout itself are looked up in the kept one, and asked of the
 //! tables only where none is kept or it lacks the name. The row of a vehicle, once it was read or written, and an open trip,
 //! once it was read, are kept and follow what is written. Whether one load more fits at a station is told by what is left of

@@ -18,7 +18,7 @@ use sqlite::Alter;
 use std::alloc::Global;
 use std::collections::BTreeMap;
 
-/// Stations, each with a number of loads: so many more fit there, or still more.
+/// Stations, each with a number of loads: at least this many more fit there.
 pub(crate) type RoomsLeft = BTreeMap<Name, u32>;
 
 impl<S: Alter + Drop> KeyedFloor<S> {

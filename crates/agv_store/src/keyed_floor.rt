@@ -17,7 +17,7 @@ use std::marker::Model;
 /// A floor over the desk's tables in a database. While its connection is open, these have the rows of a lawful world:
 /// the world that is asked.
 ///
-/// After `Storage` its store has failed permanently; after `Memory` its connection may be shut, which shows at the next
+/// After `Storage` its store has failed permanently; after `Memory` its connection may be closed, which shows at the next
 /// question.
 #[derive(Drop)]
 pub struct KeyedFloor<S: Alter> {

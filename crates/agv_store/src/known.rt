@@ -28,13 +28,13 @@ use agv_world::laws::tables_tell_the_world;
 use agv_world::{Change, Counted, World};
 use std::alloc::Global;
 
-/// What is known beside the tables.
+/// What is cached from the tables.
 #[derive(Drop)]
 pub(crate) struct Known {
     pub(crate) counts: Counts,
     // The layout, once it was read; none where it is not set, or was not read since then.
     pub(crate) layout: Option<Layout>,
-    // Stations whose room was counted, each with so many loads as still fit there at least.
+    // Stations whose room was counted, each with a number of loads: at least this many more fit there.
     pub(crate) rooms: RoomsLeft,
     // The open trips of orders, once they were read, and the vehicles that are known to have none.
     pub(crate) trips: KeptTrips,

@@ -27,11 +27,11 @@ impl<S: Alter + Drop> Desk<S> {
     /// ([`laws`](crate::laws)).
     ///
     /// # Errors
-    /// `Damaged` only where the database has the first schema's rows of no lawful world, a table is missing or is another, or
-    /// a table, a view or an index has one of the three names or a foreign key refers to one. Else `Memory` for want of
-    /// memory, and `Storage` for any other error of the database: the store failed, had been shut, or limits the steps of a
-    /// query, or SQL refuses a statement of the move, as where somebody's unique index forbids a row. The connection comes
-    /// back; one that is open has what it had.
+    /// `Damaged` only if the database has the first schema's rows of no lawful world, a table is missing or differs, or a
+    /// table, a view or an index has one of the three names or a foreign key refers to one. Else `Memory` when out of memory,
+    /// and `Storage` for any other error of the database: the store failed, was closed, or limits the steps of a query, or
+    /// SQL refuses a statement of the migration, as where somebody's unique index forbids a row. The connection is returned;
+    /// if it is open, its contents are unchanged.
     pub fn migrate(
         alloc: Global,
         conn: Connection<S>,

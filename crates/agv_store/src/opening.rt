@@ -40,9 +40,9 @@ impl<S: Alter + Drop> Desk<S> {
     /// # Errors
     /// `Damaged` where a table, a view or an index has the name of one of the desk's tables, a foreign key refers to one of
     /// them, or two tables lie in one tree, as in no sound database, and only there: nothing is touched then. Else `Memory`
-    /// when out of memory, and `Storage` for any other error of the database: the store failed or had been shut, or SQL
-    /// refuses a statement, as where the database has 65,536 trees. The connection comes back; one that is open has what it
-    /// had.
+    /// when out of memory, and `Storage` for any other error of the database: the store failed or was closed, or SQL refuses a
+    /// statement, as where the database has 65,536 trees. The connection is returned; if it is open, its contents are
+    /// unchanged.
     pub fn create(alloc: Global, conn: Connection<S>) -> Result<Desk<S>, (Connection<S>, OpenFault)>
         requires { conn.in_transaction ≡ false }
         ensures made { IfOk result (λ desk. IsClean S.Store desk.held → Makes S.Store conn desk) }
@@ -78,11 +78,11 @@ impl<S: Alter + Drop> Desk<S> {
     /// are looked at, and nothing is changed.
     ///
     /// # Errors
-    /// `Damaged` where the database has the rows of no lawful world: a table is missing or is another, a row tells nothing,
-    /// the rows break a rule of the desk, or what is held isn't what the vehicles hold. A database that has the rows of a
-    /// lawful world is never damaged. Else `Memory` when out of memory, and `Storage` only where the store failed, had been
-    /// shut, or limits the steps of a query, whatever the database has. The connection comes back; one that is open has what
-    /// it had.
+    /// `Damaged` if the database has the rows of no lawful world: a table is missing or differs, a row can't be decoded, the
+    /// rows break a rule of the desk, or what is held isn't what the vehicles hold. A database that has the rows of a lawful
+    /// world is never damaged. Else `Memory` when out of memory, and `Storage` only if the store failed, was closed, or
+    /// limits the steps of a query, whatever the database has. The connection is returned; if it is open, its contents are
+    /// unchanged.
     pub fn adopt(alloc: Global, conn: Connection<S>) -> Result<Desk<S>, (Connection<S>, OpenFault)>
         requires { conn.in_transaction ≡ false }
         ensures adopted { IfOk result (λ desk. IsClean S.Store desk.held → Adopts S.Store conn desk) }

@@ -1,4 +1,4 @@
-//! The bytes of the reports that answers name: each is told from questions alone, by the tables as they are.
+//! The bytes of the reports that answers name: each is written from questions only, by the tables as they are.
 ghost use Rattle.std.specs.Prelude.{◌≡◌, false, true, Err, IfOk, IsOkAnd, OnOk, []};
 ghost use Rattle.sqlite.specs.Held.{state};
 ghost use Rattle.sqlite.specs.State.{Survives};

@@ -21,8 +21,8 @@ impl<S: Alter + Drop> Desk<S> {
     /// after the calls that were answered (`runs`). Without a fault each call has its answer; with one there are fewer
     /// answers than calls (`answered`).
     ///
-    /// However the list ends, the store is open then where it was, unless its disk had a fault meanwhile (`runs`): so after
-    /// `Memory`, too, the desk goes on ([`laws`](crate::laws)).
+    /// However the list ends, the store is still open if it was open before, unless its disk had a fault meanwhile (`runs`): so
+    /// after `Memory`, too, the desk goes on ([`laws`](crate::laws)).
     ///
     /// A crash leaves the rows of the world after the calls that were answered, and where there was a fault those of this
     /// world or of the one after one call more: all that it may leave is a database that has them (`crash`).

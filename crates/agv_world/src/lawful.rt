@@ -21,7 +21,7 @@ use agv_header::Memory;
 use std::alloc::Global;
 
 impl World {
-    /// Whether these are the tables of a lawful world, where vehicles have at most so many places for
+    /// Whether these are the tables of a lawful world, where vehicles have at most this many places for
     /// loads (`specs/Lawful.antt`): it answers `true` just where there is such a world.
     ///
     /// `Memory` only when out of memory. It takes time in proportion to the rows, times the logarithm of

@@ -29,7 +29,7 @@ pub struct PlainFloor<'a> {
 }
 
 impl<'a> PlainFloor<'a> {
-    /// A floor that answers from this world, for vehicles of so many loads: 1 to 4.
+    /// A floor that answers from this world, for vehicles of this many loads: 1 to 4.
     pub fn new(alloc: Global, world: &'a World, seats: u32) -> PlainFloor<'a>
         requires { (1 ≤ seats) × (seats ≤ 4) }
         ensures world { ⟦<PlainFloor<'static> as Floor>⟧.facts.world result ≡ world_of world.now }

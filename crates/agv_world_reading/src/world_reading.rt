@@ -81,7 +81,7 @@ fn query_stock_tables<S: Alter>(
 ///
 /// Where [`World::is_lawful`](agv_world::World::is_lawful), asked with [`DESK_SEATS`](agv_schema::DESK_SEATS) places on
 /// each vehicle, and [`HeldThings::are_footprints`] both answer `true`, the database has the rows of a lawful world with at
-/// most so many places on each vehicle (`reading_laws`); where one answers `false`, it has those of none.
+/// most this many places on each vehicle (`reading_laws`); where one answers `false`, it has those of none.
 ///
 /// It fails as [`ReadingFault`] says.
 pub fn read_world<S: Alter>(

@@ -1,4 +1,4 @@
-//! What holds of the rules, for every world and call. Each function says it by its clause alone.
+//! What holds of the rules, for every world and call. Each function's clause says it.
 ghost use Rattle.std.specs.Prelude.{◌≡◌, ◌≢◌, ℕ, true, false, List, [], ◌++◌, Result, Err};
 ghost use Rattle.std.specs.FinMap as finite;
 ghost use Rattle.std.specs.List.{list_all};
@@ -91,7 +91,7 @@ pub fn moves_for_its_cause()
         → list_all (λ (move : Move). moves_for call move.cause) (moves_of (step seats world at call)) ≡ true }
 {}
 
-/// A call that only tells changes nothing.
+/// A call that only reads changes nothing.
 pub fn tells_without_change()
     ensures { (seats : ℕ) (world : World) (at : ℕ) (call : Call) → only_tells call ≡ true → ChangesNothing world (step seats world at call) }
 {}

@@ -1,5 +1,5 @@
-//! The counts of vehicles, loads, jobs, orders and references, for every world, moment and call. Each function says it by
-//! its clause alone.
+//! The counts of vehicles, loads, jobs, orders and references, for every world, moment and call. Each function's
+//! clause says it.
 ghost use Rattle.std.specs.Prelude.{◌≡◌, ◌≢◌, ◌+◌, ◌<◌, ℕ};
 ghost use Rattle.agv_world.specs.Lawful.{HasLawfulLoads};
 ghost use Rattle.agv_world.specs.Questions.{count_of};

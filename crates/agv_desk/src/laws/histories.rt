@@ -1,4 +1,4 @@
-//! What holds of lists of calls, for every lawful world and every list. Each function says it by its clause alone.
+//! What holds of lists of calls, for every lawful world and every list. Each function's clause says it.
 ghost use Rattle.std.specs.Prelude.{◌≡◌, ◌≤◌, ◌⊎◌, ℕ, List, [], ◌∷◌, ◌++◌};
 ghost use Rattle.std.specs.FinMap as finite;
 ghost use Rattle.agv_header.specs.declared.key.VehicleKey.{VehicleKey};

@@ -1,4 +1,4 @@
-//! The joint invariant, for every lawful world, moment and call. Each function says it by its clause alone.
+//! The joint invariant, for every lawful world, moment and call. Each function's clause says it.
 ghost use Rattle.std.specs.Prelude.{◌≡◌, ℕ};
 ghost use Rattle.agv_world.specs.Lawful.{HasLawfulVehicles, IsLawful};
 ghost use Rattle.agv_world.specs.Worlds.{World};

@@ -1,4 +1,4 @@
-//! What holds of a stocktake, for every world. Each function says it by its clause alone.
+//! What holds of a stocktake, for every world. Each function's clause says it.
 ghost use Rattle.std.specs.Prelude.{◌≡◌, ℕ, List};
 ghost use Rattle.agv_world.specs.Worlds.{World};
 ghost use Rattle.agv_desk.specs.Outcomes.{Effect, Made, with_effect};

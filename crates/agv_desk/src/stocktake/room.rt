@@ -58,7 +58,7 @@ fn fits<F: Floor>(
     Ok(has_room_for(found, reserved, site))
 }
 
-// Whether so many loads and so many jobs fit there.
+// Whether these numbers of loads and jobs fit there.
 fn has_room_for(found: usize, reserved: usize, site: StationSite) -> bool
     ensures { result ≡ has_room_for found reserved site }
 {

@@ -78,7 +78,7 @@ pub fn put_load<'a>(
     put_pieces(out, &pieces)
 }
 
-/// Appends what is told of a refusal.
+/// Appends the description of a refusal.
 pub fn put_refusal(out: &mut Vec<u8>, refusal: &Refusal) -> Result<(), Memory>
     ensures { Appended result out.old out.new (compact_text (refusal_data refusal.now)) }
 {

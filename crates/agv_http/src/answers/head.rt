@@ -82,7 +82,7 @@ fn put_last_lines(out: &mut Vec<u8>, allow: Option<Verb>, close: bool) -> Result
     put_end(out, close)
 }
 
-/// Appends the line that names the method which alone serves the path.
+/// Appends the line that names the only method of the path.
 fn put_allow_line(out: &mut Vec<u8>, allow: Option<Verb>) -> Result<(), Memory>
     ensures { Appended result out.old out.new (allow_line allow) }
 {

@@ -1,4 +1,4 @@
-//! What is told of a vehicle.
+//! The description of a vehicle.
 ghost use Rattle.std.specs.Prelude.{◌≡◌, is_some};
 ghost use Rattle.serde_json.specs.Written.{compact_text};
 ghost use Rattle.agv_message.specs.Appending.{Appended};
@@ -9,7 +9,7 @@ use agv_desk::OpenOrder;
 use agv_header::{Memory, Name, VehicleKey};
 use agv_world::VehicleRow;
 
-/// Appends what is told of a vehicle.
+/// Appends the description of a vehicle.
 pub fn put_vehicle(
     out: &mut Vec<u8>,
     key: &VehicleKey,
@@ -42,7 +42,7 @@ fn is_astray(row: &VehicleRow) -> bool
     row.rest.is_some()
 }
 
-/// Appends what is told of a vehicle whose open order has the name `order`, the last update `sent`, and the
+/// Appends the description of a vehicle whose open order has the name `order`, the last update `sent`, and the
 /// last confirmed update `confirmed`.
 fn put_parts<'a>(
     out: &mut Vec<u8>,

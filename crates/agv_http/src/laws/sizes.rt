@@ -45,14 +45,14 @@ pub fn counts_briefly()
         → length (answer_text (answer.Counted moved unknown) report close) ≤ 1024 + names_size unknown }
 {}
 
-/// What is told of a load has at most 1,024 bytes.
+/// The description of a load has at most 1,024 bytes.
 pub fn tells_loads_briefly()
     ensures { (load : List ℕ) (place : Place) (job : Option (List ℕ)) (report : List ℕ) (close : Bool)
         → IsName load → IsPlaceNamed place → IsNameIfAny job
         → length (answer_text (answer.Load load place job) report close) ≤ 1024 }
 {}
 
-/// What is told of a vehicle has at most 1,024 bytes.
+/// The description of a vehicle has at most 1,024 bytes.
 pub fn tells_vehicles_briefly()
     ensures { (key : VehicleKey) (row : VehicleRow) (order : Option OpenOrder) (report : List ℕ) (close : Bool)
         → IsVehicleShort key row → IsOrderShort order

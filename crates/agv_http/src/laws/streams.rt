@@ -55,7 +55,7 @@ pub fn refuses_without_change()
         → call_of_request request ≡ Err why → after world (outcome_for seats world at request) ≡ world }
 {}
 
-/// So does a request which only asks to be told something.
+/// So does a request that only reads.
 pub fn asks_without_change()
     ensures { (seats : ℕ) (world : World) (at : ℕ) (request : Request)
         → only_asks (call_of_request request) ≡ true → after world (outcome_for seats world at request) ≡ world }
