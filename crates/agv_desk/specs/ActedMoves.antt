@@ -10,7 +10,7 @@ use Rattle.agv_stock.specs.declared.job.Phase.TheVariants as phase
 use Rattle.agv_stock.specs.declared.place.Place.{Place}
 use Rattle.agv_stock.specs.declared.place.Place.TheVariants as place
 use Rattle.agv_world.specs.StockInvariant.{Places}
-use Rattle.agv_world.specs.GoodOrder.{HasTrip}
+use Rattle.agv_world.specs.ConsistentTrips.{HasTrip}
 use Rattle.agv_world.specs.Lawful.{IsJob}
 use Rattle.agv_world.specs.Questions.{reserved}
 use Rattle.agv_world.specs.Worlds.{World}

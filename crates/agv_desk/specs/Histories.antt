@@ -8,7 +8,7 @@ use Rattle.agv_message.specs.declared.state.StateMessage.{StateMessage}
 use Rattle.agv_order.specs.declared.trip.Trip.{Trip}
 use Rattle.agv_stock.specs.declared.place.Place.{Place}
 use Rattle.agv_track.specs.Reports.{is_cancelled}
-use Rattle.agv_world.specs.GoodOrder.{HasTrip}
+use Rattle.agv_world.specs.ConsistentTrips.{HasTrip}
 use Rattle.agv_world.specs.Questions.{row_of}
 use Rattle.agv_world.specs.Worlds.{World}
 use Rattle.agv_world.specs.declared.row.VehicleRow.{VehicleRow}

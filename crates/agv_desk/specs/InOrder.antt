@@ -5,7 +5,7 @@ use Rattle.agv_header.specs.declared.key.VehicleKey.{VehicleKey}
 use Rattle.agv_layout.specs.Layout.{KeepsRules}
 use Rattle.agv_order.specs.WellFormed.{IsUnderWay}
 use Rattle.agv_order.specs.declared.trip.Trip.{Trip}
-use Rattle.agv_world.specs.GoodOrder.{HasTrip, HasOneTripAnOrder, SharesNothing}
+use Rattle.agv_world.specs.ConsistentTrips.{HasTrip, HasOneTripAnOrder, SharesNothing}
 use Rattle.agv_world.specs.Worlds.{World, empty_layout}
 
 -- an open trip is under way, over at most 200 edges with at most eight acts

@@ -5,7 +5,7 @@ ghost use Rattle.agv_program.specs.Runs.{IsCarriedOut, IsReplayedInMemory, IsRun
 use crate::connections::serve;
 use crate::desks::{migrate, replay, report};
 use crate::outcome::RunFault;
-use agv_command_line::Line;
+use agv_command_line::{Line, ReportKind};
 use agv_database::laws::stores_in_memory_are_clean;
 use agv_database::{open_file, open_in_memory};
 use agv_face::{CountingIo, write_whole};
@@ -47,10 +47,43 @@ fn carry_out<R: Read, W: Write>(
             db,
             port,
             connections,
-        } => serve(rt, alloc, open_file(rt, db), port, connections, writer),
-        Line::Report { db, kind } => report(alloc, open_file(rt, db), kind, writer),
-        Line::Migrate { db } => migrate(alloc, open_file(rt, db), writer),
+        } => serve_file(rt, alloc, db, port, connections, writer),
+        Line::Report { db, kind } => report_on_file(rt, alloc, db, kind, writer),
+        Line::Migrate { db } => migrate_file(rt, alloc, db, writer),
     }
+}
+
+/// Serves connections by the desk in the file.
+fn serve_file<W: Write>(
+    rt: &HostRuntime,
+    alloc: Global,
+    db: &str,
+    port: u16,
+    connections: u32,
+    writer: &mut CountingIo<W>,
+) -> Result<(), RunFault> {
+    serve(rt, alloc, open_file(rt, db), port, connections, writer)
+}
+
+/// Prints a report of the desk in the file.
+fn report_on_file<W: Write>(
+    rt: &HostRuntime,
+    alloc: Global,
+    db: &str,
+    kind: ReportKind,
+    writer: &mut CountingIo<W>,
+) -> Result<(), RunFault> {
+    report(alloc, open_file(rt, db), kind, writer)
+}
+
+/// Migrates the file from the first schema to the second.
+fn migrate_file<W: Write>(
+    rt: &HostRuntime,
+    alloc: Global,
+    db: &str,
+    writer: &mut CountingIo<W>,
+) -> Result<(), RunFault> {
+    migrate(alloc, open_file(rt, db), writer)
 }
 
 /// Serves the reader's requests by the desk in the file, or by a new one in memory where `memory` stands for the file.
@@ -67,6 +100,18 @@ fn replay_by<R: Read, W: Write>(
     if db == "memory" {
         return replay_in_memory(alloc, at, reader, writer);
     }
+    replay_on_file(rt, alloc, db, at, reader, writer)
+}
+
+/// Serves the reader's requests by the desk in the file.
+fn replay_on_file<R: Read, W: Write>(
+    rt: &HostRuntime,
+    alloc: Global,
+    db: &str,
+    at: u64,
+    reader: &mut CountingIo<R>,
+    writer: &mut CountingIo<W>,
+) -> Result<(), RunFault> {
     replay(alloc, open_file(rt, db), at, reader, writer)
 }
 

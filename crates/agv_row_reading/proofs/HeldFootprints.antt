@@ -17,7 +17,7 @@ use Rattle.agv_header.specs.declared.key.VehicleKey.{VehicleKey}
 use Rattle.agv_order.specs.declared.trip.Trip.{Trip}
 use Rattle.agv_track.specs.Footprints.{footprint_of}
 use Rattle.agv_track.specs.Holds.{Holds, is_in, is_own}
-use Rattle.agv_world.specs.GoodOrder.{IsHolder, IsVehicle}
+use Rattle.agv_world.specs.ConsistentTrips.{IsHolder, IsVehicle}
 use Rattle.agv_world.specs.Rows.{rows_of, standing_of}
 use Rattle.agv_world.specs.Worlds.{Vehicle, World}
 use Rattle.agv_world.specs.declared.row.VehicleRow.{VehicleRow}

@@ -17,7 +17,7 @@ use Rattle.agv_order.specs.Trips.{node_at}
 use Rattle.agv_order.specs.WellFormed.{IsEdgeOf}
 use Rattle.agv_order.specs.declared.trip.Trip.{Trip}
 use Rattle.agv_track.specs.Footprints.{along, footprint_of, from_node, once, rest_things, things_by}
-use Rattle.agv_world.specs.GoodOrder.{HasConsistentTrips}
+use Rattle.agv_world.specs.ConsistentTrips.{HasConsistentTrips}
 use Rattle.agv_world.specs.Lawful.{IsLawful}
 use Rattle.agv_world.specs.Rows.{hold_rows, rows_of, standing_of}
 use Rattle.agv_world.specs.Worlds.{Vehicle, World}

@@ -19,7 +19,7 @@ use Rattle.agv_trip_rows.specs.RowValues.{IsActKey, IsActValue, IsJourneyValue}
 use Rattle.agv_trip_rows.specs.TripRows.{journey_of, journeys_of}
 use Rattle.agv_trip_rows.specs.declared.act_row.ActRow.{ActRow}
 use Rattle.agv_trip_rows.specs.declared.journey_row.JourneyRow.{JourneyRow}
-use Rattle.agv_world.specs.GoodOrder.{HasConsistentTrips}
+use Rattle.agv_world.specs.ConsistentTrips.{HasConsistentTrips}
 use Rattle.agv_world.specs.KeyOrders.{leg_cmp-IsAntisymmetric, leg_cmp-total}
 use Rattle.agv_world.specs.Keys.{leg_cmp}
 use Rattle.agv_world.specs.Lawful.{IsLawful}

@@ -5,7 +5,7 @@ use Rattle.std.specs.Option.{option_and_then}
 use Rattle.agv_header.specs.Name.{name_cmp}
 use Rattle.agv_header.specs.declared.key.VehicleKey.{VehicleKey}
 use Rattle.agv_order.specs.declared.trip.Trip.{Trip}
-use Rattle.agv_world.specs.GoodOrder.{HasTrip, HasConsistentTrips}
+use Rattle.agv_world.specs.ConsistentTrips.{HasTrip, HasConsistentTrips}
 use Rattle.agv_world.specs.Questions.{trip_of}
 use Rattle.agv_world.specs.Rows.{rows_of, rows_of_trip, trip_row}
 use Rattle.agv_world.specs.Told.{edges_of}

@@ -17,7 +17,7 @@ use Rattle.agv_order.specs.declared.trip.Trip.{Trip}
 use Rattle.agv_trip_rows.specs.TripRows.{act_rows, acts_of, is_of, journey_of, journeys_of, rows_if}
 use Rattle.agv_trip_rows.specs.TripsTold.{acts_told, trip_told}
 use Rattle.agv_trip_rows.specs.declared.journey_row.JourneyRow.{JourneyRow}
-use Rattle.agv_world.specs.GoodOrder.{HasConsistentTrips}
+use Rattle.agv_world.specs.ConsistentTrips.{HasConsistentTrips}
 use Rattle.agv_world.specs.Kept.{Keeps}
 use Rattle.agv_world.specs.Questions.{trip_of}
 use Rattle.agv_world.specs.Rows.{rows_of}

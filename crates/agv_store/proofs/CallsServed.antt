@@ -11,7 +11,7 @@ use Rattle.sqlite.specs.State.{Survives}
 use Rattle.sqlite.proofs.StateLemmas.{survives_then, survives_weaker}
 use Rattle.agv_world.specs.Asks.{Answers, IsFaulted, Kept, failed_after}
 use Rattle.agv_world.specs.Changes.{changed}
-use Rattle.agv_world.specs.GoodOrder.{HasConsistentTrips}
+use Rattle.agv_world.specs.ConsistentTrips.{HasConsistentTrips}
 use Rattle.agv_world.specs.Lawful.{IsLawful}
 use Rattle.agv_world.specs.Rows.{rows_of}
 use Rattle.agv_world.specs.Worlds.{World}

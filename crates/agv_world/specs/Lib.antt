@@ -6,7 +6,7 @@ pub mod Worlds
 pub mod Rows
 pub mod Changes
 pub mod Kept
-pub mod GoodOrder
+pub mod ConsistentTrips
 pub mod Told
 pub mod Questions
 pub mod Asks

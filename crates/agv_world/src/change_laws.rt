@@ -11,7 +11,7 @@ ghost use Rattle.agv_stock.specs.declared.place.Place.{Place};
 ghost use Rattle.agv_track.specs.Footprints.{footprint_of};
 ghost use Rattle.agv_track.specs.Holds.{first_held};
 ghost use Rattle.agv_world.specs.Changes.{changed};
-ghost use Rattle.agv_world.specs.GoodOrder.{HasOneTripAnOrder, HasTrip, SharesNothing};
+ghost use Rattle.agv_world.specs.ConsistentTrips.{HasOneTripAnOrder, HasTrip, SharesNothing};
 ghost use Rattle.agv_world.specs.Rows.{Rows, rows_of, standing_of};
 ghost use Rattle.agv_world.specs.TableChanges.{job_changes, layout_changes, load_changes, written, with_use};
 ghost use Rattle.agv_world.specs.VehicleChanges.{KeepsOrderAndEdges, StandsAsBefore, own_changes, trip_before, vehicle_changes, with_vehicle};

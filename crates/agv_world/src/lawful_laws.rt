@@ -1,7 +1,7 @@
 //! What follows where a world is lawful, for every world. Each function does nothing: its clause is the law.
 ghost use Rattle.std.specs.Prelude.{◌↔◌, ℕ};
 ghost use Rattle.agv_world.specs.StockInvariant.{HasStockInvariant};
-ghost use Rattle.agv_world.specs.GoodOrder.{HasConsistentTrips};
+ghost use Rattle.agv_world.specs.ConsistentTrips.{HasConsistentTrips};
 ghost use Rattle.agv_world.specs.Lawful.{HasLawfulLoads, HasLawfulVehicles, IsLawful};
 ghost use Rattle.agv_world.specs.Worlds.{World, empty_world};
 

@@ -3,7 +3,7 @@ ghost use Rattle.std.specs.Prelude.{◌≡◌, ◌↔◌, Some};
 ghost use Rattle.std.specs.FinMap as map;
 ghost use Rattle.agv_header.specs.declared.key.Thing.{Thing};
 ghost use Rattle.agv_header.specs.declared.key.VehicleKey.{VehicleKey};
-ghost use Rattle.agv_world.specs.GoodOrder.{HasConsistentTrips, IsHolder, SharesNothing};
+ghost use Rattle.agv_world.specs.ConsistentTrips.{HasConsistentTrips, IsHolder, SharesNothing};
 ghost use Rattle.agv_world.specs.Kept.{Keeps};
 ghost use Rattle.agv_world.specs.Rows.{rows_of};
 ghost use Rattle.agv_world.specs.Told.{world_of};

@@ -1,7 +1,7 @@
 //! What the tests of tables say of the world that the tables tell. Each function does nothing: its clause is the law.
 ghost use Rattle.std.specs.Prelude.{◌≡◌, ◌↔◌, ◌⊎◌, ℕ, IsTrue};
 ghost use Rattle.agv_layout.specs.Layout.{KeepsRules};
-ghost use Rattle.agv_world.specs.GoodOrder.{SharesNothing};
+ghost use Rattle.agv_world.specs.ConsistentTrips.{SharesNothing};
 ghost use Rattle.agv_world.specs.Kept.{Keeps};
 ghost use Rattle.agv_world.specs.Lawful.{HasLawfulVehicles};
 ghost use Rattle.agv_world.specs.LawfulTests.{are_apart, are_lawful_vehicles, are_legs, are_trips, is_laid};

@@ -12,7 +12,7 @@ use Rattle.agv_header.specs.declared.key.VehicleKey.{VehicleKey}
 use Rattle.agv_layout.specs.declared.edge.EdgeEnds.{EdgeEnds}
 use Rattle.agv_layout.specs.declared.station.StationSite.{StationSite}
 use Rattle.agv_stock.specs.declared.place.Place.{Place}
-use Rattle.agv_world.specs.GoodOrder.{HasConsistentTrips}
+use Rattle.agv_world.specs.ConsistentTrips.{HasConsistentTrips}
 use Rattle.agv_world.specs.KeyOrders.{leg_cmp-IsAntisymmetric, leg_cmp-total, use_cmp-IsAntisymmetric, use_cmp-total}
 use Rattle.agv_world.specs.Keys.{leg_cmp, use_cmp}
 use Rattle.agv_world.specs.Lawful.{IsLawful}

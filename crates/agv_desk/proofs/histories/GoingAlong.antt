@@ -9,7 +9,7 @@ use Rattle.agv_message.specs.declared.order.ActKind.{ActKind}
 use Rattle.agv_order.specs.Statuses.{is_finished}
 use Rattle.agv_order.specs.declared.act.Act.{Act}
 use Rattle.agv_order.specs.declared.trip.Trip.{Trip}
-use Rattle.agv_world.specs.GoodOrder.{HasTrip}
+use Rattle.agv_world.specs.ConsistentTrips.{HasTrip}
 use Rattle.agv_world.specs.Questions.{row_of, trip_of}
 use Rattle.agv_world.specs.VehicleChanges.{with_vehicle}
 use Rattle.agv_world.specs.Worlds.{Vehicle, World}

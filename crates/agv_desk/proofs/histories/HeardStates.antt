@@ -14,7 +14,7 @@ use Rattle.agv_order.specs.declared.trip.Trip.{Trip}
 use Rattle.agv_track.specs.Reached.{reported_node}
 use Rattle.agv_track.specs.Reports.{is_cancelled, told}
 use Rattle.agv_track.specs.declared.pending.Pending.{Pending}
-use Rattle.agv_world.specs.GoodOrder.{HasTrip}
+use Rattle.agv_world.specs.ConsistentTrips.{HasTrip}
 use Rattle.agv_world.specs.Lawful.{IsLawful}
 use Rattle.agv_world.specs.Questions.{row_of}
 use Rattle.agv_world.specs.Worlds.{World}

@@ -20,7 +20,7 @@ use Rattle.agv_track.specs.Judgements.{judged}
 use Rattle.agv_track.specs.Progressed.{progressed}
 use Rattle.agv_track.specs.declared.pending.Pending.{Pending}
 use Rattle.agv_track.specs.declared.progress.Progress.{Progress}
-use Rattle.agv_world.specs.GoodOrder.{HasOneTripAnOrder, SharesNothing}
+use Rattle.agv_world.specs.ConsistentTrips.{HasOneTripAnOrder, SharesNothing}
 use Rattle.agv_world.specs.VehicleChanges.{StandsAsBefore, with_vehicle}
 use Rattle.agv_world.specs.Worlds.{Vehicle, World}
 

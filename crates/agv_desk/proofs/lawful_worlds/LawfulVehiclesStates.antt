@@ -12,7 +12,7 @@ use Rattle.agv_track.specs.Progressed.{Advances, progressed}
 use Rattle.agv_track.specs.declared.progress.End.{End}
 use Rattle.agv_track.specs.declared.progress.End.TheVariants.{Stopped}
 use Rattle.agv_track.specs.declared.progress.Progress.{Progress}
-use Rattle.agv_world.specs.GoodOrder.{IsVehicle}
+use Rattle.agv_world.specs.ConsistentTrips.{IsVehicle}
 use Rattle.agv_world.specs.Lawful.{HasLawfulVehicles, IsRestAt, IsTripOf, IsVehicleOf}
 use Rattle.agv_world.specs.Questions.{row_of, trip_of}
 use Rattle.agv_world.specs.VehicleChanges.{with_vehicle}

@@ -15,7 +15,7 @@ use Rattle.agv_layout.specs.Layout.{Layout, KeepsRules}
 use Rattle.agv_order.specs.Trips.{task_of}
 use Rattle.agv_order.specs.declared.trip.Trip.{Trip}
 use Rattle.agv_world.specs.StockInvariant.{Jobs, Places}
-use Rattle.agv_world.specs.GoodOrder.{IsVehicle, HasOneTripAnOrder, SharesNothing}
+use Rattle.agv_world.specs.ConsistentTrips.{IsVehicle, HasOneTripAnOrder, SharesNothing}
 use Rattle.agv_world.specs.Lawful.{HasLawfulVehicles, IsKey, IsTripOf, IsVehicleOf}
 use Rattle.agv_world.specs.VehicleChanges.{with_vehicle}
 use Rattle.agv_world.specs.TableChanges.{with_use}

@@ -11,7 +11,7 @@ use Rattle.agv_message.specs.declared.state.StateMessage.{StateMessage}
 use Rattle.agv_order.specs.declared.act.Act.{Act}
 use Rattle.agv_order.specs.declared.stop.Stop.{Stop}
 use Rattle.agv_order.specs.declared.trip.Trip.{Trip}
-use Rattle.agv_world.specs.GoodOrder.{HasTrip}
+use Rattle.agv_world.specs.ConsistentTrips.{HasTrip}
 use Rattle.agv_world.specs.Lawful.{HasLawfulLoads}
 use Rattle.agv_world.specs.Questions.{count_of, is_used, row_of, trip_of}
 use Rattle.agv_world.specs.Worlds.{Vehicle, World}

@@ -16,7 +16,7 @@ use Rattle.agv_track.specs.declared.pending.Pending.{Pending}
 use Rattle.agv_track.specs.declared.progress.Progress.{Progress}
 use Rattle.agv_track.specs.declared.standing.Standing.{Standing}
 use Rattle.agv_world.specs.Changes.{changed}
-use Rattle.agv_world.specs.GoodOrder.{HasTrip, HasOneTripAnOrder, SharesNothing}
+use Rattle.agv_world.specs.ConsistentTrips.{HasTrip, HasOneTripAnOrder, SharesNothing}
 use Rattle.agv_world.specs.Rows.{rows_of, standing_of}
 use Rattle.agv_world.specs.VehicleChanges.{KeepsOrderAndEdges, StandsAsBefore, own_changes, trip_before, vehicle_changes, with_vehicle}
 use Rattle.agv_world.specs.TableChanges.{with_use}

@@ -15,7 +15,7 @@ use Rattle.agv_track.specs.declared.progress.Progress.{Progress}
 use Rattle.agv_world.specs.Questions.{row_of, trip_of}
 use Rattle.agv_world.specs.Rows.{standing_of}
 use Rattle.agv_world.specs.VehicleChanges.{KeepsOrderAndEdges, with_vehicle}
-use Rattle.agv_world.specs.GoodOrder.{HasOneTripAnOrder}
+use Rattle.agv_world.specs.ConsistentTrips.{HasOneTripAnOrder}
 use Rattle.agv_world.specs.Worlds.{Vehicle, World}
 use Rattle.agv_world.specs.declared.row.VehicleRow.{VehicleRow}
 use Rattle.agv_desk.specs.InOrder.{IsInOrder, IsOpen}

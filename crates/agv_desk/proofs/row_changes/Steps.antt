@@ -3,7 +3,7 @@ use Rattle.std.proofs.Common.{◌≡◌, Bool, true, false, not, Option, None, S
 use Rattle.std.specs.FinMap as finite
 use Rattle.agv_header.specs.declared.key.VehicleKey.{VehicleKey}
 use Rattle.agv_world.specs.Changes.{changed}
-use Rattle.agv_world.specs.GoodOrder.{HasOneTripAnOrder, SharesNothing}
+use Rattle.agv_world.specs.ConsistentTrips.{HasOneTripAnOrder, SharesNothing}
 use Rattle.agv_world.specs.Questions.{row_of, trip_of}
 use Rattle.agv_world.specs.Rows.{rows_of}
 use Rattle.agv_world.specs.VehicleChanges.{KeepsOrderAndEdges, trip_before, vehicle_changes, with_vehicle}

@@ -18,7 +18,7 @@ use Rattle.agv_track.specs.Reports.{renewed, with_status}
 use Rattle.agv_track.specs.declared.pending.Pending.{Pending}
 use Rattle.agv_track.specs.declared.progress.Progress.{Progress}
 use Rattle.agv_world.specs.StockInvariant.{ActionView, Jobs, Places}
-use Rattle.agv_world.specs.GoodOrder.{HasTrip}
+use Rattle.agv_world.specs.ConsistentTrips.{HasTrip}
 use Rattle.agv_world.specs.Worlds.{World}
 use Rattle.agv_desk.specs.ActedMoves.{FindsItsLoad}
 use Rattle.agv_desk.specs.ActSteps.{Renewed, act_move, act_moves}

@@ -9,7 +9,7 @@ use Rattle.agv_header.specs.declared.key.VehicleKey.{VehicleKey}
 use Rattle.agv_order.specs.WellFormed.{IsEdgeOf}
 use Rattle.agv_order.specs.declared.trip.Trip.{Trip}
 use Rattle.agv_stock.specs.declared.place.Place.{Place}
-use Rattle.agv_world.specs.GoodOrder.{HasTrip, HasConsistentTrips, IsVehicle}
+use Rattle.agv_world.specs.ConsistentTrips.{HasTrip, HasConsistentTrips, IsVehicle}
 use Rattle.agv_world.specs.Lawful.{HasLawfulLoads, HasLawfulVehicles, IsJob, IsLawful}
 use Rattle.agv_world.specs.Worlds.{Vehicle, World, empty_world}
 use Rattle.agv_world.specs.declared.row.JobRow.{JobRow}

@@ -15,7 +15,7 @@ use Rattle.agv_stock.specs.declared.job.Phase.TheVariants as phase
 use Rattle.agv_stock.specs.declared.place.Place.{Place}
 use Rattle.agv_stock.specs.declared.place.Place.TheVariants as place
 use Rattle.agv_world.specs.StockInvariant.{ActionView, HasStockInvariant, IsCarried, IsKnownPlace, Places, ActStands, loads_on_vehicle, capacity_for, to_pick, action_view, action_views, action_views_by, action_views_for, action_views_of}
-use Rattle.agv_world.specs.GoodOrder.{HasTrip, IsVehicle}
+use Rattle.agv_world.specs.ConsistentTrips.{HasTrip, IsVehicle}
 use Rattle.agv_world.specs.Lawful.{HasAct, HasLawfulLoads, HasLawfulVehicles, IsJob, IsPlaceIn, IsToDrop, carried_at, is_to_drop, other_loads, station_for}
 use Rattle.agv_world.specs.Worlds.{Vehicle, World}
 use Rattle.agv_world.specs.declared.row.JobRow.{JobRow}

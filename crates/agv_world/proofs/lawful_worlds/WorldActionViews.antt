@@ -11,7 +11,7 @@ use Rattle.agv_order.specs.declared.trip.Trip.{Trip}
 use Rattle.agv_stock.specs.Rooms.{is_at}
 use Rattle.agv_stock.specs.declared.place.Place.{Place}
 use Rattle.agv_world.specs.StockInvariant.{ActionView, loads_on_vehicle, coming, action_view, action_views, action_views_by, action_views_for, action_views_of, stored}
-use Rattle.agv_world.specs.GoodOrder.{HasTrip, IsVehicle}
+use Rattle.agv_world.specs.ConsistentTrips.{HasTrip, IsVehicle}
 use Rattle.agv_world.specs.Lawful.{HasAct}
 use Rattle.agv_world.specs.Questions.{loads_at, loads_on, reserved}
 use Rattle.agv_world.specs.Worlds.{Vehicle, World}

@@ -15,7 +15,7 @@ use Rattle.agv_stock.specs.Phase.{is_live}
 use Rattle.agv_stock.specs.declared.job.Phase.{Phase}
 use Rattle.agv_stock.specs.declared.job.Phase.TheVariants as phase
 use Rattle.agv_stock.specs.declared.place.Place.{Place}
-use Rattle.agv_world.specs.GoodOrder.{HasConsistentTrips}
+use Rattle.agv_world.specs.ConsistentTrips.{HasConsistentTrips}
 use Rattle.agv_world.specs.Kept.{Keeps}
 use Rattle.agv_world.specs.Lawful.{HasAct, IsJob, carried_at, station_for}
 use Rattle.agv_world.specs.LoadTests.{are_acts, are_jobs_apart, is_act, is_act_of, is_apart_from, is_as_acted, is_carried_at, is_done, is_riding, is_same_job, is_shared, names_its_job}

@@ -8,7 +8,7 @@ use Rattle.agv_order.specs.declared.act.Act.{Act}
 use Rattle.agv_order.specs.declared.trip.Trip.{Trip}
 use Rattle.agv_stock.specs.Rooms.{is_on}
 use Rattle.agv_stock.specs.declared.place.Place.{Place}
-use Rattle.agv_world.specs.GoodOrder.{IsVehicle}
+use Rattle.agv_world.specs.ConsistentTrips.{IsVehicle}
 use Rattle.agv_world.specs.Lawful.{is_to_drop, other_loads}
 use Rattle.agv_world.specs.LoadTests.{acts_in, acts_of, are_within_capacity, is_within_capacity, loads_of_others}
 use Rattle.agv_world.specs.Questions.{loads_on}

@@ -9,7 +9,7 @@ use Rattle.agv_order.specs.declared.act.Act.{Act}
 use Rattle.agv_order.specs.declared.trip.Trip.{Trip}
 use Rattle.agv_stock.specs.Phase.{is_live}
 use Rattle.agv_stock.specs.declared.place.Place.{Place}
-use Rattle.agv_world.specs.GoodOrder.{HasConsistentTrips}
+use Rattle.agv_world.specs.ConsistentTrips.{HasConsistentTrips}
 use Rattle.agv_world.specs.Kept.{Keeps}
 use Rattle.agv_world.specs.Lawful.{HasAct, HasLawfulLoads, HasLawfulVehicles, IsJob, carried_at}
 use Rattle.agv_world.specs.LoadTests.{are_acts, are_jobs, are_jobs_apart, are_within_capacity, are_lawful_loads, are_loads_few, are_places, has_one_job_each, have_room}

@@ -14,7 +14,7 @@ use Rattle.agv_stock.specs.declared.job.Phase.{Phase}
 use Rattle.agv_stock.specs.declared.job.Phase.TheVariants as phase
 use Rattle.agv_stock.specs.declared.place.Place.{Place}
 use Rattle.agv_stock.specs.declared.place.Place.TheVariants as place
-use Rattle.agv_world.specs.GoodOrder.{HasConsistentTrips}
+use Rattle.agv_world.specs.ConsistentTrips.{HasConsistentTrips}
 use Rattle.agv_world.specs.Kept.{Keeps}
 use Rattle.agv_world.specs.Lawful.{IsJob, IsJobIn, IsPlaceIn, IsToDrop, is_to_drop}
 use Rattle.agv_world.specs.LoadTests.{are_jobs, are_loads_few, are_places, has_station, is_carried, is_drop_of, is_dropped_by, is_in_phase, is_job, is_job_row, is_place, is_placed_at, is_placed_on}

@@ -11,7 +11,7 @@ use Rattle.agv_header.specs.declared.key.VehicleKey.{VehicleKey}
 use Rattle.agv_order.specs.declared.trip.Trip.{Trip}
 use Rattle.agv_track.specs.Footprints.{footprint_of}
 use Rattle.agv_track.specs.Holds.{Holds, is_in, first_held, other_holder, or_further}
-use Rattle.agv_world.specs.GoodOrder.{IsVehicle, IsHolder, HasTrip, HasOneTripAnOrder, SharesNothing}
+use Rattle.agv_world.specs.ConsistentTrips.{IsVehicle, IsHolder, HasTrip, HasOneTripAnOrder, SharesNothing}
 use Rattle.agv_world.specs.Rows.{rows_of, standing_of}
 use Rattle.agv_world.specs.VehicleChanges.{with_vehicle}
 use Rattle.agv_world.specs.Worlds.{Vehicle, World}

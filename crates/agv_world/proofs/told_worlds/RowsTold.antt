@@ -8,7 +8,7 @@ use Rattle.agv_header.specs.declared.key.VehicleKey.{VehicleKey}
 use Rattle.agv_order.specs.WellFormed.{IsEdgeOf}
 use Rattle.agv_order.specs.declared.act.Act.{Act}
 use Rattle.agv_order.specs.declared.trip.Trip.{Trip}
-use Rattle.agv_world.specs.GoodOrder.{HasTrip, HasConsistentTrips, IsVehicle}
+use Rattle.agv_world.specs.ConsistentTrips.{HasTrip, HasConsistentTrips, IsVehicle}
 use Rattle.agv_world.specs.Kept.{Keeps}
 use Rattle.agv_world.specs.Lawful.{HasAct, HasLawfulVehicles}
 use Rattle.agv_world.specs.Rows.{rows_of_trip, trip_row}

@@ -2,7 +2,7 @@
 use Rattle.std.proofs.Common.{◌≡◌, Option, Some, None, option_map, refl, sym, ap, ◌∙◌}
 use Rattle.std.specs.FinMap.{get}
 use Rattle.agv_header.specs.declared.key.VehicleKey.{VehicleKey}
-use Rattle.agv_world.specs.GoodOrder.{IsVehicle}
+use Rattle.agv_world.specs.ConsistentTrips.{IsVehicle}
 use Rattle.agv_world.specs.Told.{vehicle_in, world_of}
 use Rattle.agv_world.specs.Worlds.{Vehicle}
 use Rattle.agv_world.specs.declared.row.VehicleRow.{VehicleRow}

@@ -11,7 +11,7 @@ use Rattle.agv_header.specs.Name.{name_cmp}
 use Rattle.agv_header.specs.declared.key.VehicleKey.{VehicleKey}
 use Rattle.agv_layout.specs.declared.edge.EdgeEnds.{EdgeEnds}
 use Rattle.agv_order.specs.declared.trip.Trip.{Trip}
-use Rattle.agv_world.specs.GoodOrder.{HasConsistentTrips, HasTrip}
+use Rattle.agv_world.specs.ConsistentTrips.{HasConsistentTrips, HasTrip}
 use Rattle.agv_world.specs.Kept.{Keeps}
 use Rattle.agv_world.specs.Keys.{leg_cmp}
 use Rattle.agv_world.specs.Rows.{legs_of_trip, rows_of_trip, trip_row}

@@ -10,7 +10,7 @@ use Rattle.agv_header.specs.declared.key.VehicleKey.{VehicleKey}
 use Rattle.agv_layout.specs.Layout.{edge_of}
 use Rattle.agv_layout.specs.declared.edge.Edge.{Edge}
 use Rattle.agv_order.specs.declared.trip.Trip.{Trip}
-use Rattle.agv_world.specs.GoodOrder.{HasOneTripAnOrder, HasTrip}
+use Rattle.agv_world.specs.ConsistentTrips.{HasOneTripAnOrder, HasTrip}
 use Rattle.agv_world.specs.KeyOrders.{leg_cmp-IsAntisymmetric}
 use Rattle.agv_world.specs.Keys.{leg_cmp}
 use Rattle.agv_world.specs.LawfulTests.{are_in_turn, is_first, is_name_of, order_in}

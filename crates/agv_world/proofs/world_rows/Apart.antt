@@ -3,7 +3,7 @@ use Rattle.std.proofs.Common.{sym, ◌∙◌}
 use Rattle.agv_header.specs.Key.{key_cmp}
 use Rattle.agv_header.specs.KeyOrder.{key_cmp-IsAntisymmetric}
 use Rattle.agv_header.specs.Name.{name_cmp}
-use Rattle.agv_world.specs.GoodOrder.{HasOneTripAnOrder}
+use Rattle.agv_world.specs.ConsistentTrips.{HasOneTripAnOrder}
 use Rattle.agv_world.specs.Keys.{leg_cmp}
 use Rattle.agv_world.specs.Rows.{vehicle_rows, trip_rows, leg_rows}
 use Rattle.agv_world.specs.Worlds.{World}

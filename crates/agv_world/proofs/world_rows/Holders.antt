@@ -11,7 +11,7 @@ use Rattle.agv_header.specs.ThingOrder.{thing_cmp-total, thing_cmp-IsAntisymmetr
 use Rattle.agv_header.specs.declared.key.Thing.{Thing}
 use Rattle.agv_header.specs.declared.key.VehicleKey.{VehicleKey}
 use Rattle.agv_track.specs.Footprints.{footprint_of}
-use Rattle.agv_world.specs.GoodOrder.{IsHolder, SharesNothing}
+use Rattle.agv_world.specs.ConsistentTrips.{IsHolder, SharesNothing}
 use Rattle.agv_world.specs.Rows.{rows_of, hold_rows, standing_of}
 use Rattle.agv_world.specs.Worlds.{Vehicle, World}
 use Rattle.agv_world.proofs.lists.Entries.{no_more, same_Some, is_same}

@@ -1,4 +1,4 @@
--- What makes the rows of a world tell which world it is.
+-- Worlds whose trips are consistent with each other: their rows tell which world it is.
 use Rattle.std.specs.Prelude.{◌≡◌, Some}
 use Rattle.std.specs.FinMap as map
 use Rattle.std.specs.List.{AllByRecursion, Contains}
