@@ -32,9 +32,9 @@ def load_builder() -> types.ModuleType:
 
 
 BUILDER = load_builder()
-JOBS = BUILDER.share(BUILDER.machine_memory(), len(os.sched_getaffinity(0)))[0] or 1
+JOBS, NEEDS = BUILDER.share(BUILDER.machine_memory(), BUILDER.PLAIN_JOB, len(os.sched_getaffinity(0)))
 # The calls of a build: each library behind those that it uses, and then the program.
-BUILD = ['agv_first lib --jobs %d' % JOBS, 'agv_middle lib --jobs %d' % JOBS, 'agv_app run -- replay --db memory --at 0']
+BUILD = ['agv_first lib --jobs %d' % (JOBS or 1), 'agv_middle lib --jobs %d' % (JOBS or 1), 'agv_app run -- replay --db memory --at 0']
 
 
 class Building(Tree):
@@ -68,7 +68,7 @@ class Building(Tree):
             self.assertRegex(file.read(), r'(?m)^\| `\./desk` from nothing[^|]*\| \d+ min( \d+ s)? \|')
 
     def want_room_for_two(self) -> None:
-        if not BUILDER.share(BUILDER.machine_memory() - BUILDER.share(BUILDER.machine_memory(), len(os.sched_getaffinity(0)))[1], 1)[0]:
+        if not BUILDER.share(BUILDER.machine_memory() - NEEDS, BUILDER.PLAIN_JOB, 1)[0]:
             self.skipTest('this machine has no memory for two crates at a time')
 
     def test_crates_are_built_side_by_side(self) -> None:
@@ -81,11 +81,28 @@ class Building(Tree):
         self.assertEqual(self.read('build/log'), 'logic=proved functions=1\n' * 4)
 
     def test_jobs_share_cores_and_memory(self) -> None:
-        self.assertEqual(BUILDER.share(24.6e9, 4), (4, 9.5e9))
-        self.assertEqual(BUILDER.share(15.1e9, 4), (4, 9.5e9))
-        self.assertEqual(BUILDER.share(5.6e9, 4), (1, 5e9))
-        self.assertEqual(BUILDER.share(6.5e9, 4), (2, 6.5e9))
-        self.assertEqual(BUILDER.share(4.9e9, 4), (0, 0))
+        for memory, first_job, most, wanted in (
+                (24.6e9, 5e9, 4, (4, 9.5e9)), (9.5e9, 5e9, 4, (4, 9.5e9)), (9.4e9, 5e9, 4, (3, 8e9)), (5.6e9, 5e9, 4, (1, 5e9)),
+                (6.5e9, 5e9, 4, (2, 6.5e9)), (4.9e9, 5e9, 4, (0, 0)), (24.6e9, 2e9, 2, (2, 3.5e9)), (24.6e9, 2e9, 1, (1, 2e9))):
+            self.assertEqual(BUILDER.share(memory, first_job, most), wanted, (memory, first_job, most))
+
+    def test_a_crate_over_the_kits_sqlite_takes_more_memory(self) -> None:
+        lines = ['agv_plain: json', 'agv_tables: agv_plain sqlite sqlite_value', 'agv_over: agv_tables']
+        self.assertEqual([it.first_job for it in BUILDER.read_crates(lines)], [BUILDER.PLAIN_JOB, BUILDER.SQLITE_JOB, BUILDER.SQLITE_JOB])
+
+    def test_the_longer_the_chain_the_more_jobs(self) -> None:
+        self.assertEqual([BUILDER.rank(chain, 100, 4) for chain in (100, 91, 90, 51, 50, 1)], [(4, 0), (4, 0), (2, 0), (2, 0), (2, 10), (2, 10)])
+        self.assertEqual([BUILDER.rank(chain, 100, 1) for chain in (100, 1)], [(1, 0), (1, 10)])
+
+    def test_what_little_follows_uses_what_the_others_leave(self) -> None:
+        """A crate of which few bytes follow is built with a higher niceness."""
+        self.set_crates(TWO)
+        self.write('crates/agv_left/src/lib.rt', 'x' * 10000)
+        self.note('niceness')
+        self.assertEqual(self.run_desk('replay')[0], 3)
+        own = os.nice(0)
+        self.assertEqual([self.read(os.path.join(self.notes, 'niceness-' + it)).strip() for it in ('agv_first', 'agv_left', 'agv_right', 'agv_app')],
+                         [str(min(19, own + more)) for more in (0, 0, 10, 0)])
 
     def test_the_longest_chain_of_crates_begins_first(self) -> None:
         lines = ['agv_small:', 'agv_large:', 'agv_over_small: agv_small', 'agv_app: agv_large agv_over_small']

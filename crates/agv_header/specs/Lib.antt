@@ -6,6 +6,8 @@ pub mod Moment
 pub mod Name
 pub mod Padded
 pub mod Refusal
+pub mod SchemaNumber
+pub mod Spread
 pub mod Stamp
 pub mod ThingOrder
 pub mod Topic

@@ -22,7 +22,7 @@ use Rattle.agv_world.specs.Keys.{use_cmp}
 use Rattle.agv_world.specs.Lawful.{IsKey, IsLawful, IsPlaceIn, IsRestAt, IsVehicleOf}
 use Rattle.agv_world.specs.Questions.{is_used, row_of}
 use Rattle.agv_world.specs.Rows.{hold_rows, rows_of, standing_of, used_names, vehicle_rows}
-use Rattle.agv_world.specs.Spread.{spread}
+use Rattle.agv_header.specs.Spread.{spread}
 use Rattle.agv_world.specs.Worlds.{Vehicle, World}
 use Rattle.agv_world.specs.declared.key.UseKey.{UseKey}
 use Rattle.agv_world.specs.declared.key.UseKind.{UseKind}

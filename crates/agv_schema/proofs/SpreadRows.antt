@@ -6,7 +6,7 @@ use Rattle.std.specs.List.{AllByRecursion}
 use Rattle.std.specs.Option.{option_or}
 use Rattle.std.specs.Ordering.{eq_by_cmp, ordering_reverse}
 use Rattle.sqlite_trees.proofs.ListLemmas.{all_weaker, all_both}
-use Rattle.agv_world.specs.Spread.{spread}
+use Rattle.agv_header.specs.Spread.{spread}
 use Rattle.agv_schema.proofs.MapEntries.{above, left, right}
 
 find-append : {Q Y : Type 0} (S : Q → Q → Ordering) (q : Q) (xs ys : List (Q × Y)) → find S q (xs ++ ys) ≡ option_or (find S q xs) (find S q ys)

@@ -17,7 +17,7 @@ use Rattle.agv_world.specs.Changes.{change}
 use Rattle.agv_world.specs.KeyOrders.{leg_cmp-IsAntisymmetric, leg_cmp-total}
 use Rattle.agv_world.specs.Keys.{leg_cmp}
 use Rattle.agv_world.specs.Rows.{Rows, trip_row}
-use Rattle.agv_world.specs.Spread.{edit}
+use Rattle.agv_header.specs.Spread.{edit}
 use Rattle.agv_world.specs.Told.{edge_named, edges_of, is_of_order}
 use Rattle.agv_world.specs.declared.change.Change.{Change}
 use Rattle.agv_world.specs.declared.change.Change.TheVariants as row

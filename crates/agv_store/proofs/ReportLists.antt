@@ -28,7 +28,7 @@ use Rattle.agv_track.specs.Holds.{Holds, is_own}
 use Rattle.agv_world.specs.Lawful.{IsLawful}
 use Rattle.agv_world.specs.Questions.{is_live_to, reserved}
 use Rattle.agv_world.specs.Rows.{rows_of}
-use Rattle.agv_world.specs.Spread.{spread}
+use Rattle.agv_header.specs.Spread.{spread}
 use Rattle.agv_world.specs.Worlds.{Vehicle, World, empty_layout}
 use Rattle.agv_world.specs.declared.row.JobRow.{JobRow}
 use Rattle.agv_world.specs.declared.row.VehicleRow.{VehicleRow}

@@ -7,7 +7,7 @@ ghost use Rattle.agv_world.specs.Asks.{Asks};
 ghost use Rattle.agv_world.specs.Changes.{change};
 ghost use Rattle.agv_world.specs.Questions.{trip_of};
 ghost use Rattle.agv_world.specs.Rows.{Rows};
-ghost use Rattle.agv_world.specs.Spread.{edit};
+ghost use Rattle.agv_header.specs.Spread.{edit};
 ghost use Rattle.agv_rows.specs.DecodedTrips.{HasTripRows};
 ghost use Rattle.agv_schema.specs.Connections.{IsClean, IsOpen};
 ghost use Rattle.agv_store.specs.Floors.{facts_of, world_at};

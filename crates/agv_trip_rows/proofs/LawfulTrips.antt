@@ -13,7 +13,7 @@ use Rattle.agv_order.specs.declared.act.Act.{Act}
 use Rattle.agv_order.specs.declared.trip.Trip.{Trip}
 use Rattle.agv_world.specs.Lawful.{IsLawful, NamesItsJob}
 use Rattle.agv_world.specs.Rows.{rows_of, rows_of_trip, trip_row, trip_rows}
-use Rattle.agv_world.specs.Spread.{spread}
+use Rattle.agv_header.specs.Spread.{spread}
 use Rattle.agv_world.specs.Worlds.{Vehicle, World}
 use Rattle.agv_world.specs.declared.row.TripRow.{TripRow}
 use Rattle.agv_world.proofs.lists.Entries.{entries_found, is_same, same_Some}

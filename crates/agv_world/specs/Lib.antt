@@ -1,7 +1,6 @@
 pub mod Keys
 pub mod KeyOrders
 pub mod Codes
-pub mod Spread
 pub mod Worlds
 pub mod Rows
 pub mod Changes

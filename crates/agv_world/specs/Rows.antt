@@ -6,6 +6,7 @@ use Rattle.std.specs.FinSet as set
 use Rattle.std.specs.List.{enumerate_from}
 use Rattle.agv_header.specs.Key.{key_cmp, thing_cmp}
 use Rattle.agv_header.specs.Name.{name_cmp}
+use Rattle.agv_header.specs.SchemaNumber.{schema_number}
 use Rattle.agv_header.specs.declared.key.Thing.{Thing}
 use Rattle.agv_header.specs.declared.key.VehicleKey.{VehicleKey}
 use Rattle.agv_layout.specs.declared.edge.Edge.{Edge}
@@ -16,7 +17,7 @@ use Rattle.agv_stock.specs.declared.place.Place.{Place}
 use Rattle.agv_track.specs.Footprints.{footprint_of}
 use Rattle.agv_track.specs.declared.standing.Standing.{Standing}
 use Rattle.agv_world.specs.Keys.{leg_cmp, use_cmp}
-use Rattle.agv_world.specs.Spread.{spread}
+use Rattle.agv_header.specs.Spread.{spread}
 use Rattle.agv_world.specs.Worlds.{Vehicle, World}
 use Rattle.agv_world.specs.declared.key.LegKey.{LegKey}
 use Rattle.agv_world.specs.declared.key.UseKey.{UseKey}
@@ -93,10 +94,6 @@ abbrev pub used_names : World → List UseKey
 used_names world =
     map (λ name. record { kind = used.Order; name = name }) (set.items world.orders)
     ++ map (λ name. record { kind = used.Reference; name = name }) (set.items world.references)
-
--- the number of the schema, as the row of `meta` has it
-abbrev pub schema_number : ℕ
-schema_number = 2
 
 -- the rows of a world
 abbrev pub rows_of : World → Rows

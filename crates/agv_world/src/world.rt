@@ -3,7 +3,7 @@ ghost use Rattle.std.specs.Prelude.{◌≡◌, [], IfOk, IsOk, OnOk, OnErr};
 ghost use Rattle.agv_world.specs.Changes.{change, changed};
 ghost use Rattle.agv_world.specs.Kept.{Agrees, Keeps};
 ghost use Rattle.agv_world.specs.Rows.{Rows, rows_of};
-ghost use Rattle.agv_world.specs.Spread.{edit};
+ghost use Rattle.agv_header.specs.Spread.{edit};
 ghost use Rattle.agv_world.specs.Worlds.{World as WorldOf, empty_world};
 
 use crate::{

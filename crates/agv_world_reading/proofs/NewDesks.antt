@@ -10,6 +10,8 @@ use Rattle.std.specs.List.{list_any}
 use Rattle.std.specs.Ordering.{eq_by_cmp, nat_cmp}
 use Rattle.agv_header.specs.Key.{key_cmp, thing_cmp}
 use Rattle.agv_header.specs.Name.{name_cmp}
+use Rattle.agv_header.specs.SchemaNumber.{schema_number}
+use Rattle.agv_header.specs.Spread.{spread}
 use Rattle.agv_header.specs.declared.key.Thing.{Thing}
 use Rattle.agv_header.specs.declared.key.VehicleKey.{VehicleKey}
 use Rattle.agv_layout.specs.declared.edge.EdgeEnds.{EdgeEnds}
@@ -18,8 +20,7 @@ use Rattle.agv_stock.specs.declared.place.Place.{Place}
 use Rattle.agv_world.specs.KeyOrders.{use_cmp-total}
 use Rattle.agv_world.specs.Keys.{leg_cmp, use_cmp}
 use Rattle.agv_trip_rows.specs.TripRows.{acts_of, journeys_of}
-use Rattle.agv_world.specs.Rows.{Rows, rows_of, vehicle_rows, trip_rows, leg_rows, hold_rows, schema_number}
-use Rattle.agv_world.specs.Spread.{spread}
+use Rattle.agv_world.specs.Rows.{Rows, rows_of, vehicle_rows, trip_rows, leg_rows, hold_rows}
 use Rattle.agv_world.specs.Worlds.{empty_world}
 use Rattle.agv_world.specs.declared.key.LegKey.{LegKey}
 use Rattle.agv_world.specs.declared.key.UseKey.{UseKey}

@@ -23,7 +23,7 @@ use Rattle.agv_world.specs.ConsistentTrips.{HasTrip, SharesNothing}
 use Rattle.agv_world.specs.Lawful.{HasLawfulVehicles}
 use Rattle.agv_world.specs.Questions.{row_of, trip_of}
 use Rattle.agv_world.specs.Rows.{hold_rows, rows_of, standing_of}
-use Rattle.agv_world.specs.Spread.{spread}
+use Rattle.agv_header.specs.Spread.{spread}
 use Rattle.agv_world.specs.Worlds.{Vehicle, World}
 use Rattle.agv_world.specs.declared.row.VehicleRow.{VehicleRow}
 use Rattle.agv_desk.specs.Histories.{CancelsSince}

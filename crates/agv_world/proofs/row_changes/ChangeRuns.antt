@@ -9,7 +9,7 @@ use Rattle.agv_layout.specs.declared.station.StationSite.{StationSite}
 use Rattle.agv_stock.specs.declared.place.Place.{Place}
 use Rattle.agv_world.specs.Changes.{change, changed}
 use Rattle.agv_world.specs.Rows.{Rows}
-use Rattle.agv_world.specs.Spread.{edit}
+use Rattle.agv_header.specs.Spread.{edit}
 use Rattle.agv_world.specs.TableChanges.{written, load_changes, job_changes}
 use Rattle.agv_world.specs.declared.change.Change.{Change}
 use Rattle.agv_world.specs.declared.change.Change.TheVariants as row

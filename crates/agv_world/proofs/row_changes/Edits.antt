@@ -4,7 +4,7 @@ use Rattle.std.specs.Cmp.{IsTotalOrder}
 use Rattle.std.specs.FinMap.{FinMap, get, get-insert, get-remove}
 use Rattle.std.specs.List.{list_any}
 use Rattle.std.specs.Ordering.{eq_by_cmp}
-use Rattle.agv_world.specs.Spread.{edit}
+use Rattle.agv_header.specs.Spread.{edit}
 
 -- the rows, written or removed one after the other
 abbrev pub edit_all : {Q Y : Type 0} {S : Q → Q → Ordering} → List (Q × Option Y) → FinMap S Y → FinMap S Y

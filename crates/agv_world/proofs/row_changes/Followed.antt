@@ -14,7 +14,7 @@ use Rattle.agv_world.specs.ConsistentTrips.{HasOneTripAnOrder, SharesNothing}
 use Rattle.agv_world.specs.KeyOrders.{leg_cmp-total, leg_cmp-IsAntisymmetric}
 use Rattle.agv_world.specs.Keys.{leg_cmp}
 use Rattle.agv_world.specs.Rows.{Rows, rows_of, vehicle_rows, trip_rows, rows_of_trip, leg_rows, legs_of_trip, hold_rows, standing_of}
-use Rattle.agv_world.specs.Spread.{spread}
+use Rattle.agv_header.specs.Spread.{spread}
 use Rattle.agv_world.specs.VehicleChanges.{KeepsOrderAndEdges, StandsAsBefore, row_before, trip_before, held_before, own_changes, trip_changes, hold_changes, vehicle_changes, with_vehicle}
 use Rattle.agv_world.specs.Worlds.{Vehicle, World}
 use Rattle.agv_world.specs.declared.key.LegKey.{LegKey}

@@ -3,7 +3,7 @@ use Rattle.std.proofs.Common.{◌≡◌, ◌≢◌, inl, inr, Bool, true, false,
 use Rattle.std.specs.Cmp.{IsTotalOrder}
 use Rattle.std.specs.FinMap.{FinMap, IsAntisymmetric, get, insert, find, same_map}
 use Rattle.std.specs.Option.{option_or}
-use Rattle.agv_world.specs.Spread.{spread}
+use Rattle.agv_header.specs.Spread.{spread}
 use Rattle.agv_world.proofs.lists.Entries.{no_more, alike}
 use Rattle.agv_world.proofs.lists.Puts.{here, there, put_cases}
 use Rattle.agv_world.proofs.world_rows.Spreads.{Gives, IsApart, IsSpread, spread_is}

@@ -10,7 +10,7 @@ use Rattle.agv_header.specs.declared.key.VehicleKey.{VehicleKey}
 use Rattle.agv_track.specs.Footprints.{footprint_of}
 use Rattle.agv_world.specs.Questions.{holder_of}
 use Rattle.agv_world.specs.Rows.{hold_rows, standing_of}
-use Rattle.agv_world.specs.Spread.{spread}
+use Rattle.agv_header.specs.Spread.{spread}
 use Rattle.agv_world.specs.Told.{is_held_by, vehicle_in, vehicles_in, vehicles_of, world_of}
 use Rattle.agv_world.specs.Worlds.{Vehicle}
 use Rattle.agv_world.specs.declared.row.VehicleRow.{VehicleRow}

@@ -5,7 +5,7 @@ use Rattle.std.specs.FinMap.{FinMap, IsAntisymmetric, get, entries, find, get-en
 use Rattle.std.specs.List.{AllByRecursion, flat_map}
 use Rattle.std.specs.Option.{option_or}
 use Rattle.std.specs.Ordering.{eq_by_cmp}
-use Rattle.agv_world.specs.Spread.{spread}
+use Rattle.agv_header.specs.Spread.{spread}
 use Rattle.agv_world.proofs.lists.Entries.{no_more, same_Some, is_same, entries_found}
 
 pub find-append : {Q Y : Type 0} (S : Q → Q → Ordering) (q : Q) (xs ys : List (Q × Y)) → find S q (xs ++ ys) ≡ option_or (find S q xs) (find S q ys)

@@ -16,7 +16,7 @@ use Rattle.agv_world.specs.ConsistentTrips.{HasConsistentTrips, HasTrip}
 use Rattle.agv_world.specs.KeyOrders.{leg_cmp-total}
 use Rattle.agv_world.specs.Keys.{leg_cmp}
 use Rattle.agv_world.specs.Rows.{Rows, rows_of, vehicle_rows, trip_rows, rows_of_trip, trip_row, leg_rows, legs_of_trip}
-use Rattle.agv_world.specs.Spread.{spread}
+use Rattle.agv_header.specs.Spread.{spread}
 use Rattle.agv_world.specs.Worlds.{Vehicle, World}
 use Rattle.agv_world.specs.declared.key.LegKey.{LegKey}
 use Rattle.agv_world.specs.declared.row.TripRow.{TripRow}
