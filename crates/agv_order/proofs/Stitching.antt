@@ -2,13 +2,13 @@
 use Rattle.std.proofs.Common.{◌≡◌, ℕ, ◌+◌, ◌<◌, length, get_or, take, true, false, cond, ◌&&◌, ◌==◌, List, [], ◌∷◌, ◌++◌, Option, None, Some, refl, sym, ◌∙◌, ap, nat_eq}
 use Rattle.std.proofs.lemmas.List.{append-nil, nil_from_length}
 use Rattle.std.proofs.lemmas.List.Elements.{filter_more}
-use Rattle.std.specs.List.{filter, slice_get}
+use Rattle.std.specs.List.{filter}
 use Rattle.std.specs.Option.{option_map, option_to_list}
 use Rattle.std.specs.Cmp.Lexicographic.{pointwise}
 use Rattle.agv_message.specs.declared.order.OrderNode.{OrderNode}
 use Rattle.agv_order.specs.declared.stitch.Mark.{Mark}
-use Rattle.agv_order.specs.Joins.{front_of, is_stitched}
-use Rattle.agv_order.specs.Stitch.{is_released, last_of, mark_of}
+use Rattle.agv_order.specs.Joins.{front_of, is_stitching_node, last_of}
+use Rattle.agv_order.specs.Stitch.{is_released, mark_of}
 
 pub last_push : {A : Type 0} (xs : List A) (x : A) → last_of (xs ++ x ∷ []) ≡ Some x
 last_push [] x = refl
@@ -20,40 +20,22 @@ front_push [] x = refl
 front_push (y ∷ []) x = refl
 front_push (y ∷ (z ∷ zs)) x = ap (λ ys. y ∷ ys) (front_push (z ∷ zs) x)
 
-pub stitched_nil : (base : List OrderNode) → is_stitched base [] ≡ false
-stitched_nil [] = refl
-stitched_nil (x ∷ []) = refl
-stitched_nil (x ∷ (y ∷ ys)) = stitched_nil (y ∷ ys)
+pub not_without_last : (last first : Option OrderNode) → None ≡ option_map mark_of last → is_stitching_node last first ≡ false
+not_without_last None first is = refl
+not_without_last (Some node) first is = cc
 
-pub stitched_none : (base nodes : List OrderNode) → option_map mark_of (last_of base) ≡ None → is_stitched base nodes ≡ false
-stitched_none [] nodes none = refl
-stitched_none (x ∷ []) nodes none = cc
-stitched_none (x ∷ (y ∷ ys)) nodes none = stitched_none (y ∷ ys) nodes none
+pub not_without_first : (last : Option OrderNode) → is_stitching_node last None ≡ false
+not_without_first None = refl
+not_without_first (Some node) = refl
 
-pub stitched_some :
-    (base : List OrderNode) (first : OrderNode) (nodes : List OrderNode) (last : Mark)
-    → option_map mark_of (last_of base) ≡ Some last
-    → is_stitched base (first ∷ nodes) ≡ (pointwise nat_eq last.id first.id && last.seq == first.seq)
-stitched_some [] first nodes last here = cc
-stitched_some (x ∷ []) first nodes last here =
-    let same : mark_of x ≡ last = cc in
+pub at_both :
+    (last : Option OrderNode) (first : OrderNode) (mark : Mark)
+    → Some mark ≡ option_map mark_of last
+    → is_stitching_node last (Some first) ≡ (pointwise nat_eq mark.id first.id && mark.seq == first.seq)
+at_both None first mark is = cc
+at_both (Some node) first mark is =
+    let same : mark_of node ≡ mark = cc in
     ap (λ (m : Mark). pointwise nat_eq m.id first.id && m.seq == first.seq) same
-stitched_some (x ∷ (y ∷ ys)) first nodes last here = stitched_some (y ∷ ys) first nodes last here
-
--- where both are there, the update is stitched where the first of its nodes is the last of the base
-pub stitched_at :
-    (base nodes : List OrderNode) (first : OrderNode) (last : Mark)
-    → Some first ≡ slice_get nodes 0
-    → Some last ≡ option_map mark_of (last_of base)
-    → is_stitched base nodes ≡ (pointwise nat_eq last.id first.id && last.seq == first.seq)
-stitched_at base [] first last begins ends = cc
-stitched_at base (node ∷ nodes) first last begins ends =
-    let same : node ≡ first = cc in
-    stitched_some base node nodes last (sym ends) ∙ ap (λ (n : OrderNode). pointwise nat_eq last.id n.id && last.seq == n.seq) same
-
-pub unstitched_at : (base nodes : List OrderNode) → None ≡ slice_get nodes 0 → is_stitched base nodes ≡ false
-unstitched_at base [] ends = stitched_nil base
-unstitched_at base (node ∷ nodes) ends = cc
 
 -- ---- one more node
 

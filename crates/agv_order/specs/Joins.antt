@@ -1,6 +1,7 @@
 -- How a vehicle joins an order message to the order that it holds (VDA 5050 2.0, order updates).
 use Rattle.std.specs.Prelude.{◌≡◌, ◌⊎◌, ◌&&◌, ◌==◌, ◌++◌, nat_eq, nat_lt, Bool, false, if◌then◌else◌, List, [], ◌∷◌, Option, None, Some, Result, Ok, Err, filter}
 use Rattle.std.specs.Cmp.Lexicographic.{pointwise}
+use Rattle.std.specs.List.{slice_get}
 use Rattle.agv_message.specs.declared.order.OrderEdge.{OrderEdge}
 use Rattle.agv_message.specs.declared.order.OrderMessage.{OrderMessage}
 use Rattle.agv_message.specs.declared.order.OrderNode.{OrderNode}
@@ -23,16 +24,24 @@ front_of [] = []
 front_of (x ∷ []) = []
 front_of (x ∷ (y ∷ ys)) = x ∷ front_of (y ∷ ys)
 
+-- the last of a list
+abbrev pub last_of : {A : Type 0} → List A → Option A
+last_of [] = None
+last_of (x ∷ []) = Some x
+last_of (x ∷ (y ∷ ys)) = last_of (y ∷ ys)
+
 -- both are node `nodeId` at the same place of the order
 abbrev pub is_same_node : OrderNode → OrderNode → Bool
 is_same_node one other = pointwise nat_eq one.id other.id && one.seq == other.seq
 
--- the first of the nodes of an update is the last of the base, the stitching node; both are there
+-- the last node of the base is the first of an update, the stitching node: both are there
+abbrev pub is_stitching_node : Option OrderNode → Option OrderNode → Bool
+is_stitching_node None first = false
+is_stitching_node (Some last) None = false
+is_stitching_node (Some last) (Some first) = is_same_node last first
+
 abbrev pub is_stitched : List OrderNode → List OrderNode → Bool
-is_stitched [] nodes = false
-is_stitched (last ∷ []) [] = false
-is_stitched (last ∷ []) (first ∷ nodes) = is_same_node last first
-is_stitched (node ∷ (next ∷ base)) nodes = is_stitched (next ∷ base) nodes
+is_stitched base nodes = is_stitching_node (last_of base) (slice_get nodes 0)
 
 -- the base without its last node, and then the message
 abbrev pub stitched : OrderMessage → OrderMessage → OrderMessage

@@ -1,5 +1,5 @@
 -- What the code of a join looks at. No public clause cites this.
-use Rattle.std.specs.Prelude.{List, [], ◌∷◌, Bool, Option, None, Some}
+use Rattle.std.specs.Prelude.{Bool}
 use Rattle.agv_message.specs.declared.order.OrderNode.{OrderNode}
 use Rattle.agv_order.specs.declared.stitch.Mark.{Mark}
 
@@ -10,9 +10,3 @@ is_released node = node.released
 -- the node and its place in the order
 abbrev pub mark_of : OrderNode → Mark
 mark_of node = record { id = node.id; seq = node.seq }
-
--- the last of a list
-abbrev pub last_of : {A : Type 0} → List A → Option A
-last_of [] = None
-last_of (x ∷ []) = Some x
-last_of (x ∷ (y ∷ ys)) = last_of (y ∷ ys)

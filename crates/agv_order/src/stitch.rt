@@ -2,8 +2,8 @@
 ghost use Rattle.std.specs.Prelude.{◌≡◌, ◌++◌, IfOk, filter};
 ghost use Rattle.std.specs.Option.{option_map};
 ghost use Rattle.agv_message.specs.declared.order.OrderEdge.{OrderEdge as Edge};
-ghost use Rattle.agv_order.specs.Joins.{front_of, is_stitched, stitched};
-ghost use Rattle.agv_order.specs.Stitch.{is_released, last_of, mark_of};
+ghost use Rattle.agv_order.specs.Joins.{front_of, is_stitched, last_of, stitched};
+ghost use Rattle.agv_order.specs.Stitch.{is_released, mark_of};
 
 use agv_header::{Memory, Name};
 use agv_message::{OrderEdge, OrderMessage, OrderNode};

@@ -1,7 +1,8 @@
 use Rattle.std.proofs.Common.{Some, ap, sym, ◌∙◌}
 use Rattle.std.specs.Option.{option_map}
 use Rattle.agv_order.specs.declared.stitch.Mark.{Mark}
-use Rattle.agv_order.specs.Stitch.{last_of, mark_of}
+use Rattle.agv_order.specs.Joins.{last_of}
+use Rattle.agv_order.specs.Stitch.{mark_of}
 use Rattle.agv_order.proofs.Stitching.{last_more, last_same}
 use Rattle.agv_order.proofs.stitch.last_released.Goals.{then-node, else-node}
 use Rattle.agv_order.proofs.stitch.last_released.Goals as goal
