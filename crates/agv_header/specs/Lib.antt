@@ -1,4 +1,5 @@
 pub mod Calendar
+pub mod Count
 pub mod Each
 pub mod Key
 pub mod KeyOrder
