@@ -1,4 +1,4 @@
--- Words that the calls of several families share: names that are used once, counts and their limit, the goal of a load and what a vehicle may hold (this project's profile).
+-- Words that the calls of several families share: names that are used once, the goal of a load and what a vehicle may hold (this project's profile).
 use Rattle.std.specs.Prelude.{ℕ, not, Bool, true, false, is_some, List, Option, None, Some}
 use Rattle.agv_header.specs.declared.key.Thing.{Thing}
 use Rattle.agv_header.specs.declared.key.VehicleKey.{VehicleKey}
@@ -13,11 +13,7 @@ use Rattle.agv_world.specs.declared.key.UseKey.{UseKey}
 use Rattle.agv_world.specs.declared.key.UseKind.TheVariants as used
 use Rattle.agv_desk.specs.Outcomes.{Outcome, Move, Cause, unheld}
 
--- ---- names and counts
-
--- the most loads, jobs, orders and references, those that are over counted
-abbrev pub most : ℕ
-most = 1000000
+-- ---- names
 
 -- the reference was not used yet
 abbrev pub is_new : World → List ℕ → Bool

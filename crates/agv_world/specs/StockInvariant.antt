@@ -2,6 +2,7 @@
 use Rattle.std.specs.Prelude.{◌≡◌, ◌≢◌, ℕ, ◌+◌, ◌≤◌, ◌&&◌, not, Bool, true, false, List, [], map, count_by, Option, None, Some}
 use Rattle.std.specs.FinMap as finite
 use Rattle.std.specs.List.{slice_get}
+use Rattle.agv_header.specs.Limits.{most_records}
 use Rattle.agv_header.specs.Name.{IsName, name_cmp}
 use Rattle.agv_header.specs.declared.key.VehicleKey.{VehicleKey}
 use Rattle.agv_layout.specs.Layout.{Layout, IsStation}
@@ -123,8 +124,8 @@ pub record IsCarriedOn (carries : VehicleKey → List ActionView) (job : List �
   pub undone : action_view.finished ≡ false
 
 pub record StockInvariant (layout : Layout) (carries : VehicleKey → List ActionView) (capacity : VehicleKey → ℕ) (places : Places) (jobs : Jobs) : Type 0 where
-  pub few_loads : finite.len places ≤ 1000000
-  pub few_jobs : finite.len jobs ≤ 1000000
+  pub few_loads : finite.len places ≤ most_records
+  pub few_jobs : finite.len jobs ≤ most_records
   pub loads_named : (load : List ℕ) (place : Place) → finite.get places load ≡ Some place → IsName load
   pub jobs_named : (job : List ℕ) (row : JobRow) → finite.get jobs job ≡ Some row → IsName job
   pub known_places : (load : List ℕ) (place : Place) → finite.get places load ≡ Some place → IsKnownPlace layout place
