@@ -4,6 +4,7 @@ use Rattle.std.specs.Cmp.Lexicographic.{pointwise}
 use Rattle.std.specs.FinMap as finite
 use Rattle.std.specs.List.{AllByRecursion, list_all, list_any}
 use Rattle.std.specs.Option.{option_map}
+use Rattle.agv_header.specs.Limits.{most_records}
 use Rattle.agv_header.specs.declared.refusal.Refusal.TheVariants as refusal
 use Rattle.agv_header.specs.Name.{name_cmp}
 use Rattle.agv_layout.specs.declared.station.StationSite.{StationSite}
@@ -13,7 +14,7 @@ use Rattle.agv_world.specs.Questions.{loads_at, reserved, count_of}
 use Rattle.agv_world.specs.Worlds.{World}
 use Rattle.agv_world.specs.declared.floor.Counted.TheVariants as counted
 use Rattle.agv_desk.specs.Outcomes.{Outcome, Effect, Made, refuse_unless, answer_only}
-use Rattle.agv_desk.specs.Shared.{most, reference_key, is_in_job}
+use Rattle.agv_desk.specs.Shared.{reference_key, is_in_job}
 use Rattle.agv_desk.specs.StocktakeSteps.{Row, are_known, count_move, has_twice, is_on_vehicle, is_counted, is_here, new_place}
 use Rattle.agv_desk.specs.declared.answer.Answer.TheVariants as answer
 use Rattle.agv_desk.specs.declared.stocktake.counted_load.CountedLoad.{CountedLoad}
@@ -157,5 +158,5 @@ count_by_parts world reference stations found counted_list standing =
     refuse_unless (not (list_any (λ (one : CountedLoad). is_on_vehicle one.place) counted_list)) refusal.OnVehicle
     (refuse_unless (not (list_any (λ (load : List ℕ × Place). is_in_job world load.0) (moves_list stations found counted_list standing))) refusal.InJob
     (refuse_unless (all_have_room world counted_list (finite.entries stations)) refusal.Full
-    (refuse_unless (nat_lt (count_of world counted.References) most) refusal.Limit
+    (refuse_unless (nat_lt (count_of world counted.References) most_records) refusal.Limit
     (Made (counted_effect reference (moves_list stations found counted_list standing) counted_list)))))

@@ -1,9 +1,9 @@
 -- What a call adds to the counts of vehicles, loads, jobs, orders and references: one to one of them, or nothing (this project's profile).
 use Rattle.std.specs.Prelude.{ℕ, Bool, true, false, if◌then◌else◌, Option, None, Some}
+use Rattle.agv_header.specs.Limits.{most_records, most_vehicles}
 use Rattle.agv_world.specs.declared.floor.Counted.{Counted}
 use Rattle.agv_world.specs.declared.floor.Counted.TheVariants as counted
 use Rattle.agv_desk.specs.Causes.{is_refusal}
-use Rattle.agv_desk.specs.Shared.{most}
 use Rattle.agv_desk.specs.declared.answer.Answer.{Answer}
 use Rattle.agv_desk.specs.declared.call.Call.{Call}
 use Rattle.agv_desk.specs.declared.call.Call.TheVariants as call
@@ -44,8 +44,8 @@ added made answer what = one_more (counted_by made answer) what
 
 -- how many of a kind there may be: 100 vehicles, and 1,000,000 of each other kind
 abbrev pub limit_of : Counted → ℕ
-limit_of counted.Vehicles = 100
-limit_of counted.Loads = most
-limit_of counted.Jobs = most
-limit_of counted.Orders = most
-limit_of counted.References = most
+limit_of counted.Vehicles = most_vehicles
+limit_of counted.Loads = most_records
+limit_of counted.Jobs = most_records
+limit_of counted.Orders = most_records
+limit_of counted.References = most_records

@@ -1,6 +1,7 @@
 -- The calls of jobs (this project's profile).
 use Rattle.std.specs.Prelude.{ℕ, nat_lt, Bool, true, false, is_some, List, [], ◌∷◌, Option, None, Some}
 use Rattle.std.specs.FinMap as finite
+use Rattle.agv_header.specs.Limits.{most_records}
 use Rattle.agv_header.specs.declared.refusal.Refusal.TheVariants as refusal
 use Rattle.agv_stock.specs.Checks.{job_check}
 use Rattle.agv_stock.specs.declared.job.Phase.{Phase}
@@ -12,7 +13,7 @@ use Rattle.agv_world.specs.Worlds.{World}
 use Rattle.agv_world.specs.declared.floor.Counted.TheVariants as counted
 use Rattle.agv_world.specs.declared.row.JobRow.{JobRow}
 use Rattle.agv_desk.specs.Outcomes.{Outcome, Effect, Made, refuse_unless, refuse_if_none, checked, answer_only}
-use Rattle.agv_desk.specs.Shared.{most, goal_of, is_in_job}
+use Rattle.agv_desk.specs.Shared.{goal_of, is_in_job}
 use Rattle.agv_desk.specs.declared.answer.Answer.TheVariants as answer
 
 -- the job is written
@@ -39,7 +40,7 @@ abbrev pub add_job : World → List ℕ → List ℕ → List ℕ → Outcome
 add_job world job load to =
     checked (job_check (is_some (finite.get world.jobs job)) (finite.get world.places load) (is_in_job world load) (goal_of world (Some to)))
     (refuse_if_none (station_of_place (finite.get world.places load)) refusal.Elsewhere (λ origin.
-    refuse_unless (nat_lt (count_of world counted.Jobs) most) refusal.Limit
+    refuse_unless (nat_lt (count_of world counted.Jobs) most_records) refusal.Limit
     (Made (job_written job (record { load = load; origin = origin; target = to; phase = phase.Waiting })))))
 
 -- DELETE /jobs/{job}: NoJob, JobState where it does not wait

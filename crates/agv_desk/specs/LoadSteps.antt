@@ -1,6 +1,7 @@
 -- The calls of loads (this project's profile). A load that goes to no station goes to the checking place.
 use Rattle.std.specs.Prelude.{ℕ, nat_lt, List, [], ◌∷◌, Option, None, Some}
 use Rattle.std.specs.FinMap as finite
+use Rattle.agv_header.specs.Limits.{most_records}
 use Rattle.agv_header.specs.declared.refusal.Refusal.TheVariants as refusal
 use Rattle.agv_stock.specs.Checks.{register_check, correct_check, leave_check}
 use Rattle.agv_stock.specs.declared.place.Place.{Place}
@@ -9,7 +10,7 @@ use Rattle.agv_world.specs.Questions.{count_of}
 use Rattle.agv_world.specs.Worlds.{World}
 use Rattle.agv_world.specs.declared.floor.Counted.TheVariants as counted
 use Rattle.agv_desk.specs.Outcomes.{Outcome, Effect, Made, Registered, Recorded, refuse_unless, checked, answer_only}
-use Rattle.agv_desk.specs.Shared.{most, is_new, reference_key, goal_of, is_in_job, move_to}
+use Rattle.agv_desk.specs.Shared.{is_new, reference_key, goal_of, is_in_job, move_to}
 use Rattle.agv_desk.specs.declared.answer.Answer.TheVariants as answer
 
 -- where it is then
@@ -29,7 +30,7 @@ recorded load to reference = record (answer_only answer.Done) { moves = move_to 
 abbrev pub register_load : World → List ℕ → Option (List ℕ) → Outcome
 register_load world load station =
     checked (register_check (finite.get world.places load) (goal_of world station))
-    (refuse_unless (nat_lt (count_of world counted.Loads) most) refusal.Limit
+    (refuse_unless (nat_lt (count_of world counted.Loads) most_records) refusal.Limit
     (Made (load_registered load (place_of station))))
 
 -- POST /loads/{load}/correct: RefUsed, NoLoad, NoStation, Elsewhere, InJob, SameStation, Full, Limit
@@ -37,7 +38,7 @@ abbrev pub correct_load : World → List ℕ → List ℕ → Option (List ℕ) 
 correct_load world load reference station =
     refuse_unless (is_new world reference) refusal.RefUsed
     (checked (correct_check (finite.get world.places load) (is_in_job world load) (goal_of world station))
-    (refuse_unless (nat_lt (count_of world counted.References) most) refusal.Limit
+    (refuse_unless (nat_lt (count_of world counted.References) most_records) refusal.Limit
     (Made (recorded load (place_of station) reference))))
 
 -- POST /loads/{load}/leave: RefUsed, NoLoad, Elsewhere, InJob, Limit
@@ -45,5 +46,5 @@ abbrev pub leave_load : World → List ℕ → List ℕ → Outcome
 leave_load world load reference =
     refuse_unless (is_new world reference) refusal.RefUsed
     (checked (leave_check (finite.get world.places load) (is_in_job world load))
-    (refuse_unless (nat_lt (count_of world counted.References) most) refusal.Limit
+    (refuse_unless (nat_lt (count_of world counted.References) most_records) refusal.Limit
     (Made (recorded load place.Left reference))))

@@ -4,7 +4,9 @@ use Rattle.std.specs.Cmp.Lexicographic.{pointwise}
 use Rattle.std.specs.FinMap as finite
 use Rattle.std.specs.List.{list_all, zip}
 use Rattle.std.specs.Option.{option_map}
+use Rattle.agv_header.specs.Count.{next_number}
 use Rattle.agv_header.specs.Each.{each}
+use Rattle.agv_header.specs.Limits.{most_records}
 use Rattle.agv_header.specs.declared.key.VehicleKey.{VehicleKey}
 use Rattle.agv_header.specs.declared.refusal.Refusal.{Refusal}
 use Rattle.agv_header.specs.declared.refusal.Refusal.TheVariants as refusal
@@ -29,7 +31,7 @@ use Rattle.agv_world.specs.declared.row.JobRow.{JobRow}
 use Rattle.agv_world.specs.declared.row.VehicleRow.{VehicleRow}
 use Rattle.agv_desk.specs.JobSteps.{is_waiting}
 use Rattle.agv_desk.specs.Outcomes.{Effect, Outcome, Refused, Made, Whole, refuse_unless, refuse_if_none, answer_only}
-use Rattle.agv_desk.specs.Shared.{most, if_free, next_sent}
+use Rattle.agv_desk.specs.Shared.{if_free}
 use Rattle.agv_desk.specs.declared.answer.Answer.TheVariants as answer
 
 -- ---- words
@@ -99,8 +101,8 @@ order_sent at order key row stops jobs trip number = record (answer_only (answer
 abbrev pub send_trip : World → ℕ → List ℕ → VehicleKey → VehicleRow → List Stop → List Job → Trip → Outcome
 send_trip world at order key row stops jobs trip =
     if_free world key (footprint_of (record { node = row.node; rest = row.rest; trip = Some trip }))
-    (refuse_if_none (next_sent row.orders) refusal.Spent (λ number.
-    refuse_unless (nat_lt (count_of world counted.Orders) most) refusal.Limit
+    (refuse_if_none (next_number row.orders.count) refusal.Spent (λ number.
+    refuse_unless (nat_lt (count_of world counted.Orders) most_records) refusal.Limit
     (Made (order_sent at order key row stops jobs (Some trip) number))))
 
 -- its trip is planned: NoWalk, TooLong or Beyond; then as above
@@ -157,7 +159,7 @@ abbrev pub send_update : World → ℕ → VehicleKey → VehicleRow → Trip �
 send_update world at key row trip update edges =
     refuse_unless (can_release trip edges) refusal.Beyond
     (if_free world key (footprint_of (record { node = row.node; rest = row.rest; trip = Some (released trip edges) }))
-    (refuse_if_none (next_sent row.orders) refusal.Spent (λ number.
+    (refuse_if_none (next_number row.orders.count) refusal.Spent (λ number.
     Made (update_sent at key row (Some trip) (Some (released trip edges)) update number))))
 
 -- the vehicle can take it: WrongUpdate where the number is not the next, NotConfirmed, NotReady, InstantPending where a cancelOrder is pending; then as above

@@ -1,5 +1,5 @@
--- Words that the calls of several families share: names that are used once, counts and their limit, the goal of a load, what a vehicle may hold and the numbers of its messages (this project's profile).
-use Rattle.std.specs.Prelude.{ℕ, ◌+◌, nat_lt, not, Bool, true, false, is_some, if◌then◌else◌, List, Option, None, Some}
+-- Words that the calls of several families share: names that are used once, the goal of a load and what a vehicle may hold (this project's profile).
+use Rattle.std.specs.Prelude.{ℕ, not, Bool, true, false, is_some, List, Option, None, Some}
 use Rattle.agv_header.specs.declared.key.Thing.{Thing}
 use Rattle.agv_header.specs.declared.key.VehicleKey.{VehicleKey}
 use Rattle.agv_stock.specs.declared.goal.Goal.{Goal}
@@ -11,14 +11,9 @@ use Rattle.agv_world.specs.Rows.{rows_of}
 use Rattle.agv_world.specs.Worlds.{World}
 use Rattle.agv_world.specs.declared.key.UseKey.{UseKey}
 use Rattle.agv_world.specs.declared.key.UseKind.TheVariants as used
-use Rattle.agv_world.specs.declared.row.Sent.{Sent}
 use Rattle.agv_desk.specs.Outcomes.{Outcome, Move, Cause, unheld}
 
--- ---- names and counts
-
--- the most loads, jobs, orders and references, those that are over counted
-abbrev pub most : ℕ
-most = 1000000
+-- ---- names
 
 -- the reference was not used yet
 abbrev pub is_new : World → List ℕ → Bool
@@ -54,7 +49,3 @@ move_to load to why = record { load = load; place = to; cause = why }
 -- go on where no other vehicle holds any of the things
 abbrev pub if_free : World → VehicleKey → List Thing → Outcome → Outcome
 if_free world key things rest = unheld (first_held (rows_of world).holds key things) rest
-
--- the number of the next message of the topic; none after 4294967295
-abbrev pub next_sent : Sent → Option ℕ
-next_sent sent = if nat_lt sent.count 4294967295 then Some (sent.count + 1) else None

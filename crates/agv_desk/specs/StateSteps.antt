@@ -1,8 +1,9 @@
 -- A state message of a vehicle (VDA 5050 2.0, state; this project's profile). It looks at no place, room or holder.
-use Rattle.std.specs.Prelude.{ℕ, nat_lt, nat_eq, Bool, true, false, is_none, is_some, if◌then◌else◌, Option, None, Some, Result, Ok, Err}
+use Rattle.std.specs.Prelude.{nat_eq, Bool, true, false, is_none, is_some, if◌then◌else◌, Option, None, Some, Result, Ok, Err}
 use Rattle.std.specs.Cmp.Lexicographic.{pointwise}
 use Rattle.std.specs.List.{zip}
 use Rattle.std.specs.Option.{option_map, unwrap_or}
+use Rattle.agv_header.specs.Count.{is_fresh}
 use Rattle.agv_header.specs.Name.{as_name}
 use Rattle.agv_header.specs.declared.key.VehicleKey.{VehicleKey}
 use Rattle.agv_header.specs.declared.refusal.Refusal.{Refusal}
@@ -24,11 +25,6 @@ use Rattle.agv_desk.specs.Outcomes.{Outcome, Refused, Made, RowOnly, Whole, refu
 use Rattle.agv_desk.specs.declared.answer.Answer.TheVariants as answer
 
 -- ---- words
-
--- the state is newer than the last one that was accepted, if there was one
-abbrev pub is_fresh : Option ℕ → ℕ → Bool
-is_fresh None number = true
-is_fresh (Some last) number = nat_lt last number
 
 -- the pending action of a vehicle: its number is that of the last instantActions message
 abbrev pub pending_of : VehicleRow → Option Pending

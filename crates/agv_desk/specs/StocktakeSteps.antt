@@ -4,6 +4,7 @@ use Rattle.std.specs.Cmp.Lexicographic.{pointwise}
 use Rattle.std.specs.FinMap as finite
 use Rattle.std.specs.List.{list_all, list_any}
 use Rattle.std.specs.Option.{option_map}
+use Rattle.agv_header.specs.Limits.{most_records}
 use Rattle.agv_header.specs.declared.refusal.Refusal.TheVariants as refusal
 use Rattle.agv_layout.specs.declared.station.StationSite.{StationSite}
 use Rattle.agv_stock.specs.declared.place.Place.{Place}
@@ -12,7 +13,7 @@ use Rattle.agv_world.specs.Questions.{reserved, count_of}
 use Rattle.agv_world.specs.Worlds.{World}
 use Rattle.agv_world.specs.declared.floor.Counted.TheVariants as counted
 use Rattle.agv_desk.specs.Outcomes.{Outcome, Made, Move, Recorded, refuse_unless, answer_only}
-use Rattle.agv_desk.specs.Shared.{most, is_new, reference_key, is_in_job, move_to}
+use Rattle.agv_desk.specs.Shared.{is_new, reference_key, is_in_job, move_to}
 use Rattle.agv_desk.specs.declared.answer.Answer.TheVariants as answer
 
 -- a row: a station that was counted, and a load that was found there, if one was
@@ -137,7 +138,7 @@ count_loads world reference rows =
     refuse_unless (not (list_any (λ (row : Row). finds_on_vehicle world row.1) rows)) refusal.OnVehicle
     (refuse_unless (not (list_any (λ (move : Move). is_in_job world move.load) (count_moves world rows))) refusal.InJob
     (refuse_unless (list_all (λ (row : Row). fits world rows row.0 (finite.get world.layout.stations row.0)) rows) refusal.Full
-    (refuse_unless (nat_lt (count_of world counted.References) most) refusal.Limit
+    (refuse_unless (nat_lt (count_of world counted.References) most_records) refusal.Limit
     (Made (record (answer_only (answer.Counted (length (count_moves world rows)) (unknown_in world rows))) {
       moves = count_moves world rows;
       uses = reference_key reference ∷ [];

@@ -1,6 +1,7 @@
 -- The calls of a vehicle that move no load: it is registered, placed by a person, or begins anew (this project's profile).
 use Rattle.std.specs.Prelude.{ℕ, ◌&&◌, nat_lt, nat_le, false, is_none, List, [], ◌∷◌, Option, None, Some}
 use Rattle.std.specs.FinSet as set
+use Rattle.agv_header.specs.Limits.{most_records, most_vehicles}
 use Rattle.agv_header.specs.declared.key.Thing.TheVariants as thing
 use Rattle.agv_header.specs.declared.key.VehicleKey.{VehicleKey}
 use Rattle.agv_header.specs.declared.refusal.Refusal.TheVariants as refusal
@@ -12,7 +13,7 @@ use Rattle.agv_world.specs.declared.row.Sent.{Sent}
 use Rattle.agv_world.specs.declared.row.VehicleRow.{VehicleRow}
 use Rattle.agv_desk.specs.ActSteps.{jobs_stopped}
 use Rattle.agv_desk.specs.Outcomes.{Outcome, Effect, Made, RowOnly, Whole, refuse_unless, refuse_if_none, answer_only}
-use Rattle.agv_desk.specs.Shared.{most, is_new, reference_key, if_free}
+use Rattle.agv_desk.specs.Shared.{is_new, reference_key, if_free}
 use Rattle.agv_desk.specs.declared.answer.Answer.TheVariants as answer
 
 -- no message of the topic was sent
@@ -47,7 +48,7 @@ register_vehicle seats world key node capacity =
     refuse_unless (is_none (row_of world key)) refusal.Exists
     (refuse_unless (set.contains world.layout.nodes node) refusal.NoNode
     (if_free world key (thing.Node node ∷ [])
-    (refuse_unless (nat_lt (count_of world counted.Vehicles) 100 && (nat_lt 0 capacity && nat_le capacity seats)) refusal.Limit
+    (refuse_unless (nat_lt (count_of world counted.Vehicles) most_vehicles && (nat_lt 0 capacity && nat_le capacity seats)) refusal.Limit
     (Made (vehicle_registered key node capacity)))))
 
 -- where a person has put the vehicle: no trip, no rest, and nothing pending
@@ -70,7 +71,7 @@ place_vehicle world key reference node =
     (refuse_if_none (row_of world key) refusal.NoVehicle (λ row.
     refuse_unless (set.contains world.layout.nodes node) refusal.NoNode
     (if_free world key (thing.Node node ∷ [])
-    (refuse_unless (nat_lt (count_of world counted.References) most) refusal.Limit
+    (refuse_unless (nat_lt (count_of world counted.References) most_records) refusal.Limit
     (put_down world key row (trip_of world key) reference node)))))
 
 -- POST .../resync: NoVehicle; the number of the last state is forgotten

@@ -3,7 +3,6 @@ ghost use Rattle.std.specs.Prelude.{◌≡◌, IfOk, Some};
 ghost use Rattle.agv_world.specs.Asks.{Asks};
 ghost use Rattle.agv_desk.specs.InstantSteps.{cancel, instruct, pause, resume};
 ghost use Rattle.agv_desk.specs.Outcomes.{decided};
-ghost use Rattle.agv_desk.specs.Shared.{next_sent};
 
 use crate::decisions::{refused, row_update};
 use crate::{Answer, Decision};
@@ -73,7 +72,7 @@ fn instruct(
     if row.pending.is_some() {
         return Ok(refused(alloc, Refusal::InstantPending));
     }
-    let Some(number) = next_sent(row.instants) else {
+    let Some(number) = next_number(row.instants.count) else {
         return Ok(refused(alloc, Refusal::Spent));
     };
     row_update(
@@ -83,13 +82,6 @@ fn instruct(
         row,
         instructed(row, at, number, kind),
     )
-}
-
-// The number of the next message of the topic; none where the numbers are used up.
-fn next_sent(sent: Sent) -> Option<u32>
-    ensures { result ≡ next_sent sent }
-{
-    next_number(sent.count)
 }
 
 // The row of a vehicle that was sent this action.

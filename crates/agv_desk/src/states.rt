@@ -10,7 +10,7 @@ ghost use Rattle.agv_world.specs.declared.change.Change.TheVariants as change;
 ghost use Rattle.agv_desk.specs.ActSteps.{act_moves};
 ghost use Rattle.agv_desk.specs.Outcomes.{Move, decided};
 ghost use Rattle.agv_desk.specs.Sizes.{IsOfSize, IsShort};
-ghost use Rattle.agv_desk.specs.StateSteps.{driven, fresh_state, with_state, idle_state, is_fresh, pending_of, row_after, take_state, trip_left, trip_state};
+ghost use Rattle.agv_desk.specs.StateSteps.{driven, fresh_state, with_state, idle_state, pending_of, row_after, take_state, trip_left, trip_state};
 
 use crate::acts::{move_loads, push_jobs};
 use crate::decisions::{accepted_with, refused, row_update};
@@ -18,7 +18,7 @@ use crate::shared::standing;
 use crate::sizes::is_of_size;
 use crate::vehicle_rows::push_vehicle;
 use crate::{Answer, Decision};
-use agv_header::{Memory, Name, Refusal, VehicleKey};
+use agv_header::{Memory, Name, Refusal, VehicleKey, is_fresh};
 use agv_message::{Sequence, StateMessage, Status};
 use agv_order::{Act, Trip};
 use agv_track::{Pending, Progress, judge, judge_idle};
@@ -45,13 +45,6 @@ pub(crate) fn take_state<F: Floor>(
         return Ok(refused(alloc, Refusal::Limit));
     }
     fresh_state(alloc, floor, key, &row, trip, state)
-}
-
-// Whether the state is newer than the last one that was accepted.
-fn is_fresh(last: Option<u32>, number: u32) -> bool
-    ensures { result ≡ is_fresh last number }
-{
-    agv_header::is_fresh(last, number)
 }
 
 // A state that is newer than the last one.

@@ -1,7 +1,9 @@
 pub mod Calendar
+pub mod Count
 pub mod Each
 pub mod Key
 pub mod KeyOrder
+pub mod Limits
 pub mod Moment
 pub mod Name
 pub mod Padded

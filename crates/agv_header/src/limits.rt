@@ -1,5 +1,5 @@
-//! The limits of what the desk keeps. A contract gives its limit as a number, and its proof shows that the constant
-//! here is that number.
+//! The limits of what the desk keeps. A contract gives its limit as a number, or as one that `specs/Limits.antt` names,
+//! and its proof shows that the constant here is that number.
 
 /// The most nodes of a layout.
 pub const MAX_LAYOUT_NODES: usize = 500;

@@ -8,7 +8,8 @@ use Rattle.std.specs.FinMap.{nat_cmp-IsAntisymmetric, slice_cmp-IsAntisymmetric}
 use Rattle.std.proofs.lemmas.List.Folds.{list_any-append}
 use Rattle.agv_header.specs.Name.{name_cmp}
 use Rattle.agv_layout.specs.Layout.{Name}
-use Rattle.agv_layout.specs.Arrivals.{is_among, starts_of, leads}
+use Rattle.agv_layout.specs.Arrivals.{starts_of, leads}
+use Rattle.agv_layout.specs.LayoutOf.{is_among}
 
 -- names that tie are the same
 pub is_at-same : (a b : Name) → is_at (name_cmp a) b ≡ true → a ≡ b

@@ -18,7 +18,8 @@ use Rattle.std.proofs.lemmas.Map.Made.{length-le_from_is_member, is_some-lookup}
 use Rattle.agv_header.specs.Name.{name_cmp}
 use Rattle.agv_layout.specs.declared.edge.EdgeEnds.{EdgeEnds}
 use Rattle.agv_layout.specs.Layout.{Name}
-use Rattle.agv_layout.specs.Arrivals.{is_among, leads, leads_to_one, is_so, Joins}
+use Rattle.agv_layout.specs.Arrivals.{leads, leads_to_one, is_so, Joins}
+use Rattle.agv_layout.specs.LayoutOf.{is_among}
 use Rattle.agv_layout.proofs.Maps.{names_total, same_name, ties_with_itself, contains-shown}
 use Rattle.agv_layout.proofs.Levels.{IsOneFrom}
 

@@ -1,6 +1,7 @@
 -- What the function of rows gives, and what the relations say of rows, are one.
-use Rattle.std.proofs.Common.{◌≡◌, ◌≢◌, Bool, true, false, cond, not, nat_eq, List, [], ◌∷◌, Result, Ok, Err, IfErr, IsErrAnd, Contains, Decides, refl, sym, ap, ◌∙◌}
-use Rattle.std.specs.Cmp.Lexicographic.{pointwise, bytes_decides}
+use Rattle.std.proofs.Common.{◌≡◌, ◌≢◌, Bool, true, false, cond, not, List, [], ◌∷◌, Result, Ok, Err, IfErr, IsErrAnd, Contains, Decides, refl, sym, ap, ◌∙◌}
+use Rattle.std.specs.BTreeMap.{is_at}
+use Rattle.std.specs.Cmp.Lexicographic.{bytes_decides}
 use Rattle.std.specs.List.{list_all, AllByRecursion, IsDistinct}
 use Rattle.std.specs.Map.{keys_of, values_of}
 use Rattle.std.specs.Result.{result_ok}
@@ -8,6 +9,7 @@ use Rattle.std.proofs.lemmas.Bool.{not-true}
 use Rattle.std.proofs.lemmas.Bool.Decides.{Decides-and, Decides-or, Decides-not, Decides-like, Decides-ltb, Decides-by_and, not_from_Decides}
 use Rattle.std.proofs.lemmas.Option.{same_Some}
 use Rattle.std.proofs.lemmas.Map.Made.{is_member-Decides, AllPairs-from_IsDistinct, IsDistinct-from_AllPairs}
+use Rattle.agv_header.specs.Name.{name_cmp}
 use Rattle.agv_layout.specs.declared.edge.EdgeEnds.{EdgeEnds}
 use Rattle.agv_layout.specs.declared.fault.LayoutFault.{LayoutFault}
 use Rattle.agv_layout.specs.declared.fault.LayoutFault.TheVariants as fault
@@ -17,22 +19,29 @@ use Rattle.agv_layout.specs.Layout.{Name, Layout}
 use Rattle.agv_layout.specs.LayoutOf.{is_among, differ, leads_among, stands_among, is_over_limit, is_each_once, is_sound, layout_in, layout_of}
 use Rattle.agv_layout.specs.Rows.{nodes_in, edges_in, stations_in, Differ, LeadsAmong, StandsAmong, IsEachOnce, IsOverLimit, IsSound}
 use Rattle.agv_layout.proofs.Drafts.{le-Decides}
-use Rattle.agv_layout.proofs.Maps.{none_passes, all_fail}
+use Rattle.agv_layout.proofs.Maps.{decides_name, none_passes, all_fail}
 
 -- ---- each test tells what its relation says
+-- the second name is the first
+abbrev ties : Name → Name → Bool
+ties id name = is_at (name_cmp name) id
+
+ties_decides : (id name : Name) → Decides (ties id name) (id ≡ name)
+ties_decides id name = Decides-like _ (λ e. sym e) (λ e. sym e) (decides_name name id)
+
 among_decides : (ids : List Name) (id : Name) → Decides (is_among ids id) (Contains ids id)
-among_decides = is_member-Decides bytes_decides
+among_decides = is_member-Decides {Name} {ties} ties_decides
 
-absent_decides : (ids : List Name) (id : Name) → Decides (not (is_among ids id)) (AllByRecursion (λ other. pointwise nat_eq id other ≡ false) ids)
-absent_decides ids id = (λ absent. all_fail (pointwise nat_eq id) ids (not-true _ absent), λ fail. ap not (none_passes (pointwise nat_eq id) ids fail))
+absent_decides : (ids : List Name) (id : Name) → Decides (not (is_among ids id)) (AllByRecursion (λ other. ties id other ≡ false) ids)
+absent_decides ids id = (λ absent. all_fail (ties id) ids (not-true _ absent), λ fail. ap not (none_passes (ties id) ids fail))
 
-distinct_decides : (ids : List Name) → Decides (differ ids) (IsDistinct (pointwise nat_eq) ids)
+distinct_decides : (ids : List Name) → Decides (differ ids) (IsDistinct ties ids)
 unfolding IsDistinct
 distinct_decides [] = (λ _. tt, λ _. refl)
 distinct_decides (id ∷ ids) = Decides-and _ _ (absent_decides ids id) (distinct_decides ids)
 
 differ_decides : (ids : List Name) → Decides (differ ids) (Differ ids)
-differ_decides ids = Decides-like _ (AllPairs-from_IsDistinct bytes_decides ids) (IsDistinct-from_AllPairs bytes_decides ids) (distinct_decides ids)
+differ_decides ids = Decides-like _ (AllPairs-from_IsDistinct ties_decides ids) (IsDistinct-from_AllPairs ties_decides ids) (distinct_decides ids)
 
 leads_decides : (nodes : List Name) (ends : EdgeEnds) → Decides (leads_among nodes ends) (LeadsAmong nodes ends)
 leads_decides nodes ends =

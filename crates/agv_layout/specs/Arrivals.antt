@@ -7,10 +7,7 @@ use Rattle.std.specs.declared.vec.Vec.{Vec}
 use Rattle.agv_header.specs.Name.{name_cmp}
 use Rattle.agv_layout.specs.declared.edge.EdgeEnds.{EdgeEnds}
 use Rattle.agv_layout.specs.Layout.{Name}
-
--- the name is one of these
-abbrev pub is_among : List Name → Name → Bool
-is_among names id = list_any (λ name. is_at (name_cmp name) id) names
+use Rattle.agv_layout.specs.LayoutOf.{is_among}
 
 -- the edge leads from the first node to the second
 abbrev pub is_so : Name → Name → Name × EdgeEnds → Bool

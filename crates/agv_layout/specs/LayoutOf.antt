@@ -1,5 +1,6 @@
 -- What rows give: a layout, or why they give none; and the rows of a layout (this project's profile).
 use Rattle.std.specs.Prelude.{◌&&◌, ◌||◌, not, nat_eq, nat_lt, nat_le, Bool, true, List, [], ◌∷◌, ◌++◌, map, length, Result, Ok, Err, if◌then◌else◌, ⊤}
+use Rattle.std.specs.BTreeMap.{is_at}
 use Rattle.std.specs.Cmp.Lexicographic.{pointwise}
 use Rattle.std.specs.FinMap as finite
 use Rattle.std.specs.FinSet as set
@@ -17,7 +18,7 @@ use Rattle.agv_layout.specs.declared.station.StationSite.{StationSite}
 
 -- the name is one of these
 abbrev pub is_among : List Name → Name → Bool
-is_among ids id = list_any (pointwise nat_eq id) ids
+is_among names id = list_any (λ name. is_at (name_cmp name) id) names
 
 -- no two of the names are the same
 abbrev pub differ : List Name → Bool

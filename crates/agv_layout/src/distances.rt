@@ -10,7 +10,8 @@ ghost use Rattle.agv_layout.specs.declared.edge.EdgeEnds.{EdgeEnds as EndsOf};
 ghost use Rattle.agv_layout.specs.Levels.{AreDistances};
 ghost use Rattle.agv_header.specs.Name.{name_cmp};
 ghost use Rattle.agv_layout.specs.Layout.{Name as NameOf};
-ghost use Rattle.agv_layout.specs.Arrivals.{is_among, starts_of, leads, leads_to_one, is_so, Joins};
+ghost use Rattle.agv_layout.specs.Arrivals.{starts_of, leads, leads_to_one, is_so, Joins};
+ghost use Rattle.agv_layout.specs.LayoutOf.{is_among};
 
 use crate::EdgeEnds;
 use agv_header::{Memory, Name};

@@ -21,7 +21,7 @@ use Rattle.agv_world.specs.ConsistentTrips.{IsHolder, IsVehicle}
 use Rattle.agv_world.specs.Rows.{rows_of, standing_of}
 use Rattle.agv_world.specs.Worlds.{Vehicle, World}
 use Rattle.agv_world.specs.declared.row.VehicleRow.{VehicleRow}
-use Rattle.agv_row_reading.specs.HeldThings.{HasEach, are_entries, are_holders, hold_their_own, holds_each, holds_its_own, holds_only, is_kept, things_of}
+use Rattle.agv_row_reading.specs.HeldThings.{HasEach, are_entries, are_holders, footprint_in, hold_their_own, holds_each, holds_its_own, holds_only, is_kept}
 use Rattle.agv_rows.proofs.LawfulValues.{row_at}
 use Rattle.agv_schema.proofs.SpreadRows.{entries_found}
 
@@ -108,7 +108,7 @@ module _ (world : World) (holders : (thing : Thing) (key : VehicleKey) → (fini
   row_there : (key : VehicleKey) (vehicle : Vehicle) → IsVehicle world key vehicle → finite.get vehicles key ≡ Some vehicle.row
   row_there key vehicle at = row_at world key ∙ ap (option_map (λ (v : Vehicle). v.row)) at
 
-  things_there : (key : VehicleKey) (vehicle : Vehicle) → IsVehicle world key vehicle → things_of world (key, vehicle.row) ≡ footprint_of (standing_of vehicle)
+  things_there : (key : VehicleKey) (vehicle : Vehicle) → IsVehicle world key vehicle → footprint_in world (key, vehicle.row) ≡ footprint_of (standing_of vehicle)
   things_there key vehicle at = ap (λ (o : Option Trip). footprint_of (record { node = vehicle.row.node; rest = vehicle.row.rest; trip = o })) (ap (option_and_then (λ (v : Vehicle). v.trip)) at)
 
   vehicle_there : (key : VehicleKey) (row : VehicleRow) → finite.get vehicles key ≡ Some row → (vehicle : Vehicle) × IsVehicle world key vehicle × (vehicle.row ≡ row)
@@ -119,17 +119,17 @@ module _ (world : World) (holders : (thing : Thing) (key : VehicleKey) → (fini
       ] refl (sym (row_at world key) ∙ at)
 
   -- what is held stands in the footprint of a row
-  in_footprint : (thing : Thing) (key : VehicleKey) → finite.get held thing ≡ Some key → (row : VehicleRow) × (finite.get vehicles key ≡ Some row) × (is_in thing (things_of world (key, row)) ≡ true)
+  in_footprint : (thing : Thing) (key : VehicleKey) → finite.get held thing ≡ Some key → (row : VehicleRow) × (finite.get vehicles key ≡ Some row) × (is_in thing (footprint_in world (key, row)) ≡ true)
   in_footprint thing key is =
       let by = (holders thing key).0 is in
-      (by.0.row, row_there key by.0 by.1, (member thing (things_of world (key, by.0.row))).1 (subst (λ (things : List Thing). Contains things thing) (sym (things_there key by.0 by.1)) by.2))
+      (by.0.row, row_there key by.0 by.1, (member thing (footprint_in world (key, by.0.row))).1 (subst (λ (things : List Thing). Contains things thing) (sym (things_there key by.0 by.1)) by.2))
 
   -- and what stands there is held
-  from_footprint : (thing : Thing) (key : VehicleKey) (row : VehicleRow) → finite.get vehicles key ≡ Some row → is_in thing (things_of world (key, row)) ≡ true → finite.get held thing ≡ Some key
+  from_footprint : (thing : Thing) (key : VehicleKey) (row : VehicleRow) → finite.get vehicles key ≡ Some row → is_in thing (footprint_in world (key, row)) ≡ true → finite.get held thing ≡ Some key
   from_footprint thing key row at among =
       let it = vehicle_there key row at in
-      let has = (member thing (things_of world (key, row))).0 among in
-      (holders thing key).1 (it.0, it.1, subst (λ (things : List Thing). Contains things thing) (ap (λ (r : VehicleRow). things_of world (key, r)) (sym it.2) ∙ things_there key it.0 it.1) has)
+      let has = (member thing (footprint_in world (key, row))).0 among in
+      (holders thing key).1 (it.0, it.1, subst (λ (things : List Thing). Contains things thing) (ap (λ (r : VehicleRow). footprint_in world (key, r)) (sym it.2) ∙ things_there key it.0 it.1) has)
 
   -- ---- where the tests pass
 
@@ -148,7 +148,7 @@ module _ (world : World) (holders : (thing : Thing) (key : VehicleKey) → (fini
     held_by : (thing : Thing) (key : VehicleKey) → finite.get table thing ≡ Some key → finite.get held thing ≡ Some key
     held_by thing key at =
         let row = some_row (finite.get vehicles key) (whole (λ (pair : Thing × VehicleKey). is_some (finite.get vehicles pair.1)) known thing key at) in
-        let things = things_of world (key, row.0) in
+        let things = footprint_in world (key, row.0) in
         let parts = and_parts (holds_each table key things) (holds_only pairs key things) (own_at key row.0 row.1) in
         from_footprint thing key row.0 row.1
         (not_other (key_eq key key) (is_in thing things) (own_key key) (whole (is_kept key things) parts.1 thing key at))
@@ -156,7 +156,7 @@ module _ (world : World) (holders : (thing : Thing) (key : VehicleKey) → (fini
     held_in_turn : (thing : Thing) (key : VehicleKey) → finite.get held thing ≡ Some key → finite.get table thing ≡ Some key
     held_in_turn thing key at =
         let it = in_footprint thing key at in
-        let things = things_of world (key, it.0) in
+        let things = footprint_in world (key, it.0) in
         let parts = and_parts (holds_each table key things) (holds_only pairs key things) (own_at key it.0 it.1) in
         own_of key (finite.get table thing) (passes_in (λ t. is_own key (finite.get table t)) things parts.0 thing it.2)
 
@@ -182,20 +182,20 @@ module _ (world : World) (holders : (thing : Thing) (key : VehicleKey) → (fini
     pub are_vehicles : are_holders vehicles pairs ≡ true
     are_vehicles = all_of (λ (pair : Thing × VehicleKey). is_some (finite.get vehicles pair.1)) pairs (all_weaker _ _ (λ (pair : Thing × VehicleKey) at. ap is_some (in_footprint pair.0 pair.1 at).1) pairs pairs_held)
 
-    only_in : (key : VehicleKey) (row : VehicleRow) → finite.get vehicles key ≡ Some row → (pair : Thing × VehicleKey) → finite.get held pair.0 ≡ Some pair.1 → (not (key_eq pair.1 key) || is_in pair.0 (things_of world (key, row))) ≡ true
+    only_in : (key : VehicleKey) (row : VehicleRow) → finite.get vehicles key ≡ Some row → (pair : Thing × VehicleKey) → finite.get held pair.0 ≡ Some pair.1 → (not (key_eq pair.1 key) || is_in pair.0 (footprint_in world (key, row))) ≡ true
     only_in key row there pair at =
-        elim (key_eq pair.1 key) as (λ b. key_eq pair.1 key ≡ b → (not b || is_in pair.0 (things_of world (key, row))) ≡ true) [
+        elim (key_eq pair.1 key) as (λ b. key_eq pair.1 key ≡ b → (not b || is_in pair.0 (footprint_in world (key, row))) ≡ true) [
           | false ↦ λ _. refl
           | true ↦ λ its.
               let it = in_footprint pair.0 key (at ∙ ap Some (same_key pair.1 key its)) in
-              subst (λ (r : VehicleRow). is_in pair.0 (things_of world (key, r)) ≡ true) (same_Some it.0 row (sym it.1 ∙ there)) it.2
+              subst (λ (r : VehicleRow). is_in pair.0 (footprint_in world (key, r)) ≡ true) (same_Some it.0 row (sym it.1 ∙ there)) it.2
         ] refl
 
     pub are_their_own : hold_their_own table pairs world (finite.entries vehicles) ≡ true
     are_their_own =
         all_of (holds_its_own table pairs world) (finite.entries vehicles)
         (all_weaker _ _ (λ (entry : VehicleKey × VehicleRow) at.
-        let things = things_of world entry in
+        let things = footprint_in world entry in
         and_from (holds_each table entry.0 things) (holds_only pairs entry.0 things)
         (all_in (λ thing. is_own entry.0 (finite.get table thing)) things (λ thing among. ap (is_own entry.0) (ap (λ (t : Holds). finite.get t thing) are ∙ from_footprint thing entry.0 entry.1 at among) ∙ own_key entry.0))
         (all_of (is_kept entry.0 things) pairs (all_weaker _ _ (only_in entry.0 entry.1 at) pairs pairs_held)))

@@ -26,8 +26,8 @@ HasEach table pairs = (test : Thing × VehicleKey → Bool) → list_all test pa
 -- ---- what vehicles hold
 
 -- the footprint of the vehicle of this row
-abbrev pub things_of : World → VehicleKey × VehicleRow → List Thing
-things_of world entry = footprint_of (record { node = entry.1.node; rest = entry.1.rest; trip = trip_of world entry.0 })
+abbrev pub footprint_in : World → VehicleKey × VehicleRow → List Thing
+footprint_in world entry = footprint_of (record { node = entry.1.node; rest = entry.1.rest; trip = trip_of world entry.0 })
 
 -- the vehicle holds each of the things
 abbrev pub holds_each : Holds → VehicleKey → List Thing → Bool
@@ -47,7 +47,7 @@ are_holders vehicles pairs = list_all (λ (pair : Thing × VehicleKey). is_some 
 
 -- the vehicle holds its footprint, and nothing else
 abbrev pub holds_its_own : Holds → List (Thing × VehicleKey) → World → VehicleKey × VehicleRow → Bool
-holds_its_own table pairs world entry = holds_each table entry.0 (things_of world entry) && holds_only pairs entry.0 (things_of world entry)
+holds_its_own table pairs world entry = holds_each table entry.0 (footprint_in world entry) && holds_only pairs entry.0 (footprint_in world entry)
 
 -- so it is of each vehicle
 abbrev pub hold_their_own : Holds → List (Thing × VehicleKey) → World → List (VehicleKey × VehicleRow) → Bool

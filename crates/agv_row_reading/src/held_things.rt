@@ -7,7 +7,7 @@ ghost use Rattle.agv_world.specs.Rows.{rows_of};
 ghost use Rattle.agv_world.specs.Told.{world_of};
 ghost use Rattle.agv_world.specs.Worlds.{World as WorldOf};
 ghost use Rattle.agv_schema.specs.SchemaNumbers.{desk_seats};
-ghost use Rattle.agv_row_reading.specs.HeldThings.{HasEach, are_entries, are_holders, hold_their_own, holds_each, holds_only, is_kept, things_of};
+ghost use Rattle.agv_row_reading.specs.HeldThings.{HasEach, are_entries, are_holders, footprint_in, hold_their_own, holds_each, holds_only, is_kept};
 
 use agv_header::{Memory, Thing, VehicleKey};
 use agv_schema::schema_numbers::DESK_SEATS;
@@ -51,7 +51,7 @@ impl HeldThings {
         ensures { IfOk result (λ own. own ≡ hold_their_own self.now.table self.now.pairs.items (world_of tables.now) (map.entries tables.now.vehicles)) }
     {
         for (key, row) in tables.vehicles.iter() {
-            let things = things_of(alloc, tables, *key, row)?;
+            let things = footprint_in(alloc, tables, *key, row)?;
             if !self.holds_its_own(key, &things) {
                 return Ok(false);
             }
@@ -75,13 +75,13 @@ fn are_holders(vehicles: &ByVehicle<VehicleRow>, pairs: &[(Thing, VehicleKey)]) 
 }
 
 // The footprint of the vehicle of this row, in the world that the tables tell.
-fn things_of(
+fn footprint_in(
     alloc: Global,
     tables: &World,
     key: VehicleKey,
     row: &VehicleRow,
 ) -> Result<Vec<Thing>, Memory>
-    ensures { IfOk result (λ things. things.items ≡ things_of (world_of tables.now) (key, row.now)) }
+    ensures { IfOk result (λ things. things.items ≡ footprint_in (world_of tables.now) (key, row.now)) }
 {
     let mut floor = PlainFloor::new(alloc, tables, DESK_SEATS);
     let Ok(trip) = floor.trip(key) else {

@@ -16,9 +16,9 @@ use Rattle.agv_stock.specs.Rooms.{is_at, room_left}
 use Rattle.agv_stock.specs.declared.place.Place.{Place}
 use Rattle.agv_stock.specs.declared.place.Place.TheVariants as place
 use Rattle.agv_world.specs.Changes.{change}
-use Rattle.agv_world.specs.Questions.{has_room_at, is_live_to, loads_at, reserved, room_at}
+use Rattle.agv_world.specs.Questions.{has_room_at, is_live_to, loads_at, reserved, room_at, reserved_by}
 use Rattle.agv_world.specs.Rows.{Rows, rows_of}
-use Rattle.agv_world.specs.StockInvariant.{coming, stored}
+use Rattle.agv_world.specs.StockInvariant.{stored}
 use Rattle.agv_world.specs.Worlds.{World}
 use Rattle.agv_world.specs.declared.change.Change.{Change}
 use Rattle.agv_world.specs.declared.change.Change.TheVariants as row
@@ -51,7 +51,7 @@ module _ (world : World) (station : List ℕ) where
   unfolding loads_at
   stored_is = length-map _ _ ∙ length-filter (λ (load : List ℕ × Place). is_at station load.1) (finite.entries world.places)
 
-  reserved_is : reserved world station ≡ coming world.jobs station
+  reserved_is : reserved world station ≡ reserved_by world.jobs station
   unfolding reserved
   reserved_is = refl
 
@@ -63,7 +63,7 @@ module _ (world : World) (station : List ℕ) where
   pub one_fits : IsRoomLeft (rows_of world) station 1 → has_room_at world station ≡ Some true
   one_fits (site, there, within) =
       let enough : length (loads_at world station) + reserved world station + 1 ≤ site.capacity =
-      subst (λ jobs. length (loads_at world station) + jobs + 1 ≤ site.capacity) (sym reserved_is) (subst (λ loads. loads + coming world.jobs station + 1 ≤ site.capacity) (sym stored_is) within) in
+      subst (λ jobs. length (loads_at world station) + jobs + 1 ≤ site.capacity) (sym reserved_is) (subst (λ loads. loads + reserved_by world.jobs station + 1 ≤ site.capacity) (sym stored_is) within) in
       ap (option_map (λ (room : ℕ). not (room == 0))) (room_is ∙ ap (option_map left_in) there) ∙ ap Some (some_left _ _ _ enough)
 
   -- what was counted is left
@@ -72,7 +72,7 @@ module _ (world : World) (station : List ℕ) where
       let (site, there) = mapped left_in (finite.get world.layout.stations station) room (sym (is ∙ room_is)) in
       let told : left_in site ≡ room = same_Some _ _ (sym (ap (option_map left_in) there) ∙ sym (is ∙ room_is)) in
       let enough : length (loads_at world station) + reserved world station + room ≤ site.capacity = all_fit _ _ _ room told some in
-      (site, there, subst (λ loads. loads + coming world.jobs station + room ≤ site.capacity) stored_is (subst (λ jobs. length (loads_at world station) + jobs + room ≤ site.capacity) reserved_is enough))
+      (site, there, subst (λ loads. loads + reserved_by world.jobs station + room ≤ site.capacity) stored_is (subst (λ jobs. length (loads_at world station) + jobs + room ≤ site.capacity) reserved_is enough))
 
 -- ---- the rooms that are kept
 
@@ -147,7 +147,7 @@ lowered_left old new (row.Load id place.Left) station is lowered rows left other
 lowered_left old new (row.Job id job) station is lowered rows left other room there =
     let (before, was, lower) = lowered other room there in
     let (site, known, within) = left other before was in
-    let more : coming (finite.insert rows.jobs id job) other ≤ coming rows.jobs other + one_if (is_live_to other job) = one_more (is_live_to other) rows.jobs id job in
+    let more : reserved_by (finite.insert rows.jobs id job) other ≤ reserved_by rows.jobs other + one_if (is_live_to other job) = one_more (is_live_to other) rows.jobs id job in
     let few : one_if (is_live_to other job) ≤ one_if (pointwise nat_eq job.target other) = both_pass (is_live job.phase) (pointwise nat_eq job.target other) in
     let same : one_if (pointwise nat_eq job.target other) ≡ one_if (pointwise nat_eq station other) = ap (λ name. one_if (pointwise nat_eq name other)) (live_target (is_live job.phase) job.target station is) in
     (site, known, omega (arith, more, few, same, lower, within))
@@ -175,7 +175,7 @@ still_left rooms (row.Load id to) laid none rows left other room there =
     not_there place.Left other is = refl
 still_left rooms (row.Job id job) laid none rows left other room there =
     let (site, known, within) = left other room there in
-    let more : coming (finite.insert rows.jobs id job) other ≤ coming rows.jobs other + one_if (is_live_to other job) = one_more (is_live_to other) rows.jobs id job in
+    let more : reserved_by (finite.insert rows.jobs id job) other ≤ reserved_by rows.jobs other + one_if (is_live_to other job) = one_more (is_live_to other) rows.jobs id job in
     let same : one_if (is_live_to other job) ≡ 0 = ap (λ live. one_if (live && pointwise nat_eq job.target other)) (not_live (is_live job.phase) job.target none) in
     (site, known, omega (arith, more, same, within))
 still_left rooms (row.Hold thing key) laid none rows left other room there = left other room there

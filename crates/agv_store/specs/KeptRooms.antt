@@ -7,7 +7,8 @@ use Rattle.agv_header.specs.Name.{name_cmp}
 use Rattle.agv_layout.specs.declared.station.StationSite.{StationSite}
 use Rattle.agv_stock.specs.Phase.{is_live}
 use Rattle.agv_world.specs.Rows.{Rows}
-use Rattle.agv_world.specs.StockInvariant.{coming, stored}
+use Rattle.agv_world.specs.Questions.{reserved_by}
+use Rattle.agv_world.specs.StockInvariant.{stored}
 use Rattle.agv_world.specs.declared.change.Change.{Change}
 use Rattle.agv_world.specs.declared.change.Change.TheVariants as row
 use Rattle.agv_desk.specs.JobSteps.{station_of_place}
@@ -18,7 +19,7 @@ RoomsLeft = tree.BTreeMap (List ℕ) ℕ
 -- beside the loads at the station and the live jobs to it, so many loads more are within its capacity
 abbrev pub IsRoomLeft : Rows → List ℕ → ℕ → Type 0
 IsRoomLeft rows station room =
-    (site : StationSite) × (finite.get rows.stations station ≡ Some site) × (stored rows.loads station + coming rows.jobs station + room ≤ site.capacity)
+    (site : StationSite) × (finite.get rows.stations station ≡ Some site) × (stored rows.loads station + reserved_by rows.jobs station + room ≤ site.capacity)
 
 -- so it is at each station of which a room is kept
 abbrev pub AreLeft : RoomsLeft → Rows → Type 0

@@ -72,11 +72,11 @@ is_cancel StartPause = false
 is_cancel StopPause = false
 is_cancel CancelOrder = true
 
--- a cancelOrder is pending
-abbrev pub is_cancelling : Option Pending → Bool
-is_cancelling None = false
-is_cancelling (Some pending) = is_cancel pending.kind
+-- it is a cancelOrder
+abbrev pub is_pending_cancel : Option Pending → Bool
+is_pending_cancel None = false
+is_pending_cancel (Some pending) = is_cancel pending.kind
 
 -- the pending cancelOrder is listed as finished
 abbrev pub is_cancelled : Reports → Option Pending → Bool
-is_cancelled reports pending = is_cancelling pending && unwrap_or (option_map is_finished (pending_told reports pending)) false
+is_cancelled reports pending = is_pending_cancel pending && unwrap_or (option_map is_finished (pending_told reports pending)) false

@@ -1,7 +1,7 @@
 //! What a state says of actions.
 ghost use Rattle.std.specs.Prelude.{◌≡◌, length, ◌≤◌};
 ghost use Rattle.agv_track.specs.ActionId.{id_text};
-ghost use Rattle.agv_track.specs.Reports.{is_twice, told, has_act_twice, status_after, statuses_after, has_pending_twice, pending_told, is_pending_over, is_cancel, is_cancelling, is_cancelled};
+ghost use Rattle.agv_track.specs.Reports.{is_twice, told, has_act_twice, status_after, statuses_after, has_pending_twice, pending_told, is_pending_over, is_cancel, is_pending_cancel, is_cancelled};
 ghost use Rattle.agv_track.specs.Judgements.{nth_status, eight, new_statuses};
 
 use crate::Pending;
@@ -81,12 +81,12 @@ pub(crate) fn is_pending_over(pending: Option<Pending>, state: &StateMessage) ->
 pub(crate) fn is_cancelled(pending: Option<Pending>, state: &StateMessage) -> bool
     ensures { result ≡ is_cancelled state.now.actions pending }
 {
-    is_cancelling(pending) && matches!(pending_told(pending, state), Some(Status::Finished))
+    is_pending_cancel(pending) && matches!(pending_told(pending, state), Some(Status::Finished))
 }
 
-// Whether a cancelOrder is pending.
-fn is_cancelling(pending: Option<Pending>) -> bool
-    ensures { result ≡ is_cancelling pending }
+// Whether the pending action is a cancelOrder.
+fn is_pending_cancel(pending: Option<Pending>) -> bool
+    ensures { result ≡ is_pending_cancel pending }
 {
     match pending {
         Some(Pending { kind, .. }) => matches!(kind, InstantKind::CancelOrder),

@@ -5,6 +5,7 @@ use Rattle.std.specs.Cmp.Lexicographic.{pointwise}
 use Rattle.std.specs.FinMap as finite
 use Rattle.std.specs.FinSet as set
 use Rattle.std.specs.List.{list_any}
+use Rattle.agv_header.specs.Limits.{most_records, most_vehicles}
 use Rattle.agv_header.specs.Name.{IsName}
 use Rattle.agv_header.specs.declared.key.VehicleKey.{VehicleKey}
 use Rattle.agv_layout.specs.Layout.{Layout, KeepsRules, IsNode, IsEdge, IsStation}
@@ -83,9 +84,9 @@ pub record HasLawfulVehicles (seats : ℕ) (world : World) : Type 0 where
   -- the layout is not set yet, or keeps the rules of a layout
   pub laid : (world.layout ≡ empty_layout) ⊎ KeepsRules world.layout
   -- at most 100 vehicles, and 1,000,000 orders and references each, that are over counted
-  pub few_vehicles : finite.len world.vehicles ≤ 100
-  pub few_orders : set.len world.orders ≤ 1000000
-  pub few_references : set.len world.references ≤ 1000000
+  pub few_vehicles : finite.len world.vehicles ≤ most_vehicles
+  pub few_orders : set.len world.orders ≤ most_records
+  pub few_references : set.len world.references ≤ most_records
   -- the names of vehicles, orders and references are names
   pub vehicles_named : (key : VehicleKey) (vehicle : Vehicle)
       → IsVehicle world key vehicle → IsKey key
@@ -173,8 +174,8 @@ other_loads world key trip =
 
 pub record HasLawfulLoads (world : World) : Type 0 where
   -- at most 1,000,000 loads, those that have left counted, and 1,000,000 jobs
-  pub few_loads : finite.len world.places ≤ 1000000
-  pub few_jobs : finite.len world.jobs ≤ 1000000
+  pub few_loads : finite.len world.places ≤ most_records
+  pub few_jobs : finite.len world.jobs ≤ most_records
   -- the names of loads and jobs are names
   pub loads_named : (load : List ℕ) (place : Place)
       → finite.get world.places load ≡ Some place → IsName load

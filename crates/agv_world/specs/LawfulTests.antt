@@ -5,6 +5,7 @@ use Rattle.std.specs.FinMap as finite
 use Rattle.std.specs.FinSet as set
 use Rattle.std.specs.List.{list_all}
 use Rattle.std.specs.Option.{is_none, is_some}
+use Rattle.agv_header.specs.Limits.{most_records, most_vehicles}
 use Rattle.agv_header.specs.declared.key.Thing.{Thing}
 use Rattle.agv_header.specs.declared.key.VehicleKey.{VehicleKey}
 use Rattle.agv_layout.specs.Layout.{Layout}
@@ -65,9 +66,9 @@ is_laid tables = is_unset tables || (is_in_limits tables && (all_lead tables && 
 -- at most 100 vehicles, and 1,000,000 orders and references each
 abbrev pub are_few : Tables → Bool
 are_few tables =
-    nat_le (finite.len tables.vehicles) 100
-    && (nat_le (set.len (names_of tables used.Order)) 1000000
-    && nat_le (set.len (names_of tables used.Reference)) 1000000)
+    nat_le (finite.len tables.vehicles) most_vehicles
+    && (nat_le (set.len (names_of tables used.Order)) most_records
+    && nat_le (set.len (names_of tables used.Reference)) most_records)
 
 -- the moment is 0 where no message was sent
 abbrev pub is_counted : Sent → Bool

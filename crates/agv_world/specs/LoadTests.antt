@@ -6,6 +6,7 @@ use Rattle.std.specs.FinSet as set
 use Rattle.std.specs.List.{list_all, list_any}
 use Rattle.std.specs.Option.{is_some, unwrap_or}
 use Rattle.agv_header.specs.KeyOrder.{key_eq}
+use Rattle.agv_header.specs.Limits.{most_records}
 use Rattle.agv_header.specs.Name.{name_cmp}
 use Rattle.agv_header.specs.declared.key.VehicleKey.{VehicleKey}
 use Rattle.agv_layout.specs.declared.station.StationSite.{StationSite}
@@ -28,7 +29,7 @@ use Rattle.agv_world.specs.declared.world.World.{World as Tables}
 
 -- at most 1,000,000 loads, and 1,000,000 jobs
 abbrev pub are_loads_few : Tables → Bool
-are_loads_few tables = nat_le (finite.len tables.loads) 1000000 && nat_le (finite.len tables.jobs) 1000000
+are_loads_few tables = nat_le (finite.len tables.loads) most_records && nat_le (finite.len tables.jobs) most_records
 
 -- ---- what places and jobs name
 

@@ -5,6 +5,7 @@ use Rattle.std.specs.FinMap as finite
 use Rattle.std.specs.FinSet as set
 use Rattle.std.specs.Map.{keys_of}
 use Rattle.std.specs.Option.{option_map, option_and_then}
+use Rattle.agv_header.specs.Name.{name_cmp}
 use Rattle.agv_header.specs.declared.key.Thing.{Thing}
 use Rattle.agv_header.specs.declared.key.VehicleKey.{VehicleKey}
 use Rattle.agv_layout.specs.Layout.{Layout}
@@ -53,9 +54,13 @@ holder_of world thing = finite.get (rows_of world).holds thing
 unfoldable pub loads_at : World → List ℕ → List (List ℕ)
 loads_at world station = keys_of (filter (λ (load : List ℕ × Place). is_at station load.1) (finite.entries world.places))
 
+-- how many of these loads are on a vehicle
+abbrev pub loads_on_vehicle : finite.FinMap name_cmp Place → VehicleKey → ℕ
+loads_on_vehicle places key = count_by (λ (load : List ℕ × Place). is_on key load.1) (finite.entries places)
+
 -- how many loads a vehicle has
 unfoldable pub loads_on : World → VehicleKey → ℕ
-loads_on world key = count_by (λ (load : List ℕ × Place). is_on key load.1) (finite.entries world.places)
+loads_on world key = loads_on_vehicle world.places key
 
 -- the job is live and is for this load
 abbrev pub is_live_for : List ℕ → JobRow → Bool
@@ -69,9 +74,13 @@ job_of world load = option_map (λ (job : List ℕ × JobRow). job.0) (find (λ 
 abbrev pub is_live_to : List ℕ → JobRow → Bool
 is_live_to station job = is_live job.phase && pointwise nat_eq job.target station
 
--- how many places at a station are kept: one for each live job to it
+-- how many places at a station these jobs keep: one for each live job to it
+abbrev pub reserved_by : finite.FinMap name_cmp JobRow → List ℕ → ℕ
+reserved_by jobs station = count_by (λ (job : List ℕ × JobRow). is_live_to station job.1) (finite.entries jobs)
+
+-- how many places at a station are kept
 unfoldable pub reserved : World → List ℕ → ℕ
-reserved world station = count_by (λ (job : List ℕ × JobRow). is_live_to station job.1) (finite.entries world.jobs)
+reserved world station = reserved_by world.jobs station
 
 -- how many loads more fit at a station: its capacity, less the loads there, less the live jobs to it; none where there is no such station
 unfoldable pub room_at : World → List ℕ → Option ℕ

@@ -2,6 +2,7 @@
 use Rattle.std.specs.Prelude.{◌≡◌, ◌≢◌, ℕ, ◌+◌, ◌≤◌, ◌&&◌, not, Bool, true, false, List, [], map, count_by, Option, None, Some}
 use Rattle.std.specs.FinMap as finite
 use Rattle.std.specs.List.{slice_get}
+use Rattle.agv_header.specs.Limits.{most_records}
 use Rattle.agv_header.specs.Name.{IsName, name_cmp}
 use Rattle.agv_header.specs.declared.key.VehicleKey.{VehicleKey}
 use Rattle.agv_layout.specs.Layout.{Layout, IsStation}
@@ -13,13 +14,13 @@ use Rattle.agv_order.specs.Stops.{is_drop}
 use Rattle.agv_order.specs.declared.act.Act.{Act}
 use Rattle.agv_order.specs.declared.trip.Trip.{Trip}
 use Rattle.agv_stock.specs.Phase.{is_live}
-use Rattle.agv_stock.specs.Rooms.{is_at, is_on}
+use Rattle.agv_stock.specs.Rooms.{is_at}
 use Rattle.agv_stock.specs.declared.job.Phase.{Phase}
 use Rattle.agv_stock.specs.declared.job.Phase.TheVariants as phase
 use Rattle.agv_stock.specs.declared.place.Place.{Place}
 use Rattle.agv_stock.specs.declared.place.Place.TheVariants as place
 use Rattle.agv_world.specs.Lawful.{station_for}
-use Rattle.agv_world.specs.Questions.{is_live_to}
+use Rattle.agv_world.specs.Questions.{loads_on_vehicle, reserved_by}
 use Rattle.agv_world.specs.Worlds.{Vehicle, World}
 use Rattle.agv_world.specs.declared.row.JobRow.{JobRow}
 
@@ -79,14 +80,6 @@ Jobs = finite.FinMap name_cmp JobRow
 abbrev pub stored : Places → List ℕ → ℕ
 stored places station = count_by (λ (load : List ℕ × Place). is_at station load.1) (finite.entries places)
 
--- how many loads are on a vehicle
-abbrev pub loads_on_vehicle : Places → VehicleKey → ℕ
-loads_on_vehicle places key = count_by (λ (load : List ℕ × Place). is_on key load.1) (finite.entries places)
-
--- how many live jobs go to a station
-abbrev pub coming : Jobs → List ℕ → ℕ
-coming jobs station = count_by (λ (job : List ℕ × JobRow). is_live_to station job.1) (finite.entries jobs)
-
 -- ---- what is joined
 
 -- the station of a place is known
@@ -131,13 +124,13 @@ pub record IsCarriedOn (carries : VehicleKey → List ActionView) (job : List �
   pub undone : action_view.finished ≡ false
 
 pub record StockInvariant (layout : Layout) (carries : VehicleKey → List ActionView) (capacity : VehicleKey → ℕ) (places : Places) (jobs : Jobs) : Type 0 where
-  pub few_loads : finite.len places ≤ 1000000
-  pub few_jobs : finite.len jobs ≤ 1000000
+  pub few_loads : finite.len places ≤ most_records
+  pub few_jobs : finite.len jobs ≤ most_records
   pub loads_named : (load : List ℕ) (place : Place) → finite.get places load ≡ Some place → IsName load
   pub jobs_named : (job : List ℕ) (row : JobRow) → finite.get jobs job ≡ Some row → IsName job
   pub known_places : (load : List ℕ) (place : Place) → finite.get places load ≡ Some place → IsKnownPlace layout place
   pub known : (job : List ℕ) (row : JobRow) → finite.get jobs job ≡ Some row → IsJobOn layout places row
-  pub room : (station : List ℕ) (site : StationSite) → IsStation layout station site → stored places station + coming jobs station ≤ site.capacity
+  pub room : (station : List ℕ) (site : StationSite) → IsStation layout station site → stored places station + reserved_by jobs station ≤ site.capacity
   pub within_capacity : (key : VehicleKey) → loads_on_vehicle places key + to_pick (carries key) ≤ capacity key
   pub one_job : (one other : List ℕ) (row further : JobRow) → finite.get jobs one ≡ Some row → finite.get jobs other ≡ Some further → is_live row.phase ≡ true → is_live further.phase ≡ true → row.load ≡ further.load → one ≡ other
   pub waiting : (job : List ℕ) (row : JobRow) → finite.get jobs job ≡ Some row → row.phase ≡ phase.Waiting → finite.get places row.load ≡ Some (place.Station row.origin)

@@ -3,11 +3,9 @@ use Rattle.std.specs.Prelude.{ℕ, nat_eq, Bool, List, map, filter, filter_map, 
 use Rattle.std.specs.Cmp.Lexicographic.{pointwise}
 use Rattle.std.specs.FinMap as finite
 use Rattle.std.specs.FinSet as set
-use Rattle.std.specs.List.{list_any}
 use Rattle.agv_header.specs.Key.{key_cmp}
 use Rattle.agv_header.specs.KeyOrder.{key_eq}
 use Rattle.agv_header.specs.Name.{name_cmp}
-use Rattle.agv_header.specs.ThingOrder.{thing_eq}
 use Rattle.agv_header.specs.declared.key.Thing.{Thing}
 use Rattle.agv_header.specs.declared.key.VehicleKey.{VehicleKey}
 use Rattle.agv_layout.specs.Layout.{Layout, edge_of}
@@ -15,6 +13,7 @@ use Rattle.agv_layout.specs.declared.edge.Edge.{Edge}
 use Rattle.agv_layout.specs.declared.edge.EdgeEnds.{EdgeEnds}
 use Rattle.agv_order.specs.declared.trip.Trip.{Trip}
 use Rattle.agv_track.specs.Footprints.{footprint_of}
+use Rattle.agv_track.specs.Holds.{is_in}
 use Rattle.agv_world.specs.Keys.{use_rank}
 use Rattle.agv_world.specs.Rows.{standing_of}
 use Rattle.agv_world.specs.Worlds.{Vehicle, World}
@@ -84,23 +83,19 @@ vehicles_in tables entries = map (λ (entry : VehicleKey × VehicleRow). (entry.
 unfoldable pub vehicles_of : Tables → finite.FinMap key_cmp Vehicle
 vehicles_of tables = finite.from_entries (vehicles_in tables (finite.entries tables.vehicles))
 
--- the node or edge is one of these
-abbrev pub is_among : Thing → List Thing → Bool
-is_among thing things = list_any (λ (held : Thing). thing_eq held thing) things
-
 -- the node or edge is in the footprint of the vehicle of this row
 abbrev pub is_held_by : Tables → Thing → VehicleKey × VehicleRow → Bool
-is_held_by tables thing entry = is_among thing (footprint_of (standing_of (vehicle_in tables entry.0 entry.1)))
+is_held_by tables thing entry = is_in thing (footprint_of (standing_of (vehicle_in tables entry.0 entry.1)))
 
 -- ---- used names
 
 -- the name was used in this kind
-abbrev pub is_in : UseKind → UseKey → Bool
-is_in kind key = nat_eq (use_rank key.kind) (use_rank kind)
+abbrev pub is_of_kind : UseKind → UseKey → Bool
+is_of_kind kind key = nat_eq (use_rank key.kind) (use_rank kind)
 
 -- the names of these that were used in this kind
 abbrev pub names_in : UseKind → List UseKey → List (List ℕ)
-names_in kind keys = map (λ (key : UseKey). key.name) (filter (is_in kind) keys)
+names_in kind keys = map (λ (key : UseKey). key.name) (filter (is_of_kind kind) keys)
 
 -- the names that were used in this kind
 unfoldable pub names_of : Tables → UseKind → set.FinSet name_cmp

@@ -148,11 +148,11 @@ impl UseKind {
 
 impl UseKey {
     ghost use Rattle.std.specs.Prelude.{◌≡◌};
-    ghost use Rattle.agv_world.specs.Told.{is_in};
+    ghost use Rattle.agv_world.specs.Told.{is_of_kind};
 
     /// Whether it is of this kind.
-    pub fn is_in(&self, kind: UseKind) -> bool
-        ensures { result ≡ is_in kind self.now }
+    pub fn is_of_kind(&self, kind: UseKind) -> bool
+        ensures { result ≡ is_of_kind kind self.now }
     {
         self.kind.rank() == kind.rank()
     }

@@ -4,8 +4,9 @@ ghost use Rattle.std.specs.FinMap as map;
 ghost use Rattle.std.specs.FinSet as set;
 ghost use Rattle.agv_order.specs.Trips.{node_at};
 ghost use Rattle.agv_track.specs.Footprints.{along, from_node, released_edges, rest_things, things_by};
+ghost use Rattle.agv_track.specs.Holds.{is_in};
 ghost use Rattle.agv_world.specs.Questions.{row_of, trip_of, room_at, has_room_at, holder_of, is_used, loads_at, loads_on, job_of, reserved, count_of};
-ghost use Rattle.agv_world.specs.Told.{world_of, edge_named, edges_of, trip_in, open_trip, names_of, is_among, is_held_by};
+ghost use Rattle.agv_world.specs.Told.{world_of, edge_named, edges_of, trip_in, open_trip, names_of, is_held_by};
 
 use crate::{Counted, JobRow, TripRow, UseKey, UseKind, VehicleRow, World};
 use agv_header::{Memory, Name, Thing, VehicleKey};
@@ -130,7 +131,7 @@ impl World {
     pub(crate) fn used_count(&self, kind: UseKind) -> usize
         ensures { result ≡ set.len (names_of self.now kind) }
     {
-        self.used.iter().filter(|key| key.is_in(kind)).count()
+        self.used.iter().filter(|key| key.is_of_kind(kind)).count()
     }
 
     // How many vehicles, loads, jobs, orders or references there are.
@@ -236,12 +237,12 @@ impl World {
 
     // Whether the vehicle with the trip of this row holds the node or edge.
     fn is_on_trip(&self, order: Name, row: &TripRow, thing: &Thing) -> bool
-        ensures { result ≡ is_among thing.now (from_node (node_at (trip_in self.now (order, row.now)) row.now.seen) (released_edges (trip_in self.now (order, row.now)))) }
+        ensures { result ≡ is_in thing.now (from_node (node_at (trip_in self.now (order, row.now)) row.now.seen) (released_edges (trip_in self.now (order, row.now)))) }
     {
         let Some(node) = self.node_reached(order, row) else {
             return false;
         };
-        Thing::Node(node) == *thing || self.drives_on(order, row, thing)
+        *thing == Thing::Node(node) || self.drives_on(order, row, thing)
     }
 
     // The node that the trip of a row has reached last; none past its end.
@@ -275,7 +276,7 @@ impl World {
     // Whether the trip of a row drives the edge, or to the node, after the node that it has reached last and
     // up to the last one that is released.
     fn drives_on(&self, order: Name, row: &TripRow, thing: &Thing) -> bool
-        ensures { result ≡ is_among thing.now (along (released_edges (trip_in self.now (order, row.now)))) }
+        ensures { result ≡ is_in thing.now (along (released_edges (trip_in self.now (order, row.now)))) }
     {
         self.legs
             .iter()
@@ -289,24 +290,24 @@ impl World {
 
 // Whether a vehicle without a trip that stands so holds the node or edge.
 fn holds_without_trip(row: &VehicleRow, thing: &Thing) -> bool
-    ensures { result ≡ is_among thing.now (things_by row.now.node row.now.rest None) }
+    ensures { result ≡ is_in thing.now (things_by row.now.node row.now.rest None) }
 {
-    Thing::Node(row.node) == *thing || is_on_rest(row.rest, thing)
+    *thing == Thing::Node(row.node) || is_on_rest(row.rest, thing)
 }
 
 // Whether it is the edge or the node of this rest.
 fn is_on_rest(rest: Option<(Name, Name)>, thing: &Thing) -> bool
-    ensures { result ≡ is_among thing.now (rest_things rest) }
+    ensures { result ≡ is_in thing.now (rest_things rest) }
 {
     let Some((edge, node)) = rest else {
         return false;
     };
-    Thing::Edge(edge) == *thing || Thing::Node(node) == *thing
+    *thing == Thing::Edge(edge) || *thing == Thing::Node(node)
 }
 
 // Whether it is the edge, or the node to which the edge leads.
 fn is_edge_or_finish(thing: &Thing, edge: &Edge) -> bool
-    ensures { result ≡ is_among thing.now (along (edge.now ∷ [])) }
+    ensures { result ≡ is_in thing.now (along (edge.now ∷ [])) }
 {
-    Thing::Edge(edge.id) == *thing || Thing::Node(edge.finish) == *thing
+    *thing == Thing::Edge(edge.id) || *thing == Thing::Node(edge.finish)
 }

@@ -1,5 +1,6 @@
 -- What the calls that touch no trip, and those that put a vehicle without one, leave of the history of a world.
 use Rattle.std.proofs.Common.{◌≡◌, ◌<◌, inl, inr, ℕ, ◌+◌, nat_lt, Bool, true, false, cond, List, [], ◌∷◌, map, Option, None, Some, Result, Ok, Err, refl, sym, subst, ◌∙◌, arith}
+use Rattle.agv_header.specs.Count.{next_number}
 use Rattle.agv_header.specs.declared.key.VehicleKey.{VehicleKey}
 use Rattle.agv_layout.specs.Layout.{Layout}
 use Rattle.agv_layout.specs.declared.fault.LayoutFault.{LayoutFault}
@@ -19,7 +20,6 @@ use Rattle.agv_desk.specs.LayoutSteps.{if_given, set_layout}
 use Rattle.agv_desk.specs.LoadSteps.{register_load, correct_load, leave_load}
 use Rattle.agv_desk.specs.Outcomes.{Effect, Outcome, Nothing, RowOnly, Whole}
 use Rattle.agv_desk.specs.ReadSteps.{get_order, get_instant, get_load, get_vehicle}
-use Rattle.agv_desk.specs.Shared.{next_sent}
 use Rattle.agv_desk.specs.StocktakeSteps.{Row, count_move, new_places, take_stock}
 use Rattle.agv_desk.specs.VehicleSteps.{register_vehicle, place_vehicle, resync}
 use Rattle.agv_desk.proofs.histories.GoingAlong.{ActsOnce, GoesAlong, RowGoesOn, RowsGoOn, TripGoesOn, TripsGoOn}
@@ -40,7 +40,7 @@ counted_times kind order job (load ∷ loads) = counted_times kind order job loa
 -- ---- numbers of messages
 
 -- the next number is greater
-pub next_greater : (sent : Sent) (number : ℕ) → next_sent sent ≡ Some number → sent.count < number
+pub next_greater : (sent : Sent) (number : ℕ) → next_number sent.count ≡ Some number → sent.count < number
 next_greater sent number is = by_test (nat_lt sent.count 4294967295) is
   where
     by_test : (some : Bool) → cond some (Some (sent.count + 1)) None ≡ Some number → sent.count < number

@@ -3,6 +3,7 @@ use Rattle.std.proofs.Common.{◌≡◌, ◌≤◌, ◌<◌, ◌⊎◌, inl, inr
 use Rattle.std.specs.FinMap as finite
 use Rattle.std.specs.Option.{option_map}
 use Rattle.std.proofs.lemmas.Bool.{and_parts, cases_Bool, false≢true}
+use Rattle.agv_header.specs.Count.{is_fresh}
 use Rattle.agv_header.specs.Key.{thing_cmp}
 use Rattle.agv_header.specs.declared.key.Thing.{Thing}
 use Rattle.agv_header.specs.declared.key.VehicleKey.{VehicleKey}
@@ -29,7 +30,7 @@ use Rattle.agv_world.specs.declared.row.VehicleRow.{VehicleRow}
 use Rattle.agv_desk.specs.Histories.{CancelsSince}
 use Rattle.agv_desk.specs.ActSteps.{act_moves}
 use Rattle.agv_desk.specs.Outcomes.{Effect, Outcome, Refused, Made, Nothing, RowOnly, Whole, after, moves_of, with_effect, with_touched}
-use Rattle.agv_desk.specs.StateSteps.{is_fresh, idle_state, pending_of, with_state, row_after, trip_left, trip_state, fresh_state, take_state}
+use Rattle.agv_desk.specs.StateSteps.{idle_state, pending_of, with_state, row_after, trip_left, trip_state, fresh_state, take_state}
 use Rattle.agv_desk.proofs.outcomes.EffectParts.{effect_vehicles}
 use Rattle.agv_desk.proofs.row_changes.Given.{AdvancesTrips}
 use Rattle.agv_desk.proofs.histories.HeardStates.{IsAsTold, IsHeard, IsInstructedSince, IsTold}

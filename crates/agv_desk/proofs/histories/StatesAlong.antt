@@ -3,6 +3,7 @@ use Rattle.std.proofs.Common.{◌≡◌, ◌<◌, ◌&&◌, inl, inr, ℕ, Bool,
 use Rattle.std.specs.FinSet as set
 use Rattle.std.specs.List.{slice_get}
 use Rattle.std.proofs.lemmas.Bool.{false≢true}
+use Rattle.agv_header.specs.Count.{is_fresh}
 use Rattle.agv_header.specs.declared.key.VehicleKey.{VehicleKey}
 use Rattle.agv_message.specs.declared.order.ActKind.{ActKind}
 use Rattle.agv_message.specs.declared.state.StateMessage.{StateMessage}
@@ -19,7 +20,7 @@ use Rattle.agv_world.specs.declared.row.VehicleRow.{VehicleRow}
 use Rattle.agv_desk.specs.Histories.{times}
 use Rattle.agv_desk.specs.ActSteps.{Renewed, act_moves}
 use Rattle.agv_desk.specs.Outcomes.{Effect, Whole, Outcome, branch, with_effect}
-use Rattle.agv_desk.specs.StateSteps.{is_fresh, pending_of, with_state, idle_state, row_after, trip_left, trip_state, fresh_state, take_state}
+use Rattle.agv_desk.specs.StateSteps.{pending_of, with_state, idle_state, row_after, trip_left, trip_state, fresh_state, take_state}
 use Rattle.agv_desk.proofs.histories.ActsCounted.{HasOnce, IsCarriedOut, none_or_one}
 use Rattle.agv_desk.proofs.outcomes.EffectParts.{effect_orders}
 use Rattle.agv_desk.proofs.row_changes.Given.{AdvancesTrips}

@@ -3,6 +3,7 @@ use Rattle.std.proofs.Common.{arith, ◌≡◌, ◌+◌, ◌*◌, ◌<◌, ◌�
 use Rattle.std.proofs.lemmas.Bool.{and_parts}
 use Rattle.std.proofs.lemmas.List.Sums.{length-filter}
 use Rattle.std.specs.FinSet as set
+use Rattle.agv_header.specs.Limits.{most_records}
 use Rattle.agv_header.specs.Name.{IsName}
 use Rattle.agv_header.specs.declared.key.VehicleKey.{VehicleKey}
 use Rattle.agv_layout.specs.Layout.{Layout, KeepsRules}
@@ -26,7 +27,6 @@ use Rattle.agv_world.specs.declared.key.UseKind.TheVariants as used
 use Rattle.agv_world.specs.declared.row.VehicleRow.{VehicleRow}
 use Rattle.agv_desk.specs.OrderSteps.{is_last_confirmed, can_release, sent_on, send_trip, send_order, take_order, start_order, send_update, advance}
 use Rattle.agv_desk.specs.Outcomes.{Effect}
-use Rattle.agv_desk.specs.Shared.{most}
 use Rattle.agv_desk.specs.WellTyped.{IsMoment, IsSeats}
 use Rattle.agv_desk.proofs.row_changes.Given.{Given}
 use Rattle.agv_desk.proofs.outcomes.Keeping.{KeepsVehicles}
@@ -39,7 +39,7 @@ use Rattle.agv_desk.proofs.lawful_worlds.LawfulVehiclesWritten.{as_many_vehicles
 use Rattle.agv_desk.proofs.row_changes.OrderRows.{fresh, made_planned, plan_of_order, plan_begins, trip_is}
 use Rattle.agv_desk.proofs.row_changes.Steps.{missing, not_true}
 
-few_orders : (world : World) → nat_lt (count_of world counted.Orders) most ≡ true → set.len world.orders < 1000000
+few_orders : (world : World) → nat_lt (count_of world counted.Orders) most_records ≡ true → set.len world.orders < 1000000
 unfolding count_of
 few_orders world few = ltb-true (set.len world.orders) 1000000 few
 

@@ -3,6 +3,7 @@ use Rattle.std.proofs.Common.{◌≡◌, ◌<◌, ◌≤◌, ℕ, nat_lt, List, 
 use Rattle.std.proofs.lemmas.Bool.{and_parts}
 use Rattle.std.specs.FinMap as finite
 use Rattle.std.specs.FinSet as set
+use Rattle.agv_header.specs.Limits.{most_records}
 use Rattle.agv_header.specs.Name.{IsName}
 use Rattle.agv_header.specs.declared.key.VehicleKey.{VehicleKey}
 use Rattle.agv_layout.specs.Rows.{AreNamed}
@@ -23,7 +24,6 @@ use Rattle.agv_desk.specs.LayoutSteps.{set_layout}
 use Rattle.agv_desk.specs.LoadSteps.{register_load, correct_load, leave_load}
 use Rattle.agv_desk.specs.Outcomes.{Effect}
 use Rattle.agv_desk.specs.ReadSteps.{get_order, get_instant, get_load, get_vehicle}
-use Rattle.agv_desk.specs.Shared.{most}
 use Rattle.agv_desk.specs.StateSteps.{idle_state}
 use Rattle.agv_desk.specs.StocktakeSteps.{Row, take_stock}
 use Rattle.agv_desk.specs.VehicleSteps.{new_vehicle, placed, register_vehicle, place_vehicle, resync}
@@ -44,7 +44,7 @@ few_vehicles : (world : World) → nat_lt (count_of world counted.Vehicles) 100 
 unfolding count_of
 few_vehicles world few = ltb-true (finite.len world.vehicles) 100 few
 
-few_references : (world : World) → nat_lt (count_of world counted.References) most ≡ true → set.len world.references < 1000000
+few_references : (world : World) → nat_lt (count_of world counted.References) most_records ≡ true → set.len world.references < 1000000
 unfolding count_of
 few_references world few = ltb-true (set.len world.references) 1000000 few
 

@@ -1,6 +1,7 @@
 -- The row of a vehicle after a call is as it has to be: where a message was sent, a state was heard, or the vehicle is somewhere else.
 use Rattle.std.proofs.Common.{arith, ◌≡◌, ◌+◌, ◌<◌, ◌≤◌, ◌&&◌, ℕ, Bool, true, false, cond, count_by, nat_lt, nat_le, List, Option, None, Some, refl, sym, ap, subst, ltb-true, leb-true, ◌∙◌}
 use Rattle.std.proofs.lemmas.Bool.{and_parts}
+use Rattle.agv_header.specs.Count.{next_number}
 use Rattle.agv_header.specs.Name.{IsName, as_name, is_name}
 use Rattle.agv_header.specs.declared.key.VehicleKey.{VehicleKey}
 use Rattle.agv_layout.specs.Layout.{Layout, IsNode}
@@ -11,7 +12,6 @@ use Rattle.agv_world.specs.Lawful.{IsRestAt, IsSent, IsTripOf, IsVehicleOf, pick
 use Rattle.agv_world.specs.declared.row.Sent.{Sent}
 use Rattle.agv_world.specs.declared.row.VehicleRow.{VehicleRow}
 use Rattle.agv_desk.specs.OrderSteps.{sent_on}
-use Rattle.agv_desk.specs.Shared.{next_sent}
 use Rattle.agv_desk.specs.StateSteps.{with_state}
 use Rattle.agv_desk.specs.VehicleSteps.{new_vehicle, placed}
 use Rattle.agv_desk.specs.WellTyped.{IsMoment}
@@ -20,21 +20,21 @@ use Rattle.agv_desk.proofs.outcomes.Known.{none_some, same_some}
 -- ---- what was sent
 
 -- the next number is one more, and in its range
-pub next_number : (sent : Sent) (number : ℕ) → next_sent sent ≡ Some number → (number ≡ sent.count + 1) × (number ≤ 4294967295)
-next_number sent number = by_test (nat_lt sent.count 4294967295) refl
+pub next_of : (sent : Sent) (number : ℕ) → next_number sent.count ≡ Some number → (number ≡ sent.count + 1) × (number ≤ 4294967295)
+next_of sent number = by_test (nat_lt sent.count 4294967295) refl
   where
     by_test : (few : Bool) → nat_lt sent.count 4294967295 ≡ few → cond few (Some (sent.count + 1)) None ≡ Some number → (number ≡ sent.count + 1) × (number ≤ 4294967295)
     by_test true few e = let is = same_some e in (sym is, omega (arith, is, ltb-true sent.count 4294967295 few))
     by_test false few e = none_some e
 
-pub some_sent : (sent : Sent) (number : ℕ) → next_sent sent ≡ Some number → 0 < number
-some_sent sent number next = omega (arith, (next_number sent number next).0)
+pub some_sent : (sent : Sent) (number : ℕ) → next_number sent.count ≡ Some number → 0 < number
+some_sent sent number next = omega (arith, (next_of sent number next).0)
 
-pub is_sent : (sent : Sent) (number at : ℕ) → next_sent sent ≡ Some number → IsMoment at → IsSent (record { count = number; at = at })
+pub is_sent : (sent : Sent) (number at : ℕ) → next_number sent.count ≡ Some number → IsMoment at → IsSent (record { count = number; at = at })
 is_sent sent number at next moment = record {
-  number = (next_number sent number next).1;
+  number = (next_of sent number next).1;
   moment = moment;
-  none = λ zero. absurd (omega (arith, zero, (next_number sent number next).0));
+  none = λ zero. absurd (omega (arith, zero, (next_of sent number next).0));
 }
 
 -- ---- what was heard
@@ -109,7 +109,7 @@ module _ (seats : ℕ) (layout : Layout) (row : VehicleRow) (lawful : IsVehicleO
   }
 
   -- it was sent an instant action
-  pub instructed_row : (number at : ℕ) (kind : InstantKind) → next_sent row.instants ≡ Some number → IsMoment at
+  pub instructed_row : (number at : ℕ) (kind : InstantKind) → next_number row.instants.count ≡ Some number → IsMoment at
       → IsVehicleOf seats layout (record row { instants = record { count = number; at = at }; pending = Some kind })
   instructed_row number at kind next moment = record {
     carries = lawful.carries;
@@ -124,7 +124,7 @@ module _ (seats : ℕ) (layout : Layout) (row : VehicleRow) (lawful : IsVehicleO
   }
 
   -- it was sent an order message
-  pub ordered_row : (number at : ℕ) (trip : Option Trip) → next_sent row.orders ≡ Some number → IsMoment at → IsVehicleOf seats layout (sent_on row at number trip).row
+  pub ordered_row : (number at : ℕ) (trip : Option Trip) → next_number row.orders.count ≡ Some number → IsMoment at → IsVehicleOf seats layout (sent_on row at number trip).row
   ordered_row number at trip next moment = record {
     carries = lawful.carries;
     seated = lawful.seated;

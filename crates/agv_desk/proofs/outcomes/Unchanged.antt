@@ -2,6 +2,7 @@
 use Rattle.std.proofs.Common.{◌≡◌, ◌≤◌, nat_lt, ℕ, Bool, true, false, Option, None, Some, refl, sym, ap, subst, ◌∙◌, arith}
 use Rattle.std.proofs.lemmas.Bool.{false≢true}
 use Rattle.std.proofs.lemmas.Bool.Decides.{nat_tests}
+use Rattle.agv_header.specs.Count.{is_fresh}
 use Rattle.agv_header.specs.declared.key.VehicleKey.{VehicleKey}
 use Rattle.agv_header.specs.declared.refusal.Refusal.{Refusal}
 use Rattle.agv_header.specs.declared.refusal.Refusal.TheVariants as refusal
@@ -9,7 +10,7 @@ use Rattle.agv_message.specs.declared.state.StateMessage.{StateMessage}
 use Rattle.agv_world.specs.Questions.{trip_of}
 use Rattle.agv_world.specs.Worlds.{World}
 use Rattle.agv_desk.specs.Outcomes.{Made, Outcome, after, answer_of, branch, decided, refuse_if_none, answer_only}
-use Rattle.agv_desk.specs.StateSteps.{fresh_state, is_fresh, take_state}
+use Rattle.agv_desk.specs.StateSteps.{fresh_state, take_state}
 use Rattle.agv_desk.specs.Step.{step}
 use Rattle.agv_desk.specs.Unchanged.{ChangesNothing, IsOld, only_tells}
 use Rattle.agv_desk.specs.declared.answer.Answer.{Answer}

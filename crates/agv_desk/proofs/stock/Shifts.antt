@@ -13,8 +13,8 @@ use Rattle.agv_stock.specs.Rooms.{is_at, is_on}
 use Rattle.agv_stock.specs.declared.job.Phase.{Phase}
 use Rattle.agv_stock.specs.declared.job.Phase.TheVariants.{Waiting, Riding}
 use Rattle.agv_stock.specs.declared.place.Place.{Place}
-use Rattle.agv_world.specs.StockInvariant.{ActionView, StockInvariant, IsCarried, IsJobOn, IsKnownPlace, Jobs, Places, ActStands, loads_on_vehicle, coming, to_pick, stored}
-use Rattle.agv_world.specs.Questions.{is_live_to}
+use Rattle.agv_world.specs.StockInvariant.{ActionView, StockInvariant, IsCarried, IsJobOn, IsKnownPlace, Jobs, Places, ActStands, to_pick, stored}
+use Rattle.agv_world.specs.Questions.{is_live_to, loads_on_vehicle, reserved_by}
 use Rattle.agv_world.specs.declared.row.JobRow.{JobRow}
 use Rattle.agv_world.proofs.lists.Orders.{names_total, names_apart}
 use Rattle.agv_desk.proofs.lists.Writes.{IsWritten, len-written, one_if, same_or_other, tally-written, weight, written_cases, written_has}
@@ -141,9 +141,9 @@ module _ (layout : Layout) (carries : VehicleKey → List ActionView) (capacity 
       subst (λ (found : Option Place). stored c.places_after station + weight (is_at station) found ≡ stored places station + one_if (is_at station c.to)) c.place_was
       (tally-written names_total names_apart (is_at station) places c.row.load c.to c.places_after c.place_is)
 
-  coming_after : (station : List ℕ) → coming c.jobs_after station + one_if (is_live_to station c.row) ≡ coming jobs station + one_if (is_live_to station row_after)
-  coming_after station =
-      subst (λ (found : Option JobRow). coming c.jobs_after station + weight (is_live_to station) found ≡ coming jobs station + one_if (is_live_to station row_after)) c.job_was
+  reserved_after : (station : List ℕ) → reserved_by c.jobs_after station + one_if (is_live_to station c.row) ≡ reserved_by jobs station + one_if (is_live_to station row_after)
+  reserved_after station =
+      subst (λ (found : Option JobRow). reserved_by c.jobs_after station + weight (is_live_to station) found ≡ reserved_by jobs station + one_if (is_live_to station row_after)) c.job_was
       (tally-written names_total names_apart (is_live_to station) jobs c.job row_after c.jobs_after c.job_is)
 
   on_vehicle_after : (key : VehicleKey) → loads_on_vehicle c.places_after key + one_if (is_on key c.from) ≡ loads_on_vehicle places key + one_if (is_on key c.to)
@@ -182,7 +182,7 @@ module _ (layout : Layout) (carries : VehicleKey → List ActionView) (capacity 
       | inl here ↦ subst (IsJobOn layout c.places_after) (sym here.1) known_after
       | inr old ↦ known_as_before row (stock.known job row old.1)
     ];
-    room = λ station site there. room_kept _ _ _ _ _ _ _ _ _ (stored_after station) (coming_after station) (c.room station) (stock.room station site there);
+    room = λ station site there. room_kept _ _ _ _ _ _ _ _ _ (stored_after station) (reserved_after station) (c.room station) (stock.room station site there);
     within_capacity = capacity_after;
     one_job = λ one other row further there more live still_live same. elim (job_case one row there) [
       | inl here ↦ elim (job_case other further more) [

@@ -16,8 +16,8 @@ use Rattle.agv_stock.specs.Rooms.{is_at, room_left}
 use Rattle.agv_stock.specs.declared.goal.Goal.{Goal}
 use Rattle.agv_stock.specs.declared.place.Place.{Place}
 use Rattle.agv_stock.specs.declared.place.Place.TheVariants as place
-use Rattle.agv_world.specs.StockInvariant.{HasStockInvariant, IsKnownPlace, coming, stored}
-use Rattle.agv_world.specs.Questions.{has_room_at, is_live_for, job_of, loads_at, reserved, room_at}
+use Rattle.agv_world.specs.StockInvariant.{HasStockInvariant, IsKnownPlace, stored}
+use Rattle.agv_world.specs.Questions.{has_room_at, is_live_for, job_of, loads_at, reserved, room_at, reserved_by}
 use Rattle.agv_world.specs.Worlds.{World}
 use Rattle.agv_world.specs.declared.row.JobRow.{JobRow}
 use Rattle.agv_world.proofs.lists.Entries.{same_Some}
@@ -148,13 +148,13 @@ module _ (world : World) where
 
   -- one load more fits where there is room
   one_fits : (station : List ℕ) (site : StationSite) (room : ℕ) → IsStation world.layout station site → room_at world station ≡ Some room → (room == 0) ≡ false
-      → stored world.places station + coming world.jobs station + 1 ≤ site.capacity
+      → stored world.places station + reserved_by world.jobs station + 1 ≤ site.capacity
   unfolding room_at reserved
   one_fits station site room there is some =
       let left : Option StationSite → Option ℕ = λ found. option_map (λ (site : StationSite). room_left site.capacity (length (loads_at world station)) (reserved world station)) found in
-      let told : room_left site.capacity (length (loads_at world station)) (coming world.jobs station) ≡ room = same_Some _ _ (sym (ap left there) ∙ is) in
-      subst (λ loads. loads + coming world.jobs station + 1 ≤ site.capacity) (stored_is station)
-      (some_left site.capacity (length (loads_at world station)) (coming world.jobs station) room told some)
+      let told : room_left site.capacity (length (loads_at world station)) (reserved_by world.jobs station) ≡ room = same_Some _ _ (sym (ap left there) ∙ is) in
+      subst (λ loads. loads + reserved_by world.jobs station + 1 ≤ site.capacity) (stored_is station)
+      (some_left site.capacity (length (loads_at world station)) (reserved_by world.jobs station) room told some)
 
   -- the station where a load is to go is known
   pub goal_known : (station : Option (List ℕ)) → is_known (goal_of world station) ≡ true → IsKnownPlace world.layout (place_of station)
@@ -167,17 +167,17 @@ module _ (world : World) where
   module _ (stock : HasStockInvariant world) where
     -- one that goes to a station where there is room fits
     pub fits_more : (station : List ℕ) → is_known (goal_of world (Some station)) ≡ true → has_room (goal_of world (Some station)) ≡ true
-        → (other : List ℕ) (site : StationSite) → IsStation world.layout other site → stored world.places other + coming world.jobs other + one_if (pointwise nat_eq station other) ≤ site.capacity
+        → (other : List ℕ) (site : StationSite) → IsStation world.layout other site → stored world.places other + reserved_by world.jobs other + one_if (pointwise nat_eq station other) ≤ site.capacity
     fits_more station known has other site there =
         let fits = fits_there station (has_room_at world station) known has in
         let room = room_there station true fits in
         let some = some_room station room.0 room.1 fits in
-        elim (pointwise nat_eq station other) as (λ b. pointwise nat_eq station other ≡ b → stored world.places other + coming world.jobs other + one_if b ≤ site.capacity) [
+        elim (pointwise nat_eq station other) as (λ b. pointwise nat_eq station other ≡ b → stored world.places other + reserved_by world.jobs other + one_if b ≤ site.capacity) [
           | true ↦ λ same. one_fits other site room.0 there (ap (room_at world) (sym (same_name station other same)) ∙ room.1) some
           | false ↦ λ differs. omega (arith, stock.room other site there)
         ] refl
 
     pub goal_fits : (station : Option (List ℕ)) → is_known (goal_of world station) ≡ true → has_room (goal_of world station) ≡ true
-        → (other : List ℕ) (site : StationSite) → IsStation world.layout other site → stored world.places other + coming world.jobs other + one_if (is_at other (place_of station)) ≤ site.capacity
+        → (other : List ℕ) (site : StationSite) → IsStation world.layout other site → stored world.places other + reserved_by world.jobs other + one_if (is_at other (place_of station)) ≤ site.capacity
     goal_fits None known has other site there = omega (arith, stock.room other site there)
     goal_fits (Some station) known has other site there = fits_more station known has other site there

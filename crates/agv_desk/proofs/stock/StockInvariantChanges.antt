@@ -14,8 +14,8 @@ use Rattle.agv_stock.specs.declared.job.Phase.{Phase}
 use Rattle.agv_stock.specs.declared.job.Phase.TheVariants.{Waiting, Riding}
 use Rattle.agv_stock.specs.declared.place.Place.{Place}
 use Rattle.agv_stock.specs.declared.place.Place.TheVariants as place
-use Rattle.agv_world.specs.StockInvariant.{ActionView, StockInvariant, HasStockInvariant, IsJobOn, IsKnownPlace, Jobs, Places, capacity_for, capacity_of, coming, action_views_by, action_views_for, action_views_of, stored}
-use Rattle.agv_world.specs.Questions.{is_live_to}
+use Rattle.agv_world.specs.StockInvariant.{ActionView, StockInvariant, HasStockInvariant, IsJobOn, IsKnownPlace, Jobs, Places, capacity_for, capacity_of, action_views_by, action_views_for, action_views_of, stored}
+use Rattle.agv_world.specs.Questions.{is_live_to, reserved_by}
 use Rattle.agv_world.specs.VehicleChanges.{with_vehicle}
 use Rattle.agv_world.specs.Worlds.{Vehicle, World}
 use Rattle.agv_world.specs.declared.row.JobRow.{JobRow}
@@ -38,7 +38,7 @@ pub record PlaceChange (layout : Layout) (places : Places) (jobs : Jobs) : Type 
   pub known_place : IsKnownPlace layout to
   pub free : IsFree jobs load
   pub ashore : (key : VehicleKey) → is_on key to ≡ false
-  pub room : (station : List ℕ) (site : StationSite) → IsStation layout station site → stored places station + coming jobs station + one_if (is_at station to) ≤ site.capacity + weight (is_at station) (finite.get places load)
+  pub room : (station : List ℕ) (site : StationSite) → IsStation layout station site → stored places station + reserved_by jobs station + one_if (is_at station to) ≤ site.capacity + weight (is_at station) (finite.get places load)
 
 -- a job, new or in no open trip, is written that does not ride
 pub record JobChange (layout : Layout) (carries : VehicleKey → List ActionView) (places : Places) (jobs : Jobs) : Type 0 where
@@ -53,7 +53,7 @@ pub record JobChange (layout : Layout) (carries : VehicleKey → List ActionView
   pub not_riding : row.phase ≢ Riding
   pub alone : is_live row.phase ≡ true → (other : List ℕ) (further : JobRow) → finite.get jobs other ≡ Some further → is_live further.phase ≡ true → further.load ≡ row.load → other ≡ job
   pub waits : row.phase ≡ Waiting → finite.get places row.load ≡ Some (place.Station row.origin)
-  pub room : (station : List ℕ) (site : StationSite) → IsStation layout station site → stored places station + coming jobs station + one_if (is_live_to station row) ≤ site.capacity + weight (is_live_to station) (finite.get jobs job)
+  pub room : (station : List ℕ) (site : StationSite) → IsStation layout station site → stored places station + reserved_by jobs station + one_if (is_live_to station row) ≤ site.capacity + weight (is_live_to station) (finite.get jobs job)
 
 room_stored : (n o p q j c : ℕ) → n + o ≡ p + q → p + j + q ≤ c + o → n + j ≤ c
 room_stored n o p q j c e f = omega arith

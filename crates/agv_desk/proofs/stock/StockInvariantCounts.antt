@@ -14,8 +14,8 @@ use Rattle.agv_stock.specs.Phase.{is_live}
 use Rattle.agv_stock.specs.Rooms.{is_at, is_on}
 use Rattle.agv_stock.specs.declared.place.Place.{Place}
 use Rattle.agv_stock.specs.declared.place.Place.TheVariants as place
-use Rattle.agv_world.specs.StockInvariant.{StockInvariant, ActionView, HasStockInvariant, IsKnownPlace, Jobs, Places, loads_on_vehicle, capacity_of, coming, action_views_of, stored}
-use Rattle.agv_world.specs.Questions.{reserved}
+use Rattle.agv_world.specs.StockInvariant.{StockInvariant, ActionView, HasStockInvariant, IsKnownPlace, Jobs, Places, capacity_of, action_views_of, stored}
+use Rattle.agv_world.specs.Questions.{reserved, loads_on_vehicle, reserved_by}
 use Rattle.agv_world.specs.Worlds.{World}
 use Rattle.agv_world.specs.declared.row.JobRow.{JobRow}
 use Rattle.agv_world.proofs.lists.Entries.{entries_found, same_Some}
@@ -45,7 +45,7 @@ pub record PlacesChange (layout : Layout) (places : Places) (jobs : Jobs) : Type
   pub few : finite.len after ≤ 1000000
   pub came : (load : List ℕ) (at : Place) → finite.get after load ≡ Some at → (finite.get places load ≡ Some at) ⊎ (IsName load × IsKnownPlace layout at)
   pub stays : (load : List ℕ) (at : Place) → finite.get places load ≡ Some at → (finite.get after load ≡ Some at) ⊎ (IsFree jobs load × IsKnown after load)
-  pub room : (station : List ℕ) (site : StationSite) → IsStation layout station site → stored after station + coming jobs station ≤ site.capacity
+  pub room : (station : List ℕ) (site : StationSite) → IsStation layout station site → stored after station + reserved_by jobs station ≤ site.capacity
   pub ashore : (key : VehicleKey) → loads_on_vehicle after key ≤ loads_on_vehicle places key
 
 module _ (layout : Layout) (carries : VehicleKey → List ActionView) (capacity : VehicleKey → ℕ) (places : Places) (jobs : Jobs) (stock : StockInvariant layout carries capacity places jobs) (c : PlacesChange layout places jobs) where
@@ -242,20 +242,20 @@ module _ (world : World) (rows : List Row) (known : AreKnown world rows rows) wh
         | false ↦ λ differs. ap (is_at station) other.1 ∙ differs
       ] refl
 
-fits_is : (world : World) (rows : List Row) (station : List ℕ) (found : Option StationSite) (site : StationSite) → found ≡ Some site → fits world rows station found ≡ true → found_here world rows station + coming world.jobs station ≤ site.capacity
+fits_is : (world : World) (rows : List Row) (station : List ℕ) (found : Option StationSite) (site : StationSite) → found ≡ Some site → fits world rows station found ≡ true → found_here world rows station + reserved_by world.jobs station ≤ site.capacity
 unfolding reserved
 fits_is world rows station None site is fit = none_some is
 fits_is world rows station (Some other) site is fit =
-    subst (λ (one : StationSite). found_here world rows station + coming world.jobs station ≤ one.capacity) (same_Some _ _ is) (le_of _ _ fit)
+    subst (λ (one : StationSite). found_here world rows station + reserved_by world.jobs station ≤ one.capacity) (same_Some _ _ is) (le_of _ _ fit)
   where
     le_of : (n m : ℕ) → nat_le n m ≡ true → n ≤ m
     le_of n m e = grind (arith, nat_tests)
 
 module _ (world : World) (stock : HasStockInvariant world) where
   room_after : (rows : List Row) (known : AreKnown world rows rows) (ashore : list_any (λ (row : Row). finds_on_vehicle world row.1) rows ≡ false) → list_all (λ (row : Row). fits world rows row.0 (finite.get world.layout.stations row.0)) rows ≡ true
-      → (station : List ℕ) (site : StationSite) → IsStation world.layout station site → stored (moved world.places (count_moves world rows)) station + coming world.jobs station ≤ site.capacity
+      → (station : List ℕ) (site : StationSite) → IsStation world.layout station site → stored (moved world.places (count_moves world rows)) station + reserved_by world.jobs station ≤ site.capacity
   room_after rows known ashore room station site there =
-      elim (is_counted rows station) as (λ b. is_counted rows station ≡ b → stored (moved world.places (count_moves world rows)) station + coming world.jobs station ≤ site.capacity) [
+      elim (is_counted rows station) as (λ b. is_counted rows station ≡ b → stored (moved world.places (count_moves world rows)) station + reserved_by world.jobs station ≤ site.capacity) [
         | true ↦ λ counted.
             fewer _ _ _ _ (counted_few world station rows (moved world.places (count_moves world rows)) (taken world rows ashore) counted)
             (fits_is world rows station (finite.get world.layout.stations station) site there

@@ -12,8 +12,8 @@ use Rattle.agv_order.specs.declared.fault.PlanFault.{PlanFault}
 use Rattle.agv_order.specs.declared.stop.Stop.{Stop}
 use Rattle.agv_order.specs.declared.trip.Trip.{Trip}
 use Rattle.agv_stock.specs.declared.job.Job.{Job}
-use Rattle.agv_world.specs.StockInvariant.{StockInvariant, HasStockInvariant, loads_on_vehicle, capacity_for, capacity_of, action_views_for, action_views_of}
-use Rattle.agv_world.specs.Questions.{loads_on, row_of, trip_of}
+use Rattle.agv_world.specs.StockInvariant.{StockInvariant, HasStockInvariant, capacity_for, capacity_of, action_views_for, action_views_of}
+use Rattle.agv_world.specs.Questions.{loads_on, row_of, trip_of, loads_on_vehicle}
 use Rattle.agv_world.specs.TableChanges.{written}
 use Rattle.agv_world.specs.VehicleChanges.{with_vehicle}
 use Rattle.agv_world.specs.Worlds.{World}

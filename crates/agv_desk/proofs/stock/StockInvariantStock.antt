@@ -4,6 +4,7 @@ use Rattle.std.specs.FinMap as finite
 use Rattle.std.specs.List.{slice_get}
 use Rattle.std.proofs.lemmas.Bool.{false≢true}
 use Rattle.std.proofs.lemmas.Bool.Decides.{nat_tests}
+use Rattle.agv_header.specs.Limits.{most_records}
 use Rattle.agv_header.specs.Name.{IsName, name_cmp}
 use Rattle.agv_header.specs.declared.key.VehicleKey.{VehicleKey}
 use Rattle.agv_message.specs.declared.order.ActKind.{ActKind}
@@ -22,7 +23,6 @@ use Rattle.agv_world.proofs.lists.Orders.{names_total, names_apart}
 use Rattle.agv_desk.specs.JobSteps.{add_job, is_waiting, stop_job}
 use Rattle.agv_desk.specs.LoadSteps.{correct_load, leave_load, place_of, register_load}
 use Rattle.agv_desk.specs.Outcomes.{Effect}
-use Rattle.agv_desk.specs.Shared.{most}
 use Rattle.agv_desk.proofs.stock.StockInvariantChanges.{job_kept, place_kept}
 use Rattle.agv_desk.proofs.outcomes.Keeping.{KeepsStock}
 use Rattle.agv_desk.proofs.outcomes.Known.{none_some}
@@ -31,24 +31,24 @@ use Rattle.agv_desk.proofs.stock.StockChecks.{adds, corrects, fits_more, free_if
 use Rattle.agv_desk.proofs.lists.Writes.{is_written, len-written, len-written-le}
 
 -- ---- how many there are
-less_than : (n : ℕ) → nat_lt n most ≡ true → n < 1000000
+less_than : (n : ℕ) → nat_lt n most_records ≡ true → n < 1000000
 less_than n e = grind (arith, nat_tests)
 
 one_more : (n m : ℕ) → n ≤ m + 1 → m < 1000000 → n ≤ 1000000
 one_more n m more less = omega arith
 
-few_more : {X : Type 0} (m : finite.FinMap name_cmp X) (name : List ℕ) (x : X) → nat_lt (finite.len m) most ≡ true → finite.len (finite.insert m name x) ≤ 1000000
+few_more : {X : Type 0} (m : finite.FinMap name_cmp X) (name : List ℕ) (x : X) → nat_lt (finite.len m) most_records ≡ true → finite.len (finite.insert m name x) ≤ 1000000
 few_more m name x few = one_more _ _ (len-written-le names_total names_apart m name x _ (is_written names_total names_apart m name x)) (less_than (finite.len m) few)
 
 as_many : {X : Type 0} (m : finite.FinMap name_cmp X) (name : List ℕ) (x old : X) → finite.get m name ≡ Some old → finite.len m ≤ 1000000 → finite.len (finite.insert m name x) ≤ 1000000
 as_many m name x old there few =
     subst (λ n. n ≤ 1000000) (sym (len-written names_total names_apart m name x old _ (is_written names_total names_apart m name x) there)) few
 
-few_loads : (world : World) → nat_lt (count_of world counted.Loads) most ≡ true → nat_lt (finite.len world.places) most ≡ true
+few_loads : (world : World) → nat_lt (count_of world counted.Loads) most_records ≡ true → nat_lt (finite.len world.places) most_records ≡ true
 unfolding count_of
 few_loads world few = few
 
-few_jobs : (world : World) → nat_lt (count_of world counted.Jobs) most ≡ true → nat_lt (finite.len world.jobs) most ≡ true
+few_jobs : (world : World) → nat_lt (count_of world counted.Jobs) most_records ≡ true → nat_lt (finite.len world.jobs) most_records ≡ true
 unfolding count_of
 few_jobs world few = few
 

@@ -8,6 +8,7 @@ use Rattle.std.specs.Ordering.{eq_by_cmp}
 use Rattle.std.proofs.lemmas.Bool.{false≢true, and_parts, or_left, or_right}
 use Rattle.std.proofs.lemmas.List.{length-map}
 use Rattle.std.proofs.lemmas.List.Sums.{sum_by-cons}
+use Rattle.agv_header.specs.Limits.{most_records}
 use Rattle.agv_header.specs.Name.{name_cmp}
 use Rattle.agv_header.specs.declared.refusal.Refusal.TheVariants as refusal
 use Rattle.agv_layout.specs.declared.station.StationSite.{StationSite}
@@ -19,7 +20,7 @@ use Rattle.agv_world.proofs.lists.Entries.{entries_found}
 use Rattle.agv_world.proofs.lists.Orders.{names_total}
 use Rattle.agv_desk.specs.CountParts.{all_have_room, count_by_parts, found_in, has_room_for, is_found_at, moves_list, count_at, counted_loads, standing, stations_in, unknown_one}
 use Rattle.agv_desk.specs.Outcomes.{Outcome, Made, Move, Refused, refuse_unless, answer_only}
-use Rattle.agv_desk.specs.Shared.{most, is_in_job, reference_key}
+use Rattle.agv_desk.specs.Shared.{is_in_job, reference_key}
 use Rattle.agv_desk.specs.StocktakeSteps.{Row, are_known, count_loads, count_move, finds_on_vehicle, finds_known, fits, found_here, is_on_vehicle, is_counted, is_here, new_places, unknown_in, unknown_on}
 use Rattle.agv_desk.specs.declared.answer.Answer.TheVariants as answer
 use Rattle.agv_desk.specs.declared.stocktake.counted_load.CountedLoad.{CountedLoad}
@@ -135,7 +136,7 @@ module _ (world : World) where
       refuse_unless (not (on_vehicle_are rows i)) refusal.OnVehicle
       (refuse_unless (not (in_job i)) refusal.InJob
       (refuse_unless (room_is rows known i) refusal.Full
-      (refuse_unless (nat_lt (count_of world counted.References) most) refusal.Limit
+      (refuse_unless (nat_lt (count_of world counted.References) most_records) refusal.Limit
       (Made (record (answer_only (answer.Counted (count i) (unknown_are rows i))) { moves = map count_move (moves i); uses = reference_key reference ∷ [] })))))
 
 -- a list of moves, as rows that change

@@ -9,8 +9,8 @@ use Rattle.agv_order.specs.StopPlaces.{IsAt}
 use Rattle.agv_order.specs.declared.stop.Stop.{Stop}
 use Rattle.agv_stock.specs.Phase.{is_live}
 use Rattle.agv_stock.specs.declared.job.Phase.TheVariants as phase
-use Rattle.agv_world.specs.StockInvariant.{Jobs, coming}
-use Rattle.agv_world.specs.Questions.{is_live_to}
+use Rattle.agv_world.specs.StockInvariant.{Jobs}
+use Rattle.agv_world.specs.Questions.{is_live_to, reserved_by}
 use Rattle.agv_world.specs.TableChanges.{written}
 use Rattle.agv_world.specs.Worlds.{World}
 use Rattle.agv_world.specs.declared.row.JobRow.{JobRow}
@@ -35,11 +35,11 @@ module _ (world : World) (Picks : List ℕ → Type 0) where
   -- some jobs have begun
   pub record Begun (jobs : Jobs) : Type 0 where
     pub few : finite.len jobs ≡ finite.len world.jobs
-    pub coming : (station : List ℕ) → coming jobs station ≡ coming world.jobs station
+    pub reserved_by : (station : List ℕ) → reserved_by jobs station ≡ reserved_by world.jobs station
     pub each : (job : List ℕ) → (finite.get jobs job ≡ finite.get world.jobs job) ⊎ HasBegun jobs job
 
   pub none_begun : Begun world.jobs
-  none_begun = record { few = refl; coming = λ station. refl; each = λ job. inl refl }
+  none_begun = record { few = refl; reserved_by = λ station. refl; each = λ job. inl refl }
 
   -- what a job that waited is, whether it has begun or not
   record IsLiveAs (jobs : Jobs) (job : List ℕ) (row : JobRow) : Type 0 where
@@ -61,10 +61,10 @@ module _ (world : World) (Picks : List ℕ → Type 0) where
       let old = live_as jobs begun job waits in
       record {
         few = len-written names_total names_apart jobs job (rides waits.row) old.now _ put old.there ∙ begun.few;
-        coming = λ station.
-            let count = subst (λ (o : Option JobRow). coming (finite.insert jobs job (rides waits.row)) station + weight (is_live_to station) o ≡ coming jobs station + one_if (is_live_to station (rides waits.row))) old.there
+        reserved_by = λ station.
+            let count = subst (λ (o : Option JobRow). reserved_by (finite.insert jobs job (rides waits.row)) station + weight (is_live_to station) o ≡ reserved_by jobs station + one_if (is_live_to station (rides waits.row))) old.there
             (tally-written names_total names_apart (is_live_to station) jobs job (rides waits.row) _ put) in
-            alike _ _ _ _ count (λ i. one_if (old.live i && pointwise nat_eq (old.target i) station)) ∙ begun.coming station;
+            alike _ _ _ _ count (λ i. one_if (old.live i && pointwise nat_eq (old.target i) station)) ∙ begun.reserved_by station;
         each = λ other. elim (same_or_other names_total names_apart other job) [
           | inl same ↦ inr (subst (HasBegun (finite.insert jobs job (rides waits.row))) (sym same) (record { row = waits.row; was = waits.here; waited = waits.waiting; is = put.here; picked = picked }))
           | inr apart ↦ elim (begun.each other) [

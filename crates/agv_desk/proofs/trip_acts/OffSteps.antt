@@ -14,8 +14,8 @@ use Rattle.agv_stock.specs.declared.job.Phase.{Phase}
 use Rattle.agv_stock.specs.declared.job.Phase.TheVariants as phase
 use Rattle.agv_stock.specs.declared.place.Place.{Place}
 use Rattle.agv_stock.specs.declared.place.Place.TheVariants as place
-use Rattle.agv_world.specs.StockInvariant.{ActionView, IsKnownPlace, Jobs, Places, loads_on_vehicle, to_pick, is_to_pick}
-use Rattle.agv_world.specs.Questions.{is_live_to}
+use Rattle.agv_world.specs.StockInvariant.{ActionView, IsKnownPlace, Jobs, Places, to_pick, is_to_pick}
+use Rattle.agv_world.specs.Questions.{is_live_to, loads_on_vehicle}
 use Rattle.agv_world.specs.declared.row.JobRow.{JobRow}
 use Rattle.agv_world.proofs.lists.Orders.{names_total, names_apart}
 use Rattle.agv_desk.proofs.trip_acts.ActionViews.{due-cons}

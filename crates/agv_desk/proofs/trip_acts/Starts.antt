@@ -16,7 +16,8 @@ use Rattle.agv_stock.specs.Phase.{is_live}
 use Rattle.agv_stock.specs.declared.job.Phase.{Phase}
 use Rattle.agv_stock.specs.declared.job.Phase.TheVariants as phase
 use Rattle.agv_stock.specs.declared.place.Place.TheVariants as place
-use Rattle.agv_world.specs.StockInvariant.{StockInvariant, ActionView, HasStockInvariant, IsCarried, IsJobOn, Jobs, Places, ActStands, loads_on_vehicle, capacity_of, to_pick, action_view, action_views, action_views_of, stored}
+use Rattle.agv_world.specs.Questions.{loads_on_vehicle}
+use Rattle.agv_world.specs.StockInvariant.{StockInvariant, ActionView, HasStockInvariant, IsCarried, IsJobOn, Jobs, Places, ActStands, capacity_of, to_pick, action_view, action_views, action_views_of, stored}
 use Rattle.agv_world.specs.Lawful.{station_for}
 use Rattle.agv_world.specs.TableChanges.{written}
 use Rattle.agv_world.specs.Worlds.{World}
@@ -171,7 +172,7 @@ module _ (world : World) (stock : HasStockInvariant world) where
             let k = stock.known job has.row has.was in
             subst (IsJobOn world.layout world.places) (same_some (sym has.is ∙ at)) (record { load = k.load; origin = k.origin; target = k.target })
       ];
-      room = λ station site at. subst (λ n. stored world.places station + n ≤ site.capacity) (sym (begun.coming station)) (stock.room station site at);
+      room = λ station site at. subst (λ n. stored world.places station + n ≤ site.capacity) (sym (begun.reserved_by station)) (stock.room station site at);
       within_capacity = λ other. elim (same_or_other key_cmp-total key_cmp-IsAntisymmetric other key) [
         | inl same ↦
             subst (λ v. loads_on_vehicle world.places v + to_pick (carries_after v) ≤ capacity_of world v) (sym same)

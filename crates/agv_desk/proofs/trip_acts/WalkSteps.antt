@@ -16,7 +16,8 @@ use Rattle.agv_stock.specs.Phase.{is_live}
 use Rattle.agv_stock.specs.declared.job.Phase.{Phase}
 use Rattle.agv_stock.specs.declared.job.Phase.TheVariants as phase
 use Rattle.agv_stock.specs.declared.place.Place.TheVariants as place
-use Rattle.agv_world.specs.StockInvariant.{ActionView, StockInvariant, IsCarried, Jobs, Places, ActStands, loads_on_vehicle, to_pick}
+use Rattle.agv_world.specs.Questions.{loads_on_vehicle}
+use Rattle.agv_world.specs.StockInvariant.{ActionView, StockInvariant, IsCarried, Jobs, Places, ActStands, to_pick}
 use Rattle.agv_world.specs.Lawful.{station_for}
 use Rattle.agv_world.specs.declared.row.JobRow.{JobRow}
 use Rattle.agv_world.proofs.lists.Orders.{names_total, names_apart}

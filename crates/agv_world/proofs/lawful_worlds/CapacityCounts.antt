@@ -16,7 +16,8 @@ use Rattle.agv_stock.specs.Phase.{is_live}
 use Rattle.agv_stock.specs.declared.job.Phase.{Phase}
 use Rattle.agv_stock.specs.declared.job.Phase.TheVariants.{Waiting, Riding, Done, Stopped}
 use Rattle.agv_stock.specs.declared.place.Place.{Place}
-use Rattle.agv_world.specs.StockInvariant.{IsCarried, Jobs, Places, ActStands, loads_on_vehicle, to_pick, action_view, action_views, is_to_pick}
+use Rattle.agv_world.specs.Questions.{loads_on_vehicle}
+use Rattle.agv_world.specs.StockInvariant.{IsCarried, Jobs, Places, ActStands, to_pick, action_view, action_views, is_to_pick}
 use Rattle.agv_world.specs.Lawful.{is_to_drop}
 use Rattle.agv_world.specs.declared.row.JobRow.{JobRow}
 use Rattle.agv_world.proofs.lawful_worlds.ActPlaces.{one_place, stops_of}

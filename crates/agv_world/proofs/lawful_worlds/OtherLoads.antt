@@ -11,7 +11,8 @@ use Rattle.agv_header.specs.declared.key.VehicleKey.{VehicleKey}
 use Rattle.agv_order.specs.declared.act.Act.{Act}
 use Rattle.agv_stock.specs.Rooms.{is_on}
 use Rattle.agv_stock.specs.declared.place.Place.{Place}
-use Rattle.agv_world.specs.StockInvariant.{Places, loads_on_vehicle}
+use Rattle.agv_world.specs.Questions.{loads_on_vehicle}
+use Rattle.agv_world.specs.StockInvariant.{Places}
 use Rattle.agv_world.specs.Lawful.{is_to_drop}
 use Rattle.agv_world.proofs.lawful_worlds.ActPlaces.{any_at}
 use Rattle.agv_world.proofs.lists.Entries.{entries_found, is_same, no_more, same_Some}

@@ -18,7 +18,8 @@ use Rattle.agv_stock.specs.declared.job.Phase.{Phase}
 use Rattle.agv_stock.specs.declared.job.Phase.TheVariants as phase
 use Rattle.agv_stock.specs.declared.place.Place.{Place}
 use Rattle.agv_stock.specs.declared.place.Place.TheVariants as place
-use Rattle.agv_world.specs.StockInvariant.{ActionView, HasStockInvariant, IsCarried, IsCarriedOn, IsKnownPlace, ActStands, loads_on_vehicle, capacity_for, capacity_of, to_pick, action_view, action_views_by, action_views_for, action_views_of}
+use Rattle.agv_world.specs.Questions.{loads_on_vehicle}
+use Rattle.agv_world.specs.StockInvariant.{ActionView, HasStockInvariant, IsCarried, IsCarriedOn, IsKnownPlace, ActStands, capacity_for, capacity_of, to_pick, action_view, action_views_by, action_views_for, action_views_of}
 use Rattle.agv_world.specs.ConsistentTrips.{HasTrip, IsVehicle}
 use Rattle.agv_world.specs.Lawful.{HasAct, HasLawfulLoads, HasLawfulVehicles, IsJob, IsPlaceIn, carried_at, station_for}
 use Rattle.agv_world.specs.Worlds.{Vehicle, World}
@@ -28,7 +29,7 @@ use Rattle.agv_world.proofs.lawful_worlds.StockInvariantTold.{origin_of}
 use Rattle.agv_world.proofs.lists.Entries.{is_same, no_more, same_Some}
 use Rattle.agv_world.proofs.lawful_worlds.CapacityCounts.{StopLaws, within_capacity_alike}
 use Rattle.agv_world.proofs.lawful_worlds.OtherLoads.{capacity_none}
-use Rattle.agv_world.proofs.lawful_worlds.WorldActionViews.{on_vehicle_is, coming_is, action_view_of, action_views_is, has_act, of_act, stored_is}
+use Rattle.agv_world.proofs.lawful_worlds.WorldActionViews.{on_vehicle_is, reserved_is, action_view_of, action_views_is, has_act, of_act, stored_is}
 
 module _ {seats : ℕ} (laws : StopLaws) (world : World) (vehicles : HasLawfulVehicles seats world) (loads : HasLawfulLoads world) where
   known_place_of : (where_is : Place) → IsPlaceIn world where_is → IsKnownPlace world.layout where_is
@@ -170,7 +171,7 @@ module _ {seats : ℕ} (laws : StopLaws) (world : World) (vehicles : HasLawfulVe
     jobs_named = loads.jobs_named;
     known_places = λ load where_is at. known_place_of where_is (loads.places load where_is at);
     known = λ job row at. let its = loads.jobs job row at in record { load = its.load; origin = its.origin; target = its.target };
-    room = λ station site known. roomy _ _ _ _ _ (stored_is world station) (coming_is world station) (loads.room station site known);
+    room = λ station site known. roomy _ _ _ _ _ (stored_is world station) (reserved_is world station) (loads.room station site known);
     within_capacity = within_capacity;
     one_job = loads.one_job;
     waiting = loads.waiting;

@@ -14,7 +14,8 @@ use Rattle.agv_stock.specs.declared.job.Phase.{Phase}
 use Rattle.agv_stock.specs.declared.job.Phase.TheVariants as phase
 use Rattle.agv_stock.specs.declared.place.Place.{Place}
 use Rattle.agv_stock.specs.declared.place.Place.TheVariants as place
-use Rattle.agv_world.specs.StockInvariant.{ActionView, HasStockInvariant, IsCarried, IsKnownPlace, Places, ActStands, loads_on_vehicle, capacity_for, to_pick, action_view, action_views, action_views_by, action_views_for, action_views_of}
+use Rattle.agv_world.specs.Questions.{loads_on_vehicle}
+use Rattle.agv_world.specs.StockInvariant.{ActionView, HasStockInvariant, IsCarried, IsKnownPlace, Places, ActStands, capacity_for, to_pick, action_view, action_views, action_views_by, action_views_for, action_views_of}
 use Rattle.agv_world.specs.ConsistentTrips.{HasTrip, IsVehicle}
 use Rattle.agv_world.specs.Lawful.{HasAct, HasLawfulLoads, HasLawfulVehicles, IsJob, IsPlaceIn, IsToDrop, carried_at, is_to_drop, other_loads, station_for}
 use Rattle.agv_world.specs.Worlds.{Vehicle, World}
@@ -23,7 +24,7 @@ use Rattle.agv_world.proofs.lawful_worlds.ActPlaces.{mapped_at, stops_of}
 use Rattle.agv_world.proofs.lists.Entries.{same_Some}
 use Rattle.agv_world.proofs.lawful_worlds.CapacityCounts.{StopLaws, key_itself, within_capacity_alike}
 use Rattle.agv_world.proofs.lawful_worlds.OtherLoads.{capacity_one}
-use Rattle.agv_world.proofs.lawful_worlds.WorldActionViews.{on_vehicle_is, coming_is, action_view_of, action_views_is, has_act, of_act, stored_is}
+use Rattle.agv_world.proofs.lawful_worlds.WorldActionViews.{on_vehicle_is, reserved_is, action_view_of, action_views_is, has_act, of_act, stored_is}
 
 -- ---- what stands as it should, by kind
 
@@ -129,7 +130,7 @@ module _ {seats : ℕ} (laws : StopLaws) (world : World) (vehicles : HasLawfulVe
     jobs_named = stock.jobs_named;
     places = λ load where_is at. place_in load where_is at (stock.known_places load where_is at);
     jobs = λ job row at. let its = stock.known job row at in record { load = its.load; origin = its.origin; target = its.target };
-    room = λ station site known. roomy _ _ _ _ _ (stored_is world station) (coming_is world station) (stock.room station site known);
+    room = λ station site known. roomy _ _ _ _ _ (stored_is world station) (reserved_is world station) (stock.room station site known);
     idle = λ key vehicle known none. subst (λ n. n ≤ vehicle.row.capacity) (sym (on_vehicle_is world key)) (idle _ _ _ (ap (λ trip. to_pick (action_views_by trip)) none) (capacity_by key vehicle known));
     within_capacity = within_capacity;
     one_job = stock.one_job;

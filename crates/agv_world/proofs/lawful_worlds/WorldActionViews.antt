@@ -10,10 +10,10 @@ use Rattle.agv_order.specs.declared.act.Act.{Act}
 use Rattle.agv_order.specs.declared.trip.Trip.{Trip}
 use Rattle.agv_stock.specs.Rooms.{is_at}
 use Rattle.agv_stock.specs.declared.place.Place.{Place}
-use Rattle.agv_world.specs.StockInvariant.{ActionView, loads_on_vehicle, coming, action_view, action_views, action_views_by, action_views_for, action_views_of, stored}
+use Rattle.agv_world.specs.StockInvariant.{ActionView, action_view, action_views, action_views_by, action_views_for, action_views_of, stored}
 use Rattle.agv_world.specs.ConsistentTrips.{HasTrip, IsVehicle}
 use Rattle.agv_world.specs.Lawful.{HasAct}
-use Rattle.agv_world.specs.Questions.{loads_at, loads_on, reserved}
+use Rattle.agv_world.specs.Questions.{loads_at, loads_on, reserved, loads_on_vehicle, reserved_by}
 use Rattle.agv_world.specs.Worlds.{Vehicle, World}
 use Rattle.agv_world.proofs.lawful_worlds.ActPlaces.{among, from_mapped, mapped_at, place_of}
 use Rattle.agv_world.proofs.lists.Entries.{no_more}
@@ -27,9 +27,9 @@ module _ (world : World) where
       length-map (filter (λ (load : List ℕ × Place). is_at station load.1) (finite.entries world.places)) _
       ∙ length-filter (λ (load : List ℕ × Place). is_at station load.1) (finite.entries world.places)
 
-  pub coming_is : (station : List ℕ) → reserved world station ≡ coming world.jobs station
+  pub reserved_is : (station : List ℕ) → reserved world station ≡ reserved_by world.jobs station
   unfolding reserved
-  coming_is station = refl
+  reserved_is station = refl
 
   pub on_vehicle_is : (key : VehicleKey) → loads_on world key ≡ loads_on_vehicle world.places key
   unfolding loads_on

@@ -14,10 +14,10 @@ use Rattle.agv_stock.specs.Phase.{is_live}
 use Rattle.agv_stock.specs.Rooms.{is_at}
 use Rattle.agv_stock.specs.declared.place.Place.{Place}
 use Rattle.agv_stock.specs.declared.place.Place.TheVariants as place
-use Rattle.agv_world.specs.StockInvariant.{coming, stored}
+use Rattle.agv_world.specs.StockInvariant.{stored}
 use Rattle.agv_world.specs.Lawful.{HasLawfulVehicles}
 use Rattle.agv_world.specs.LoadTests.{Tally, have_room, one_on, tallied, tally_of, with_job, with_jobs, with_loads, with_one, with_place}
-use Rattle.agv_world.specs.Questions.{is_live_to, loads_at, reserved}
+use Rattle.agv_world.specs.Questions.{is_live_to, loads_at, reserved, reserved_by}
 use Rattle.agv_world.specs.Told.{world_of}
 use Rattle.agv_world.specs.Worlds.{empty_layout}
 use Rattle.agv_world.specs.declared.row.JobRow.{JobRow}
@@ -26,7 +26,7 @@ use Rattle.agv_world.proofs.lists.EachEntry.{all-entries, each-entry}
 use Rattle.agv_world.proofs.lists.Entries.{is_same, no_more}
 use Rattle.agv_world.proofs.lists.Orders.{names_apart, names_total}
 use Rattle.agv_world.proofs.lawful_worlds.PairCounts.{counted-cons}
-use Rattle.agv_world.proofs.lawful_worlds.WorldActionViews.{coming_is, stored_is}
+use Rattle.agv_world.proofs.lawful_worlds.WorldActionViews.{reserved_is, stored_is}
 
 -- ---- counting up to 1000
 
@@ -114,9 +114,9 @@ none_counted : (name : List ℕ) → Counts finite.empty name 0
 none_counted name = subst (IsCount 0) (sym (ap (λ o. unwrap_or o 0) (finite.get-empty name_cmp name))) (omega arith, omega arith, inl refl)
 
 module _ (tables : Tables) where
-  all_counted : (name : List ℕ) → Counts (tally_of tables) name (stored tables.loads name + coming tables.jobs name)
+  all_counted : (name : List ℕ) → Counts (tally_of tables) name (stored tables.loads name + reserved_by tables.jobs name)
   all_counted name =
-      subst (Counts (tally_of tables) name) (turn (stored tables.loads name) (coming tables.jobs name))
+      subst (Counts (tally_of tables) name) (turn (stored tables.loads name) (reserved_by tables.jobs name))
       (counted_jobs (with_loads finite.empty (finite.entries tables.loads)) name (finite.entries tables.jobs) (stored tables.loads name + 0)
       (counted_loads finite.empty name (finite.entries tables.loads) 0 (none_counted name)))
     where
@@ -144,8 +144,8 @@ module _ {seats : ℕ} (tables : Tables) (vehicles : HasLawfulVehicles seats (wo
   abbrev pub HasRoom : Type 0
   HasRoom = (station : List ℕ) (site : StationSite) → IsStation (world_of tables).layout station site → length (loads_at (world_of tables) station) + reserved (world_of tables) station ≤ site.capacity
 
-  counts_are : (station : List ℕ) → length (loads_at (world_of tables) station) + reserved (world_of tables) station ≡ stored tables.loads station + coming tables.jobs station
-  counts_are station = λ i. stored_is (world_of tables) station i + coming_is (world_of tables) station i
+  counts_are : (station : List ℕ) → length (loads_at (world_of tables) station) + reserved (world_of tables) station ≡ stored tables.loads station + reserved_by tables.jobs station
+  counts_are station = λ i. stored_is (world_of tables) station i + reserved_is (world_of tables) station i
 
   pub room_told : (have_room tables ≡ true) ↔ HasRoom
   room_told =

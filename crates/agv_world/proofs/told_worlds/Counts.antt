@@ -14,7 +14,7 @@ use Rattle.agv_header.specs.Name.{name_cmp}
 use Rattle.agv_header.specs.declared.key.VehicleKey.{VehicleKey}
 use Rattle.agv_world.specs.KeyOrders.{use_cmp-total}
 use Rattle.agv_world.specs.Keys.{use_cmp}
-use Rattle.agv_world.specs.Told.{is_in, names_in, names_of, vehicles_in, vehicles_of}
+use Rattle.agv_world.specs.Told.{is_of_kind, names_in, names_of, vehicles_in, vehicles_of}
 use Rattle.agv_world.specs.declared.key.UseKey.{UseKey}
 use Rattle.agv_world.specs.declared.key.UseKind.{UseKind}
 use Rattle.agv_world.specs.declared.key.UseKind.TheVariants.{Order, Reference}
@@ -49,7 +49,7 @@ module _ (tables : Tables) where
       ∙ sym (finite.len-entries tables.vehicles)
 
 -- ---- used names
-name-below : (kind one other : UseKind) (name further : List ℕ) → is_in kind (used_at one name) ≡ true → is_in kind (used_at other further) ≡ true → use_cmp (used_at one name) (used_at other further) ≡ Less → name_cmp name further ≡ Less
+name-below : (kind one other : UseKind) (name further : List ℕ) → is_of_kind kind (used_at one name) ≡ true → is_of_kind kind (used_at other further) ≡ true → use_cmp (used_at one name) (used_at other further) ≡ Less → name_cmp name further ≡ Less
 name-below Order Order Order name further p q below = below
 name-below Order Order Reference name further p q below = absurd (cc q)
 name-below Order Reference other name further p q below = absurd (cc p)
@@ -58,11 +58,11 @@ name-below Reference Reference Order name further p q below = absurd (cc q)
 name-below Reference Reference Reference name further p q below = below
 
 module _ (kind : UseKind) where
-  names-below : (key : UseKey) → is_in kind key ≡ true → (keys : List UseKey) → AllByRecursion (λ y. use_cmp key y ≡ Less) keys → AllByRecursion (λ y. name_cmp key.name y ≡ Less) (names_in kind keys)
+  names-below : (key : UseKey) → is_of_kind kind key ≡ true → (keys : List UseKey) → AllByRecursion (λ y. use_cmp key y ≡ Less) keys → AllByRecursion (λ y. name_cmp key.name y ≡ Less) (names_in kind keys)
   names-below key is [] below = tt
   names-below key is (x ∷ keys) below =
       let rest = names-below key is keys below.1 in
-      elim (is_in kind x) as (λ b. is_in kind x ≡ b → AllByRecursion (λ y. name_cmp key.name y ≡ Less) (map (λ (k : UseKey). k.name) (cond b (x ∷ filter (is_in kind) keys) (filter (is_in kind) keys)))) [
+      elim (is_of_kind kind x) as (λ b. is_of_kind kind x ≡ b → AllByRecursion (λ y. name_cmp key.name y ≡ Less) (map (λ (k : UseKey). k.name) (cond b (x ∷ filter (is_of_kind kind) keys) (filter (is_of_kind kind) keys)))) [
         | true ↦ λ too. (name-below kind key.kind x.kind key.name x.name is too below.0, rest)
         | false ↦ λ no. rest
       ] refl
@@ -72,7 +72,7 @@ module _ (kind : UseKind) where
   names-ordered [] ordered = tt
   names-ordered (x ∷ keys) ordered =
       let rest = names-ordered keys ordered.1 in
-      elim (is_in kind x) as (λ b. is_in kind x ≡ b → IsStrictlySortedBy name_cmp (map (λ (k : UseKey). k.name) (cond b (x ∷ filter (is_in kind) keys) (filter (is_in kind) keys)))) [
+      elim (is_of_kind kind x) as (λ b. is_of_kind kind x ≡ b → IsStrictlySortedBy name_cmp (map (λ (k : UseKey). k.name) (cond b (x ∷ filter (is_of_kind kind) keys) (filter (is_of_kind kind) keys)))) [
         | true ↦ λ is. (names-below x is keys ordered.0, rest)
         | false ↦ λ no. rest
       ] refl
@@ -90,8 +90,8 @@ module _ (kind : UseKind) where
       ∙ sym (any-names_in kind name keys)
       ∙ sym (set.contains-from_list names_total (names_in kind keys) name))
 
-  pub len-names_of : (tables : Tables) (keys : List UseKey) → IsStrictlySortedBy use_cmp keys → set.from_list keys ≡ tables.used → set.len (names_of tables kind) ≡ length (filter (is_in kind) keys)
+  pub len-names_of : (tables : Tables) (keys : List UseKey) → IsStrictlySortedBy use_cmp keys → set.from_list keys ≡ tables.used → set.len (names_of tables kind) ≡ length (filter (is_of_kind kind) keys)
   len-names_of tables keys ordered all =
       ap set.len (names-shown tables keys all)
       ∙ set_len-shown names_total (names_in kind keys) (names-ordered keys ordered)
-      ∙ length-map (filter (is_in kind) keys) _
+      ∙ length-map (filter (is_of_kind kind) keys) _

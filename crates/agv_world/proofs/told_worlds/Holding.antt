@@ -1,10 +1,10 @@
 -- Who holds a node or an edge in the world that the tables tell.
-use Rattle.std.proofs.Common.{◌≡◌, ◌||◌, Bool, true, false, cond, List, [], ◌∷◌, Option, option_map, Some, None, refl, ap, ◌∙◌}
+use Rattle.std.proofs.Common.{◌≡◌, Bool, true, false, cond, List, [], ◌∷◌, Option, option_map, Some, None, refl, ap, ◌∙◌}
 use Rattle.std.specs.FinMap as finite
-use Rattle.std.specs.List.{find, flat_map, list_any}
+use Rattle.std.specs.List.{find, flat_map}
 use Rattle.std.specs.Option.{option_or}
 use Rattle.agv_header.specs.Key.{thing_cmp}
-use Rattle.agv_header.specs.ThingOrder.{thing_eq, thing_eq-equivalence, thing_cmp-total}
+use Rattle.agv_header.specs.ThingOrder.{thing_cmp-total}
 use Rattle.agv_header.specs.declared.key.Thing.{Thing}
 use Rattle.agv_header.specs.declared.key.VehicleKey.{VehicleKey}
 use Rattle.agv_track.specs.Footprints.{footprint_of}
@@ -16,7 +16,7 @@ use Rattle.agv_world.specs.Worlds.{Vehicle}
 use Rattle.agv_world.specs.declared.row.VehicleRow.{VehicleRow}
 use Rattle.agv_world.specs.declared.world.World.{World as Tables}
 use Rattle.agv_world.proofs.told_worlds.Counts.{entries-vehicles_of}
-use Rattle.agv_world.proofs.world_rows.Holders.{find-run, has}
+use Rattle.agv_world.proofs.world_rows.Holders.{find-run}
 use Rattle.agv_world.proofs.world_rows.Spreads.{find-append}
 
 abbrev pub its_key : VehicleKey × VehicleRow → VehicleKey
@@ -24,10 +24,6 @@ its_key entry = entry.0
 
 abbrev all_holds : List (VehicleKey × Vehicle) → List (Thing × VehicleKey)
 all_holds es = flat_map (λ (entry : VehicleKey × Vehicle). hold_rows entry.0 entry.1) es
-
-either_way : (thing : Thing) (things : List Thing) → has thing things ≡ list_any (λ held. thing_eq held thing) things
-either_way thing [] = refl
-either_way thing (x ∷ things) = λ i. thing_eq-equivalence.symm thing x i || either_way thing things i
 
 chosen : (b : Bool) (entry : VehicleKey × VehicleRow) (rest : Option (VehicleKey × VehicleRow)) → option_or (cond b (Some entry.0) None) (option_map its_key rest) ≡ option_map its_key (cond b (Some entry) rest)
 chosen true entry rest = refl
@@ -39,7 +35,7 @@ module _ (tables : Tables) (thing : Thing) where
   find-holds (e ∷ es) =
       let things = footprint_of (standing_of (vehicle_in tables e.0 e.1)) in
       find-append thing_cmp thing (hold_rows e.0 (vehicle_in tables e.0 e.1)) (all_holds (vehicles_in tables es))
-      ∙ (λ i. option_or ((find-run e.0 thing things ∙ ap (λ b. cond b (Some e.0) None) (either_way thing things)) i) (find-holds es i))
+      ∙ (λ i. option_or (find-run e.0 thing things i) (find-holds es i))
       ∙ chosen (is_held_by tables thing e) e (find (is_held_by tables thing) es)
 
   -- it is the first vehicle whose footprint has it

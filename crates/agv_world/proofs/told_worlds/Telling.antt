@@ -11,7 +11,7 @@ use Rattle.agv_header.specs.Name.{name_cmp}
 use Rattle.agv_header.specs.declared.key.VehicleKey.{VehicleKey}
 use Rattle.agv_world.specs.Keys.{use_cmp, use_rank}
 use Rattle.agv_world.specs.Questions.{row_of, trip_of, is_used}
-use Rattle.agv_world.specs.Told.{is_in, names_in, names_of, open_trip, vehicle_in, vehicles_in, vehicles_of, world_of}
+use Rattle.agv_world.specs.Told.{is_of_kind, names_in, names_of, open_trip, vehicle_in, vehicles_in, vehicles_of, world_of}
 use Rattle.agv_world.specs.Worlds.{Vehicle}
 use Rattle.agv_world.specs.declared.key.UseKey.{UseKey}
 use Rattle.agv_world.specs.declared.key.UseKind.{UseKind}
@@ -56,7 +56,7 @@ any-chosen false p key keys = refl
 pub any-names_in : (kind : UseKind) (name : List ℕ) (keys : List UseKey) → list_any (eq_by_cmp name_cmp name) (names_in kind keys) ≡ list_any (eq_by_cmp use_cmp (used_at kind name)) keys
 any-names_in kind name [] = refl
 any-names_in kind name (key ∷ keys) =
-    any-chosen (is_in kind key) (eq_by_cmp name_cmp name) key (filter (is_in kind) keys)
+    any-chosen (is_of_kind kind key) (eq_by_cmp name_cmp name) key (filter (is_of_kind kind) keys)
     ∙ ap (λ b. b || list_any (eq_by_cmp name_cmp name) (names_in kind keys)) (sym (tied-used kind key.kind name key.name))
     ∙ ap (λ b. eq_by_cmp use_cmp (used_at kind name) key || b) (any-names_in kind name keys)
 

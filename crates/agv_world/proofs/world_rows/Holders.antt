@@ -2,7 +2,7 @@
 use Rattle.std.proofs.Common.{◌≡◌, ◌↔◌, ◌||◌, Bool, true, false, cond, List, [], ◌∷◌, map, Some, None, refl, sym, ap, ◌∙◌}
 use Rattle.std.specs.Cmp.{eq_by_cmp_equiv}
 use Rattle.std.specs.FinMap.{get, find}
-use Rattle.std.specs.List.{list_any, Contains}
+use Rattle.std.specs.List.{Contains}
 use Rattle.std.specs.Ordering.{eq_by_cmp}
 use Rattle.std.proofs.lemmas.Map.Views.{Contains-from_any, list_any-from_Contains}
 use Rattle.agv_header.specs.Key.{thing_cmp}
@@ -11,18 +11,16 @@ use Rattle.agv_header.specs.ThingOrder.{thing_cmp-total, thing_cmp-IsAntisymmetr
 use Rattle.agv_header.specs.declared.key.Thing.{Thing}
 use Rattle.agv_header.specs.declared.key.VehicleKey.{VehicleKey}
 use Rattle.agv_track.specs.Footprints.{footprint_of}
+use Rattle.agv_track.specs.Holds.{is_in}
 use Rattle.agv_world.specs.ConsistentTrips.{IsHolder, SharesNothing}
 use Rattle.agv_world.specs.Rows.{rows_of, hold_rows, standing_of}
 use Rattle.agv_world.specs.Worlds.{Vehicle, World}
 use Rattle.agv_world.proofs.lists.Entries.{no_more, same_Some, is_same}
 use Rattle.agv_world.proofs.world_rows.Spreads.{IsApart, IsSpread, spread_is}
 
-abbrev pub has : Thing → List Thing → Bool
-has q things = list_any (eq_by_cmp thing_cmp q) things
-
-pub find-run : (key : VehicleKey) (q : Thing) (things : List Thing) → find thing_cmp q (map (λ thing. (thing, key)) things) ≡ cond (has q things) (Some key) None
+pub find-run : (key : VehicleKey) (q : Thing) (things : List Thing) → find thing_cmp q (map (λ thing. (thing, key)) things) ≡ cond (is_in q things) (Some key) None
 find-run key q [] = refl
-find-run key q (thing ∷ things) = elim (eq_by_cmp thing_cmp q thing) as (λ b. cond b (Some key) (find thing_cmp q (map (λ other. (other, key)) things)) ≡ cond (b || has q things) (Some key) None) [
+find-run key q (thing ∷ things) = elim (eq_by_cmp thing_cmp q thing) as (λ b. cond b (Some key) (find thing_cmp q (map (λ other. (other, key)) things)) ≡ cond (b || is_in q things) (Some key) None) [
   | true ↦ refl
   | false ↦ find-run key q things
 ]
@@ -33,7 +31,7 @@ if_has false v y e = absurd (no_more y e)
 
 pub held_at : (key : VehicleKey) (vehicle : Vehicle) (q : Thing) (y : VehicleKey) → find thing_cmp q (hold_rows key vehicle) ≡ Some y → Contains (footprint_of (standing_of vehicle)) q × (y ≡ key)
 held_at key vehicle q y e =
-    let told = if_has (has q (footprint_of (standing_of vehicle))) key y (sym (find-run key q (footprint_of (standing_of vehicle))) ∙ e) in
+    let told = if_has (is_in q (footprint_of (standing_of vehicle))) key y (sym (find-run key q (footprint_of (standing_of vehicle))) ∙ e) in
     (Contains-from_any (is_same thing_cmp-IsAntisymmetric) q _ told.0, told.1)
 
 pub held : (key : VehicleKey) (vehicle : Vehicle) (q : Thing) → Contains (footprint_of (standing_of vehicle)) q → find thing_cmp q (hold_rows key vehicle) ≡ Some key

@@ -7,7 +7,8 @@ use Rattle.std.specs.BTreeMap.{get, is_at, btree_map_len}
 use Rattle.std.specs.BTreeSet.{contains}
 use Rattle.agv_header.specs.Name.{name_cmp}
 use Rattle.agv_layout.specs.Layout.{Name}
-use Rattle.agv_layout.specs.Arrivals.{is_among, leads_to_one, Joins}
+use Rattle.agv_layout.specs.Arrivals.{leads_to_one, Joins}
+use Rattle.agv_layout.specs.LayoutOf.{is_among}
 use Rattle.agv_layout.proofs.Maps.{same_name, ties_with_itself}
 use Rattle.agv_layout.proofs.Joined.{IsOneFrom-leads, few_distances, known_next}
 use Rattle.agv_layout.proofs.Levels.{IsUpTo-start, IsLevel-start, IsUpTo-next, IsLevel-next, AreDistances-empty}

@@ -5,7 +5,8 @@ use Rattle.std.specs.BTreeSet.{contains}
 use Rattle.std.specs.FinSet as set
 use Rattle.agv_header.specs.Name.{name_cmp}
 use Rattle.agv_layout.specs.Layout.{Name}
-use Rattle.agv_layout.specs.Arrivals.{is_among, Joins}
+use Rattle.agv_layout.specs.Arrivals.{Joins}
+use Rattle.agv_layout.specs.LayoutOf.{is_among}
 use Rattle.agv_layout.proofs.Levels.{IsUpTo, IsLevel}
 use Rattle.agv_layout.proofs.distances.distances_to.Given as goal
 

@@ -4,7 +4,8 @@ use Rattle.std.specs.BTreeMap as tree
 use Rattle.std.specs.BTreeMap.{btree_map_len}
 use Rattle.agv_header.specs.Name.{name_cmp}
 use Rattle.agv_layout.specs.Layout.{Name as NameOf}
-use Rattle.agv_layout.specs.Arrivals.{is_among, leads_to_one}
+use Rattle.agv_layout.specs.Arrivals.{leads_to_one}
+use Rattle.agv_layout.specs.LayoutOf.{is_among}
 use Rattle.agv_layout.proofs.distances.next_level.Given as goal
 
 abbrev pub invariant-loop-node : goal.invariant-loop-node

@@ -1,5 +1,5 @@
 use Rattle.std.proofs.Common.{◌∙◌, ap, sym}
-use Rattle.agv_layout.specs.Arrivals.{is_among}
+use Rattle.agv_layout.specs.LayoutOf.{is_among}
 use Rattle.agv_layout.proofs.Among.{is_among-push}
 use Rattle.agv_layout.proofs.Noted.{noted-before, found-before, noted-now, found-now}
 use Rattle.agv_layout.proofs.distances.note.Goals as goal

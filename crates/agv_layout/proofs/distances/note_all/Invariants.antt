@@ -4,7 +4,7 @@ use Rattle.std.specs.BTreeMap as tree
 use Rattle.std.specs.BTreeMap.{btree_map_len}
 use Rattle.agv_header.specs.Name.{name_cmp}
 use Rattle.agv_layout.specs.Layout.{Name as NameOf}
-use Rattle.agv_layout.specs.Arrivals.{is_among}
+use Rattle.agv_layout.specs.LayoutOf.{is_among}
 use Rattle.agv_layout.proofs.distances.note_all.Given as goal
 
 abbrev pub invariant-loop-start : goal.invariant-loop-start

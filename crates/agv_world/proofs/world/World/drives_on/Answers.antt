@@ -6,7 +6,8 @@ use Rattle.std.proofs.lemmas.Iterator.Consumers.{YieldsList-from_filter, YieldsL
 use Rattle.std.proofs.lemmas.Iterator.Search.{any_from_yields_List}
 use Rattle.agv_layout.specs.declared.edge.Edge.{Edge}
 use Rattle.agv_track.specs.Footprints.{along, released_edges}
-use Rattle.agv_world.specs.Told.{edges_of, edge_named, is_among, is_of_order, trip_in}
+use Rattle.agv_track.specs.Holds.{is_in}
+use Rattle.agv_world.specs.Told.{edges_of, edge_named, is_of_order, trip_in}
 use Rattle.agv_world.specs.declared.key.LegKey.{LegKey}
 use Rattle.agv_world.proofs.told_worlds.HeldBy.{among-along}
 use Rattle.agv_world.proofs.world.World.drives_on.Goals as goal
@@ -16,7 +17,7 @@ unfolding edges_of
 returns c =
     let tables = c.args.self.now in
     let thing = c.args.thing.now in
-    any_from_yields_List (λ (edge : Edge). is_among thing (along (edge ∷ []))) _ _ c.any.result c.any.ensures.ran
+    any_from_yields_List (λ (edge : Edge). is_in thing (along (edge ∷ []))) _ _ c.any.result c.any.ensures.ran
     (YieldsList-from_take (c.args.row.now.base - c.args.row.now.seen)
     (YieldsList-at c.take.ensures.source
     (YieldsList-from_skip c.args.row.now.seen

@@ -1,5 +1,0 @@
-use Rattle.std.proofs.Common.{arith}
-use Rattle.agv_header.proofs.count.is_fresh.Goals as goal
-
-pub returns : goal.returns
-returns c = grind arith
