@@ -1,10 +1,10 @@
 -- Why changes aren't written.
 use Rattle.std.specs.Prelude.{if◌then◌else◌}
 use Rattle.sqlite.specs.declared.error.Error.{Error}
+use Rattle.agv_world.specs.declared.fault.Fault.{Fault}
+use Rattle.agv_world.specs.declared.fault.Fault.TheVariants as fault
 use Rattle.agv_schema.specs.Errors.{is_of_store}
-use Rattle.agv_changes.specs.declared.write_fault.WriteFault.{WriteFault}
-use Rattle.agv_changes.specs.declared.write_fault.WriteFault.TheVariants as fault
 
 -- want of memory, and all else is the store's
-abbrev pub write_fault_of : Error → WriteFault
+abbrev pub write_fault_of : Error → Fault
 write_fault_of error = if is_of_store error then fault.Storage else fault.Memory

@@ -120,7 +120,7 @@ module _ {S : Type 0} (g : Ghosts S) where
 
   -- a question that raised neither flag was answered by an open store
   opens_by : {A : Type 0} (old new : Held S) (r : Result A ReadingFault) → (IsClean g new → OnOk r (IsOpen g old × IsOpen g new)) → (failed in_doubt : Bool)
-      → IsClean g new → failed_by r failed ≡ false → doubted_by r in_doubt ≡ false → IsOpen g new
+      → IsClean g new → failed_by (noted r) failed ≡ false → doubted_by (noted r) in_doubt ≡ false → IsOpen g new
   opens_by old new (Ok answer) answering failed in_doubt clean not_failed no_doubt = (answering clean).1
   opens_by old new (Err fault.Memory) answering failed in_doubt clean not_failed no_doubt = absurd (cc no_doubt)
   opens_by old new (Err fault.Storage) answering failed in_doubt clean not_failed no_doubt = absurd (cc not_failed)
@@ -140,7 +140,7 @@ module _ {S : Type 0} (g : Ghosts S) where
     asked : IsAsked g old new
     asked = asked_by old new r says tells
 
-    pub asked_kept : (failed_now in_doubt_now : Bool) → failed_now ≡ failed_by r failed → in_doubt_now ≡ doubted_by r in_doubt → IsKept g new known failed_now in_doubt_now
+    pub asked_kept : (failed_now in_doubt_now : Bool) → failed_now ≡ failed_by (noted r) failed → in_doubt_now ≡ doubted_by (noted r) in_doubt → IsKept g new known failed_now in_doubt_now
     asked_kept failed_now in_doubt_now failed_is doubt_is = kept_by old new known failed in_doubt asked is failed_now in_doubt_now
         (λ clean not_failed no_doubt. opens_by old new r tells.answering failed in_doubt clean (sym failed_is ∙ not_failed) (sym doubt_is ∙ no_doubt))
 
@@ -184,25 +184,25 @@ module _ {S : Type 0} (g : Ghosts S) where
           told clean was.at (world_at g old) was.has
 
       asks : (q : Result A ReadingFault) → (IsClean g new → OnOk q (IsOpen g old × IsOpen g new)) → (IsClean g new → IfOk q (λ answer. (at : Placing) (world : World) → HasWorld at (state g old).now world → says world answer))
-          → failed_now ≡ failed_by q failed → Asks (facts_of g) before now (noted q) says
+          → failed_now ≡ failed_by (noted q) failed → Asks (facts_of g) before now (noted q) says
       asks (Ok a) answering told raised = answers (still raised (λ clean. (answering clean).1)) (told_at a answering told)
       asks (Err fault.Memory) answering told raised = faults machine.Memory (faulted machine.Memory raised)
       asks (Err fault.Storage) answering told raised = faults machine.Storage (faulted machine.Storage raised)
       asks (Err fault.Damaged) answering told raised = faults machine.Storage (faulted machine.Storage raised)
 
       -- what the floor answers, to who sees it as its value
-      pub asked_asks : (seen : Keyed S) → before ≡ seen → (q : Result A Fault) → q ≡ noted r → failed_now ≡ failed_by r failed → Asks (facts_of g) seen now q says
+      pub asked_asks : (seen : Keyed S) → before ≡ seen → (q : Result A Fault) → q ≡ noted r → failed_now ≡ failed_by (noted r) failed → Asks (facts_of g) seen now q says
       asked_asks seen view_is q noted_is raised =
           subst (λ (k : Keyed S). Asks (facts_of g) k now q says) view_is
           (subst (λ (q : Result A Fault). Asks (facts_of g) before now q says) (sym noted_is) (asks r tells.answering tells.told raised))
 
       -- so it is where the floor answers nothing but that there was an answer
-      pub asked_done : (seen : Keyed S) → before ≡ seen → (a : A) → noted r ≡ Ok a → failed_now ≡ failed_by r failed → Answers (facts_of g) seen now (Unit {0})
+      pub asked_done : (seen : Keyed S) → before ≡ seen → (a : A) → noted r ≡ Ok a → failed_now ≡ failed_by (noted r) failed → Answers (facts_of g) seen now (Unit {0})
       asked_done seen view_is a ok raised =
           retold (λ _. tt) (subst (λ (k : Keyed S). Answers (facts_of g) k now (says (world_at g k.held) a)) view_is
           (subst (λ (q : Result A Fault). Asks (facts_of g) before now q says) ok (asks r tells.answering tells.told raised)))
 
-      pub asked_fault : {B : Type 0} (seen : Keyed S) → before ≡ seen → (why : Fault) → noted r ≡ Err why → failed_now ≡ failed_by r failed
+      pub asked_fault : {B : Type 0} (seen : Keyed S) → before ≡ seen → (why : Fault) → noted r ≡ Err why → failed_now ≡ failed_by (noted r) failed
           → (q : Result B Fault) → q ≡ Err why → (other : World → B → Type 0) → Asks (facts_of g) seen now q other
       asked_fault {B} seen view_is why is_err raised q q_is other =
           let at_before : (start : Keyed S) → Kept (facts_of g) start before → IsFaulted (facts_of g) start now why =
@@ -230,7 +230,7 @@ module _ {S : Type 0} (g : Ghosts S) where
       {A : Type 0} (r : Result A ReadingFault) (says : World → A → Type 0) where
     -- so it is where a kept layout is the world's
     pub asked_agreed : AnswersQuery g old new r (λ world a. AgreesWith known.layout world → says world a) → (failed_now : Bool) → (seen : Keyed S) → record { held = old; failed = failed } ≡ seen
-        → (q : Result A Fault) → q ≡ noted r → failed_now ≡ failed_by r failed → Asks (facts_of g) seen (record { held = new; failed = failed_now }) q says
+        → (q : Result A Fault) → q ≡ noted r → failed_now ≡ failed_by (noted r) failed → Asks (facts_of g) seen (record { held = new; failed = failed_now }) q says
     asked_agreed tells failed_now seen view_is q noted_is raised =
         subst (λ (k : Keyed S). Asks (facts_of g) k (record { held = new; failed = failed_now }) q says) view_is
         (subst (λ (q : Result A Fault). Asks (facts_of g) (record { held = old; failed = failed }) (record { held = new; failed = failed_now }) q says) (sym noted_is)
