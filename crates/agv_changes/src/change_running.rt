@@ -3,7 +3,7 @@ ghost use Rattle.std.specs.Prelude.{◌≡◌, false, IsTrue, OnErr, OnOk};
 ghost use Rattle.sqlite.specs.State.{HasCleanDisk, Survives};
 ghost use Rattle.sqlite.specs.Held.{state};
 ghost use Rattle.agv_changes.specs.ChangesMade.{ChangesWorlds, LeavesChanges, MakesChanges};
-ghost use Rattle.agv_changes.specs.WriteFaults.{write_fault_of};
+ghost use Rattle.agv_changes.specs.Faults.{fault_of};
 
 use crate::change_laws::changes_make_the_next_world;
 use crate::change_writes::write_change;
@@ -20,10 +20,7 @@ use sqlite::{Alter, Connection, Error, ErrorCode};
 /// closed by an earlier failure, or the connection limits the steps of its queries. No clause says that the disk has failed
 /// then: SQL refuses a row too, where the changes would give two open trips one vehicle, or two acts one job and one kind,
 /// or where a unique index that isn't the desk's forbids it.
-pub fn write_changes<S: Alter>(
-    conn: &mut Connection<S>,
-    changes: &[Change],
-) -> Result<(), Fault>
+pub fn write_changes<S: Alter>(conn: &mut Connection<S>, changes: &[Change]) -> Result<(), Fault>
     requires { conn.old.in_transaction ≡ false }
     ensures made { HasCleanDisk (state S.Store conn.new) → OnOk result (MakesChanges changes.now (state S.Store conn.old).now (state S.Store conn.new).committed) }
     ensures worlds { HasCleanDisk (state S.Store conn.new) → OnOk result (ChangesWorlds changes.now (state S.Store conn.old).now (state S.Store conn.new).committed) }
@@ -44,7 +41,7 @@ pub fn write_changes<S: Alter>(
 
 // Which fault an error of the database is.
 fn fault_of(error: Error) -> Fault
-    ensures { result ≡ write_fault_of error }
+    ensures { result ≡ fault_of error }
 {
     match error {
         Error::SqliteFailure(ErrorCode::OutOfMemory) => Fault::Memory,

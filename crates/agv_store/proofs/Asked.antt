@@ -14,8 +14,8 @@ use Rattle.agv_row_reading.specs.WorldAnswers.{AgreesWith, HasWorld, AnswersQuer
 use Rattle.agv_world_reading.specs.WorldIn.{world_in}
 use Rattle.agv_schema.specs.DeskRows.{Placing}
 use Rattle.agv_schema.specs.Connections.{IsClean, IsOpen}
-use Rattle.agv_row_reading.specs.declared.reading_fault.ReadingFault.{ReadingFault}
-use Rattle.agv_row_reading.specs.declared.reading_fault.ReadingFault.TheVariants as fault
+use Rattle.agv_row_reading.specs.declared.open_fault.OpenFault.{OpenFault}
+use Rattle.agv_row_reading.specs.declared.open_fault.OpenFault.TheVariants as fault
 use Rattle.agv_schema.proofs.Later.{later_by}
 use Rattle.agv_store.specs.Flags.{doubted_by, failed_by, noted}
 use Rattle.agv_store.specs.Floors.{IsAsked, IsKept, Keyed, Knows, facts_of, world_at}
@@ -58,7 +58,7 @@ module _ {S : Type 0} (g : Ghosts S) where
 
   -- ---- a question
 
-  unchanged_or_undone : {A : Type 0} (old new : Held S) (r : Result A ReadingFault)
+  unchanged_or_undone : {A : Type 0} (old new : Held S) (r : Result A OpenFault)
       → (IsClean g new → OnOk r (IsUnchanged (state g old) (state g new))) → (IsClean g new → OnErr r (IsUnchanged (state g old) (state g new) ⊎ IsRolledBack (state g old) (state g new)))
       → IsClean g new → IsUnchanged (state g old) (state g new) ⊎ IsRolledBack (state g old) (state g new)
   unchanged_or_undone old new (Ok answer) kept failed clean = inl (kept clean)
@@ -77,7 +77,7 @@ module _ {S : Type 0} (g : Ghosts S) where
   committed_by old new (inl same) still = same.0.committed_is
   committed_by old new (inr back) still = (back.undone still).1
 
-  pub asked_by : {A : Type 0} (old new : Held S) (r : Result A ReadingFault) (says : World → A → Type 0) → AnswersQuery g old new r says → IsAsked g old new
+  pub asked_by : {A : Type 0} (old new : Held S) (r : Result A OpenFault) (says : World → A → Type 0) → AnswersQuery g old new r says → IsAsked g old new
   asked_by old new r says tells =
       let either = unchanged_or_undone old new r tells.kept tells.failed in
       record {
@@ -119,14 +119,14 @@ module _ {S : Type 0} (g : Ghosts S) where
   known_so held known more failed in_doubt is so = record { idle = is.idle; opens = is.opens; knows = is.knows; is_known = λ clean still. so clean still (is.is_known clean still) }
 
   -- a question that raised neither flag was answered by an open store
-  opens_by : {A : Type 0} (old new : Held S) (r : Result A ReadingFault) → (IsClean g new → OnOk r (IsOpen g old × IsOpen g new)) → (failed in_doubt : Bool)
+  opens_by : {A : Type 0} (old new : Held S) (r : Result A OpenFault) → (IsClean g new → OnOk r (IsOpen g old × IsOpen g new)) → (failed in_doubt : Bool)
       → IsClean g new → failed_by (noted r) failed ≡ false → doubted_by (noted r) in_doubt ≡ false → IsOpen g new
   opens_by old new (Ok answer) answering failed in_doubt clean not_failed no_doubt = (answering clean).1
   opens_by old new (Err fault.Memory) answering failed in_doubt clean not_failed no_doubt = absurd (cc no_doubt)
   opens_by old new (Err fault.Storage) answering failed in_doubt clean not_failed no_doubt = absurd (cc not_failed)
   opens_by old new (Err fault.Damaged) answering failed in_doubt clean not_failed no_doubt = absurd (cc not_failed)
 
-  open_if_ok : {A : Type 0} (old new : Held S) (r : Result A ReadingFault) → (IsClean g new → OnOk r (IsOpen g old × IsOpen g new)) → (a : A) → noted r ≡ Ok a → IsClean g new → IsOpen g new
+  open_if_ok : {A : Type 0} (old new : Held S) (r : Result A OpenFault) → (IsClean g new → OnOk r (IsOpen g old × IsOpen g new)) → (a : A) → noted r ≡ Ok a → IsClean g new → IsOpen g new
   open_if_ok old new (Ok answer) answering a is clean = (answering clean).1
   open_if_ok old new (Err fault.Memory) answering a is clean = absurd (cc is)
   open_if_ok old new (Err fault.Storage) answering a is clean = absurd (cc is)
@@ -136,7 +136,7 @@ module _ {S : Type 0} (g : Ghosts S) where
 
   -- the floor's connection, what is known beside it and the flags before the question, and the connection after it
   module _ (old new : Held S) (known : Known) (failed in_doubt : Bool) (is : IsKept g old known failed in_doubt)
-      {A : Type 0} (r : Result A ReadingFault) (says : World → A → Type 0) (tells : AnswersQuery g old new r says) where
+      {A : Type 0} (r : Result A OpenFault) (says : World → A → Type 0) (tells : AnswersQuery g old new r says) where
     asked : IsAsked g old new
     asked = asked_by old new r says tells
 
@@ -183,7 +183,7 @@ module _ {S : Type 0} (g : Ghosts S) where
           let was = is.knows (clean_before old new asked clean) (answering clean).0 in
           told clean was.at (world_at g old) was.has
 
-      asks : (q : Result A ReadingFault) → (IsClean g new → OnOk q (IsOpen g old × IsOpen g new)) → (IsClean g new → IfOk q (λ answer. (at : Placing) (world : World) → HasWorld at (state g old).now world → says world answer))
+      asks : (q : Result A OpenFault) → (IsClean g new → OnOk q (IsOpen g old × IsOpen g new)) → (IsClean g new → IfOk q (λ answer. (at : Placing) (world : World) → HasWorld at (state g old).now world → says world answer))
           → failed_now ≡ failed_by (noted q) failed → Asks (facts_of g) before now (noted q) says
       asks (Ok a) answering told raised = answers (still raised (λ clean. (answering clean).1)) (told_at a answering told)
       asks (Err fault.Memory) answering told raised = faults machine.Memory (faulted machine.Memory raised)
@@ -212,7 +212,7 @@ module _ {S : Type 0} (g : Ghosts S) where
 
   -- what is told where something holds of the world is told of a floor of whose world it holds
   module _ (old new : Held S) {A : Type 0} (failed failed_now : Bool) (Given : World → Type 0) (holds : IsClean g old → IsOpen g old → Given (world_at g old)) (says : World → A → Type 0) where
-    told_so : (q : Result A ReadingFault) → (IsClean g new → OnOk q (IsOpen g old × IsOpen g new))
+    told_so : (q : Result A OpenFault) → (IsClean g new → OnOk q (IsOpen g old × IsOpen g new))
         → Asks (facts_of g) (record { held = old; failed = failed }) (record { held = new; failed = failed_now }) (noted q) (λ world a. Given world → says world a)
         → Asks (facts_of g) (record { held = old; failed = failed }) (record { held = new; failed = failed_now }) (noted q) says
     told_so (Ok a) answering asked = record {
@@ -227,7 +227,7 @@ module _ {S : Type 0} (g : Ghosts S) where
     told_so (Err fault.Damaged) answering asked = asked
 
   module _ (old new : Held S) (known : Known) (failed in_doubt : Bool) (is : IsKept g old known failed in_doubt)
-      {A : Type 0} (r : Result A ReadingFault) (says : World → A → Type 0) where
+      {A : Type 0} (r : Result A OpenFault) (says : World → A → Type 0) where
     -- so it is where a kept layout is the world's
     pub asked_agreed : AnswersQuery g old new r (λ world a. AgreesWith known.layout world → says world a) → (failed_now : Bool) → (seen : Keyed S) → record { held = old; failed = failed } ≡ seen
         → (q : Result A Fault) → q ≡ noted r → failed_now ≡ failed_by (noted r) failed → Asks (facts_of g) seen (record { held = new; failed = failed_now }) q says

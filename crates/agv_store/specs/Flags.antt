@@ -2,11 +2,11 @@
 use Rattle.std.specs.Prelude.{◌≡◌, Bool, true, false, Result, Ok, Err}
 use Rattle.agv_world.specs.declared.fault.Fault.{Fault}
 use Rattle.agv_world.specs.declared.fault.Fault.TheVariants as machine
-use Rattle.agv_row_reading.specs.declared.reading_fault.ReadingFault.{ReadingFault}
-use Rattle.agv_row_reading.specs.declared.reading_fault.ReadingFault.TheVariants as fault
+use Rattle.agv_row_reading.specs.declared.open_fault.OpenFault.{OpenFault}
+use Rattle.agv_row_reading.specs.declared.open_fault.OpenFault.TheVariants as fault
 
 -- how a question ends, as a floor has it: tables that tell no world are a fault of the store
-abbrev pub noted : {A : Type 0} → Result A ReadingFault → Result A Fault
+abbrev pub noted : {A : Type 0} → Result A OpenFault → Result A Fault
 noted (Ok answer) = Ok answer
 noted (Err fault.Memory) = Err machine.Memory
 noted (Err fault.Storage) = Err machine.Storage

@@ -2,14 +2,14 @@
 ghost use Rattle.std.specs.Prelude.{◌≡◌};
 ghost use Rattle.agv_store.specs.Flags.{doubted_by, failed_by, noted};
 
-use agv_row_reading::ReadingFault;
+use agv_row_reading::OpenFault;
 use agv_world::Fault;
 
 // How a question ends, for who asks a floor, with what its fault raises. Tables that tell no world are a fault of the store.
 pub(crate) fn note<T>(
     failed: &mut bool,
     in_doubt: &mut bool,
-    asked: Result<T, ReadingFault>,
+    asked: Result<T, OpenFault>,
 ) -> Result<T, Fault>
     ensures is { result ≡ noted asked }
     ensures failed { failed.new ≡ failed_by (noted asked) failed.old }
@@ -17,8 +17,8 @@ pub(crate) fn note<T>(
 {
     let ended = match asked {
         Ok(answer) => Ok(answer),
-        Err(ReadingFault::Memory) => Err(Fault::Memory),
-        Err(ReadingFault::Storage) | Err(ReadingFault::Damaged) => Err(Fault::Storage),
+        Err(OpenFault::Memory) => Err(Fault::Memory),
+        Err(OpenFault::Storage) | Err(OpenFault::Damaged) => Err(Fault::Storage),
     };
     raise(failed, in_doubt, ended)
 }
