@@ -1,3 +1,3 @@
 pub mod ActRows
 pub mod ChangesMade
-pub mod WriteFaults
+pub mod Faults

@@ -3,12 +3,12 @@ ghost use Rattle.std.specs.Prelude.{◌≡◌, false, IsTrue, OnErr, OnOk};
 ghost use Rattle.sqlite.specs.State.{HasCleanDisk, Survives};
 ghost use Rattle.sqlite.specs.Held.{state};
 ghost use Rattle.agv_changes.specs.ChangesMade.{ChangesWorlds, LeavesChanges, MakesChanges};
+ghost use Rattle.agv_changes.specs.Faults.{fault_of};
 
-use crate::WriteFault;
 use crate::change_laws::changes_make_the_next_world;
 use crate::change_writes::write_change;
-use agv_world::Change;
-use sqlite::{Alter, Connection, Error};
+use agv_world::{Change, Fault};
+use sqlite::{Alter, Connection, Error, ErrorCode};
 
 /// Makes the changes in turn, in one transaction, in the tables of a desk, whatever else the database has. Where it
 /// succeeds all of them are committed, every other table has the rows that it had, the schema is as it was, and the store
@@ -16,13 +16,11 @@ use sqlite::{Alter, Connection, Error};
 /// the rows before them or after all of them, and an opening finds these ([`change_laws`](crate::change_laws)).
 ///
 /// # Errors
-/// [`WriteFault::Memory`] when out of memory, and [`WriteFault::Storage`] for any other error of the database. No clause
-/// says that the disk has failed then: SQL refuses a row too, where the changes would give two open trips one vehicle, or
-/// two acts one job and one kind, or where a unique index that isn't the desk's forbids it.
-pub fn write_changes<S: Alter>(
-    conn: &mut Connection<S>,
-    changes: &[Change],
-) -> Result<(), WriteFault>
+/// [`Fault::Memory`] when out of memory, and [`Fault::Storage`] for any other error of the database: the store failed or was
+/// closed by an earlier failure, or the connection limits the steps of its queries. No clause says that the disk has failed
+/// then: SQL refuses a row too, where the changes would give two open trips one vehicle, or two acts one job and one kind,
+/// or where a unique index that isn't the desk's forbids it.
+pub fn write_changes<S: Alter>(conn: &mut Connection<S>, changes: &[Change]) -> Result<(), Fault>
     requires { conn.old.in_transaction ≡ false }
     ensures made { HasCleanDisk (state S.Store conn.new) → OnOk result (MakesChanges changes.now (state S.Store conn.old).now (state S.Store conn.new).committed) }
     ensures worlds { HasCleanDisk (state S.Store conn.new) → OnOk result (ChangesWorlds changes.now (state S.Store conn.old).now (state S.Store conn.new).committed) }
@@ -35,8 +33,20 @@ pub fn write_changes<S: Alter>(
     ensures idle { conn.new.in_transaction ≡ false }
 {
     let done = run_changes(conn, changes);
-    done?;
-    Ok(())
+    match done {
+        Ok(()) => Ok(()),
+        Err(error) => Err(fault_of(error)),
+    }
+}
+
+// Which fault an error of the database is.
+fn fault_of(error: Error) -> Fault
+    ensures { result ≡ fault_of error }
+{
+    match error {
+        Error::SqliteFailure(ErrorCode::OutOfMemory) => Fault::Memory,
+        _ => Fault::Storage,
+    }
 }
 
 // Makes the changes in turn, and commits them.

@@ -22,8 +22,8 @@ use Rattle.agv_rowids.specs.Rowids.{AreTablesKeyed}
 use Rattle.agv_rows.specs.DecodedTrips.{tables_of}
 use Rattle.agv_schema.specs.DeskRows.{HaveRows, Placing, width_of}
 use Rattle.agv_rows.specs.RowLists.{AreAlike}
-use Rattle.agv_row_reading.specs.declared.reading_fault.ReadingFault.{ReadingFault}
-use Rattle.agv_row_reading.specs.declared.reading_fault.ReadingFault.TheVariants as fault
+use Rattle.agv_row_reading.specs.declared.open_fault.OpenFault.{OpenFault}
+use Rattle.agv_row_reading.specs.declared.open_fault.OpenFault.TheVariants as fault
 use Rattle.agv_row_reading.specs.declared.held_things.HeldThings.{HeldThings}
 use Rattle.agv_schema.specs.declared.table_name.TableName.{TableName}
 use Rattle.agv_first_schema.proofs.TablesStanding.{stand_apart}
@@ -81,7 +81,7 @@ module _ {S : Type 0} (g : Ghosts S) where
     still = record { clean = omega arith; shield = λ is. is; counts = omega arith; limit = refl; closes = λ _ is. inl is; crash = λ _ db may. inl may }
 
     -- memory ran out
-    pub no_memory_before : (r : Result Tables ReadingFault) → IsErrAnd r (λ made. made ≡ fault.Memory) → FindsFirst g old old r
+    pub no_memory_before : (r : Result Tables OpenFault) → IsErrAnd r (λ made. made ≡ fault.Memory) → FindsFirst g old old r
     no_memory_before (Ok tables) is = absurd is
     no_memory_before (Err made) is = record {
       told = λ _. tt;
@@ -107,7 +107,7 @@ module _ {S : Type 0} (g : Ghosts S) where
 
   -- ---- the rows weren't read
 
-  pub reading_fails : (old new : Held S) (r : Result Tables ReadingFault) (why : ReadingFault) → IsErrAnd r (λ made. made ≡ why) → FirstTablesStand (state g old).now.schema → ReadsLists g old new first_names (Err why) → FindsFirst g old new r
+  pub reading_fails : (old new : Held S) (r : Result Tables OpenFault) (why : OpenFault) → IsErrAnd r (λ made. made ≡ why) → FirstTablesStand (state g old).now.schema → ReadsLists g old new first_names (Err why) → FindsFirst g old new r
   reading_fails old new (Ok tables) why is stand reads = absurd is
   reading_fails old new (Err made) why is stand reads = record {
     told = λ _. tt;
@@ -129,7 +129,7 @@ module _ {S : Type 0} (g : Ghosts S) where
         tell world lists has.lawful
         (are_alike desk (state g old).now first_names (first_lists (rows_of world)) lists has.rows.rows (reads.told clean desk (stand_apart desk has.stands) has.rows.schema_is))
 
-    ends : (r : Result Tables ReadingFault) (why : ReadingFault) → IsErrAnd r (λ made. made ≡ why) → ¬ (why ≡ fault.Storage) → (HasCleanDisk (state g new) → why ≡ fault.Damaged → HasNoFirstWorld (state g old).now) → FindsFirst g old new r
+    ends : (r : Result Tables OpenFault) (why : OpenFault) → IsErrAnd r (λ made. made ≡ why) → ¬ (why ≡ fault.Storage) → (HasCleanDisk (state g new) → why ≡ fault.Damaged → HasNoFirstWorld (state g old).now) → FindsFirst g old new r
     ends (Ok tables) why is sound none = absurd is
     ends (Err made) why is sound none = record {
       told = λ _. tt;
@@ -141,14 +141,14 @@ module _ {S : Type 0} (g : Ghosts S) where
       survives = reads.survives;
     }
 
-    pub no_memory : (r : Result Tables ReadingFault) → IsErrAnd r (λ made. made ≡ fault.Memory) → FindsFirst g old new r
+    pub no_memory : (r : Result Tables OpenFault) → IsErrAnd r (λ made. made ≡ fault.Memory) → FindsFirst g old new r
     no_memory r is = ends r fault.Memory is (λ wrong. cc wrong) (λ clean wrong. absurd (cc wrong))
 
     -- they tell no tables
-    pub telling_fails : (r : Result Tables ReadingFault) (why : ReadingFault) → IsErrAnd r (λ made. made ≡ why) → Finds {A = Tables × Holders} (Err why) (λ read. TellFirst lists read.0 read.1) → FindsFirst g old new r
+    pub telling_fails : (r : Result Tables OpenFault) (why : OpenFault) → IsErrAnd r (λ made. made ≡ why) → Finds {A = Tables × Holders} (Err why) (λ read. TellFirst lists read.0 read.1) → FindsFirst g old new r
     telling_fails r why is found =
-        ends r why is (λ stored. subst (λ (w : ReadingFault). Finds {A = Tables × Holders} (Err w) (λ read. TellFirst lists read.0 read.1)) stored found)
-        (λ clean damaged desk world has. subst (λ (w : ReadingFault). Finds {A = Tables × Holders} (Err w) (λ read. TellFirst lists read.0 read.1)) damaged found (tables_of (rows_of world), (rows_of world).holds) (tells_it clean desk world has))
+        ends r why is (λ stored. subst (λ (w : OpenFault). Finds {A = Tables × Holders} (Err w) (λ read. TellFirst lists read.0 read.1)) stored found)
+        (λ clean damaged desk world has. subst (λ (w : OpenFault). Finds {A = Tables × Holders} (Err w) (λ read. TellFirst lists read.0 read.1)) damaged found (tables_of (rows_of world), (rows_of world).holds) (tells_it clean desk world has))
 
     module _ (tables : Tables) (held : HeldThings) (told : TellFirst lists tables held.table) where
       -- they tell the tables of no such world

@@ -12,24 +12,24 @@ use Rattle.sqlite.specs.Held.{Held, state}
 use Rattle.sqlite.specs.State.{HasCleanDisk, IsRolledBack, IsUnchanged, Survives}
 use Rattle.sqlite.proofs.StateLemmas.{survives_then}
 use Rattle.agv_first_schema.specs.FirstFound.{ReadsLists, StaysBy, all_lists, one_list}
-use Rattle.agv_row_reading.specs.ReadingFault.{reading_fault_of}
+use Rattle.agv_row_reading.specs.OpenFault.{open_fault_of}
 use Rattle.agv_rowids.specs.Rowids.{AreTablesKeyed, TellsKeyedAlone}
 use Rattle.agv_schema.specs.DeskRows.{AnswersAlone, HaveRows, Placing, StandApart, columns_in, width_of}
 use Rattle.agv_schema.specs.Connections.{HasStorageCause}
 use Rattle.agv_schema.specs.Errors.{IsOfStore, is_of_store}
-use Rattle.agv_row_reading.specs.declared.reading_fault.ReadingFault.{ReadingFault}
-use Rattle.agv_row_reading.specs.declared.reading_fault.ReadingFault.TheVariants as fault
+use Rattle.agv_row_reading.specs.declared.open_fault.OpenFault.{OpenFault}
+use Rattle.agv_row_reading.specs.declared.open_fault.OpenFault.TheVariants as fault
 use Rattle.agv_schema.specs.declared.table_name.TableName.{TableName}
 use Rattle.agv_row_reading.proofs.Asking.{sound_of, storage_of}
 use Rattle.agv_schema.proofs.Later.{fault_later, later_by}
 use Rattle.agv_schema.proofs.StatesThen.{failed_then, unchanged_then}
 
 -- an error of one table, and of several, as an error of lists
-pub one_err : {A : Type 0} (why : ReadingFault) (r : Result (Vec Row A) ReadingFault) → IsErrAnd r (λ made. made ≡ why) → IsErrAnd (one_list r) (λ made. made ≡ why)
+pub one_err : {A : Type 0} (why : OpenFault) (r : Result (Vec Row A) OpenFault) → IsErrAnd r (λ made. made ≡ why) → IsErrAnd (one_list r) (λ made. made ≡ why)
 one_err why (Ok rows) is = absurd is
 one_err why (Err made) is = is
 
-pub all_err : {A B : Type 0} (why : ReadingFault) (r : Result (Vec (Vec Row A) B) ReadingFault) → IsErrAnd r (λ made. made ≡ why) → IsErrAnd (all_lists r) (λ made. made ≡ why)
+pub all_err : {A B : Type 0} (why : OpenFault) (r : Result (Vec (Vec Row A) B) OpenFault) → IsErrAnd r (λ made. made ≡ why) → IsErrAnd (all_lists r) (λ made. made ≡ why)
 all_err why (Ok lists) is = absurd is
 all_err why (Err made) is = is
 
@@ -47,7 +47,7 @@ stays_then g (name ∷ names) a b c one two = unchanged_then (state g a) (state 
 
 module _ {S : Type 0} (g : Ghosts S) where
   -- memory ran out after all was read
-  pub reads_short : (old new : Held S) (name : TableName) (others : List TableName) (lists : List (List Row)) (r : Result (List (List Row)) ReadingFault) → IsErrAnd r (λ made. made ≡ fault.Memory)
+  pub reads_short : (old new : Held S) (name : TableName) (others : List TableName) (lists : List (List Row)) (r : Result (List (List Row)) OpenFault) → IsErrAnd r (λ made. made ≡ fault.Memory)
       → ReadsLists g old new (name ∷ others) (Ok lists) → ReadsLists g old new (name ∷ others) r
   reads_short old new name others lists (Ok more) is reads = absurd is
   reads_short old new name others lists (Err made) is reads = record {
@@ -64,7 +64,7 @@ module _ {S : Type 0} (g : Ghosts S) where
 
   module _ (old mid : Held S) (name : TableName) where
     -- the numbers of the rows weren't told
-    pub numbers_fail : (r : Result (List (List Row)) ReadingFault) (why : ReadingFault) → IsErrAnd r (λ made. made ≡ why) → TellsKeyedAlone g old mid (name ∷ []) (Err why) → ReadsLists g old mid (name ∷ []) r
+    pub numbers_fail : (r : Result (List (List Row)) OpenFault) (why : OpenFault) → IsErrAnd r (λ made. made ≡ why) → TellsKeyedAlone g old mid (name ∷ []) (Err why) → ReadsLists g old mid (name ∷ []) r
     numbers_fail (Ok lists) why is keyed = absurd is
     numbers_fail (Err made) why is keyed = record {
       told = λ _. tt;
@@ -96,7 +96,7 @@ module _ {S : Type 0} (g : Ghosts S) where
       saved = survives_then (state g old) (state g mid) (state g new) _ _ (λ _. ⊥) (λ _ _ none. none) (λ _ _ none. none) keyed.survives survives
 
       -- the rows weren't shown
-      pub rows_fail : (r : Result (List (List Row)) ReadingFault) (e : Error) → IsErrAnd r (λ made. made ≡ reading_fault_of e)
+      pub rows_fail : (r : Result (List (List Row)) OpenFault) (e : Error) → IsErrAnd r (λ made. made ≡ open_fault_of e)
           → (HasCleanDisk (state g new) → IsUnchanged (state g mid) (state g new) ⊎ IsRolledBack (state g mid) (state g new))
           → (HasCleanDisk (state g new) → IsOfStore e → (desk : Placing) → StandApart desk (name ∷ []) → (state g mid).now.schema ≡ desk.schema → HasStorageCause g mid new) → ReadsLists g old new (name ∷ []) r
       rows_fail (Ok lists) e is failed why = absurd is
@@ -134,7 +134,7 @@ module _ {S : Type 0} (g : Ghosts S) where
 
   -- one table, and then the others
   module _ (old mid new : Held S) (name : TableName) (others : List TableName) (rows : List Row) (first : ReadsLists g old mid (name ∷ []) (Ok (rows ∷ []))) where
-    module _ (r : Result (List (List Row)) ReadingFault) (next : ReadsLists g mid new others r) where
+    module _ (r : Result (List (List Row)) OpenFault) (next : ReadsLists g mid new others r) where
       before : HasCleanDisk (state g new) → HasCleanDisk (state g mid)
       before clean = omega (arith, next.survives.clean)
 
@@ -161,7 +161,7 @@ module _ {S : Type 0} (g : Ghosts S) where
       survives = both_survive (Ok lists) next;
     }
 
-    pub reads_then_fails : (r : Result (List (List Row)) ReadingFault) (why : ReadingFault) → IsErrAnd r (λ made. made ≡ why) → ReadsLists g mid new others (Err why) → ReadsLists g old new (name ∷ others) r
+    pub reads_then_fails : (r : Result (List (List Row)) OpenFault) (why : OpenFault) → IsErrAnd r (λ made. made ≡ why) → ReadsLists g mid new others (Err why) → ReadsLists g old new (name ∷ others) r
     reads_then_fails (Ok lists) why is next = absurd is
     reads_then_fails (Err made) why is next = record {
       told = λ _. tt;
@@ -178,7 +178,7 @@ module _ {S : Type 0} (g : Ghosts S) where
     }
 
   -- the first failed
-  pub first_fails : (old mid : Held S) (name : TableName) (others : List TableName) (r : Result (List (List Row)) ReadingFault) (why : ReadingFault) → IsErrAnd r (λ made. made ≡ why)
+  pub first_fails : (old mid : Held S) (name : TableName) (others : List TableName) (r : Result (List (List Row)) OpenFault) (why : OpenFault) → IsErrAnd r (λ made. made ≡ why)
       → ReadsLists g old mid (name ∷ []) (Err why) → ReadsLists g old mid (name ∷ others) r
   first_fails old mid name others (Ok lists) why is reads = absurd is
   first_fails old mid name others (Err made) why is reads = record {

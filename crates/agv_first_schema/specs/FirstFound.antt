@@ -13,8 +13,8 @@ use Rattle.agv_world.specs.declared.world.World.{World as Tables}
 use Rattle.agv_schema.specs.DeskRows.{HaveRows, Placing, StandApart, width_of}
 use Rattle.agv_rowids.specs.Rowids.{AreTablesKeyed}
 use Rattle.agv_schema.specs.Connections.{HasStorageCause}
-use Rattle.agv_row_reading.specs.declared.reading_fault.ReadingFault.{ReadingFault}
-use Rattle.agv_row_reading.specs.declared.reading_fault.ReadingFault.TheVariants as fault
+use Rattle.agv_row_reading.specs.declared.open_fault.OpenFault.{OpenFault}
+use Rattle.agv_row_reading.specs.declared.open_fault.OpenFault.TheVariants as fault
 use Rattle.agv_schema.specs.declared.table_name.TableName.{TableName}
 use Rattle.agv_first_schema.specs.FirstRows.{HasFirstWorld, HasNoFirstWorld, IsFirstDesk}
 use Rattle.agv_first_schema.specs.FirstTold.{rows_listed}
@@ -26,11 +26,11 @@ FirstTablesStand schema = (at : Placing) × IsFirstDesk at × (schema ≡ at.sch
 -- ---- the rows of some tables
 
 -- one table, and several
-abbrev pub one_list : {A : Type 0} → Result (Vec Row A) ReadingFault → Result (List (List Row)) ReadingFault
+abbrev pub one_list : {A : Type 0} → Result (Vec Row A) OpenFault → Result (List (List Row)) OpenFault
 one_list (Ok rows) = Ok (rows.items ∷ [])
 one_list (Err why) = Err why
 
-abbrev pub all_lists : {A B : Type 0} → Result (Vec (Vec Row A) B) ReadingFault → Result (List (List Row)) ReadingFault
+abbrev pub all_lists : {A B : Type 0} → Result (Vec (Vec Row A) B) OpenFault → Result (List (List Row)) OpenFault
 all_lists (Ok lists) = Ok (rows_listed lists.items)
 all_lists (Err why) = Err why
 
@@ -39,7 +39,7 @@ abbrev pub StaysBy : {S : Type 0} → Ghosts S → List TableName → Held S →
 StaysBy g [] old new = new ≡ old
 StaysBy g (name ∷ names) old new = IsUnchanged (state g old) (state g new)
 
-module _ {S : Type 0} (g : Ghosts S) (old new : Held S) (names : List TableName) (result : Result (List (List Row)) ReadingFault) where
+module _ {S : Type 0} (g : Ghosts S) (old new : Held S) (names : List TableName) (result : Result (List (List Row)) OpenFault) where
   -- how the reading of all rows of these tables ends
   pub record ReadsLists : Type 0 where
     -- the lists of their rows, wherever they stand
@@ -57,7 +57,7 @@ module _ {S : Type 0} (g : Ghosts S) (old new : Held S) (names : List TableName)
 
 -- ---- the world
 
-module _ {S : Type 0} (g : Ghosts S) (old new : Held S) (result : Result Tables ReadingFault) where
+module _ {S : Type 0} (g : Ghosts S) (old new : Held S) (result : Result Tables OpenFault) where
   -- how the search for the world of a database of the first schema ends
   pub record FindsFirst : Type 0 where
     -- what is found are the tables of the lawful world, with one place on each vehicle, whose rows the database has

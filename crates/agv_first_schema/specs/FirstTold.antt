@@ -9,8 +9,8 @@ use Rattle.agv_world.specs.declared.world.World.{World as Tables}
 use Rattle.agv_rows.specs.Columns.{edge_in, hold_in, job_in, leg_in, load_in, meta_in, node_in, station_in, used_in, vehicle_in}
 use Rattle.agv_schema.specs.DeskRows.{place_of, table_at}
 use Rattle.agv_row_reading.specs.ReadTables.{read_members, read_rows}
-use Rattle.agv_row_reading.specs.declared.reading_fault.ReadingFault.{ReadingFault}
-use Rattle.agv_row_reading.specs.declared.reading_fault.ReadingFault.TheVariants as fault
+use Rattle.agv_row_reading.specs.declared.open_fault.OpenFault.{OpenFault}
+use Rattle.agv_row_reading.specs.declared.open_fault.OpenFault.TheVariants as fault
 use Rattle.agv_row_reading.specs.declared.held_things.HeldThings.{HeldThings}
 use Rattle.agv_schema.specs.declared.table_name.TableName.TheVariants as the
 use Rattle.agv_first_schema.specs.FirstColumns.{trip_with}
@@ -56,13 +56,13 @@ pub record TellFirst (lists : List (List Row)) (tables : Tables) (held : Holders
 -- ---- how a reading ends
 
 -- with what is so, or for want of memory; damaged where nothing is
-abbrev pub Finds : {A : Type 0} → Result A ReadingFault → (A → Type 0) → Type 0
+abbrev pub Finds : {A : Type 0} → Result A OpenFault → (A → Type 0) → Type 0
 Finds (Ok a) is = is a
 Finds (Err fault.Memory) is = Unit {0}
 Finds (Err fault.Storage) is = ⊥
 Finds {A} (Err fault.Damaged) is = (a : A) → ¬ is a
 
 -- the tables, with the table of what is held
-abbrev pub tables_and_holds : Result (Tables × HeldThings) ReadingFault → Result (Tables × Holders) ReadingFault
+abbrev pub tables_and_holds : Result (Tables × HeldThings) OpenFault → Result (Tables × Holders) OpenFault
 tables_and_holds (Ok read) = Ok (read.0, read.1.table)
 tables_and_holds (Err why) = Err why

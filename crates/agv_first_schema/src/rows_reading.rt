@@ -3,7 +3,7 @@ ghost use Rattle.agv_first_schema.specs.FirstFound.{ReadsLists, all_lists, one_l
 ghost use Rattle.agv_first_schema.specs.FirstRows.{first_names};
 ghost use Rattle.std.specs.Prelude.{[], ◌∷◌};
 
-use agv_row_reading::ReadingFault;
+use agv_row_reading::OpenFault;
 use agv_rowids::rowid_reading::query_keyed;
 use agv_schema::TableName;
 use agv_statements::row_reads::find_all_rows;
@@ -13,11 +13,11 @@ use std::alloc::Global;
 /// All rows of the eleven tables, a list for each: they are all in memory at once.
 ///
 /// # Errors
-/// `Damaged` where a row has no number of its own. Else as [`ReadingFault`] says.
+/// `Damaged` where a row has no number of its own. Else as [`OpenFault`] says.
 pub(crate) fn read_first_tables<S: Alter>(
     alloc: Global,
     conn: &mut Connection<S>,
-) -> Result<Vec<Vec<Row>>, ReadingFault>
+) -> Result<Vec<Vec<Row>>, OpenFault>
     ensures { ReadsLists S.Store conn.old conn.new first_names (all_lists result) }
 {
     read_each(
@@ -44,7 +44,7 @@ fn read_each<S: Alter>(
     alloc: Global,
     conn: &mut Connection<S>,
     tables: &[TableName],
-) -> Result<Vec<Vec<Row>>, ReadingFault>
+) -> Result<Vec<Vec<Row>>, OpenFault>
     ensures { ReadsLists S.Store conn.old conn.new tables.now (all_lists result) }
 {
     let [table, others @ ..] = tables else {
@@ -61,11 +61,11 @@ fn read_table<S: Alter>(
     alloc: Global,
     conn: &mut Connection<S>,
     table: TableName,
-) -> Result<Vec<Row>, ReadingFault>
+) -> Result<Vec<Row>, OpenFault>
     ensures { ReadsLists S.Store conn.old conn.new (table ∷ []) (one_list result) }
 {
     if !query_keyed(alloc, conn, table)? {
-        return Err(ReadingFault::Damaged);
+        return Err(OpenFault::Damaged);
     }
     let rows = find_all_rows(conn, table)?;
     Ok(rows)

@@ -6,7 +6,7 @@ ghost use Rattle.agv_row_reading.specs.ReadTables.{Reads, read_rows};
 
 use crate::trip_line::TripLine;
 use agv_header::{Memory, Name};
-use agv_row_reading::ReadingFault;
+use agv_row_reading::OpenFault;
 use agv_rows::decode_row::key_at;
 use agv_rows::decode_value::{maybe_number_at, name_at, number_at, status_at};
 use agv_world::{ByName, JobRow, TripRow};
@@ -18,17 +18,17 @@ pub(crate) fn trips_in_rows(
     alloc: Global,
     rows: &[Row],
     jobs: &ByName<JobRow>,
-) -> Result<ByName<TripRow>, ReadingFault>
+) -> Result<ByName<TripRow>, OpenFault>
     ensures { Reads result (read_rows (trip_with jobs.now) map.empty rows.now) }
 {
     let mut table = ByName::new(alloc);
     for row in rows {
         let entry = trip_in_row(alloc, row, jobs)?;
         match entry {
-            None => return Err(ReadingFault::Damaged),
+            None => return Err(OpenFault::Damaged),
             Some((order, trip)) => {
                 if table.get(order).is_some() {
-                    return Err(ReadingFault::Damaged);
+                    return Err(OpenFault::Damaged);
                 }
                 table.insert(order, trip)?;
             }

@@ -12,7 +12,7 @@ use agv_row_reading::row_tables::{
     edges_in_rows, has_vehicle, jobs_in_rows, legs_in_rows, nodes_in_rows, places_in_rows,
     stations_in_rows, used_in_rows,
 };
-use agv_row_reading::{HeldThings, ReadingFault};
+use agv_row_reading::{HeldThings, OpenFault};
 use agv_rows::decode_row::{decode_meta, decode_vehicle};
 use agv_schema::TableName;
 use agv_world::{ByVehicle, VehicleRow, World};
@@ -26,11 +26,11 @@ const SCHEMA_NUMBER: u32 = 1;
 pub(crate) fn world_in_lists(
     alloc: Global,
     lists: &[Vec<Row>],
-) -> Result<(World, HeldThings), ReadingFault>
+) -> Result<(World, HeldThings), OpenFault>
     ensures { Finds (tables_and_holds result) (λ read. TellFirst (rows_listed lists.now) read.0 read.1) }
 {
     if !has_first_row(list_of(lists, TableName::Meta)) {
-        return Err(ReadingFault::Damaged);
+        return Err(OpenFault::Damaged);
     }
     let tables = tables_in_lists(alloc, lists)?;
     let held = holds_in_rows(alloc, list_of(lists, TableName::Hold))?;
@@ -90,7 +90,7 @@ fn place_of(table: TableName) -> usize
 }
 
 // The tables that the lists tell, but for the schema's number and what is held.
-fn tables_in_lists(alloc: Global, lists: &[Vec<Row>]) -> Result<World, ReadingFault>
+fn tables_in_lists(alloc: Global, lists: &[Vec<Row>]) -> Result<World, OpenFault>
     ensures { Finds result (TellTables (rows_listed lists.now)) }
 {
     let nodes = nodes_in_rows(alloc, list_of(lists, TableName::Node))?;
@@ -116,19 +116,16 @@ fn tables_in_lists(alloc: Global, lists: &[Vec<Row>]) -> Result<World, ReadingFa
 }
 
 // The vehicles that these rows tell, each with capacity 1.
-fn first_vehicles_in_rows(
-    alloc: Global,
-    rows: &[Row],
-) -> Result<ByVehicle<VehicleRow>, ReadingFault>
+fn first_vehicles_in_rows(alloc: Global, rows: &[Row]) -> Result<ByVehicle<VehicleRow>, OpenFault>
     ensures { Reads result (read_rows vehicle_in finite.empty rows.now) }
 {
     let mut table = ByVehicle::new(alloc);
     for row in rows {
         match decode_vehicle(row) {
-            None => return Err(ReadingFault::Damaged),
+            None => return Err(OpenFault::Damaged),
             Some((key, value)) => {
                 if has_vehicle(&table, &key) {
-                    return Err(ReadingFault::Damaged);
+                    return Err(OpenFault::Damaged);
                 }
                 table.insert(key, value)?;
             }

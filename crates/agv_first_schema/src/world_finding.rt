@@ -11,7 +11,7 @@ use crate::rows_reading::read_first_tables;
 use crate::standing::first_tables_stand;
 use crate::world_decoding::world_in_lists;
 use agv_header::Memory;
-use agv_row_reading::{HeldThings, ReadingFault};
+use agv_row_reading::{HeldThings, OpenFault};
 use agv_world::World;
 use sqlite::{Alter, Connection};
 use std::alloc::Global;
@@ -21,22 +21,22 @@ use std::alloc::Global;
 ///
 /// # Errors
 /// `Damaged` exactly if the rows are not those of such a world: a table is missing or differs, a row can't be decoded, the
-/// rows break a rule of the desk, or what is held isn't what the vehicles hold. Else as [`ReadingFault`] says. All rows are in
+/// rows break a rule of the desk, or what is held isn't what the vehicles hold. Else as [`OpenFault`] says. All rows are in
 /// memory at once, beside the tables that they encode.
 pub fn find_first_world<S: Alter>(
     alloc: Global,
     conn: &mut Connection<S>,
-) -> Result<World, ReadingFault>
+) -> Result<World, OpenFault>
     ensures { FindsFirst S.Store conn.old conn.new result }
 {
     first_rows_tell_their_world();
     if !first_tables_stand(alloc, conn.schema())? {
-        return Err(ReadingFault::Damaged);
+        return Err(OpenFault::Damaged);
     }
     let lists = read_first_tables(alloc, conn)?;
     let (tables, held) = world_in_lists(alloc, &lists)?;
     if !are_of_a_first_world(alloc, &tables, &held)? {
-        return Err(ReadingFault::Damaged);
+        return Err(OpenFault::Damaged);
     }
     Ok(tables)
 }

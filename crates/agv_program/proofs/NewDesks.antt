@@ -14,8 +14,8 @@ use Rattle.agv_schema.specs.Connections.{IsClean}
 use Rattle.agv_schema.specs.DeskRows.{Placing}
 use Rattle.agv_store.specs.Floors.{Keyed, world_at}
 use Rattle.agv_store.specs.Opening.{Adopts, CanBeMade, IsDamaged, Makes}
-use Rattle.agv_store.specs.declared.open_fault.OpenFault.{OpenFault}
-use Rattle.agv_store.specs.declared.open_fault.OpenFault.TheVariants as opening
+use Rattle.agv_row_reading.specs.declared.open_fault.OpenFault.{OpenFault}
+use Rattle.agv_row_reading.specs.declared.open_fault.OpenFault.TheVariants as opening
 use Rattle.agv_program.specs.Runs.{IsNewDatabase, KnowsNothing, opening_fault}
 use Rattle.agv_program.specs.declared.outcome.RunFault.TheVariants as fault
 

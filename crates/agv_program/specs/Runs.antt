@@ -17,8 +17,8 @@ use Rattle.agv_face.specs.declared.counting_io.CountingIo.{CountingIo}
 use Rattle.agv_database.specs.MemoryStores.{MemoryStore, over_memory_files}
 use Rattle.agv_schema.specs.Connections.{IsClean}
 use Rattle.agv_store.specs.Floors.{Keyed, world_at}
-use Rattle.agv_store.specs.declared.open_fault.OpenFault.{OpenFault}
-use Rattle.agv_store.specs.declared.open_fault.OpenFault.TheVariants as opening
+use Rattle.agv_row_reading.specs.declared.open_fault.OpenFault.{OpenFault}
+use Rattle.agv_row_reading.specs.declared.open_fault.OpenFault.TheVariants as opening
 use Rattle.agv_command_line.specs.CommandLine.{last_moment}
 use Rattle.agv_command_line.specs.declared.line.Line.{Line}
 use Rattle.agv_command_line.specs.declared.line.Line.TheVariants as line

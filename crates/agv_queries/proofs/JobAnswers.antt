@@ -22,7 +22,7 @@ use Rattle.agv_rows.specs.RowLists.{TellRows, row_if, row_lists}
 use Rattle.agv_statements.specs.CountQueries.{rows_counted}
 use Rattle.agv_statements.specs.RowQueries.{rows_asked}
 use Rattle.agv_schema.specs.SchemaNumbers.{desk_seats}
-use Rattle.agv_row_reading.specs.declared.reading_fault.ReadingFault.{ReadingFault}
+use Rattle.agv_row_reading.specs.declared.open_fault.OpenFault.{OpenFault}
 use Rattle.agv_schema.specs.declared.rows_by.RowsBy.TheVariants as by
 use Rattle.agv_schema.specs.declared.rows_counted.RowsCounted.TheVariants as counted
 use Rattle.agv_row_reading.proofs.Asking.{Follows}
@@ -137,7 +137,7 @@ module _ (world : World) (lawful : IsLawful desk_seats world) where
       (phase_is one e.1.phase both.1 live, (same_name e.1.load load).0 both.0)
 
   pub tells_job_in : (load : List ℕ) (one : Phase) → is_live one ≡ true → (values : Row) → values ≡ name_and_phase load one → (rows : List Row) → IsPermutation (rows_asked by.LoadJobs values lists) rows
-      → (r : Result (Option (List ℕ)) ReadingFault) → r ≡ first_key_in job_in rows → Follows r (λ job. job ≡ option_map (λ (e : List ℕ × JobRow). e.0) (find (is_for load one) (finite.entries world.jobs)))
+      → (r : Result (Option (List ℕ)) OpenFault) → r ≡ first_key_in job_in rows → Follows r (λ job. job ≡ option_map (λ (e : List ℕ × JobRow). e.0) (find (is_for load one) (finite.entries world.jobs)))
   tells_job_in load one live values is rows shown r given =
       let columns : List ℕ × JobRow → Row = λ job. job_columns job.0 job.1 in
       let es = finite.entries world.jobs in

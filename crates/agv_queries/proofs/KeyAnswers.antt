@@ -28,7 +28,7 @@ use Rattle.agv_rows.specs.RowLists.{TellRows, row_if, row_lists}
 use Rattle.agv_statements.specs.RowQueries.{FitsColumns}
 use Rattle.agv_schema.specs.SchemaNumbers.{desk_seats}
 use Rattle.agv_rows.specs.TypedRows.{IsThing}
-use Rattle.agv_row_reading.specs.declared.reading_fault.ReadingFault.{ReadingFault}
+use Rattle.agv_row_reading.specs.declared.open_fault.OpenFault.{OpenFault}
 use Rattle.agv_rows.specs.declared.capacity_row.CapacityRow.{CapacityRow}
 use Rattle.agv_schema.specs.declared.table_name.TableName.TheVariants as the
 use Rattle.agv_row_reading.proofs.Asking.{Follows}
@@ -58,18 +58,18 @@ first_found told columns k None back = refl
 first_found told columns k (Some x) back = ap value_of (back x refl)
 
 tells_first : {K X Y : Type 0} (told : Row → Option (K × Y)) (columns : X → Row) (o : Option X) (answer : Option Y) → first_in told (row_if columns o) ≡ Ok answer
-    → (asked rows : List Row) → asked ≡ row_if columns o → IsPermutation asked rows → (r : Result (Option Y) ReadingFault) → r ≡ first_in told rows → Follows r (λ y. y ≡ answer)
+    → (asked rows : List Row) → asked ≡ row_if columns o → IsPermutation asked rows → (r : Result (Option Y) OpenFault) → r ≡ first_in told rows → Follows r (λ y. y ≡ answer)
 tells_first told columns o answer first asked rows is shown r given =
     let alone = only columns o rows (subst (λ a. IsPermutation a rows) is shown) in
     let so : r ≡ Ok answer = given ∙ ap (first_in told) alone ∙ first in
     subst (λ q. Follows q (λ y. y ≡ answer)) (sym so) refl
 
 module _ {K X : Type 0} (told : Row → Option (K × X)) (columns : X → Row) (k : K) (o : Option X) (back : (x : X) → o ≡ Some x → told (columns x) ≡ Some (k, x)) where
-  pub tells_it : (asked rows : List Row) → asked ≡ row_if columns o → IsPermutation asked rows → (r : Result (Option X) ReadingFault) → r ≡ first_in told rows → Follows r (λ x. x ≡ o)
+  pub tells_it : (asked rows : List Row) → asked ≡ row_if columns o → IsPermutation asked rows → (r : Result (Option X) OpenFault) → r ≡ first_in told rows → Follows r (λ x. x ≡ o)
   tells_it = tells_first told columns o o (first_found told columns k o back)
 
 module _ {K X Y : Type 0} (told : Row → Option (K × Y)) (columns : X → Row) (k : K) (part : X → Y) (o : Option X) (back : (x : X) → o ≡ Some x → told (columns x) ≡ Some (k, part x)) where
-  tells_part : (asked rows : List Row) → asked ≡ row_if columns o → IsPermutation asked rows → (r : Result (Option Y) ReadingFault) → r ≡ first_in told rows → Follows r (λ y. y ≡ option_map part o)
+  tells_part : (asked rows : List Row) → asked ≡ row_if columns o → IsPermutation asked rows → (r : Result (Option Y) OpenFault) → r ≡ first_in told rows → Follows r (λ y. y ≡ option_map part o)
   tells_part = tells_first told columns o (option_map part o) (first_part told columns k part o back)
 
 tested : (rows : List Row) (row : Row) (b : Bool) → IsPermutation (cond b (row ∷ []) []) rows → not (length rows == 0) ≡ b
@@ -115,45 +115,45 @@ module _ (world : World) (lawful : IsLawful desk_seats world) where
   its_own = alike_itself lists
 
   pub tells_place : (id : List ℕ) (key : Row) → key ≡ name_key id → (rows : List Row) → IsPermutation (rows_of_key the.Load key lists) rows
-      → (r : Result (Option Place) ReadingFault) → r ≡ first_in load_in rows → Follows r (λ where_is. where_is ≡ finite.get world.places id)
+      → (r : Result (Option Place) OpenFault) → r ≡ first_in load_in rows → Follows r (λ where_is. where_is ≡ finite.get world.places id)
   tells_place id key is rows shown =
       tells_it load_in (load_columns id) id (finite.get world.places id) (λ where_is at. load_kept id where_is (lawful.loads.loads_named id where_is at) (place_value world lawful id where_is at))
       (rows_of_key the.Load key lists) rows (ap (λ k. rows_of_key the.Load k lists) is ∙ load_shown lists (rows_of world) its_own id) shown
 
   pub tells_job : (id : List ℕ) (key : Row) → key ≡ name_key id → (rows : List Row) → IsPermutation (rows_of_key the.Job key lists) rows
-      → (r : Result (Option JobRow) ReadingFault) → r ≡ first_in job_in rows → Follows r (λ job. job ≡ finite.get world.jobs id)
+      → (r : Result (Option JobRow) OpenFault) → r ≡ first_in job_in rows → Follows r (λ job. job ≡ finite.get world.jobs id)
   tells_job id key is rows shown =
       tells_it job_in (job_columns id) id (finite.get world.jobs id) (λ job at. job_kept id job (lawful.loads.jobs_named id job at) (job_value world lawful id job at))
       (rows_of_key the.Job key lists) rows (ap (λ k. rows_of_key the.Job k lists) is ∙ job_shown lists (rows_of world) its_own id) shown
 
   pub tells_station : (id : List ℕ) (key : Row) → key ≡ name_key id → (rows : List Row) → IsPermutation (rows_of_key the.Station key lists) rows
-      → (r : Result (Option StationSite) ReadingFault) → r ≡ first_in station_in rows → Follows r (λ site. site ≡ finite.get world.layout.stations id)
+      → (r : Result (Option StationSite) OpenFault) → r ≡ first_in station_in rows → Follows r (λ site. site ≡ finite.get world.layout.stations id)
   tells_station id key is rows shown =
       tells_it station_in (station_columns id) id (finite.get world.layout.stations id) (λ site at. station_kept id site (station_named world lawful id site at) (site_value world lawful id site at))
       (rows_of_key the.Station key lists) rows (ap (λ k. rows_of_key the.Station k lists) is ∙ station_shown lists (rows_of world) its_own id) shown
 
   pub tells_ends : (id : List ℕ) (key : Row) → key ≡ name_key id → (rows : List Row) → IsPermutation (rows_of_key the.Edge key lists) rows
-      → (r : Result (Option EdgeEnds) ReadingFault) → r ≡ first_in edge_in rows → Follows r (λ ends. ends ≡ finite.get world.layout.edges id)
+      → (r : Result (Option EdgeEnds) OpenFault) → r ≡ first_in edge_in rows → Follows r (λ ends. ends ≡ finite.get world.layout.edges id)
   tells_ends id key is rows shown =
       tells_it edge_in (edge_columns id) id (finite.get world.layout.edges id) (λ ends at. edge_kept id ends (edge_named world lawful id ends at) (ends_value world lawful id ends at))
       (rows_of_key the.Edge key lists) rows (ap (λ k. rows_of_key the.Edge k lists) is ∙ edge_shown lists (rows_of world) its_own id) shown
 
   -- its row, as if its capacity was 1
   pub tells_vehicle : (id : VehicleKey) (key : Row) → key ≡ vehicle_key id → (rows : List Row) → IsPermutation (rows_of_key the.Vehicle key lists) rows
-      → (r : Result (Option VehicleRow) ReadingFault) → r ≡ first_in vehicle_in rows → Follows r (λ row. row ≡ option_map single (row_of world id))
+      → (r : Result (Option VehicleRow) OpenFault) → r ≡ first_in vehicle_in rows → Follows r (λ row. row ≡ option_map single (row_of world id))
   tells_vehicle id key is rows shown =
       tells_part vehicle_in (vehicle_columns id) id single (row_of world id) (λ row at. let its = vehicle_value world lawful id row at in vehicle_kept id row its.0 its.1)
       (rows_of_key the.Vehicle key lists) rows (ap (λ k. rows_of_key the.Vehicle k lists) is ∙ vehicle_shown lists (rows_of world) its_own id ∙ ap (row_if (vehicle_columns id)) (row_at world id)) shown
 
   -- its capacity
   pub tells_capacity : (id : VehicleKey) (key : Row) → key ≡ vehicle_key id → (rows : List Row) → IsPermutation (rows_of_key the.Capacity key lists) rows
-      → (r : Result (Option CapacityRow) ReadingFault) → r ≡ first_in capacity_in rows → Follows r (λ room. room ≡ option_map capacity_row_of (row_of world id))
+      → (r : Result (Option CapacityRow) OpenFault) → r ≡ first_in capacity_in rows → Follows r (λ room. room ≡ option_map capacity_row_of (row_of world id))
   tells_capacity id key is rows shown =
       tells_part capacity_in (vehicle_capacity_columns id) id capacity_row_of (row_of world id) (λ row at. let its = vehicle_value world lawful id row at in capacity_kept id (capacity_row_of row) its.0 its.1.capacity)
       (rows_of_key the.Capacity key lists) rows (ap (λ k. rows_of_key the.Capacity k lists) is ∙ capacity_shown lists (rows_of world) its_own id ∙ ap (row_if (vehicle_capacity_columns id)) (row_at world id)) shown
 
   pub tells_holder : (thing : Thing) → IsThing thing → (key : Row) → key ≡ hold_key thing → (rows : List Row) → IsPermutation (rows_of_key the.Hold key lists) rows
-      → (r : Result (Option VehicleKey) ReadingFault) → r ≡ first_in hold_in rows → Follows r (λ holder. holder ≡ holder_of world thing)
+      → (r : Result (Option VehicleKey) OpenFault) → r ≡ first_in hold_in rows → Follows r (λ holder. holder ≡ holder_of world thing)
   unfolding holder_of
   tells_holder thing named key is rows shown =
       tells_it hold_in (hold_columns thing) thing (finite.get (rows_of world).holds thing) (λ holder at. hold_kept thing holder named (holder_value world lawful thing holder at))

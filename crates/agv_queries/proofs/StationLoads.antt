@@ -24,7 +24,7 @@ use Rattle.agv_rows.specs.RowKeys.{name_key}
 use Rattle.agv_rows.specs.RowLists.{row_lists}
 use Rattle.agv_statements.specs.RowQueries.{rows_asked}
 use Rattle.agv_schema.specs.SchemaNumbers.{desk_seats}
-use Rattle.agv_row_reading.specs.declared.reading_fault.ReadingFault.{ReadingFault}
+use Rattle.agv_row_reading.specs.declared.open_fault.OpenFault.{OpenFault}
 use Rattle.agv_schema.specs.declared.rows_by.RowsBy.TheVariants as by
 use Rattle.agv_row_reading.proofs.Asking.{Follows}
 use Rattle.agv_rows.proofs.ColumnsKept.{load_kept}
@@ -106,7 +106,7 @@ module _ (world : World) (lawful : IsLawful desk_seats world) (station : List �
     given = reads_there rows (shows_loads_at world lawful station values is rows shown)
 
     -- the reading of these rows fails for want of memory alone
-    pub fails_there : {B : Type 0} (f : ReadingFault) → Reads {A = finite.FinMap name_cmp Place} (Err f) (read_rows load_in finite.empty rows) → (r : Result B ReadingFault) → IsErrAnd r (λ why. why ≡ f) → (says : B → Type 0) → Follows r says
+    pub fails_there : {B : Type 0} (f : OpenFault) → Reads {A = finite.FinMap name_cmp Place} (Err f) (read_rows load_in finite.empty rows) → (r : Result B OpenFault) → IsErrAnd r (λ why. why ≡ f) → (says : B → Type 0) → Follows r says
     fails_there f read r fails says = reads_fails loads_there f (read_rows load_in finite.empty rows) read given r fails says
 
     -- and the names of the table are those of the loads

@@ -39,7 +39,7 @@ use Rattle.agv_statements.specs.RowQueries.{rows_asked}
 use Rattle.agv_schema.specs.SchemaNumbers.{desk_seats}
 use Rattle.agv_rows.specs.DecodedTrips.{is_driven_by, journey_for, tables_of, told_by_journey, trip_told_by}
 use Rattle.agv_rows.specs.TypedRows.{IsActRow, IsJourneyRow, IsLegKey}
-use Rattle.agv_row_reading.specs.declared.reading_fault.ReadingFault.{ReadingFault}
+use Rattle.agv_row_reading.specs.declared.open_fault.OpenFault.{OpenFault}
 use Rattle.agv_schema.specs.declared.rows_by.RowsBy.TheVariants as by
 use Rattle.agv_row_reading.proofs.Asking.{Follows}
 use Rattle.agv_queries.proofs.AskedShown.{shown_asked}
@@ -98,7 +98,7 @@ module _ (world : World) where
       only entry_columns (journey_for (rows_of world) key) rows (subst (λ l. IsPermutation l rows) few perm)
 
   pub tells_journey : OneDrives world → JourneysAreTyped world → (key : VehicleKey) (values : Row) → values ≡ vehicle_key key → (rows : List Row) → IsPermutation (rows_asked by.VehicleJourney values lists) rows
-      → (r : Result (Option Entry) ReadingFault) → r ≡ first_whole_in journey_in rows → Follows r (λ journey. journey ≡ journey_for (rows_of world) key)
+      → (r : Result (Option Entry) OpenFault) → r ≡ first_whole_in journey_in rows → Follows r (λ journey. journey ≡ journey_for (rows_of world) key)
   tells_journey one typed key values is rows shown r given =
       let journeys = journeys_of (rows_of world).trips in
       let found = journey_for (rows_of world) key in
@@ -146,7 +146,7 @@ module _ (world : World) (typed : ActsAreTyped world) (order : List ℕ) where
         (subst (λ es. IsPermutation (rows_of_acts es) rows) (sym (entries-passing (is_of order) (acts_of (rows_of world).trips))) perm)
 
     -- the reading of these rows fails for want of memory alone
-    pub acts_fail : {B : Type 0} (f : ReadingFault) → Reads {A = finite.FinMap leg_cmp ActRow} (Err f) (read_rows act_in finite.empty rows) → (r : Result B ReadingFault) → IsErrAnd r (λ why. why ≡ f) → (says : B → Type 0) → Follows r says
+    pub acts_fail : {B : Type 0} (f : OpenFault) → Reads {A = finite.FinMap leg_cmp ActRow} (Err f) (read_rows act_in finite.empty rows) → (r : Result B OpenFault) → IsErrAnd r (λ why. why ≡ f) → (says : B → Type 0) → Follows r says
     acts_fail f read r fails says = reads_fails acts_there f (read_rows act_in finite.empty rows) read given_acts r fails says
 
     -- and with the table the acts begin
@@ -247,7 +247,7 @@ module _ (world : World) (lawful : IsLawful desk_seats world) (good : HasConsist
         (subst (λ es. IsPermutation (legs_shown es) rows) (sym (entries-passing (is_of_order order) (rows_of world).legs)) perm)
 
     -- the reading of these rows fails for want of memory alone
-    pub fails_there : {B : Type 0} (f : ReadingFault) → Reads {A = finite.FinMap leg_cmp (List ℕ)} (Err f) (read_rows leg_in finite.empty rows) → (r : Result B ReadingFault) → IsErrAnd r (λ why. why ≡ f) → (says : B → Type 0) → Follows r says
+    pub fails_there : {B : Type 0} (f : OpenFault) → Reads {A = finite.FinMap leg_cmp (List ℕ)} (Err f) (read_rows leg_in finite.empty rows) → (r : Result B OpenFault) → IsErrAnd r (λ why. why ≡ f) → (says : B → Type 0) → Follows r says
     fails_there f read r fails says = reads_fails legs_there f (read_rows leg_in finite.empty rows) read given r fails says
 
     -- and with the table the way begins

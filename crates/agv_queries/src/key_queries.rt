@@ -14,7 +14,7 @@ ghost use Rattle.agv_row_reading.specs.WorldAnswers.{AnswersQuery};
 
 use agv_header::{Name, Thing, VehicleKey};
 use agv_layout::{EdgeEnds, StationSite};
-use agv_row_reading::ReadingFault;
+use agv_row_reading::OpenFault;
 use agv_row_reading::queried_rows::query_rows;
 use agv_rows::CapacityRow;
 use agv_rows::decode_row::{
@@ -30,11 +30,11 @@ use sqlite::{Alter, Connection, Row};
 
 /// The row of a vehicle, with its capacity; none where there is no such vehicle.
 ///
-/// It fails as [`ReadingFault`] says.
+/// It fails as [`OpenFault`] says.
 pub fn query_vehicle<S: Alter>(
     conn: &mut Connection<S>,
     key: &VehicleKey,
-) -> Result<Option<VehicleRow>, ReadingFault>
+) -> Result<Option<VehicleRow>, OpenFault>
     ensures { AnswersQuery S.Store conn.old conn.new result (λ world row. row ≡ row_of world key.now) }
 {
     let vehicle = query_vehicle_row(conn, key)?;
@@ -43,7 +43,7 @@ pub fn query_vehicle<S: Alter>(
         Some(vehicle) => {
             let room = query_capacity(conn, key)?;
             match room {
-                None => Err(ReadingFault::Damaged),
+                None => Err(OpenFault::Damaged),
                 Some(room) => Ok(Some(VehicleRow {
                     capacity: room.capacity,
                     ..vehicle
@@ -57,7 +57,7 @@ pub fn query_vehicle<S: Alter>(
 fn query_vehicle_row<S: Alter>(
     conn: &mut Connection<S>,
     key: &VehicleKey,
-) -> Result<Option<VehicleRow>, ReadingFault>
+) -> Result<Option<VehicleRow>, OpenFault>
     ensures { AnswersQuery S.Store conn.old conn.new result (λ world row. row ≡ option_map (λ (vehicle : RowOfVehicle). record vehicle { capacity = 1 }) (row_of world key.now)) }
 {
     let rows = query_rows(conn, RowOf::Vehicle, &vehicle_key_values(key))?;
@@ -65,13 +65,13 @@ fn query_vehicle_row<S: Alter>(
 }
 
 // The row of a vehicle that the rows of its key tell, as if its capacity was 1.
-fn vehicle_in_rows(rows: &[Row]) -> Result<Option<VehicleRow>, ReadingFault>
+fn vehicle_in_rows(rows: &[Row]) -> Result<Option<VehicleRow>, OpenFault>
     ensures { result ≡ first_in vehicle_in rows.now }
 {
     match rows.first() {
         None => Ok(None),
         Some(row) => match decode_vehicle(row) {
-            None => Err(ReadingFault::Damaged),
+            None => Err(OpenFault::Damaged),
             Some((_, vehicle)) => Ok(Some(vehicle)),
         },
     }
@@ -81,7 +81,7 @@ fn vehicle_in_rows(rows: &[Row]) -> Result<Option<VehicleRow>, ReadingFault>
 fn query_capacity<S: Alter>(
     conn: &mut Connection<S>,
     key: &VehicleKey,
-) -> Result<Option<CapacityRow>, ReadingFault>
+) -> Result<Option<CapacityRow>, OpenFault>
     ensures { AnswersQuery S.Store conn.old conn.new result (λ world room. room ≡ option_map (λ (vehicle : RowOfVehicle). record { capacity = vehicle.capacity }) (row_of world key.now)) }
 {
     let rows = query_rows(conn, RowOf::Capacity, &vehicle_key_values(key))?;
@@ -89,13 +89,13 @@ fn query_capacity<S: Alter>(
 }
 
 // The capacity of a vehicle that the rows of its key tell.
-fn capacity_in_rows(rows: &[Row]) -> Result<Option<CapacityRow>, ReadingFault>
+fn capacity_in_rows(rows: &[Row]) -> Result<Option<CapacityRow>, OpenFault>
     ensures { result ≡ first_in capacity_in rows.now }
 {
     match rows.first() {
         None => Ok(None),
         Some(row) => match decode_capacity(row) {
-            None => Err(ReadingFault::Damaged),
+            None => Err(OpenFault::Damaged),
             Some((_, capacity)) => Ok(Some(capacity)),
         },
     }
@@ -103,11 +103,11 @@ fn capacity_in_rows(rows: &[Row]) -> Result<Option<CapacityRow>, ReadingFault>
 
 /// Where a load is; none where it is unknown.
 ///
-/// It fails as [`ReadingFault`] says.
+/// It fails as [`OpenFault`] says.
 pub fn query_place<S: Alter>(
     conn: &mut Connection<S>,
     load: &Name,
-) -> Result<Option<Place>, ReadingFault>
+) -> Result<Option<Place>, OpenFault>
     ensures { AnswersQuery S.Store conn.old conn.new result (λ world place. place ≡ map.get world.places load.now) }
 {
     let rows = query_rows(conn, RowOf::Load, &name_key_values(load))?;
@@ -115,13 +115,13 @@ pub fn query_place<S: Alter>(
 }
 
 // The place that the rows of a load tell.
-fn place_in_rows(rows: &[Row]) -> Result<Option<Place>, ReadingFault>
+fn place_in_rows(rows: &[Row]) -> Result<Option<Place>, OpenFault>
     ensures { result ≡ first_in load_in rows.now }
 {
     match rows.first() {
         None => Ok(None),
         Some(row) => match decode_load(row) {
-            None => Err(ReadingFault::Damaged),
+            None => Err(OpenFault::Damaged),
             Some((_, place)) => Ok(Some(place)),
         },
     }
@@ -129,11 +129,11 @@ fn place_in_rows(rows: &[Row]) -> Result<Option<Place>, ReadingFault>
 
 /// The row of a job; none where it is unknown.
 ///
-/// It fails as [`ReadingFault`] says.
+/// It fails as [`OpenFault`] says.
 pub fn query_job<S: Alter>(
     conn: &mut Connection<S>,
     job: &Name,
-) -> Result<Option<JobRow>, ReadingFault>
+) -> Result<Option<JobRow>, OpenFault>
     ensures { AnswersQuery S.Store conn.old conn.new result (λ world row. row ≡ map.get world.jobs job.now) }
 {
     let rows = query_rows(conn, RowOf::Job, &name_key_values(job))?;
@@ -141,13 +141,13 @@ pub fn query_job<S: Alter>(
 }
 
 // The row of a job that the rows of its name tell.
-fn job_in_rows(rows: &[Row]) -> Result<Option<JobRow>, ReadingFault>
+fn job_in_rows(rows: &[Row]) -> Result<Option<JobRow>, OpenFault>
     ensures { result ≡ first_in job_in rows.now }
 {
     match rows.first() {
         None => Ok(None),
         Some(row) => match decode_job(row) {
-            None => Err(ReadingFault::Damaged),
+            None => Err(OpenFault::Damaged),
             Some((_, job)) => Ok(Some(job)),
         },
     }
@@ -155,11 +155,11 @@ fn job_in_rows(rows: &[Row]) -> Result<Option<JobRow>, ReadingFault>
 
 /// Where a station is, and how many loads fit there; none where it is unknown.
 ///
-/// It fails as [`ReadingFault`] says.
+/// It fails as [`OpenFault`] says.
 pub fn query_station<S: Alter>(
     conn: &mut Connection<S>,
     id: &Name,
-) -> Result<Option<StationSite>, ReadingFault>
+) -> Result<Option<StationSite>, OpenFault>
     ensures { AnswersQuery S.Store conn.old conn.new result (λ world site. site ≡ map.get world.layout.stations id.now) }
 {
     let rows = query_rows(conn, RowOf::Station, &name_key_values(id))?;
@@ -167,13 +167,13 @@ pub fn query_station<S: Alter>(
 }
 
 // The site of a station that the rows of its name tell.
-fn station_in_rows(rows: &[Row]) -> Result<Option<StationSite>, ReadingFault>
+fn station_in_rows(rows: &[Row]) -> Result<Option<StationSite>, OpenFault>
     ensures { result ≡ first_in station_in rows.now }
 {
     match rows.first() {
         None => Ok(None),
         Some(row) => match decode_station(row) {
-            None => Err(ReadingFault::Damaged),
+            None => Err(OpenFault::Damaged),
             Some((_, site)) => Ok(Some(site)),
         },
     }
@@ -181,11 +181,11 @@ fn station_in_rows(rows: &[Row]) -> Result<Option<StationSite>, ReadingFault>
 
 /// Where an edge leads; none where it is unknown.
 ///
-/// It fails as [`ReadingFault`] says.
+/// It fails as [`OpenFault`] says.
 pub fn query_edge<S: Alter>(
     conn: &mut Connection<S>,
     id: &Name,
-) -> Result<Option<EdgeEnds>, ReadingFault>
+) -> Result<Option<EdgeEnds>, OpenFault>
     ensures { AnswersQuery S.Store conn.old conn.new result (λ world ends. ends ≡ map.get world.layout.edges id.now) }
 {
     let rows = query_rows(conn, RowOf::Edge, &name_key_values(id))?;
@@ -193,13 +193,13 @@ pub fn query_edge<S: Alter>(
 }
 
 // The ends of an edge that the rows of its name tell.
-fn ends_in_rows(rows: &[Row]) -> Result<Option<EdgeEnds>, ReadingFault>
+fn ends_in_rows(rows: &[Row]) -> Result<Option<EdgeEnds>, OpenFault>
     ensures { result ≡ first_in edge_in rows.now }
 {
     match rows.first() {
         None => Ok(None),
         Some(row) => match decode_edge(row) {
-            None => Err(ReadingFault::Damaged),
+            None => Err(OpenFault::Damaged),
             Some((_, ends)) => Ok(Some(ends)),
         },
     }
@@ -207,11 +207,11 @@ fn ends_in_rows(rows: &[Row]) -> Result<Option<EdgeEnds>, ReadingFault>
 
 /// The vehicle that holds a node or an edge; none where it is free.
 ///
-/// It fails as [`ReadingFault`] says.
+/// It fails as [`OpenFault`] says.
 pub fn query_holder<S: Alter>(
     conn: &mut Connection<S>,
     thing: &Thing,
-) -> Result<Option<VehicleKey>, ReadingFault>
+) -> Result<Option<VehicleKey>, OpenFault>
     ensures { AnswersQuery S.Store conn.old conn.new result (λ world key. key ≡ holder_of world thing.now) }
 {
     thing_is_named(thing);
@@ -234,13 +234,13 @@ fn thing_is_named(thing: &Thing)
 }
 
 // The holder that the rows of a node or an edge tell.
-fn holder_in_rows(rows: &[Row]) -> Result<Option<VehicleKey>, ReadingFault>
+fn holder_in_rows(rows: &[Row]) -> Result<Option<VehicleKey>, OpenFault>
     ensures { result ≡ first_in hold_in rows.now }
 {
     match rows.first() {
         None => Ok(None),
         Some(row) => match decode_hold(row) {
-            None => Err(ReadingFault::Damaged),
+            None => Err(OpenFault::Damaged),
             Some((_, key)) => Ok(Some(key)),
         },
     }
@@ -248,8 +248,8 @@ fn holder_in_rows(rows: &[Row]) -> Result<Option<VehicleKey>, ReadingFault>
 
 /// Whether it is a node of the layout.
 ///
-/// It fails as [`ReadingFault`] says.
-pub fn query_node<S: Alter>(conn: &mut Connection<S>, id: &Name) -> Result<bool, ReadingFault>
+/// It fails as [`OpenFault`] says.
+pub fn query_node<S: Alter>(conn: &mut Connection<S>, id: &Name) -> Result<bool, OpenFault>
     ensures { AnswersQuery S.Store conn.old conn.new result (λ world known. known ≡ set.contains world.layout.nodes id.now) }
 {
     let rows = query_rows(conn, RowOf::Node, &name_key_values(id))?;
@@ -258,8 +258,8 @@ pub fn query_node<S: Alter>(conn: &mut Connection<S>, id: &Name) -> Result<bool,
 
 /// Whether a name was used, in its kind.
 ///
-/// It fails as [`ReadingFault`] says.
-pub fn query_used<S: Alter>(conn: &mut Connection<S>, key: &UseKey) -> Result<bool, ReadingFault>
+/// It fails as [`OpenFault`] says.
+pub fn query_used<S: Alter>(conn: &mut Connection<S>, key: &UseKey) -> Result<bool, OpenFault>
     ensures { AnswersQuery S.Store conn.old conn.new result (λ world known. known ≡ is_used world key.now.kind key.now.name) }
 {
     let rows = query_rows(conn, RowOf::Used, &used_values(key))?;

@@ -19,7 +19,7 @@ use crate::key_queries::query_station;
 use crate::known_layout::known_station;
 use agv_header::{Name, VehicleKey};
 use agv_layout::Layout;
-use agv_row_reading::ReadingFault;
+use agv_row_reading::OpenFault;
 use agv_row_reading::queried_rows::{query_count, query_rows_by};
 use agv_rows::decode_row::decode_job;
 use agv_rows::key_values::{name_key_values, vehicle_key_values};
@@ -33,11 +33,11 @@ use sqlite::{Alter, Connection, Row};
 
 /// How many loads a vehicle has.
 ///
-/// It fails as [`ReadingFault`] says.
+/// It fails as [`OpenFault`] says.
 pub fn query_loads_on<S: Alter>(
     conn: &mut Connection<S>,
     key: &VehicleKey,
-) -> Result<usize, ReadingFault>
+) -> Result<usize, OpenFault>
     ensures { AnswersQuery S.Store conn.old conn.new result (λ world count. count ≡ loads_on world key.now) }
 {
     query_count(conn, RowsCounted::VehicleLoads, &vehicle_key_values(key))
@@ -45,11 +45,11 @@ pub fn query_loads_on<S: Alter>(
 
 /// How many live jobs go to a station, each of which keeps a place there.
 ///
-/// It fails as [`ReadingFault`] says.
+/// It fails as [`OpenFault`] says.
 pub fn query_reserved<S: Alter>(
     conn: &mut Connection<S>,
     station: &Name,
-) -> Result<usize, ReadingFault>
+) -> Result<usize, OpenFault>
     ensures { AnswersQuery S.Store conn.old conn.new result (λ world count. count ≡ reserved world station.now) }
 {
     let waiting = query_jobs_to(conn, station, Phase::Waiting)?;
@@ -62,7 +62,7 @@ fn query_jobs_to<S: Alter>(
     conn: &mut Connection<S>,
     station: &Name,
     phase: Phase,
-) -> Result<usize, ReadingFault>
+) -> Result<usize, OpenFault>
     ensures { AnswersQuery S.Store conn.old conn.new result (λ world count.
         count ≡ count_by (λ job. pointwise nat_eq job.1.target station.now && is_in_phase phase job.1) (map.entries world.jobs)) }
 {
@@ -75,11 +75,11 @@ fn query_jobs_to<S: Alter>(
 
 /// The live job of a load; none where it is in none.
 ///
-/// It fails as [`ReadingFault`] says.
+/// It fails as [`OpenFault`] says.
 pub fn query_job_of<S: Alter>(
     conn: &mut Connection<S>,
     load: &Name,
-) -> Result<Option<Name>, ReadingFault>
+) -> Result<Option<Name>, OpenFault>
     ensures { AnswersQuery S.Store conn.old conn.new result (λ world job. job ≡ job_of world load.now) }
 {
     let waiting = query_job_in(conn, load, Phase::Waiting)?;
@@ -92,7 +92,7 @@ fn query_job_in<S: Alter>(
     conn: &mut Connection<S>,
     load: &Name,
     phase: Phase,
-) -> Result<Option<Name>, ReadingFault>
+) -> Result<Option<Name>, OpenFault>
     requires { is_live phase ≡ true }
     ensures { AnswersQuery S.Store conn.old conn.new result (λ world job.
         job ≡ option_map (λ job. job.0) (find (λ job. pointwise nat_eq job.1.load load.now && is_in_phase phase job.1) (map.entries world.jobs))) }
@@ -109,13 +109,13 @@ fn name_and_phase_values(name: &Name, phase: Phase) -> [ValueRef<'_>; 2]
 }
 
 // The name of the job that the first of the rows tells.
-fn job_name_in_rows(rows: &[Row]) -> Result<Option<Name>, ReadingFault>
+fn job_name_in_rows(rows: &[Row]) -> Result<Option<Name>, OpenFault>
     ensures { result ≡ first_key_in job_in rows.now }
 {
     match rows.first() {
         None => Ok(None),
         Some(row) => match decode_job(row) {
-            None => Err(ReadingFault::Damaged),
+            None => Err(OpenFault::Damaged),
             Some((id, _)) => Ok(Some(id)),
         },
     }
@@ -124,12 +124,12 @@ fn job_name_in_rows(rows: &[Row]) -> Result<Option<Name>, ReadingFault>
 /// How many loads more fit at a station; none where it is unknown. Where a layout is given that is the world's, it says how
 /// many fit in all, and the station isn't asked for.
 ///
-/// It fails as [`ReadingFault`] says.
+/// It fails as [`OpenFault`] says.
 pub fn query_room<S: Alter>(
     conn: &mut Connection<S>,
     known: &Option<Layout>,
     station: &Name,
-) -> Result<Option<u32>, ReadingFault>
+) -> Result<Option<u32>, OpenFault>
     ensures { AnswersQuery S.Store conn.old conn.new result (λ world room. AgreesWith known.now world → room ≡ room_at world station.now) }
 {
     if let Some(site) = known_station(known, *station) {
@@ -151,7 +151,7 @@ fn query_room_left<S: Alter>(
     conn: &mut Connection<S>,
     station: &Name,
     capacity: u32,
-) -> Result<u32, ReadingFault>
+) -> Result<u32, OpenFault>
     ensures { AnswersQuery S.Store conn.old conn.new result (λ world room. room ≡ room_left capacity (length (loads_at world station.now)) (reserved world station.now)) }
 {
     let loads = query_load_count(conn, station)?;
@@ -160,10 +160,7 @@ fn query_room_left<S: Alter>(
 }
 
 // How many loads are at a station.
-fn query_load_count<S: Alter>(
-    conn: &mut Connection<S>,
-    station: &Name,
-) -> Result<usize, ReadingFault>
+fn query_load_count<S: Alter>(conn: &mut Connection<S>, station: &Name) -> Result<usize, OpenFault>
     ensures { AnswersQuery S.Store conn.old conn.new result (λ world count. count ≡ length (loads_at world station.now)) }
 {
     query_count(conn, RowsCounted::StationLoads, &name_key_values(station))

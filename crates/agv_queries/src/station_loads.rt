@@ -7,7 +7,7 @@ ghost use Rattle.agv_row_reading.specs.WorldAnswers.{AnswersQuery};
 
 use agv_header::{Memory, Name};
 use agv_message::Sequence;
-use agv_row_reading::ReadingFault;
+use agv_row_reading::OpenFault;
 use agv_row_reading::queried_rows::query_rows_by;
 use agv_row_reading::row_tables::places_in_rows;
 use agv_rows::key_values::name_key_values;
@@ -19,12 +19,12 @@ use std::alloc::Global;
 
 /// The loads at a station, in the order of their names.
 ///
-/// It fails as [`ReadingFault`] says.
+/// It fails as [`OpenFault`] says.
 pub fn query_loads_at<S: Alter>(
     alloc: Global,
     conn: &mut Connection<S>,
     station: &Name,
-) -> Result<Sequence<Name>, ReadingFault>
+) -> Result<Sequence<Name>, OpenFault>
     ensures { AnswersQuery S.Store conn.old conn.new result (λ world loads. loads ≡ loads_at world station.now) }
 {
     let rows = query_rows_by(conn, RowsBy::StationLoads, &name_key_values(station))?;

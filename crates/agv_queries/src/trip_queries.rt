@@ -21,7 +21,7 @@ use agv_header::{Name, VehicleKey};
 use agv_layout::{Edge, Layout};
 use agv_message::Sequence;
 use agv_order::{Act, Trip};
-use agv_row_reading::ReadingFault;
+use agv_row_reading::OpenFault;
 use agv_row_reading::queried_rows::query_rows_by;
 use agv_row_reading::row_tables::{acts_in_rows, legs_in_rows};
 use agv_rows::decode_row::decode_journey;
@@ -36,13 +36,13 @@ use std::alloc::Global;
 /// The open trip of a vehicle, with its edges and its acts; none where it has none, or there is no such vehicle. Where a
 /// layout is given that is the world's, it says where the edges lead, and they aren't asked for.
 ///
-/// It fails as [`ReadingFault`] says.
+/// It fails as [`OpenFault`] says.
 pub fn query_trip<S: Alter>(
     alloc: Global,
     conn: &mut Connection<S>,
     known: &Option<Layout>,
     key: &VehicleKey,
-) -> Result<Option<Trip>, ReadingFault>
+) -> Result<Option<Trip>, OpenFault>
     ensures { AnswersQuery S.Store conn.old conn.new result (λ world trip. AgreesWith known.now world → trip ≡ trip_of world key.now) }
 {
     rows_tell_trips();
@@ -60,7 +60,7 @@ pub fn query_trip<S: Alter>(
 fn query_journey<S: Alter>(
     conn: &mut Connection<S>,
     key: &VehicleKey,
-) -> Result<Option<(Name, JourneyRow)>, ReadingFault>
+) -> Result<Option<(Name, JourneyRow)>, OpenFault>
     ensures { AnswersQuery S.Store conn.old conn.new result (λ world journey. journey ≡ journey_for (rows_of world) key.now) }
 {
     rows_tell_trips();
@@ -69,13 +69,13 @@ fn query_journey<S: Alter>(
 }
 
 // The journey that the first of the rows tells.
-fn journey_in_rows(rows: &[Row]) -> Result<Option<(Name, JourneyRow)>, ReadingFault>
+fn journey_in_rows(rows: &[Row]) -> Result<Option<(Name, JourneyRow)>, OpenFault>
     ensures { result ≡ first_whole_in journey_in rows.now }
 {
     match rows.first() {
         None => Ok(None),
         Some(row) => match decode_journey(row) {
-            None => Err(ReadingFault::Damaged),
+            None => Err(OpenFault::Damaged),
             Some(journey) => Ok(Some(journey)),
         },
     }
@@ -87,7 +87,7 @@ fn query_told_trip<S: Alter>(
     conn: &mut Connection<S>,
     known: &Option<Layout>,
     journey: &(Name, JourneyRow),
-) -> Result<Trip, ReadingFault>
+) -> Result<Trip, OpenFault>
     ensures { AnswersQuery S.Store conn.old conn.new result (λ world trip. AgreesWith known.now world → told_by_journey (rows_of world) journey.now ≡ Some trip) }
 {
     let acts = query_acts(alloc, conn, &journey.0)?;
@@ -119,7 +119,7 @@ fn query_acts<S: Alter>(
     alloc: Global,
     conn: &mut Connection<S>,
     order: &Name,
-) -> Result<Sequence<Act>, ReadingFault>
+) -> Result<Sequence<Act>, OpenFault>
     ensures { AnswersQuery S.Store conn.old conn.new result
         (λ world acts. acts_told (rows_of world).jobs 0 (filter (is_of order.now) (map.entries (acts_of (rows_of world).trips))) ≡ Some acts) }
 {
@@ -129,11 +129,11 @@ fn query_acts<S: Alter>(
     let mut acts = Vec::new(alloc);
     for (key, act) in table.iter() {
         if key.k as usize != acts.len() {
-            return Err(ReadingFault::Damaged);
+            return Err(OpenFault::Damaged);
         }
         let job = query_job(conn, &act.job)?;
         match job {
-            None => return Err(ReadingFault::Damaged),
+            None => return Err(OpenFault::Damaged),
             Some(job) => acts.push(act.act(&job))?,
         }
     }
@@ -146,7 +146,7 @@ fn query_way<S: Alter>(
     conn: &mut Connection<S>,
     known: &Option<Layout>,
     order: &Name,
-) -> Result<Sequence<Edge>, ReadingFault>
+) -> Result<Sequence<Edge>, OpenFault>
     ensures { AnswersQuery S.Store conn.old conn.new result (λ world edges. AgreesWith known.now world → edges ≡ edges_of (tables_of (rows_of world)) order.now) }
 {
     has_consistent_trips();
@@ -160,7 +160,7 @@ fn query_way<S: Alter>(
         }
         let found = query_edge(conn, id)?;
         match found {
-            None => return Err(ReadingFault::Damaged),
+            None => return Err(OpenFault::Damaged),
             Some(ends) => edges.push(Edge {
                 id: *id,
                 start: ends.start,
@@ -173,11 +173,11 @@ fn query_way<S: Alter>(
 
 /// Whether a vehicle has an open trip; it has none where there is no such vehicle.
 ///
-/// It fails as [`ReadingFault`] says.
+/// It fails as [`OpenFault`] says.
 pub fn query_has_trip<S: Alter>(
     conn: &mut Connection<S>,
     key: &VehicleKey,
-) -> Result<bool, ReadingFault>
+) -> Result<bool, OpenFault>
     ensures { AnswersQuery S.Store conn.old conn.new result (λ world has. has ≡ is_some (trip_of world key.now)) }
 {
     rows_tell_trips();

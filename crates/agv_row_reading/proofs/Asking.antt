@@ -14,12 +14,12 @@ use Rattle.agv_world.specs.Worlds.{World}
 use Rattle.agv_schema.specs.DeskRows.{Answers, Placing, Holds, IsDesk}
 use Rattle.agv_schema.specs.Errors.{IsOfStore, is_of_store}
 use Rattle.agv_schema.specs.Connections.{HasStorageCause}
-use Rattle.agv_row_reading.specs.ReadingFault.{reading_fault_of}
+use Rattle.agv_row_reading.specs.OpenFault.{open_fault_of}
 use Rattle.agv_rows.specs.RowLists.{row_lists}
 use Rattle.agv_schema.specs.SchemaNumbers.{desk_seats}
 use Rattle.agv_row_reading.specs.WorldAnswers.{HasWorld, AnswersQuery}
-use Rattle.agv_row_reading.specs.declared.reading_fault.ReadingFault.{ReadingFault}
-use Rattle.agv_row_reading.specs.declared.reading_fault.ReadingFault.TheVariants as fault
+use Rattle.agv_row_reading.specs.declared.open_fault.OpenFault.{OpenFault}
+use Rattle.agv_row_reading.specs.declared.open_fault.OpenFault.TheVariants as fault
 use Rattle.agv_schema.proofs.Later.{later_by, fault_later}
 use Rattle.agv_schema.proofs.StatesThen.{failed_then, unchanged_then}
 
@@ -59,7 +59,7 @@ module _ {S : Type 0} (g : Ghosts S) (old new : Held S) where
   }
 
   -- an error of the database
-  pub tells_error : {A : Type 0} (says : World → A → Type 0) (r : Result A ReadingFault) (e : Error) → IsErrAnd r (λ why. why ≡ reading_fault_of e) → (HasCleanDisk (state g new) → IsUnchanged (state g old) (state g new) ⊎ IsRolledBack (state g old) (state g new))
+  pub tells_error : {A : Type 0} (says : World → A → Type 0) (r : Result A OpenFault) (e : Error) → IsErrAnd r (λ why. why ≡ open_fault_of e) → (HasCleanDisk (state g new) → IsUnchanged (state g old) (state g new) ⊎ IsRolledBack (state g old) (state g new))
       → (HasCleanDisk (state g new) → IsOfStore e → (desk : Placing) → IsDesk desk → (state g old).now.schema ≡ desk.schema → HasStorageCause g old new)
       → (old.in_transaction ≡ false → new.in_transaction ≡ false) → Survives (state g old) (state g new) (λ _. ⊥) → AnswersQuery g old new r says
   tells_error says (Ok x) e is failed why at_rest saved = absurd is
@@ -77,7 +77,7 @@ module _ {S : Type 0} (g : Ghosts S) (old new : Held S) where
 -- ---- what is told of the answer
 
 -- what follows from an answer: another answer, or want of memory
-abbrev pub Follows : {B : Type 0} → Result B ReadingFault → (B → Type 0) → Type 0
+abbrev pub Follows : {B : Type 0} → Result B OpenFault → (B → Type 0) → Type 0
 Follows (Ok b) says = says b
 Follows (Err fault.Memory) says = Unit {0}
 Follows (Err fault.Storage) says = ⊥
@@ -85,7 +85,7 @@ Follows (Err fault.Damaged) says = ⊥
 
 module _ {S : Type 0} (g : Ghosts S) (old : Held S) where
   -- an error is passed on
-  pub passes : {A B : Type 0} (new : Held S) (f : ReadingFault) (says : World → A → Type 0) (means : World → B → Type 0) (r : Result B ReadingFault) → IsErrAnd r (λ why. why ≡ f) → AnswersQuery g old new (Err f) says → AnswersQuery g old new r means
+  pub passes : {A B : Type 0} (new : Held S) (f : OpenFault) (says : World → A → Type 0) (means : World → B → Type 0) (r : Result B OpenFault) → IsErrAnd r (λ why. why ≡ f) → AnswersQuery g old new (Err f) says → AnswersQuery g old new r means
   passes new f says means (Ok b) is asked = absurd is
   passes new f says means (Err why) is asked = record {
     told = λ _. tt;
@@ -99,7 +99,7 @@ module _ {S : Type 0} (g : Ghosts S) (old : Held S) where
   }
 
   -- what the answer tells
-  pub follows : {A B : Type 0} (new : Held S) (a : A) (says : World → A → Type 0) (means : World → B → Type 0) (r : Result B ReadingFault)
+  pub follows : {A B : Type 0} (new : Held S) (a : A) (says : World → A → Type 0) (means : World → B → Type 0) (r : Result B OpenFault)
       → ((world : World) → IsLawful desk_seats world → says world a → Follows r (means world)) → AnswersQuery g old new (Ok a) says → AnswersQuery g old new r means
   follows new a says means (Ok b) so asked = record {
     told = λ clean desk world has. so world has.lawful (asked.told clean desk world has);
@@ -143,14 +143,14 @@ module _ {S : Type 0} (g : Ghosts S) (old : Held S) where
   }
 
   -- an answer that says one thing says another
-  pub tells : {A : Type 0} (new : Held S) (says means : World → A → Type 0) (r : Result A ReadingFault)
+  pub tells : {A : Type 0} (new : Held S) (says means : World → A → Type 0) (r : Result A OpenFault)
       → ((world : World) → IsLawful desk_seats world → (a : A) → says world a → means world a) → AnswersQuery g old new r says → AnswersQuery g old new r means
   tells new says means (Ok a) so asked = follows new a says means (Ok a) (λ world lawful. so world lawful a) asked
   tells new says means (Err f) so asked = passes new f says means (Err f) refl asked
 
   -- a query after another
   module _ {A B : Type 0} (mid new : Held S) (a : A) (says : World → A → Type 0) (first : AnswersQuery g old mid (Ok a) says) where
-    module _ (r : Result B ReadingFault) (means : World → B → Type 0) (next : AnswersQuery g mid new r means) where
+    module _ (r : Result B OpenFault) (means : World → B → Type 0) (next : AnswersQuery g mid new r means) where
       earlier : HasCleanDisk (state g new) → HasCleanDisk (state g mid)
       earlier clean = omega (arith, next.survives.clean)
 
@@ -163,7 +163,7 @@ module _ {S : Type 0} (g : Ghosts S) (old : Held S) where
       saved : Survives (state g old) (state g new) (λ _. ⊥)
       saved = survives_then (state g old) (state g mid) (state g new) _ _ (λ _. ⊥) (λ _ _ none. none) (λ _ _ none. none) first.survives next.survives
 
-    pub then : (r : Result B ReadingFault) (means : World → B → Type 0) (joined : World → B → Type 0) → ((world : World) → IsLawful desk_seats world → says world a → (b : B) → means world b → joined world b) → AnswersQuery g mid new r means → AnswersQuery g old new r joined
+    pub then : (r : Result B OpenFault) (means : World → B → Type 0) (joined : World → B → Type 0) → ((world : World) → IsLawful desk_seats world → says world a → (b : B) → means world b → joined world b) → AnswersQuery g mid new r means → AnswersQuery g old new r joined
     then (Ok b) means joined so next = record {
       told = λ clean desk world has.
           let one = first.told (earlier (Ok b) means next clean) desk world has in
@@ -191,11 +191,11 @@ module _ {S : Type 0} (g : Ghosts S) (old : Held S) where
 
 module _ {S A B C : Type 0} (g : Ghosts S) (old mid new : Held S) (a : A) (says : World → A → Type 0) (first : AnswersQuery g old mid (Ok a) says) where
   -- the error of the later query is passed on
-  pub then_passes : (f : ReadingFault) (means : World → B → Type 0) (joined : World → C → Type 0) (r : Result C ReadingFault) → IsErrAnd r (λ why. why ≡ f) → AnswersQuery g mid new (Err f) means → AnswersQuery g old new r joined
+  pub then_passes : (f : OpenFault) (means : World → B → Type 0) (joined : World → C → Type 0) (r : Result C OpenFault) → IsErrAnd r (λ why. why ≡ f) → AnswersQuery g mid new (Err f) means → AnswersQuery g old new r joined
   then_passes f means joined r is next = then g old mid new a says first r joined joined (λ world lawful one c two. two) (passes g mid new f means joined r is next)
 
   -- what both answers tell
-  pub then_follows : (b : B) (means : World → B → Type 0) (joined : World → C → Type 0) (r : Result C ReadingFault) → ((world : World) → IsLawful desk_seats world → says world a → means world b → Follows r (joined world)) → AnswersQuery g mid new (Ok b) means → AnswersQuery g old new r joined
+  pub then_follows : (b : B) (means : World → B → Type 0) (joined : World → C → Type 0) (r : Result C OpenFault) → ((world : World) → IsLawful desk_seats world → says world a → means world b → Follows r (joined world)) → AnswersQuery g mid new (Ok b) means → AnswersQuery g old new r joined
   then_follows b means joined r so next =
       follows g old new b (λ world c. says world a × means world c) joined r (λ world lawful both. so world lawful both.0 both.1)
       (then g old mid new a says first (Ok b) means (λ world c. says world a × means world c) (λ world lawful one c two. (one, two)) next)

@@ -14,7 +14,7 @@ use Rattle.agv_rows.specs.RowLists.{row_lists}
 use Rattle.agv_rows.specs.ValueEncodings.{number_cell, number_in}
 use Rattle.agv_schema.specs.SchemaNumbers.{desk_seats}
 use Rattle.agv_statements.specs.CountQueries.{count_shown, rows_counted}
-use Rattle.agv_row_reading.specs.declared.reading_fault.ReadingFault.{ReadingFault}
+use Rattle.agv_row_reading.specs.declared.open_fault.OpenFault.{OpenFault}
 use Rattle.agv_schema.specs.declared.rows_counted.RowsCounted.{RowsCounted}
 use Rattle.agv_schema.specs.declared.rows_counted.RowsCounted.TheVariants as counted
 use Rattle.agv_row_reading.proofs.Asking.{Follows}
@@ -50,7 +50,7 @@ module _ (world : World) (lawful : IsLawful desk_seats world) where
   few_counted counted.VehicleLoads values = few_shown _ _ (finite.entries world.places) _ (finite.len-entries world.places) lawful.loads.few_loads
   few_counted counted.TargetJobs values = few_shown _ _ (finite.entries world.jobs) _ (finite.len-entries world.jobs) lawful.loads.few_jobs
 
-  pub tells_count : (query : RowsCounted) (values : Row) (rows : List Row) → IsPermutation (count_shown query values lists) rows → (r : Result ℕ ReadingFault) → r ≡ first_number_in rows
+  pub tells_count : (query : RowsCounted) (values : Row) (rows : List Row) → IsPermutation (count_shown query values lists) rows → (r : Result ℕ OpenFault) → r ≡ first_number_in rows
       → Follows r (λ n. n ≡ length (rows_counted query values lists))
   tells_count query values rows shown r given =
       let number = length (rows_counted query values lists) in

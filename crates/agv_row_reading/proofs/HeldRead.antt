@@ -13,23 +13,23 @@ use Rattle.agv_rows.specs.ValueEncodings.{if_some}
 use Rattle.agv_rows.specs.Columns.{hold_in}
 use Rattle.agv_row_reading.specs.ReadTables.{if_free, read_rows, table_read}
 use Rattle.agv_row_reading.specs.declared.held_things.HeldThings.{HeldThings}
-use Rattle.agv_row_reading.specs.declared.reading_fault.ReadingFault.{ReadingFault}
-use Rattle.agv_row_reading.specs.declared.reading_fault.ReadingFault.TheVariants as fault
+use Rattle.agv_row_reading.specs.declared.open_fault.OpenFault.{OpenFault}
+use Rattle.agv_row_reading.specs.declared.open_fault.OpenFault.TheVariants as fault
 use Rattle.agv_row_reading.proofs.Asking.{Follows}
 use Rattle.agv_row_reading.proofs.AskingAll.{IsNoStorage}
 use Rattle.agv_row_reading.proofs.TableReading.{added, no_entries}
 
-pub table_follows : (r : Result HeldThings ReadingFault) (says : Holds → Type 0) → Follows (table_read r) says → Follows r (λ held. says held.table)
+pub table_follows : (r : Result HeldThings OpenFault) (says : Holds → Type 0) → Follows (table_read r) says → Follows r (λ held. says held.table)
 table_follows (Ok held) says h = h
 table_follows (Err fault.Memory) says h = h
 table_follows (Err fault.Storage) says h = h
 table_follows (Err fault.Damaged) says h = h
 
-pub table_if_ok : (r : Result HeldThings ReadingFault) (says : Holds → Type 0) → IfOk (table_read r) says → IfOk r (λ held. says held.table)
+pub table_if_ok : (r : Result HeldThings OpenFault) (says : Holds → Type 0) → IfOk (table_read r) says → IfOk r (λ held. says held.table)
 table_if_ok (Ok held) says h = h
 table_if_ok (Err why) says h = h
 
-pub table_no_storage : (r : Result HeldThings ReadingFault) → IsNoStorage (table_read r) → IsNoStorage r
+pub table_no_storage : (r : Result HeldThings OpenFault) → IsNoStorage (table_read r) → IsNoStorage r
 table_no_storage (Ok held) h = h
 table_no_storage (Err why) h = h
 

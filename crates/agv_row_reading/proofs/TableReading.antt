@@ -14,8 +14,8 @@ use Rattle.sqlite_value.specs.Order.{Row}
 use Rattle.agv_rows.specs.ValueEncodings.{if_some}
 use Rattle.agv_row_reading.specs.ReadTables.{Reads, if_free, read_rows}
 use Rattle.agv_rows.specs.RowLists.{rows_in}
-use Rattle.agv_row_reading.specs.declared.reading_fault.ReadingFault.{ReadingFault}
-use Rattle.agv_row_reading.specs.declared.reading_fault.ReadingFault.TheVariants as fault
+use Rattle.agv_row_reading.specs.declared.open_fault.OpenFault.{OpenFault}
+use Rattle.agv_row_reading.specs.declared.open_fault.OpenFault.TheVariants as fault
 use Rattle.agv_row_reading.proofs.Asking.{Follows}
 use Rattle.agv_schema.proofs.MapEntries.{at_key, entries-at_key, entries-insert-permuted}
 use Rattle.agv_schema.proofs.SpreadRows.{entries_found}
@@ -138,22 +138,22 @@ module _ {K X : Type 0} {R : K → K → Ordering} (total : IsTotalOrder R) (apa
           ∙ ap Some (whole from.0 from.1)
 
 -- a reading of rows that give the table ends with it, or for want of memory
-pub reads_it : {A : Type 0} (table : A) (r : Result A ReadingFault) (given : Option A) → Reads r given → given ≡ Some table → Follows r (λ t. t ≡ table)
+pub reads_it : {A : Type 0} (table : A) (r : Result A OpenFault) (given : Option A) → Reads r given → given ≡ Some table → Follows r (λ t. t ≡ table)
 reads_it {A} table (Ok t) given read is = let same : ◌≡◌ {A = Option A} (Some t) (Some table) = sym read ∙ is in cc same
 reads_it table (Err fault.Memory) given read is = tt
 reads_it table (Err fault.Storage) given read is = absurd read
 reads_it {A} table (Err fault.Damaged) given read is = absurd (let wrong : ◌≡◌ {A = Option A} None (Some table) = sym read ∙ is in cc wrong)
 
 -- so does a reading whose error is passed on
-pub reads_fails : {A B : Type 0} (table : A) (f : ReadingFault) (given : Option A) → Reads {A = A} (Err f) given → given ≡ Some table → (r : Result B ReadingFault) → IsErrAnd r (λ why. why ≡ f) → (says : B → Type 0) → Follows r says
+pub reads_fails : {A B : Type 0} (table : A) (f : OpenFault) (given : Option A) → Reads {A = A} (Err f) given → given ≡ Some table → (r : Result B OpenFault) → IsErrAnd r (λ why. why ≡ f) → (says : B → Type 0) → Follows r says
 reads_fails table f given read is (Ok b) fails says = absurd fails
 reads_fails table f given read is (Err fault.Memory) fails says = tt
-reads_fails {A} table f given read is (Err fault.Storage) fails says = subst (λ (why : ReadingFault). Reads {A = A} (Err why) given) (sym fails) read
+reads_fails {A} table f given read is (Err fault.Storage) fails says = subst (λ (why : OpenFault). Reads {A = A} (Err why) given) (sym fails) read
 reads_fails {A} table f given read is (Err fault.Damaged) fails says =
-    let broken = subst (λ (why : ReadingFault). Reads {A = A} (Err why) given) (sym fails) read in absurd (let wrong : ◌≡◌ {A = Option A} None (Some table) = sym broken ∙ is in cc wrong)
+    let broken = subst (λ (why : OpenFault). Reads {A = A} (Err why) given) (sym fails) read in absurd (let wrong : ◌≡◌ {A = Option A} None (Some table) = sym broken ∙ is in cc wrong)
 
 -- want of memory
-pub runs_short : {B : Type 0} (r : Result B ReadingFault) → IsErrAnd r (λ why. why ≡ fault.Memory) → (says : B → Type 0) → Follows r says
+pub runs_short : {B : Type 0} (r : Result B OpenFault) → IsErrAnd r (λ why. why ≡ fault.Memory) → (says : B → Type 0) → Follows r says
 runs_short (Ok b) fails says = absurd fails
 runs_short (Err fault.Memory) fails says = tt
 runs_short (Err fault.Storage) fails says = absurd (cc fails)

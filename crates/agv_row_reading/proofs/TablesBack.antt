@@ -11,7 +11,7 @@ use Rattle.sqlite_value.specs.Order.{Row}
 use Rattle.agv_rows.specs.ValueEncodings.{if_some}
 use Rattle.agv_row_reading.specs.ReadTables.{Reads, if_free, read_members, read_rows}
 use Rattle.agv_rows.specs.RowLists.{marked, rows_for, rows_in}
-use Rattle.agv_row_reading.specs.declared.reading_fault.ReadingFault.{ReadingFault}
+use Rattle.agv_row_reading.specs.declared.open_fault.OpenFault.{OpenFault}
 use Rattle.agv_rows.proofs.KeyedRows.{entry_rows}
 use Rattle.agv_rows.proofs.Members.{get-marked, mark, marked-insert, same_marked}
 use Rattle.agv_row_reading.proofs.TableReading.{added, no_entries, reads_all}
@@ -43,12 +43,12 @@ one_each {K} {X} columns m = sym (flat_map-map (λ y. y ∷ []) (λ (e : K × X)
 
 module _ {K X : Type 0} {R : K → K → Ordering} (total : IsTotalOrder R) (apart : IsAntisymmetric R) where
   -- of a reading that ends well
-  pub shows_rows : (rowed : K → X → List Row) (told : Row → Option (K × X)) → ((row : Row) (e : K × X) → told row ≡ Some e → rowed e.0 e.1 ≡ row ∷ []) → (asked rows : List Row) (r : Result (FinMap R X) ReadingFault)
+  pub shows_rows : (rowed : K → X → List Row) (told : Row → Option (K × X)) → ((row : Row) (e : K × X) → told row ≡ Some e → rowed e.0 e.1 ≡ row ∷ []) → (asked rows : List Row) (r : Result (FinMap R X) OpenFault)
       → Reads r (read_rows told (empty {X = X} {R = R}) rows) → IsPermutation asked rows → IfOk r (λ m. IsPermutation asked (entry_rows rowed m))
   shows_rows rowed told written asked rows (Ok m) read shown = IsPermutation-trans _ _ _ shown (rows_are total apart rowed told written m rows read)
   shows_rows rowed told written asked rows (Err f) read shown = tt
 
-  pub shows_table : (columns : K → X → Row) (told : Row → Option (K × X)) → ((row : Row) (k : K) (x : X) → told row ≡ Some (k, x) → row ≡ columns k x) → (asked rows : List Row) (r : Result (FinMap R X) ReadingFault)
+  pub shows_table : (columns : K → X → Row) (told : Row → Option (K × X)) → ((row : Row) (k : K) (x : X) → told row ≡ Some (k, x) → row ≡ columns k x) → (asked rows : List Row) (r : Result (FinMap R X) OpenFault)
       → Reads r (read_rows told (empty {X = X} {R = R}) rows) → IsPermutation asked rows → IfOk r (λ m. IsPermutation asked (rows_in columns m))
   shows_table columns told written asked rows (Ok m) read shown =
       subst (IsPermutation asked) (one_each columns m) (shows_rows (λ k x. columns k x ∷ []) told (λ row e is. ap (λ (y : Row). y ∷ []) (sym (written row e.0 e.1 is))) asked rows (Ok m) read shown)
@@ -113,7 +113,7 @@ module _ {K : Type 0} {R : K → K → Ordering} (total : IsTotalOrder R) (apart
       ] refl is
 
   -- of a reading that ends well
-  pub shows_members : (columns : K → Row) (told : Row → Option K) → ((row : Row) (k : K) → told row ≡ Some k → row ≡ columns k) → (asked rows : List Row) (r : Result (set.FinSet R) ReadingFault)
+  pub shows_members : (columns : K → Row) (told : Row → Option K) → ((row : Row) (k : K) → told row ≡ Some k → row ≡ columns k) → (asked rows : List Row) (r : Result (set.FinSet R) OpenFault)
       → Reads r (read_members told (set.empty {R = R}) rows) → IsPermutation asked rows → IfOk r (λ s. IsPermutation asked (rows_for columns s))
   shows_members columns told written asked rows (Ok s) read shown =
       shows_table total apart (λ key nothing. columns key) (as_entry told) (entry_written columns told written) asked rows (Ok (marked s)) (sym (members_of_none told rows) ∙ ap marked_if read) shown

@@ -1,6 +1,6 @@
 pub mod FirstRow
 pub mod HeldThings
+pub mod OpenFault
 pub mod ReadTables
-pub mod ReadingFault
 pub mod TablesRead
 pub mod WorldAnswers

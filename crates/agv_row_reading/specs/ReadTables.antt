@@ -15,8 +15,8 @@ use Rattle.agv_world.specs.declared.row.VehicleRow.{VehicleRow}
 use Rattle.agv_schema.specs.SchemaNumbers.{schema_number}
 use Rattle.agv_row_reading.specs.declared.held_things.HeldThings.{HeldThings}
 use Rattle.agv_rows.specs.declared.capacity_row.CapacityRow.{CapacityRow}
-use Rattle.agv_row_reading.specs.declared.reading_fault.ReadingFault.{ReadingFault}
-use Rattle.agv_row_reading.specs.declared.reading_fault.ReadingFault.TheVariants as fault
+use Rattle.agv_row_reading.specs.declared.open_fault.OpenFault.{OpenFault}
+use Rattle.agv_row_reading.specs.declared.open_fault.OpenFault.TheVariants as fault
 
 -- what is read on where a key is free; none where the table has it
 abbrev pub if_free : {X A : Type 0} → Option X → Option A → Option A
@@ -34,7 +34,7 @@ read_members told members [] = Some members
 read_members told members (row ∷ rows) = if_some (told row) (λ key. if set.contains members key then None else read_members told (set.insert members key) rows)
 
 -- how the reading of rows ends that give this table, or none
-abbrev pub Reads : {A : Type 0} → Result A ReadingFault → Option A → Type 0
+abbrev pub Reads : {A : Type 0} → Result A OpenFault → Option A → Type 0
 Reads (Ok table) given = given ≡ Some table
 Reads (Err fault.Memory) given = Unit {0}
 Reads (Err fault.Storage) given = ⊥
@@ -46,13 +46,13 @@ is_desk_meta None = false
 is_desk_meta (Some told) = nat_eq told.0 1 && nat_eq told.1 schema_number
 
 -- the rows are that one row
-abbrev pub meta_read : List Row → Result (Unit {0}) ReadingFault
+abbrev pub meta_read : List Row → Result (Unit {0}) OpenFault
 meta_read [] = Err fault.Damaged
 meta_read (row ∷ []) = if is_desk_meta (meta_in row) then Ok tt else Err fault.Damaged
 meta_read (row ∷ (other ∷ rows)) = Err fault.Damaged
 
 -- the table, where what is held was read
-abbrev pub table_read : Result HeldThings ReadingFault → Result Holds ReadingFault
+abbrev pub table_read : Result HeldThings OpenFault → Result Holds OpenFault
 table_read (Ok held) = Ok held.table
 table_read (Err why) = Err why
 

@@ -16,12 +16,12 @@ use Rattle.agv_schema.specs.DeskRows.{Placing, Holds, IsDesk, place_of, table_at
 use Rattle.agv_rows.specs.RowLists.{rows_for, rows_in}
 use Rattle.agv_schema.specs.SchemaNumbers.{schema_number}
 use Rattle.agv_row_reading.specs.WorldAnswers.{AnswersQuery}
-use Rattle.agv_row_reading.specs.declared.reading_fault.ReadingFault.{ReadingFault}
-use Rattle.agv_row_reading.specs.declared.reading_fault.ReadingFault.TheVariants as fault
+use Rattle.agv_row_reading.specs.declared.open_fault.OpenFault.{OpenFault}
+use Rattle.agv_row_reading.specs.declared.open_fault.OpenFault.TheVariants as fault
 use Rattle.agv_schema.specs.declared.table_name.TableName.TheVariants as the
 
 -- what is answered is so of the rows that the desk's tables have, whatever rows these are
-abbrev pub Shows : {S A : Type 0} → Ghosts S → Held S → Held S → Result A ReadingFault → (List (List Row) → A → Type 0) → Type 0
+abbrev pub Shows : {S A : Type 0} → Ghosts S → Held S → Held S → Result A OpenFault → (List (List Row) → A → Type 0) → Type 0
 Shows g old new result says =
     HasCleanDisk (state g new)
     → IfOk result (λ answer. (desk : Placing) → IsDesk desk → (lists : List (List Row)) → Holds desk (state g old).now lists → says lists answer)
@@ -30,7 +30,7 @@ Shows g old new result says =
 abbrev pub HasCauseOverTables : {S : Type 0} → Ghosts S → Held S → Held S → Type 0
 HasCauseOverTables g old new = (desk : Placing) → IsDesk desk → (state g old).now.schema ≡ desk.schema → HasStorageCause g old new
 
-module _ {S A : Type 0} (g : Ghosts S) (old new : Held S) (result : Result A ReadingFault) (says : World → A → Type 0) (shows : List (List Row) → A → Type 0) where
+module _ {S A : Type 0} (g : Ghosts S) (old new : Held S) (result : Result A OpenFault) (says : World → A → Type 0) (shows : List (List Row) → A → Type 0) where
   -- how the reading of whole tables ends
   pub record TellsAll : Type 0 where
     -- as a query about the world whose rows the tables have

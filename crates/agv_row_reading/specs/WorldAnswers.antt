@@ -11,8 +11,8 @@ use Rattle.agv_schema.specs.DeskRows.{Placing, IsDesk}
 use Rattle.agv_schema.specs.Connections.{HasStorageCause}
 use Rattle.agv_rows.specs.RowLists.{HoldsWorld}
 use Rattle.agv_schema.specs.SchemaNumbers.{desk_seats}
-use Rattle.agv_row_reading.specs.declared.reading_fault.ReadingFault.{ReadingFault}
-use Rattle.agv_row_reading.specs.declared.reading_fault.ReadingFault.TheVariants as fault
+use Rattle.agv_row_reading.specs.declared.open_fault.OpenFault.{OpenFault}
+use Rattle.agv_row_reading.specs.declared.open_fault.OpenFault.TheVariants as fault
 
 -- the desk's tables in the database have the rows of this lawful world
 pub record HasWorld (desk : Placing) (db : Database) (world : World) : Type 0 where
@@ -29,7 +29,7 @@ abbrev pub AgreesWith : Option Layout → World → Type 0
 AgreesWith None world = Unit {0}
 AgreesWith (Some layout) world = layout ≡ world.layout
 
-module _ {S A : Type 0} (g : Ghosts S) (old new : Held S) (result : Result A ReadingFault) (says : World → A → Type 0) where
+module _ {S A : Type 0} (g : Ghosts S) (old new : Held S) (result : Result A OpenFault) (says : World → A → Type 0) where
   -- how a query of the tables ends: it answers what the world says, or fails
   pub record AnswersQuery : Type 0 where
     -- the answer is what the world says whose rows the tables have

@@ -3,7 +3,7 @@ ghost use Rattle.std.specs.FinMap as map;
 ghost use Rattle.agv_rows.specs.Columns.{hold_in};
 ghost use Rattle.agv_row_reading.specs.ReadTables.{Reads, read_rows, table_read};
 
-use crate::ReadingFault;
+use crate::OpenFault;
 use crate::held_things::HeldThings;
 use agv_rows::decode_row::decode_hold;
 use agv_track::HoldTable;
@@ -11,17 +11,17 @@ use sqlite::Row;
 use std::alloc::Global;
 
 /// What these rows tell, as a table and as a list.
-pub fn holds_in_rows(alloc: Global, rows: &[Row]) -> Result<HeldThings, ReadingFault>
+pub fn holds_in_rows(alloc: Global, rows: &[Row]) -> Result<HeldThings, OpenFault>
     ensures { Reads (table_read result) (read_rows hold_in map.empty rows.now) }
 {
     let mut table = HoldTable::new(alloc);
     let mut pairs = Vec::new(alloc);
     for row in rows {
         match decode_hold(row) {
-            None => return Err(ReadingFault::Damaged),
+            None => return Err(OpenFault::Damaged),
             Some((thing, key)) => {
                 if !table.give(thing, key)? {
-                    return Err(ReadingFault::Damaged);
+                    return Err(OpenFault::Damaged);
                 }
                 pairs.push((thing, key))?;
             }

@@ -1,6 +1,6 @@
 //! Rows of the desk's tables that a query shows, read into what they tell.
 //!
-//! - [`queried_rows`] asks for rows and counts; [`ReadingFault`] says why there is no answer. Whatever the database has, an
+//! - [`queried_rows`] asks for rows and counts; [`OpenFault`] says why there is no answer. Whatever the database has, an
 //!   answer changes nothing, and a failure that leaves the store open nothing but that it may end the transaction and so
 //!   undo it (`specs/WorldAnswers.antt`).
 //! - [`row_tables`]: the rows of each table are read into a table of the world in memory (`specs/ReadTables.antt`); a row
@@ -10,9 +10,9 @@
 
 pub mod held_rows;
 pub mod held_things;
+pub mod open_fault;
 pub mod queried_rows;
-pub mod reading_fault;
 pub mod row_tables;
 
 pub use held_things::HeldThings;
-pub use reading_fault::ReadingFault;
+pub use open_fault::OpenFault;

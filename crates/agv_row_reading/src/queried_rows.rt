@@ -12,7 +12,7 @@ ghost use Rattle.agv_row_reading.specs.TablesRead.{TellsAll};
 ghost use Rattle.agv_row_reading.specs.FirstRow.{first_number_in};
 ghost use Rattle.agv_row_reading.specs.WorldAnswers.{AnswersQuery};
 
-use crate::ReadingFault;
+use crate::OpenFault;
 use agv_rows::decode_value::number_at;
 use agv_schema::row_of::RowOf;
 use agv_schema::rows_by::RowsBy;
@@ -27,7 +27,7 @@ pub fn query_rows<S: Alter>(
     conn: &mut Connection<S>,
     row: RowOf,
     key: &[ValueRef<'_>],
-) -> Result<Vec<Row>, ReadingFault>
+) -> Result<Vec<Row>, OpenFault>
     requires { FitsColumns (table_looked_up row) (table_for (table_looked_up row)).primary (bound key.now) }
     ensures { AnswersQuery S.Store conn.old conn.new result (λ world rows. IsPermutation (rows_of_key (table_looked_up row) (bound key.now) (row_lists (rows_of world))) rows.items) }
 {
@@ -40,7 +40,7 @@ pub fn query_rows_by<S: Alter>(
     conn: &mut Connection<S>,
     by: RowsBy,
     values: &[ValueRef<'_>],
-) -> Result<Vec<Row>, ReadingFault>
+) -> Result<Vec<Row>, OpenFault>
     requires { FitsColumns (table_asked by) (columns_asked by) (bound values.now) }
     ensures { AnswersQuery S.Store conn.old conn.new result (λ world rows. IsPermutation (rows_asked by (bound values.now) (row_lists (rows_of world))) rows.items) }
 {
@@ -53,7 +53,7 @@ pub fn query_count<S: Alter>(
     conn: &mut Connection<S>,
     by: RowsCounted,
     values: &[ValueRef<'_>],
-) -> Result<usize, ReadingFault>
+) -> Result<usize, OpenFault>
     requires { FitsColumns (table_counted by) (columns_counted by) (bound values.now) }
     ensures { AnswersQuery S.Store conn.old conn.new result (λ world count. count ≡ length (rows_counted by (bound values.now) (row_lists (rows_of world)))) }
 {
@@ -62,13 +62,13 @@ pub fn query_count<S: Alter>(
 }
 
 // The number that the first of the rows tells.
-fn number_in_rows(rows: &[Row]) -> Result<usize, ReadingFault>
+fn number_in_rows(rows: &[Row]) -> Result<usize, OpenFault>
     ensures { result ≡ first_number_in rows.now }
 {
     match rows.first() {
-        None => Err(ReadingFault::Damaged),
+        None => Err(OpenFault::Damaged),
         Some(row) => match number_at(row, 0) {
-            None => Err(ReadingFault::Damaged),
+            None => Err(OpenFault::Damaged),
             Some(number) => Ok(number as usize),
         },
     }
@@ -78,7 +78,7 @@ fn number_in_rows(rows: &[Row]) -> Result<usize, ReadingFault>
 pub fn query_all_rows<S: Alter>(
     conn: &mut Connection<S>,
     table: TableName,
-) -> Result<Vec<Row>, ReadingFault>
+) -> Result<Vec<Row>, OpenFault>
     ensures { TellsAll S.Store conn.old conn.new result
         (λ world rows. IsPermutation (all_rows_of table (row_lists (rows_of world))) rows.items)
         (λ lists rows. IsPermutation (all_rows_of table lists) rows.items) }

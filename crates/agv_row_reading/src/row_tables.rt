@@ -9,7 +9,7 @@ ghost use Rattle.agv_rows.specs.Columns.{act_in, capacity_in, edge_in, job_in, j
 ghost use Rattle.agv_rows.specs.DecodedTrips.{vehicle_with};
 ghost use Rattle.agv_row_reading.specs.ReadTables.{Reads, read_members, read_rows};
 
-use crate::ReadingFault;
+use crate::OpenFault;
 use agv_header::VehicleKey;
 use agv_layout::{EdgeEnds, StationSite};
 use agv_rows::CapacityRow;
@@ -24,16 +24,16 @@ use sqlite::Row;
 use std::alloc::Global;
 
 /// The table that these rows encode.
-pub fn nodes_in_rows(alloc: Global, rows: &[Row]) -> Result<Names, ReadingFault>
+pub fn nodes_in_rows(alloc: Global, rows: &[Row]) -> Result<Names, OpenFault>
     ensures { Reads result (read_members node_in set.empty rows.now) }
 {
     let mut table = Names::new(alloc);
     for row in rows {
         match decode_node(row) {
-            None => return Err(ReadingFault::Damaged),
+            None => return Err(OpenFault::Damaged),
             Some(key) => {
                 if table.contains(key) {
-                    return Err(ReadingFault::Damaged);
+                    return Err(OpenFault::Damaged);
                 }
                 table.insert(key)?;
             }
@@ -43,16 +43,16 @@ pub fn nodes_in_rows(alloc: Global, rows: &[Row]) -> Result<Names, ReadingFault>
 }
 
 /// The table that these rows encode.
-pub fn edges_in_rows(alloc: Global, rows: &[Row]) -> Result<ByName<EdgeEnds>, ReadingFault>
+pub fn edges_in_rows(alloc: Global, rows: &[Row]) -> Result<ByName<EdgeEnds>, OpenFault>
     ensures { Reads result (read_rows edge_in map.empty rows.now) }
 {
     let mut table = ByName::new(alloc);
     for row in rows {
         match decode_edge(row) {
-            None => return Err(ReadingFault::Damaged),
+            None => return Err(OpenFault::Damaged),
             Some((id, value)) => {
                 if !table.insert_new(id, value)? {
-                    return Err(ReadingFault::Damaged);
+                    return Err(OpenFault::Damaged);
                 }
             }
         }
@@ -61,16 +61,16 @@ pub fn edges_in_rows(alloc: Global, rows: &[Row]) -> Result<ByName<EdgeEnds>, Re
 }
 
 /// The table that these rows encode.
-pub fn stations_in_rows(alloc: Global, rows: &[Row]) -> Result<ByName<StationSite>, ReadingFault>
+pub fn stations_in_rows(alloc: Global, rows: &[Row]) -> Result<ByName<StationSite>, OpenFault>
     ensures { Reads result (read_rows station_in map.empty rows.now) }
 {
     let mut table = ByName::new(alloc);
     for row in rows {
         match decode_station(row) {
-            None => return Err(ReadingFault::Damaged),
+            None => return Err(OpenFault::Damaged),
             Some((id, value)) => {
                 if !table.insert_new(id, value)? {
-                    return Err(ReadingFault::Damaged);
+                    return Err(OpenFault::Damaged);
                 }
             }
         }
@@ -90,16 +90,16 @@ pub fn vehicles_in_rows(
     alloc: Global,
     rows: &[Row],
     capacities: &ByVehicle<CapacityRow>,
-) -> Result<ByVehicle<VehicleRow>, ReadingFault>
+) -> Result<ByVehicle<VehicleRow>, OpenFault>
     ensures { Reads result (read_rows (vehicle_with capacities.now) map.empty rows.now) }
 {
     let mut table = ByVehicle::new(alloc);
     for row in rows {
         match vehicle_in_row(row, capacities) {
-            None => return Err(ReadingFault::Damaged),
+            None => return Err(OpenFault::Damaged),
             Some((key, value)) => {
                 if has_vehicle(&table, &key) {
-                    return Err(ReadingFault::Damaged);
+                    return Err(OpenFault::Damaged);
                 }
                 table.insert(key, value)?;
             }
@@ -121,19 +121,16 @@ fn vehicle_in_row(
 }
 
 /// The table that these rows encode.
-pub fn capacities_in_rows(
-    alloc: Global,
-    rows: &[Row],
-) -> Result<ByVehicle<CapacityRow>, ReadingFault>
+pub fn capacities_in_rows(alloc: Global, rows: &[Row]) -> Result<ByVehicle<CapacityRow>, OpenFault>
     ensures { Reads result (read_rows capacity_in map.empty rows.now) }
 {
     let mut table = ByVehicle::new(alloc);
     for row in rows {
         match decode_capacity(row) {
-            None => return Err(ReadingFault::Damaged),
+            None => return Err(OpenFault::Damaged),
             Some((key, value)) => {
                 if has_capacity(&table, &key) {
-                    return Err(ReadingFault::Damaged);
+                    return Err(OpenFault::Damaged);
                 }
                 table.insert(key, value)?;
             }
@@ -150,16 +147,16 @@ fn has_capacity(table: &ByVehicle<CapacityRow>, key: &VehicleKey) -> bool
 }
 
 /// The table that these rows encode.
-pub fn journeys_in_rows(alloc: Global, rows: &[Row]) -> Result<ByName<JourneyRow>, ReadingFault>
+pub fn journeys_in_rows(alloc: Global, rows: &[Row]) -> Result<ByName<JourneyRow>, OpenFault>
     ensures { Reads result (read_rows journey_in map.empty rows.now) }
 {
     let mut table = ByName::new(alloc);
     for row in rows {
         match decode_journey(row) {
-            None => return Err(ReadingFault::Damaged),
+            None => return Err(OpenFault::Damaged),
             Some((id, value)) => {
                 if !table.insert_new(id, value)? {
-                    return Err(ReadingFault::Damaged);
+                    return Err(OpenFault::Damaged);
                 }
             }
         }
@@ -168,16 +165,16 @@ pub fn journeys_in_rows(alloc: Global, rows: &[Row]) -> Result<ByName<JourneyRow
 }
 
 /// The table that these rows encode.
-pub fn acts_in_rows(alloc: Global, rows: &[Row]) -> Result<ByAct, ReadingFault>
+pub fn acts_in_rows(alloc: Global, rows: &[Row]) -> Result<ByAct, OpenFault>
     ensures { Reads result (read_rows act_in map.empty rows.now) }
 {
     let mut table = ByAct::new(alloc);
     for row in rows {
         match decode_act(row) {
-            None => return Err(ReadingFault::Damaged),
+            None => return Err(OpenFault::Damaged),
             Some((key, value)) => {
                 if has_act(&table, &key) {
-                    return Err(ReadingFault::Damaged);
+                    return Err(OpenFault::Damaged);
                 }
                 table.insert(key, value)?;
             }
@@ -194,16 +191,16 @@ fn has_act(table: &ByAct, key: &LegKey) -> bool
 }
 
 /// The table that these rows encode.
-pub fn legs_in_rows(alloc: Global, rows: &[Row]) -> Result<ByLeg, ReadingFault>
+pub fn legs_in_rows(alloc: Global, rows: &[Row]) -> Result<ByLeg, OpenFault>
     ensures { Reads result (read_rows leg_in map.empty rows.now) }
 {
     let mut table = ByLeg::new(alloc);
     for row in rows {
         match decode_leg(row) {
-            None => return Err(ReadingFault::Damaged),
+            None => return Err(OpenFault::Damaged),
             Some((key, edge)) => {
                 if has_leg(&table, &key) {
-                    return Err(ReadingFault::Damaged);
+                    return Err(OpenFault::Damaged);
                 }
                 table.insert(key, edge)?;
             }
@@ -220,15 +217,15 @@ fn has_leg(table: &ByLeg, key: &LegKey) -> bool
 }
 
 /// Adds what one more row encodes.
-pub fn take_place(table: &mut ByName<Place>, row: &Row) -> Result<(), ReadingFault>
+pub fn take_place(table: &mut ByName<Place>, row: &Row) -> Result<(), OpenFault>
     ensures taken { OnOk result ((rest : List SqlRow) → read_rows load_in table.old (row.now ∷ rest) ≡ read_rows load_in table.new rest) }
     ensures refused { IfErr result (λ why. (rest : List SqlRow) → Reads (Err why) (read_rows load_in table.old (row.now ∷ rest))) }
 {
     match decode_load(row) {
-        None => Err(ReadingFault::Damaged),
+        None => Err(OpenFault::Damaged),
         Some((id, place)) => {
             if !table.insert_new(id, place)? {
-                return Err(ReadingFault::Damaged);
+                return Err(OpenFault::Damaged);
             }
             Ok(())
         }
@@ -236,7 +233,7 @@ pub fn take_place(table: &mut ByName<Place>, row: &Row) -> Result<(), ReadingFau
 }
 
 /// The table that these rows encode.
-pub fn places_in_rows(alloc: Global, rows: &[Row]) -> Result<ByName<Place>, ReadingFault>
+pub fn places_in_rows(alloc: Global, rows: &[Row]) -> Result<ByName<Place>, OpenFault>
     ensures { Reads result (read_rows load_in map.empty rows.now) }
 {
     let mut table = ByName::new(alloc);
@@ -247,16 +244,16 @@ pub fn places_in_rows(alloc: Global, rows: &[Row]) -> Result<ByName<Place>, Read
 }
 
 /// The table that these rows encode.
-pub fn jobs_in_rows(alloc: Global, rows: &[Row]) -> Result<ByName<JobRow>, ReadingFault>
+pub fn jobs_in_rows(alloc: Global, rows: &[Row]) -> Result<ByName<JobRow>, OpenFault>
     ensures { Reads result (read_rows job_in map.empty rows.now) }
 {
     let mut table = ByName::new(alloc);
     for row in rows {
         match decode_job(row) {
-            None => return Err(ReadingFault::Damaged),
+            None => return Err(OpenFault::Damaged),
             Some((id, value)) => {
                 if !table.insert_new(id, value)? {
-                    return Err(ReadingFault::Damaged);
+                    return Err(OpenFault::Damaged);
                 }
             }
         }
@@ -265,16 +262,16 @@ pub fn jobs_in_rows(alloc: Global, rows: &[Row]) -> Result<ByName<JobRow>, Readi
 }
 
 /// The table that these rows encode.
-pub fn used_in_rows(alloc: Global, rows: &[Row]) -> Result<UsedNames, ReadingFault>
+pub fn used_in_rows(alloc: Global, rows: &[Row]) -> Result<UsedNames, OpenFault>
     ensures { Reads result (read_members used_in set.empty rows.now) }
 {
     let mut table = UsedNames::new(alloc);
     for row in rows {
         match decode_used(row) {
-            None => return Err(ReadingFault::Damaged),
+            None => return Err(OpenFault::Damaged),
             Some(key) => {
                 if has_used(&table, &key) {
-                    return Err(ReadingFault::Damaged);
+                    return Err(OpenFault::Damaged);
                 }
                 table.insert(key)?;
             }

@@ -14,12 +14,12 @@ use Rattle.agv_world.specs.Rows.{rows_of}
 use Rattle.agv_schema.specs.DeskRows.{AreKeyed, HaveRows, StandApart, Placing, table_names, width_of}
 use Rattle.agv_schema.specs.Errors.{IsOfStore, is_of_store}
 use Rattle.agv_schema.specs.Connections.{HasStorageCause}
-use Rattle.agv_row_reading.specs.ReadingFault.{reading_fault_of}
+use Rattle.agv_row_reading.specs.OpenFault.{open_fault_of}
 use Rattle.agv_rows.specs.RowLists.{row_lists}
 use Rattle.agv_rowids.specs.Rowids.{AreTablesKeyed, ShowRowids, TellsKeyed, TellsKeyedAlone}
 use Rattle.agv_row_reading.specs.WorldAnswers.{AnswersQuery}
-use Rattle.agv_row_reading.specs.declared.reading_fault.ReadingFault.{ReadingFault}
-use Rattle.agv_row_reading.specs.declared.reading_fault.ReadingFault.TheVariants as fault
+use Rattle.agv_row_reading.specs.declared.open_fault.OpenFault.{OpenFault}
+use Rattle.agv_row_reading.specs.declared.open_fault.OpenFault.TheVariants as fault
 use Rattle.agv_schema.specs.declared.table_name.TableName.{TableName}
 use Rattle.agv_row_reading.proofs.Asking.{sound_of, storage_of}
 use Rattle.agv_schema.proofs.DeskPlaces.{all_stand}
@@ -32,7 +32,7 @@ module _ {S : Type 0} (g : Ghosts S) (old : Held S) where
 
   module _ (new : Held S) (idle : old.in_transaction ≡ false → new.in_transaction ≡ false) (survives : Survives (state g old) (state g new) (λ _. ⊥)) where
     -- an error of the database
-    pub keyed_error : (names : List TableName) (r : Result Bool ReadingFault) (e : Error) → IsErrAnd r (λ why. why ≡ reading_fault_of e) → (HasCleanDisk (state g new) → IsUnchanged (state g old) (state g new) ⊎ IsRolledBack (state g old) (state g new))
+    pub keyed_error : (names : List TableName) (r : Result Bool OpenFault) (e : Error) → IsErrAnd r (λ why. why ≡ open_fault_of e) → (HasCleanDisk (state g new) → IsUnchanged (state g old) (state g new) ⊎ IsRolledBack (state g old) (state g new))
         → (HasCleanDisk (state g new) → IsOfStore e → (desk : Placing) → StandApart desk names → (state g old).now.schema ≡ desk.schema → HasStorageCause g old new) → TellsKeyedAlone g old new names r
     keyed_error names (Ok b) e is failed why = absurd is
     keyed_error names (Err f) e is failed why = record {
@@ -62,7 +62,7 @@ module _ {S : Type 0} (g : Ghosts S) (old : Held S) where
   -- ---- several in turn
 
   -- a first that fails
-  pub keyed_fails : (mid : Held S) (name : TableName) (others : List TableName) (f : ReadingFault) (r : Result Bool ReadingFault) → IsErrAnd r (λ why. why ≡ f) → TellsKeyedAlone g old mid (name ∷ []) (Err f) → TellsKeyedAlone g old mid (name ∷ others) r
+  pub keyed_fails : (mid : Held S) (name : TableName) (others : List TableName) (f : OpenFault) (r : Result Bool OpenFault) → IsErrAnd r (λ why. why ≡ f) → TellsKeyedAlone g old mid (name ∷ []) (Err f) → TellsKeyedAlone g old mid (name ∷ others) r
   keyed_fails mid name others f (Ok b) is first = absurd is
   keyed_fails mid name others f (Err e) is first = record {
     told = λ _. tt;
@@ -75,7 +75,7 @@ module _ {S : Type 0} (g : Ghosts S) (old : Held S) where
   }
 
   module _ (mid new : Held S) (name : TableName) (others : List TableName) (b : Bool) (yes : b ≡ true) (first : TellsKeyedAlone g old mid (name ∷ []) (Ok b)) where
-    module _ (r : Result Bool ReadingFault) (next : TellsKeyedAlone g mid new others r) where
+    module _ (r : Result Bool OpenFault) (next : TellsKeyedAlone g mid new others r) where
       earlier : HasCleanDisk (state g new) → HasCleanDisk (state g mid)
       earlier clean = omega (arith, next.survives.clean)
 
@@ -95,7 +95,7 @@ module _ {S : Type 0} (g : Ghosts S) (old : Held S) where
     the_others desk stand = record { stands = stand.stands.1; apart = stand.apart }
 
     -- one table, and then the others
-    pub keyed_then : (r : Result Bool ReadingFault) → TellsKeyedAlone g mid new others r → TellsKeyedAlone g old new (name ∷ others) r
+    pub keyed_then : (r : Result Bool OpenFault) → TellsKeyedAlone g mid new others r → TellsKeyedAlone g old new (name ∷ others) r
     keyed_then (Ok c) next = record {
       told = λ clean desk stand has.
           let one = first.told (earlier (Ok c) next clean) desk (the_first desk stand) has in
@@ -123,7 +123,7 @@ module _ {S : Type 0} (g : Ghosts S) (old : Held S) where
 
 -- ---- where the fourteen stand
 
-pub tells_all : {S : Type 0} (g : Ghosts S) (old new : Held S) (r : Result Bool ReadingFault) → TellsKeyedAlone g old new table_names r → TellsKeyed g old new table_names r
+pub tells_all : {S : Type 0} (g : Ghosts S) (old new : Held S) (r : Result Bool OpenFault) → TellsKeyedAlone g old new table_names r → TellsKeyed g old new table_names r
 tells_all g old new (Ok b) keyed = record {
   told = λ clean desk is has. keyed.told clean desk (all_stand desk is) has;
   kept = keyed.kept;
@@ -151,7 +151,7 @@ tables_keyed tree trees [] (rows ∷ lists) h = tt
 tables_keyed tree trees (name ∷ names) [] h = absurd h
 tables_keyed tree trees (name ∷ names) (rows ∷ lists) h = (h.0.0, tables_keyed tree trees names lists h.1)
 
-pub tells_keyed : {S : Type 0} (g : Ghosts S) (old new : Held S) (r : Result Bool ReadingFault) → TellsKeyed g old new table_names r → AnswersQuery g old new r (λ world keyed. IsTrue keyed)
+pub tells_keyed : {S : Type 0} (g : Ghosts S) (old new : Held S) (r : Result Bool OpenFault) → TellsKeyed g old new table_names r → AnswersQuery g old new r (λ world keyed. IsTrue keyed)
 tells_keyed g old new (Ok b) keyed = record {
   told = λ clean desk world has. (keyed.told clean desk has.stands has.rows.schema_is).1 (tables_keyed desk.tree (state g old).now.trees table_names (row_lists (rows_of world)) has.rows.rows);
   kept = keyed.kept;

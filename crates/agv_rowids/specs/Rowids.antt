@@ -9,8 +9,8 @@ use Rattle.sqlite.specs.Held.{Held, state}
 use Rattle.sqlite.specs.State.{HasCleanDisk, IsUnchanged, IsRolledBack, Survives}
 use Rattle.agv_schema.specs.DeskRows.{Placing, IsDesk, StandApart, AreKeyed}
 use Rattle.agv_schema.specs.Connections.{HasStorageCause}
-use Rattle.agv_row_reading.specs.declared.reading_fault.ReadingFault.{ReadingFault}
-use Rattle.agv_row_reading.specs.declared.reading_fault.ReadingFault.TheVariants as fault
+use Rattle.agv_row_reading.specs.declared.open_fault.OpenFault.{OpenFault}
+use Rattle.agv_row_reading.specs.declared.open_fault.OpenFault.TheVariants as fault
 use Rattle.agv_schema.specs.declared.table_name.TableName.{TableName}
 use Rattle.agv_schema.specs.declared.table_name.TableName.TheVariants as the
 
@@ -39,7 +39,7 @@ ShowRowids name db rows = (desk : Placing) → StandApart desk (name ∷ []) →
 abbrev pub AreTablesKeyed : Placing → Database → List TableName → Type 0
 AreTablesKeyed desk db = AllByRecursion (λ name. AreKeyed (db.trees (desk.tree name)))
 
-module _ {S : Type 0} (g : Ghosts S) (old new : Held S) (Stand : Placing → Type 0) (names : List TableName) (result : Result Bool ReadingFault) where
+module _ {S : Type 0} (g : Ghosts S) (old new : Held S) (Stand : Placing → Type 0) (names : List TableName) (result : Result Bool OpenFault) where
   -- how the query ends whether these tables are keyed, where tables stand so
   pub record TellsKeyedWhere : Type 0 where
     -- the answer, wherever they stand so
@@ -57,7 +57,7 @@ module _ {S : Type 0} (g : Ghosts S) (old new : Held S) (Stand : Placing → Typ
     -- nothing is committed: a crash leaves what it could leave before
     pub survives : Survives (state g old) (state g new) (λ _. ⊥)
 
-module _ {S : Type 0} (g : Ghosts S) (old new : Held S) (names : List TableName) (result : Result Bool ReadingFault) where
+module _ {S : Type 0} (g : Ghosts S) (old new : Held S) (names : List TableName) (result : Result Bool OpenFault) where
   -- how it ends where the fourteen stand
   abbrev pub TellsKeyed : Type 0
   TellsKeyed = TellsKeyedWhere g old new IsDesk names result

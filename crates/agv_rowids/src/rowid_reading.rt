@@ -14,7 +14,7 @@ ghost use Rattle.agv_schema.specs.Connections.{HasStorageCause};
 ghost use Rattle.agv_rowids.specs.Rowids.{ShowRowids, TellsKeyed, TellsKeyedAlone, rowids_text};
 ghost use Rattle.agv_row_reading.specs.WorldAnswers.{AnswersQuery};
 
-use agv_row_reading::ReadingFault;
+use agv_row_reading::OpenFault;
 use agv_rows::decode_value::value_at;
 use agv_schema::table_name::TableName;
 use sqlite::types::ValueRef;
@@ -26,8 +26,8 @@ use std::collections::BTreeSet;
 /// row ask of the tables.
 ///
 /// # Errors
-/// [`ReadingFault::Memory`] and [`ReadingFault::Storage`]; none is [`ReadingFault::Damaged`].
-pub fn query_rowids<S: Alter>(alloc: Global, conn: &mut Connection<S>) -> Result<bool, ReadingFault>
+/// [`OpenFault::Memory`] and [`OpenFault::Storage`]; none is [`OpenFault::Damaged`].
+pub fn query_rowids<S: Alter>(alloc: Global, conn: &mut Connection<S>) -> Result<bool, OpenFault>
     ensures exact { TellsKeyed S.Store conn.old conn.new table_names result }
     ensures tells { AnswersQuery S.Store conn.old conn.new result (λ world keyed. IsTrue keyed) }
 {
@@ -56,13 +56,13 @@ pub fn query_rowids<S: Alter>(alloc: Global, conn: &mut Connection<S>) -> Result
 /// Whether each row of a table, and then of others, has a whole number of its own, also where these stand without the rest.
 ///
 /// # Errors
-/// [`ReadingFault::Memory`] and [`ReadingFault::Storage`]; none is [`ReadingFault::Damaged`].
+/// [`OpenFault::Memory`] and [`OpenFault::Storage`]; none is [`OpenFault::Damaged`].
 pub(crate) fn query_each_keyed<S: Alter>(
     alloc: Global,
     conn: &mut Connection<S>,
     table: TableName,
     others: &[TableName],
-) -> Result<bool, ReadingFault>
+) -> Result<bool, OpenFault>
     ensures { TellsKeyedAlone S.Store conn.old conn.new (table ∷ others.now) result }
 {
     let keyed = query_keyed(alloc, conn, table)?;
@@ -80,7 +80,7 @@ pub fn query_keyed<S: Alter>(
     alloc: Global,
     conn: &mut Connection<S>,
     table: TableName,
-) -> Result<bool, ReadingFault>
+) -> Result<bool, OpenFault>
     ensures { TellsKeyedAlone S.Store conn.old conn.new (table ∷ []) result }
 {
     let rows = find_rowids(conn, table)?;

@@ -14,8 +14,8 @@ use Rattle.agv_row_reading.specs.WorldAnswers.{AgreesWith, HasWorld, AnswersQuer
 use Rattle.agv_world_reading.specs.WorldIn.{world_in}
 use Rattle.agv_schema.specs.DeskRows.{Placing}
 use Rattle.agv_schema.specs.Connections.{IsClean, IsOpen}
-use Rattle.agv_row_reading.specs.declared.reading_fault.ReadingFault.{ReadingFault}
-use Rattle.agv_row_reading.specs.declared.reading_fault.ReadingFault.TheVariants as fault
+use Rattle.agv_row_reading.specs.declared.open_fault.OpenFault.{OpenFault}
+use Rattle.agv_row_reading.specs.declared.open_fault.OpenFault.TheVariants as fault
 use Rattle.agv_schema.proofs.Later.{later_by}
 use Rattle.agv_store.specs.Flags.{doubted_by, failed_by, noted}
 use Rattle.agv_store.specs.Floors.{IsAsked, IsKept, Keyed, Knows, facts_of, world_at}
@@ -58,7 +58,7 @@ module _ {S : Type 0} (g : Ghosts S) where
 
   -- ---- a question
 
-  unchanged_or_undone : {A : Type 0} (old new : Held S) (r : Result A ReadingFault)
+  unchanged_or_undone : {A : Type 0} (old new : Held S) (r : Result A OpenFault)
       → (IsClean g new → OnOk r (IsUnchanged (state g old) (state g new))) → (IsClean g new → OnErr r (IsUnchanged (state g old) (state g new) ⊎ IsRolledBack (state g old) (state g new)))
       → IsClean g new → IsUnchanged (state g old) (state g new) ⊎ IsRolledBack (state g old) (state g new)
   unchanged_or_undone old new (Ok answer) kept failed clean = inl (kept clean)
@@ -77,7 +77,7 @@ module _ {S : Type 0} (g : Ghosts S) where
   committed_by old new (inl same) still = same.0.committed_is
   committed_by old new (inr back) still = (back.undone still).1
 
-  pub asked_by : {A : Type 0} (old new : Held S) (r : Result A ReadingFault) (says : World → A → Type 0) → AnswersQuery g old new r says → IsAsked g old new
+  pub asked_by : {A : Type 0} (old new : Held S) (r : Result A OpenFault) (says : World → A → Type 0) → AnswersQuery g old new r says → IsAsked g old new
   asked_by old new r says tells =
       let either = unchanged_or_undone old new r tells.kept tells.failed in
       record {
@@ -119,14 +119,14 @@ module _ {S : Type 0} (g : Ghosts S) where
   known_so held known more failed in_doubt is so = record { idle = is.idle; opens = is.opens; knows = is.knows; is_known = λ clean still. so clean still (is.is_known clean still) }
 
   -- a question that raised neither flag was answered by an open store
-  opens_by : {A : Type 0} (old new : Held S) (r : Result A ReadingFault) → (IsClean g new → OnOk r (IsOpen g old × IsOpen g new)) → (failed in_doubt : Bool)
-      → IsClean g new → failed_by r failed ≡ false → doubted_by r in_doubt ≡ false → IsOpen g new
+  opens_by : {A : Type 0} (old new : Held S) (r : Result A OpenFault) → (IsClean g new → OnOk r (IsOpen g old × IsOpen g new)) → (failed in_doubt : Bool)
+      → IsClean g new → failed_by (noted r) failed ≡ false → doubted_by (noted r) in_doubt ≡ false → IsOpen g new
   opens_by old new (Ok answer) answering failed in_doubt clean not_failed no_doubt = (answering clean).1
   opens_by old new (Err fault.Memory) answering failed in_doubt clean not_failed no_doubt = absurd (cc no_doubt)
   opens_by old new (Err fault.Storage) answering failed in_doubt clean not_failed no_doubt = absurd (cc not_failed)
   opens_by old new (Err fault.Damaged) answering failed in_doubt clean not_failed no_doubt = absurd (cc not_failed)
 
-  open_if_ok : {A : Type 0} (old new : Held S) (r : Result A ReadingFault) → (IsClean g new → OnOk r (IsOpen g old × IsOpen g new)) → (a : A) → noted r ≡ Ok a → IsClean g new → IsOpen g new
+  open_if_ok : {A : Type 0} (old new : Held S) (r : Result A OpenFault) → (IsClean g new → OnOk r (IsOpen g old × IsOpen g new)) → (a : A) → noted r ≡ Ok a → IsClean g new → IsOpen g new
   open_if_ok old new (Ok answer) answering a is clean = (answering clean).1
   open_if_ok old new (Err fault.Memory) answering a is clean = absurd (cc is)
   open_if_ok old new (Err fault.Storage) answering a is clean = absurd (cc is)
@@ -136,11 +136,11 @@ module _ {S : Type 0} (g : Ghosts S) where
 
   -- the floor's connection, what is known beside it and the flags before the question, and the connection after it
   module _ (old new : Held S) (known : Known) (failed in_doubt : Bool) (is : IsKept g old known failed in_doubt)
-      {A : Type 0} (r : Result A ReadingFault) (says : World → A → Type 0) (tells : AnswersQuery g old new r says) where
+      {A : Type 0} (r : Result A OpenFault) (says : World → A → Type 0) (tells : AnswersQuery g old new r says) where
     asked : IsAsked g old new
     asked = asked_by old new r says tells
 
-    pub asked_kept : (failed_now in_doubt_now : Bool) → failed_now ≡ failed_by r failed → in_doubt_now ≡ doubted_by r in_doubt → IsKept g new known failed_now in_doubt_now
+    pub asked_kept : (failed_now in_doubt_now : Bool) → failed_now ≡ failed_by (noted r) failed → in_doubt_now ≡ doubted_by (noted r) in_doubt → IsKept g new known failed_now in_doubt_now
     asked_kept failed_now in_doubt_now failed_is doubt_is = kept_by old new known failed in_doubt asked is failed_now in_doubt_now
         (λ clean not_failed no_doubt. opens_by old new r tells.answering failed in_doubt clean (sym failed_is ∙ not_failed) (sym doubt_is ∙ no_doubt))
 
@@ -183,26 +183,26 @@ module _ {S : Type 0} (g : Ghosts S) where
           let was = is.knows (clean_before old new asked clean) (answering clean).0 in
           told clean was.at (world_at g old) was.has
 
-      asks : (q : Result A ReadingFault) → (IsClean g new → OnOk q (IsOpen g old × IsOpen g new)) → (IsClean g new → IfOk q (λ answer. (at : Placing) (world : World) → HasWorld at (state g old).now world → says world answer))
-          → failed_now ≡ failed_by q failed → Asks (facts_of g) before now (noted q) says
+      asks : (q : Result A OpenFault) → (IsClean g new → OnOk q (IsOpen g old × IsOpen g new)) → (IsClean g new → IfOk q (λ answer. (at : Placing) (world : World) → HasWorld at (state g old).now world → says world answer))
+          → failed_now ≡ failed_by (noted q) failed → Asks (facts_of g) before now (noted q) says
       asks (Ok a) answering told raised = answers (still raised (λ clean. (answering clean).1)) (told_at a answering told)
       asks (Err fault.Memory) answering told raised = faults machine.Memory (faulted machine.Memory raised)
       asks (Err fault.Storage) answering told raised = faults machine.Storage (faulted machine.Storage raised)
       asks (Err fault.Damaged) answering told raised = faults machine.Storage (faulted machine.Storage raised)
 
       -- what the floor answers, to who sees it as its value
-      pub asked_asks : (seen : Keyed S) → before ≡ seen → (q : Result A Fault) → q ≡ noted r → failed_now ≡ failed_by r failed → Asks (facts_of g) seen now q says
+      pub asked_asks : (seen : Keyed S) → before ≡ seen → (q : Result A Fault) → q ≡ noted r → failed_now ≡ failed_by (noted r) failed → Asks (facts_of g) seen now q says
       asked_asks seen view_is q noted_is raised =
           subst (λ (k : Keyed S). Asks (facts_of g) k now q says) view_is
           (subst (λ (q : Result A Fault). Asks (facts_of g) before now q says) (sym noted_is) (asks r tells.answering tells.told raised))
 
       -- so it is where the floor answers nothing but that there was an answer
-      pub asked_done : (seen : Keyed S) → before ≡ seen → (a : A) → noted r ≡ Ok a → failed_now ≡ failed_by r failed → Answers (facts_of g) seen now (Unit {0})
+      pub asked_done : (seen : Keyed S) → before ≡ seen → (a : A) → noted r ≡ Ok a → failed_now ≡ failed_by (noted r) failed → Answers (facts_of g) seen now (Unit {0})
       asked_done seen view_is a ok raised =
           retold (λ _. tt) (subst (λ (k : Keyed S). Answers (facts_of g) k now (says (world_at g k.held) a)) view_is
           (subst (λ (q : Result A Fault). Asks (facts_of g) before now q says) ok (asks r tells.answering tells.told raised)))
 
-      pub asked_fault : {B : Type 0} (seen : Keyed S) → before ≡ seen → (why : Fault) → noted r ≡ Err why → failed_now ≡ failed_by r failed
+      pub asked_fault : {B : Type 0} (seen : Keyed S) → before ≡ seen → (why : Fault) → noted r ≡ Err why → failed_now ≡ failed_by (noted r) failed
           → (q : Result B Fault) → q ≡ Err why → (other : World → B → Type 0) → Asks (facts_of g) seen now q other
       asked_fault {B} seen view_is why is_err raised q q_is other =
           let at_before : (start : Keyed S) → Kept (facts_of g) start before → IsFaulted (facts_of g) start now why =
@@ -212,7 +212,7 @@ module _ {S : Type 0} (g : Ghosts S) where
 
   -- what is told where something holds of the world is told of a floor of whose world it holds
   module _ (old new : Held S) {A : Type 0} (failed failed_now : Bool) (Given : World → Type 0) (holds : IsClean g old → IsOpen g old → Given (world_at g old)) (says : World → A → Type 0) where
-    told_so : (q : Result A ReadingFault) → (IsClean g new → OnOk q (IsOpen g old × IsOpen g new))
+    told_so : (q : Result A OpenFault) → (IsClean g new → OnOk q (IsOpen g old × IsOpen g new))
         → Asks (facts_of g) (record { held = old; failed = failed }) (record { held = new; failed = failed_now }) (noted q) (λ world a. Given world → says world a)
         → Asks (facts_of g) (record { held = old; failed = failed }) (record { held = new; failed = failed_now }) (noted q) says
     told_so (Ok a) answering asked = record {
@@ -227,10 +227,10 @@ module _ {S : Type 0} (g : Ghosts S) where
     told_so (Err fault.Damaged) answering asked = asked
 
   module _ (old new : Held S) (known : Known) (failed in_doubt : Bool) (is : IsKept g old known failed in_doubt)
-      {A : Type 0} (r : Result A ReadingFault) (says : World → A → Type 0) where
+      {A : Type 0} (r : Result A OpenFault) (says : World → A → Type 0) where
     -- so it is where a kept layout is the world's
     pub asked_agreed : AnswersQuery g old new r (λ world a. AgreesWith known.layout world → says world a) → (failed_now : Bool) → (seen : Keyed S) → record { held = old; failed = failed } ≡ seen
-        → (q : Result A Fault) → q ≡ noted r → failed_now ≡ failed_by r failed → Asks (facts_of g) seen (record { held = new; failed = failed_now }) q says
+        → (q : Result A Fault) → q ≡ noted r → failed_now ≡ failed_by (noted r) failed → Asks (facts_of g) seen (record { held = new; failed = failed_now }) q says
     asked_agreed tells failed_now seen view_is q noted_is raised =
         subst (λ (k : Keyed S). Asks (facts_of g) k (record { held = new; failed = failed_now }) q says) view_is
         (subst (λ (q : Result A Fault). Asks (facts_of g) (record { held = old; failed = failed }) (record { held = new; failed = failed_now }) q says) (sym noted_is)

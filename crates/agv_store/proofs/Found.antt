@@ -23,17 +23,14 @@ use Rattle.agv_rows.specs.RowLists.{HoldsWorld}
 use Rattle.agv_schema.specs.SchemaNumbers.{desk_seats}
 use Rattle.agv_creation.specs.StandingTables.{TablesStand}
 use Rattle.agv_schema.specs.Connections.{HasStorageCause, IsClean, IsOpen}
-use Rattle.agv_row_reading.specs.declared.reading_fault.ReadingFault.{ReadingFault}
-use Rattle.agv_row_reading.specs.declared.reading_fault.ReadingFault.TheVariants as reading
+use Rattle.agv_row_reading.specs.declared.open_fault.OpenFault.{OpenFault}
+use Rattle.agv_row_reading.specs.declared.open_fault.OpenFault.TheVariants as fault
 use Rattle.agv_row_reading.specs.declared.held_things.HeldThings.{HeldThings}
 use Rattle.agv_schema.specs.declared.table_name.TableName.{TableName}
 use Rattle.agv_store.specs.Floors.{IsAsked, IsKept, Knows, world_at}
-use Rattle.agv_store.specs.OpenFaults.{of_reading}
 use Rattle.agv_store.specs.Opening.{Finds}
 use Rattle.agv_store.specs.Known.{IsKnownIn}
 use Rattle.agv_store.specs.declared.known.Known.{Known}
-use Rattle.agv_store.specs.declared.open_fault.OpenFault.{OpenFault}
-use Rattle.agv_store.specs.declared.open_fault.OpenFault.TheVariants as fault
 use Rattle.agv_schema.proofs.Later.{fault_later, later_by}
 use Rattle.agv_store.proofs.Asked.{asked_by, asked_then, clean_before, knows_still}
 
@@ -46,18 +43,6 @@ TablesTellWorlds =
 
 abbrev pub TellsItsWorld : Type 0
 TellsItsWorld = (desk : Placing) (db : Database) (world : World) → HasWorld desk db world → world_in db ≡ world
-
--- ---- faults
-
-pub read_damaged : (why : ReadingFault) → of_reading why ≡ fault.Damaged → why ≡ reading.Damaged
-read_damaged reading.Memory is = absurd (cc is)
-read_damaged reading.Storage is = absurd (cc is)
-read_damaged reading.Damaged is = refl
-
-pub read_stored : (why : ReadingFault) → of_reading why ≡ fault.Storage → why ≡ reading.Storage
-read_stored reading.Memory is = absurd (cc is)
-read_stored reading.Storage is = refl
-read_stored reading.Damaged is = absurd (cc is)
 
 -- ---- the rows under keys of their own
 
@@ -93,12 +78,12 @@ module _ {S : Type 0} (g : Ghosts S) where
   }
 
   -- the first question failed, where the tables stand
-  pub finds_fault : {A : Type 0} (old new : Held S) (r : Result Known OpenFault) (why : ReadingFault) (says : World → A → Type 0) → IsErrAnd r (λ made. made ≡ of_reading why) → AnswersQuery g old new (Err why) says
-      → TablesStand (state g old).now.schema → (IsClean g new → why ≡ reading.Storage → HasCauseOverTables g old new) → Finds g old new r
+  pub finds_fault : {A : Type 0} (old new : Held S) (r : Result Known OpenFault) (why : OpenFault) (says : World → A → Type 0) → IsErrAnd r (λ made. made ≡ why) → AnswersQuery g old new (Err why) says
+      → TablesStand (state g old).now.schema → (IsClean g new → why ≡ fault.Storage → HasCauseOverTables g old new) → Finds g old new r
   finds_fault old new r why says made tells stand caused =
-      finds_none old new r (of_reading why) made
-      (λ clean damaged. tells.damaged clean (read_damaged why damaged))
-      (λ clean stored. caused clean (read_stored why stored) stand.0 stand.1 stand.2)
+      finds_none old new r why made
+      tells.damaged
+      (λ clean stored. caused clean stored stand.0 stand.1 stand.2)
       (asked_by g old new (Err why) says tells)
 
   -- ---- each row has a key of its own
@@ -115,15 +100,15 @@ module _ {S : Type 0} (g : Ghosts S) where
     asked_keys = asked_by g old mid (Ok yes) (λ world keyed. keyed ≡ true) asked
 
     -- the reading failed, where the tables stand
-    pub finds_fault_then : {A : Type 0} (r : Result Known OpenFault) (why : ReadingFault) (says : World → A → Type 0) (has : List (List Row) → A → Type 0) → IsErrAnd r (λ made. made ≡ of_reading why)
+    pub finds_fault_then : {A : Type 0} (r : Result Known OpenFault) (why : OpenFault) (says : World → A → Type 0) (has : List (List Row) → A → Type 0) → IsErrAnd r (λ made. made ≡ why)
         → TellsAll g mid new (Err why) says has → TablesStand (state g old).now.schema → Finds g old new r
     finds_fault_then r why says has made read stand =
         let later = asked_by g mid new (Err why) says read.tells in
-        finds_none old new r (of_reading why) made
-        (λ clean damaged. none_before (clean_before g mid new later clean) (read.tells.damaged clean (read_damaged why damaged)))
+        finds_none old new r why made
+        (λ clean damaged. none_before (clean_before g mid new later clean) (read.tells.damaged clean damaged))
         (λ clean stored.
         fault_later g old mid new (later_by g old mid asked.survives) (later_by g mid new read.tells.survives) clean
-        (read.caused clean (read_stored why stored) stand.0 stand.1 (ap (λ (db : Database). db.schema) (same_mid (clean_before g mid new later clean)) ∙ stand.2)))
+        (read.caused clean stored stand.0 stand.1 (ap (λ (db : Database). db.schema) (same_mid (clean_before g mid new later clean)) ∙ stand.2)))
         (asked_then g old mid new asked_keys later)
 
     module _ (tables : Tables) (holds : HeldThings)

@@ -14,18 +14,16 @@ use Rattle.agv_first_schema.specs.FirstFound.{FindsFirst}
 use Rattle.agv_first_schema.specs.Moved.{CanBeAdded, LeavesMoved, MovesTables, MovesWorld}
 use Rattle.agv_schema.proofs.Later.{later_by}
 use Rattle.agv_schema.specs.Connections.{IsClean, IsOpen}
-use Rattle.agv_row_reading.specs.declared.reading_fault.ReadingFault.{ReadingFault}
 use Rattle.agv_creation.specs.declared.making_fault.MakingFault.{MakingFault}
 use Rattle.agv_creation.specs.declared.making_fault.MakingFault.TheVariants as making
 use Rattle.agv_store.specs.Floors.{IsAsked, IsKept, Knows, world_at}
 use Rattle.agv_store.specs.Migration.{CanBeMigrated, CannotBeMigrated, FindsFirstDesk, FirstFound, LeavesMigrated, Migrates}
-use Rattle.agv_store.specs.OpenFaults.{of_making, of_reading}
-use Rattle.agv_store.specs.Opening.{IsDamaged, IsStorage, Opening}
+use Rattle.agv_store.specs.Opening.{IsDamaged, IsStorage, Opening, of_making}
 use Rattle.agv_store.specs.Known.{IsKnownIn}
 use Rattle.agv_store.specs.declared.known.Known.{Known}
-use Rattle.agv_store.specs.declared.open_fault.OpenFault.{OpenFault}
-use Rattle.agv_store.specs.declared.open_fault.OpenFault.TheVariants as fault
-use Rattle.agv_store.proofs.Found.{TellsItsWorld, read_damaged, read_stored}
+use Rattle.agv_row_reading.specs.declared.open_fault.OpenFault.{OpenFault}
+use Rattle.agv_row_reading.specs.declared.open_fault.OpenFault.TheVariants as fault
+use Rattle.agv_store.proofs.Found.{TellsItsWorld}
 
 -- ---- a refusal
 
@@ -69,7 +67,7 @@ module _ {S : Type 0} (g : Ghosts S) where
   abbrev Stays : Held S → Held S → Type 0
   Stays old new = (new ≡ old) ⊎ (IsUnchanged (state g old) (state g new) ⊎ IsRolledBack (state g old) (state g new))
 
-  stays : (old new : Held S) (r : Result Tables ReadingFault) → FindsFirst g old new r → IsClean g new → Stays old new
+  stays : (old new : Held S) (r : Result Tables OpenFault) → FindsFirst g old new r → IsClean g new → Stays old new
   stays old new (Ok tables) finds clean = inr (inl (finds.kept clean))
   stays old new (Err why) finds clean = finds.failed clean
 
@@ -88,7 +86,7 @@ module _ {S : Type 0} (g : Ghosts S) where
   committed_by old new (inr (inl kept)) still = kept.0.committed_is
   committed_by old new (inr (inr back)) still = (back.undone still).1
 
-  asked_first : (old new : Held S) (r : Result Tables ReadingFault) → FindsFirst g old new r → IsAsked g old new
+  asked_first : (old new : Held S) (r : Result Tables OpenFault) → FindsFirst g old new r → IsAsked g old new
   asked_first old new r finds = record {
     survives = finds.survives;
     was_open = λ clean still. open_by old new (stays old new r finds clean) still;
@@ -98,12 +96,12 @@ module _ {S : Type 0} (g : Ghosts S) where
   }
 
   -- the reading failed
-  pub finds_fault : (old new : Held S) (r : Result (Tables × Known) OpenFault) (why : ReadingFault) → IsErrAnd r (λ made. made ≡ of_reading why) → FindsFirst g old new (Err why) → FindsFirstDesk g old new r
+  pub finds_fault : (old new : Held S) (r : Result (Tables × Known) OpenFault) (why : OpenFault) → IsErrAnd r (λ made. made ≡ why) → FindsFirst g old new (Err why) → FindsFirstDesk g old new r
   finds_fault old new (Ok found) why made finds = absurd made
   finds_fault old new (Err told) why made finds = record {
     found = λ _. tt;
-    damaged = λ clean is. finds.damaged clean (read_damaged why (sym made ∙ is));
-    caused = λ clean is. finds.caused clean (read_stored why (sym made ∙ is));
+    damaged = λ clean is. finds.damaged clean (sym made ∙ is);
+    caused = λ clean is. finds.caused clean (sym made ∙ is);
     asked = asked_first old new (Err why) finds;
   }
 

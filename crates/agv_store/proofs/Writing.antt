@@ -12,6 +12,7 @@ use Rattle.agv_world.specs.Rows.{Rows, rows_of}
 use Rattle.agv_world.specs.Worlds.{World}
 use Rattle.agv_world.specs.declared.change.Change.{Change}
 use Rattle.agv_world.specs.declared.fault.Fault.{Fault}
+use Rattle.agv_world.specs.declared.fault.Fault.TheVariants as machine
 use Rattle.agv_world.specs.declared.floor.Counted.{Counted}
 use Rattle.agv_desk.specs.Counts.{added, counted_by, limit_of, one_more}
 use Rattle.agv_desk.specs.Outcomes.{Outcome, Made, Refused, after, answer_of, decided}
@@ -25,10 +26,8 @@ use Rattle.agv_schema.specs.DeskRows.{Holds, KeepsOthers, Placing}
 use Rattle.agv_rows.specs.RowLists.{row_lists}
 use Rattle.agv_schema.specs.SchemaNumbers.{desk_seats}
 use Rattle.agv_schema.specs.Connections.{IsClean, IsOpen}
-use Rattle.agv_changes.specs.declared.write_fault.WriteFault.{WriteFault}
-use Rattle.agv_changes.specs.declared.write_fault.WriteFault.TheVariants as write
 use Rattle.agv_schema.proofs.Later.{later_by}
-use Rattle.agv_store.specs.Flags.{doubted_by, failed_by, noted, read_as}
+use Rattle.agv_store.specs.Flags.{doubted_by, failed_by}
 use Rattle.agv_store.specs.Floors.{IsKept, Keyed, Knows, world_at}
 use Rattle.agv_store.specs.Serving.{Decides, IsServedBy, LeavesCall, outcome_in, world_after}
 use Rattle.agv_store.specs.Known.{Follows, IsKnownIn}
@@ -38,16 +37,6 @@ pub answer_decided : (outcome : Outcome) → (decided outcome).answer ≡ answer
 unfolding decided answer_of
 answer_decided (Refused why) = refl
 answer_decided (Made effect) = refl
-
--- how a write ended, told from what the floor answers
-pub write_failed : (r : Result (Unit {0}) WriteFault) (f : Fault) → noted (read_as r) ≡ Err f → (why : WriteFault) × (r ≡ Err why)
-write_failed (Ok done) f is = absurd (cc is)
-write_failed (Err why) f is = (why, refl)
-
-pub write_done : (r : Result (Unit {0}) WriteFault) → noted (read_as r) ≡ Ok tt → r ≡ Ok tt
-write_done (Ok done) is = refl
-write_done (Err write.Memory) is = absurd (cc is)
-write_done (Err write.Storage) is = absurd (cc is)
 
 -- the laws that are cited
 abbrev pub DatabaseTells : Type 0
@@ -64,7 +53,7 @@ abbrev pub AddsBelow : Type 0
 AddsBelow = (seats : ℕ) (world : World) (at : ℕ) (call : Call) (what : Counted) → added call (answer_of (step seats world at call)) what ≢ 0 → count_of world what < limit_of what
 
 -- the clauses of a write, and the law of what its changes make of a world
-pub record IsWritten {S : Type 0} (g : Ghosts S) (old new : Held S) (changes : List Change) (r : Result (Unit {0}) WriteFault) : Type 0 where
+pub record IsWritten {S : Type 0} (g : Ghosts S) (old new : Held S) (changes : List Change) (r : Result (Unit {0}) Fault) : Type 0 where
   pub made : IsClean g new → OnOk r (MakesChanges changes (state g old).now (state g new).committed)
   pub worlds : MakesNextWorld
   pub all_committed : IsClean g new → OnOk r ((state g new).now ≡ (state g new).committed)
@@ -81,7 +70,7 @@ module _ {S : Type 0} (g : Ghosts S) (law : DatabaseTells) where
   module _ (old new : Held S) (at : ℕ) (call : Call) (decision : Decision)
       (knows : IsClean g old → Knows g old (world_at g old))
       (decides : IsClean g old → Decides (world_at g old) at call decision)
-      (changes : List Change) (changes_are : changes ≡ decision.changes) (r : Result (Unit {0}) WriteFault) (writes : IsWritten g old new changes r) where
+      (changes : List Change) (changes_are : changes ≡ decision.changes) (r : Result (Unit {0}) Fault) (writes : IsWritten g old new changes r) where
     abbrev next : World
     next = world_after (world_at g old) at call
 
@@ -152,12 +141,12 @@ module _ {S : Type 0} (g : Ghosts S) (law : DatabaseTells) where
 
     -- ---- after a fault
 
-    pub left_all : (why : WriteFault) → r ≡ Err why → IsClean g new → IsOpen g new → (state g new).now ≡ (state g old).now
+    pub left_all : (why : Fault) → r ≡ Err why → IsClean g new → IsOpen g new → (state g new).now ≡ (state g old).now
     left_all why is_err clean still =
         let back = subst (λ q. OnErr q (((state g new).now ≡ (state g old).committed) × ((state g new).committed ≡ (state g old).committed))) is_err (writes.undone clean still) in
         back.0 ∙ (knows (clean_old clean)).settled
 
-    knows_still : (why : WriteFault) → r ≡ Err why → IsClean g new → IsOpen g new → Knows g new (world_at g old)
+    knows_still : (why : Fault) → r ≡ Err why → IsClean g new → IsOpen g new → Knows g new (world_at g old)
     knows_still why is_err clean still =
         let was = knows (clean_old clean) in
         let back = subst (λ q. OnErr q (((state g new).now ≡ (state g old).committed) × ((state g new).committed ≡ (state g old).committed))) is_err (writes.undone clean still) in
@@ -171,15 +160,15 @@ module _ {S : Type 0} (g : Ghosts S) (law : DatabaseTells) where
           has = subst (λ (db : Database). HasWorld was.at db (world_at g old)) (sym now) was.has;
         }
 
-    flags_raised : (why : WriteFault) → r ≡ Err why → (failed in_doubt failed_now in_doubt_now : Bool) → failed_now ≡ failed_by (read_as r) failed → in_doubt_now ≡ doubted_by (read_as r) in_doubt
+    flags_raised : (why : Fault) → r ≡ Err why → (failed in_doubt failed_now in_doubt_now : Bool) → failed_now ≡ failed_by r failed → in_doubt_now ≡ doubted_by r in_doubt
         → failed_now ≡ false → in_doubt_now ≡ false → ⊥
-    flags_raised write.Memory is_err failed in_doubt failed_now in_doubt_now failed_is doubt_is not_failed no_doubt =
-        let wrong : true ≡ false = sym (ap (λ (q : Result (Unit {0}) WriteFault). doubted_by (read_as q) in_doubt) is_err) ∙ sym doubt_is ∙ no_doubt in cc wrong
-    flags_raised write.Storage is_err failed in_doubt failed_now in_doubt_now failed_is doubt_is not_failed no_doubt =
-        let wrong : true ≡ false = sym (ap (λ (q : Result (Unit {0}) WriteFault). failed_by (read_as q) failed) is_err) ∙ sym failed_is ∙ not_failed in cc wrong
+    flags_raised machine.Memory is_err failed in_doubt failed_now in_doubt_now failed_is doubt_is not_failed no_doubt =
+        let wrong : true ≡ false = sym (ap (λ (q : Result (Unit {0}) Fault). doubted_by q in_doubt) is_err) ∙ sym doubt_is ∙ no_doubt in cc wrong
+    flags_raised machine.Storage is_err failed in_doubt failed_now in_doubt_now failed_is doubt_is not_failed no_doubt =
+        let wrong : true ≡ false = sym (ap (λ (q : Result (Unit {0}) Fault). failed_by q failed) is_err) ∙ sym failed_is ∙ not_failed in cc wrong
 
-    pub refused_kept : (known : Known) → (IsClean g old → IsOpen g old → IsKnownIn known (world_at g old)) → (why : WriteFault) → r ≡ Err why
-        → (failed in_doubt failed_now in_doubt_now : Bool) → failed_now ≡ failed_by (read_as r) failed → in_doubt_now ≡ doubted_by (read_as r) in_doubt → IsKept g new known failed_now in_doubt_now
+    pub refused_kept : (known : Known) → (IsClean g old → IsOpen g old → IsKnownIn known (world_at g old)) → (why : Fault) → r ≡ Err why
+        → (failed in_doubt failed_now in_doubt_now : Bool) → failed_now ≡ failed_by r failed → in_doubt_now ≡ doubted_by r in_doubt → IsKept g new known failed_now in_doubt_now
     refused_kept known is_known why is_err failed in_doubt failed_now in_doubt_now failed_is doubt_is = record {
       idle = writes.idle;
       opens = λ clean not_failed no_doubt. absurd (flags_raised why is_err failed in_doubt failed_now in_doubt_now failed_is doubt_is not_failed no_doubt);
@@ -229,7 +218,7 @@ module _ {S : Type 0} (g : Ghosts S) (law : DatabaseTells) where
       (at : ℕ) (call : Call) (decision : Decision)
       (knows : IsClean g seen.held → Knows g seen.held (world_at g seen.held))
       (decides : IsClean g seen.held → Decides (world_at g seen.held) at call decision)
-      (changes : List Change) (changes_are : changes ≡ decision.changes) (r : Result (Unit {0}) WriteFault) (writes : IsWritten g old new changes r) where
+      (changes : List Change) (changes_are : changes ≡ decision.changes) (r : Result (Unit {0}) Fault) (writes : IsWritten g old new changes r) where
     held_is : old ≡ seen.held
     held_is = ap (λ (desk : Keyed S). desk.held) view_is
 
@@ -239,21 +228,20 @@ module _ {S : Type 0} (g : Ghosts S) (law : DatabaseTells) where
     decides_old : IsClean g old → Decides (world_at g old) at call decision
     decides_old = subst (λ (held : Held S). IsClean g held → Decides (world_at g held) at call decision) (sym held_is) decides
 
-    pub kept_refused : (f : Fault) → noted (read_as r) ≡ Err f → (failed_now in_doubt_now : Bool) → failed_now ≡ failed_by (read_as r) failed → in_doubt_now ≡ doubted_by (read_as r) in_doubt
+    pub kept_refused : (f : Fault) → r ≡ Err f → (failed_now in_doubt_now : Bool) → failed_now ≡ failed_by r failed → in_doubt_now ≡ doubted_by r in_doubt
         → IsKept g new known failed_now in_doubt_now
     kept_refused f is_err =
-        let why = write_failed r f is_err in
-        refused_kept old new at call decision knows_old decides_old changes changes_are r writes known is.is_known why.0 why.1 failed in_doubt
+        refused_kept old new at call decision knows_old decides_old changes changes_are r writes known is.is_known f is_err failed in_doubt
 
     pub kept_written : CountsFollow → AddsBelow → (known_now : Known) (more : Option Counted) → more ≡ counted_by call decision.answer → Follows more changes known known_now
-        → (failed_now in_doubt_now : Bool) → noted (read_as r) ≡ Ok tt → IsKept g new known_now failed_now in_doubt_now
+        → (failed_now in_doubt_now : Bool) → r ≡ Ok tt → IsKept g new known_now failed_now in_doubt_now
     kept_written counts below known_now more more_is follows failed_now in_doubt_now ok =
-        written_kept old new at call decision knows_old decides_old changes changes_are r writes counts below known known_now is.is_known more more_is follows failed_now in_doubt_now (write_done r ok)
+        written_kept old new at call decision knows_old decides_old changes changes_are r writes counts below known known_now is.is_known more more_is follows failed_now in_doubt_now ok
 
-    pub serves_written : noted (read_as r) ≡ Ok tt → IsClean g new → IsServedBy g seen.held new at call decision.answer
+    pub serves_written : r ≡ Ok tt → IsClean g new → IsServedBy g seen.held new at call decision.answer
     serves_written ok clean =
         subst (λ (held : Held S). IsServedBy g held new at call decision.answer) held_is
-        (served old new at call decision knows_old decides_old changes changes_are r writes (write_done r ok) clean)
+        (served old new at call decision knows_old decides_old changes changes_are r writes ok clean)
 
     pub crash_written : Survives (state g seen.held) (state g new) (LeavesCall g seen.held at call)
     crash_written =

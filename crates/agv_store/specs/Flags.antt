@@ -2,37 +2,27 @@
 use Rattle.std.specs.Prelude.{◌≡◌, Bool, true, false, Result, Ok, Err}
 use Rattle.agv_world.specs.declared.fault.Fault.{Fault}
 use Rattle.agv_world.specs.declared.fault.Fault.TheVariants as machine
-use Rattle.agv_changes.specs.declared.write_fault.WriteFault.{WriteFault}
-use Rattle.agv_changes.specs.declared.write_fault.WriteFault.TheVariants as write
-use Rattle.agv_row_reading.specs.declared.reading_fault.ReadingFault.{ReadingFault}
-use Rattle.agv_row_reading.specs.declared.reading_fault.ReadingFault.TheVariants as fault
+use Rattle.agv_row_reading.specs.declared.open_fault.OpenFault.{OpenFault}
+use Rattle.agv_row_reading.specs.declared.open_fault.OpenFault.TheVariants as fault
 
 -- how a question ends, as a floor has it: tables that tell no world are a fault of the store
-abbrev pub noted : {A : Type 0} → Result A ReadingFault → Result A Fault
+abbrev pub noted : {A : Type 0} → Result A OpenFault → Result A Fault
 noted (Ok answer) = Ok answer
 noted (Err fault.Memory) = Err machine.Memory
 noted (Err fault.Storage) = Err machine.Storage
 noted (Err fault.Damaged) = Err machine.Storage
 
--- whether the store has failed, once a question has ended so
-abbrev pub failed_by : {A : Type 0} → Result A ReadingFault → Bool → Bool
+-- whether the store has failed, once a question or a write has ended so
+abbrev pub failed_by : {A : Type 0} → Result A Fault → Bool → Bool
 failed_by (Ok answer) before = before
-failed_by (Err fault.Memory) before = before
-failed_by (Err fault.Storage) before = true
-failed_by (Err fault.Damaged) before = true
+failed_by (Err machine.Memory) before = before
+failed_by (Err machine.Storage) before = true
 
 -- whether it is in doubt that the store is open: want of memory may have shut it
-abbrev pub doubted_by : {A : Type 0} → Result A ReadingFault → Bool → Bool
+abbrev pub doubted_by : {A : Type 0} → Result A Fault → Bool → Bool
 doubted_by (Ok answer) before = before
-doubted_by (Err fault.Memory) before = true
-doubted_by (Err fault.Storage) before = before
-doubted_by (Err fault.Damaged) before = before
-
--- how a write ends, as a question would
-abbrev pub read_as : {A : Type 0} → Result A WriteFault → Result A ReadingFault
-read_as (Ok done) = Ok done
-read_as (Err write.Memory) = Err fault.Memory
-read_as (Err write.Storage) = Err fault.Storage
+doubted_by (Err machine.Memory) before = true
+doubted_by (Err machine.Storage) before = before
 
 -- a call ends with a fault of the store exactly where the store has failed as it ends
 abbrev pub EndsAs : {A : Type 0} → Result A Fault → Bool → Type 0

@@ -7,7 +7,6 @@ pub mod KeptRooms
 pub mod KeptTrips
 pub mod Known
 pub mod Migration
-pub mod OpenFaults
 pub mod Opening
 pub mod Running
 pub mod ReportLists

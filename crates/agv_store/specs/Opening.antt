@@ -5,6 +5,8 @@ use Rattle.sqlite_schema.specs.declared.schema.Schema.{Schema}
 use Rattle.sqlite.specs.Held.{Held, state}
 use Rattle.agv_world.specs.Worlds.{empty_world}
 use Rattle.agv_row_reading.specs.WorldAnswers.{HasNoWorld}
+use Rattle.agv_creation.specs.declared.making_fault.MakingFault.{MakingFault}
+use Rattle.agv_creation.specs.declared.making_fault.MakingFault.TheVariants as making
 use Rattle.agv_creation.specs.DeskSchema.{is_name_taken}
 use Rattle.agv_creation.specs.DeskTables.{MakesDesk}
 use Rattle.agv_creation.specs.NewDesk.{AllowsDesk}
@@ -12,8 +14,14 @@ use Rattle.agv_schema.specs.Connections.{HasStorageCause, IsClean, IsOpen}
 use Rattle.agv_store.specs.Floors.{IsAsked, Keyed, Knows, world_at}
 use Rattle.agv_store.specs.Known.{IsKnownIn}
 use Rattle.agv_store.specs.declared.known.Known.{Known}
-use Rattle.agv_store.specs.declared.open_fault.OpenFault.{OpenFault}
-use Rattle.agv_store.specs.declared.open_fault.OpenFault.TheVariants as fault
+use Rattle.agv_row_reading.specs.declared.open_fault.OpenFault.{OpenFault}
+use Rattle.agv_row_reading.specs.declared.open_fault.OpenFault.TheVariants as fault
+
+-- why no desk is opened where its tables aren't made
+abbrev pub of_making : MakingFault → OpenFault
+of_making making.Taken = fault.Damaged
+of_making making.Memory = fault.Memory
+of_making making.Storage = fault.Storage
 
 -- how an opening ends: with a desk, or with the connection and why there is none
 abbrev pub Opening : Type 0 → Type 0

@@ -1,42 +1,47 @@
 //! What the faults of questions and writes raise.
 ghost use Rattle.std.specs.Prelude.{◌≡◌};
-ghost use Rattle.agv_store.specs.Flags.{doubted_by, failed_by, noted, read_as};
+ghost use Rattle.agv_store.specs.Flags.{doubted_by, failed_by, noted};
 
-use agv_changes::WriteFault;
-use agv_row_reading::ReadingFault;
+use agv_row_reading::OpenFault;
 use agv_world::Fault;
 
-// How a question ends, for whoever asks a floor. A fault of the store is noted, and so is that memory ran out: it may have
-// closed the store.
+// How a question ends, for whoever asks a floor, with what its fault raises. Tables that tell no world are a fault of the store.
 pub(crate) fn note<T>(
     failed: &mut bool,
     in_doubt: &mut bool,
-    asked: Result<T, ReadingFault>,
+    asked: Result<T, OpenFault>,
 ) -> Result<T, Fault>
     ensures is { result ≡ noted asked }
-    ensures failed { failed.new ≡ failed_by asked failed.old }
-    ensures in_doubt { in_doubt.new ≡ doubted_by asked in_doubt.old }
+    ensures failed { failed.new ≡ failed_by (noted asked) failed.old }
+    ensures in_doubt { in_doubt.new ≡ doubted_by (noted asked) in_doubt.old }
 {
-    match asked {
+    let ended = match asked {
         Ok(answer) => Ok(answer),
-        Err(ReadingFault::Memory) => {
+        Err(OpenFault::Memory) => Err(Fault::Memory),
+        Err(OpenFault::Storage) | Err(OpenFault::Damaged) => Err(Fault::Storage),
+    };
+    raise(failed, in_doubt, ended)
+}
+
+// What this end raises: a fault of the store is noted, and so is that memory ran out, which may have closed the store.
+pub(crate) fn raise<T>(
+    failed: &mut bool,
+    in_doubt: &mut bool,
+    ended: Result<T, Fault>,
+) -> Result<T, Fault>
+    ensures is { result ≡ ended }
+    ensures failed { failed.new ≡ failed_by ended failed.old }
+    ensures in_doubt { in_doubt.new ≡ doubted_by ended in_doubt.old }
+{
+    match ended {
+        Ok(answer) => Ok(answer),
+        Err(Fault::Memory) => {
             *in_doubt = true;
             Err(Fault::Memory)
         }
-        Err(ReadingFault::Storage) | Err(ReadingFault::Damaged) => {
+        Err(Fault::Storage) => {
             *failed = true;
             Err(Fault::Storage)
         }
-    }
-}
-
-// How a write ends, as a question would.
-pub(crate) fn read_as(written: Result<(), WriteFault>) -> Result<(), ReadingFault>
-    ensures { result ≡ read_as written }
-{
-    match written {
-        Ok(()) => Ok(()),
-        Err(WriteFault::Memory) => Err(ReadingFault::Memory),
-        Err(WriteFault::Storage) => Err(ReadingFault::Storage),
     }
 }

@@ -28,7 +28,6 @@ mod keyed_floor;
 mod known;
 pub mod laws;
 mod migration;
-mod open_fault;
 mod opening;
 mod report_lists;
 mod reports;
@@ -36,5 +35,5 @@ mod running;
 mod serving;
 mod whole_tables;
 
+pub use agv_row_reading::OpenFault;
 pub use desk::Desk;
-pub use open_fault::OpenFault;

@@ -10,9 +10,10 @@ ghost use Rattle.agv_store.specs.Opening.{IsDamaged, IsStorage, left_by};
 use crate::desk::Desk;
 use crate::keyed_floor::KeyedFloor;
 use crate::known::Known;
-use crate::open_fault::OpenFault;
+use crate::opening::of_making;
 use agv_first_schema::table_moving::move_tables;
 use agv_first_schema::world_finding::find_first_world;
+use agv_row_reading::OpenFault;
 use agv_world::World;
 use agv_world_reading::world_laws::a_database_tells_its_world;
 use sqlite::{Alter, Connection};
@@ -58,7 +59,7 @@ impl<S: Alter + Drop> Desk<S> {
             Ok(()) => Ok(Desk {
                 floor: KeyedFloor::new(alloc, conn, known),
             }),
-            Err(why) => Err((conn, OpenFault::from(why))),
+            Err(why) => Err((conn, of_making(why))),
         }
     }
 }

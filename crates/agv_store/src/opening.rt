@@ -10,19 +10,19 @@ ghost use Rattle.agv_row_reading.specs.WorldAnswers.{HasNoWorld};
 ghost use Rattle.agv_creation.specs.DeskTables.{LeavesDesk};
 ghost use Rattle.agv_schema.specs.SchemaNumbers.{desk_seats};
 ghost use Rattle.agv_schema.specs.Connections.{HasStorageCause, IsClean, IsOpen};
-ghost use Rattle.agv_store.specs.Opening.{Adopts, CanBeMade, Finds, IsDamaged, IsStorage, Makes, left_by};
+ghost use Rattle.agv_store.specs.Opening.{Adopts, CanBeMade, Finds, IsDamaged, IsStorage, Makes, left_by, of_making};
 
 use crate::counts::Counts;
 use crate::desk::Desk;
 use crate::keyed_floor::KeyedFloor;
 use crate::known::Known;
-use crate::open_fault::OpenFault;
+use agv_creation::MakingFault;
 use agv_creation::desk_tables::{NAMES, is_any_used, make_desk_tables};
 use agv_creation::making_laws::made_desks_stand;
 use agv_creation::standing_tables::tables_stand;
 use agv_creation::tables_beside::allows_desk;
 use agv_header::Memory;
-use agv_row_reading::HeldThings;
+use agv_row_reading::{HeldThings, OpenFault};
 use agv_rowids::rowid_reading::query_rowids;
 use agv_schema::DESK_SEATS;
 use agv_world::World;
@@ -70,7 +70,7 @@ impl<S: Alter + Drop> Desk<S> {
                     floor: KeyedFloor::new(alloc, conn, known),
                 })
             }
-            Err(why) => Err((conn, OpenFault::from(why))),
+            Err(why) => Err((conn, of_making(why))),
         }
     }
 
@@ -136,6 +136,17 @@ fn can_be_made(schema: &Schema) -> bool
     ensures { IsTrue result ↔ CanBeMade schema.now }
 {
     !is_any_used(schema, &NAMES) && allows_desk(schema)
+}
+
+// Why no desk is opened where its tables aren't made.
+pub(crate) fn of_making(why: MakingFault) -> OpenFault
+    ensures { result ≡ of_making why }
+{
+    match why {
+        MakingFault::Taken => OpenFault::Damaged,
+        MakingFault::Memory => OpenFault::Memory,
+        MakingFault::Storage => OpenFault::Storage,
+    }
 }
 
 // What is known of the world whose rows the desk's tables have, where they have the rows of a lawful one.

@@ -12,7 +12,7 @@ ghost use Rattle.agv_store.specs.Flags.{EndsAs};
 ghost use Rattle.agv_store.specs.Floors.{Knows, facts_of, world_at};
 ghost use Rattle.agv_store.specs.Serving.{Decides, IsServedBy, LeavesAll, LeavesCall};
 
-use crate::flags::{note, read_as};
+use crate::flags::raise;
 use crate::keyed_floor::KeyedFloor;
 use agv_changes::change_laws::changes_make_the_next_world;
 use agv_changes::change_running::write_changes;
@@ -82,7 +82,7 @@ impl<S: Alter + Drop> KeyedFloor<S> {
         counts_follow();
         adds_below_the_limit();
         let written = write_changes(&mut self.conn, decision.changes.as_slice());
-        note(&mut self.failed, &mut self.in_doubt, read_as(written))?;
+        raise(&mut self.failed, &mut self.in_doubt, written)?;
         let more = counted_by(call, &decision.answer);
         self.known.follow(more, decision.changes.as_slice());
         Ok(decision.answer)

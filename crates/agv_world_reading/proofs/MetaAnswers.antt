@@ -15,8 +15,8 @@ use Rattle.agv_rows.specs.RowLists.{row_lists, rows_in}
 use Rattle.agv_schema.specs.SchemaNumbers.{schema_number}
 use Rattle.agv_statements.specs.RowQueries.{all_rows_of}
 use Rattle.agv_row_reading.specs.TablesRead.{desk_meta}
-use Rattle.agv_row_reading.specs.declared.reading_fault.ReadingFault.{ReadingFault}
-use Rattle.agv_row_reading.specs.declared.reading_fault.ReadingFault.TheVariants as fault
+use Rattle.agv_row_reading.specs.declared.open_fault.OpenFault.{OpenFault}
+use Rattle.agv_row_reading.specs.declared.open_fault.OpenFault.TheVariants as fault
 use Rattle.agv_schema.specs.declared.table_name.TableName.TheVariants as the
 use Rattle.agv_row_reading.proofs.Asking.{Follows}
 use Rattle.agv_row_reading.proofs.AskingAll.{IsNoStorage}
@@ -36,7 +36,7 @@ one_row = ap (map (λ (e : ℕ × ℕ). meta_columns e.0 e.1)) one_entry
 is_read : meta_read (meta_columns 1 schema_number ∷ []) ≡ Ok tt
 is_read = ap (λ (o : Option (ℕ × ℕ)). cond (is_desk_meta o) (Ok tt) (Err fault.Damaged)) (meta_kept 1 schema_number (omega arith) (omega arith))
 
-pub tells_meta : (world : World) (rows : List Row) → IsPermutation (all_rows_of the.Meta (row_lists (rows_of world))) rows → (r : Result (Unit {0}) ReadingFault) → r ≡ meta_read rows → Follows r (λ nothing. Unit {0})
+pub tells_meta : (world : World) (rows : List Row) → IsPermutation (all_rows_of the.Meta (row_lists (rows_of world))) rows → (r : Result (Unit {0}) OpenFault) → r ≡ meta_read rows → Follows r (λ nothing. Unit {0})
 unfolding row_lists
 tells_meta world rows shown r read =
     let alone = one_permutation (meta_columns 1 schema_number) rows (subst (λ l. IsPermutation l rows) one_row shown) in
@@ -52,8 +52,8 @@ read_no_storage (row ∷ []) =
     ]
 read_no_storage (row ∷ (other ∷ rows)) = λ is. cc is
 
-pub meta_no_storage : (rows : List Row) (r : Result (Unit {0}) ReadingFault) → r ≡ meta_read rows → IsNoStorage r
-meta_no_storage rows r read = subst (λ (q : Result (Unit {0}) ReadingFault). IsNoStorage q) (sym read) (read_no_storage rows)
+pub meta_no_storage : (rows : List Row) (r : Result (Unit {0}) OpenFault) → r ≡ meta_read rows → IsNoStorage r
+meta_no_storage rows r read = subst (λ (q : Result (Unit {0}) OpenFault). IsNoStorage q) (sym read) (read_no_storage rows)
 
 first_is : (row : Row) (o : Option (ℕ × ℕ)) → meta_in row ≡ o → is_desk_meta o ≡ true → row ≡ meta_columns 1 schema_number
 first_is row None from is = absurd (cc is)
@@ -63,7 +63,7 @@ first_is row (Some told) from is =
     let schema : told.1 ≡ schema_number = (unsigned_Decides told.1 schema_number).0 both.1 in
     meta_written row told.0 told.1 from ∙ (λ i. meta_columns (id i) (schema i))
 
-pub shows_meta : (asked rows : List Row) (r : Result (Unit {0}) ReadingFault) → r ≡ meta_read rows → IsPermutation asked rows → IfOk r (λ nothing. IsPermutation asked (rows_in meta_columns desk_meta))
+pub shows_meta : (asked rows : List Row) (r : Result (Unit {0}) OpenFault) → r ≡ meta_read rows → IsPermutation asked rows → IfOk r (λ nothing. IsPermutation asked (rows_in meta_columns desk_meta))
 shows_meta asked rows (Err f) read shown = tt
 shows_meta asked [] (Ok nothing) read shown = absurd (cc read)
 shows_meta asked (row ∷ []) (Ok nothing) read shown =

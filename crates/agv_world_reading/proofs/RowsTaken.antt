@@ -23,13 +23,13 @@ use Rattle.agv_schema.specs.DeskRows.{Answers, IsDesk, Placing}
 use Rattle.agv_rows.specs.RowLists.{row_lists}
 use Rattle.agv_schema.specs.SchemaNumbers.{desk_seats}
 use Rattle.agv_statements.specs.RowQueries.{all_rows_of, all_rows_text}
-use Rattle.agv_row_reading.specs.ReadingFault.{reading_fault_of}
+use Rattle.agv_row_reading.specs.OpenFault.{open_fault_of}
 use Rattle.agv_row_reading.specs.WorldAnswers.{HasNoWorld, AnswersQuery}
 use Rattle.agv_row_reading.specs.ReadTables.{Reads, if_free, read_rows}
 use Rattle.agv_rows.specs.ValueEncodings.{if_some}
 use Rattle.agv_row_reading.specs.TablesRead.{TellsAll}
-use Rattle.agv_row_reading.specs.declared.reading_fault.ReadingFault.{ReadingFault}
-use Rattle.agv_row_reading.specs.declared.reading_fault.ReadingFault.TheVariants as fault
+use Rattle.agv_row_reading.specs.declared.open_fault.OpenFault.{OpenFault}
+use Rattle.agv_row_reading.specs.declared.open_fault.OpenFault.TheVariants as fault
 use Rattle.agv_schema.specs.declared.table_name.TableName.{TableName}
 use Rattle.agv_schema.proofs.DeskPlaces.{is_in, one_stands}
 use Rattle.agv_schema.proofs.Later.{fault_later, later_by}
@@ -83,7 +83,7 @@ pub fewer_left : {K X : Type 0} {R : K → K → Ordering} → IsTotalOrder R �
 fewer_left total told table next row low taken = omega (arith, low, one_longer total told table next row (taken []))
 
 -- how a reading ends at a moment, told of the same one
-pub told_at : {S A : Type 0} (g : Ghosts S) (old new last : Held S) {r : Result A ReadingFault} {means : World → A → Type 0} {holds : List (List Row) → A → Type 0} → last ≡ new → TellsAll g old new r means holds → TellsAll g old last r means holds
+pub told_at : {S A : Type 0} (g : Ghosts S) (old new last : Held S) {r : Result A OpenFault} {means : World → A → Type 0} {holds : List (List Row) → A → Type 0} → last ≡ new → TellsAll g old new r means holds → TellsAll g old last r means holds
 told_at g old new last {r} {means} {holds} same told = subst (λ (end : Held _). TellsAll g old end r means holds) (sym same) told
 
 -- ---- the query
@@ -96,7 +96,7 @@ module _ {S : Type 0} (g : Ghosts S) (name : TableName) (old new : Held S) (sql 
   begun (inl begins) = begins
   begun (inr returns) = absurd (never_returns _ (silent_understood old.schema sql (all_selects name sql text)) returns.0)
 
-  pub not_begun : {A : Type 0} (means : World → A → Type 0) (holds : List (List Row) → A → Type 0) (e : Error) (r : Result A ReadingFault) → IsErrAnd r (λ why. why ≡ reading_fault_of e)
+  pub not_begun : {A : Type 0} (means : World → A → Type 0) (holds : List (List Row) → A → Type 0) (e : Error) (r : Result A OpenFault) → IsErrAnd r (λ why. why ≡ open_fault_of e)
       → (HasCleanDisk (state g new) → FailsToQuery sql [] (state g old) (state g new) e) → (old.in_transaction ≡ false → new.in_transaction ≡ false)
       → Survives (state g old) (state g new) (CommitsShowing sql [] (state g old)) → TellsAll g old new r means holds
   not_begun means holds e r is fails idle survives =
@@ -138,7 +138,7 @@ module _ {S K X : Type 0} {R : K → K → Ordering} (g : Ghosts S) (name : Tabl
     saved_all = survives_then (state g old) (state g now) (state g new) _ _ (λ _. ⊥) (λ _ _ none. none) (λ _ _ none. none) so_far.survives survives
 
     -- an error of the database
-    pub taking_failed : {A : Type 0} (means : World → A → Type 0) (holds : List (List Row) → A → Type 0) (e : Error) (r : Result A ReadingFault) → IsErrAnd r (λ why. why ≡ reading_fault_of e)
+    pub taking_failed : {A : Type 0} (means : World → A → Type 0) (holds : List (List Row) → A → Type 0) (e : Error) (r : Result A OpenFault) → IsErrAnd r (λ why. why ≡ open_fault_of e)
         → (HasCleanDisk (state g new) → FailsToAdvance g now new e) → TellsAll g old new r means holds
     taking_failed means holds e r is fails =
         let failed : HasCleanDisk (state g new) → FailsToQuery (all_rows_text name) [] (state g now) (state g new) e = λ clean. fails clean (all_rows_text name) [] so_far.given (so_far.gives (early clean)) in
@@ -204,20 +204,20 @@ module _ {S K X : Type 0} {R : K → K → Ordering} (g : Ghosts S) (name : Tabl
 
         pub refused : {A : Type 0} (means : World → A → Type 0) (holds : List (List Row) → A → Type 0)
             → ((world : World) → IsLawful desk_seats world → (rows : List Row) → says name world rows → ¬ (read_rows told (empty {X = X} {R = R}) rows ≡ None))
-            → (why : ReadingFault) → ((rest : List Row) → Reads (Err why) (read_rows told table (row ∷ rest))) → (r : Result A ReadingFault) → IsErrAnd r (λ f. f ≡ why) → TellsAll g old new r means holds
+            → (why : OpenFault) → ((rest : List Row) → Reads (Err why) (read_rows told table (row ∷ rest))) → (r : Result A OpenFault) → IsErrAnd r (λ f. f ≡ why) → TellsAll g old new r means holds
         refused means holds never why reads r is = all_passes g old new why (says name) (shown name) means holds r is (record { tells = ended why reads; exact = λ _. tt; caused = λ clean stored. absurd (not_stored why reads stored) })
           where
-            by_row : (why : ReadingFault) → ((rest : List Row) → Reads (Err why) (read_rows told table (row ∷ rest))) → HasCleanDisk (state g new) → why ≡ fault.Damaged → HasNoWorld (state g old).now
+            by_row : (why : OpenFault) → ((rest : List Row) → Reads (Err why) (read_rows told table (row ∷ rest))) → HasCleanDisk (state g new) → why ≡ fault.Damaged → HasNoWorld (state g old).now
             by_row fault.Memory reads clean is = absurd (cc is)
             by_row fault.Storage reads clean is = absurd (reads [])
             by_row fault.Damaged reads clean is = no_world never reads clean
 
-            not_stored : (why : ReadingFault) → ((rest : List Row) → Reads (Err why) (read_rows told table (row ∷ rest))) → ¬ (why ≡ fault.Storage)
+            not_stored : (why : OpenFault) → ((rest : List Row) → Reads (Err why) (read_rows told table (row ∷ rest))) → ¬ (why ≡ fault.Storage)
             not_stored fault.Memory reads is = cc is
             not_stored fault.Storage reads is = reads []
             not_stored fault.Damaged reads is = cc is
 
-            ended : (why : ReadingFault) → ((rest : List Row) → Reads (Err why) (read_rows told table (row ∷ rest))) → AnswersQuery g old new (Err why) (says name)
+            ended : (why : OpenFault) → ((rest : List Row) → Reads (Err why) (read_rows told table (row ∷ rest))) → AnswersQuery g old new (Err why) (says name)
             ended why reads = record {
               told = λ _. tt;
               kept = λ _. tt;

@@ -22,7 +22,7 @@ use Rattle.agv_rows.specs.RowLists.{row_lists, rows_in}
 use Rattle.agv_rows.specs.TypedRows.{IsActRow, IsJourneyRow, IsLegKey}
 use Rattle.agv_statements.specs.RowQueries.{all_rows_of}
 use Rattle.agv_row_reading.specs.ReadTables.{Reads, read_rows}
-use Rattle.agv_row_reading.specs.declared.reading_fault.ReadingFault.{ReadingFault}
+use Rattle.agv_row_reading.specs.declared.open_fault.OpenFault.{OpenFault}
 use Rattle.agv_schema.specs.declared.table_name.TableName.TheVariants as the
 use Rattle.agv_row_reading.proofs.Asking.{Follows}
 use Rattle.agv_rows.proofs.ColumnsKept.{act_kept, journey_kept}
@@ -39,7 +39,7 @@ abbrev pub AreActValues : World → Type 0
 AreActValues world = (key : LegKey) (act : ActRow) → finite.get (acts_of (rows_of world).trips) key ≡ Some act → IsLegKey key × IsActRow act
 
 module _ (world : World) (rows : List Row) where
-  pub tells_journeys : AreJourneyValues world → IsPermutation (all_rows_of the.Journey (row_lists (rows_of world))) rows → (r : Result (finite.FinMap name_cmp JourneyRow) ReadingFault) → Reads r (read_rows journey_in finite.empty rows)
+  pub tells_journeys : AreJourneyValues world → IsPermutation (all_rows_of the.Journey (row_lists (rows_of world))) rows → (r : Result (finite.FinMap name_cmp JourneyRow) OpenFault) → Reads r (read_rows journey_in finite.empty rows)
       → Follows r (λ table. table ≡ journeys_of (rows_of world).trips)
   unfolding row_lists
   tells_journeys values shown r read =
@@ -47,7 +47,7 @@ module _ (world : World) (rows : List Row) where
       reads_it journeys r (read_rows journey_in finite.empty rows) read
       (reads_all nat_list_cmp_total names_apart journeys journey_columns journey_in (λ order journey at. let its = values order journey at in journey_kept order journey its.0 its.1) rows shown)
 
-  pub tells_acts : AreActValues world → IsPermutation (all_rows_of the.Act (row_lists (rows_of world))) rows → (r : Result (finite.FinMap leg_cmp ActRow) ReadingFault) → Reads r (read_rows act_in finite.empty rows)
+  pub tells_acts : AreActValues world → IsPermutation (all_rows_of the.Act (row_lists (rows_of world))) rows → (r : Result (finite.FinMap leg_cmp ActRow) OpenFault) → Reads r (read_rows act_in finite.empty rows)
       → Follows r (λ table. table ≡ acts_of (rows_of world).trips)
   unfolding row_lists
   tells_acts values shown r read =

@@ -22,8 +22,8 @@ use Rattle.agv_schema.specs.SchemaNumbers.{desk_seats}
 use Rattle.agv_rows.specs.DecodedTrips.{capacities_of, trips_with}
 use Rattle.agv_row_reading.specs.WorldAnswers.{HasWorld}
 use Rattle.agv_world_reading.specs.WorldIn.{acts_in, capacities_in, jobs_in, journeys_in, lists_in, placed_in, tables_in, tree_named, tree_of, world_in}
-use Rattle.agv_row_reading.specs.declared.reading_fault.ReadingFault.{ReadingFault}
-use Rattle.agv_row_reading.specs.declared.reading_fault.ReadingFault.TheVariants as fault
+use Rattle.agv_row_reading.specs.declared.open_fault.OpenFault.{OpenFault}
+use Rattle.agv_row_reading.specs.declared.open_fault.OpenFault.TheVariants as fault
 use Rattle.agv_schema.specs.declared.table_name.TableName.{TableName}
 use Rattle.agv_schema.specs.declared.table_name.TableName.TheVariants as the
 use Rattle.agv_row_reading.proofs.Asking.{Follows}
@@ -58,7 +58,7 @@ lists_alike desk db lists is held =
 -- ---- the tables that they tell
 
 -- where each reading of rows that doesn't fail gives this table, their table is this one
-given_by : {A : Type 0} (table nothing : A) (given : Option A) → ((r : Result A ReadingFault) → Reads r given → Follows r (λ t. t ≡ table)) → unwrap_or given nothing ≡ table
+given_by : {A : Type 0} (table nothing : A) (given : Option A) → ((r : Result A OpenFault) → Reads r given → Follows r (λ t. t ≡ table)) → unwrap_or given nothing ≡ table
 given_by table nothing None follows = absurd (follows (Err fault.Damaged) refl)
 given_by table nothing (Some t) follows = follows (Ok t) refl
 

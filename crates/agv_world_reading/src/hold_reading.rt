@@ -10,7 +10,7 @@ ghost use Rattle.agv_rows.specs.RowLists.{rows_in};
 ghost use Rattle.agv_row_reading.specs.TablesRead.{TellsAll, desk_meta};
 ghost use Rattle.agv_schema.specs.declared.table_name.TableName.TheVariants as the;
 
-use agv_row_reading::ReadingFault;
+use agv_row_reading::OpenFault;
 use agv_row_reading::held_rows::holds_in_rows;
 use agv_row_reading::held_things::HeldThings;
 use agv_row_reading::queried_rows::query_all_rows;
@@ -23,11 +23,11 @@ use std::alloc::Global;
 
 /// The vehicle that holds a node or an edge, for each that is held.
 ///
-/// It fails as [`ReadingFault`] says.
+/// It fails as [`OpenFault`] says.
 pub fn query_holds<S: Alter>(
     alloc: Global,
     conn: &mut Connection<S>,
-) -> Result<HeldThings, ReadingFault>
+) -> Result<HeldThings, OpenFault>
     ensures { TellsAll S.Store conn.old conn.new result (λ world held. held.table ≡ (rows_of world).holds) (λ lists held. IsPermutation (table_at (place_of the.Hold) lists) (rows_in hold_columns held.table)) }
 {
     has_consistent_trips();
@@ -38,8 +38,8 @@ pub fn query_holds<S: Alter>(
 /// The table `meta` has just the row of the second schema. An answer comes only from an open store, so this asks whether it is
 /// one.
 ///
-/// It fails as [`ReadingFault`] says.
-pub fn query_meta<S: Alter>(conn: &mut Connection<S>) -> Result<(), ReadingFault>
+/// It fails as [`OpenFault`] says.
+pub fn query_meta<S: Alter>(conn: &mut Connection<S>) -> Result<(), OpenFault>
     ensures { TellsAll S.Store conn.old conn.new result (λ world nothing. Unit {0}) (λ lists nothing. IsPermutation (table_at (place_of the.Meta) lists) (rows_in meta_columns desk_meta)) }
 {
     let rows = query_all_rows(conn, TableName::Meta)?;
@@ -47,12 +47,12 @@ pub fn query_meta<S: Alter>(conn: &mut Connection<S>) -> Result<(), ReadingFault
 }
 
 // That these are just the row of `meta` of the second schema.
-fn meta_in_rows(rows: &[Row]) -> Result<(), ReadingFault>
+fn meta_in_rows(rows: &[Row]) -> Result<(), OpenFault>
     ensures { result ≡ meta_read rows.now }
 {
     match rows {
         [row] if is_meta(row) => Ok(()),
-        _ => Err(ReadingFault::Damaged),
+        _ => Err(OpenFault::Damaged),
     }
 }
 

@@ -12,18 +12,18 @@ ghost use Rattle.agv_schema.specs.declared.table_name.TableName.TheVariants as t
 
 use crate::table_reading::{query_edges, query_nodes, query_stations};
 use agv_layout::{EdgeEnds, Layout, StationSite};
-use agv_row_reading::ReadingFault;
+use agv_row_reading::OpenFault;
 use agv_world::{ByLeg, ByName, ByVehicle, Fault, Floor, Names, PlainFloor, UsedNames, World};
 use sqlite::{Alter, Connection};
 use std::alloc::Global;
 
 /// A copy of the layout; none before it is set.
 ///
-/// It fails as [`ReadingFault`] says.
+/// It fails as [`OpenFault`] says.
 pub fn query_layout<S: Alter>(
     alloc: Global,
     conn: &mut Connection<S>,
-) -> Result<Option<Layout>, ReadingFault>
+) -> Result<Option<Layout>, OpenFault>
     ensures { AnswersQuery S.Store conn.old conn.new result (λ world layout. layout ≡ layout_set world) }
 {
     let tables = query_layout_tables(alloc, conn)?;
@@ -46,7 +46,7 @@ pub fn query_layout<S: Alter>(
 pub(crate) fn query_layout_tables<S: Alter>(
     alloc: Global,
     conn: &mut Connection<S>,
-) -> Result<(Names, ByName<EdgeEnds>, ByName<StationSite>), ReadingFault>
+) -> Result<(Names, ByName<EdgeEnds>, ByName<StationSite>), OpenFault>
     ensures { TellsAll S.Store conn.old conn.new result
         (λ world tables. (tables.0 ≡ world.layout.nodes) × (tables.1 ≡ world.layout.edges) × (tables.2 ≡ world.layout.stations))
         (λ lists tables. IsPermutation (table_at (place_of the.Node) lists) (rows_for node_columns tables.0)
@@ -60,13 +60,13 @@ pub(crate) fn query_layout_tables<S: Alter>(
 }
 
 // The layout that tables tell, once it is set.
-fn layout_in_tables(alloc: Global, tables: &World) -> Result<Option<Layout>, ReadingFault>
+fn layout_in_tables(alloc: Global, tables: &World) -> Result<Option<Layout>, OpenFault>
     ensures { Reads result (Some (layout_set (world_of tables.now))) }
 {
     let mut floor = PlainFloor::new(alloc, tables, 1);
     match floor.layout() {
         Ok(layout) => Ok(layout),
-        Err(Fault::Memory) => Err(ReadingFault::Memory),
-        Err(Fault::Storage) => Err(ReadingFault::Storage),
+        Err(Fault::Memory) => Err(OpenFault::Memory),
+        Err(Fault::Storage) => Err(OpenFault::Storage),
     }
 }

@@ -14,7 +14,7 @@ ghost use Rattle.agv_row_reading.specs.TablesRead.{TellsAll};
 ghost use Rattle.agv_schema.specs.declared.table_name.TableName.TheVariants as the;
 
 use agv_layout::{EdgeEnds, StationSite};
-use agv_row_reading::ReadingFault;
+use agv_row_reading::OpenFault;
 use agv_row_reading::queried_rows::query_all_rows;
 use agv_row_reading::row_tables::{
     capacities_in_rows, edges_in_rows, jobs_in_rows, legs_in_rows, nodes_in_rows, stations_in_rows,
@@ -31,8 +31,8 @@ use std::alloc::Global;
 
 /// The nodes of the layout.
 ///
-/// It fails as [`ReadingFault`] says.
-pub fn query_nodes<S: Alter>(alloc: Global, conn: &mut Connection<S>) -> Result<Names, ReadingFault>
+/// It fails as [`OpenFault`] says.
+pub fn query_nodes<S: Alter>(alloc: Global, conn: &mut Connection<S>) -> Result<Names, OpenFault>
     ensures { TellsAll S.Store conn.old conn.new result (λ world table. table ≡ world.layout.nodes) (λ lists table. IsPermutation (table_at (place_of the.Node) lists) (rows_for node_columns table)) }
 {
     let rows = query_all_rows(conn, TableName::Node)?;
@@ -41,11 +41,11 @@ pub fn query_nodes<S: Alter>(alloc: Global, conn: &mut Connection<S>) -> Result<
 
 /// The edges of the layout, each by its name, with the nodes that it joins.
 ///
-/// It fails as [`ReadingFault`] says.
+/// It fails as [`OpenFault`] says.
 pub fn query_edges<S: Alter>(
     alloc: Global,
     conn: &mut Connection<S>,
-) -> Result<ByName<EdgeEnds>, ReadingFault>
+) -> Result<ByName<EdgeEnds>, OpenFault>
     ensures { TellsAll S.Store conn.old conn.new result (λ world table. table ≡ world.layout.edges) (λ lists table. IsPermutation (table_at (place_of the.Edge) lists) (rows_in edge_columns table)) }
 {
     let rows = query_all_rows(conn, TableName::Edge)?;
@@ -54,11 +54,11 @@ pub fn query_edges<S: Alter>(
 
 /// The stations of the layout, each by its name, with its node and how many loads it takes.
 ///
-/// It fails as [`ReadingFault`] says.
+/// It fails as [`OpenFault`] says.
 pub fn query_stations<S: Alter>(
     alloc: Global,
     conn: &mut Connection<S>,
-) -> Result<ByName<StationSite>, ReadingFault>
+) -> Result<ByName<StationSite>, OpenFault>
     ensures { TellsAll S.Store conn.old conn.new result (λ world table. table ≡ world.layout.stations) (λ lists table. IsPermutation (table_at (place_of the.Station) lists) (rows_in station_columns table)) }
 {
     let rows = query_all_rows(conn, TableName::Station)?;
@@ -68,11 +68,11 @@ pub fn query_stations<S: Alter>(
 /// The vehicles, each by its maker and its serial number, with its capacity, but for their open trips. Each has a row of
 /// its capacity, and no other vehicle has one.
 ///
-/// It fails as [`ReadingFault`] says.
+/// It fails as [`OpenFault`] says.
 pub fn query_vehicles<S: Alter>(
     alloc: Global,
     conn: &mut Connection<S>,
-) -> Result<ByVehicle<VehicleRow>, ReadingFault>
+) -> Result<ByVehicle<VehicleRow>, OpenFault>
     ensures { TellsAll S.Store conn.old conn.new result (λ world table. table ≡ (rows_of world).vehicles)
         (λ lists table. IsPermutation (table_at (place_of the.Vehicle) lists) (rows_in vehicle_columns table)
         × IsPermutation (table_at (place_of the.Capacity) lists) (rows_in vehicle_capacity_columns table)) }
@@ -83,7 +83,7 @@ pub fn query_vehicles<S: Alter>(
     if are_of_vehicles(&vehicles, &capacities) {
         Ok(vehicles)
     } else {
-        Err(ReadingFault::Damaged)
+        Err(OpenFault::Damaged)
     }
 }
 
@@ -91,7 +91,7 @@ pub fn query_vehicles<S: Alter>(
 fn query_capacities<S: Alter>(
     alloc: Global,
     conn: &mut Connection<S>,
-) -> Result<ByVehicle<CapacityRow>, ReadingFault>
+) -> Result<ByVehicle<CapacityRow>, OpenFault>
     ensures { TellsAll S.Store conn.old conn.new result
         (λ world table. table ≡ capacities_of (rows_of world).vehicles)
         (λ lists table. IsPermutation (table_at (place_of the.Capacity) lists) (rows_in capacity_columns table)) }
@@ -112,11 +112,11 @@ fn are_of_vehicles(vehicles: &ByVehicle<VehicleRow>, capacities: &ByVehicle<Capa
 /// The place of each load, by the name of the load. There may be a million of them: so each row is taken into the table
 /// as the query gives it, and the rows aren't held beside it.
 ///
-/// It fails as [`ReadingFault`] says.
+/// It fails as [`OpenFault`] says.
 pub fn query_places<S: Alter>(
     alloc: Global,
     conn: &mut Connection<S>,
-) -> Result<ByName<Place>, ReadingFault>
+) -> Result<ByName<Place>, OpenFault>
     ensures { TellsAll S.Store conn.old conn.new result (λ world table. table ≡ world.places) (λ lists table. IsPermutation (table_at (place_of the.Load) lists) (rows_in load_columns table)) }
 {
     let mut table = ByName::new(alloc);
@@ -137,7 +137,7 @@ pub fn query_places<S: Alter>(
 pub(crate) fn query_legs<S: Alter>(
     alloc: Global,
     conn: &mut Connection<S>,
-) -> Result<ByLeg, ReadingFault>
+) -> Result<ByLeg, OpenFault>
     ensures { TellsAll S.Store conn.old conn.new result (λ world table. table ≡ (rows_of world).legs) (λ lists table. IsPermutation (table_at (place_of the.Leg) lists) (rows_in leg_columns table)) }
 {
     has_consistent_trips();
@@ -149,7 +149,7 @@ pub(crate) fn query_legs<S: Alter>(
 pub(crate) fn query_jobs<S: Alter>(
     alloc: Global,
     conn: &mut Connection<S>,
-) -> Result<ByName<JobRow>, ReadingFault>
+) -> Result<ByName<JobRow>, OpenFault>
     ensures { TellsAll S.Store conn.old conn.new result (λ world table. table ≡ world.jobs) (λ lists table. IsPermutation (table_at (place_of the.Job) lists) (rows_in job_columns table)) }
 {
     let rows = query_all_rows(conn, TableName::Job)?;
@@ -160,7 +160,7 @@ pub(crate) fn query_jobs<S: Alter>(
 pub(crate) fn query_used<S: Alter>(
     alloc: Global,
     conn: &mut Connection<S>,
-) -> Result<UsedNames, ReadingFault>
+) -> Result<UsedNames, OpenFault>
     ensures { TellsAll S.Store conn.old conn.new result (λ world table. table ≡ (rows_of world).used) (λ lists table. IsPermutation (table_at (place_of the.Used) lists) (rows_for used_columns table)) }
 {
     let rows = query_all_rows(conn, TableName::Used)?;

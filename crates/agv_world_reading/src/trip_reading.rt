@@ -12,7 +12,7 @@ ghost use Rattle.agv_row_reading.specs.TablesRead.{TellsAll};
 ghost use Rattle.agv_schema.specs.declared.table_name.TableName.TheVariants as the;
 
 use crate::table_reading::query_jobs;
-use agv_row_reading::ReadingFault;
+use agv_row_reading::OpenFault;
 use agv_row_reading::queried_rows::query_all_rows;
 use agv_row_reading::row_tables::{acts_in_rows, journeys_in_rows};
 use agv_rows::trip_laws::rows_tell_trips;
@@ -27,7 +27,7 @@ use std::alloc::Global;
 pub(crate) fn query_trips<S: Alter>(
     alloc: Global,
     conn: &mut Connection<S>,
-) -> Result<(ByName<JobRow>, ByName<TripRow>), ReadingFault>
+) -> Result<(ByName<JobRow>, ByName<TripRow>), OpenFault>
     ensures { TellsAll S.Store conn.old conn.new result
         (λ world tables. (tables.0 ≡ world.jobs) × (tables.1 ≡ (rows_of world).trips))
         (λ lists tables. IsPermutation (table_at (place_of the.Job) lists) (rows_in job_columns tables.0)
@@ -42,20 +42,20 @@ pub(crate) fn query_trips<S: Alter>(
     let acts = query_acts(alloc, conn)?;
     let told = trips_told(alloc, &journeys, &acts, &jobs)?;
     match told {
-        None => Err(ReadingFault::Damaged),
+        None => Err(OpenFault::Damaged),
         Some(trips) => Ok((jobs, trips)),
     }
 }
 
 // That the table of the first schema's trips is empty.
-fn query_no_trips<S: Alter>(conn: &mut Connection<S>) -> Result<(), ReadingFault>
+fn query_no_trips<S: Alter>(conn: &mut Connection<S>) -> Result<(), OpenFault>
     ensures { TellsAll S.Store conn.old conn.new result (λ world nothing. Unit {0}) (λ lists nothing. table_at (place_of the.Trip) lists ≡ []) }
 {
     let rows = query_all_rows(conn, TableName::Trip)?;
     if rows.is_empty() {
         Ok(())
     } else {
-        Err(ReadingFault::Damaged)
+        Err(OpenFault::Damaged)
     }
 }
 
@@ -63,7 +63,7 @@ fn query_no_trips<S: Alter>(conn: &mut Connection<S>) -> Result<(), ReadingFault
 fn query_journeys<S: Alter>(
     alloc: Global,
     conn: &mut Connection<S>,
-) -> Result<ByName<JourneyRow>, ReadingFault>
+) -> Result<ByName<JourneyRow>, OpenFault>
     ensures { TellsAll S.Store conn.old conn.new result
         (λ world table. table ≡ journeys_of (rows_of world).trips)
         (λ lists table. IsPermutation (table_at (place_of the.Journey) lists) (rows_in journey_columns table)) }
@@ -74,7 +74,7 @@ fn query_journeys<S: Alter>(
 }
 
 // The acts, by their orders and numbers.
-fn query_acts<S: Alter>(alloc: Global, conn: &mut Connection<S>) -> Result<ByAct, ReadingFault>
+fn query_acts<S: Alter>(alloc: Global, conn: &mut Connection<S>) -> Result<ByAct, OpenFault>
     ensures { TellsAll S.Store conn.old conn.new result
         (λ world table. table ≡ acts_of (rows_of world).trips)
         (λ lists table. IsPermutation (table_at (place_of the.Act) lists) (rows_in act_columns table)) }

@@ -14,7 +14,7 @@ use crate::hold_reading::{query_holds, query_meta};
 use crate::layout_reading::query_layout_tables;
 use crate::table_reading::{query_legs, query_places, query_used, query_vehicles};
 use crate::trip_reading::query_trips;
-use agv_row_reading::ReadingFault;
+use agv_row_reading::OpenFault;
 use agv_row_reading::held_things::HeldThings;
 use agv_stock::Place;
 use agv_world::{ByLeg, ByName, ByVehicle, UsedNames, VehicleRow, World};
@@ -22,7 +22,7 @@ use sqlite::{Alter, Connection};
 use std::alloc::Global;
 
 /// All tables but those of the schema's number and of what is held.
-pub fn read_tables<S: Alter>(alloc: Global, conn: &mut Connection<S>) -> Result<World, ReadingFault>
+pub fn read_tables<S: Alter>(alloc: Global, conn: &mut Connection<S>) -> Result<World, OpenFault>
     ensures { TellsAll S.Store conn.old conn.new result (λ world tables. Keeps tables world) (λ lists tables. HaveTables lists tables) }
 {
     let layout = query_layout_tables(alloc, conn)?;
@@ -50,7 +50,7 @@ pub fn read_tables<S: Alter>(alloc: Global, conn: &mut Connection<S>) -> Result<
 fn query_traffic_tables<S: Alter>(
     alloc: Global,
     conn: &mut Connection<S>,
-) -> Result<(ByVehicle<VehicleRow>, ByLeg), ReadingFault>
+) -> Result<(ByVehicle<VehicleRow>, ByLeg), OpenFault>
     ensures { TellsAll S.Store conn.old conn.new result
         (λ world tables. (tables.0 ≡ (rows_of world).vehicles) × (tables.1 ≡ (rows_of world).legs))
         (λ lists tables. IsPermutation (table_at (place_of the.Vehicle) lists) (rows_in vehicle_columns tables.0)
@@ -66,7 +66,7 @@ fn query_traffic_tables<S: Alter>(
 fn query_stock_tables<S: Alter>(
     alloc: Global,
     conn: &mut Connection<S>,
-) -> Result<(ByName<Place>, UsedNames), ReadingFault>
+) -> Result<(ByName<Place>, UsedNames), OpenFault>
     ensures { TellsAll S.Store conn.old conn.new result
         (λ world tables. (tables.0 ≡ world.places) × (tables.1 ≡ (rows_of world).used))
         (λ lists tables. IsPermutation (table_at (place_of the.Load) lists) (rows_in load_columns tables.0)
@@ -83,11 +83,11 @@ fn query_stock_tables<S: Alter>(
 /// each vehicle, and [`HeldThings::are_footprints`] both answer `true`, the database has the rows of a lawful world with at
 /// most this many places on each vehicle (`reading_laws`); where one answers `false`, it has those of none.
 ///
-/// It fails as [`ReadingFault`] says.
+/// It fails as [`OpenFault`] says.
 pub fn read_world<S: Alter>(
     alloc: Global,
     conn: &mut Connection<S>,
-) -> Result<(World, HeldThings), ReadingFault>
+) -> Result<(World, HeldThings), OpenFault>
     ensures { TellsAll S.Store conn.old conn.new result
         (λ world read. Keeps read.0 world × (read.1.table ≡ (rows_of world).holds))
         (λ lists read. HaveAll lists read.0 read.1.table) }

@@ -3,7 +3,7 @@ use Rattle.std.specs.Cmp.Lexicographic.{nat_list_cmp_total}
 use Rattle.std.specs.Option.{option_copied}
 use Rattle.sqlite.specs.Given.{Advances}
 use Rattle.agv_rows.specs.Columns.{load_columns, load_in}
-use Rattle.agv_row_reading.specs.declared.reading_fault.ReadingFault.TheVariants as fault
+use Rattle.agv_row_reading.specs.declared.open_fault.OpenFault.TheVariants as fault
 use Rattle.agv_schema.specs.declared.table_name.TableName.TheVariants as the
 use Rattle.agv_row_reading.proofs.AskingAll.{all_follows}
 use Rattle.agv_world_reading.proofs.RowsTaken.{IsTaken, fewer_left, not_begun, read_all, refused, taken_all, taken_more, taken_none, taking_failed, told_at}

@@ -6,7 +6,7 @@ use Rattle.agv_world.specs.Rows.{rows_of}
 use Rattle.agv_world.specs.declared.row.VehicleRow.{VehicleRow}
 use Rattle.agv_rows.specs.DecodedTrips.{vehicle_with}
 use Rattle.agv_row_reading.specs.ReadTables.{Reads, read_rows}
-use Rattle.agv_row_reading.specs.declared.reading_fault.ReadingFault.TheVariants as fault
+use Rattle.agv_row_reading.specs.declared.open_fault.OpenFault.TheVariants as fault
 use Rattle.agv_row_reading.proofs.AskingAll.{all_passes, all_then_follows, all_then_passes, if_err, passes_no_storage, reads_no_storage}
 use Rattle.agv_world_reading.proofs.CapacityTables.{none_left_over, vehicles_shown}
 use Rattle.agv_world_reading.proofs.TableAnswers.{reads_vehicles}

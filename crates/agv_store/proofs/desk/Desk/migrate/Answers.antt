@@ -42,13 +42,13 @@ returns-in-Ok-move_tables-clause-crash g c =
 pub returns-clause-damaged : goal.returns-clause-damaged
 returns-clause-damaged g c =
     none_added g.S.Store c.args.conn c.find_first_desk.new.conn c.move_tables.new.conn c.in-Ok.found.0 c.in-Ok.found.1 c.in-Ok.ensures
-    (c.is_autocommit-settled.ensures.settled (c.is_autocommit-settled.ensures.value ∙ ap not c.requires)) c.in-Err-move_tables.why c.from.result c.from.ensures
+    (c.is_autocommit-settled.ensures.settled (c.is_autocommit-settled.ensures.value ∙ ap not c.requires)) c.in-Err-move_tables.why c.of_making.result c.of_making.ensures
     c.in-Err-move_tables.ensures.taken c.in-Err-move_tables.ensures.refused
 
 pub returns-clause-caused : goal.returns-clause-caused
 returns-clause-caused g c clean is =
     inr (can_be_migrated g.S.Store c.args.conn c.find_first_desk.new.conn c.move_tables.new.conn c.in-Ok.found.0 c.in-Ok.found.1 c.in-Ok.ensures
-    (c.is_autocommit-settled.ensures.settled (c.is_autocommit-settled.ensures.value ∙ ap not c.requires)) c.move_tables.ensures.crash c.in-Err-move_tables.why c.from.result c.from.ensures
+    (c.is_autocommit-settled.ensures.settled (c.is_autocommit-settled.ensures.value ∙ ap not c.requires)) c.move_tables.ensures.crash c.in-Err-move_tables.why c.of_making.result c.of_making.ensures
     c.in-Err-move_tables.ensures.taken clean is)
 
 pub returns-clause-crash : goal.returns-clause-crash

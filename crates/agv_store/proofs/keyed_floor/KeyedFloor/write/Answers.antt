@@ -1,5 +1,4 @@
-use Rattle.std.proofs.Common.{ap, subst, sym, ◌∙◌}
-use Rattle.agv_store.specs.Flags.{doubted_by, failed_by, noted}
+use Rattle.std.proofs.Common.{subst, sym, ◌∙◌}
 use Rattle.agv_store.specs.Known.{Follows}
 use Rattle.agv_store.proofs.Writing.{crash_written, kept_refused, kept_written, serves_written}
 use Rattle.agv_store.proofs.keyed_floor.KeyedFloor.write.Goals as goal
@@ -8,11 +7,11 @@ pub invariant_of-self : goal.invariant_of-self
 invariant_of-self g c =
     kept_refused g.S.Store c.a_database_tells_its_world.ensures c.self.inside.conn c.write_changes-written.new.conn c.self.inside.known c.self.inside.failed c.self.inside.in_doubt c.self.invariant c.args.self.now c.self.view_is c.args.at c.args.call.now c.args.decision c.requires.knows c.requires.decides
     c.as_slice.result.now c.as_slice.ensures c.write_changes-written.result (record { made = c.write_changes-written.ensures.made; worlds = c.changes_make_the_next_world.ensures; all_committed = c.write_changes-written.ensures.all_committed; opened = c.write_changes-written.ensures.«open»; was_open = c.write_changes-written.ensures.was_open; undone = c.write_changes-written.ensures.undone; crash = c.write_changes-written.ensures.crash; idle = c.write_changes-written.ensures.idle })
-    c.in_err-note.field-0.0 (ap noted (sym c.read_as.ensures) ∙ sym c.note.ensures.is ∙ c.in_err-note.was) c.note.new.failed c.note.new.in_doubt
-    (c.note.ensures.failed ∙ ap (λ q. failed_by q c.self.inside.failed) c.read_as.ensures) (c.note.ensures.in_doubt ∙ ap (λ q. doubted_by q c.self.inside.in_doubt) c.read_as.ensures)
+    c.in_err-raise.field-0.0 (sym c.raise.ensures.is ∙ c.in_err-raise.was) c.raise.new.failed c.raise.new.in_doubt
+    c.raise.ensures.failed c.raise.ensures.in_doubt
 
-pub returns-in_err-note-clause-crash : goal.returns-in_err-note-clause-crash
-returns-in_err-note-clause-crash g c =
+pub returns-in_err-raise-clause-crash : goal.returns-in_err-raise-clause-crash
+returns-in_err-raise-clause-crash g c =
     crash_written g.S.Store c.a_database_tells_its_world.ensures c.self.inside.conn c.write_changes-written.new.conn c.self.inside.known c.self.inside.failed c.self.inside.in_doubt c.self.invariant c.args.self.now c.self.view_is c.args.at c.args.call.now c.args.decision c.requires.knows c.requires.decides
     c.as_slice.result.now c.as_slice.ensures c.write_changes-written.result (record { made = c.write_changes-written.ensures.made; worlds = c.changes_make_the_next_world.ensures; all_committed = c.write_changes-written.ensures.all_committed; opened = c.write_changes-written.ensures.«open»; was_open = c.write_changes-written.ensures.was_open; undone = c.write_changes-written.ensures.undone; crash = c.write_changes-written.ensures.crash; idle = c.write_changes-written.ensures.idle })
 
@@ -21,14 +20,14 @@ invariant_of-self-2 g c =
     kept_written g.S.Store c.a_database_tells_its_world.ensures c.self.inside.conn c.write_changes-written.new.conn c.self.inside.known c.self.inside.failed c.self.inside.in_doubt c.self.invariant c.args.self.now c.self.view_is c.args.at c.args.call.now c.args.decision c.requires.knows c.requires.decides
     c.as_slice.result.now c.as_slice.ensures c.write_changes-written.result (record { made = c.write_changes-written.ensures.made; worlds = c.changes_make_the_next_world.ensures; all_committed = c.write_changes-written.ensures.all_committed; opened = c.write_changes-written.ensures.«open»; was_open = c.write_changes-written.ensures.was_open; undone = c.write_changes-written.ensures.undone; crash = c.write_changes-written.ensures.crash; idle = c.write_changes-written.ensures.idle })
     c.counts_follow.ensures c.adds_below_the_limit.ensures c.follow.new.self c.counted_by-more.result c.counted_by-more.ensures
-    (subst (λ cs. Follows c.counted_by-more.result cs c.self.inside.known c.follow.new.self) (c.as_slice-2.ensures ∙ sym c.as_slice.ensures) c.follow.ensures) c.note.new.failed c.note.new.in_doubt
-    (ap noted (sym c.read_as.ensures) ∙ sym c.note.ensures.is ∙ c.in_ok-note.was)
+    (subst (λ cs. Follows c.counted_by-more.result cs c.self.inside.known c.follow.new.self) (c.as_slice-2.ensures ∙ sym c.as_slice.ensures) c.follow.ensures) c.raise.new.failed c.raise.new.in_doubt
+    (sym c.raise.ensures.is ∙ c.in_ok-raise.was)
 
 pub returns-clause-serves : goal.returns-clause-serves
 returns-clause-serves g c =
     serves_written g.S.Store c.a_database_tells_its_world.ensures c.self.inside.conn c.write_changes-written.new.conn c.self.inside.known c.self.inside.failed c.self.inside.in_doubt c.self.invariant c.args.self.now c.self.view_is c.args.at c.args.call.now c.args.decision c.requires.knows c.requires.decides
     c.as_slice.result.now c.as_slice.ensures c.write_changes-written.result (record { made = c.write_changes-written.ensures.made; worlds = c.changes_make_the_next_world.ensures; all_committed = c.write_changes-written.ensures.all_committed; opened = c.write_changes-written.ensures.«open»; was_open = c.write_changes-written.ensures.was_open; undone = c.write_changes-written.ensures.undone; crash = c.write_changes-written.ensures.crash; idle = c.write_changes-written.ensures.idle })
-    (ap noted (sym c.read_as.ensures) ∙ sym c.note.ensures.is ∙ c.in_ok-note.was)
+    (sym c.raise.ensures.is ∙ c.in_ok-raise.was)
 
 pub returns-clause-crash : goal.returns-clause-crash
 returns-clause-crash g c =
