@@ -10,15 +10,14 @@ use Rattle.sqlite_trees.proofs.ListLemmas.{all-append, all_weaker, filter_all, f
 use Rattle.sqlite_value.specs.declared.value.Value.TheVariants.{Text}
 use Rattle.sqlite_value.specs.Order.{Row, column}
 use Rattle.agv_order.specs.declared.act.Act.{Act}
+use Rattle.agv_trip_rows.specs.ActKeys.{act_cmp, act_cmp-IsAntisymmetric, act_cmp-total}
 use Rattle.agv_trip_rows.specs.TripRows.{act_key, act_row, act_rows_from}
+use Rattle.agv_trip_rows.specs.declared.act_key.ActKey.{ActKey}
 use Rattle.agv_trip_rows.specs.declared.act_row.ActRow.{ActRow}
-use Rattle.agv_world.specs.KeyOrders.{leg_cmp-IsAntisymmetric, leg_cmp-total}
-use Rattle.agv_world.specs.Keys.{leg_cmp}
-use Rattle.agv_world.specs.declared.key.LegKey.{LegKey}
 use Rattle.agv_changes.specs.ActRows.{AreOfOrder, acts_listed}
 use Rattle.agv_rows.specs.Columns.{act_columns}
 use Rattle.agv_schema.specs.DeskRows.{Placing, Answers, Holds, IsDesk, Makes, has_columns, has_key, is_equal, on_table, place_of, table_at, table_for, with_rows}
-use Rattle.agv_rows.specs.RowKeys.{leg_key, name_key}
+use Rattle.agv_rows.specs.RowKeys.{act_row_key, name_key}
 use Rattle.agv_rows.specs.RowLists.{AreAlike, rows_of_acts, without_acts}
 use Rattle.agv_schema.specs.RowTexts.{columns_deleted}
 use Rattle.agv_statements.specs.RowUpdates.{with_each}
@@ -54,20 +53,20 @@ over-later p new row rows lacks = rw lacks (IsPermutation-middle (map (λ (_ : R
 -- ---- the keys of the acts of an order
 
 abbrev has_number : List ℕ → ℕ → Row → Bool
-has_number order k = has_key the.Act (leg_key (act_key order k))
+has_number order k = has_key the.Act (act_row_key (act_key order k))
 
 abbrev row_of_act : List ℕ → ℕ → Act → Row
 row_of_act order k act = act_columns (act_key order k) (act_row act)
 
 its_own : (order : List ℕ) (k : ℕ) (told : ActRow) → has_number order k (act_columns (act_key order k) told) ≡ true
-its_own order k told = act_tested (act_key order k) (act_key order k) told ∙ ap is_eq (tied_itself leg_cmp-total (act_key order k))
+its_own order k told = act_tested (act_key order k) (act_key order k) told ∙ ap is_eq (tied_itself act_cmp-total (act_key order k))
 
 not_another's : (order : List ℕ) (k n : ℕ) (told : ActRow) → ¬ (k ≡ n) → has_number order k (act_columns (act_key order n) told) ≡ false
 not_another's order k n told apart = elim (cases_Bool (has_number order k (act_columns (act_key order n) told))) [
   | inl has ↦
       let tied = sym (act_tested (act_key order k) (act_key order n) told) ∙ has in
-      let same : act_key order k ≡ act_key order n = leg_cmp-IsAntisymmetric (act_key order k) (act_key order n) ((Equal-is (leg_cmp (act_key order k) (act_key order n))).0 tied) in
-      absurd (apart (ap (λ (key : LegKey). key.k) same))
+      let same : act_key order k ≡ act_key order n = act_cmp-IsAntisymmetric (act_key order k) (act_key order n) ((Equal-is (act_cmp (act_key order k) (act_key order n))).0 tied) in
+      absurd (apart (ap (λ (key : ActKey). key.n) same))
   | inr lacks ↦ lacks
 ]
 
@@ -85,7 +84,7 @@ others_lack order k (row ∷ rows) = elim (cases_Bool (has_columns (columns_dele
   | inl its ↦ rw its (others_lack order k rows)
   | inr other ↦
       let differs : is_equal (column row 0) (Text order) ≡ false = sym (and_true _) ∙ other in
-      rw other (ap (λ b. b && has_columns (2 ∷ []) (leg_key (act_key order k)) row) differs, others_lack order k rows)
+      rw other (ap (λ b. b && has_columns (2 ∷ []) (act_row_key (act_key order k)) row) differs, others_lack order k rows)
 ]
 
 -- ---- so many acts are written

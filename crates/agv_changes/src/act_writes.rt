@@ -24,8 +24,7 @@ use agv_statements::row_finds::find_rows_by_inside;
 use agv_statements::row_updates::update_row;
 use agv_statements::row_writes::{delete_row, insert_row};
 use agv_statements::updated_table::UpdatedTable;
-use agv_trip_rows::ActRow;
-use agv_world::LegKey;
+use agv_trip_rows::{ActKey, ActRow};
 use sqlite::{Alter, Error, Row, Transaction};
 
 /// The order has no acts.
@@ -75,11 +74,11 @@ fn add_act<S: Alter>(
 }
 
 // The key of the order's act of this number. One above 4294967295 has no row.
-fn act_key(order: &Name, n: usize) -> Result<LegKey, Error>
+fn act_key(order: &Name, n: usize) -> Result<ActKey, Error>
     ensures { IfOk result (λ key. key ≡ act_key order.now n) }
 {
     match u32::try_from(n) {
-        Ok(k) => Ok(LegKey { order: *order, k }),
+        Ok(n) => Ok(ActKey { order: *order, n }),
         Err(_) => Err(Error::IntegralValueOutOfRange(1)),
     }
 }

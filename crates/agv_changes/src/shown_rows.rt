@@ -79,7 +79,7 @@ fn told_act(row: &Row, order: &Name, n: usize) -> Option<ActRow>
 {
     a_row_told_writes_its_columns();
     let (key, told) = decode_act(row)?;
-    if key.order == *order && key.k as usize == n {
+    if key.order == *order && key.n as usize == n {
         Some(told)
     } else {
         None

@@ -11,12 +11,12 @@ use Rattle.agv_header.specs.Key.{key_cmp}
 use Rattle.agv_header.specs.Name.{name_cmp}
 use Rattle.agv_header.specs.declared.key.VehicleKey.{VehicleKey}
 use Rattle.agv_trip_rows.specs.TripRows.{act_rows, acts_of, journey_of, journeys_of}
+use Rattle.agv_trip_rows.specs.declared.act_key.ActKey.{ActKey}
 use Rattle.agv_trip_rows.specs.declared.act_row.ActRow.{ActRow}
 use Rattle.agv_trip_rows.specs.declared.journey_row.JourneyRow.{JourneyRow}
 use Rattle.agv_world.specs.Kept.{Keeps}
 use Rattle.agv_world.specs.Rows.{rows_of}
 use Rattle.agv_world.specs.Worlds.{World}
-use Rattle.agv_world.specs.declared.key.LegKey.{LegKey}
 use Rattle.agv_world.specs.declared.row.TripRow.{TripRow}
 use Rattle.agv_world.specs.declared.row.VehicleRow.{VehicleRow}
 use Rattle.agv_world.specs.declared.world.World.{World as Tables}
@@ -94,7 +94,7 @@ journeys_are listed trips =
 
 acts_are : ActsListed → (trips : finite.FinMap name_cmp TripRow) → flat_map acts (finite.entries trips) ≡ rows_in act_columns (acts_of trips)
 acts_are listed trips =
-    sym (ap (map (λ (e : LegKey × ActRow). act_columns e.0 e.1)) (listed trips) ∙ map_parts (λ (e : LegKey × ActRow). act_columns e.0 e.1) (λ (e : List ℕ × TripRow). act_rows e.0 e.1) (finite.entries trips))
+    sym (ap (map (λ (e : ActKey × ActRow). act_columns e.0 e.1)) (listed trips) ∙ map_parts (λ (e : ActKey × ActRow). act_columns e.0 e.1) (λ (e : List ℕ × TripRow). act_rows e.0 e.1) (finite.entries trips))
 
 number_is : (world : World) → rows_in meta_columns (rows_of world).meta ≡ meta_columns 1 schema_number ∷ []
 number_is world = rw (finite.entries-insert nat_cmp_total (finite.empty {K = ℕ} {X = ℕ} {R = nat_cmp}) 1 schema_number, no_entries {K = ℕ} {X = ℕ} nat_cmp)

@@ -13,12 +13,12 @@ use Rattle.agv_order.specs.declared.act.Act.{Act}
 use Rattle.agv_trip_rows.specs.RowValues.{IsActKey, IsActValue, IsJourneyValue}
 use Rattle.agv_trip_rows.specs.TripRows as rows_of_trips
 use Rattle.agv_trip_rows.specs.TripRows.{act_row, journey_of, journeys_of}
+use Rattle.agv_trip_rows.specs.declared.act_key.ActKey.{ActKey}
 use Rattle.agv_trip_rows.specs.declared.act_row.ActRow.{ActRow}
 use Rattle.agv_trip_rows.specs.declared.journey_row.JourneyRow.{JourneyRow}
 use Rattle.agv_world.specs.Lawful.{IsKey, IsLawful}
 use Rattle.agv_world.specs.Rows.{Rows, rows_of}
 use Rattle.agv_world.specs.Worlds.{World}
-use Rattle.agv_world.specs.declared.key.LegKey.{LegKey}
 use Rattle.agv_world.specs.declared.row.JobRow.{JobRow}
 use Rattle.agv_world.specs.declared.row.TripRow.{TripRow}
 use Rattle.agv_rows.specs.ValueEncodings.{if_some}
@@ -175,14 +175,14 @@ JourneysHaveValues =
     (seats : ℕ) (world : World) → IsLawful seats world → (order : List ℕ) (row : JourneyRow) → finite.get (journeys_of (rows_of world).trips) order ≡ Some row → IsName order × IsJourneyValue row
 
 abbrev pub ActsHaveValues : Type 0
-ActsHaveValues = (seats : ℕ) (world : World) → IsLawful seats world → (key : LegKey) (row : ActRow) → finite.get (rows_of_trips.acts_of (rows_of world).trips) key ≡ Some row → IsActKey key × IsActValue row
+ActsHaveValues = (seats : ℕ) (world : World) → IsLawful seats world → (key : ActKey) (row : ActRow) → finite.get (rows_of_trips.acts_of (rows_of world).trips) key ≡ Some row → IsActKey key × IsActValue row
 
 abbrev pub JourneysAreOfTrips : Type 0
 JourneysAreOfTrips = (trips : finite.FinMap name_cmp TripRow) (order : List ℕ) → finite.get (journeys_of trips) order ≡ option_map journey_of (finite.get trips order)
 
 abbrev pub ActsAreOfTrips : Type 0
 ActsAreOfTrips =
-    (trips : finite.FinMap name_cmp TripRow) (key : LegKey) → finite.get (rows_of_trips.acts_of trips) key ≡ option_and_then (λ trip. option_map act_row (slice_get trip.acts key.k)) (finite.get trips key.order)
+    (trips : finite.FinMap name_cmp TripRow) (key : ActKey) → finite.get (rows_of_trips.acts_of trips) key ≡ option_and_then (λ trip. option_map act_row (slice_get trip.acts key.n)) (finite.get trips key.order)
 
 pub values_by : JourneysHaveValues → ActsHaveValues → JourneysAreOfTrips → ActsAreOfTrips → (world : World) → IsLawful 1 world → HaveValues (rows_of world).trips
 values_by journeys acts journeys_of_trips acts_of_trips world lawful =
@@ -190,7 +190,7 @@ values_by journeys acts journeys_of_trips acts_of_trips world lawful =
     record {
       journeys = λ order trip at. journeys 1 world lawful order (journey_of trip) (journeys_of_trips trips order ∙ ap (option_map journey_of) at);
       acts = λ order trip k act at is.
-          let key : LegKey = record { order = order; k = k } in
+          let key : ActKey = record { order = order; n = k } in
           (acts 1 world lawful key (act_row act)
           (acts_of_trips trips key ∙ ap (option_and_then (λ (t : TripRow). option_map act_row (slice_get t.acts k))) at ∙ ap (option_map act_row) is)).1;
     }

@@ -12,7 +12,9 @@ use Rattle.agv_header.specs.KeyOrder.{key_cmp-total, key_cmp-IsAntisymmetric}
 use Rattle.agv_header.specs.ThingOrder.{thing_cmp-total, thing_cmp-IsAntisymmetric}
 use Rattle.agv_header.specs.declared.key.Thing.{Thing}
 use Rattle.agv_header.specs.declared.key.VehicleKey.{VehicleKey}
+use Rattle.agv_trip_rows.specs.ActKeys.{act_cmp-total, act_cmp-IsAntisymmetric}
 use Rattle.agv_trip_rows.specs.TripRows.{acts_of, journeys_of}
+use Rattle.agv_trip_rows.specs.declared.act_key.ActKey.{ActKey}
 use Rattle.agv_world.specs.KeyOrders.{leg_cmp-total, leg_cmp-IsAntisymmetric, use_cmp-total, use_cmp-IsAntisymmetric}
 use Rattle.agv_world.specs.Rows.{Rows}
 use Rattle.agv_world.specs.declared.key.LegKey.{LegKey}
@@ -20,7 +22,7 @@ use Rattle.agv_world.specs.declared.key.UseKey.{UseKey}
 use Rattle.agv_rows.specs.ValueEncodings.{number_cell}
 use Rattle.agv_rows.specs.Columns.{meta_columns, node_columns, edge_columns, station_columns, vehicle_columns, vehicle_capacity_columns, journey_columns, act_columns, leg_columns, load_columns, job_columns, hold_columns, used_columns}
 use Rattle.agv_schema.specs.DeskRows.{has_key, rows_of_key, table_at}
-use Rattle.agv_rows.specs.RowKeys.{name_key, vehicle_key, leg_key, hold_key}
+use Rattle.agv_rows.specs.RowKeys.{name_key, vehicle_key, act_row_key, leg_key, hold_key}
 use Rattle.agv_rows.specs.RowLists.{ShowAll, TellRows, marked, row_if, row_lists, rows_for, rows_in}
 use Rattle.agv_schema.specs.declared.table_name.TableName.TheVariants as the
 use Rattle.agv_rows.proofs.KeyedRows.{rows-shown, one_row, row-found, rows_at}
@@ -88,9 +90,9 @@ module _ (lists : List (List Row)) (rows : Rows) (told : TellRows lists rows) wh
   journey_shown order =
       shown nat_list_cmp_total names_apart journey_columns (λ k. has_key the.Journey (name_key k)) journey_tested (journeys_of rows.trips) (table_at 12 lists) order (alike_at 12 lists (row_lists rows) told)
 
-  pub act_shown : (key : LegKey) → rows_of_key the.Act (leg_key key) lists ≡ row_if (act_columns key) (get (acts_of rows.trips) key)
+  pub act_shown : (key : ActKey) → rows_of_key the.Act (act_row_key key) lists ≡ row_if (act_columns key) (get (acts_of rows.trips) key)
   unfolding row_lists
-  act_shown key = shown leg_cmp-total leg_cmp-IsAntisymmetric act_columns (λ k. has_key the.Act (leg_key k)) act_tested (acts_of rows.trips) (table_at 13 lists) key (alike_at 13 lists (row_lists rows) told)
+  act_shown key = shown act_cmp-total act_cmp-IsAntisymmetric act_columns (λ k. has_key the.Act (act_row_key k)) act_tested (acts_of rows.trips) (table_at 13 lists) key (alike_at 13 lists (row_lists rows) told)
 
   pub leg_shown : (key : LegKey) → rows_of_key the.Leg (leg_key key) lists ≡ row_if (leg_columns key) (get rows.legs key)
   unfolding row_lists

@@ -15,8 +15,10 @@ use Rattle.agv_layout.specs.Layout.{Layout}
 use Rattle.agv_layout.specs.declared.edge.Edge.{Edge}
 use Rattle.agv_layout.specs.declared.edge.EdgeEnds.{EdgeEnds}
 use Rattle.agv_order.specs.declared.act.Act.{Act}
+use Rattle.agv_trip_rows.specs.ActKeys.{act_cmp, act_cmp-IsAntisymmetric, act_cmp-total}
 use Rattle.agv_trip_rows.specs.TripRows.{acts_of, is_of, journeys_of}
 use Rattle.agv_trip_rows.specs.TripsTold.{act_told, acts_told, trip_told}
+use Rattle.agv_trip_rows.specs.declared.act_key.ActKey.{ActKey}
 use Rattle.agv_trip_rows.specs.declared.act_row.ActRow.{ActRow}
 use Rattle.agv_trip_rows.specs.declared.journey_row.JourneyRow.{JourneyRow}
 use Rattle.agv_world.specs.ConsistentTrips.{HasConsistentTrips}
@@ -38,7 +40,7 @@ use Rattle.agv_rows.specs.RowLists.{TellRows, row_if, row_lists, rows_of_acts}
 use Rattle.agv_statements.specs.RowQueries.{rows_asked}
 use Rattle.agv_schema.specs.SchemaNumbers.{desk_seats}
 use Rattle.agv_rows.specs.DecodedTrips.{is_driven_by, journey_for, tables_of, told_by_journey, trip_told_by}
-use Rattle.agv_rows.specs.TypedRows.{IsActRow, IsJourneyRow, IsLegKey}
+use Rattle.agv_rows.specs.TypedRows.{IsActRow, IsActRowKey, IsJourneyRow}
 use Rattle.agv_row_reading.specs.declared.open_fault.OpenFault.{OpenFault}
 use Rattle.agv_schema.specs.declared.rows_by.RowsBy.TheVariants as by
 use Rattle.agv_row_reading.proofs.Asking.{Follows}
@@ -121,19 +123,19 @@ acts_for world order = acts_told (rows_of world).jobs 0 (filter (is_of order) (f
 
 -- each act has its values
 abbrev pub ActsAreTyped : World → Type 0
-ActsAreTyped world = (key : LegKey) (act : ActRow) → finite.get (acts_of (rows_of world).trips) key ≡ Some act → IsLegKey key × IsActRow act
+ActsAreTyped world = (key : ActKey) (act : ActRow) → finite.get (acts_of (rows_of world).trips) key ≡ Some act → IsActRowKey key × IsActRow act
 
 -- what is left tells more acts, which follow those so far
-pub record Told (jobs : finite.FinMap name_cmp JobRow) (acts : List Act) (rest : List (LegKey × ActRow)) (all : Option (List Act)) : Type 0 where
+pub record Told (jobs : finite.FinMap name_cmp JobRow) (acts : List Act) (rest : List (ActKey × ActRow)) (all : Option (List Act)) : Type 0 where
   pub more : List Act
   pub told : acts_told jobs (length acts) rest ≡ Some more
   pub are : all ≡ Some (acts ++ more)
 
-abbrev pub GoesActs : List Act → List (LegKey × ActRow) → List ℕ → World → Unit {0} → Type 0
+abbrev pub GoesActs : List Act → List (ActKey × ActRow) → List ℕ → World → Unit {0} → Type 0
 GoesActs acts rest order world nothing = Told (rows_of world).jobs acts rest (acts_for world order)
 
 module _ (world : World) (typed : ActsAreTyped world) (order : List ℕ) where
-  abbrev acts_there : finite.FinMap leg_cmp ActRow
+  abbrev acts_there : finite.FinMap act_cmp ActRow
   acts_there = passing (is_of order) (acts_of (rows_of world).trips)
 
   module _ (values : Row) (is : values ≡ name_key order) (rows : List Row) (shown : IsPermutation (rows_asked by.OrderActs values (row_lists (rows_of world))) rows) where
@@ -141,17 +143,17 @@ module _ (world : World) (typed : ActsAreTyped world) (order : List ℕ) where
     given_acts =
         let lists = row_lists (rows_of world) in
         let perm = again ((shown_asked lists (rows_of world) (alike_itself lists)).acts order) (subst (λ v. IsPermutation (rows_asked by.OrderActs v lists) rows) is shown) in
-        reads_all leg_cmp-total leg_cmp-IsAntisymmetric acts_there act_columns act_in
-        (λ key act at. let its = typed key act (get-passing leg_cmp-total leg_cmp-IsAntisymmetric (is_of order) (acts_of (rows_of world).trips) key act at) in act_kept key act its.0 its.1) rows
+        reads_all act_cmp-total act_cmp-IsAntisymmetric acts_there act_columns act_in
+        (λ key act at. let its = typed key act (get-passing act_cmp-total act_cmp-IsAntisymmetric (is_of order) (acts_of (rows_of world).trips) key act at) in act_kept key act its.0 its.1) rows
         (subst (λ es. IsPermutation (rows_of_acts es) rows) (sym (entries-passing (is_of order) (acts_of (rows_of world).trips))) perm)
 
     -- the reading of these rows fails for want of memory alone
-    pub acts_fail : {B : Type 0} (f : OpenFault) → Reads {A = finite.FinMap leg_cmp ActRow} (Err f) (read_rows act_in finite.empty rows) → (r : Result B OpenFault) → IsErrAnd r (λ why. why ≡ f) → (says : B → Type 0) → Follows r says
+    pub acts_fail : {B : Type 0} (f : OpenFault) → Reads {A = finite.FinMap act_cmp ActRow} (Err f) (read_rows act_in finite.empty rows) → (r : Result B OpenFault) → IsErrAnd r (λ why. why ≡ f) → (says : B → Type 0) → Follows r says
     acts_fail f read r fails says = reads_fails acts_there f (read_rows act_in finite.empty rows) read given_acts r fails says
 
     -- and with the table the acts begin
-    pub acts_begin : (those : List Act) → acts_for world order ≡ Some those → (table : finite.FinMap leg_cmp ActRow) → Reads {A = finite.FinMap leg_cmp ActRow} (Ok table) (read_rows act_in finite.empty rows)
-        → (acts : List Act) (rest : List (LegKey × ActRow)) → acts ≡ [] → rest ≡ finite.entries table → GoesActs acts rest order world tt
+    pub acts_begin : (those : List Act) → acts_for world order ≡ Some those → (table : finite.FinMap act_cmp ActRow) → Reads {A = finite.FinMap act_cmp ActRow} (Ok table) (read_rows act_in finite.empty rows)
+        → (acts : List Act) (rest : List (ActKey × ActRow)) → acts ≡ [] → rest ≡ finite.entries table → GoesActs acts rest order world tt
     acts_begin those known table read acts rest none all =
         let same : table ≡ acts_there = same_Some table acts_there (sym read ∙ given_acts) in
         let listed_there : rest ≡ filter (is_of order) (finite.entries (acts_of (rows_of world).trips)) = all ∙ ap finite.entries same ∙ entries-passing (is_of order) (acts_of (rows_of world).trips) in
@@ -164,31 +166,31 @@ module _ (world : World) (typed : ActsAreTyped world) (order : List ℕ) where
 -- ---- one act after the other
 
 -- the act of a row: its number and its job are known, and the others follow
-record Next (jobs : finite.FinMap name_cmp JobRow) (n : ℕ) (row : LegKey × ActRow) (rows : List (LegKey × ActRow)) (all : List Act) : Type 0 where
-  number : nat_eq row.0.k n ≡ true
+record Next (jobs : finite.FinMap name_cmp JobRow) (n : ℕ) (row : ActKey × ActRow) (rows : List (ActKey × ActRow)) (all : List Act) : Type 0 where
+  number : nat_eq row.0.n n ≡ true
   job : JobRow
   known : finite.get jobs row.1.job ≡ Some job
   more : List Act
   told : acts_told jobs (n + 1) rows ≡ Some more
   are : all ≡ act_told row.1 job ∷ more
 
-next_of : (jobs : finite.FinMap name_cmp JobRow) (n : ℕ) (row : LegKey × ActRow) (rows : List (LegKey × ActRow)) (all : List Act) → acts_told jobs n (row ∷ rows) ≡ Some all → Next jobs n row rows all
-next_of jobs n row rows all is = at (nat_eq row.0.k n) refl (finite.get jobs row.1.job) refl (acts_told jobs (n + 1) rows) refl is
+next_of : (jobs : finite.FinMap name_cmp JobRow) (n : ℕ) (row : ActKey × ActRow) (rows : List (ActKey × ActRow)) (all : List Act) → acts_told jobs n (row ∷ rows) ≡ Some all → Next jobs n row rows all
+next_of jobs n row rows all is = at (nat_eq row.0.n n) refl (finite.get jobs row.1.job) refl (acts_told jobs (n + 1) rows) refl is
   where
-    at : (b : Bool) → nat_eq row.0.k n ≡ b → (o : Option JobRow) → finite.get jobs row.1.job ≡ o → (t : Option (List Act)) → acts_told jobs (n + 1) rows ≡ t
+    at : (b : Bool) → nat_eq row.0.n n ≡ b → (o : Option JobRow) → finite.get jobs row.1.job ≡ o → (t : Option (List Act)) → acts_told jobs (n + 1) rows ≡ t
         → cond b (option_and_then (λ (job : JobRow). option_map (λ (acts : List Act). act_told row.1 job ∷ acts) t) o) None ≡ Some all → Next jobs n row rows all
     at true number (Some job) known (Some more) told same = record { number = number; job = job; known = known; more = more; told = told; are = sym (same_Some _ _ same) }
     at true number (Some job) known None told same = absurd (cc same)
     at true number None known t told same = absurd (cc same)
     at false number o known t told same = absurd (cc same)
 
-module _ (world : World) (order : List ℕ) (acts : List Act) (rest : List (LegKey × ActRow)) (row : LegKey × ActRow) (rows : List (LegKey × ActRow)) (goes : GoesActs acts rest order world tt) (next : rest ≡ row ∷ rows) where
+module _ (world : World) (order : List ℕ) (acts : List Act) (rest : List (ActKey × ActRow)) (row : ActKey × ActRow) (rows : List (ActKey × ActRow)) (goes : GoesActs acts rest order world tt) (next : rest ≡ row ∷ rows) where
   next_act : Next (rows_of world).jobs (length acts) row rows goes.more
   next_act = next_of (rows_of world).jobs (length acts) row rows goes.more (ap (acts_told (rows_of world).jobs (length acts)) (sym next) ∙ goes.told)
 
   -- its number is that of the acts so far
-  pub act_numbered : row.0.k ≡ length acts
-  act_numbered = eqb-true row.0.k (length acts) next_act.number
+  pub act_numbered : row.0.n ≡ length acts
+  act_numbered = eqb-true row.0.n (length acts) next_act.number
 
   -- its job is known
   pub act_known : ¬ (None ≡ finite.get world.jobs row.1.job)
@@ -210,7 +212,7 @@ module _ (world : World) (order : List ℕ) (acts : List Act) (rest : List (LegK
       }
 
 -- they are at their end
-pub acts_end : (world : World) (order : List ℕ) (acts : List Act) (rest : List (LegKey × ActRow)) → GoesActs acts rest order world tt → rest ≡ [] → (all : List Act) → all ≡ acts → acts_for world order ≡ Some all
+pub acts_end : (world : World) (order : List ℕ) (acts : List Act) (rest : List (ActKey × ActRow)) → GoesActs acts rest order world tt → rest ≡ [] → (all : List Act) → all ≡ acts → acts_for world order ≡ Some all
 acts_end world order acts rest goes none all are =
     let no_more : goes.more ≡ [] = same_Some _ _ (sym goes.told ∙ ap (acts_told (rows_of world).jobs (length acts)) none) in
     goes.are ∙ ap (λ (l : List Act). Some (acts ++ l)) no_more ∙ ap Some (append-nil acts ∙ sym are)

@@ -12,9 +12,10 @@ ghost use Rattle.agv_queries.specs.QueriedRows.{ShowAsked};
 ghost use Rattle.agv_rows.specs.ValueEncodings.{number_cell};
 ghost use Rattle.agv_rows.specs.Columns.{meta_columns, node_columns, edge_columns, station_columns, vehicle_columns, vehicle_capacity_columns, journey_columns, act_columns, leg_columns, load_columns, job_columns, hold_columns, used_columns};
 ghost use Rattle.agv_schema.specs.DeskRows.{rows_of_key};
-ghost use Rattle.agv_rows.specs.RowKeys.{name_key, vehicle_key, leg_key, hold_key};
+ghost use Rattle.agv_rows.specs.RowKeys.{name_key, vehicle_key, act_row_key, leg_key, hold_key};
 ghost use Rattle.agv_rows.specs.RowLists.{ShowAll, TellRows, row_if};
 ghost use Rattle.agv_trip_rows.specs.TripRows.{acts_of, journeys_of};
+ghost use Rattle.agv_trip_rows.specs.declared.act_key.ActKey.{ActKey};
 ghost use Rattle.agv_schema.specs.declared.table_name.TableName.TheVariants as the;
 
 /// In lists that tell the rows of a world, the rows of a key are the one that the world has at the key, or none.
@@ -33,8 +34,8 @@ pub fn a_key_shows_its_row()
         → rows_of_key the.Capacity (vehicle_key key) lists ≡ row_if (vehicle_capacity_columns key) (finite.get rows.vehicles key) }
     ensures journey { (lists : List (List Row)) (rows : Rows) → TellRows lists rows → (order : List ℕ)
         → rows_of_key the.Journey (name_key order) lists ≡ row_if (journey_columns order) (finite.get (journeys_of rows.trips) order) }
-    ensures act { (lists : List (List Row)) (rows : Rows) → TellRows lists rows → (key : LegKey)
-        → rows_of_key the.Act (leg_key key) lists ≡ row_if (act_columns key) (finite.get (acts_of rows.trips) key) }
+    ensures act { (lists : List (List Row)) (rows : Rows) → TellRows lists rows → (key : ActKey)
+        → rows_of_key the.Act (act_row_key key) lists ≡ row_if (act_columns key) (finite.get (acts_of rows.trips) key) }
     ensures leg { (lists : List (List Row)) (rows : Rows) → TellRows lists rows → (key : LegKey)
         → rows_of_key the.Leg (leg_key key) lists ≡ row_if (leg_columns key) (finite.get rows.legs key) }
     ensures load { (lists : List (List Row)) (rows : Rows) → TellRows lists rows → (id : List ℕ)

@@ -128,7 +128,7 @@ fn query_acts<S: Alter>(
     let table = acts_in_rows(alloc, rows.as_slice())?;
     let mut acts = Vec::new(alloc);
     for (key, act) in table.iter() {
-        if key.k as usize != acts.len() {
+        if key.n as usize != acts.len() {
             return Err(OpenFault::Damaged);
         }
         let job = query_job(conn, &act.job)?;

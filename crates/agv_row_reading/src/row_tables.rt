@@ -18,7 +18,7 @@ use agv_rows::decode_row::{
     decode_node, decode_station, decode_used, decode_vehicle,
 };
 use agv_stock::Place;
-use agv_trip_rows::{ByAct, JourneyRow};
+use agv_trip_rows::{ActKey, ByAct, JourneyRow};
 use agv_world::{ByLeg, ByName, ByVehicle, JobRow, LegKey, Names, UseKey, UsedNames, VehicleRow};
 use sqlite::Row;
 use std::alloc::Global;
@@ -184,7 +184,7 @@ pub fn acts_in_rows(alloc: Global, rows: &[Row]) -> Result<ByAct, OpenFault>
 }
 
 // Whether the table has a row of this key.
-fn has_act(table: &ByAct, key: &LegKey) -> bool
+fn has_act(table: &ByAct, key: &ActKey) -> bool
     ensures { result ≡ is_some (map.get table.now key.now) }
 {
     table.get(*key).is_some()

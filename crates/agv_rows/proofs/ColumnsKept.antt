@@ -12,6 +12,7 @@ use Rattle.agv_message.specs.Instant.{instant_name}
 use Rattle.agv_message.specs.declared.instant.InstantKind.{InstantKind}
 use Rattle.agv_stock.specs.declared.place.Place.{Place}
 use Rattle.agv_stock.specs.declared.place.Place.TheVariants as place
+use Rattle.agv_trip_rows.specs.declared.act_key.ActKey.{ActKey}
 use Rattle.agv_trip_rows.specs.declared.act_row.ActRow.{ActRow}
 use Rattle.agv_trip_rows.specs.declared.journey_row.JourneyRow.{JourneyRow}
 use Rattle.agv_world.specs.Lawful.{IsKey}
@@ -22,7 +23,7 @@ use Rattle.agv_world.specs.declared.row.Sent.{Sent}
 use Rattle.agv_world.specs.declared.row.VehicleRow.{VehicleRow}
 use Rattle.agv_rows.specs.ValueEncodings.{name_in, number_cell, number_in, instant_in, maybe_in, place_kind_in, thing_kind_in}
 use Rattle.agv_rows.specs.Columns.{meta_columns, meta_in, edge_columns, edge_in, station_columns, station_in, key_in, rest_in, sent_in, vehicle_columns, vehicle_in, capacity_columns, capacity_in, journey_columns, journey_in, act_columns, act_in, leg_columns, leg_in, load_columns, load_in, job_columns, job_in, hold_columns, hold_in, used_columns, used_in}
-use Rattle.agv_rows.specs.TypedRows.{IsNumber, AreEnds, IsStationSite, IsSending, IsVehicleRow, IsJourneyRow, IsActRow, IsLegKey, IsPlace, IsJobRow, IsThing}
+use Rattle.agv_rows.specs.TypedRows.{IsNumber, AreEnds, IsStationSite, IsSending, IsVehicleRow, IsJourneyRow, IsActRow, IsActRowKey, IsLegKey, IsPlace, IsJobRow, IsThing}
 use Rattle.agv_rows.specs.declared.capacity_row.CapacityRow.{CapacityRow}
 use Rattle.agv_rows.specs.declared.words.PlaceKind.TheVariants as kind
 use Rattle.agv_rows.specs.declared.words.ThingKind.TheVariants as held
@@ -105,10 +106,10 @@ unfolding journey_in
 journey_kept order row named is =
     rw (name_kept order named, key_kept row.vehicle is.vehicle, name_kept row.start is.start, number_kept row.first is.first, number_kept row.base is.base, number_kept row.sent is.sent, maybe_number_kept row.confirmed is.confirmed, number_kept row.seen is.seen)
 
-pub act_kept : (key : LegKey) (row : ActRow) → IsLegKey key → IsActRow row → act_in (act_columns key row) ≡ Some (key, row)
+pub act_kept : (key : ActKey) (row : ActRow) → IsActRowKey key → IsActRow row → act_in (act_columns key row) ≡ Some (key, row)
 unfolding act_in
 act_kept key row numbered is =
-    rw (name_kept key.order numbered.0, number_kept key.k numbered.1, name_kept row.job is.job, act_kind_kept row.kind, number_kept row.place_at is.place_at, status_kept row.status)
+    rw (name_kept key.order numbered.0, number_kept key.n numbered.1, name_kept row.job is.job, act_kind_kept row.kind, number_kept row.place_at is.place_at, status_kept row.status)
 
 pub leg_kept : (key : LegKey) (edge : List ℕ) → IsLegKey key → IsName edge → leg_in (leg_columns key edge) ≡ Some (key, edge)
 leg_kept key edge is also = rw (name_kept key.order is.0, number_kept key.k is.1, name_kept edge also)

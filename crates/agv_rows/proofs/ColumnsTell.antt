@@ -19,6 +19,7 @@ use Rattle.agv_message.specs.declared.status.Status.{Status}
 use Rattle.agv_stock.specs.declared.job.Phase.{Phase}
 use Rattle.agv_stock.specs.declared.place.Place.{Place}
 use Rattle.agv_stock.specs.declared.place.Place.TheVariants as place
+use Rattle.agv_trip_rows.specs.declared.act_key.ActKey.{ActKey}
 use Rattle.agv_trip_rows.specs.declared.act_row.ActRow.{ActRow}
 use Rattle.agv_trip_rows.specs.declared.journey_row.JourneyRow.{JourneyRow}
 use Rattle.agv_world.specs.declared.key.LegKey.{LegKey}
@@ -149,7 +150,7 @@ journey_tells order a b e =
       seen = seen i;
     }
 
-pub act_tells : (key : LegKey) (a b : ActRow) → act_columns key a ≡ act_columns key b → a ≡ b
+pub act_tells : (key : ActKey) (a b : ActRow) → act_columns key a ≡ act_columns key b → a ≡ b
 act_tells key a b e =
     let job : a.job ≡ b.job = text (same_at _ _ 2 e) in
     let kind = act_kind a.kind b.kind (same_at _ _ 3 e) in

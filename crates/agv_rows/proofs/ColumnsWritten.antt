@@ -12,6 +12,7 @@ use Rattle.agv_layout.specs.declared.station.StationSite.{StationSite}
 use Rattle.agv_message.specs.Instant.{instant_name}
 use Rattle.agv_message.specs.declared.instant.InstantKind.{InstantKind}
 use Rattle.agv_stock.specs.declared.place.Place.{Place}
+use Rattle.agv_trip_rows.specs.declared.act_key.ActKey.{ActKey}
 use Rattle.agv_trip_rows.specs.declared.act_row.ActRow.{ActRow}
 use Rattle.agv_trip_rows.specs.declared.journey_row.JourneyRow.{JourneyRow}
 use Rattle.agv_world.specs.declared.key.LegKey.{LegKey}
@@ -214,7 +215,7 @@ journey_written row order journey e =
     let seen = if_some_parts _ _ _ confirmed.2 in
     all_columns 9 row shape.0 ∙ next (name_written _ named.0 named.1) (next keyed_cells.0 (next keyed_cells.1 (next (name_written _ start.0 start.1) (next (number_written _ first.0 first.1) (next (number_written _ base.0 base.1) (next (number_written _ sent.0 sent.1) (next (maybe_number_written _ confirmed.0 confirmed.1) (next (number_written _ seen.0 seen.1) refl)))))))) ∙ ap (λ (p : List ℕ × JourneyRow). journey_columns p.0 p.1) (some_same seen.2)
 
-pub act_written : (row : Row) (key : LegKey) (act : ActRow) → act_in row ≡ Some (key, act) → row ≡ act_columns key act
+pub act_written : (row : Row) (key : ActKey) (act : ActRow) → act_in row ≡ Some (key, act) → row ≡ act_columns key act
 unfolding act_in
 act_written row key act e =
     let shape = in_columns 6 row _ _ e in
@@ -224,7 +225,7 @@ act_written row key act e =
     let of = if_some_parts _ _ _ job.2 in
     let place_at = if_some_parts _ _ _ of.2 in
     let reported = if_some_parts _ _ _ place_at.2 in
-    all_columns 6 row shape.0 ∙ next (name_written _ order.0 order.1) (next (number_written _ n.0 n.1) (next (name_written _ job.0 job.1) (next (act_kind_written _ of.0 of.1) (next (number_written _ place_at.0 place_at.1) (next (status_written _ reported.0 reported.1) refl))))) ∙ ap (λ (p : LegKey × ActRow). act_columns p.0 p.1) (some_same reported.2)
+    all_columns 6 row shape.0 ∙ next (name_written _ order.0 order.1) (next (number_written _ n.0 n.1) (next (name_written _ job.0 job.1) (next (act_kind_written _ of.0 of.1) (next (number_written _ place_at.0 place_at.1) (next (status_written _ reported.0 reported.1) refl))))) ∙ ap (λ (p : ActKey × ActRow). act_columns p.0 p.1) (some_same reported.2)
 
 pub leg_written : (row : Row) (key : LegKey) (edge : List ℕ) → leg_in row ≡ Some (key, edge) → row ≡ leg_columns key edge
 leg_written row key edge e =

@@ -18,7 +18,9 @@ use Rattle.agv_layout.specs.declared.edge.EdgeEnds.{EdgeEnds}
 use Rattle.agv_layout.specs.declared.station.StationSite.{StationSite}
 use Rattle.agv_stock.specs.declared.place.Place.{Place}
 use Rattle.agv_stock.specs.declared.place.Place.TheVariants as place
+use Rattle.agv_trip_rows.specs.ActKeys.{act_cmp}
 use Rattle.agv_trip_rows.specs.TripRows.{is_journey_of, is_of}
+use Rattle.agv_trip_rows.specs.declared.act_key.ActKey.{ActKey}
 use Rattle.agv_trip_rows.specs.declared.act_row.ActRow.{ActRow}
 use Rattle.agv_trip_rows.specs.declared.journey_row.JourneyRow.{JourneyRow}
 use Rattle.agv_world.specs.Keys.{leg_cmp, use_cmp, use_rank}
@@ -32,7 +34,7 @@ use Rattle.agv_schema.proofs.Truths.{truth_of}
 use Rattle.agv_rows.specs.ValueEncodings.{number_cell, use_name}
 use Rattle.agv_rows.specs.Columns.{meta_columns, node_columns, edge_columns, station_columns, vehicle_columns, vehicle_capacity_columns, journey_columns, act_columns, leg_columns, load_columns, job_columns, hold_columns, used_columns}
 use Rattle.agv_schema.specs.DeskRows.{has_columns, has_key, is_equal}
-use Rattle.agv_rows.specs.RowKeys.{name_key, vehicle_key, leg_key, hold_key}
+use Rattle.agv_rows.specs.RowKeys.{name_key, vehicle_key, act_row_key, leg_key, hold_key}
 use Rattle.agv_schema.specs.RowTexts.{columns_deleted}
 use Rattle.agv_schema.specs.declared.world_table.WorldTable.TheVariants as table
 use Rattle.agv_schema.specs.declared.table_name.TableName.TheVariants as the
@@ -104,14 +106,14 @@ capacity_tested k q x = both_tied _ _ (name_cmp k.manufacturer q.manufacturer) (
 pub journey_tested : (k q : List ℕ) (x : JourneyRow) → has_key the.Journey (name_key k) (journey_columns q x) ≡ eq_by_cmp name_cmp k q
 journey_tested k q x = one_name k q
 
-pub act_tested : (k q : LegKey) (x : ActRow) → has_key the.Act (leg_key k) (act_columns q x) ≡ eq_by_cmp leg_cmp k q
-act_tested k q x = both_tied _ _ (name_cmp k.order q.order) (nat_cmp k.k q.k) (texts_equal k.order q.order) (and_true _ ∙ numbers_equal k.k q.k)
+pub act_tested : (k q : ActKey) (x : ActRow) → has_key the.Act (act_row_key k) (act_columns q x) ≡ eq_by_cmp act_cmp k q
+act_tested k q x = both_tied _ _ (name_cmp k.order q.order) (nat_cmp k.n q.n) (texts_equal k.order q.order) (and_true _ ∙ numbers_equal k.n q.n)
 
 -- the journey and the acts of an order
 pub journey_order_tested : (order q : List ℕ) (x : JourneyRow) → has_key the.Journey (name_key order) (journey_columns q x) ≡ is_journey_of order (q, x)
 journey_order_tested order q x = last_text_is q order
 
-pub act_order_tested : (order : List ℕ) (q : LegKey) (x : ActRow) → has_columns (columns_deleted table.Act) (name_key order) (act_columns q x) ≡ is_of order (q, x)
+pub act_order_tested : (order : List ℕ) (q : ActKey) (x : ActRow) → has_columns (columns_deleted table.Act) (name_key order) (act_columns q x) ≡ is_of order (q, x)
 act_order_tested order q x = last_text_is q.order order
 
 pub leg_tested : (k q : LegKey) (x : List ℕ) → has_key the.Leg (leg_key k) (leg_columns q x) ≡ eq_by_cmp leg_cmp k q

@@ -17,6 +17,7 @@ use Rattle.agv_order.specs.WellFormed.{IsEdgeOf}
 use Rattle.agv_order.specs.declared.trip.Trip.{Trip}
 use Rattle.agv_trip_rows.specs.RowValues.{IsActKey, IsActValue, IsJourneyValue}
 use Rattle.agv_trip_rows.specs.TripRows.{journey_of, journeys_of}
+use Rattle.agv_trip_rows.specs.declared.act_key.ActKey.{ActKey}
 use Rattle.agv_trip_rows.specs.declared.act_row.ActRow.{ActRow}
 use Rattle.agv_trip_rows.specs.declared.journey_row.JourneyRow.{JourneyRow}
 use Rattle.agv_world.specs.ConsistentTrips.{HasConsistentTrips}
@@ -30,7 +31,7 @@ use Rattle.agv_world.specs.declared.key.LegKey.{LegKey}
 use Rattle.agv_world.specs.declared.row.TripRow.{TripRow}
 use Rattle.agv_schema.specs.SchemaNumbers.{desk_seats}
 use Rattle.agv_rows.specs.DecodedTrips.{is_driven_by}
-use Rattle.agv_rows.specs.TypedRows.{IsActRow, IsJourneyRow, IsLegKey, IsNumber}
+use Rattle.agv_rows.specs.TypedRows.{IsActRow, IsActRowKey, IsJourneyRow, IsLegKey, IsNumber}
 use Rattle.agv_rows.proofs.LawfulValues.{edge_named}
 use Rattle.agv_schema.proofs.SpreadRows.{spread_from}
 use Rattle.agv_rows.proofs.TripRowLaws.{JourneysStand}
@@ -126,8 +127,8 @@ journey_typed journey value = record {
   seen = small journey.seen value.seen;
 }
 
-pub act_key_typed : (key : LegKey) → IsActKey key → IsLegKey key
-act_key_typed key value = (value.order, few key.k value.number)
+pub act_key_typed : (key : ActKey) → IsActKey key → IsActRowKey key
+act_key_typed key value = (value.order, few key.n value.number)
 
 pub act_typed : (act : ActRow) → IsActValue act → IsActRow act
 act_typed act value = record { job = value.job; place_at = small act.place_at value.place_at }

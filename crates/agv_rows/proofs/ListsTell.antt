@@ -12,6 +12,7 @@ use Rattle.sqlite_value.specs.Order.{Row}
 use Rattle.agv_header.specs.KeyOrder.{key_cmp-total, key_cmp-IsAntisymmetric}
 use Rattle.agv_header.specs.Name.{name_cmp}
 use Rattle.agv_header.specs.ThingOrder.{thing_cmp-total, thing_cmp-IsAntisymmetric}
+use Rattle.agv_trip_rows.specs.ActKeys.{act_cmp-total, act_cmp-IsAntisymmetric}
 use Rattle.agv_trip_rows.specs.TripRows.{acts_of, journeys_of}
 use Rattle.agv_trip_rows.specs.TripsTold.{IsOfJob}
 use Rattle.agv_world.specs.KeyOrders.{leg_cmp-total, leg_cmp-IsAntisymmetric, use_cmp-total, use_cmp-IsAntisymmetric}
@@ -20,7 +21,7 @@ use Rattle.agv_world.specs.declared.row.JobRow.{JobRow}
 use Rattle.agv_rows.specs.ValueEncodings.{number_cell}
 use Rattle.agv_rows.specs.Columns.{meta_columns, node_columns, edge_columns, station_columns, vehicle_columns, vehicle_capacity_columns, journey_columns, act_columns, leg_columns, load_columns, job_columns, hold_columns, used_columns}
 use Rattle.agv_schema.specs.DeskRows.{table_at, has_key}
-use Rattle.agv_rows.specs.RowKeys.{name_key, vehicle_key, leg_key, hold_key}
+use Rattle.agv_rows.specs.RowKeys.{name_key, vehicle_key, act_row_key, leg_key, hold_key}
 use Rattle.agv_rows.specs.RowLists.{ActsAreOfJobs, AreAlike, TellRows, row_lists, marked, rows_for, rows_in}
 use Rattle.agv_schema.specs.declared.table_name.TableName.TheVariants as the
 use Rattle.agv_rows.proofs.ColumnsTell.{meta_tells, edge_tells, station_tells, capacity_tells, vehicle_tells, journey_tells, act_tells, leg_tells, load_tells, job_tells, hold_tells}
@@ -93,7 +94,7 @@ one_rows one lists a b known other_known h g =
     (alike_at 10 lists (row_lists a) h) (alike_at 10 lists (row_lists b) g) in
     let journeys = one_table nat_list_cmp_total names_apart journey_columns (λ k. has_key the.Journey (name_key k)) journey_tested (journeys_of a.trips) (journeys_of b.trips) (table_at 12 lists)
     (alike_at 12 lists (row_lists a) h) (alike_at 12 lists (row_lists b) g) (λ k x y _ _. journey_tells k x y) in
-    let acts = one_table leg_cmp-total leg_cmp-IsAntisymmetric act_columns (λ k. has_key the.Act (leg_key k)) act_tested (acts_of a.trips) (acts_of b.trips) (table_at 13 lists)
+    let acts = one_table act_cmp-total act_cmp-IsAntisymmetric act_columns (λ k. has_key the.Act (act_row_key k)) act_tested (acts_of a.trips) (acts_of b.trips) (table_at 13 lists)
     (alike_at 13 lists (row_lists a) h) (alike_at 13 lists (row_lists b) g) (λ k x y _ _. act_tells k x y) in
     let trips = same_trips one a b known other_known journeys acts jobs in
     λ i. record {

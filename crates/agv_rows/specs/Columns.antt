@@ -20,6 +20,7 @@ use Rattle.agv_world.specs.declared.row.JobRow.{JobRow}
 use Rattle.agv_world.specs.declared.row.Sent.{Sent}
 use Rattle.agv_world.specs.declared.row.VehicleRow.{VehicleRow}
 use Rattle.agv_rows.specs.ValueEncodings.{if_some, name_in, number_cell, number_in, flag_cell, flag_in, moment_in, maybe_in, phase_name, phase_in, status_in, instant_in, use_name, use_in, place_kind_in, act_kind_in, thing_kind_in}
+use Rattle.agv_trip_rows.specs.declared.act_key.ActKey.{ActKey}
 use Rattle.agv_trip_rows.specs.declared.act_row.ActRow.{ActRow}
 use Rattle.agv_trip_rows.specs.declared.journey_row.JourneyRow.{JourneyRow}
 use Rattle.agv_rows.specs.declared.capacity_row.CapacityRow.{CapacityRow}
@@ -148,10 +149,10 @@ journey_in row = if_columns 9 row (
 
 -- ---- act: order_id, n, job, kind, place_at, status
 
-abbrev pub act_columns : LegKey → ActRow → Row
-act_columns key act = Text key.order ∷ number_cell key.k ∷ Text act.job ∷ Text (act_name act.kind) ∷ number_cell act.place_at ∷ Text (status_name act.status) ∷ []
+abbrev pub act_columns : ActKey → ActRow → Row
+act_columns key act = Text key.order ∷ number_cell key.n ∷ Text act.job ∷ Text (act_name act.kind) ∷ number_cell act.place_at ∷ Text (status_name act.status) ∷ []
 
-unfoldable pub act_in : Row → Option (LegKey × ActRow)
+unfoldable pub act_in : Row → Option (ActKey × ActRow)
 act_in row = if_columns 6 row (
     if_some (name_in (column row 0)) (λ order.
     if_some (number_in (column row 1)) (λ n.
@@ -159,7 +160,7 @@ act_in row = if_columns 6 row (
     if_some (act_kind_in (column row 3)) (λ kind.
     if_some (number_in (column row 4)) (λ place_at.
     if_some (status_in (column row 5)) (λ status.
-    Some (record { order = order; k = n }, record { job = job; kind = kind; place_at = place_at; status = status }))))))))
+    Some (record { order = order; n = n }, record { job = job; kind = kind; place_at = place_at; status = status }))))))))
 
 -- ---- leg: order_id, k, edge
 

@@ -11,11 +11,11 @@ use Rattle.agv_header.specs.declared.key.VehicleKey.{VehicleKey}
 use Rattle.agv_layout.specs.declared.edge.Edge.{Edge}
 use Rattle.agv_order.specs.declared.act.Act.{Act}
 use Rattle.agv_order.specs.declared.trip.Trip.{Trip}
+use Rattle.agv_trip_rows.specs.ActKeys.{act_cmp}
 use Rattle.agv_trip_rows.specs.TripRows.{acts_of, is_of, journeys_of}
 use Rattle.agv_trip_rows.specs.TripsTold.{acts_told, trip_told}
 use Rattle.agv_trip_rows.specs.declared.act_row.ActRow.{ActRow}
 use Rattle.agv_trip_rows.specs.declared.journey_row.JourneyRow.{JourneyRow}
-use Rattle.agv_world.specs.Keys.{leg_cmp}
 use Rattle.agv_world.specs.Rows.{Rows, trip_row}
 use Rattle.agv_world.specs.Told.{edges_of, trip_in}
 use Rattle.agv_world.specs.declared.row.JobRow.{JobRow}
@@ -40,12 +40,12 @@ vehicle_with capacities row =
 -- ---- all trips
 
 -- the order and the trip of a journey, with those of these acts that are of its order; none where a number is missing, or a job is unknown
-abbrev pub trip_with : finite.FinMap leg_cmp ActRow → finite.FinMap name_cmp JobRow → List ℕ × JourneyRow → Option (List ℕ × TripRow)
+abbrev pub trip_with : finite.FinMap act_cmp ActRow → finite.FinMap name_cmp JobRow → List ℕ × JourneyRow → Option (List ℕ × TripRow)
 trip_with acts jobs journey =
     option_map (λ (told : List Act). (journey.0, trip_told journey.1 told)) (acts_told jobs 0 (filter (is_of journey.0) (finite.entries acts)))
 
 -- the trips of the journeys
-abbrev pub trips_with : finite.FinMap name_cmp JourneyRow → finite.FinMap leg_cmp ActRow → finite.FinMap name_cmp JobRow → finite.FinMap name_cmp TripRow
+abbrev pub trips_with : finite.FinMap name_cmp JourneyRow → finite.FinMap act_cmp ActRow → finite.FinMap name_cmp JobRow → finite.FinMap name_cmp TripRow
 trips_with journeys acts jobs = finite.from_entries (filter_map (trip_with acts jobs) (finite.entries journeys))
 
 -- ---- the trip of a vehicle

@@ -5,6 +5,7 @@ use Rattle.sqlite_value.specs.Order.{Row}
 use Rattle.agv_header.specs.declared.key.Thing.{Thing}
 use Rattle.agv_header.specs.declared.key.Thing.TheVariants as thing
 use Rattle.agv_header.specs.declared.key.VehicleKey.{VehicleKey}
+use Rattle.agv_trip_rows.specs.declared.act_key.ActKey.{ActKey}
 use Rattle.agv_world.specs.declared.key.LegKey.{LegKey}
 use Rattle.agv_rows.specs.ValueEncodings.{number_cell, thing_name}
 use Rattle.agv_rows.specs.declared.words.ThingKind.TheVariants as held
@@ -16,9 +17,13 @@ name_key id = Text id ∷ []
 abbrev pub vehicle_key : VehicleKey → Row
 vehicle_key key = Text key.manufacturer ∷ Text key.serial ∷ []
 
--- of an edge of an open trip, and of an act
+-- of an edge of an open trip
 abbrev pub leg_key : LegKey → Row
 leg_key key = Text key.order ∷ number_cell key.k ∷ []
+
+-- of an act of an open trip
+abbrev pub act_row_key : ActKey → Row
+act_row_key key = Text key.order ∷ number_cell key.n ∷ []
 
 abbrev pub hold_key : Thing → Row
 hold_key (thing.Node id) = Text (thing_name held.Node) ∷ Text id ∷ []

@@ -21,8 +21,8 @@ use Rattle.agv_schema.specs.declared.table_name.TableName.TheVariants as the
 use Rattle.agv_schema.specs.declared.world_table.WorldTable.TheVariants as table
 use Rattle.agv_trip_rows.specs.TripRows.{act_rows, acts_of, journey_of, journeys_of}
 use Rattle.agv_trip_rows.specs.TripsTold.{IsOfJob}
+use Rattle.agv_trip_rows.specs.declared.act_key.ActKey.{ActKey}
 use Rattle.agv_trip_rows.specs.declared.act_row.ActRow.{ActRow}
-use Rattle.agv_world.specs.declared.key.LegKey.{LegKey}
 
 -- ---- the rows of a world
 
@@ -104,8 +104,8 @@ abbrev pub without_acts : List ℕ → List (List Row) → List (List Row)
 without_acts order = without_rows the.Act (columns_deleted table.Act) (name_key order)
 
 -- the rows of these acts
-abbrev pub rows_of_acts : List (LegKey × ActRow) → List Row
-rows_of_acts acts = map (λ (act : LegKey × ActRow). act_columns act.0 act.1) acts
+abbrev pub rows_of_acts : List (ActKey × ActRow) → List Row
+rows_of_acts acts = map (λ (act : ActKey × ActRow). act_columns act.0 act.1) acts
 
 -- without the open trip of an order, and with this one in the place of that
 abbrev pub without_trip : List ℕ → List (List Row) → List (List Row)

@@ -12,6 +12,7 @@ use Rattle.agv_world.specs.declared.key.LegKey.{LegKey}
 use Rattle.agv_world.specs.declared.row.JobRow.{JobRow}
 use Rattle.agv_world.specs.declared.row.Sent.{Sent}
 use Rattle.agv_world.specs.declared.row.VehicleRow.{VehicleRow}
+use Rattle.agv_trip_rows.specs.declared.act_key.ActKey.{ActKey}
 use Rattle.agv_trip_rows.specs.declared.act_row.ActRow.{ActRow}
 use Rattle.agv_trip_rows.specs.declared.journey_row.JourneyRow.{JourneyRow}
 
@@ -49,7 +50,11 @@ pub record IsActRow (row : ActRow) : Type 0 where
   pub job : IsName row.job
   pub place_at : IsNumber row.place_at
 
--- the key of an edge, or of an act, of an open trip
+-- the key of an act of an open trip
+abbrev pub IsActRowKey : ActKey → Type 0
+IsActRowKey key = IsName key.order × IsNumber key.n
+
+-- the key of an edge of an open trip
 abbrev pub IsLegKey : LegKey → Type 0
 IsLegKey key = IsName key.order × IsNumber key.k
 

@@ -12,7 +12,7 @@ use crate::{PlaceKind, ThingKind};
 use agv_header::{Name, Thing, VehicleKey};
 use agv_layout::{EdgeEnds, StationSite};
 use agv_stock::Place;
-use agv_trip_rows::{ActRow, JourneyRow};
+use agv_trip_rows::{ActKey, ActRow, JourneyRow};
 use agv_world::{JobRow, LegKey, Sent, UseKey, VehicleRow};
 use sqlite::Row;
 
@@ -184,14 +184,14 @@ pub fn decode_journey(row: &Row) -> Option<(Name, JourneyRow)>
 
 /// An act of an open trip, at its order and its number.
 #[tactic(auto, unfolding(crate::specs::Columns::act_in))]
-pub fn decode_act(row: &Row) -> Option<(LegKey, ActRow)>
+pub fn decode_act(row: &Row) -> Option<(ActKey, ActRow)>
     ensures { result ≡ act_in row.now }
 {
     if row.column_count() != 6 {
         return None;
     }
     let order = name_at(row, 0)?;
-    let k = number_at(row, 1)?;
+    let n = number_at(row, 1)?;
     let job = name_at(row, 2)?;
     let kind = act_kind_at(row, 3)?;
     let place_at = number_at(row, 4)?;
@@ -202,7 +202,7 @@ pub fn decode_act(row: &Row) -> Option<(LegKey, ActRow)>
         place_at,
         status,
     };
-    Some((LegKey { order, k }, act))
+    Some((ActKey { order, n }, act))
 }
 
 /// An edge of an open trip.

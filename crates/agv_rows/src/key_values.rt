@@ -22,7 +22,7 @@ pub fn vehicle_key_values(key: &VehicleKey) -> [ValueRef<'_>; 2]
     [name_value(&key.manufacturer), name_value(&key.serial)]
 }
 
-/// The key of the row of an edge, or of an act, of an open trip.
+/// The key of the row of an edge of an open trip.
 pub fn leg_key_values(key: &LegKey) -> [ValueRef<'_>; 2]
     ensures { bound result ≡ leg_key key.now }
 {

@@ -13,6 +13,7 @@ ghost use Rattle.agv_rows.specs.Columns.{meta_columns, node_columns, edge_column
 ghost use Rattle.agv_schema.specs.DeskRows.{FitsTable};
 ghost use Rattle.agv_schema.specs.declared.table_name.TableName.TheVariants as the;
 ghost use Rattle.agv_rows.specs.declared.capacity_row.CapacityRow.{CapacityRow};
+ghost use Rattle.agv_trip_rows.specs.declared.act_key.ActKey.{ActKey};
 ghost use Rattle.agv_trip_rows.specs.declared.act_row.ActRow.{ActRow};
 ghost use Rattle.agv_trip_rows.specs.declared.journey_row.JourneyRow.{JourneyRow};
 
@@ -25,7 +26,7 @@ pub fn rows_fit_their_tables()
     ensures vehicle { (key : VehicleKey) (row : VehicleRow) → FitsTable the.Vehicle (vehicle_columns key row) }
     ensures capacity { (key : VehicleKey) (room : CapacityRow) → FitsTable the.Capacity (capacity_columns key room) }
     ensures journey { (order : List ℕ) (row : JourneyRow) → FitsTable the.Journey (journey_columns order row) }
-    ensures act { (key : LegKey) (row : ActRow) → FitsTable the.Act (act_columns key row) }
+    ensures act { (key : ActKey) (row : ActRow) → FitsTable the.Act (act_columns key row) }
     ensures leg { (key : LegKey) (edge : List ℕ) → FitsTable the.Leg (leg_columns key edge) }
     ensures load { (id : List ℕ) (place : Place) → FitsTable the.Load (load_columns id place) }
     ensures job { (id : List ℕ) (job : JobRow) → FitsTable the.Job (job_columns id job) }

@@ -13,8 +13,9 @@ ghost use Rattle.agv_world.specs.declared.key.UseKey.{UseKey};
 ghost use Rattle.agv_world.specs.declared.row.JobRow.{JobRow};
 ghost use Rattle.agv_world.specs.declared.row.VehicleRow.{VehicleRow};
 ghost use Rattle.agv_rows.specs.Columns.{meta_columns, meta_in, node_columns, node_in, edge_columns, edge_in, station_columns, station_in, vehicle_columns, vehicle_in, capacity_columns, capacity_in, journey_columns, journey_in, act_columns, act_in, leg_columns, leg_in, load_columns, load_in, job_columns, job_in, hold_columns, hold_in, used_columns, used_in};
-ghost use Rattle.agv_rows.specs.TypedRows.{IsNumber, AreEnds, IsStationSite, IsVehicleRow, IsJourneyRow, IsActRow, IsLegKey, IsPlace, IsJobRow, IsThing};
+ghost use Rattle.agv_rows.specs.TypedRows.{IsNumber, AreEnds, IsStationSite, IsVehicleRow, IsJourneyRow, IsActRow, IsActRowKey, IsLegKey, IsPlace, IsJobRow, IsThing};
 ghost use Rattle.agv_rows.specs.declared.capacity_row.CapacityRow.{CapacityRow};
+ghost use Rattle.agv_trip_rows.specs.declared.act_key.ActKey.{ActKey};
 ghost use Rattle.agv_trip_rows.specs.declared.act_row.ActRow.{ActRow};
 ghost use Rattle.agv_trip_rows.specs.declared.journey_row.JourneyRow.{JourneyRow};
 
@@ -27,7 +28,7 @@ pub fn columns_tell_their_row()
     ensures vehicle { (key : VehicleKey) (row : VehicleRow) → IsKey key → IsVehicleRow row → vehicle_in (vehicle_columns key row) ≡ Some (key, record row { capacity = 1 }) }
     ensures capacity { (key : VehicleKey) (room : CapacityRow) → IsKey key → IsNumber room.capacity → capacity_in (capacity_columns key room) ≡ Some (key, room) }
     ensures journey { (order : List ℕ) (row : JourneyRow) → IsName order → IsJourneyRow row → journey_in (journey_columns order row) ≡ Some (order, row) }
-    ensures act { (key : LegKey) (row : ActRow) → IsLegKey key → IsActRow row → act_in (act_columns key row) ≡ Some (key, row) }
+    ensures act { (key : ActKey) (row : ActRow) → IsActRowKey key → IsActRow row → act_in (act_columns key row) ≡ Some (key, row) }
     ensures leg { (key : LegKey) (edge : List ℕ) → IsLegKey key → IsName edge → leg_in (leg_columns key edge) ≡ Some (key, edge) }
     ensures load { (id : List ℕ) (place : Place) → IsName id → IsPlace place → load_in (load_columns id place) ≡ Some (id, place) }
     ensures job { (id : List ℕ) (job : JobRow) → IsName id → IsJobRow job → job_in (job_columns id job) ≡ Some (id, job) }
@@ -44,7 +45,7 @@ pub fn a_row_told_writes_its_columns()
     ensures vehicle { (row : Row) (key : VehicleKey) (vehicle : VehicleRow) → vehicle_in row ≡ Some (key, vehicle) → row ≡ vehicle_columns key vehicle }
     ensures capacity { (row : Row) (key : VehicleKey) (room : CapacityRow) → capacity_in row ≡ Some (key, room) → row ≡ capacity_columns key room }
     ensures journey { (row : Row) (order : List ℕ) (journey : JourneyRow) → journey_in row ≡ Some (order, journey) → row ≡ journey_columns order journey }
-    ensures act { (row : Row) (key : LegKey) (act : ActRow) → act_in row ≡ Some (key, act) → row ≡ act_columns key act }
+    ensures act { (row : Row) (key : ActKey) (act : ActRow) → act_in row ≡ Some (key, act) → row ≡ act_columns key act }
     ensures leg { (row : Row) (key : LegKey) (edge : List ℕ) → leg_in row ≡ Some (key, edge) → row ≡ leg_columns key edge }
     ensures load { (row : Row) (id : List ℕ) (place : Place) → load_in row ≡ Some (id, place) → row ≡ load_columns id place }
     ensures job { (row : Row) (id : List ℕ) (job : JobRow) → job_in row ≡ Some (id, job) → row ≡ job_columns id job }

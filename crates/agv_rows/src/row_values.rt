@@ -12,7 +12,7 @@ use agv_header::{Name, Thing, VehicleKey};
 use agv_layout::{EdgeEnds, StationSite};
 use agv_message::InstantKind;
 use agv_stock::Place;
-use agv_trip_rows::{ActRow, JourneyRow};
+use agv_trip_rows::{ActKey, ActRow, JourneyRow};
 use agv_world::{JobRow, LegKey, UseKey, VehicleRow};
 use sqlite::types::{ToSql, ValueRef};
 
@@ -145,12 +145,12 @@ fn maybe_number_value(n: Option<u32>) -> ValueRef<'static>
 }
 
 /// The row of an act of an open trip.
-pub fn act_values<'a>(key: &'a LegKey, act: &'a ActRow) -> [ValueRef<'a>; 6]
+pub fn act_values<'a>(key: &'a ActKey, act: &'a ActRow) -> [ValueRef<'a>; 6]
     ensures { bound result ≡ act_columns key.now act.now }
 {
     [
         name_value(&key.order),
-        key.k.to_sql(),
+        key.n.to_sql(),
         name_value(&act.job),
         act.kind.name().to_sql(),
         act.place_at.to_sql(),

@@ -9,6 +9,7 @@ ghost use Rattle.agv_order.specs.declared.act.Act.{Act};
 ghost use Rattle.agv_order.specs.declared.trip.Trip.{Trip};
 ghost use Rattle.agv_trip_rows.specs.TripRows.{acts_of, is_of, journeys_of};
 ghost use Rattle.agv_trip_rows.specs.TripsTold.{acts_told};
+ghost use Rattle.agv_trip_rows.specs.declared.act_key.ActKey.{ActKey};
 ghost use Rattle.agv_trip_rows.specs.declared.act_row.ActRow.{ActRow};
 ghost use Rattle.agv_trip_rows.specs.declared.journey_row.JourneyRow.{JourneyRow};
 ghost use Rattle.agv_world.specs.Lawful.{IsLawful};
@@ -16,10 +17,9 @@ ghost use Rattle.agv_world.specs.Questions.{row_of, trip_of};
 ghost use Rattle.agv_world.specs.Rows.{rows_of};
 ghost use Rattle.agv_world.specs.Told.{edges_of};
 ghost use Rattle.agv_world.specs.Worlds.{World};
-ghost use Rattle.agv_world.specs.declared.key.LegKey.{LegKey};
 ghost use Rattle.agv_schema.specs.SchemaNumbers.{desk_seats};
 ghost use Rattle.agv_rows.specs.DecodedTrips.{HasTripRows, is_driven_by, journey_for, tables_of, told_by_journey, trips_with};
-ghost use Rattle.agv_rows.specs.TypedRows.{IsActRow, IsJourneyRow, IsLegKey};
+ghost use Rattle.agv_rows.specs.TypedRows.{IsActRow, IsActRowKey, IsJourneyRow};
 
 use agv_trip_rows::row_laws::{rows_are_of_trips, rows_have_keys, tables_have_rows};
 use agv_trip_rows::trip_laws::{
@@ -44,8 +44,8 @@ pub fn rows_tell_trips()
         → trips_with (journeys_of (rows_of world).trips) (acts_of (rows_of world).trips) (rows_of world).jobs ≡ (rows_of world).trips }
     ensures journeys { (world : World) → IsLawful desk_seats world → (order : List ℕ) (journey : JourneyRow)
         → finite.get (journeys_of (rows_of world).trips) order ≡ Some journey → IsName order × IsJourneyRow journey }
-    ensures act_values { (world : World) → IsLawful desk_seats world → (key : LegKey) (act : ActRow)
-        → finite.get (acts_of (rows_of world).trips) key ≡ Some act → IsLegKey key × IsActRow act }
+    ensures act_values { (world : World) → IsLawful desk_seats world → (key : ActKey) (act : ActRow)
+        → finite.get (acts_of (rows_of world).trips) key ≡ Some act → IsActRowKey key × IsActRow act }
     ensures ways { (world : World) → IsLawful desk_seats world → (key : VehicleKey) (trip : Trip)
         → trip_of world key ≡ Some trip → trip.edges ≡ edges_of (tables_of (rows_of world)) trip.order }
 {

@@ -16,12 +16,12 @@ use Rattle.agv_order.specs.declared.trip.Trip.{Trip}
 use Rattle.agv_world.specs.Lawful.{IsLawful}
 use Rattle.agv_world.specs.Rows.{rows_of, trip_row}
 use Rattle.agv_world.specs.Worlds.{World}
-use Rattle.agv_world.specs.declared.key.LegKey.{LegKey}
 use Rattle.agv_world.specs.declared.row.TripRow.{TripRow}
 use Rattle.agv_world.proofs.lists.Entries.{same_Some}
 use Rattle.agv_trip_rows.specs.RowValues.{IsActKey, IsActValue, IsJourneyValue}
 use Rattle.agv_trip_rows.specs.TripRows.{act_row, acts_of, journey_of, journeys_of}
 use Rattle.agv_trip_rows.specs.TripsTold.{IsOfJob}
+use Rattle.agv_trip_rows.specs.declared.act_key.ActKey.{ActKey}
 use Rattle.agv_trip_rows.specs.declared.act_row.ActRow.{ActRow}
 use Rattle.agv_trip_rows.specs.declared.journey_row.JourneyRow.{JourneyRow}
 use Rattle.agv_trip_rows.proofs.LawfulTrips.{IsOwn, lawful_acts, trip_of_row}
@@ -120,13 +120,13 @@ module _ (joins : JoinsNodes) (seats : ℕ) (world : World) (lawful : IsLawful s
       let low = (places_low 0 (length own.trip.edges) own.trip.acts planned.rising).1 in
       on_way act.place_at (length own.trip.edges) (at_place (λ (a : Act). a.place_at ≤ length own.trip.edges) own.trip.acts k act (subst (λ (r : TripRow). slice_get r.acts k ≡ Some act) (sym own.row_is) at) low) planned.short
 
-  pub act_values : (key : LegKey) (row : ActRow) → finite.get (acts_of (rows_of world).trips) key ≡ Some row → IsActKey key × IsActValue row
+  pub act_values : (key : ActKey) (row : ActRow) → finite.get (acts_of (rows_of world).trips) key ≡ Some row → IsActKey key × IsActValue row
   act_values key row at =
-      let from = chained (λ (trip : TripRow). option_map act_row (slice_get trip.acts key.k)) (finite.get (rows_of world).trips key.order) row (sym (get-acts (rows_of world).trips key) ∙ at) in
+      let from = chained (λ (trip : TripRow). option_map act_row (slice_get trip.acts key.n)) (finite.get (rows_of world).trips key.order) row (sym (get-acts (rows_of world).trips key) ∙ at) in
       let trip = from.0 in
-      let found = mapped act_row (slice_get trip.acts key.k) row from.2 in
+      let found = mapped act_row (slice_get trip.acts key.n) row from.2 in
       let act = found.0 in
       let own = trip_of_row world key.order trip from.1 in
-      let of_job = at_place (IsOfJob (rows_of world).jobs) trip.acts key.k act found.1 (lawful_acts seats world lawful key.order trip from.1) in
-      let value : IsActValue (act_row act) = record { job = lawful.loads.jobs_named act.job of_job.job of_job.known; place_at = places key.order trip own key.k act found.1 } in
-      (record { order = own_order key.order trip own; number = few key.order trip own key.k (slice_get_within trip.acts key.k act found.1) }, subst IsActValue found.2 value)
+      let of_job = at_place (IsOfJob (rows_of world).jobs) trip.acts key.n act found.1 (lawful_acts seats world lawful key.order trip from.1) in
+      let value : IsActValue (act_row act) = record { job = lawful.loads.jobs_named act.job of_job.job of_job.known; place_at = places key.order trip own key.n act found.1 } in
+      (record { order = own_order key.order trip own; number = few key.order trip own key.n (slice_get_within trip.acts key.n act found.1) }, subst IsActValue found.2 value)

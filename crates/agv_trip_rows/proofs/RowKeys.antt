@@ -9,11 +9,11 @@ use Rattle.std.specs.Map.{keys_of}
 use Rattle.std.specs.Ordering.{eq_by_cmp, nat_cmp, ordering_then}
 use Rattle.agv_header.specs.Name.{name_cmp}
 use Rattle.agv_order.specs.declared.act.Act.{Act}
-use Rattle.agv_world.specs.Keys.{leg_cmp}
-use Rattle.agv_world.specs.declared.key.LegKey.{LegKey}
 use Rattle.agv_world.specs.declared.row.TripRow.{TripRow}
 use Rattle.agv_world.proofs.lists.Orders.{names_total}
+use Rattle.agv_trip_rows.specs.ActKeys.{act_cmp}
 use Rattle.agv_trip_rows.specs.TripRows.{act_key, act_rows, act_rows_from, is_of, journey_of}
+use Rattle.agv_trip_rows.specs.declared.act_key.ActKey.{ActKey}
 use Rattle.agv_trip_rows.specs.declared.act_row.ActRow.{ActRow}
 use Rattle.agv_trip_rows.specs.declared.journey_row.JourneyRow.{JourneyRow}
 use Rattle.agv_trip_rows.proofs.Elements.{all_weaker, all-append, all-flat_map}
@@ -66,40 +66,40 @@ pub acts_tested : (k q : List ℕ) (n : ℕ) (acts : List Act) → AllByRecursio
 acts_tested k q n [] = tt
 acts_tested k q n (act ∷ acts) = (named k q, acts_tested k q (n + 1) acts)
 
-pub numbers_after : (order : List ℕ) (i k : ℕ) → i < k → leg_cmp (act_key order i) (act_key order k) ≡ Less
+pub numbers_after : (order : List ℕ) (i k : ℕ) → i < k → act_cmp (act_key order i) (act_key order k) ≡ Less
 numbers_after order i k lt = ap (λ o. ordering_then o (nat_cmp i k)) (tied_itself names_total order) ∙ sym (nat_cmp_is i k Less lt)
 
-acts_after : (order : List ℕ) (i k : ℕ) → i < k → (acts : List Act) → AreAfter leg_cmp (act_key order i) (act_rows_from order k acts)
+acts_after : (order : List ℕ) (i k : ℕ) → i < k → (acts : List Act) → AreAfter act_cmp (act_key order i) (act_rows_from order k acts)
 acts_after order i k lt [] = tt
 acts_after order i k lt (act ∷ acts) = (numbers_after order i k lt, acts_after order i (k + 1) (omega (arith, lt)) acts)
 
-pub acts_rise : (order : List ℕ) (n : ℕ) (acts : List Act) → DoRise leg_cmp (act_rows_from order n acts)
+pub acts_rise : (order : List ℕ) (n : ℕ) (acts : List Act) → DoRise act_cmp (act_rows_from order n acts)
 acts_rise order n [] = tt
 acts_rise order n (act ∷ acts) = (acts_after order n (n + 1) (omega arith) acts, acts_rise order (n + 1) acts)
 
 -- ---- the rows of many trips
 
-module _ (key : LegKey) (q : List ℕ) (before : name_cmp key.order q ≡ Less) where
-  order_after : (n : ℕ) (acts : List Act) → AreAfter leg_cmp key (act_rows_from q n acts)
+module _ (key : ActKey) (q : List ℕ) (before : name_cmp key.order q ≡ Less) where
+  order_after : (n : ℕ) (acts : List Act) → AreAfter act_cmp key (act_rows_from q n acts)
   order_after n [] = tt
-  order_after n (act ∷ acts) = (ap (λ o. ordering_then o (nat_cmp key.k n)) before, order_after (n + 1) acts)
+  order_after n (act ∷ acts) = (ap (λ o. ordering_then o (nat_cmp key.n n)) before, order_after (n + 1) acts)
 
-abbrev pub acts_in : List (List ℕ × TripRow) → List (LegKey × ActRow)
+abbrev pub acts_in : List (List ℕ × TripRow) → List (ActKey × ActRow)
 acts_in es = flat_map (λ (e : List ℕ × TripRow). act_rows e.0 e.1) es
 
 abbrev pub journeys_in : List (List ℕ × TripRow) → List (List ℕ × JourneyRow)
 journeys_in es = map (λ (e : List ℕ × TripRow). (e.0, journey_of e.1)) es
 
-orders_after : (key : LegKey) (es : List (List ℕ × TripRow)) → AreAfter name_cmp key.order es → AreAfter leg_cmp key (acts_in es)
+orders_after : (key : ActKey) (es : List (List ℕ × TripRow)) → AreAfter name_cmp key.order es → AreAfter act_cmp key (acts_in es)
 orders_after key es h = all-flat_map _ _ es (all_weaker _ _ (λ e before. order_after key e.0 before 0 e.1.acts) es h)
 
-one_after : (order : List ℕ) (n : ℕ) (acts : List Act) (es : List (List ℕ × TripRow)) → AreAfter name_cmp order es → AllByRecursion (λ (row : LegKey × ActRow). AreAfter leg_cmp row.0 (acts_in es)) (act_rows_from order n acts)
+one_after : (order : List ℕ) (n : ℕ) (acts : List Act) (es : List (List ℕ × TripRow)) → AreAfter name_cmp order es → AllByRecursion (λ (row : ActKey × ActRow). AreAfter act_cmp row.0 (acts_in es)) (act_rows_from order n acts)
 one_after order n [] es h = tt
 one_after order n (act ∷ acts) es h = (orders_after (act_key order n) es h, one_after order (n + 1) acts es h)
 
-pub all_acts_rise : (es : List (List ℕ × TripRow)) → DoRise name_cmp es → DoRise leg_cmp (acts_in es)
+pub all_acts_rise : (es : List (List ℕ × TripRow)) → DoRise name_cmp es → DoRise act_cmp (acts_in es)
 all_acts_rise [] h = tt
-all_acts_rise (e ∷ es) h = rise-append leg_cmp (act_rows e.0 e.1) (acts_in es) (acts_rise e.0 0 e.1.acts) (all_acts_rise es h.1) (one_after e.0 0 e.1.acts es h.0)
+all_acts_rise (e ∷ es) h = rise-append act_cmp (act_rows e.0 e.1) (acts_in es) (acts_rise e.0 0 e.1.acts) (all_acts_rise es h.1) (one_after e.0 0 e.1.acts es h.0)
 
 journeys_after : (order : List ℕ) (es : List (List ℕ × TripRow)) → AreAfter name_cmp order es → AreAfter name_cmp order (journeys_in es)
 journeys_after order [] h = tt

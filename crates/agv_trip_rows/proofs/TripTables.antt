@@ -6,11 +6,10 @@ use Rattle.std.specs.List.Sorted.{IsStrictlySortedBy}
 use Rattle.std.specs.Map.{keys_of}
 use Rattle.std.specs.Ordering.{eq_by_cmp}
 use Rattle.agv_header.specs.Name.{name_cmp}
-use Rattle.agv_world.specs.KeyOrders.{leg_cmp-total, leg_cmp-IsAntisymmetric}
-use Rattle.agv_world.specs.Keys.{leg_cmp}
 use Rattle.agv_world.specs.declared.row.TripRow.{TripRow}
 use Rattle.agv_world.proofs.lists.InOrder.{entries-shown}
 use Rattle.agv_world.proofs.lists.Orders.{names_total, names_apart}
+use Rattle.agv_trip_rows.specs.ActKeys.{act_cmp, act_cmp-IsAntisymmetric, act_cmp-total}
 use Rattle.agv_trip_rows.specs.TripRows.{act_rows, acts_of, all_act_rows, is_journey_of, is_of, journey_of, journey_rows, journeys_of, rows_if}
 use Rattle.agv_trip_rows.proofs.KeyedRows.{rows-found, rows-removed, rows-written}
 use Rattle.agv_trip_rows.proofs.RowKeys.{acts_rise, acts_tested, all_acts_rise, journey_row, journeys_in, journeys_rise, named, rise_from_sorted, sorted_from_rise}
@@ -20,8 +19,8 @@ module _ (trips : finite.FinMap name_cmp TripRow) where
   pub journeys_sorted : IsStrictlySortedBy name_cmp (keys_of (journey_rows trips))
   journeys_sorted = sorted_from_rise name_cmp (journey_rows trips) (journeys_rise (finite.entries trips) (rise_from_sorted name_cmp (finite.entries trips) (finite.entries_sorted trips)))
 
-  pub acts_sorted : IsStrictlySortedBy leg_cmp (keys_of (all_act_rows trips))
-  acts_sorted = sorted_from_rise leg_cmp (all_act_rows trips) (all_acts_rise (finite.entries trips) (rise_from_sorted name_cmp (finite.entries trips) (finite.entries_sorted trips)))
+  pub acts_sorted : IsStrictlySortedBy act_cmp (keys_of (all_act_rows trips))
+  acts_sorted = sorted_from_rise act_cmp (all_act_rows trips) (all_acts_rise (finite.entries trips) (rise_from_sorted name_cmp (finite.entries trips) (finite.entries_sorted trips)))
 
   pub entries-journeys : finite.entries (journeys_of trips) ≡ journey_rows trips
   unfolding journeys_of
@@ -29,11 +28,11 @@ module _ (trips : finite.FinMap name_cmp TripRow) where
 
   pub entries-acts : finite.entries (acts_of trips) ≡ all_act_rows trips
   unfolding acts_of
-  entries-acts = entries-shown leg_cmp-total leg_cmp-IsAntisymmetric (all_act_rows trips) acts_sorted
+  entries-acts = entries-shown act_cmp-total act_cmp-IsAntisymmetric (all_act_rows trips) acts_sorted
 
 -- the rows of one trip
-pub entries-own_acts : (order : List ℕ) (trip : TripRow) → finite.entries (finite.from_entries {R = leg_cmp} (act_rows order trip)) ≡ act_rows order trip
-entries-own_acts order trip = entries-shown leg_cmp-total leg_cmp-IsAntisymmetric (act_rows order trip) (sorted_from_rise leg_cmp (act_rows order trip) (acts_rise order 0 trip.acts))
+pub entries-own_acts : (order : List ℕ) (trip : TripRow) → finite.entries (finite.from_entries {R = act_cmp} (act_rows order trip)) ≡ act_rows order trip
+entries-own_acts order trip = entries-shown act_cmp-total act_cmp-IsAntisymmetric (act_rows order trip) (sorted_from_rise act_cmp (act_rows order trip) (acts_rise order 0 trip.acts))
 
 -- ---- journeys
 

@@ -12,13 +12,13 @@ use Rattle.std.specs.Option.{option_and_then, option_or}
 use Rattle.std.specs.Ordering.{eq_by_cmp}
 use Rattle.agv_header.specs.Name.{name_cmp}
 use Rattle.agv_order.specs.declared.act.Act.{Act}
-use Rattle.agv_world.specs.Keys.{leg_cmp}
 use Rattle.agv_world.specs.declared.row.JobRow.{JobRow}
 use Rattle.agv_world.specs.declared.row.TripRow.{TripRow}
 use Rattle.agv_world.proofs.lists.EachEntry.{entry-has}
 use Rattle.agv_world.proofs.lists.Entries.{entries_found, is_same, same_Some}
 use Rattle.agv_world.proofs.lists.InOrder.{entries-shown}
 use Rattle.agv_world.proofs.lists.Orders.{names_total, names_apart}
+use Rattle.agv_trip_rows.specs.ActKeys.{act_cmp}
 use Rattle.agv_trip_rows.specs.TripRows.{act_rows, act_rows_from, is_of, journey_of}
 use Rattle.agv_trip_rows.specs.TripsTold.{AreTripsOf, IsOfJob, acts_told, trip_told}
 use Rattle.agv_trip_rows.specs.declared.act_row.ActRow.{ActRow}
@@ -189,7 +189,7 @@ module _ (jobs : finite.FinMap name_cmp JobRow) where
 
 -- ---- whole tables
 
-module _ (journeys : finite.FinMap name_cmp JourneyRow) (acts : finite.FinMap leg_cmp ActRow) (jobs : finite.FinMap name_cmp JobRow) (trips : Trips) where
+module _ (journeys : finite.FinMap name_cmp JourneyRow) (acts : finite.FinMap act_cmp ActRow) (jobs : finite.FinMap name_cmp JobRow) (trips : Trips) where
   -- trips that have these rows are told
   pub are_told : AreTripsOf journeys acts jobs trips → trips_from jobs finite.empty (finite.entries journeys) (finite.entries acts) ≡ Some trips
   are_told are =
@@ -213,6 +213,6 @@ module _ (journeys : finite.FinMap name_cmp JourneyRow) (acts : finite.FinMap le
   told_just_so told is = (λ some. told_are (is ∙ some), λ are. sym is ∙ are_told are)
 
 -- rows tell no other trips
-pub one_told : (journeys : finite.FinMap name_cmp JourneyRow) (acts : finite.FinMap leg_cmp ActRow) (jobs : finite.FinMap name_cmp JobRow) (trips others : Trips)
+pub one_told : (journeys : finite.FinMap name_cmp JourneyRow) (acts : finite.FinMap act_cmp ActRow) (jobs : finite.FinMap name_cmp JobRow) (trips others : Trips)
     → AreTripsOf journeys acts jobs trips → AreTripsOf journeys acts jobs others → trips ≡ others
 one_told journeys acts jobs trips others one other = same_Some _ _ (sym (are_told journeys acts jobs trips one) ∙ are_told journeys acts jobs others other)

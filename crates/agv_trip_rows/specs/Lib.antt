@@ -1,3 +1,4 @@
+pub mod ActKeys
 pub mod TripRows
 pub mod TripsTold
 pub mod RowValues

@@ -2,7 +2,7 @@
 use Rattle.std.specs.Prelude.{◌≡◌, ℕ, ◌<◌, ◌≤◌, Some}
 use Rattle.agv_header.specs.Name.{IsName}
 use Rattle.agv_world.specs.Lawful.{IsKey}
-use Rattle.agv_world.specs.declared.key.LegKey.{LegKey}
+use Rattle.agv_trip_rows.specs.declared.act_key.ActKey.{ActKey}
 use Rattle.agv_trip_rows.specs.declared.act_row.ActRow.{ActRow}
 use Rattle.agv_trip_rows.specs.declared.journey_row.JourneyRow.{JourneyRow}
 
@@ -17,9 +17,9 @@ pub record IsJourneyValue (row : JourneyRow) : Type 0 where
   pub seen : row.seen ≤ 200
 
 -- the order has a name, and at most eight acts
-pub record IsActKey (key : LegKey) : Type 0 where
+pub record IsActKey (key : ActKey) : Type 0 where
   pub order : IsName key.order
-  pub number : key.k < 8
+  pub number : key.n < 8
 
 -- the job has a name, and the place on the way is at most 200
 pub record IsActValue (row : ActRow) : Type 0 where

@@ -5,9 +5,9 @@ use Rattle.std.specs.FinMap as finite
 use Rattle.std.specs.List.{enumerate_from, flat_map}
 use Rattle.agv_header.specs.Name.{name_cmp}
 use Rattle.agv_order.specs.declared.act.Act.{Act}
-use Rattle.agv_world.specs.Keys.{leg_cmp}
-use Rattle.agv_world.specs.declared.key.LegKey.{LegKey}
 use Rattle.agv_world.specs.declared.row.TripRow.{TripRow}
+use Rattle.agv_trip_rows.specs.ActKeys.{act_cmp}
+use Rattle.agv_trip_rows.specs.declared.act_key.ActKey.{ActKey}
 use Rattle.agv_trip_rows.specs.declared.act_row.ActRow.{ActRow}
 use Rattle.agv_trip_rows.specs.declared.journey_row.JourneyRow.{JourneyRow}
 
@@ -30,19 +30,19 @@ abbrev pub act_row : Act → ActRow
 act_row act = record { job = act.job; kind = act.kind; place_at = act.place_at; status = act.status }
 
 -- the key of act n of an order
-abbrev pub act_key : List ℕ → ℕ → LegKey
-act_key order n = record { order = order; k = n }
+abbrev pub act_key : List ℕ → ℕ → ActKey
+act_key order n = record { order = order; n = n }
 
 -- the row of an act with its key
-abbrev pub numbered_act : List ℕ → ℕ × Act → LegKey × ActRow
+abbrev pub numbered_act : List ℕ → ℕ × Act → ActKey × ActRow
 numbered_act order numbered = (act_key order numbered.0, act_row numbered.1)
 
 -- the rows of acts that are numbered from n on
-abbrev pub act_rows_from : List ℕ → ℕ → List Act → List (LegKey × ActRow)
+abbrev pub act_rows_from : List ℕ → ℕ → List Act → List (ActKey × ActRow)
 act_rows_from order n acts = map (numbered_act order) (enumerate_from n acts)
 
 -- the rows of its acts, which are numbered from 0 on
-abbrev pub act_rows : List ℕ → TripRow → List (LegKey × ActRow)
+abbrev pub act_rows : List ℕ → TripRow → List (ActKey × ActRow)
 act_rows order trip = act_rows_from order 0 trip.acts
 
 -- ---- all trips
@@ -52,7 +52,7 @@ abbrev pub journey_rows : finite.FinMap name_cmp TripRow → List (List ℕ × J
 journey_rows trips = map (λ (entry : List ℕ × TripRow). (entry.0, journey_of entry.1)) (finite.entries trips)
 
 -- the rows of all acts, by order and number
-abbrev pub all_act_rows : finite.FinMap name_cmp TripRow → List (LegKey × ActRow)
+abbrev pub all_act_rows : finite.FinMap name_cmp TripRow → List (ActKey × ActRow)
 all_act_rows trips = flat_map (λ (entry : List ℕ × TripRow). act_rows entry.0 entry.1) (finite.entries trips)
 
 -- the table of the journeys
@@ -60,7 +60,7 @@ unfoldable pub journeys_of : finite.FinMap name_cmp TripRow → finite.FinMap na
 journeys_of trips = finite.from_entries (journey_rows trips)
 
 -- the table of the acts
-unfoldable pub acts_of : finite.FinMap name_cmp TripRow → finite.FinMap leg_cmp ActRow
+unfoldable pub acts_of : finite.FinMap name_cmp TripRow → finite.FinMap act_cmp ActRow
 acts_of trips = finite.from_entries (all_act_rows trips)
 
 -- ---- the rows of one order
@@ -71,7 +71,7 @@ rows_if rows None = []
 rows_if rows (Some x) = rows x
 
 -- the row is of an act of this order
-abbrev pub is_of : List ℕ → LegKey × ActRow → Bool
+abbrev pub is_of : List ℕ → ActKey × ActRow → Bool
 is_of order row = pointwise nat_eq row.0.order order
 
 -- the row is of the journey of this order

@@ -3,9 +3,8 @@ ghost use Rattle.std.specs.Prelude.{◌≡◌, IfOk, OnOk, OnErr};
 ghost use Rattle.std.specs.FinMap as map;
 ghost use Rattle.std.specs.Option.{option_copied};
 
-use crate::ActRow;
+use crate::{ActKey, ActRow};
 use agv_header::Memory;
-use agv_world::LegKey;
 use std::alloc::Global;
 use std::collections::{BTreeMap, btree_map};
 use std::marker::Model;
@@ -14,19 +13,18 @@ use std::marker::Model;
 /// finite map of its rows.
 #[derive(Debug, Drop)]
 pub struct ByAct {
-    kept: BTreeMap<LegKey, ActRow>,
+    kept: BTreeMap<ActKey, ActRow>,
 }
 
 impl Model for ByAct {
     ghost use Rattle.std.specs.FinMap as map;
-    ghost use Rattle.agv_world.specs.Keys.{leg_cmp};
-    ghost use Rattle.agv_world.specs.Codes.{leg_code};
+    ghost use Rattle.agv_trip_rows.specs.ActKeys.{act_cmp, act_code};
     ghost use Rattle.agv_trip_rows.specs.declared.act_row.ActRow.{ActRow as RowOfAct};
     ghost use Rattle.agv_trip_rows.specs.contracts.act_row.ActRow.{the_row};
 
-    ghost Value = { map.FinMap leg_cmp RowOfAct };
+    ghost Value = { map.FinMap act_cmp RowOfAct };
 
-    ghost coded = { map.code leg_code the_row.coded };
+    ghost coded = { map.code act_code the_row.coded };
 
     ghost view = { λ table. map.from_entries table.kept.entries };
 }
@@ -42,7 +40,7 @@ impl ByAct {
     }
 
     /// The row of a key.
-    pub fn get(&self, key: LegKey) -> Option<&ActRow>
+    pub fn get(&self, key: ActKey) -> Option<&ActRow>
         ensures { option_copied result ≡ map.get self.now key }
     {
         self.kept.get(&key)
@@ -56,7 +54,7 @@ impl ByAct {
     }
 
     /// The rows with their keys, in the order of the keys.
-    pub fn iter(&self) -> btree_map::Iter<'_, LegKey, ActRow>
+    pub fn iter(&self) -> btree_map::Iter<'_, ActKey, ActRow>
         ensures { result ≡ map.entries self.now }
     {
         self.kept.iter()
@@ -65,7 +63,7 @@ impl ByAct {
     /// Writes the row of a key, in place of the one that is there.
     ///
     /// `Memory` where an allocation was refused; then nothing has changed.
-    pub fn insert(&mut self, key: LegKey, row: ActRow) -> Result<(), Memory>
+    pub fn insert(&mut self, key: ActKey, row: ActRow) -> Result<(), Memory>
         ensures ok { OnOk result (self.new ≡ map.insert self.old key row) }
         ensures err { OnErr result (self.new ≡ self.old) }
     {
@@ -76,7 +74,7 @@ impl ByAct {
     /// The rows with their keys, in the order of the keys.
     ///
     /// `Memory` where an allocation was refused.
-    pub fn list(&self, alloc: Global) -> Result<Vec<(LegKey, ActRow)>, Memory>
+    pub fn list(&self, alloc: Global) -> Result<Vec<(ActKey, ActRow)>, Memory>
         ensures { IfOk result (λ list. list.items ≡ map.entries self.now) }
     {
         let mut list = Vec::new(alloc);

@@ -1,7 +1,7 @@
 //! How open trips lie in rows, and back: each has the row of its journey, and a row for each of its acts.
 //!
-//! - A [`JourneyRow`] stands at the name of its order. An [`ActRow`] stands at its order and its number among
-//!   the acts of the order, which counts from 0; its load and its station are those of its job.
+//! - A [`JourneyRow`] stands at the name of its order. An [`ActRow`] stands at its [`ActKey`]: its order and its number
+//!   among the acts of the order, which counts from 0; its load and its station are those of its job.
 //!   `specs/TripRows.antt` says which rows trips have, as lists in the order of the keys and as tables.
 //! - A trip is told by its journey, its acts and the jobs (`specs/TripsTold.antt`). [`acts_told`] tells the acts
 //!   of one order, and [`trips_told`] the trips of whole tables, whatever rows these have.
@@ -11,6 +11,7 @@
 //!   trip is written or removed ([`row_laws`]).
 #![tactic(auto)]
 
+mod act_key;
 mod act_row;
 mod by_act;
 mod journey_row;
@@ -18,6 +19,7 @@ pub mod row_laws;
 pub mod trip_laws;
 mod trip_telling;
 
+pub use act_key::ActKey;
 pub use act_row::ActRow;
 pub use by_act::ByAct;
 pub use journey_row::JourneyRow;

@@ -4,16 +4,16 @@ ghost use Rattle.std.specs.FinMap as finite;
 ghost use Rattle.std.specs.List.{AllByRecursion};
 ghost use Rattle.std.specs.Option.{option_map};
 ghost use Rattle.agv_header.specs.Name.{IsName, name_cmp};
-ghost use Rattle.agv_world.specs.Keys.{leg_cmp};
 ghost use Rattle.agv_world.specs.Lawful.{IsLawful};
 ghost use Rattle.agv_world.specs.Rows.{rows_of};
 ghost use Rattle.agv_world.specs.Worlds.{World};
-ghost use Rattle.agv_world.specs.declared.key.LegKey.{LegKey};
 ghost use Rattle.agv_world.specs.declared.row.JobRow.{JobRow as RowOfJob};
 ghost use Rattle.agv_world.specs.declared.row.TripRow.{TripRow};
+ghost use Rattle.agv_trip_rows.specs.ActKeys.{act_cmp};
 ghost use Rattle.agv_trip_rows.specs.RowValues.{IsActKey, IsActValue, IsJourneyValue};
 ghost use Rattle.agv_trip_rows.specs.TripRows.{act_rows, acts_of, journey_of, journeys_of};
 ghost use Rattle.agv_trip_rows.specs.TripsTold.{AreTripsOf, IsOfJob, acts_told, trip_told};
+ghost use Rattle.agv_trip_rows.specs.declared.act_key.ActKey.{ActKey};
 ghost use Rattle.agv_trip_rows.specs.declared.act_row.ActRow.{ActRow as RowOfAct};
 ghost use Rattle.agv_trip_rows.specs.declared.journey_row.JourneyRow.{JourneyRow as RowOfJourney};
 
@@ -33,7 +33,7 @@ pub fn lawful_rows_tell_trips()
 pub fn rows_tell_one_table()
     ensures acts { (jobs : finite.FinMap name_cmp RowOfJob) (order : List ℕ) (trip : TripRow) → AllByRecursion (IsOfJob jobs) trip.acts
         → acts_told jobs 0 (act_rows order trip) ≡ Some trip.acts }
-    ensures one { (journeys : finite.FinMap name_cmp RowOfJourney) (acts : finite.FinMap leg_cmp RowOfAct) (jobs : finite.FinMap name_cmp RowOfJob) (trips others : finite.FinMap name_cmp TripRow)
+    ensures one { (journeys : finite.FinMap name_cmp RowOfJourney) (acts : finite.FinMap act_cmp RowOfAct) (jobs : finite.FinMap name_cmp RowOfJob) (trips others : finite.FinMap name_cmp TripRow)
         → AreTripsOf journeys acts jobs trips → AreTripsOf journeys acts jobs others → trips ≡ others }
 {}
 
@@ -42,7 +42,7 @@ pub fn rows_tell_one_table()
 pub fn lawful_rows_have_values()
     ensures journeys { (seats : ℕ) (world : World) → IsLawful seats world → (order : List ℕ) (row : RowOfJourney)
         → finite.get (journeys_of (rows_of world).trips) order ≡ Some row → IsName order × IsJourneyValue row }
-    ensures acts { (seats : ℕ) (world : World) → IsLawful seats world → (key : LegKey) (row : RowOfAct)
+    ensures acts { (seats : ℕ) (world : World) → IsLawful seats world → (key : ActKey) (row : RowOfAct)
         → finite.get (acts_of (rows_of world).trips) key ≡ Some row → IsActKey key × IsActValue row }
 {
     joins_nodes();

@@ -7,11 +7,11 @@ ghost use Rattle.agv_world.specs.declared.row.TripRow.{TripRow as RowOfTrip};
 ghost use Rattle.agv_trip_rows.specs.TripRows.{is_of};
 ghost use Rattle.agv_trip_rows.specs.TripsTold.{AreTripsOf, acts_told};
 
-use crate::{ActRow, ByAct, JourneyRow};
+use crate::{ActKey, ActRow, ByAct, JourneyRow};
 use agv_header::{Memory, Name};
 use agv_message::Sequence;
 use agv_order::Act;
-use agv_world::{ByName, JobRow, LegKey, TripRow};
+use agv_world::{ByName, JobRow, TripRow};
 use std::alloc::Global;
 
 /// The acts of an order, of their rows in the order of their numbers, which count from 0. None where a number is
@@ -20,14 +20,14 @@ use std::alloc::Global;
 /// `Memory` where an allocation was refused.
 pub fn acts_told(
     alloc: Global,
-    rows: &[(LegKey, ActRow)],
+    rows: &[(ActKey, ActRow)],
     jobs: &ByName<JobRow>,
 ) -> Result<Option<Sequence<Act>>, Memory>
     ensures { IfOk result (λ acts. acts ≡ acts_told jobs.now 0 rows.now) }
 {
     let mut acts = Vec::new(alloc);
     for row in rows {
-        if row.0.k as usize != acts.len() {
+        if row.0.n as usize != acts.len() {
             return Ok(None);
         }
         match jobs.get(row.1.job) {
@@ -71,7 +71,7 @@ pub fn trips_told(
 }
 
 // How many of the first rows are of the order.
-fn count_first(order: Name, rows: &[(LegKey, ActRow)]) -> usize
+fn count_first(order: Name, rows: &[(ActKey, ActRow)]) -> usize
     ensures { result ≡ prefix_len (is_of order) rows.now }
 {
     rows.iter().take_while(|row| row.0.order == order).count()

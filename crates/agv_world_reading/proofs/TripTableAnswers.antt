@@ -6,20 +6,19 @@ use Rattle.std.specs.Cmp.Lexicographic.{nat_list_cmp_total}
 use Rattle.std.specs.FinMap as finite
 use Rattle.sqlite_value.specs.Order.{Row}
 use Rattle.agv_header.specs.Name.{IsName, name_cmp}
+use Rattle.agv_trip_rows.specs.ActKeys.{act_cmp, act_cmp-IsAntisymmetric, act_cmp-total}
 use Rattle.agv_trip_rows.specs.TripRows.{acts_of, journeys_of}
 use Rattle.agv_trip_rows.specs.TripsTold.{AreTripsOf}
+use Rattle.agv_trip_rows.specs.declared.act_key.ActKey.{ActKey}
 use Rattle.agv_trip_rows.specs.declared.act_row.ActRow.{ActRow}
 use Rattle.agv_trip_rows.specs.declared.journey_row.JourneyRow.{JourneyRow}
-use Rattle.agv_world.specs.KeyOrders.{leg_cmp-IsAntisymmetric, leg_cmp-total}
-use Rattle.agv_world.specs.Keys.{leg_cmp}
 use Rattle.agv_world.specs.Rows.{rows_of}
 use Rattle.agv_world.specs.Worlds.{World}
-use Rattle.agv_world.specs.declared.key.LegKey.{LegKey}
 use Rattle.agv_world.specs.declared.row.JobRow.{JobRow}
 use Rattle.agv_world.specs.declared.row.TripRow.{TripRow}
 use Rattle.agv_rows.specs.Columns.{act_columns, act_in, journey_columns, journey_in}
 use Rattle.agv_rows.specs.RowLists.{row_lists, rows_in}
-use Rattle.agv_rows.specs.TypedRows.{IsActRow, IsJourneyRow, IsLegKey}
+use Rattle.agv_rows.specs.TypedRows.{IsActRow, IsActRowKey, IsJourneyRow}
 use Rattle.agv_statements.specs.RowQueries.{all_rows_of}
 use Rattle.agv_row_reading.specs.ReadTables.{Reads, read_rows}
 use Rattle.agv_row_reading.specs.declared.open_fault.OpenFault.{OpenFault}
@@ -36,7 +35,7 @@ abbrev pub AreJourneyValues : World → Type 0
 AreJourneyValues world = (order : List ℕ) (journey : JourneyRow) → finite.get (journeys_of (rows_of world).trips) order ≡ Some journey → IsName order × IsJourneyRow journey
 
 abbrev pub AreActValues : World → Type 0
-AreActValues world = (key : LegKey) (act : ActRow) → finite.get (acts_of (rows_of world).trips) key ≡ Some act → IsLegKey key × IsActRow act
+AreActValues world = (key : ActKey) (act : ActRow) → finite.get (acts_of (rows_of world).trips) key ≡ Some act → IsActRowKey key × IsActRow act
 
 module _ (world : World) (rows : List Row) where
   pub tells_journeys : AreJourneyValues world → IsPermutation (all_rows_of the.Journey (row_lists (rows_of world))) rows → (r : Result (finite.FinMap name_cmp JourneyRow) OpenFault) → Reads r (read_rows journey_in finite.empty rows)
@@ -47,13 +46,13 @@ module _ (world : World) (rows : List Row) where
       reads_it journeys r (read_rows journey_in finite.empty rows) read
       (reads_all nat_list_cmp_total names_apart journeys journey_columns journey_in (λ order journey at. let its = values order journey at in journey_kept order journey its.0 its.1) rows shown)
 
-  pub tells_acts : AreActValues world → IsPermutation (all_rows_of the.Act (row_lists (rows_of world))) rows → (r : Result (finite.FinMap leg_cmp ActRow) OpenFault) → Reads r (read_rows act_in finite.empty rows)
+  pub tells_acts : AreActValues world → IsPermutation (all_rows_of the.Act (row_lists (rows_of world))) rows → (r : Result (finite.FinMap act_cmp ActRow) OpenFault) → Reads r (read_rows act_in finite.empty rows)
       → Follows r (λ table. table ≡ acts_of (rows_of world).trips)
   unfolding row_lists
   tells_acts values shown r read =
       let acts = acts_of (rows_of world).trips in
       reads_it acts r (read_rows act_in finite.empty rows) read
-      (reads_all leg_cmp-total leg_cmp-IsAntisymmetric acts act_columns act_in (λ key act at. let its = values key act at in act_kept key act its.0 its.1) rows shown)
+      (reads_all act_cmp-total act_cmp-IsAntisymmetric acts act_columns act_in (λ key act at. let its = values key act at in act_kept key act its.0 its.1) rows shown)
 
   -- no open trip is in the table of the first schema's
   pub tells_no_trips : IsPermutation (all_rows_of the.Trip (row_lists (rows_of world))) rows → ¬ (nat_eq (length rows) 0 ≡ false)
@@ -65,7 +64,7 @@ none_shown asked rows none shown = none_left asked (sym (length_permutation aske
 
 -- ---- the trips that are told
 
-module _ (journeys : finite.FinMap name_cmp JourneyRow) (acts : finite.FinMap leg_cmp ActRow) (jobs : finite.FinMap name_cmp JobRow) (told : Option (finite.FinMap name_cmp TripRow))
+module _ (journeys : finite.FinMap name_cmp JourneyRow) (acts : finite.FinMap act_cmp ActRow) (jobs : finite.FinMap name_cmp JobRow) (told : Option (finite.FinMap name_cmp TripRow))
     (just : (trips : finite.FinMap name_cmp TripRow) → (told ≡ Some trips) ↔ AreTripsOf journeys acts jobs trips) where
   -- in a lawful world
   pub tells_trips : (world : World) → AreTripsOf (journeys_of (rows_of world).trips) (acts_of (rows_of world).trips) (rows_of world).jobs (rows_of world).trips
@@ -74,7 +73,7 @@ module _ (journeys : finite.FinMap name_cmp JourneyRow) (acts : finite.FinMap le
       let trips = (rows_of world).trips in
       (just trips).1
       (subst (λ (j : finite.FinMap name_cmp JourneyRow). AreTripsOf j acts jobs trips) (sym of_journeys)
-      (subst (λ (a : finite.FinMap leg_cmp ActRow). AreTripsOf (journeys_of trips) a jobs trips) (sym of_acts)
+      (subst (λ (a : finite.FinMap act_cmp ActRow). AreTripsOf (journeys_of trips) a jobs trips) (sym of_acts)
       (subst (λ (j : finite.FinMap name_cmp JobRow). AreTripsOf (journeys_of trips) (acts_of trips) j trips) (sym of_jobs) are)))
 
   -- they have just these rows
@@ -83,4 +82,4 @@ module _ (journeys : finite.FinMap name_cmp JourneyRow) (acts : finite.FinMap le
     shows_journeys asked shown = subst (λ (j : finite.FinMap name_cmp JourneyRow). IsPermutation asked (rows_in journey_columns j)) ((just trips).0 is).has_journeys shown
 
     pub shows_acts : (asked : List Row) → IsPermutation asked (rows_in act_columns acts) → IsPermutation asked (rows_in act_columns (acts_of trips))
-    shows_acts asked shown = subst (λ (a : finite.FinMap leg_cmp ActRow). IsPermutation asked (rows_in act_columns a)) ((just trips).0 is).has_acts shown
+    shows_acts asked shown = subst (λ (a : finite.FinMap act_cmp ActRow). IsPermutation asked (rows_in act_columns a)) ((just trips).0 is).has_acts shown

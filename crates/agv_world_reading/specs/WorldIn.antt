@@ -10,9 +10,9 @@ use Rattle.sqlite_schema.specs.declared.schema.Table.{Table}
 use Rattle.sqlite.specs.Effect.{Database}
 use Rattle.agv_header.specs.Key.{key_cmp}
 use Rattle.agv_header.specs.Name.{name_cmp}
+use Rattle.agv_trip_rows.specs.ActKeys.{act_cmp}
 use Rattle.agv_trip_rows.specs.declared.act_row.ActRow.{ActRow}
 use Rattle.agv_trip_rows.specs.declared.journey_row.JourneyRow.{JourneyRow}
-use Rattle.agv_world.specs.Keys.{leg_cmp}
 use Rattle.agv_world.specs.Told.{world_of}
 use Rattle.agv_world.specs.Worlds.{World}
 use Rattle.agv_world.specs.declared.row.JobRow.{JobRow}
@@ -67,7 +67,7 @@ capacities_in lists = table_told capacity_in (table_at (place_of the.Capacity) l
 abbrev pub journeys_in : List (List Row) → finite.FinMap name_cmp JourneyRow
 journeys_in lists = table_told journey_in (table_at (place_of the.Journey) lists)
 
-abbrev pub acts_in : List (List Row) → finite.FinMap leg_cmp ActRow
+abbrev pub acts_in : List (List Row) → finite.FinMap act_cmp ActRow
 acts_in lists = table_told act_in (table_at (place_of the.Act) lists)
 
 -- the tables that the lists tell, a vehicle with its capacity, and a trip with its journey, its acts and the rows of their jobs; a world has none of `meta`, and tells itself what is held

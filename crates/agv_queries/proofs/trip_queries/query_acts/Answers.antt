@@ -1,7 +1,7 @@
 use Rattle.std.proofs.Common.{[], ◌∷◌, ◌++◌, Err, Ok, ap, refl, sym, subst, ◌∙◌, arith}
 use Rattle.std.specs.FinMap as map
+use Rattle.agv_trip_rows.specs.ActKeys.{act_cmp}
 use Rattle.agv_trip_rows.specs.declared.act_row.ActRow.{ActRow}
-use Rattle.agv_world.specs.Keys.{leg_cmp}
 use Rattle.agv_rows.specs.Columns.{act_in}
 use Rattle.agv_row_reading.specs.ReadTables.{Reads, read_rows}
 use Rattle.agv_statements.specs.RowQueries.{FitsColumns, columns_asked, table_asked}
@@ -21,7 +21,7 @@ pub returns-in_err-table : goal.returns-in_err-table
 returns-in_err-table g c =
     follows g.S.Store c.args.conn.now c.query_rows_by.new.conn c.in_ok-rows.rows _ _ c.from_residual-in_err-table.result
     (λ world lawful shown. acts_fail world (c.rows_tell_trips.ensures.act_values world lawful) c.args.order.now _ c.name_key_values.ensures c.in_ok-rows.rows.items shown c.in_err-table.field-0.0
-    (subst (λ rows. Reads {A = map.FinMap leg_cmp ActRow} (Err c.in_err-table.field-0.0) (read_rows act_in map.empty rows)) c.as_slice.ensures.value c.in_err-table.ensures) c.from_residual-in_err-table.result c.from_residual-in_err-table.ensures.1 _)
+    (subst (λ rows. Reads {A = map.FinMap act_cmp ActRow} (Err c.in_err-table.field-0.0) (read_rows act_in map.empty rows)) c.as_slice.ensures.value c.in_err-table.ensures) c.from_residual-in_err-table.result c.from_residual-in_err-table.ensures.1 _)
     c.in_ok-rows.ensures
 
 pub loop-key-init : goal.loop-key-init
@@ -30,7 +30,7 @@ loop-key-init g c =
     (λ world lawful shown.
     let known = c.rows_tell_trips.ensures.acts world lawful c.args.order.now in
     acts_begin world (c.rows_tell_trips.ensures.act_values world lawful) c.args.order.now _ c.name_key_values.ensures c.in_ok-rows.rows.items shown known.0 known.1 c.in_ok-table.table
-    (subst (λ rows. Reads {A = map.FinMap leg_cmp ActRow} (Ok c.in_ok-table.table) (read_rows act_in map.empty rows)) c.as_slice.ensures.value c.in_ok-table.ensures)
+    (subst (λ rows. Reads {A = map.FinMap act_cmp ActRow} (Ok c.in_ok-table.table) (read_rows act_in map.empty rows)) c.as_slice.ensures.value c.in_ok-table.ensures)
     _ _ c.new-acts.ensures.items (c.into_iter-key-iterator.ensures.into_iter_gives ∙ c.iter-key-items.ensures))
     c.in_ok-rows.ensures
 
