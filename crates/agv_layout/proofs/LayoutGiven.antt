@@ -30,7 +30,7 @@ ties_decides : (id name : Name) → Decides (ties id name) (id ≡ name)
 ties_decides id name = Decides-like _ (λ e. sym e) (λ e. sym e) (decides_name name id)
 
 among_decides : (ids : List Name) (id : Name) → Decides (is_among ids id) (Contains ids id)
-among_decides = is_member-Decides {Name} {ties} ties_decides
+among_decides = is_member-Decides {K = Name} {eq = ties} ties_decides
 
 absent_decides : (ids : List Name) (id : Name) → Decides (not (is_among ids id)) (AllByRecursion (λ other. ties id other ≡ false) ids)
 absent_decides ids id = (λ absent. all_fail (ties id) ids (not-true _ absent), λ fail. ap not (none_passes (ties id) ids fail))
