@@ -46,7 +46,7 @@ pub enum Line<'a> {
         /// Which report.
         kind: ReportKind,
     },
-    /// Migrates a file of the first schema to the second, in which a vehicle has room for several loads.
+    /// Migrates a file of the first schema to the second, in which a vehicle may carry several loads.
     Migrate {
         /// The file of the records.
         db: &'a str,

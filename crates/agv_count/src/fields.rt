@@ -49,6 +49,7 @@ pub fn capacity(field: &[u8]) -> Option<u32>
     str::from_utf8(field).ok()?.parse().ok()
 }
 
+// Whether the field is a capacity: 1 to 3 digits.
 fn writes_capacity(field: &[u8]) -> bool
     ensures { result ≡ is_capacity field.now }
 {

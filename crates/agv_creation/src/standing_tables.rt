@@ -32,7 +32,7 @@ pub fn tables_stand(alloc: Global, schema: &Schema) -> Result<bool, Memory>
     stand_by(alloc, schema, &creation_texts())
 }
 
-// The same of each of the tables that the texts define.
+// Whether each table that the texts define stands just so under its name.
 pub fn stand_by(alloc: Global, schema: &Schema, texts: &[&str]) -> Result<bool, Memory>
     ensures { (tables : List Table) → AllZip (λ text (table : Table). table_defined_by text ≡ Ok table) (map (λ text. text.now) texts.now) tables → AllByRecursion IsPlain tables
         → IfOk result (λ stand. IsTrue stand ↔ AllByRecursion (StandsAlike schema.now) tables) }
@@ -46,7 +46,7 @@ pub fn stand_by(alloc: Global, schema: &Schema, texts: &[&str]) -> Result<bool, 
     stand_by(alloc, schema, others)
 }
 
-// The same of the table that the text defines.
+// Whether the table that the text defines stands just so under its name.
 fn stands_by(alloc: Global, schema: &Schema, text: &str) -> Result<bool, Memory>
     ensures { (table : Table) → table_defined_by text.now ≡ Ok table → IsPlain table → IfOk result (λ stand. IsTrue stand ↔ StandsAlike schema.now table) }
 {

@@ -21,7 +21,7 @@ pub fn allows_desk(schema: &Schema) -> bool
     are_unreferred(tables, &NAMES) && are_apart(tables)
 }
 
-/// The same of each of these names.
+/// Whether no foreign key of the tables refers to one of these names.
 pub fn are_unreferred(tables: &[Table], names: &[&str]) -> bool
     ensures { result ≡ list_all (λ name. is_unreferred name.now tables.now) names.now }
 {
@@ -30,7 +30,7 @@ pub fn are_unreferred(tables: &[Table], names: &[&str]) -> bool
         .all(|name| is_unreferred(tables, name.as_bytes()))
 }
 
-// Whether none of these tables has such a key.
+// Whether no foreign key of the tables refers to a table of that name.
 fn is_unreferred(tables: &[Table], name: &[u8]) -> bool
     ensures { result ≡ is_unreferred name.now tables.now }
 {

@@ -13,7 +13,7 @@ use Rattle.agv_desk.specs.Outcomes.{Outcome, Effect, Made, Registered, Recorded,
 use Rattle.agv_desk.specs.Shared.{is_new, reference_key, goal_of, is_in_job, move_to}
 use Rattle.agv_desk.specs.declared.answer.Answer.TheVariants as answer
 
--- where it is then
+-- the place that a call names: a station, or else the checking place
 abbrev pub place_of : Option (List ℕ) → Place
 place_of None = place.Checking
 place_of (Some station) = place.Station station

@@ -14,7 +14,7 @@ use agv_order::{Act, Trip};
 use agv_stock::{Phase, Place};
 use agv_world::{Change, Fault, Floor, JobRow};
 
-/// Moves the loads of the acts that become finished, in their order.
+/// Pushes the change of the load of each act that becomes finished, in the order of the acts.
 pub(crate) fn move_loads(
     key: &VehicleKey,
     acts: &[Act],
@@ -29,7 +29,7 @@ pub(crate) fn move_loads(
     Ok(())
 }
 
-// Moves the load of an act that becomes finished.
+// Pushes the change of the load of an act, where the act becomes finished.
 fn move_load(
     key: &VehicleKey,
     act: &Act,

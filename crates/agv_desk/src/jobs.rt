@@ -53,7 +53,7 @@ pub(crate) fn add_job<F: Floor>(
     Ok(job_written(alloc, job, row)?)
 }
 
-/// A job that waits is taken back.
+/// A job that waits is stopped.
 pub(crate) fn stop_job<F: Floor>(alloc: Global, floor: &mut F, job: Name) -> Result<Decision, Fault>
     ensures { Asks F.facts floor.old floor.new result (λ world decision. decision ≡ decided (stop_job world job)) }
 {

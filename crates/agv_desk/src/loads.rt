@@ -1,4 +1,5 @@
-//! The calls of loads.
+//! The calls of loads. A refusal that shows early is answered before the floor is asked more; `can_register`, `can_correct`
+//! and `can_leave` have all the checks in their order.
 ghost use Rattle.std.specs.Prelude.{◌≡◌, IfOk};
 ghost use Rattle.agv_world.specs.Asks.{Asks};
 ghost use Rattle.agv_desk.specs.LoadSteps.{place_of, register_load, correct_load, leave_load, recorded, load_registered};
@@ -89,7 +90,7 @@ fn goal_of<F: Floor>(floor: &mut F, station: Option<Name>) -> Result<Goal, Fault
     Ok(goal_at(station, floor.has_room(station)?))
 }
 
-// Where it is then.
+// The place that a call names: a station, or else the checking place.
 fn place_of(station: Option<Name>) -> Place
     ensures { result ≡ place_of station }
 {

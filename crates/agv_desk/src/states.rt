@@ -25,7 +25,8 @@ use agv_track::{Pending, Progress, judge, judge_idle};
 use agv_world::{Change, Fault, Floor, VehicleRow};
 use std::alloc::Global;
 
-/// A state message of a vehicle.
+/// A state message of a vehicle. Where the trip is larger than any of a lawful world it is refused with `Limit`, of which the
+/// clause says nothing.
 pub(crate) fn take_state<F: Floor>(
     alloc: Global,
     floor: &mut F,
@@ -138,7 +139,7 @@ fn trip_state<F: Floor>(
     Ok(accepted_with(Answer::Accepted(true), changes))
 }
 
-// The rows of a vehicle that has driven on, and of the loads that the acts move which become finished.
+// The changes of a vehicle that has driven on (`driven` of the definition), and of the loads whose acts become finished.
 fn driven(
     alloc: Global,
     key: &VehicleKey,

@@ -120,7 +120,7 @@ impl<W: Write> Write for CountingIo<W> {
     }
 }
 
-/// One more, where there is room for it.
+/// One more, up to `u64::MAX`.
 fn add_one(number: &mut u64)
     ensures { number.new ≡ counted number.old 1 }
 {

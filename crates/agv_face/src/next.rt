@@ -19,7 +19,7 @@ use agv_world::Fault;
 use sqlite::Alter;
 use std::alloc::Global;
 
-/// What the next request of a buffer is.
+/// What became of the next request of a buffer.
 #[derive(Clone, Copy)]
 pub(crate) enum Next {
     /// More bytes have to come first.

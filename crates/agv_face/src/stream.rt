@@ -29,7 +29,7 @@ const READS_AT_ALL: u64 = 4_503_599_627_370_495;
 /// The bytes that are reserved for an answer: they hold each answer to a call that changes something.
 const LONGEST_ANSWER: usize = 131_072;
 
-/// What a stream keeps in memory: the table of calls, the bytes that have come and aren't served yet, and the bytes of the
+/// What a stream keeps in memory: the table of routes, the bytes that have come and aren't served yet, and the bytes of the
 /// next answer.
 #[derive(Drop)]
 struct Buffers {

@@ -1,4 +1,4 @@
--- The router over the table of calls: what a path fits, what a match took from it, and that no path fits two lines.
+-- The router over the table of routes: what a path fits, what a match took from it, and that no path fits two lines.
 pub mod Apart
 pub mod Fits
 pub mod Inserting

@@ -3,7 +3,7 @@
 //!
 //! - [`requests`]: an input begins with one thing, and what is heard of a front is what the whole has.
 //! - [`output`]: each input has one output.
-//! - [`routes`]: of the table of calls.
+//! - [`routes`]: of the table of routes.
 //! - [`sizes`]: how long answers are.
 //! - [`streams`]: an input that is served in parts.
 

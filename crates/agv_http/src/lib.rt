@@ -3,7 +3,7 @@
 //! - [`read_request`] finds the next request of a stream in the bytes that have come: a whole one, its fault, the end,
 //!   or that more bytes are needed. `specs/request/Requests.antt` says what a request is, and
 //!   `specs/request/Heard.antt` what is heard of it.
-//! - [`Routes`] says which line of the table of calls a method and a target are: a [`Route`], or that no path fits, or
+//! - [`Routes`] says which line of the table of routes a method and a target are: a [`Route`], or that no path fits, or
 //!   that its path has another method (`specs/routing/Table.antt`).
 //! - [`call_of`] is the call that a [`Route`] and a body make, or the refusal that applies
 //!   (`specs/bodies/BodyCalls.antt`).

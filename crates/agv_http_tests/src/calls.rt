@@ -1,4 +1,4 @@
-//! Paths and methods, the line of the table of calls that each is, and the calls that bodies say there. In a body `|` ends
+//! Paths and methods, the line of the table of routes that each is, and the calls that bodies say there. In a body `|` ends
 //! a line.
 
 use crate::cases::{check_text, part, parts, row, shown, unmarked};
@@ -8,7 +8,7 @@ use http::Method;
 use std::alloc::Global;
 use std::process::Abort;
 
-/// The line of the table of calls that a method and a target are.
+/// The line of the table of routes that a method and a target are.
 fn route_at(
     rt: &impl Abort,
     alloc: Global,
@@ -34,7 +34,7 @@ fn check_routes(rt: &impl Abort, alloc: Global, routes: &Routes, table: &str) {
     }
 }
 
-/// Each path of the table of calls has one method, and another one is told which.
+/// Each path of the table of routes has one method, and another one is told which.
 const TABLE: &str = "\
 PUT /layout => Ok(Fixed(SetLayout))
 POST /vehicles => Ok(Fixed(RegisterVehicle))

@@ -5,7 +5,7 @@
 //!
 //! - `cases` reads such lines, and compares.
 //! - `requests` has requests as their bytes come, one at a time.
-//! - `calls` has paths and methods, the line of the table of calls that each is, and the calls that bodies say there.
+//! - `calls` has paths and methods, the line of the table of routes that each is, and the calls that bodies say there.
 //! - `answers` has the bytes of answers.
 //! - `repeated` reads one request often, and puts one answer often, for `bench/requests`.
 #![tactic(auto)]

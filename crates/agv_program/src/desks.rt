@@ -1,5 +1,5 @@
 //! What is done over any store, whose connection is handed over, or the error of its opening: a desk is opened in it, and a
-//! stream is served, or a report printed; or a file of the first schema is moved to the second.
+//! stream is served, or a report printed; or a file of the first schema is migrated to the second.
 ghost use Rattle.std.specs.Prelude.{◌≡◌, ◌⊎◌, ◌≤◌, ◌<◌, IfErr, IfOk};
 ghost use Rattle.sqlite.specs.Held.{IsNew};
 ghost use Rattle.agv_command_line.specs.CommandLine.{last_moment};
@@ -114,7 +114,7 @@ pub(crate) fn report<S: Alter + Drop, W: Write>(
     }
 }
 
-/// Moves the database of the first schema to the second, and says so.
+/// Migrates the database from the first schema to the second, and says so.
 pub(crate) fn migrate<S: Alter + Drop, W: Write>(
     alloc: Global,
     opened: Result<Connection<S>, Error>,
@@ -130,7 +130,7 @@ pub(crate) fn migrate<S: Alter + Drop, W: Write>(
     }
 }
 
-/// Moves the database of the first schema to the second.
+/// Migrates the database from the first schema to the second.
 fn move_tables<S: Alter + Drop>(
     alloc: Global,
     opened: Result<Connection<S>, Error>,

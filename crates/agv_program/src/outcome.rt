@@ -12,7 +12,7 @@ use std::{error, fmt};
 /// Why a run failed, as the program prints it.
 #[derive(Clone, Copy, Debug, PartialEq, Eq, thiserror::Error)]
 pub enum RunFault {
-    /// The file has no tables of a desk, or what they have breaks a rule of the desk.
+    /// The file has tables or rows that are no lawful desk's, or allows no desk's tables.
     #[error("the file has no desk's tables, or what they have breaks a rule of the desk")]
     Damaged,
     /// Out of memory.

@@ -1,4 +1,4 @@
-//! Which report an answer of the desk names, and its bytes.
+//! Which report an answer of the desk names, and the definition of its bytes.
 //!
 //! An [`Answer`] to one of three calls names a report and doesn't hold it: the stock report, the hold report and the
 //! export of loads. [`report_named`] says which [`Report`] that is. Which bytes each has in a world is `report_text`

@@ -1,4 +1,4 @@
-//! Whether each row of the desk's tables has a whole number of its own, which the statements on one row need.
+//! Whether each row of the desk's tables has a ROWID of its own, a whole number, which the statements on one row need.
 ghost use Rattle.std.specs.BTreeSet as sorted;
 ghost use Rattle.std.specs.Ordering.{int_cmp};
 ghost use Rattle.std.specs.Prelude.{◌≡◌, ◌⊎◌, ◌↔◌, [], ◌∷◌, false, map, IfErr, IfOk, IsTrue, OnErr, OnOk};

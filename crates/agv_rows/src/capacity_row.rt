@@ -2,7 +2,7 @@
 
 use agv_world::Row;
 
-/// How many loads a vehicle has room for.
+/// How many loads a vehicle carries at once.
 #[derive(Clone, Copy, Debug)]
 pub struct CapacityRow {
     pub capacity: u32,

@@ -141,7 +141,7 @@ fn sent_at(row: &Row, first: usize, second: usize) -> Option<Sent>
     Some(Sent { count, at })
 }
 
-/// How many loads a vehicle has room for.
+/// How many loads a vehicle carries at once.
 #[tactic(auto, unfolding(crate::specs::Columns::capacity_in))]
 pub fn decode_capacity(row: &Row) -> Option<(VehicleKey, CapacityRow)>
     ensures { result ≡ capacity_in row.now }

@@ -102,7 +102,7 @@ hold_table = table_of (codes "hold")
 abbrev pub used_table : Table
 used_table = table_of (codes "used") (text (codes "kind") ∷ text (codes "id") ∷ []) (1 ∷ 2 ∷ []) []
 
--- how many loads each vehicle has room for
+-- how many loads each vehicle carries at once
 abbrev pub capacity_table : Table
 capacity_table = table_of (codes "capacity") (text (codes "manufacturer") ∷ text (codes "serial") ∷ number (codes "capacity") ∷ []) (1 ∷ 2 ∷ []) []
 

@@ -1,4 +1,4 @@
--- What the move of a database from the first schema to the second gives.
+-- What the migration of a database from the first schema to the second gives.
 use Rattle.std.specs.Prelude.{◌≡◌, ◌⊎◌, Result, IfErr, IfOk}
 use Rattle.sqlite_trees.specs.Tree.{Trees}
 use Rattle.sqlite_trees.specs.declared.store.Store.{Ghosts}
@@ -17,7 +17,7 @@ use Rattle.agv_store.specs.declared.known.Known.{Known}
 use Rattle.agv_row_reading.specs.declared.open_fault.OpenFault.{OpenFault}
 use Rattle.agv_row_reading.specs.declared.open_fault.OpenFault.TheVariants as fault
 
--- the database can't be moved: it has the first schema's rows of no lawful world, or the tables that the second schema has besides can't be made beside what it has
+-- the database can't be migrated: it has the first schema's rows of no lawful world, or the tables that the second schema has besides can't be made beside what it has
 abbrev pub CannotBeMigrated : Database → Type 0
 CannotBeMigrated db = HasNoFirstWorld db ⊎ (¬ CanBeAdded db.schema)
 
@@ -34,7 +34,7 @@ pub record LeavesMigrated (old : Database) (trees : Trees) : Type 0 where
   pub moves : MovesWorld had.first had.world old found
   pub trees_are : trees ≡ found.trees
 
--- the database can be moved: it has the first schema's rows of a lawful world, and the three tables can be made beside what it has
+-- the database can be migrated: it has the first schema's rows of a lawful world, and the three tables can be made beside what it has
 pub record CanBeMigrated (db : Database) : Type 0 where
   pub had : FirstFound db
   pub possible : CanBeAdded db.schema

@@ -81,6 +81,7 @@ impl Counts {
 fn count(alloc: Global, tables: &World, what: Counted) -> Result<usize, Memory>
     ensures { IfOk result (λ count. count ≡ count_of (world_of tables.now) what) }
 {
+    // No count depends on the seats.
     let mut floor = PlainFloor::new(alloc, tables, 1);
     let Ok(count) = floor.count(what) else {
         return Err(Memory);

@@ -92,6 +92,7 @@ impl<S: Alter + Drop> KeyedFloor<S> {
 pub(crate) fn layout_told(alloc: Global, tables: &World) -> Result<Option<Layout>, Memory>
     ensures { IfOk result (λ layout. layout ≡ layout_set (world_of tables.now)) }
 {
+    // No layout depends on the seats.
     let mut floor = PlainFloor::new(alloc, tables, 1);
     let Ok(layout) = floor.layout() else {
         return Err(Memory);

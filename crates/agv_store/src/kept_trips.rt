@@ -88,7 +88,7 @@ impl<S: Alter + Drop> KeyedFloor<S> {
         put_trip(&mut self.known.trips, *key, copy)
     }
 
-    // That a vehicle has no open trip is known from now on, where its row is kept.
+    // That a vehicle has no open trip is known from now on, where its row is kept: so only of vehicles that are registered.
     pub(crate) fn keep_no_trip(&mut self, key: &VehicleKey) -> Result<(), Memory>
         requires { IsClean S.Store self.old.held → IsOpen S.Store self.old.held → trip_of (world_at S.Store self.old.held) key.now ≡ None }
         ensures { self.new ≡ self.old }

@@ -28,7 +28,7 @@ use agv_world::laws::tables_tell_the_world;
 use agv_world::{Change, Counted, World};
 use std::alloc::Global;
 
-/// What is cached from the tables.
+/// What is known beside the tables.
 #[derive(Drop)]
 pub(crate) struct Known {
     pub(crate) counts: Counts,

@@ -13,7 +13,7 @@
 //!
 //! What a desk keeps true of its connection is `specs/Floors.antt`, of what it knows beside it `specs/Known.antt`, how it
 //! serves a call `specs/Serving.antt`, of a list of calls `specs/Running.antt`, how it is opened `specs/Opening.antt`, and
-//! what a move gives `specs/Migration.antt`.
+//! what a migration gives `specs/Migration.antt`.
 #![tactic(auto)]
 
 mod counts;

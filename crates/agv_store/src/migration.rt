@@ -1,4 +1,4 @@
-//! A database of the first schema is moved to the second, and the desk in it is taken over.
+//! A database of the first schema is migrated to the second, and the desk in it adopted.
 ghost use Rattle.std.specs.Prelude.{◌≡◌, ◌⊎◌, false, IfOk, OnErr};
 ghost use Rattle.sqlite.specs.Held.{state};
 ghost use Rattle.sqlite.specs.State.{Survives};
@@ -20,7 +20,7 @@ use sqlite::{Alter, Connection};
 use std::alloc::Global;
 
 impl<S: Alter + Drop> Desk<S> {
-    /// Moves a database of the first schema, which has no capacities, to the second, and takes the desk over. All is done in
+    /// Migrates a database of the first schema, which has no capacities, to the second, and adopts the desk. All is done in
     /// one transaction: the tables `capacity`, `journey` and `act` are made and have their rows, `trip` is emptied, and `meta`
     /// has the number of the second schema. The world stays the same, and each vehicle has the capacity 1.
     ///

@@ -1,4 +1,5 @@
-//! A desk is made in a database, or adopted from one that has its tables.
+//! A desk is made in a database, or adopted from one that has its tables. `is_autocommit` is called for its clause alone:
+//! outside a transaction all is committed.
 ghost use Rattle.std.specs.Prelude.{◌≡◌, ◌⊎◌, ◌↔◌, false, IfOk, IsTrue, OnErr};
 ghost use Rattle.sqlite.specs.Held.{state};
 ghost use Rattle.sqlite.specs.State.{Survives};
@@ -74,7 +75,7 @@ impl<S: Alter + Drop> Desk<S> {
         }
     }
 
-    /// Takes a desk over from a database that has its tables, whoever wrote them: the schema, every row and what is held
+    /// Adopts the desk of a database that has its tables, whoever wrote them: the schema, every row and what is held
     /// are looked at, and nothing is changed.
     ///
     /// # Errors

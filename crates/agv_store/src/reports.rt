@@ -1,4 +1,5 @@
-//! The bytes of the reports that answers name: each is written from questions only, by the tables as they are.
+//! The bytes of the reports that answers name: lists are gathered from the tables, which changes nothing, and `agv_count`
+//! writes the text.
 ghost use Rattle.std.specs.Prelude.{◌≡◌, false, true, Err, IfOk, IsOkAnd, OnOk, []};
 ghost use Rattle.sqlite.specs.Held.{state};
 ghost use Rattle.sqlite.specs.State.{Survives};

@@ -112,11 +112,12 @@ progress_of trip pending state = record {
   rest = rest_after trip pending state;
 }
 
--- the first refusal of the state, of its way and then of its acts, or where the trip stands afterwards
+-- the refusal, if there is one, else the result
 abbrev pub unless : {T : Type 0} → Option Refusal → Result T Refusal → Result T Refusal
 unless None result = result
 unless (Some refusal) result = Err refusal
 
+-- the first refusal of the state, of its way and then of its acts, or where the trip stands afterwards
 unfoldable pub judged : Trip → Option Pending → StateMessage → Result Progress Refusal
 judged trip pending state =
     unless (first_of (way_refusals trip state)) (unless (first_of (act_refusals trip pending state)) (Ok (progress_of trip pending state)))

@@ -1,7 +1,8 @@
 //! Where vehicles are: what a state message says of a trip, what a vehicle holds, and who holds what.
 //!
-//! - [`judge`] reads a state against the trip of its vehicle, and [`judge_idle`] against a vehicle
-//!   without one: a [`Refusal`](agv_header::Refusal), or the state of the trip after it.
+//! - [`judge`] reads a state against the trip of its vehicle: a [`Refusal`](agv_header::Refusal), or how far the trip is
+//!   then, a [`Progress`]. [`judge_idle`] reads it against a vehicle without one: a refusal, or whether its pending action
+//!   is over.
 //! - [`footprint`] lists the nodes and edges that a vehicle holds, each once, in the order of its way.
 //! - A [`HoldTable`] says of each node and edge which vehicle holds it. [`HoldTable::claim`] gives things
 //!   to a vehicle where no other one holds any of them, and [`HoldTable::shed`] takes from it what it

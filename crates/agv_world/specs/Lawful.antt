@@ -49,7 +49,7 @@ abbrev pub IsRestAt : Layout → List ℕ → Option (List ℕ × List ℕ) → 
 IsRestAt layout node None = Unit {0}
 IsRestAt layout node (Some rest) = IsEdge layout rest.0 (record { start = node; finish = rest.1 })
 
--- a vehicle has 1 to `seats` places for loads, stands at a node, may have gone on from there to a
+-- a vehicle has a capacity of 1 to `seats`, stands at a node, may have gone on from there to a
 -- rest, and what was sent to it was numbered; an action is pending only where a message was sent
 pub record IsVehicleOf (seats : ℕ) (layout : Layout) (row : VehicleRow) : Type 0 where
   pub carries : 1 ≤ row.capacity
@@ -68,7 +68,7 @@ pub record IsVehicleOf (seats : ℕ) (layout : Layout) (row : VehicleRow) : Type
 abbrev pub picks : Act → Bool
 picks act = not (is_drop act.kind)
 
--- the trip is well formed, names its vehicle, has at most as many jobs as the vehicle has places,
+-- the trip is well formed, names its vehicle, has no more jobs than the capacity of the vehicle,
 -- and was sent; the vehicle stands at the node that it has seen last, and there is no rest
 pub record IsTripOf (layout : Layout) (key : VehicleKey) (row : VehicleRow) (trip : Trip) : Type 0 where
   pub well_formed : IsWellFormed layout trip
@@ -188,7 +188,7 @@ pub record HasLawfulLoads (world : World) : Type 0 where
   pub room : (station : List ℕ) (site : StationSite)
       → IsStation world.layout station site
       → length (loads_at world station) + reserved world station ≤ site.capacity
-  -- a vehicle without a trip has at most as many loads as it has places; with a trip, its other
+  -- a vehicle without a trip has at most its capacity of loads; with a trip, its other
   -- loads and the trip's jobs that are not done are together at most that many
   pub idle : (key : VehicleKey) (vehicle : Vehicle)
       → IsVehicle world key vehicle → vehicle.trip ≡ None
@@ -228,7 +228,7 @@ pub record HasLawfulLoads (world : World) : Type 0 where
 
 -- ---- all of it
 
--- the world is lawful, where vehicles have at most so many places for loads
+-- the world is lawful, where the capacity of a vehicle is at most this
 pub record IsLawful (seats : ℕ) (world : World) : Type 0 where
   pub vehicles : HasLawfulVehicles seats world
   pub loads : HasLawfulLoads world

@@ -84,7 +84,7 @@ abbrev pub is_rest : Tables → List ℕ → Option (List ℕ × List ℕ) → B
 is_rest tables node None = true
 is_rest tables node (Some rest) = leads_so (finite.get tables.edges rest.0) node rest.1
 
--- 1 to `seats` places for loads
+-- its capacity is 1 to `seats`
 abbrev pub is_seated : ℕ → VehicleRow → Bool
 is_seated seats row = nat_le 1 row.capacity && nat_le row.capacity seats
 
@@ -107,7 +107,7 @@ abbrev pub is_name_of : Option (List ℕ) → List ℕ → Bool
 is_name_of None name = false
 is_name_of (Some other) name = pointwise nat_eq other name
 
--- the trip is one of this vehicle: it has places enough, was sent an order, and stands where the trip has seen it, without a rest
+-- the trip is one of this vehicle: it has no more jobs than the capacity, was sent an order, and stands where the trip has seen it, without a rest
 abbrev pub is_trip_of_row : VehicleRow → Trip → Bool
 is_trip_of_row row trip =
     nat_le (count_by picks trip.acts) row.capacity

@@ -235,7 +235,7 @@ loads_on_vehicles tables = filter (λ (load : List ℕ × Place). is_on_vehicle 
 abbrev pub loads_of_others_among : List (List ℕ × Place) → VehicleKey → List Act → ℕ
 loads_of_others_among loads key acts = count_by (λ (load : List ℕ × Place). is_on key load.1 && not (is_load_by load.0 acts)) loads
 
--- a vehicle has places for its other loads, among these, and for the jobs of its trip that are not done
+-- its other loads, among these, and the jobs of its trip that are not done are within the capacity of a vehicle
 abbrev pub is_within_capacity_among : List (List ℕ × Place) → VehicleKey × VehicleRow → List Act → Bool
 is_within_capacity_among loads entry acts = nat_le (loads_of_others_among loads entry.0 acts + count_by is_to_drop acts) entry.1.capacity
 
@@ -244,7 +244,7 @@ abbrev pub acts_in : Option (List ℕ × TripRow) → List Act
 acts_in None = []
 acts_in (Some entry) = entry.1.acts
 
--- a vehicle has places for its other loads and for the jobs of its trip that are not done
+-- its other loads and the jobs of its trip that are not done are within the capacity of a vehicle
 abbrev pub is_within_capacity : Tables → VehicleKey × VehicleRow → List Act → Bool
 is_within_capacity tables entry acts = nat_le (loads_of_others tables entry.0 acts + count_by is_to_drop acts) entry.1.capacity
 

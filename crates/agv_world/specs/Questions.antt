@@ -32,7 +32,7 @@ abbrev pub given : Result Layout LayoutFault → Option Layout
 given (Ok layout) = Some layout
 given (Err why) = None
 
--- the layout, once it is set
+-- the layout, once it is set: the empty one of before has no node, so its rows give none
 unfoldable pub layout_set : World → Option Layout
 layout_set world = given (layout_of (rows_in world.layout))
 

@@ -26,7 +26,7 @@ use Rattle.agv_world.specs.declared.row.JobRow.{JobRow}
 use Rattle.agv_world.specs.declared.row.TripRow.{TripRow}
 use Rattle.agv_world.specs.declared.row.VehicleRow.{VehicleRow}
 
--- the eleven tables
+-- the eleven tables. In a database a vehicle lies in two and a trip in two others, and the `trip` of the first schema is empty: fourteen
 pub record Rows : Type 0 where
   pub meta : finite.FinMap nat_cmp ℕ
   pub nodes : set.FinSet name_cmp

@@ -21,8 +21,8 @@ use agv_header::Memory;
 use std::alloc::Global;
 
 impl World {
-    /// Whether these are the tables of a lawful world, where vehicles have at most this many places for
-    /// loads (`specs/Lawful.antt`): it answers `true` just where there is such a world.
+    /// Whether these are the tables of a lawful world, where the capacity of a vehicle is at most `seats`
+    /// (`specs/Lawful.antt`): it answers `true` just where there is such a world.
     ///
     /// `Memory` only when out of memory. It takes time in proportion to the rows, times the logarithm of
     /// their number; but the edges of trips and the loads on vehicles are gone over some times for each vehicle,

@@ -2,8 +2,8 @@
 //!
 //! - In a clause a world is a record of a layout, the vehicles with their open trips, the places of
 //!   loads, the jobs, and the names that were used (`specs/Worlds.antt`).
-//! - Its rows are the content of eleven tables, each a finite map from a key to the rest of its row
-//!   (`specs/Rows.antt`). A [`Change`] is one row written or removed (`specs/Changes.antt`).
+//! - Its rows are eleven tables, each a finite map from a key to the rest of its row (`specs/Rows.antt`); in a database they
+//!   lie in fourteen (docs/TABLES.md). A [`Change`] is one row written or removed (`specs/Changes.antt`).
 //! - In memory a [`World`] is the tables of its rows, but for the holds, which follow from the others
 //!   (`specs/Kept.antt`). [`World::apply`] carries out changes: all of them, or none.
 //! - Rows tell the world, tables tell it, and the holds among the rows are the vehicles' footprints

@@ -79,9 +79,9 @@ fn query_stock_tables<S: Alter>(
 
 /// All tables: those of the world in memory, and who holds what. The row of `meta` is that of the second schema.
 ///
-/// Where [`World::is_lawful`](agv_world::World::is_lawful), asked with [`DESK_SEATS`](agv_schema::DESK_SEATS) places on
-/// each vehicle, and [`HeldThings::are_footprints`] both answer `true`, the database has the rows of a lawful world with at
-/// most this many places on each vehicle (`reading_laws`); where one answers `false`, it has those of none.
+/// Where [`World::is_lawful`](agv_world::World::is_lawful), asked with [`DESK_SEATS`](agv_schema::DESK_SEATS) seats, and
+/// [`HeldThings::are_footprints`] both answer `true`, the database has the rows of a lawful world, in which no capacity is
+/// above the seats (`reading_laws`); where one answers `false`, it has those of none.
 ///
 /// It fails as [`OpenFault`] says.
 pub fn read_world<S: Alter>(

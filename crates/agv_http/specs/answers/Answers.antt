@@ -1,4 +1,4 @@
--- The desk's answers, to the byte (this project's table of calls; RFC 9112, section 6).
+-- The desk's answers, to the byte (this project's formats; RFC 9112, section 6).
 use Rattle.std.specs.Prelude.{ℕ, Bool, List, [], ◌++◌, length, codes, Option, Some, None}
 use Rattle.serde_json.specs.Data.{Data}
 use Rattle.serde_json.specs.Written.{compact_text}

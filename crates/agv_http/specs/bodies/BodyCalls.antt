@@ -1,4 +1,4 @@
--- Which call a request is: a line of the table of calls with the names in its path, and the body.
+-- Which call a request is: a line of the table of routes with the names in its path, and the body.
 use Rattle.std.specs.Prelude.{ℕ, List, Bool, true, false, Result, Ok}
 use Rattle.agv_header.specs.declared.refusal.Refusal.{Refusal}
 use Rattle.agv_desk.specs.declared.call.Call.{Call}
@@ -20,7 +20,7 @@ pub data Reading : Type 0 where
   Csv : (said : List ℕ → Result Call Refusal) → Reading
   Unread : (call : Call) → Reading
 
--- each line of the table of calls
+-- each line of the table of routes
 abbrev pub reading_of : Route → Reading
 reading_of (route.Fixed fixed.SetLayout) = Csv layout_call
 reading_of (route.Fixed fixed.RegisterVehicle) = Json (json_in vehicle_from_json)

@@ -40,6 +40,6 @@ IsHeard buf ended heard.End = IsOver buf ended
 IsHeard buf ended (heard.Fault fault) = HasFault buf ended fault
 IsHeard buf ended (heard.Request lent) = HasRequest buf lent.len (λ request. IsLent request lent)
 
--- the buffer begins with a request whose method is longer than the 15 bytes that a method has room for
+-- the buffer begins with a request whose method is longer than the 15 bytes that `http` keeps without memory
 abbrev pub HasLongMethod : List ℕ → Type 0
 HasLongMethod buf = (len : ℕ) × HasRequest buf len (λ request. 15 < length request.method)

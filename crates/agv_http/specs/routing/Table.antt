@@ -1,4 +1,4 @@
--- The table of calls: which methods and paths the desk serves.
+-- The table of routes: which methods and paths the desk serves. What the calls do is the table of calls, Step of agv_desk.
 use Rattle.std.specs.Prelude.{ℕ, List, [], ◌∷◌, Option, Some, None, IsSome, Result, Ok, Err, map, option_and_then, codes, bytes_eq, if◌then◌else◌}
 use Rattle.agv_header.specs.declared.refusal.Refusal.{Refusal}
 use Rattle.agv_header.specs.declared.refusal.Refusal.TheVariants as refusal
@@ -23,7 +23,7 @@ Entry = List ℕ × Line
 abbrev pub entry : Verb → List ℕ → RouteKind → Entry
 entry method path kind = (path, record { method = method; kind = kind })
 
--- the table of calls: the method, the path with a name's place in braces, and the call
+-- the table of routes: the method, the path with a name's place in braces, and the call
 abbrev pub entries : List Entry
 entries =
     entry Put (codes "/layout") (Fixed fixed.SetLayout)
@@ -100,7 +100,7 @@ method_route_at (r ∷ rows) segments = or_next (method_route_by r segments) (me
 abbrev pub at_path : List ℕ → Option MethodRoute
 at_path path = option_and_then (method_route_at table) (segments_of path)
 
--- only the method of its line reaches a call
+-- the route at a path where the method is its own; another method is refused with the one that is
 abbrev pub if_method : List ℕ → Option MethodRoute → Result Route Refusal
 if_method method None = Err refusal.NoPath
 if_method method (Some found) =

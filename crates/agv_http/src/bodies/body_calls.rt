@@ -1,4 +1,4 @@
-//! From a line of the table of calls and a body to the call that they say.
+//! From a line of the table of routes and a body to the call that they say.
 ghost use Rattle.std.specs.Prelude.{◌≡◌, false, true, Ok, Err, IfOk, IfErr, IsOk};
 ghost use Rattle.std.specs.Str.{is_utf8};
 ghost use Rattle.agv_header.specs.declared.refusal.Refusal.TheVariants as refusal;
@@ -19,7 +19,7 @@ use agv_desk::Call;
 use agv_message::{BodyFault, read_body};
 use std::alloc::Global;
 
-/// The call that a request is, by its line of the table of calls and its body.
+/// The call that a request is, by its line of the table of routes and its body.
 ///
 /// `Refused` where the body of a line that has one isn't what it should be: `BadJson`, `Fraction`,
 /// `BadBody` for JSON, for a state also `Position`, `Version`, `BadTimestamp` and `WrongVehicle`,

@@ -1,4 +1,4 @@
-//! What holds of the table of calls, whatever the code does. The function does nothing: its clause is
+//! What holds of the table of routes, whatever the code does. The function does nothing: its clause is
 //! the law.
 ghost use Rattle.std.specs.Prelude.{ℕ, List, AllPairs};
 ghost use Rattle.agv_http.specs.routing.Table.{table, Fits};

@@ -1,4 +1,4 @@
-//! The lines of the table of calls, as the router keeps them.
+//! The lines of the table of routes, as the router keeps them.
 ghost use Rattle.std.specs.Prelude.{◌≡◌};
 ghost use Rattle.agv_http.specs.routing.Table.{route_with};
 ghost use Rattle.agv_http.specs.routing.Taken.{listed};

@@ -1,4 +1,4 @@
-//! Which line of the table of calls a request is.
+//! Which line of the table of routes a request is.
 ghost use Rattle.std.specs.Prelude.{◌≡◌, ℕ, List, [], ◌∷◌, IsAscii, option_and_then, option_map, position};
 ghost use Rattle.agv_http.specs.routing.Kept.{kept_table};
 ghost use Rattle.agv_http.specs.routing.Paths.{is_question_mark, path_of};
@@ -32,7 +32,7 @@ impl Model for Routes {
 }
 
 impl Routes {
-    /// Makes the table of calls ready.
+    /// Makes the table of routes ready.
     ///
     /// `Memory` when out of memory, and for nothing else: no two lines of the table conflict.
     pub fn new(alloc: Global) -> Result<Routes, Memory> {
@@ -144,7 +144,7 @@ fn question_mark_in(target: &[u8]) -> Option<usize>
     target.iter().position(|byte| *byte == b'?')
 }
 
-/// Only the method of the path's line reaches its call.
+/// The route at the path where the method is its own; another method is refused with the one that is.
 fn if_allowed(method: &[u8], served: Option<(Verb, Route)>) -> Result<Route, Refusal>
     ensures { result ≡ if_method method.now served }
 {

@@ -1,4 +1,4 @@
-//! The table of calls, as it is put into the router.
+//! The table of routes, as it is put into the router.
 ghost use Rattle.std.specs.Prelude.{◌≡◌, true, map, IfOk, OnOk};
 ghost use Rattle.agv_http.specs.routing.Kept.{are_apart, inserted, is_apart, kept_table, with_entries};
 ghost use Rattle.agv_http.specs.routing.Table.{entry};

@@ -56,7 +56,7 @@ impl World {
         Ok(())
     }
 
-    // Whether each vehicle has places for its other loads and for the jobs of its trip that are not done.
+    // Whether each vehicle has the capacity for its other loads and for the jobs of its trip that are not done.
     pub(crate) fn are_within_capacity(&self, alloc: Global) -> Result<bool, Memory>
         ensures { IfOk result (λ are. are ≡ are_within_capacity self.now) }
     {
@@ -84,7 +84,7 @@ impl World {
         self.vehicles.iter().all(|(key, row)| self.is_vehicle_within_capacity(loads, key, row))
     }
 
-    // Whether a vehicle has places for its other loads, among these, and for the jobs of its trip that are
+    // Whether a vehicle has the capacity for its other loads, among these, and for the jobs of its trip that are
     // not done.
     fn is_vehicle_within_capacity(
         &self,
@@ -165,7 +165,7 @@ fn is_on_vehicle(place: Place) -> bool
     }
 }
 
-// Whether a vehicle has places for its other loads, among these, and for the jobs of its trip that are
+// Whether a vehicle has the capacity for its other loads, among these, and for the jobs of its trip that are
 // not done.
 fn is_within_capacity(
     loads: &[(Name, Place)],

@@ -156,7 +156,7 @@ fn is_name_of(other: Option<Name>, name: Name) -> bool
     }
 }
 
-// Whether the trip is one of this vehicle: it has places enough, was sent an order, and stands where the
+// Whether the trip is one of this vehicle: it has the capacity, was sent an order, and stands where the
 // trip has seen it, without a rest.
 fn is_trip_of_row(row: &VehicleRow, trip: &Trip) -> bool
     ensures { result ≡ is_trip_of_row row.now trip.now }

@@ -47,7 +47,7 @@ impl World {
     }
 }
 
-// Whether the vehicle has 1 to `seats` places for loads.
+// Whether the capacity of the vehicle is 1 to `seats`.
 fn is_seated(seats: u32, row: &VehicleRow) -> bool
     ensures { result ≡ is_seated seats row.now }
 {
