@@ -43,14 +43,14 @@ const MAX_CAPACITY_DIGITS: usize = 3;
 pub fn capacity(field: &[u8]) -> Option<u32>
     ensures { result ≡ (if is_capacity field.now then Some (digits_value 10 field.now) else None) }
 {
-    if !writes_capacity(field) {
+    if !is_capacity(field) {
         return None;
     }
     str::from_utf8(field).ok()?.parse().ok()
 }
 
 // Whether the field is a capacity: 1 to 3 digits.
-fn writes_capacity(field: &[u8]) -> bool
+fn is_capacity(field: &[u8]) -> bool
     ensures { result ≡ is_capacity field.now }
 {
     !field.is_empty() && field.len() <= MAX_CAPACITY_DIGITS && are_digits(field)

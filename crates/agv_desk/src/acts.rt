@@ -15,7 +15,7 @@ use agv_stock::{Phase, Place};
 use agv_world::{Change, Fault, Floor, JobRow};
 
 /// Pushes the change of the load of each act that becomes finished, in the order of the acts.
-pub(crate) fn move_loads(
+pub(crate) fn push_moves(
     key: &VehicleKey,
     acts: &[Act],
     statuses: &[Status],
@@ -71,7 +71,7 @@ pub(crate) fn push_jobs<F: Floor>(
 }
 
 /// Pushes the changes of the jobs that stop where a trip, if there is one, ends as it stands.
-pub(crate) fn stop_jobs<F: Floor>(
+pub(crate) fn push_stopped_jobs<F: Floor>(
     floor: &mut F,
     trip: &Option<Trip>,
     changes: &mut Vec<Change>,

@@ -20,7 +20,7 @@ pub(crate) fn refused(alloc: Global, why: Refusal) -> Decision
 }
 
 /// An answer, and the rows that change.
-pub(crate) fn accepted_with(answer: Answer, changes: Vec<Change>) -> Decision
+pub(crate) fn made_with(answer: Answer, changes: Vec<Change>) -> Decision
     ensures answer { result.answer ≡ answer }
     ensures changes { result.changes ≡ changes.items }
 {
@@ -42,5 +42,5 @@ pub(crate) fn row_update(
 {
     let mut changes = Vec::new(alloc);
     push_row(key, old, new, &mut changes)?;
-    Ok(accepted_with(answer, changes))
+    Ok(made_with(answer, changes))
 }

@@ -5,7 +5,7 @@ ghost use Rattle.agv_world.specs.Asks.{Asks};
 ghost use Rattle.agv_desk.specs.JobSteps.{station_of_place, is_waiting, add_job, job_written, stop_job};
 ghost use Rattle.agv_desk.specs.Outcomes.{Made, decided};
 
-use crate::decisions::{accepted_with, refused};
+use crate::decisions::{made_with, refused};
 use crate::shared::{goal_at, is_in_job};
 use crate::{Answer, Decision};
 use agv_header::limits::MAX_RECORDS;
@@ -86,7 +86,7 @@ fn job_written(alloc: Global, job: Name, row: JobRow) -> Result<Decision, Memory
 {
     let mut changes = Vec::new(alloc);
     changes.push(Change::Job(job, row))?;
-    Ok(accepted_with(Answer::Done, changes))
+    Ok(made_with(Answer::Done, changes))
 }
 
 /// The station that a place is; none where it is no station.

@@ -5,7 +5,7 @@ ghost use Rattle.agv_world.specs.TableChanges.{layout_changes};
 ghost use Rattle.agv_desk.specs.LayoutSteps.{IsWhy, lay, row_written, set_layout};
 ghost use Rattle.agv_desk.specs.Outcomes.{decided};
 
-use crate::decisions::{accepted_with, refused};
+use crate::decisions::{made_with, refused};
 use crate::{Answer, Decision};
 use agv_header::{Memory, Refusal};
 use agv_layout::{EdgeEnds, Layout, LayoutFault, LayoutRow, StationSite};
@@ -69,7 +69,7 @@ fn lay(alloc: Global, rows: &[LayoutRow]) -> Result<Decision, NotSet>
 {
     let layout = Layout::of_rows(alloc, rows)?;
     let changes = layout_changes(alloc, &layout)?;
-    Ok(accepted_with(Answer::Done, changes))
+    Ok(made_with(Answer::Done, changes))
 }
 
 // The rows of a layout.

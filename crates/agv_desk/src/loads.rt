@@ -6,7 +6,7 @@ ghost use Rattle.agv_desk.specs.LoadSteps.{place_of, register_load, correct_load
 ghost use Rattle.agv_desk.specs.Outcomes.{Made, decided};
 ghost use Rattle.agv_desk.specs.Shared.{goal_of};
 
-use crate::decisions::{accepted_with, refused};
+use crate::decisions::{made_with, refused};
 use crate::shared::{goal_at, is_in_job, is_new, reference_used};
 use crate::{Answer, Decision};
 use agv_header::limits::MAX_RECORDS;
@@ -44,7 +44,7 @@ fn load_registered(alloc: Global, load: Name, to: Place) -> Result<Decision, Mem
 {
     let mut changes = Vec::new(alloc);
     changes.push(Change::Load(load, to))?;
-    Ok(accepted_with(Answer::Done, changes))
+    Ok(made_with(Answer::Done, changes))
 }
 
 /// Corrects where a load is recorded.
@@ -135,5 +135,5 @@ fn recorded(alloc: Global, load: Name, to: Place, reference: Name) -> Result<Dec
     let mut changes = Vec::new(alloc);
     changes.push(Change::Load(load, to))?;
     changes.push(reference_used(reference))?;
-    Ok(accepted_with(Answer::Done, changes))
+    Ok(made_with(Answer::Done, changes))
 }

@@ -6,7 +6,7 @@ ghost use Rattle.agv_desk.specs.Outcomes.{decided, Made, answer_only};
 ghost use Rattle.agv_desk.specs.ReadSteps.{last_header, instant_told, open_order, order_told, get_order, get_instant, get_load, get_vehicle};
 ghost use Rattle.agv_desk.specs.Sizes.{IsOfSize};
 
-use crate::decisions::{accepted_with, refused};
+use crate::decisions::{made_with, refused};
 use crate::sizes::is_of_size;
 use crate::{Answer, Decision, OpenOrder};
 use agv_header::{Memory, Name, Refusal, VehicleKey};
@@ -137,5 +137,5 @@ fn open_order(trip: &Trip) -> OpenOrder
 pub(crate) fn answer_only(alloc: Global, answer: Answer) -> Decision
     ensures { result ≡ decided (Made (answer_only answer)) }
 {
-    accepted_with(answer, Vec::new(alloc))
+    made_with(answer, Vec::new(alloc))
 }

@@ -12,8 +12,8 @@ ghost use Rattle.agv_desk.specs.Outcomes.{Move, decided};
 ghost use Rattle.agv_desk.specs.Sizes.{IsOfSize, IsShort};
 ghost use Rattle.agv_desk.specs.StateSteps.{driven, fresh_state, with_state, idle_state, pending_of, row_after, take_state, trip_left, trip_state};
 
-use crate::acts::{move_loads, push_jobs};
-use crate::decisions::{accepted_with, refused, row_update};
+use crate::acts::{push_jobs, push_moves};
+use crate::decisions::{made_with, refused, row_update};
 use crate::shared::standing;
 use crate::sizes::is_of_size;
 use crate::vehicle_rows::push_vehicle;
@@ -39,7 +39,7 @@ pub(crate) fn take_state<F: Floor>(
         return Ok(refused(alloc, Refusal::NoVehicle));
     };
     if !is_fresh(row.last_header, state.header_id) {
-        return Ok(accepted_with(Answer::Accepted(false), Vec::new(alloc)));
+        return Ok(made_with(Answer::Accepted(false), Vec::new(alloc)));
     }
     let trip = floor.trip(*key)?;
     if !is_of_size(&trip) {
@@ -134,13 +134,13 @@ fn trip_state<F: Floor>(
     let ended = progress.end.is_some();
     let copied = trip.acts.copy()?;
     let acts = copied.as_slice();
-    let mut changes = driven(alloc, key, row, trip, acts, state, &progress)?;
+    let mut changes = driven_changes(alloc, key, row, trip, acts, state, &progress)?;
     push_jobs(floor, ended, acts, &progress.statuses, &mut changes)?;
-    Ok(accepted_with(Answer::Accepted(true), changes))
+    Ok(made_with(Answer::Accepted(true), changes))
 }
 
 // The changes of a vehicle that has driven on (`driven` of the definition), and of the loads whose acts become finished.
-fn driven(
+fn driven_changes(
     alloc: Global,
     key: &VehicleKey,
     row: &VehicleRow,
@@ -157,7 +157,7 @@ fn driven(
     let old = standing(row, Some(trip));
     let mut changes = Vec::new(alloc);
     push_vehicle(alloc, key, row, &old, next, &new, &mut changes)?;
-    move_loads(key, acts, &progress.statuses, &mut changes)?;
+    push_moves(key, acts, &progress.statuses, &mut changes)?;
     Ok(changes)
 }
 

@@ -16,7 +16,7 @@ mod room;
 mod standing;
 mod stations;
 
-use crate::decisions::{accepted_with, refused};
+use crate::decisions::{made_with, refused};
 use crate::shared::{is_new, reference_used};
 use crate::stocktake::counted_load::CountedLoad;
 use crate::stocktake::counted_load_list::{look_up, some_on_vehicle, unknown};
@@ -108,7 +108,7 @@ fn counted_decision(
         moved: moves.len(),
         unknown: Sequence::from(unknown),
     };
-    Ok(accepted_with(answer, changes))
+    Ok(made_with(answer, changes))
 }
 
 // The loads are at their new places, and the reference is used.

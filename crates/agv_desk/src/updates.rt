@@ -7,7 +7,7 @@ ghost use Rattle.agv_desk.specs.OrderSteps.{advance, can_release, is_last_confir
 ghost use Rattle.agv_desk.specs.Outcomes.{Made, decided};
 ghost use Rattle.agv_desk.specs.Sizes.{IsOfSize, IsShort};
 
-use crate::decisions::{accepted_with, refused};
+use crate::decisions::{made_with, refused};
 use crate::holds::first_held;
 use crate::shared::{Addressee, is_cancelling, is_unready, sent_row, standing};
 use crate::sizes::is_of_size;
@@ -154,5 +154,5 @@ fn update_sent(
     let mut changes = Vec::new(alloc);
     let sent = sent_row(to.row, to.at, number);
     push_vehicle(alloc, to.key, to.row, &before, sent, &after, &mut changes)?;
-    Ok(accepted_with(Answer::Update(update), changes))
+    Ok(made_with(Answer::Update(update), changes))
 }

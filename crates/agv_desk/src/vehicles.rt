@@ -6,8 +6,8 @@ ghost use Rattle.agv_desk.specs.Outcomes.{Made, decided};
 ghost use Rattle.agv_desk.specs.Sizes.{IsOfSize};
 ghost use Rattle.agv_desk.specs.VehicleSteps.{new_vehicle, none_sent, place_vehicle, placed, put_down, register_vehicle, vehicle_registered, resync};
 
-use crate::acts::stop_jobs;
-use crate::decisions::{accepted_with, refused, row_update};
+use crate::acts::push_stopped_jobs;
+use crate::decisions::{made_with, refused, row_update};
 use crate::holds::first_held;
 use crate::shared::{is_new, reference_used, standing};
 use crate::sizes::is_of_size;
@@ -66,7 +66,7 @@ fn vehicle_registered(
     let mut changes = Vec::new(alloc);
     changes.push(Change::Vehicle(*key, new_vehicle(capacity, node)))?;
     changes.push(Change::Hold(Thing::Node(node), Some(*key)))?;
-    Ok(accepted_with(Answer::Done, changes))
+    Ok(made_with(Answer::Done, changes))
 }
 
 // The row of a vehicle that was not heard of yet.
@@ -147,9 +147,9 @@ fn put_down<F: Floor>(
     let new = standing(&next, None);
     let mut changes = Vec::new(alloc);
     push_vehicle(alloc, key, row, &old, next, &new, &mut changes)?;
-    stop_jobs(floor, &old.trip, &mut changes)?;
+    push_stopped_jobs(floor, &old.trip, &mut changes)?;
     changes.push(reference_used(reference))?;
-    Ok(accepted_with(Answer::Done, changes))
+    Ok(made_with(Answer::Done, changes))
 }
 
 // The row of a vehicle that a person has put on a node.

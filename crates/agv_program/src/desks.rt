@@ -122,7 +122,7 @@ pub(crate) fn migrate<S: Alter + Drop, W: Write>(
 ) -> Result<(), RunFault>
     requires { IfOk opened IsNew }
 {
-    move_tables(alloc, opened)?;
+    migrate_tables(alloc, opened)?;
     if write_whole(writer, b"migrated\n") {
         Ok(())
     } else {
@@ -131,7 +131,7 @@ pub(crate) fn migrate<S: Alter + Drop, W: Write>(
 }
 
 /// Migrates the database from the first schema to the second.
-fn move_tables<S: Alter + Drop>(
+fn migrate_tables<S: Alter + Drop>(
     alloc: Global,
     opened: Result<Connection<S>, Error>,
 ) -> Result<(), RunFault>

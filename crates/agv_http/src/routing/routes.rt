@@ -9,7 +9,7 @@ ghost use Rattle.matchit.specs.Params.{walk};
 
 use crate::Route;
 use crate::routing::line::{Line, Names, RouteKind, route_for};
-use crate::routing::table::table_of_calls;
+use crate::routing::table::table_of_routes;
 use agv_header::{Memory, Name, Refusal, Verb};
 use http::Method;
 use matchit::{Params, Router};
@@ -36,7 +36,7 @@ impl Routes {
     ///
     /// `Memory` when out of memory, and for nothing else: no two lines of the table conflict.
     pub fn new(alloc: Global) -> Result<Routes, Memory> {
-        let router = table_of_calls(alloc)?;
+        let router = table_of_routes(alloc)?;
         Ok(Routes { router })
     }
 

@@ -87,7 +87,7 @@ const LINES: [(Verb, &str, RouteKind); 23] = [
 ];
 
 /// A router of all the lines of the table.
-pub(crate) fn table_of_calls(alloc: Global) -> Result<Router<Line>, Memory>
+pub(crate) fn table_of_routes(alloc: Global) -> Result<Router<Line>, Memory>
     ensures { IfOk result (λ router. router ≡ kept_table) }
 {
     let mut router = Router::new(alloc);

@@ -4,4 +4,4 @@ use Rattle.agv_desk.proofs.layouts.lay.Goals as goal
 
 pub returns-clause-laid : goal.returns-clause-laid
 returns-clause-laid c =
-    is_laid c.args.rows.now _ c.accepted_with.result c.in_ok-layout.ensures.given c.accepted_with.ensures.answer (c.accepted_with.ensures.changes ∙ c.in_ok-changes.ensures)
+    is_laid c.args.rows.now _ c.made_with.result c.in_ok-layout.ensures.given c.made_with.ensures.answer (c.made_with.ensures.changes ∙ c.in_ok-changes.ensures)

@@ -11,6 +11,6 @@ pub returns : goal.returns
 unfolding decided
 returns c =
     let moves = c.args.moves.now in
-    let said = c.accepted_with.ensures.answer ∙ ap (answer.Counted (length moves)) (c.from.ensures ∙ c.in_ok-unknown.ensures) in
-    let rows = c.accepted_with.ensures.changes ∙ c.in_ok-changes.ensures ∙ ap (λ (rows : List Change). rows ++ (row.Used (reference_key c.args.reference) ∷ [])) (move_rows row.Load moves) in
+    let said = c.made_with.ensures.answer ∙ ap (answer.Counted (length moves)) (c.from.ensures ∙ c.in_ok-unknown.ensures) in
+    let rows = c.made_with.ensures.changes ∙ c.in_ok-changes.ensures ∙ ap (λ (rows : List Change). rows ++ (row.Used (reference_key c.args.reference) ∷ [])) (move_rows row.Load moves) in
     λ i. record { answer = said i; changes = rows i }

@@ -3,7 +3,7 @@ use Rattle.std.specs.List.{zip}
 use Rattle.agv_world.specs.declared.change.Change.TheVariants as row
 use Rattle.agv_desk.specs.ActSteps.{act_moves}
 use Rattle.agv_desk.specs.Outcomes.{Move}
-use Rattle.agv_desk.proofs.acts.move_loads.Given as goal
+use Rattle.agv_desk.proofs.acts.push_moves.Given as goal
 
 abbrev pub invariant-loop-act : goal.invariant-loop-act
 invariant-loop-act l =

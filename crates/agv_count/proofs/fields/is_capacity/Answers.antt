@@ -1,5 +1,5 @@
 use Rattle.agv_count.proofs.FieldLemmas.{short_digits}
-use Rattle.agv_count.proofs.fields.writes_capacity.Goals as goal
+use Rattle.agv_count.proofs.fields.is_capacity.Goals as goal
 
 pub returns-then-field-le-MAX_CAPACITY_DIGITS : goal.returns-then-field-le-MAX_CAPACITY_DIGITS
 returns-then-field-le-MAX_CAPACITY_DIGITS c =

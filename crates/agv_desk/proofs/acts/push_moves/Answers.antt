@@ -3,7 +3,7 @@ use Rattle.agv_world.specs.declared.change.Change.TheVariants as row
 use Rattle.agv_desk.specs.ActSteps.{act_moves}
 use Rattle.agv_desk.specs.Outcomes.{Move}
 use Rattle.agv_desk.proofs.lists.Pairs.{all_made, no_more}
-use Rattle.agv_desk.proofs.acts.move_loads.Goals as goal
+use Rattle.agv_desk.proofs.acts.push_moves.Goals as goal
 
 pub returns : goal.returns
 returns c = λ order.
