@@ -3,7 +3,6 @@
 //! Each clause `made` says what becomes of the rows, in any database in which the desk's tables stand. An error changes
 //! what the transaction's end undoes.
 ghost use Rattle.std.specs.Prelude.{◌≡◌, IfOk, IsTrue, OnOk, length};
-ghost use Rattle.sqlite.specs.State.{HasCleanDisk, KeepsCommit, Survives};
 ghost use Rattle.sqlite.specs.Held.{state};
 ghost use Rattle.agv_trip_rows.specs.TripRows.{act_key, act_row, act_rows_from};
 ghost use Rattle.agv_rows.specs.Columns.{act_columns};
@@ -12,6 +11,7 @@ ghost use Rattle.agv_schema.specs.DeskRows.{Answers, Makes, table_for, with_row,
 ghost use Rattle.agv_rows.specs.RowLists.{rows_of_acts, without_acts};
 ghost use Rattle.agv_statements.specs.RowUpdates.{with_each};
 ghost use Rattle.agv_schema.specs.declared.table_name.TableName.TheVariants as the;
+ghost use Rattle.agv_statements.specs.WritesInside.{MakesInside, WritesInside};
 
 use crate::shown_rows::{are_of_acts, is_act};
 use agv_header::Name;
@@ -29,11 +29,7 @@ use sqlite::{Alter, Error, Row, Transaction};
 
 /// The order has no acts.
 pub(crate) fn drop_acts<S: Alter>(tx: &mut Transaction<'_, S>, order: &Name) -> Result<usize, Error>
-    ensures same_reference { tx.new.conn.ghost_name ≡ tx.old.conn.ghost_name }
-    ensures survives { Survives (state S.Store tx.old.conn.now) (state S.Store tx.new.conn.now) (λ _. ⊥) }
-    ensures kept { HasCleanDisk (state S.Store tx.new.conn.now) → KeepsCommit (state S.Store tx.old.conn.now) (state S.Store tx.new.conn.now) }
-    ensures made { HasCleanDisk (state S.Store tx.new.conn.now)
-        → OnOk result (Makes (without_acts order.now) (state S.Store tx.old.conn.now) (state S.Store tx.new.conn.now)) }
+    ensures { MakesInside S.Store tx.old tx.new result (without_acts order.now) }
 {
     delete_row(tx, WorldTable::Act, &name_key_values(order))
 }
@@ -44,11 +40,8 @@ pub fn add_acts<S: Alter>(
     order: &Name,
     acts: &[Act],
 ) -> Result<(), Error>
-    ensures same_reference { tx.new.conn.ghost_name ≡ tx.old.conn.ghost_name }
-    ensures survives { Survives (state S.Store tx.old.conn.now) (state S.Store tx.new.conn.now) (λ _. ⊥) }
-    ensures kept { HasCleanDisk (state S.Store tx.new.conn.now) → KeepsCommit (state S.Store tx.old.conn.now) (state S.Store tx.new.conn.now) }
-    ensures made { HasCleanDisk (state S.Store tx.new.conn.now) → IsTrue (state S.Store tx.old.conn.now).in_transaction
-        → OnOk result (Makes (with_rows the.Act (rows_of_acts (act_rows_from order.now 0 acts.now))) (state S.Store tx.old.conn.now) (state S.Store tx.new.conn.now)) }
+    ensures { WritesInside S.Store tx.old tx.new (λ before after. IsTrue before.in_transaction
+        → OnOk result (Makes (with_rows the.Act (rows_of_acts (act_rows_from order.now 0 acts.now))) before after)) }
 {
     for (n, act) in acts.iter().enumerate() {
         add_act(tx, order, n, act)?;
@@ -63,11 +56,7 @@ fn add_act<S: Alter>(
     n: usize,
     act: &Act,
 ) -> Result<usize, Error>
-    ensures same_reference { tx.new.conn.ghost_name ≡ tx.old.conn.ghost_name }
-    ensures survives { Survives (state S.Store tx.old.conn.now) (state S.Store tx.new.conn.now) (λ _. ⊥) }
-    ensures kept { HasCleanDisk (state S.Store tx.new.conn.now) → KeepsCommit (state S.Store tx.old.conn.now) (state S.Store tx.new.conn.now) }
-    ensures made { HasCleanDisk (state S.Store tx.new.conn.now)
-        → OnOk result (Makes (with_row the.Act (act_columns (act_key order.now n) (act_row act.now))) (state S.Store tx.old.conn.now) (state S.Store tx.new.conn.now)) }
+    ensures { MakesInside S.Store tx.old tx.new result (with_row the.Act (act_columns (act_key order.now n) (act_row act.now))) }
 {
     let key = act_key(order, n)?;
     insert_row(tx, WorldTable::Act, &act_values(&key, &ActRow::of(act)))
@@ -90,11 +79,8 @@ pub(crate) fn write_acts<S: Alter>(
     order: &Name,
     acts: &[Act],
 ) -> Result<usize, Error>
-    ensures same_reference { tx.new.conn.ghost_name ≡ tx.old.conn.ghost_name }
-    ensures survives { Survives (state S.Store tx.old.conn.now) (state S.Store tx.new.conn.now) (λ _. ⊥) }
-    ensures kept { HasCleanDisk (state S.Store tx.new.conn.now) → KeepsCommit (state S.Store tx.old.conn.now) (state S.Store tx.new.conn.now) }
-    ensures made { HasCleanDisk (state S.Store tx.new.conn.now) → IsTrue (state S.Store tx.old.conn.now).in_transaction
-        → OnOk result (Makes (λ lists. with_rows the.Act (rows_of_acts (act_rows_from order.now 0 acts.now)) (without_acts order.now lists)) (state S.Store tx.old.conn.now) (state S.Store tx.new.conn.now)) }
+    ensures { WritesInside S.Store tx.old tx.new (λ before after. IsTrue before.in_transaction
+        → OnOk result (Makes (λ lists. with_rows the.Act (rows_of_acts (act_rows_from order.now 0 acts.now)) (without_acts order.now lists)) before after)) }
 {
     let rows = find_rows_by_inside(tx, RowsBy::OrderActs, &name_key_values(order))?;
     if are_of_acts(rows.as_slice(), order, 0, acts) {
@@ -111,12 +97,8 @@ fn put_acts<S: Alter>(
     acts: &[Act],
 ) -> Result<usize, Error>
     requires { length rows.now ≡ length acts.now }
-    ensures same_reference { tx.new.conn.ghost_name ≡ tx.old.conn.ghost_name }
-    ensures survives { Survives (state S.Store tx.old.conn.now) (state S.Store tx.new.conn.now) (λ _. ⊥) }
-    ensures kept { HasCleanDisk (state S.Store tx.new.conn.now) → KeepsCommit (state S.Store tx.old.conn.now) (state S.Store tx.new.conn.now) }
-    ensures made { HasCleanDisk (state S.Store tx.new.conn.now) → IsTrue (state S.Store tx.old.conn.now).in_transaction
-        → AreOfOrder order.now 0 rows.now → Answers (acts_listed order.now) (state S.Store tx.old.conn.now) rows.now
-        → OnOk result (Makes (λ lists. with_rows the.Act (rows_of_acts (act_rows_from order.now 0 acts.now)) (without_acts order.now lists)) (state S.Store tx.old.conn.now) (state S.Store tx.new.conn.now)) }
+    ensures { WritesInside S.Store tx.old tx.new (λ before after. IsTrue before.in_transaction → AreOfOrder order.now 0 rows.now → Answers (acts_listed order.now) before rows.now
+        → OnOk result (Makes (λ lists. with_rows the.Act (rows_of_acts (act_rows_from order.now 0 acts.now)) (without_acts order.now lists)) before after)) }
 {
     for (n, act) in acts.iter().enumerate() {
         if !is_act(&rows[n], order, n, act) {
@@ -133,11 +115,7 @@ fn put_act<S: Alter>(
     n: usize,
     act: &Act,
 ) -> Result<usize, Error>
-    ensures same_reference { tx.new.conn.ghost_name ≡ tx.old.conn.ghost_name }
-    ensures survives { Survives (state S.Store tx.old.conn.now) (state S.Store tx.new.conn.now) (λ _. ⊥) }
-    ensures kept { HasCleanDisk (state S.Store tx.new.conn.now) → KeepsCommit (state S.Store tx.old.conn.now) (state S.Store tx.new.conn.now) }
-    ensures made { HasCleanDisk (state S.Store tx.new.conn.now)
-        → OnOk result (Makes (with_each the.Act (table_for the.Act).primary (act_columns (act_key order.now n) (act_row act.now))) (state S.Store tx.old.conn.now) (state S.Store tx.new.conn.now)) }
+    ensures { MakesInside S.Store tx.old tx.new result (with_each the.Act (table_for the.Act).primary (act_columns (act_key order.now n) (act_row act.now))) }
 {
     let key = act_key(order, n)?;
     update_row(tx, UpdatedTable::Act, &act_values(&key, &ActRow::of(act)))
@@ -149,11 +127,7 @@ fn renew_acts<S: Alter>(
     order: &Name,
     acts: &[Act],
 ) -> Result<usize, Error>
-    ensures same_reference { tx.new.conn.ghost_name ≡ tx.old.conn.ghost_name }
-    ensures survives { Survives (state S.Store tx.old.conn.now) (state S.Store tx.new.conn.now) (λ _. ⊥) }
-    ensures kept { HasCleanDisk (state S.Store tx.new.conn.now) → KeepsCommit (state S.Store tx.old.conn.now) (state S.Store tx.new.conn.now) }
-    ensures made { HasCleanDisk (state S.Store tx.new.conn.now)
-        → OnOk result (Makes (λ lists. with_rows the.Act (rows_of_acts (act_rows_from order.now 0 acts.now)) (without_acts order.now lists)) (state S.Store tx.old.conn.now) (state S.Store tx.new.conn.now)) }
+    ensures { MakesInside S.Store tx.old tx.new result (λ lists. with_rows the.Act (rows_of_acts (act_rows_from order.now 0 acts.now)) (without_acts order.now lists)) }
 {
     drop_acts(tx, order)?;
     add_acts(tx, order, acts)?;

@@ -1,11 +1,10 @@
 //! The capacity of a vehicle is written inside a transaction; its row stays where it is there already.
-ghost use Rattle.std.specs.Prelude.{◌≡◌, IsTrue, OnOk};
-ghost use Rattle.sqlite.specs.State.{HasCleanDisk, KeepsCommit, Survives};
-ghost use Rattle.sqlite.specs.Held.{state};
+ghost use Rattle.std.specs.Prelude.{IsTrue, OnOk};
 ghost use Rattle.agv_rows.specs.Columns.{vehicle_capacity_columns};
 ghost use Rattle.agv_schema.specs.DeskRows.{Makes, with_put};
 ghost use Rattle.agv_rows.specs.RowKeys.{vehicle_key};
 ghost use Rattle.agv_schema.specs.declared.table_name.TableName.TheVariants as the;
+ghost use Rattle.agv_statements.specs.WritesInside.{MakesInside, WritesInside};
 
 use crate::shown_rows::is_only_capacity;
 use agv_header::VehicleKey;
@@ -25,11 +24,8 @@ pub(crate) fn write_capacity<S: Alter>(
     key: &VehicleKey,
     vehicle: &VehicleRow,
 ) -> Result<usize, Error>
-    ensures same_reference { tx.new.conn.ghost_name ≡ tx.old.conn.ghost_name }
-    ensures survives { Survives (state S.Store tx.old.conn.now) (state S.Store tx.new.conn.now) (λ _. ⊥) }
-    ensures kept { HasCleanDisk (state S.Store tx.new.conn.now) → KeepsCommit (state S.Store tx.old.conn.now) (state S.Store tx.new.conn.now) }
-    ensures made { HasCleanDisk (state S.Store tx.new.conn.now) → IsTrue (state S.Store tx.old.conn.now).in_transaction
-        → OnOk result (Makes (with_put the.Capacity (vehicle_key key.now) (vehicle_capacity_columns key.now vehicle.now)) (state S.Store tx.old.conn.now) (state S.Store tx.new.conn.now)) }
+    ensures { WritesInside S.Store tx.old tx.new (λ before after. IsTrue before.in_transaction
+        → OnOk result (Makes (with_put the.Capacity (vehicle_key key.now) (vehicle_capacity_columns key.now vehicle.now)) before after)) }
 {
     let rows = find_rows_inside(tx, RowOf::Capacity, &vehicle_key_values(key))?;
     if is_only_capacity(rows.as_slice(), key, vehicle) {
@@ -44,11 +40,7 @@ fn put_capacity<S: Alter>(
     key: &VehicleKey,
     vehicle: &VehicleRow,
 ) -> Result<usize, Error>
-    ensures same_reference { tx.new.conn.ghost_name ≡ tx.old.conn.ghost_name }
-    ensures survives { Survives (state S.Store tx.old.conn.now) (state S.Store tx.new.conn.now) (λ _. ⊥) }
-    ensures kept { HasCleanDisk (state S.Store tx.new.conn.now) → KeepsCommit (state S.Store tx.old.conn.now) (state S.Store tx.new.conn.now) }
-    ensures made { HasCleanDisk (state S.Store tx.new.conn.now)
-        → OnOk result (Makes (with_put the.Capacity (vehicle_key key.now) (vehicle_capacity_columns key.now vehicle.now)) (state S.Store tx.old.conn.now) (state S.Store tx.new.conn.now)) }
+    ensures { MakesInside S.Store tx.old tx.new result (with_put the.Capacity (vehicle_key key.now) (vehicle_capacity_columns key.now vehicle.now)) }
 {
     put_new(
         tx,

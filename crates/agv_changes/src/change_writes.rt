@@ -2,15 +2,14 @@
 //!
 //! Each clause `made` says of one kind of change what the definition of all of them says, in any database in which
 //! the desk's tables stand. An error changes what the transaction's end undoes.
-ghost use Rattle.std.specs.Prelude.{◌≡◌, None, Some, OnOk};
-ghost use Rattle.sqlite.specs.State.{HasCleanDisk, KeepsCommit, Survives};
-ghost use Rattle.sqlite.specs.Held.{state};
+ghost use Rattle.std.specs.Prelude.{None, Some};
 ghost use Rattle.agv_world.specs.declared.change.Change.TheVariants as row;
 ghost use Rattle.agv_rows.specs.Columns.{journey_columns, vehicle_columns};
 ghost use Rattle.agv_schema.specs.DeskRows.{Makes, with_put, without_key};
 ghost use Rattle.agv_rows.specs.RowKeys.{name_key, vehicle_key};
 ghost use Rattle.agv_rows.specs.RowLists.{listed};
 ghost use Rattle.agv_schema.specs.declared.table_name.TableName.TheVariants as the;
+ghost use Rattle.agv_statements.specs.WritesInside.{MakesInside};
 
 use crate::act_writes::{drop_acts, write_acts};
 use crate::capacity_writes::write_capacity;
@@ -36,11 +35,7 @@ pub(crate) fn write_change<S: Alter>(
     tx: &mut Transaction<'_, S>,
     change: &Change,
 ) -> Result<usize, Error>
-    ensures same_reference { tx.new.conn.ghost_name ≡ tx.old.conn.ghost_name }
-    ensures survives { Survives (state S.Store tx.old.conn.now) (state S.Store tx.new.conn.now) (λ _. ⊥) }
-    ensures kept { HasCleanDisk (state S.Store tx.new.conn.now) → KeepsCommit (state S.Store tx.old.conn.now) (state S.Store tx.new.conn.now) }
-    ensures made { HasCleanDisk (state S.Store tx.new.conn.now)
-        → OnOk result (Makes (listed change.now) (state S.Store tx.old.conn.now) (state S.Store tx.new.conn.now)) }
+    ensures { MakesInside S.Store tx.old tx.new result (listed change.now) }
 {
     match change {
         Change::Node(id) => write_node(tx, id),
@@ -58,11 +53,7 @@ pub(crate) fn write_change<S: Alter>(
 
 // The node is there.
 fn write_node<S: Alter>(tx: &mut Transaction<'_, S>, id: &Name) -> Result<usize, Error>
-    ensures same_reference { tx.new.conn.ghost_name ≡ tx.old.conn.ghost_name }
-    ensures survives { Survives (state S.Store tx.old.conn.now) (state S.Store tx.new.conn.now) (λ _. ⊥) }
-    ensures kept { HasCleanDisk (state S.Store tx.new.conn.now) → KeepsCommit (state S.Store tx.old.conn.now) (state S.Store tx.new.conn.now) }
-    ensures made { HasCleanDisk (state S.Store tx.new.conn.now)
-        → OnOk result (Makes (listed (row.Node id.now)) (state S.Store tx.old.conn.now) (state S.Store tx.new.conn.now)) }
+    ensures { MakesInside S.Store tx.old tx.new result (listed (row.Node id.now)) }
 {
     put_new(tx, WorldTable::Node, &name_key_values(id), &node_values(id))
 }
@@ -73,11 +64,7 @@ fn write_edge<S: Alter>(
     id: &Name,
     ends: &EdgeEnds,
 ) -> Result<usize, Error>
-    ensures same_reference { tx.new.conn.ghost_name ≡ tx.old.conn.ghost_name }
-    ensures survives { Survives (state S.Store tx.old.conn.now) (state S.Store tx.new.conn.now) (λ _. ⊥) }
-    ensures kept { HasCleanDisk (state S.Store tx.new.conn.now) → KeepsCommit (state S.Store tx.old.conn.now) (state S.Store tx.new.conn.now) }
-    ensures made { HasCleanDisk (state S.Store tx.new.conn.now)
-        → OnOk result (Makes (listed (row.Edge id.now ends.now)) (state S.Store tx.old.conn.now) (state S.Store tx.new.conn.now)) }
+    ensures { MakesInside S.Store tx.old tx.new result (listed (row.Edge id.now ends.now)) }
 {
     put_new(
         tx,
@@ -93,11 +80,7 @@ fn write_station<S: Alter>(
     id: &Name,
     site: &StationSite,
 ) -> Result<usize, Error>
-    ensures same_reference { tx.new.conn.ghost_name ≡ tx.old.conn.ghost_name }
-    ensures survives { Survives (state S.Store tx.old.conn.now) (state S.Store tx.new.conn.now) (λ _. ⊥) }
-    ensures kept { HasCleanDisk (state S.Store tx.new.conn.now) → KeepsCommit (state S.Store tx.old.conn.now) (state S.Store tx.new.conn.now) }
-    ensures made { HasCleanDisk (state S.Store tx.new.conn.now)
-        → OnOk result (Makes (listed (row.Station id.now site.now)) (state S.Store tx.old.conn.now) (state S.Store tx.new.conn.now)) }
+    ensures { MakesInside S.Store tx.old tx.new result (listed (row.Station id.now site.now)) }
 {
     put_new(
         tx,
@@ -113,11 +96,7 @@ fn write_vehicle<S: Alter>(
     key: &VehicleKey,
     vehicle: &VehicleRow,
 ) -> Result<usize, Error>
-    ensures same_reference { tx.new.conn.ghost_name ≡ tx.old.conn.ghost_name }
-    ensures survives { Survives (state S.Store tx.old.conn.now) (state S.Store tx.new.conn.now) (λ _. ⊥) }
-    ensures kept { HasCleanDisk (state S.Store tx.new.conn.now) → KeepsCommit (state S.Store tx.old.conn.now) (state S.Store tx.new.conn.now) }
-    ensures made { HasCleanDisk (state S.Store tx.new.conn.now)
-        → OnOk result (Makes (listed (row.Vehicle key.now vehicle.now)) (state S.Store tx.old.conn.now) (state S.Store tx.new.conn.now)) }
+    ensures { MakesInside S.Store tx.old tx.new result (listed (row.Vehicle key.now vehicle.now)) }
 {
     put_vehicle(tx, key, vehicle)?;
     write_capacity(tx, key, vehicle)
@@ -129,11 +108,7 @@ fn put_vehicle<S: Alter>(
     key: &VehicleKey,
     vehicle: &VehicleRow,
 ) -> Result<usize, Error>
-    ensures same_reference { tx.new.conn.ghost_name ≡ tx.old.conn.ghost_name }
-    ensures survives { Survives (state S.Store tx.old.conn.now) (state S.Store tx.new.conn.now) (λ _. ⊥) }
-    ensures kept { HasCleanDisk (state S.Store tx.new.conn.now) → KeepsCommit (state S.Store tx.old.conn.now) (state S.Store tx.new.conn.now) }
-    ensures made { HasCleanDisk (state S.Store tx.new.conn.now)
-        → OnOk result (Makes (with_put the.Vehicle (vehicle_key key.now) (vehicle_columns key.now vehicle.now)) (state S.Store tx.old.conn.now) (state S.Store tx.new.conn.now)) }
+    ensures { MakesInside S.Store tx.old tx.new result (with_put the.Vehicle (vehicle_key key.now) (vehicle_columns key.now vehicle.now)) }
 {
     put_over(
         tx,
@@ -149,11 +124,7 @@ fn write_trip<S: Alter>(
     order: &Name,
     trip: &Option<TripRow>,
 ) -> Result<usize, Error>
-    ensures same_reference { tx.new.conn.ghost_name ≡ tx.old.conn.ghost_name }
-    ensures survives { Survives (state S.Store tx.old.conn.now) (state S.Store tx.new.conn.now) (λ _. ⊥) }
-    ensures kept { HasCleanDisk (state S.Store tx.new.conn.now) → KeepsCommit (state S.Store tx.old.conn.now) (state S.Store tx.new.conn.now) }
-    ensures made { HasCleanDisk (state S.Store tx.new.conn.now)
-        → OnOk result (Makes (listed (row.Trip order.now trip.now)) (state S.Store tx.old.conn.now) (state S.Store tx.new.conn.now)) }
+    ensures { MakesInside S.Store tx.old tx.new result (listed (row.Trip order.now trip.now)) }
 {
     match trip {
         None => drop_trip(tx, order),
@@ -163,11 +134,7 @@ fn write_trip<S: Alter>(
 
 // The order has no open trip.
 fn drop_trip<S: Alter>(tx: &mut Transaction<'_, S>, order: &Name) -> Result<usize, Error>
-    ensures same_reference { tx.new.conn.ghost_name ≡ tx.old.conn.ghost_name }
-    ensures survives { Survives (state S.Store tx.old.conn.now) (state S.Store tx.new.conn.now) (λ _. ⊥) }
-    ensures kept { HasCleanDisk (state S.Store tx.new.conn.now) → KeepsCommit (state S.Store tx.old.conn.now) (state S.Store tx.new.conn.now) }
-    ensures made { HasCleanDisk (state S.Store tx.new.conn.now)
-        → OnOk result (Makes (listed (row.Trip order.now None)) (state S.Store tx.old.conn.now) (state S.Store tx.new.conn.now)) }
+    ensures { MakesInside S.Store tx.old tx.new result (listed (row.Trip order.now None)) }
 {
     drop_journey(tx, order)?;
     drop_acts(tx, order)
@@ -175,11 +142,7 @@ fn drop_trip<S: Alter>(tx: &mut Transaction<'_, S>, order: &Name) -> Result<usiz
 
 // The order has no journey.
 fn drop_journey<S: Alter>(tx: &mut Transaction<'_, S>, order: &Name) -> Result<usize, Error>
-    ensures same_reference { tx.new.conn.ghost_name ≡ tx.old.conn.ghost_name }
-    ensures survives { Survives (state S.Store tx.old.conn.now) (state S.Store tx.new.conn.now) (λ _. ⊥) }
-    ensures kept { HasCleanDisk (state S.Store tx.new.conn.now) → KeepsCommit (state S.Store tx.old.conn.now) (state S.Store tx.new.conn.now) }
-    ensures made { HasCleanDisk (state S.Store tx.new.conn.now)
-        → OnOk result (Makes (without_key the.Journey (name_key order.now)) (state S.Store tx.old.conn.now) (state S.Store tx.new.conn.now)) }
+    ensures { MakesInside S.Store tx.old tx.new result (without_key the.Journey (name_key order.now)) }
 {
     delete_row(tx, WorldTable::Journey, &name_key_values(order))
 }
@@ -190,11 +153,7 @@ fn write_open_trip<S: Alter>(
     order: &Name,
     trip: &TripRow,
 ) -> Result<usize, Error>
-    ensures same_reference { tx.new.conn.ghost_name ≡ tx.old.conn.ghost_name }
-    ensures survives { Survives (state S.Store tx.old.conn.now) (state S.Store tx.new.conn.now) (λ _. ⊥) }
-    ensures kept { HasCleanDisk (state S.Store tx.new.conn.now) → KeepsCommit (state S.Store tx.old.conn.now) (state S.Store tx.new.conn.now) }
-    ensures made { HasCleanDisk (state S.Store tx.new.conn.now)
-        → OnOk result (Makes (listed (row.Trip order.now (Some trip.now))) (state S.Store tx.old.conn.now) (state S.Store tx.new.conn.now)) }
+    ensures { MakesInside S.Store tx.old tx.new result (listed (row.Trip order.now (Some trip.now))) }
 {
     put_journey(tx, order, &JourneyRow::of(trip))?;
     write_acts(tx, order, trip.acts.as_slice())
@@ -206,11 +165,7 @@ fn put_journey<S: Alter>(
     order: &Name,
     journey: &JourneyRow,
 ) -> Result<usize, Error>
-    ensures same_reference { tx.new.conn.ghost_name ≡ tx.old.conn.ghost_name }
-    ensures survives { Survives (state S.Store tx.old.conn.now) (state S.Store tx.new.conn.now) (λ _. ⊥) }
-    ensures kept { HasCleanDisk (state S.Store tx.new.conn.now) → KeepsCommit (state S.Store tx.old.conn.now) (state S.Store tx.new.conn.now) }
-    ensures made { HasCleanDisk (state S.Store tx.new.conn.now)
-        → OnOk result (Makes (with_put the.Journey (name_key order.now) (journey_columns order.now journey.now)) (state S.Store tx.old.conn.now) (state S.Store tx.new.conn.now)) }
+    ensures { MakesInside S.Store tx.old tx.new result (with_put the.Journey (name_key order.now) (journey_columns order.now journey.now)) }
 {
     put_over(
         tx,
@@ -226,11 +181,7 @@ fn write_leg<S: Alter>(
     key: &LegKey,
     edge: &Option<Name>,
 ) -> Result<usize, Error>
-    ensures same_reference { tx.new.conn.ghost_name ≡ tx.old.conn.ghost_name }
-    ensures survives { Survives (state S.Store tx.old.conn.now) (state S.Store tx.new.conn.now) (λ _. ⊥) }
-    ensures kept { HasCleanDisk (state S.Store tx.new.conn.now) → KeepsCommit (state S.Store tx.old.conn.now) (state S.Store tx.new.conn.now) }
-    ensures made { HasCleanDisk (state S.Store tx.new.conn.now)
-        → OnOk result (Makes (listed (row.Leg key.now edge.now)) (state S.Store tx.old.conn.now) (state S.Store tx.new.conn.now)) }
+    ensures { MakesInside S.Store tx.old tx.new result (listed (row.Leg key.now edge.now)) }
 {
     match edge {
         None => drop_leg(tx, key),
@@ -245,11 +196,7 @@ fn write_leg<S: Alter>(
 
 // That edge is not on the way of an open trip.
 fn drop_leg<S: Alter>(tx: &mut Transaction<'_, S>, key: &LegKey) -> Result<usize, Error>
-    ensures same_reference { tx.new.conn.ghost_name ≡ tx.old.conn.ghost_name }
-    ensures survives { Survives (state S.Store tx.old.conn.now) (state S.Store tx.new.conn.now) (λ _. ⊥) }
-    ensures kept { HasCleanDisk (state S.Store tx.new.conn.now) → KeepsCommit (state S.Store tx.old.conn.now) (state S.Store tx.new.conn.now) }
-    ensures made { HasCleanDisk (state S.Store tx.new.conn.now)
-        → OnOk result (Makes (listed (row.Leg key.now None)) (state S.Store tx.old.conn.now) (state S.Store tx.new.conn.now)) }
+    ensures { MakesInside S.Store tx.old tx.new result (listed (row.Leg key.now None)) }
 {
     delete_row(tx, WorldTable::Leg, &leg_key_values(key))
 }
@@ -260,11 +207,7 @@ fn write_load<S: Alter>(
     id: &Name,
     place: &Place,
 ) -> Result<usize, Error>
-    ensures same_reference { tx.new.conn.ghost_name ≡ tx.old.conn.ghost_name }
-    ensures survives { Survives (state S.Store tx.old.conn.now) (state S.Store tx.new.conn.now) (λ _. ⊥) }
-    ensures kept { HasCleanDisk (state S.Store tx.new.conn.now) → KeepsCommit (state S.Store tx.old.conn.now) (state S.Store tx.new.conn.now) }
-    ensures made { HasCleanDisk (state S.Store tx.new.conn.now)
-        → OnOk result (Makes (listed (row.Load id.now place.now)) (state S.Store tx.old.conn.now) (state S.Store tx.new.conn.now)) }
+    ensures { MakesInside S.Store tx.old tx.new result (listed (row.Load id.now place.now)) }
 {
     put_over(
         tx,
@@ -276,11 +219,7 @@ fn write_load<S: Alter>(
 
 // The job is this.
 fn write_job<S: Alter>(tx: &mut Transaction<'_, S>, id: &Name, job: &JobRow) -> Result<usize, Error>
-    ensures same_reference { tx.new.conn.ghost_name ≡ tx.old.conn.ghost_name }
-    ensures survives { Survives (state S.Store tx.old.conn.now) (state S.Store tx.new.conn.now) (λ _. ⊥) }
-    ensures kept { HasCleanDisk (state S.Store tx.new.conn.now) → KeepsCommit (state S.Store tx.old.conn.now) (state S.Store tx.new.conn.now) }
-    ensures made { HasCleanDisk (state S.Store tx.new.conn.now)
-        → OnOk result (Makes (listed (row.Job id.now job.now)) (state S.Store tx.old.conn.now) (state S.Store tx.new.conn.now)) }
+    ensures { MakesInside S.Store tx.old tx.new result (listed (row.Job id.now job.now)) }
 {
     put_over(
         tx,
@@ -296,11 +235,7 @@ fn write_hold<S: Alter>(
     thing: &Thing,
     key: &Option<VehicleKey>,
 ) -> Result<usize, Error>
-    ensures same_reference { tx.new.conn.ghost_name ≡ tx.old.conn.ghost_name }
-    ensures survives { Survives (state S.Store tx.old.conn.now) (state S.Store tx.new.conn.now) (λ _. ⊥) }
-    ensures kept { HasCleanDisk (state S.Store tx.new.conn.now) → KeepsCommit (state S.Store tx.old.conn.now) (state S.Store tx.new.conn.now) }
-    ensures made { HasCleanDisk (state S.Store tx.new.conn.now)
-        → OnOk result (Makes (listed (row.Hold thing.now key.now)) (state S.Store tx.old.conn.now) (state S.Store tx.new.conn.now)) }
+    ensures { MakesInside S.Store tx.old tx.new result (listed (row.Hold thing.now key.now)) }
 {
     match key {
         None => drop_hold(tx, thing),
@@ -315,11 +250,7 @@ fn write_hold<S: Alter>(
 
 // The name was used.
 fn write_used<S: Alter>(tx: &mut Transaction<'_, S>, key: &UseKey) -> Result<usize, Error>
-    ensures same_reference { tx.new.conn.ghost_name ≡ tx.old.conn.ghost_name }
-    ensures survives { Survives (state S.Store tx.old.conn.now) (state S.Store tx.new.conn.now) (λ _. ⊥) }
-    ensures kept { HasCleanDisk (state S.Store tx.new.conn.now) → KeepsCommit (state S.Store tx.old.conn.now) (state S.Store tx.new.conn.now) }
-    ensures made { HasCleanDisk (state S.Store tx.new.conn.now)
-        → OnOk result (Makes (listed (row.Used key.now)) (state S.Store tx.old.conn.now) (state S.Store tx.new.conn.now)) }
+    ensures { MakesInside S.Store tx.old tx.new result (listed (row.Used key.now)) }
 {
     put_new(tx, WorldTable::Used, &used_values(key), &used_values(key))
 }

@@ -3,14 +3,13 @@
 //! Each clause `made` says what becomes of the rows, whatever they are. An error changes what the transaction's end undoes.
 ghost use Rattle.std.specs.Prelude.{◌≡◌, IsTrue, OnOk};
 ghost use Rattle.std.specs.FinMap as finite;
-ghost use Rattle.sqlite.specs.State.{HasCleanDisk, KeepsCommit, Survives};
-ghost use Rattle.sqlite.specs.Held.{state};
 ghost use Rattle.sqlite.specs.Values.{bound};
 ghost use Rattle.agv_schema.specs.declared.table_name.TableName.TheVariants as the;
 ghost use Rattle.agv_first_schema.specs.Moved.{for_each, moved_lists, numbered_anew, with_journey, with_vehicle_capacity, without_all};
 ghost use Rattle.agv_rows.specs.Columns.{journey_columns, meta_columns, vehicle_capacity_columns};
 ghost use Rattle.agv_schema.specs.DeskRows.{Makes, with_row};
 ghost use Rattle.agv_schema.specs.SchemaNumbers.{schema_number};
+ghost use Rattle.agv_statements.specs.WritesInside.{MakesInside, WritesInside};
 
 use agv_changes::act_writes::add_acts;
 use agv_header::{Name, VehicleKey};
@@ -25,11 +24,7 @@ use sqlite::{Alter, Error, Transaction};
 /// The open trips stand as journeys and acts, each vehicle has a row of its capacity, and `meta` has the number of the
 /// second schema.
 pub(crate) fn move_rows<S: Alter>(tx: &mut Transaction<'_, S>, tables: &World) -> Result<(), Error>
-    ensures same_reference { tx.new.conn.ghost_name ≡ tx.old.conn.ghost_name }
-    ensures survives { Survives (state S.Store tx.old.conn.now) (state S.Store tx.new.conn.now) (λ _. ⊥) }
-    ensures kept { HasCleanDisk (state S.Store tx.new.conn.now) → KeepsCommit (state S.Store tx.old.conn.now) (state S.Store tx.new.conn.now) }
-    ensures made { HasCleanDisk (state S.Store tx.new.conn.now)
-        → OnOk result (Makes (moved_lists tables.now) (state S.Store tx.old.conn.now) (state S.Store tx.new.conn.now)) }
+    ensures { MakesInside S.Store tx.old tx.new result (moved_lists tables.now) }
 {
     empty_trips(tx)?;
     number_anew(tx)?;
@@ -39,22 +34,14 @@ pub(crate) fn move_rows<S: Alter>(tx: &mut Transaction<'_, S>, tables: &World) -
 
 // Takes out all rows of `trip`.
 fn empty_trips<S: Alter>(tx: &mut Transaction<'_, S>) -> Result<usize, Error>
-    ensures same_reference { tx.new.conn.ghost_name ≡ tx.old.conn.ghost_name }
-    ensures survives { Survives (state S.Store tx.old.conn.now) (state S.Store tx.new.conn.now) (λ _. ⊥) }
-    ensures kept { HasCleanDisk (state S.Store tx.new.conn.now) → KeepsCommit (state S.Store tx.old.conn.now) (state S.Store tx.new.conn.now) }
-    ensures made { HasCleanDisk (state S.Store tx.new.conn.now)
-        → OnOk result (Makes (without_all the.Trip) (state S.Store tx.old.conn.now) (state S.Store tx.new.conn.now)) }
+    ensures { MakesInside S.Store tx.old tx.new result (without_all the.Trip) }
 {
     tx.execute("DELETE FROM trip", &[])
 }
 
 // The number of the second schema stands in `meta`.
 fn number_anew<S: Alter>(tx: &mut Transaction<'_, S>) -> Result<usize, Error>
-    ensures same_reference { tx.new.conn.ghost_name ≡ tx.old.conn.ghost_name }
-    ensures survives { Survives (state S.Store tx.old.conn.now) (state S.Store tx.new.conn.now) (λ _. ⊥) }
-    ensures kept { HasCleanDisk (state S.Store tx.new.conn.now) → KeepsCommit (state S.Store tx.old.conn.now) (state S.Store tx.new.conn.now) }
-    ensures made { HasCleanDisk (state S.Store tx.new.conn.now)
-        → OnOk result (Makes numbered_anew (state S.Store tx.old.conn.now) (state S.Store tx.new.conn.now)) }
+    ensures { MakesInside S.Store tx.old tx.new result numbered_anew }
 {
     clear_number(tx)?;
     write_number(tx)
@@ -62,22 +49,14 @@ fn number_anew<S: Alter>(tx: &mut Transaction<'_, S>) -> Result<usize, Error>
 
 // Takes out the row of `meta`.
 fn clear_number<S: Alter>(tx: &mut Transaction<'_, S>) -> Result<usize, Error>
-    ensures same_reference { tx.new.conn.ghost_name ≡ tx.old.conn.ghost_name }
-    ensures survives { Survives (state S.Store tx.old.conn.now) (state S.Store tx.new.conn.now) (λ _. ⊥) }
-    ensures kept { HasCleanDisk (state S.Store tx.new.conn.now) → KeepsCommit (state S.Store tx.old.conn.now) (state S.Store tx.new.conn.now) }
-    ensures made { HasCleanDisk (state S.Store tx.new.conn.now)
-        → OnOk result (Makes (without_all the.Meta) (state S.Store tx.old.conn.now) (state S.Store tx.new.conn.now)) }
+    ensures { MakesInside S.Store tx.old tx.new result (without_all the.Meta) }
 {
     tx.execute("DELETE FROM meta", &[])
 }
 
 // Adds it.
 fn write_number<S: Alter>(tx: &mut Transaction<'_, S>) -> Result<usize, Error>
-    ensures same_reference { tx.new.conn.ghost_name ≡ tx.old.conn.ghost_name }
-    ensures survives { Survives (state S.Store tx.old.conn.now) (state S.Store tx.new.conn.now) (λ _. ⊥) }
-    ensures kept { HasCleanDisk (state S.Store tx.new.conn.now) → KeepsCommit (state S.Store tx.old.conn.now) (state S.Store tx.new.conn.now) }
-    ensures made { HasCleanDisk (state S.Store tx.new.conn.now)
-        → OnOk result (Makes (with_row the.Meta (meta_columns 1 schema_number)) (state S.Store tx.old.conn.now) (state S.Store tx.new.conn.now)) }
+    ensures { MakesInside S.Store tx.old tx.new result (with_row the.Meta (meta_columns 1 schema_number)) }
 {
     tx.execute(
         "INSERT INTO meta (id, schema) VALUES (?1, ?2)",
@@ -97,11 +76,8 @@ fn add_capacities<S: Alter>(
     tx: &mut Transaction<'_, S>,
     vehicles: &ByVehicle<VehicleRow>,
 ) -> Result<(), Error>
-    ensures same_reference { tx.new.conn.ghost_name ≡ tx.old.conn.ghost_name }
-    ensures survives { Survives (state S.Store tx.old.conn.now) (state S.Store tx.new.conn.now) (λ _. ⊥) }
-    ensures kept { HasCleanDisk (state S.Store tx.new.conn.now) → KeepsCommit (state S.Store tx.old.conn.now) (state S.Store tx.new.conn.now) }
-    ensures made { HasCleanDisk (state S.Store tx.new.conn.now) → IsTrue (state S.Store tx.old.conn.now).in_transaction
-        → OnOk result (Makes (for_each with_vehicle_capacity (finite.entries vehicles.now)) (state S.Store tx.old.conn.now) (state S.Store tx.new.conn.now)) }
+    ensures { WritesInside S.Store tx.old tx.new (λ before after. IsTrue before.in_transaction
+        → OnOk result (Makes (for_each with_vehicle_capacity (finite.entries vehicles.now)) before after)) }
 {
     for (key, vehicle) in vehicles.iter() {
         add_capacity(tx, key, vehicle)?;
@@ -115,22 +91,15 @@ fn add_capacity<S: Alter>(
     key: &VehicleKey,
     vehicle: &VehicleRow,
 ) -> Result<usize, Error>
-    ensures same_reference { tx.new.conn.ghost_name ≡ tx.old.conn.ghost_name }
-    ensures survives { Survives (state S.Store tx.old.conn.now) (state S.Store tx.new.conn.now) (λ _. ⊥) }
-    ensures kept { HasCleanDisk (state S.Store tx.new.conn.now) → KeepsCommit (state S.Store tx.old.conn.now) (state S.Store tx.new.conn.now) }
-    ensures made { HasCleanDisk (state S.Store tx.new.conn.now)
-        → OnOk result (Makes (with_row the.Capacity (vehicle_capacity_columns key.now vehicle.now)) (state S.Store tx.old.conn.now) (state S.Store tx.new.conn.now)) }
+    ensures { MakesInside S.Store tx.old tx.new result (with_row the.Capacity (vehicle_capacity_columns key.now vehicle.now)) }
 {
     insert_row(tx, WorldTable::Capacity, &capacity_values(key, vehicle))
 }
 
 // Adds the journey and the acts of each open trip.
 fn add_trips<S: Alter>(tx: &mut Transaction<'_, S>, trips: &ByName<TripRow>) -> Result<(), Error>
-    ensures same_reference { tx.new.conn.ghost_name ≡ tx.old.conn.ghost_name }
-    ensures survives { Survives (state S.Store tx.old.conn.now) (state S.Store tx.new.conn.now) (λ _. ⊥) }
-    ensures kept { HasCleanDisk (state S.Store tx.new.conn.now) → KeepsCommit (state S.Store tx.old.conn.now) (state S.Store tx.new.conn.now) }
-    ensures made { HasCleanDisk (state S.Store tx.new.conn.now) → IsTrue (state S.Store tx.old.conn.now).in_transaction
-        → OnOk result (Makes (for_each with_journey (finite.entries trips.now)) (state S.Store tx.old.conn.now) (state S.Store tx.new.conn.now)) }
+    ensures { WritesInside S.Store tx.old tx.new (λ before after. IsTrue before.in_transaction
+        → OnOk result (Makes (for_each with_journey (finite.entries trips.now)) before after)) }
 {
     for (order, trip) in trips.iter() {
         add_trip(tx, order, trip)?;
@@ -144,11 +113,7 @@ fn add_trip<S: Alter>(
     order: &Name,
     trip: &TripRow,
 ) -> Result<(), Error>
-    ensures same_reference { tx.new.conn.ghost_name ≡ tx.old.conn.ghost_name }
-    ensures survives { Survives (state S.Store tx.old.conn.now) (state S.Store tx.new.conn.now) (λ _. ⊥) }
-    ensures kept { HasCleanDisk (state S.Store tx.new.conn.now) → KeepsCommit (state S.Store tx.old.conn.now) (state S.Store tx.new.conn.now) }
-    ensures made { HasCleanDisk (state S.Store tx.new.conn.now)
-        → OnOk result (Makes (with_journey (order.now, trip.now)) (state S.Store tx.old.conn.now) (state S.Store tx.new.conn.now)) }
+    ensures { MakesInside S.Store tx.old tx.new result (with_journey (order.now, trip.now)) }
 {
     add_journey(tx, order, &JourneyRow::of(trip))?;
     add_acts(tx, order, trip.acts.as_slice())
@@ -160,11 +125,7 @@ fn add_journey<S: Alter>(
     order: &Name,
     journey: &JourneyRow,
 ) -> Result<usize, Error>
-    ensures same_reference { tx.new.conn.ghost_name ≡ tx.old.conn.ghost_name }
-    ensures survives { Survives (state S.Store tx.old.conn.now) (state S.Store tx.new.conn.now) (λ _. ⊥) }
-    ensures kept { HasCleanDisk (state S.Store tx.new.conn.now) → KeepsCommit (state S.Store tx.old.conn.now) (state S.Store tx.new.conn.now) }
-    ensures made { HasCleanDisk (state S.Store tx.new.conn.now)
-        → OnOk result (Makes (with_row the.Journey (journey_columns order.now journey.now)) (state S.Store tx.old.conn.now) (state S.Store tx.new.conn.now)) }
+    ensures { MakesInside S.Store tx.old tx.new result (with_row the.Journey (journey_columns order.now journey.now)) }
 {
     insert_row(tx, WorldTable::Journey, &journey_values(order, journey))
 }

@@ -7,4 +7,5 @@ pub mod RowForms
 pub mod RowMeanings
 pub mod RowParameters
 pub mod UpdateMeanings
+pub mod WritesThen
 pub mod sql

@@ -1,3 +1,4 @@
 pub mod CountQueries
 pub mod RowQueries
 pub mod RowUpdates
+pub mod WritesInside

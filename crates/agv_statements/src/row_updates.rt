@@ -3,12 +3,13 @@
 //! Each clause speaks of any database in which the desk's tables stand, whatever other tables, views and
 //! indexes it has (`DeskRows.antt` of agv_schema). An error changes what the transaction's end undoes.
 ghost use Rattle.std.specs.Prelude.{◌≡◌, IfOk, OnOk};
-ghost use Rattle.sqlite.specs.State.{HasCleanDisk, KeepsCommit, Survives};
+ghost use Rattle.sqlite.specs.State.{HasCleanDisk};
 ghost use Rattle.sqlite.specs.Held.{state};
 ghost use Rattle.sqlite.specs.Values.{bound};
 ghost use Rattle.agv_schema.specs.DeskRows.{FitsTable, Makes, table_for, with_put_by};
 ghost use Rattle.agv_schema.specs.RowTexts.{columns_deleted, table_written};
 ghost use Rattle.agv_statements.specs.RowUpdates.{Counts, IsKeyOf, table_updated, update_text, with_each};
+ghost use Rattle.agv_statements.specs.WritesInside.{WritesInside};
 
 use crate::row_writes::{insert_row, put_row};
 use crate::updated_table::UpdatedTable;
@@ -24,12 +25,8 @@ pub fn put_over<S: Alter>(
     key: &[ValueRef<'_>],
     row: &[ValueRef<'_>],
 ) -> Result<usize, Error>
-    ensures same_reference { tx.new.conn.ghost_name ≡ tx.old.conn.ghost_name }
-    ensures survives { Survives (state S.Store tx.old.conn.now) (state S.Store tx.new.conn.now) (λ _. ⊥) }
-    ensures kept { HasCleanDisk (state S.Store tx.new.conn.now) → KeepsCommit (state S.Store tx.old.conn.now) (state S.Store tx.new.conn.now) }
-    ensures made { HasCleanDisk (state S.Store tx.new.conn.now) → FitsTable (table_written (table_updated table)) (bound row.now)
-        → columns_deleted (table_updated table) ≡ (table_for (table_written (table_updated table))).primary → IsKeyOf (columns_deleted (table_updated table)) (bound key.now) (bound row.now)
-        → OnOk result (Makes (with_put_by (table_written (table_updated table)) (columns_deleted (table_updated table)) (bound key.now) (bound row.now)) (state S.Store tx.old.conn.now) (state S.Store tx.new.conn.now)) }
+    ensures { WritesInside S.Store tx.old tx.new (λ before after. FitsTable (table_written (table_updated table)) (bound row.now) → columns_deleted (table_updated table) ≡ (table_for (table_written (table_updated table))).primary → IsKeyOf (columns_deleted (table_updated table)) (bound key.now) (bound row.now)
+        → OnOk result (Makes (with_put_by (table_written (table_updated table)) (columns_deleted (table_updated table)) (bound key.now) (bound row.now)) before after)) }
 {
     let count = update_row(tx, table, row)?;
     match count {
@@ -45,11 +42,8 @@ pub fn update_row<S: Alter>(
     table: UpdatedTable,
     row: &[ValueRef<'_>],
 ) -> Result<usize, Error>
-    ensures same_reference { tx.new.conn.ghost_name ≡ tx.old.conn.ghost_name }
-    ensures survives { Survives (state S.Store tx.old.conn.now) (state S.Store tx.new.conn.now) (λ _. ⊥) }
-    ensures kept { HasCleanDisk (state S.Store tx.new.conn.now) → KeepsCommit (state S.Store tx.old.conn.now) (state S.Store tx.new.conn.now) }
-    ensures made { HasCleanDisk (state S.Store tx.new.conn.now) → FitsTable (table_written (table_updated table)) (bound row.now)
-        → OnOk result (Makes (with_each (table_written (table_updated table)) (table_for (table_written (table_updated table))).primary (bound row.now)) (state S.Store tx.old.conn.now) (state S.Store tx.new.conn.now)) }
+    ensures writes { WritesInside S.Store tx.old tx.new (λ before after. FitsTable (table_written (table_updated table)) (bound row.now)
+        → OnOk result (Makes (with_each (table_written (table_updated table)) (table_for (table_written (table_updated table))).primary (bound row.now)) before after)) }
     ensures counted { HasCleanDisk (state S.Store tx.new.conn.now) → FitsTable (table_written (table_updated table)) (bound row.now)
         → IfOk result (Counts (table_written (table_updated table)) (table_for (table_written (table_updated table))).primary (bound row.now) (state S.Store tx.old.conn.now)) }
 {

@@ -3,12 +3,13 @@
 //! Each clause speaks of any database in which the desk's tables stand, whatever other tables, views and
 //! indexes it has (`DeskRows.antt` of agv_schema). An error changes what the transaction's end undoes.
 ghost use Rattle.std.specs.Prelude.{◌≡◌, IfErr, IfOk, OnOk};
-ghost use Rattle.sqlite.specs.State.{HasCleanDisk, IsUnchanged, KeepsCommit, Survives};
+ghost use Rattle.sqlite.specs.State.{HasCleanDisk, IsUnchanged};
 ghost use Rattle.sqlite.specs.Held.{state};
 ghost use Rattle.sqlite.specs.Values.{bound};
 ghost use Rattle.agv_schema.specs.DeskRows.{FitsTable, Makes, table_for, with_put_by, with_row, without_rows};
 ghost use Rattle.agv_schema.specs.RowTexts.{columns_deleted, table_written};
 ghost use Rattle.agv_statements.specs.RowUpdates.{Counts, IsBrokenRule, TellsAlike};
+ghost use Rattle.agv_statements.specs.WritesInside.{MakesInside, WritesInside};
 
 use crate::row_texts::{deletion, insertion};
 use agv_schema::world_table::WorldTable;
@@ -21,11 +22,8 @@ pub fn insert_row<S: Alter>(
     table: WorldTable,
     row: &[ValueRef<'_>],
 ) -> Result<usize, Error>
-    ensures same_reference { tx.new.conn.ghost_name ≡ tx.old.conn.ghost_name }
-    ensures survives { Survives (state S.Store tx.old.conn.now) (state S.Store tx.new.conn.now) (λ _. ⊥) }
-    ensures kept { HasCleanDisk (state S.Store tx.new.conn.now) → KeepsCommit (state S.Store tx.old.conn.now) (state S.Store tx.new.conn.now) }
-    ensures made { HasCleanDisk (state S.Store tx.new.conn.now) → FitsTable (table_written table) (bound row.now)
-        → OnOk result (Makes (with_row (table_written table) (bound row.now)) (state S.Store tx.old.conn.now) (state S.Store tx.new.conn.now)) }
+    ensures writes { WritesInside S.Store tx.old tx.new (λ before after. FitsTable (table_written table) (bound row.now)
+        → OnOk result (Makes (with_row (table_written table) (bound row.now)) before after)) }
     ensures free { HasCleanDisk (state S.Store tx.new.conn.now) → FitsTable (table_written table) (bound row.now)
         → IfOk result (λ _. Counts (table_written table) (table_for (table_written table)).primary (bound row.now) (state S.Store tx.old.conn.now) 0) }
     ensures refused { HasCleanDisk (state S.Store tx.new.conn.now)
@@ -40,11 +38,7 @@ pub fn delete_row<S: Alter>(
     table: WorldTable,
     key: &[ValueRef<'_>],
 ) -> Result<usize, Error>
-    ensures same_reference { tx.new.conn.ghost_name ≡ tx.old.conn.ghost_name }
-    ensures survives { Survives (state S.Store tx.old.conn.now) (state S.Store tx.new.conn.now) (λ _. ⊥) }
-    ensures kept { HasCleanDisk (state S.Store tx.new.conn.now) → KeepsCommit (state S.Store tx.old.conn.now) (state S.Store tx.new.conn.now) }
-    ensures made { HasCleanDisk (state S.Store tx.new.conn.now)
-        → OnOk result (Makes (without_rows (table_written table) (columns_deleted table) (bound key.now)) (state S.Store tx.old.conn.now) (state S.Store tx.new.conn.now)) }
+    ensures { MakesInside S.Store tx.old tx.new result (without_rows (table_written table) (columns_deleted table) (bound key.now)) }
 {
     tx.execute(deletion(table), key)
 }
@@ -56,11 +50,8 @@ pub(crate) fn put_row<S: Alter>(
     key: &[ValueRef<'_>],
     row: &[ValueRef<'_>],
 ) -> Result<usize, Error>
-    ensures same_reference { tx.new.conn.ghost_name ≡ tx.old.conn.ghost_name }
-    ensures survives { Survives (state S.Store tx.old.conn.now) (state S.Store tx.new.conn.now) (λ _. ⊥) }
-    ensures kept { HasCleanDisk (state S.Store tx.new.conn.now) → KeepsCommit (state S.Store tx.old.conn.now) (state S.Store tx.new.conn.now) }
-    ensures made { HasCleanDisk (state S.Store tx.new.conn.now) → FitsTable (table_written table) (bound row.now)
-        → OnOk result (Makes (with_put_by (table_written table) (columns_deleted table) (bound key.now) (bound row.now)) (state S.Store tx.old.conn.now) (state S.Store tx.new.conn.now)) }
+    ensures { WritesInside S.Store tx.old tx.new (λ before after. FitsTable (table_written table) (bound row.now)
+        → OnOk result (Makes (with_put_by (table_written table) (columns_deleted table) (bound key.now) (bound row.now)) before after)) }
 {
     delete_row(tx, table, key)?;
     insert_row(tx, table, row)
@@ -75,12 +66,8 @@ pub fn put_new<S: Alter>(
     key: &[ValueRef<'_>],
     row: &[ValueRef<'_>],
 ) -> Result<usize, Error>
-    ensures same_reference { tx.new.conn.ghost_name ≡ tx.old.conn.ghost_name }
-    ensures survives { Survives (state S.Store tx.old.conn.now) (state S.Store tx.new.conn.now) (λ _. ⊥) }
-    ensures kept { HasCleanDisk (state S.Store tx.new.conn.now) → KeepsCommit (state S.Store tx.old.conn.now) (state S.Store tx.new.conn.now) }
-    ensures made { HasCleanDisk (state S.Store tx.new.conn.now) → FitsTable (table_written table) (bound row.now)
-        → columns_deleted table ≡ (table_for (table_written table)).primary → TellsAlike (columns_deleted table) (bound key.now) (bound row.now)
-        → OnOk result (Makes (with_put_by (table_written table) (columns_deleted table) (bound key.now) (bound row.now)) (state S.Store tx.old.conn.now) (state S.Store tx.new.conn.now)) }
+    ensures { WritesInside S.Store tx.old tx.new (λ before after. FitsTable (table_written table) (bound row.now) → columns_deleted table ≡ (table_for (table_written table)).primary → TellsAlike (columns_deleted table) (bound key.now) (bound row.now)
+        → OnOk result (Makes (with_put_by (table_written table) (columns_deleted table) (bound key.now) (bound row.now)) before after)) }
 {
     match insert_row(tx, table, row) {
         Err(Error::SqliteFailure(ErrorCode::ConstraintViolation(_))) => put_row(

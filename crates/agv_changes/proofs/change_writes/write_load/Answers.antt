@@ -1,12 +1,12 @@
 use Rattle.std.proofs.Common.{refl}
-use Rattle.sqlite.specs.Held.{state}
 use Rattle.agv_statements.specs.declared.updated_table.UpdatedTable.TheVariants as updated
+use Rattle.agv_statements.proofs.WritesThen.{retold}
 use Rattle.agv_changes.proofs.ChangesRun.{puts_over}
 use Rattle.agv_changes.proofs.OwnKeys.{load_key_is}
 use Rattle.agv_rows.proofs.FittingRows.{load_fits}
 use Rattle.agv_changes.proofs.change_writes.write_load.Goals as goal
 
-pub returns-clause-made : goal.returns-clause-made
-returns-clause-made g c clean =
-    puts_over updated.Load _ _ _ _ (state g.S.Store c.args.tx.now.conn.now) (state g.S.Store c.put_over.new.tx.conn.now) c.put_over.result
-    c.name_key_values.ensures c.load_values.ensures (load_fits c.args.id.now c.args.place.now) refl (load_key_is c.args.id.now c.args.place.now) (c.put_over.ensures.made clean)
+pub returns : goal.returns
+returns g c =
+    retold g.S.Store c.put_over.ensures (λ _. puts_over updated.Load _ _ _ _ _ _ c.put_over.result
+    c.name_key_values.ensures c.load_values.ensures (load_fits c.args.id.now c.args.place.now) refl (load_key_is c.args.id.now c.args.place.now))

@@ -1,61 +1,26 @@
-use Rattle.std.proofs.Common.{◌∙◌, refl, rules, arith}
+use Rattle.std.proofs.Common.{◌∙◌, rules}
 use Rattle.std.specs.FinMap as finite
 use Rattle.std.specs.Map.Iter.{deref_pair}
 use Rattle.std.proofs.lemmas.Map.Iter.{rest_more, rest_all}
-use Rattle.sqlite.specs.State.{HasCleanDisk}
-use Rattle.sqlite.specs.Held.{state}
-use Rattle.sqlite.proofs.StateLemmas.{survives_then}
+use Rattle.agv_statements.proofs.WritesThen.{retold, writes_none, writes_then}
 use Rattle.agv_first_schema.specs.Moved.{with_journey}
 use Rattle.agv_first_schema.proofs.MovingEach.{leads_all, leads_first, leads_next}
-use Rattle.agv_schema.proofs.StatesKept.{keeps_itself, keeps_then}
 use Rattle.agv_first_schema.proofs.row_moving.add_trips.Goals as goal
 
 pub loop-order-init : goal.loop-order-init
 loop-order-init g c =
-    let first = state g.S.Store c.args.tx.now.conn.now in
-    (refl, search rules, λ clean. (keeps_itself first, λ inside. leads_first with_journey (finite.entries c.args.trips.now) c.into_iter-order-iterator.result first (c.into_iter-order-iterator.ensures.into_iter_gives ∙ c.iter-order-items.ensures) inside))
+    writes_none g.S.Store c.args.tx.now (leads_first with_journey (finite.entries c.args.trips.now) c.into_iter-order-iterator.result _ (c.into_iter-order-iterator.ensures.into_iter_gives ∙ c.iter-order-items.ensures))
 
-pub returns-in_err-add_trip-clause-same_reference : goal.returns-in_err-add_trip-clause-same_reference
-returns-in_err-add_trip-clause-same_reference g c = c.add_trip.ensures.same_reference ∙ c.loop-order.invariant.0
-
-pub returns-in_err-add_trip-clause-survives : goal.returns-in_err-add_trip-clause-survives
-returns-in_err-add_trip-clause-survives g c =
-    survives_then (state g.S.Store c.args.tx.now.conn.now) (state g.S.Store c.loop-order.tx.conn.now) (state g.S.Store c.add_trip.new.tx.conn.now) _ _ (λ _. ⊥) (λ _ db none. none) (λ _ db none. none)
-    c.loop-order.invariant.1 c.add_trip.ensures.survives
-
-pub returns-in_err-add_trip-clause-kept : goal.returns-in_err-add_trip-clause-kept
-returns-in_err-add_trip-clause-kept g c clean =
-    let was = state g.S.Store c.loop-order.tx.conn.now in
-    let early : HasCleanDisk was = omega (arith, c.add_trip.ensures.survives.clean) in
-    keeps_then (state g.S.Store c.args.tx.now.conn.now) was (state g.S.Store c.add_trip.new.tx.conn.now) (c.loop-order.invariant.2 early).0 (c.add_trip.ensures.kept clean)
+pub returns-in_err-add_trip : goal.returns-in_err-add_trip
+returns-in_err-add_trip g c = writes_then g.S.Store c.loop-order.invariant c.add_trip.ensures (λ _ _ _ _. search rules)
 
 pub loop-order-preserved : goal.loop-order-preserved
 loop-order-preserved g c =
-    let first = state g.S.Store c.args.tx.now.conn.now in
-    let was = state g.S.Store c.loop-order.tx.conn.now in
-    let now = state g.S.Store c.add_trip.new.tx.conn.now in
-    let so_far = c.loop-order.invariant in
-    let rest = rest_more deref_pair _ _ _ _ c.in-Some.is c.next.ensures.steps in (
-      c.add_trip.ensures.same_reference ∙ so_far.0,
-      survives_then first was now _ _ (λ _. ⊥) (λ _ db none. none) (λ _ db none. none) so_far.1 c.add_trip.ensures.survives,
-      λ clean.
-          let early : HasCleanDisk was = omega (arith, c.add_trip.ensures.survives.clean) in
-          let before = so_far.2 early in (
-            keeps_then first was now before.0 (c.add_trip.ensures.kept clean),
-            λ inside. leads_next with_journey (finite.entries c.args.trips.now) first (c.in-Some.order.now, c.in-Some.trip.now) c.loop-order.order-iterator c.next.new.self was now rest (before.1 inside) (c.in_ok-add_trip.ensures.made clean),
-          ),
-    )
+    let rest = rest_more deref_pair _ _ _ _ c.in-Some.is c.next.ensures.steps in
+    writes_then g.S.Store c.loop-order.invariant c.in_ok-add_trip.ensures
+    (λ _ before adds inside. leads_next with_journey (finite.entries c.args.trips.now) _ (c.in-Some.order.now, c.in-Some.trip.now) c.loop-order.order-iterator c.next.new.self _ _ rest (before inside) adds)
 
-pub returns-clause-same_reference : goal.returns-clause-same_reference
-returns-clause-same_reference g c = c.loop-order.invariant.0
-
-pub returns-clause-survives : goal.returns-clause-survives
-returns-clause-survives g c = c.loop-order.invariant.1
-
-pub returns-clause-kept : goal.returns-clause-kept
-returns-clause-kept g c clean = (c.loop-order.invariant.2 clean).0
-
-pub returns-clause-made : goal.returns-clause-made
-returns-clause-made g c clean inside =
-    leads_all with_journey (finite.entries c.args.trips.now) (state g.S.Store c.args.tx.now.conn.now) c.loop-order.order-iterator (state g.S.Store c.loop-order.tx.conn.now)
-    (rest_all deref_pair _ _ _ c.in-None.is c.next.ensures.steps) ((c.loop-order.invariant.2 clean).1 inside)
+pub returns : goal.returns
+returns g c =
+    retold g.S.Store c.loop-order.invariant
+    (λ _ leads inside. leads_all with_journey (finite.entries c.args.trips.now) _ c.loop-order.order-iterator _ (rest_all deref_pair _ _ _ c.in-None.is c.next.ensures.steps) (leads inside))

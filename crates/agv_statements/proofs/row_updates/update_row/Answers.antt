@@ -1,12 +1,16 @@
+use Rattle.std.proofs.Common.{rules}
 use Rattle.sqlite.specs.Held.{state}
 use Rattle.sqlite.specs.Values.{bound}
 use Rattle.agv_statements.proofs.UpdateMeanings.{updates_counted, updates_row}
 use Rattle.agv_statements.proofs.row_updates.update_row.Goals as goal
 
-pub returns-clause-made : goal.returns-clause-made
-returns-clause-made g c clean fit =
-    updates_row c.args.table c.update.result.now c.update.ensures (bound c.args.row.now) fit (state g.S.Store c.args.tx.now.conn.now) (state g.S.Store c.execute.new.self.conn.now) c.execute.result
-    (λ idle. (c.execute.ensures.ended idle).0, c.execute.ensures.runs clean)
+pub returns-clause-writes : goal.returns-clause-writes
+returns-clause-writes g c = record {
+  same_reference = search rules;
+  survives = search rules;
+  kept = search rules;
+  made = λ clean fit. updates_row c.args.table c.update.result.now c.update.ensures (bound c.args.row.now) fit _ _ c.execute.result (λ idle. (c.execute.ensures.ended idle).0, c.execute.ensures.runs clean);
+}
 
 pub returns-clause-counted : goal.returns-clause-counted
 returns-clause-counted g c clean fit =

@@ -1,13 +1,17 @@
+use Rattle.std.proofs.Common.{rules}
 use Rattle.sqlite.specs.Held.{state}
 use Rattle.sqlite.specs.Values.{bound}
 use Rattle.agv_statements.proofs.DeskStatements.{inserts_row}
 use Rattle.agv_statements.proofs.KeysFree.{inserts_free, refuses_row}
 use Rattle.agv_statements.proofs.row_writes.insert_row.Goals as goal
 
-pub returns-clause-made : goal.returns-clause-made
-returns-clause-made g c clean fit =
-    inserts_row c.args.table c.insertion.result.now c.insertion.ensures (bound c.args.row.now) fit (state g.S.Store c.args.tx.now.conn.now) (state g.S.Store c.execute.new.self.conn.now) c.execute.result
-    (λ idle. (c.execute.ensures.ended idle).0, c.execute.ensures.runs clean)
+pub returns-clause-writes : goal.returns-clause-writes
+returns-clause-writes g c = record {
+  same_reference = search rules;
+  survives = search rules;
+  kept = search rules;
+  made = λ clean fit. inserts_row c.args.table c.insertion.result.now c.insertion.ensures (bound c.args.row.now) fit _ _ c.execute.result (λ idle. (c.execute.ensures.ended idle).0, c.execute.ensures.runs clean);
+}
 
 pub returns-clause-free : goal.returns-clause-free
 returns-clause-free g c clean fit =
