@@ -10,7 +10,7 @@ import unittest
 HERE = os.path.dirname(os.path.abspath(__file__))
 sys.path.insert(0, os.path.join(HERE, '..', 'tools'))
 
-from nulvrader.dispatch.look import Floor, after_release, finishing, runs_ahead  # noqa: E402
+from nulvrader.dispatch.look import Floor, Ground, after_release, along, finishing, look  # noqa: E402
 
 PLENTY = 10 ** 9
 CASES = int(os.environ.get('LOOKS', '3000'))
@@ -161,17 +161,45 @@ class AgainstAllStates(unittest.TestCase):
         floor.settle(state)
         return dict(zip(floor.names, state.at))
 
-    def test_what_runs_ahead_takes_nothing(self):
-        chance = random.Random(69)
-        moved = 0
-        for _ in range(CASES // 3):
+    def test_moves_that_are_tried_first(self):
+        """Whoever is said to finish by moves of any kind can; and where the moves of a look are tried again, after a release by its
+        first one too, all finish by them that did. One ground serves for all of it."""
+        chance, ground = random.Random(69), Ground()
+        counts = collections.Counter()
+        for case in range(CASES // 3):
             ways, walls = random_case(chance)
-            for name in ways:
-                nodes = runs_ahead(ways, walls, name)
-                moved += nodes > 0
-                for fewer in range(1, nodes + 1):
-                    self.assertEqual(can_all_finish(ways, walls), can_all_finish(after_release(ways, name, fewer), walls))
-        self.assertGreater(moved, CASES // 10)
+            true = can_all_finish(ways, walls)
+            any_moves = [(name, chance.randrange(len(ways[name]))) for name in chance.choices(sorted(ways), k=6)]
+            says = along(ways, walls, any_moves, ground).finishing == set(ways)
+            self.assertFalse(says and not true, (case, ways, walls, any_moves))
+            counts['by any moves'] += says
+            found = look(ways, walls, ground=ground)
+            self.assertEqual(found.finishing, {name for name, left in found.left.items() if left == 0})
+            self.assertLessEqual(found.finishing, along(ways, walls, found.moves, ground).finishing, (case, ways, walls, found))
+            if found.moves:
+                name, left = found.moves[0]
+                released = after_release(ways, name, len(ways[name]) - 1 - left)
+                self.assertLessEqual(found.finishing, along(released, walls, found.moves, ground).finishing, (case, ways, walls, found))
+                counts['after a release'] += 1
+        self.assertGreater(counts['by any moves'], CASES // 30)
+        self.assertGreater(counts['after a release'], CASES // 10)
+
+    def test_those_that_are_wanted(self):
+        """Some vehicles are asked for alone: with states enough they are said to finish where they do in some order, the others going
+        as far as they have to."""
+        chance = random.Random(71)
+        counts = collections.Counter()
+        for case in range(CASES // 6):
+            ways, walls = random_case(chance)
+            wanted = set(chance.sample(sorted(ways), chance.randint(1, len(ways))))
+            cuts = [{}]
+            for name in sorted(set(ways) - wanted):
+                cuts = [{**cut, name: ways[name][:end]} for cut in cuts for end in range(1, len(ways[name]) + 1)]
+            true = any(can_all_finish({**ways, **cut}, walls) for cut in cuts)
+            self.assertEqual(wanted <= look(ways, walls, PLENTY, wanted).finishing, true, (case, ways, walls, wanted))
+            counts[true] += 1
+        self.assertGreater(counts[True], CASES // 20)
+        self.assertGreater(counts[False], CASES // 60)
 
 
 class ByHand(unittest.TestCase):

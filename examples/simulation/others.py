@@ -24,6 +24,9 @@ class FreeTrack(Judge):
     def may_release(self, traffic: Traffic, vehicle: str, nodes: int) -> bool:
         return True
 
+    def plainly(self, traffic: Traffic, vehicle: str, way: Way) -> bool | None:
+        return True
+
     def may_start(self, traffic: Traffic, vehicle: str, way: Way) -> bool:
         return True
 

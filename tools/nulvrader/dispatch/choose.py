@@ -1,7 +1,6 @@
 """Which vehicle takes which jobs. Pure: it proposes orders, and the dispatcher gives them."""
 from __future__ import annotations
 
-import itertools
 from collections.abc import Iterator, Sequence
 from dataclasses import dataclass
 
@@ -12,10 +11,17 @@ from .traffic import Judge, Traffic
 from .ways import Ways
 
 JOBS = 30
-"""So many jobs are tried in one turn, from the oldest on."""
+"""So many of the oldest jobs are tried in a turn, and so many of the others, in each turn the next ones."""
 
-TRIES = 60
-"""So many pairs of a job and a vehicle with an open way are tried, from the nearest on."""
+LOOKS = 8
+"""So many pairs of a job and a vehicle get a look in one turn, if it takes one to see whether the vehicle may be started: those whose
+last look was longest ago, and of these the nearest."""
+
+KEPT = 20_000
+"""Of so many pairs it is kept when they had their last look."""
+
+MORE = 1000
+"""So many jobs are tried as further ones of an order, from the oldest on."""
 
 AGE = 10.0
 """So many seconds that a job has waited count as an edge less to it."""
@@ -41,63 +47,112 @@ class At:
     node: str
 
 
+Try = tuple[Waiting, Seen, tuple[str, ...]]
+"""A job, and a vehicle with its way."""
+
+
 class Chooser:
     """Chooses over one layout. `detour` is how many edges an order may become longer by each further job that it takes along."""
 
     def __init__(self, ways: Ways, judge: Judge, detour: int = 0) -> None:
         self.ways, self.judge, self.detour = ways, judge, detour
+        self._turn, self._left = 0, LOOKS
+        self._looked: dict[tuple[str, ...], int] = {}  # the turn of the last look, by where the vehicle stands and where the job leads
+        self._put_off: set[str] = set()  # the jobs that were not looked at
+
+    def begin_turn(self) -> None:
+        """From here on so many looks may be made anew."""
+        self._turn, self._left = self._turn + 1, LOOKS
+
+    def is_put_off(self, one: Waiting) -> bool:
+        """Whether others come before this job: it is not one of the oldest, or a vehicle had no look for it yet."""
+        return one.job in self._put_off
 
     def propose(self, idle: Sequence[Seen], waiting: Sequence[Waiting], traffic: Traffic) -> Proposal | None:
         """The first order that may be started: for a vehicle that is in the way of others, else for a job and a vehicle that is near,
         where the time counts that the job has waited. Jobs whose target is not known come last."""
-        jobs = waiting[:JOBS]
+        oldest, others = waiting[:JOBS], waiting[JOBS:]
+        jobs = [*oldest, *(others[(self._turn * JOBS + n) % len(others)] for n in range(min(JOBS, len(others))))]
+        self._put_off = {one.job for one in others}
         known, unknown = [one for one in jobs if one.target is not None], [one for one in jobs if one.target is None]
         blocking = [seen for seen in idle if traffic.in_the_way(seen.name)]
-        for one, seen, way in itertools.chain(self._tries(blocking, known, traffic), self._tries(idle, known, traffic)):
-            if self.judge.may_start(traffic, seen.name, way):
-                return self._with_more(Proposal(seen.name, _stops(one), way, (one,)), one, seen, waiting, traffic)
-        for one, seen, way in self._tries(idle, unknown, traffic):
-            if self.judge.may_start(traffic, seen.name, way):
-                return Proposal(seen.name, _stops(one), way, (one,), False)
-        return None
+        found = self._first(blocking, known, traffic) or self._first(idle, known, traffic)
+        if found is not None:
+            one, seen, way = found
+            return self._with_more(Proposal(seen.name, _stops(one), way, (one,)), one, seen, waiting, traffic)
+        found = self._first(idle, unknown, traffic)
+        return None if found is None else Proposal(found[1].name, _stops(found[0]), found[2], (found[0],), False)
 
-    def _tries(self, idle: Sequence[Seen], jobs: Sequence[Waiting], traffic: Traffic) -> Iterator[tuple[Waiting, Seen, tuple[str, ...]]]:
-        """Jobs, each with a vehicle and its open way, the nearest first."""
+    def _first(self, idle: Sequence[Seen], jobs: Sequence[Waiting], traffic: Traffic) -> Try | None:
+        """The first of these that may be started, as far as looks are left."""
+        nearer: list[Try] = []
+        plain: list[Try] = []
+        for tried in self._tries(idle, jobs):
+            told = self.judge.plainly(traffic, tried[1].name, tried[2])
+            if told is not False:
+                (plain if told else nearer).append(tried)
+            if told:
+                break
+        found = next((tried for tried in [*self._due(nearer), *plain] if self._may_start(tried, traffic)), None)
+        self._put_off |= {tried[0].job for tried in nearer if _key(tried) not in self._looked}
+        return found
+
+    def _due(self, tries: Sequence[Try]) -> list[Try]:
+        """Those that get a look now, in their order: none of them twice in a turn."""
+        last = [(self._looked.get(_key(tried), 0), number) for number, tried in enumerate(tries)]
+        due = sorted(one for one in last if one[0] < self._turn)[: self._left]
+        return [tries[number] for number in sorted(number for _, number in due)]
+
+    def _may_start(self, tried: Try, traffic: Traffic) -> bool:
+        """Whether it may, by a look if there has to be one."""
+        before = self.judge.looks
+        told = self.judge.may_start(traffic, tried[1].name, tried[2])
+        self._left -= min(self._left, self.judge.looks - before)
+        if not told:
+            if len(self._looked) >= KEPT:
+                self._looked.clear()
+            self._looked[_key(tried)] = self._turn
+        return told
+
+    def _tries(self, idle: Sequence[Seen], jobs: Sequence[Waiting]) -> Iterator[Try]:
+        """Jobs, each with a vehicle and its way, the nearest first."""
         pairs = []
         for number, one in enumerate(jobs):
             stops = [self.ways.node_of(name) for name in (one.origin, one.target) if name is not None]
             for seen in idle:
                 hops = self.ways.hops(seen.row.node, stops[0])
                 if hops is not None:
-                    pairs.append((hops - one.waited / AGE, number, seen.name, seen, (seen.row.node, *stops)))
+                    pairs.append((hops + one.since / AGE, number, seen.name, seen, (seen.row.node, *stops)))
         pairs.sort(key=lambda pair: pair[:3])
         tries = ((jobs[number], seen, self.ways.way(stops)) for _, number, _, seen, stops in pairs)
-        open_ways = ((one, seen, way) for one, seen, way in tries if way is not None and self.judge.is_open(traffic, seen.name, way))
-        return itertools.islice(open_ways, TRIES)
+        return ((one, seen, way) for one, seen, way in tries if way is not None)
 
     def _with_more(self, first: Proposal, one: Waiting, seen: Seen, waiting: Sequence[Waiting], traffic: Traffic) -> Proposal:
         """The order with further jobs that lie on its way, the oldest first, as far as the vehicle has room."""
         assert one.target is not None
         stops = [At(first.stops[0], self.ways.node_of(one.origin)), At(first.stops[1], self.ways.node_of(one.target))]
         found = first
-        for other in waiting:
+        for other in waiting[:MORE]:
             if len(found.jobs) >= seen.room():
                 break
             if other.target is None or other in found.jobs:
                 continue
-            longer = self._inserted(seen.row.node, stops, other, len(found.way) + self.detour)
+            longer = self._inserted(seen.row.node, stops, other, found.way)
             if longer is None:
                 continue
             way = self.ways.way((seen.row.node, *(at.node for at in longer)))
-            if way is not None and self.judge.may_start(traffic, seen.name, way):
+            if way is not None and (way == found.way or self._left and self._may_start((other, seen, way), traffic)):
                 stops = longer
                 found = Proposal(seen.name, tuple(at.stop for at in stops), way, (*found.jobs, other))
         return found
 
-    def _inserted(self, start: str, stops: list[At], other: Waiting, most: int) -> list[At] | None:
-        """The stops with those of another job among them where the way is shortest, if it has at most so many nodes."""
+    def _inserted(self, start: str, stops: list[At], other: Waiting, way: Sequence[str]) -> list[At] | None:
+        """The stops with those of another job among them where the way is shortest, if it is longer than this by the detour at most."""
         assert other.target is not None
         pick, drop = (At(stop, self.ways.node_of(name)) for stop, name in zip(_stops(other), (other.origin, other.target)))
+        if not self.detour and (pick.node not in way or drop.node not in way):
+            return None
+        most = len(way) + self.detour
         best: tuple[int, list[At]] | None = None
         for i in range(len(stops) + 1):
             for j in range(i, len(stops) + 1):
@@ -111,3 +166,8 @@ class Chooser:
 
 def _stops(one: Waiting) -> tuple[Stop, Stop]:
     return Stop('pick', one.job), Stop('drop', one.job)
+
+
+def _key(tried: Try) -> tuple[str, ...]:
+    one, seen, _ = tried
+    return seen.row.node, one.origin, one.target or ''

@@ -5,7 +5,7 @@ heard, is for its lines and for the turn in which vehicles are served; after a s
 from __future__ import annotations
 
 import time
-from collections.abc import Callable, Mapping
+from collections.abc import Callable, Mapping, Sequence
 from dataclasses import dataclass, replace
 
 from ..client import Desk, NoAnswer, Refused
@@ -97,6 +97,8 @@ class Dispatcher:
         held = {**{'node ' + node: str(key) for node, key in seen.holds.nodes.items()},
                 **{'edge ' + edge: str(key) for edge, key in seen.holds.edges.items()}}
         reasons: dict[str, str] = {}
+        self.judge.begin_turn()
+        self.chooser.begin_turn()
         released, traffic = self._release(seen, traffic, held, reasons, now)
         started, traffic = self._start(seen, traffic, held, reasons, now)
         self._look_deeper(seen, traffic, bool(released or started))
@@ -219,8 +221,7 @@ class Dispatcher:
     def _by_whom(self, vehicle: Seen, traffic: Traffic) -> str:
         """Who stands in the way of a vehicle and does not go on."""
         nodes = set(traffic.ways[vehicle.name][1:])
-        standing = {**traffic.parked, **{name: one.held for name, one in traffic.still.items()}}
-        found = sorted('%s at %s' % (name, ' '.join(sorted(nodes & at))) for name, at in standing.items() if nodes & at)
+        found = sorted('%s at %s' % (name, ' '.join(sorted(nodes & at))) for name, at in traffic.standing().items() if nodes & at)
         return ' by ' + ', '.join(found) if found else ''
 
     def _advance(self, vehicle: Seen, edges: int, held: dict[str, str]) -> bool:
@@ -256,8 +257,9 @@ class Dispatcher:
                 traffic = traffic.started(found.vehicle, found.way).released(found.vehicle, edges)
                 held.update({'node ' + node: found.vehicle for node in found.way[: edges + 1]})
                 count += 1
-        for job in self.book.waiting:
-            reasons['job ' + job] = self._why_job_waits(self.book.waiting[job], idle, traffic)
+        standing = _standing(traffic) if idle else {}
+        for job, one in self.book.waiting.items():
+            reasons['job ' + job] = self._why_job_waits(one, standing) if idle else 'no vehicle is free'
         return count, traffic
 
     def _first_edges(self, found: Proposal, traffic: Traffic, held: dict[str, str]) -> int:
@@ -289,20 +291,17 @@ class Dispatcher:
             self.book.forget(one.job)
         return True
 
-    def _why_job_waits(self, one: Waiting, idle: dict[str, Seen], traffic: Traffic) -> str:
-        if not idle:
-            return 'no vehicle is free'
+    def _why_job_waits(self, one: Waiting, standing: Mapping[str, Sequence[str]]) -> str:
+        """Why no free vehicle takes a job, where these stand at nodes."""
         ends = {self.ways.node_of(one.origin): 'the pick'}
         if one.target is not None:
             ends[self.ways.node_of(one.target)] = 'the drop'
-        standing = {**traffic.parked, **{name: still.held for name, still in traffic.still.items()}}
-        found = [
-            '%s stands at %s, at %s' % (name, what, node)
-            for node, what in ends.items()
-            for name, at in standing.items()
-            if node in at
-        ]
-        return '; '.join(sorted(found)) or 'no free vehicle gets there without blocking others, or being blocked'
+        found = ['%s stands at %s, at %s' % (name, what, node) for node, what in ends.items() for name in standing.get(node, ())]
+        if found:
+            return '; '.join(sorted(found))
+        if self.chooser.is_put_off(one):
+            return 'others are looked at first'
+        return 'no free vehicle gets there without blocking others, or being blocked'
 
     # When nothing moves.
 
@@ -357,3 +356,12 @@ class Dispatcher:
             elif since is not None and now - since >= self.settings.told and why != 'no vehicle is free':
                 self.say('%s %s' % (name, why) if not name.startswith('job ') else '%s waits: %s' % (name, why))
                 self._since[name] = (why, float('inf'))
+
+
+def _standing(traffic: Traffic) -> dict[str, list[str]]:
+    """By node the vehicles that stand there and do not go on."""
+    found: dict[str, list[str]] = {}
+    for name, held in traffic.standing().items():
+        for node in held:
+            found.setdefault(node, []).append(name)
+    return found

@@ -25,13 +25,13 @@ ANEW = 30
 @dataclass(frozen=True)
 class Waiting:
     """A job that waits: its load, the station where that stands, the stations where it may lead, one of them where that is known, and
-    for how many seconds it has been seen to wait."""
+    the moment in seconds since which it has been seen to wait."""
 
     job: str
     load: str
     origin: str
     targets: tuple[str, ...] = ()
-    waited: float = 0.0
+    since: float = 0.0
 
     @property
     def target(self) -> str | None:
@@ -53,7 +53,6 @@ class JobBook:
     def look(self, desk: Desk, seen: Snapshot, now: float = 0.0) -> None:
         """Brings the book up to date, at this moment in seconds. `ASKED` requests at most, and at times once more for what is known."""
         self._turn += 1
-        self.waiting = {job: replace(one, waited=one.waited + now - self._now) for job, one in self.waiting.items()}
         self._now = now
         riding = seen.riding()
         by_load = {one.load: one for one in self.waiting.values()}
@@ -109,7 +108,7 @@ class JobBook:
             if self.taken.get(load) not in (None, told.job):
                 del self.taken[load]
             if told.job is not None and told.place.startswith('station ') and load not in self.taken and told.job not in self.waiting:
-                self.waiting[told.job] = Waiting(told.job, load, told.place.removeprefix('station '))
+                self.waiting[told.job] = Waiting(told.job, load, told.place.removeprefix('station '), (), self._now)
 
     def _find_targets(self, seen: Snapshot) -> None:
         """Which stations are left over for each job."""
@@ -122,17 +121,17 @@ class JobBook:
                 self._know(one, target)
                 left[target] -= 1
         open_jobs = [one for one in self.waiting.values() if one.job not in self.known]
-        found = True
+        found, roomy = True, [name for name, count in left.items() if count > 0]
         while found:
             found = False
             for one in list(open_jobs):
-                targets = tuple(name for name, count in left.items() if count > 0 and name != one.origin)
+                targets = tuple(name for name in roomy if name != one.origin)
                 self.waiting[one.job] = replace(one, targets=targets)
                 if len(targets) == 1:
                     self._know(one, targets[0])
                     left[targets[0]] -= 1
                     open_jobs.remove(one)
-                    found = True
+                    found, roomy = True, [name for name, count in left.items() if count > 0]
 
     def _know(self, one: Waiting, target: str) -> None:
         self.known[one.job] = target

@@ -4,207 +4,377 @@ A vehicle stands on one node and goes along a fixed way, node by node. It goes o
 the last node of its way. A wall is a node that stays taken: by a vehicle without a way, or by one that does not go on. A vehicle holds
 an edge only together with both of its ends, so nodes alone say who is in whose way.
 
-Whether all can finish is NP-hard in general, so the look goes in two parts:
+Whether all can finish is NP-hard in general, so the look goes in three parts:
 
+- **Moves that were found before.** Where most is as it was in an earlier look, the moves of that one are tried first.
 - **Moves that take nothing from anybody.** A vehicle goes ahead, over free nodes, to a node that no other vehicle still has before it.
   There it is in nobody's way, so whatever was possible before is possible after. All moves of this kind are made first, as long as
   there are any. The time is polynomial, and on a layout with places to wait it mostly is all.
-- **A search for the rest.** Where vehicles are left that can only step onto nodes that others want too, such steps are tried, one
-  after another, and behind each of them the moves of the first kind. At most `budget` of these states are looked at. A budget that is
-  used up counts as a no.
+- **A search for the rest.** Where vehicles are left that can only go to nodes that others want too, such moves are tried, one after
+  another, and behind each of them those of the second kind; but none after which some two vehicles could not both finish, were they
+  alone, as two that meet on a single track. Groups that have no node in common are searched one by one, and of each at most `budget`
+  states are looked at. A budget that is used up counts as a no.
 
 So a yes is always right, since moves were found. A no may be wrong only where the budget was used up.
+
+Sets of nodes are whole numbers here, with a bit for each node, so that a look takes some tenths of a millisecond.
 """
 from __future__ import annotations
 
-from collections.abc import Collection, Iterator, Mapping, Sequence
+from collections.abc import Collection, Iterable, Iterator, Mapping, Sequence
+from dataclasses import dataclass
 
 Way = Sequence[str]
 """The nodes of a vehicle: the one where it stands, or the last of those that it holds, and then all that it still has to pass."""
 
+Moves = Sequence[tuple[str, int]]
+"""Moves one after another: a vehicle, and how many nodes of its way are before it afterwards."""
+
 BUDGET = 300
 """So many states are looked at where a look does not say another number."""
 
-FREE, WALL = -1, -2
+KEPT = 5_000
+"""So many ways are kept as bits."""
+
+
+class Lane:
+    """A way as bits: `bits` has that of each node, `rest` of each index those of the nodes behind it, and `all` those of the whole way.
+    `lefts` has of each node how many nodes are behind it on the way, each number as a bit."""
+
+    __slots__ = ('bits', 'rest', 'all', 'end', 'lefts')
+
+    def __init__(self, bits: list[int]) -> None:
+        self.bits, self.end = bits, len(bits) - 1
+        self.rest, self.lefts = [0] * len(bits), dict.fromkeys(bits, 0)
+        for index in range(self.end, 0, -1):
+            self.rest[index - 1] = self.rest[index] | bits[index]
+        for index, bit in enumerate(bits):
+            self.lefts[bit] |= 1 << self.end - index
+        self.all = self.rest[0] | bits[0]
+
+    def passes(self, other: Lane) -> list[int]:
+        """From where a vehicle on this way and one on the other both finish, were they alone: of each number of nodes that are left to
+        this one the numbers that may be left to the other, as bits."""
+        rows, whole, before = [], (2 << other.end) - 1, 1
+        for bit in reversed(self.bits):
+            free = whole & ~other.lefts.get(bit, 0)
+            begun = before & free
+            before = (free + begun ^ free | begun) & free  # and so on from each of these, as long as it is free
+            rows.append(before)
+        return rows
+
+
+class Ground:
+    """Which bit each node has, and the ways as bits that were asked for. One of it may serve for many looks."""
+
+    def __init__(self) -> None:
+        self._bits: dict[str, int] = {}
+        self._lanes: dict[Way, Lane] = {}
+        self._passes: dict[tuple[Lane, Lane], list[int]] = {}
+
+    def bit(self, node: str) -> int:
+        return self._bits.setdefault(node, 1 << len(self._bits))
+
+    def bits(self, nodes: Iterable[str]) -> int:
+        found = 0
+        for node in nodes:
+            found |= self.bit(node)
+        return found
+
+    def lane(self, way: Way) -> Lane:
+        way = tuple(way)
+        lane = self._lanes.get(way)
+        if lane is None:
+            if len(self._lanes) >= KEPT:
+                self._lanes.clear()
+                self._passes.clear()
+            lane = self._lanes[way] = Lane([self.bit(node) for node in way])
+        return lane
+
+    def passes(self, one: Lane, other: Lane) -> list[int]:
+        found = self._passes.get((one, other))
+        if found is None:
+            if len(self._passes) >= KEPT:
+                self._passes.clear()
+            found = self._passes[one, other] = one.passes(other)
+        return found
 
 
 class State:
-    """Where the vehicles stand: `at` has the index on its way of each, `taken` of each node its vehicle, `FREE` or `WALL`, and `wants`
-    of each node how many vehicles still have it before them."""
+    """Where the vehicles stand: `at` has the index on its way of each, `taken` the nodes of all, and `moves` how they came there."""
 
-    __slots__ = ('at', 'taken', 'wants')
+    __slots__ = ('at', 'taken', 'moves')
 
-    def __init__(self, at: list[int], taken: list[int], wants: list[int]) -> None:
-        self.at, self.taken, self.wants = at, taken, wants
+    def __init__(self, at: list[int], taken: int, moves: list[tuple[int, int]]) -> None:
+        self.at, self.taken, self.moves = at, taken, moves
 
     def copy(self) -> State:
-        return State(self.at.copy(), self.taken.copy(), self.wants.copy())
+        return State(self.at.copy(), self.taken, self.moves.copy())
 
 
 class Floor:
-    """Vehicles on their ways. Vehicles and nodes are numbers here; `names` has those of the vehicles."""
+    """Vehicles on their ways. Vehicles are numbers here; `names` has their names."""
 
-    def __init__(self, ways: Mapping[str, Way], walls: Collection[str]) -> None:
+    def __init__(self, ways: Mapping[str, Way], walls: Collection[str], ground: Ground | None = None) -> None:
+        self.ground = ground = Ground() if ground is None else ground
         self.names = sorted(ways)
-        numbers = {node: number for number, node in enumerate(sorted({node for way in ways.values() for node in way}))}
-        self.ways = [[numbers[node] for node in ways[name]] for name in self.names]
-        self.ends = [len(way) - 1 for way in self.ways]
-        self.last = [{node: index for index, node in enumerate(way)} for way in self.ways]
-        self.walls = [numbers[node] for node in walls if node in numbers]
-        self.size = len(numbers)
+        self.lanes = [ground.lane(ways[name]) for name in self.names]
+        self.walls = ground.bits(walls)
 
     def start(self) -> State:
         """Each vehicle at the beginning of its way."""
-        state = State([0] * len(self.ways), [FREE] * self.size, [0] * self.size)
-        for vehicle, way in enumerate(self.ways):
-            state.taken[way[0]] = vehicle
-            for node, index in self.last[vehicle].items():
-                state.wants[node] += index > 0
-        for node in self.walls:
-            state.taken[node] = WALL
-        return state
+        taken = 0
+        for lane in self.lanes:
+            taken |= lane.bits[0]
+        return State([0] * len(self.lanes), taken, [])
 
     def move(self, state: State, vehicle: int, to: int) -> None:
         """Has a vehicle go ahead to the node of this index."""
-        way, last, at = self.ways[vehicle], self.last[vehicle], state.at[vehicle]
-        if state.taken[way[at]] == vehicle:  # a wall stays one, though a vehicle leaves it
-            state.taken[way[at]] = FREE
-        state.taken[way[to]] = vehicle
+        bits = self.lanes[vehicle].bits
+        state.taken = state.taken ^ bits[state.at[vehicle]] | bits[to]
         state.at[vehicle] = to
-        for index in range(at + 1, to + 1):
-            if last[way[index]] == index:
-                state.wants[way[index]] -= 1
+        state.moves.append((vehicle, to))
 
-    def furthest(self, state: State, vehicle: int) -> int:
+    def others(self, state: State, vehicle: int) -> int:
+        """The nodes where others stand, and the walls. A wall stays one, though a vehicle leaves it."""
+        return state.taken ^ self.lanes[vehicle].bits[state.at[vehicle]] | self.walls
+
+    def shared(self, state: State, among: Iterable[int]) -> int:
+        """The nodes that two or more of these vehicles still have before them."""
+        lanes, at = self.lanes, state.at
+        once = more = 0
+        for vehicle in among:
+            rest = lanes[vehicle].rest[at[vehicle]]
+            more |= once & rest
+            once |= rest
+        return more
+
+    def furthest(self, state: State, vehicle: int, shared: int) -> int:
         """The index of the last node to which the vehicle can go over free nodes and where it is in nobody's way."""
-        way, taken, wants = self.ways[vehicle], state.taken, state.wants
-        best = state.at[vehicle]
-        for index in range(best + 1, len(way)):
-            node = way[index]
-            if taken[node] != FREE and taken[node] != vehicle:
+        lane, best = self.lanes[vehicle], state.at[vehicle]
+        bits, others = lane.bits, self.others(state, vehicle)
+        if bits[best + 1] & others or not lane.rest[best] & ~shared:
+            return best
+        if not lane.rest[best] & others:
+            return next((index for index in range(lane.end, best, -1) if not bits[index] & shared), best)
+        for index in range(best + 1, lane.end + 1):
+            if bits[index] & others:
                 break
-            if wants[node] == 1:  # by this vehicle alone
+            if not bits[index] & shared:
                 best = index
         return best
 
-    def settle(self, state: State) -> None:
-        """Makes all moves that take nothing from anybody. It leads to the same state in whichever order they are made."""
-        left = [vehicle for vehicle, end in enumerate(self.ends) if state.at[vehicle] < end]
-        moved = True
+    def settle(self, state: State, among: Iterable[int] | None = None) -> None:
+        """Makes all moves that take nothing from anybody. It leads to the same state in whichever order they are made. Where vehicles
+        are named, no other one that has not finished has a node in common with these."""
+        lanes, at, moved = self.lanes, state.at, True
+        left: Iterable[int] = range(len(lanes)) if among is None else among
         while moved:
-            moved = False
+            moved, left = False, [vehicle for vehicle in left if at[vehicle] < lanes[vehicle].end]
+            shared = self.shared(state, left)
             for vehicle in left:
-                to = self.furthest(state, vehicle)
-                if to > state.at[vehicle]:
+                to = self.furthest(state, vehicle, shared)
+                if to > at[vehicle]:
                     self.move(state, vehicle, to)
-                    moved = True
+                    moved, shared = True, self.shared(state, left)
+
+    def follow(self, state: State, moves: Moves) -> None:
+        """Makes those of these moves that lead ahead over free nodes."""
+        numbers = {name: vehicle for vehicle, name in enumerate(self.names)}
+        for name, left in moves:
+            vehicle = numbers.get(name)
+            if vehicle is not None:
+                lane, at, others = self.lanes[vehicle], state.at[vehicle], self.others(state, vehicle)
+                to = lane.end - left
+                if to > at and (not lane.rest[at] & others or not any(bit & others for bit in lane.bits[at + 1:to + 1])):
+                    self.move(state, vehicle, to)
 
     def finished(self, state: State) -> frozenset[int]:
-        return frozenset(vehicle for vehicle, end in enumerate(self.ends) if state.at[vehicle] == end)
+        return frozenset(vehicle for vehicle, lane in enumerate(self.lanes) if state.at[vehicle] == lane.end)
 
-    def steps(self, state: State, goal: frozenset[int]) -> Iterator[State]:
-        """The states after one step of one vehicle, by which it does not shut in one of the goal."""
-        for vehicle, end in enumerate(self.ends):
-            index = state.at[vehicle]
-            if index < end and state.taken[self.ways[vehicle][index + 1]] in (FREE, vehicle):
+    def has_all(self, state: State, goal: Iterable[int]) -> bool:
+        """Whether these have finished."""
+        return all(state.at[vehicle] == self.lanes[vehicle].end for vehicle in goal)
+
+    def steps(self, state: State, among: Iterable[int], goal: frozenset[int]) -> Iterator[State]:
+        """The states after one of these vehicles has gone ahead over free nodes, the farthest first, by which it does not shut in one of
+        the goal, nor one of these it."""
+        for vehicle in among:
+            lane, index, others = self.lanes[vehicle], state.at[vehicle], self.others(state, vehicle)
+            to = next((at for at in range(index, lane.end) if lane.bits[at + 1] & others), lane.end)
+            for at in range(to, index, -1):
                 after = state.copy()
-                self.move(after, vehicle, index + 1)
-                if not self.shuts_in(after, vehicle, goal):
+                self.move(after, vehicle, at)
+                if not self.shuts_in(after, vehicle, goal) and (vehicle not in goal or self.passes(after, vehicle, goal)):
                     yield after
 
-    def is_shut_in(self, state: State, vehicle: int) -> bool:
-        """Whether a wall or a vehicle that has finished stands on the way of the vehicle."""
-        at, taken, ends = state.at, state.taken, self.ends
-        for node in self.ways[vehicle][at[vehicle] + 1:]:
-            other = taken[node]
-            if other == WALL or (other != FREE and other != vehicle and at[other] == ends[other]):
-                return True
-        return False
+    def passes(self, state: State, vehicle: int, others: Iterable[int]) -> bool:
+        """Whether the vehicle and each of these others can both finish, were the two alone."""
+        lane = self.lanes[vehicle]
+        left = lane.end - state.at[vehicle]
+        for other in others:
+            it = self.lanes[other]
+            if other != vehicle and lane.all & it.all:
+                if not self.ground.passes(lane, it)[left] >> it.end - state.at[other] & 1:
+                    return False
+        return True
+
+    def together(self, state: State, goal: Iterable[int]) -> frozenset[int]:
+        """Those of the goal of which each two can both finish: of two that can't the first alone."""
+        found: list[int] = []
+        for vehicle in sorted(goal):
+            if self.passes(state, vehicle, found):
+                found.append(vehicle)
+        return frozenset(found)
+
+    def lost(self, state: State) -> frozenset[int]:
+        """The vehicles that do not finish any more, whatever moves: those on whose way a wall or a vehicle that has finished stands;
+        and those whose next node is taken for good, by one of these or in a ring of vehicles of which each waits for the next, and
+        those that wait for these."""
+        ends = self.walls
+        for vehicle in self.finished(state):
+            ends |= self.lanes[vehicle].bits[-1]
+        shut_in = {vehicle for vehicle, (lane, at) in enumerate(zip(self.lanes, state.at)) if lane.rest[at] & ends}
+        return frozenset(shut_in | self.waiting_for_good(state))
 
     def waiting_for_good(self, state: State) -> set[int]:
         """The vehicles whose next node is taken for good: by a wall, by one that has finished, or in a ring of vehicles of which each
         waits for the next; and those that wait for these."""
-        at, taken, ends, ways = state.at, state.taken, self.ends, self.ways
+        at, lanes = state.at, self.lanes
+        on = {lane.bits[index]: vehicle for vehicle, (lane, index) in enumerate(zip(lanes, at))}
         told: dict[int, bool] = {}
-        for first in range(len(ways)):
+        for first in range(len(lanes)):
             row, now = [], first
             while now not in told:
                 if now in row:
                     told[now] = True
-                elif at[now] == ends[now]:
+                elif at[now] == lanes[now].end:
                     told[now] = True  # it stays there
                 else:
-                    other = taken[ways[now][at[now] + 1]]
+                    after = lanes[now].bits[at[now] + 1]
+                    other = on.get(after, now)
                     row.append(now)
-                    if other == WALL:
+                    if after & self.walls:
                         told[now] = True
-                    elif other == FREE or other == now:
+                    elif other == now:
                         told[now] = False
                     else:
                         now = other
             for vehicle in row:
                 told[vehicle] = told[now]
-        return {vehicle for vehicle, stays in told.items() if stays and at[vehicle] < ends[vehicle]}
+        return {vehicle for vehicle, stays in told.items() if stays and at[vehicle] < lanes[vehicle].end}
 
     def shuts_in(self, state: State, vehicle: int, goal: frozenset[int]) -> bool:
         """Whether the vehicle has finished on a node that one of these still has before it."""
-        node = self.ways[vehicle][state.at[vehicle]]
-        if state.at[vehicle] < self.ends[vehicle] or not state.wants[node]:
+        lane = self.lanes[vehicle]
+        if state.at[vehicle] < lane.end:
             return False
-        return any(self.last[other].get(node, -1) > state.at[other] for other in goal if other != vehicle)
+        return any(self.lanes[other].rest[state.at[other]] & lane.bits[-1] for other in goal if other != vehicle)
 
     def goal(self, state: State) -> frozenset[int]:
         """Those that perhaps finish: of vehicles that end at the same node one alone does."""
-        found, ends = set(self.finished(state)), {self.ways[v][-1] for v in self.finished(state)}
-        stay = self.waiting_for_good(state)
-        for vehicle, way in enumerate(self.ways):
-            if vehicle not in found and vehicle not in stay and way[-1] not in ends and not self.is_shut_in(state, vehicle):
+        found, lost = set(self.finished(state)), self.lost(state)
+        ends = {self.lanes[vehicle].bits[-1] for vehicle in found}
+        for vehicle, lane in enumerate(self.lanes):
+            if vehicle not in found and vehicle not in lost and lane.bits[-1] not in ends:
                 found.add(vehicle)
-                ends.add(way[-1])
+                ends.add(lane.bits[-1])
         return frozenset(found)
+
+    def groups(self, state: State) -> list[list[int]]:
+        """The vehicles that have not finished, in groups of which none has a node in common with another, now or later."""
+        found: list[tuple[int, list[int]]] = []
+        for vehicle, (lane, at) in enumerate(zip(self.lanes, state.at)):
+            if at < lane.end:
+                nodes, members = lane.bits[at] | lane.rest[at], [vehicle]
+                for group in [group for group in found if group[0] & nodes]:
+                    nodes, members = nodes | group[0], members + group[1]
+                    found.remove(group)
+                found.append((nodes, members))
+        return [sorted(members) for _, members in found]
+
+    def search(self, first: State, group: Sequence[int], goal: frozenset[int], budget: int) -> State:
+        """A state behind this one, after moves of the group alone, in which those of the goal have finished; or, where none is found in
+        so many, that in which the most have."""
+        best, most = first, sum(1 for vehicle in group if first.at[vehicle] == self.lanes[vehicle].end)
+        seen, rows = {tuple(first.at)}, [self.steps(first, group, goal)]
+        while not self.has_all(best, goal) and rows and budget > 0:
+            state = next(rows[-1], None)
+            if state is None:
+                rows.pop()
+                continue
+            self.settle(state, group)
+            key = tuple(state.at)
+            if key in seen:
+                continue
+            seen.add(key)
+            budget -= 1
+            over = sum(1 for vehicle in group if state.at[vehicle] == self.lanes[vehicle].end)
+            if over > most or self.has_all(state, goal):
+                best, most = state, over
+            if goal.isdisjoint(self.waiting_for_good(state)):
+                rows.append(self.steps(state, group, goal))
+        return best
+
+    def found(self, state: State) -> Found:
+        lanes, names = self.lanes, self.names
+        moves = [(names[vehicle], lanes[vehicle].end - to) for vehicle, to in state.moves]
+        left = {name: lane.end - at for name, lane, at in zip(names, lanes, state.at)}
+        return Found(frozenset(name for name, nodes in left.items() if not nodes), moves, left)
+
+
+@dataclass(frozen=True)
+class Found:
+    """Vehicles that finish by these moves; `left` has of each vehicle how many nodes of its way are before it behind them. The others
+    stay where they are or go ahead to make room."""
+
+    finishing: frozenset[str]
+    moves: Moves
+    left: Mapping[str, int]
+
+
+def along(ways: Mapping[str, Way], walls: Collection[str], moves: Moves, ground: Ground | None = None) -> Found:
+    """Who finishes by those of these moves that can be made, and behind them by moves that take nothing from anybody."""
+    floor = Floor(ways, walls, ground)
+    state = floor.start()
+    floor.follow(state, moves)
+    floor.settle(state)
+    return floor.found(state)
+
+
+def look(
+    ways: Mapping[str, Way],
+    walls: Collection[str] = (),
+    budget: int = BUDGET,
+    wanted: Collection[str] | None = None,
+    ground: Ground | None = None,
+) -> Found:
+    """An order of moves by which all of the wanted vehicles finish, or, where none are named, all that can. Where it is not found, the
+    best that was."""
+    floor = Floor(ways, walls, ground)
+    first = floor.start()
+    floor.settle(first)
+    if wanted is None:
+        goal = floor.goal(first)
+    else:
+        goal = frozenset(vehicle for vehicle, name in enumerate(floor.names) if name in wanted)
+        if not goal.isdisjoint(floor.lost(first)):
+            return floor.found(first)
+    state = first
+    for group in floor.groups(first):
+        here = goal.intersection(group)
+        together = floor.together(state, here)
+        if wanted is not None and together != here:
+            break
+        state = floor.search(state, group, together, budget)
+        if wanted is not None and not floor.has_all(state, here):
+            break
+    return floor.found(state)
 
 
 def finishing(ways: Mapping[str, Way], walls: Collection[str] = (), budget: int = BUDGET) -> frozenset[str]:
-    """The vehicles that finish by some order of moves: all of them where the look finds one. Else those of the best order that it has
-    found, in which the others stay where they are or go ahead to make room."""
-    floor = Floor(ways, walls)
-    first = floor.start()
-    floor.settle(first)
-    best = floor.finished(first)
-    goal = best if len(best) == len(ways) else floor.goal(first)
-    seen, rows = {tuple(first.at)}, [floor.steps(first, goal)]
-    while not goal <= best and rows and budget > 0:
-        state = next(rows[-1], None)
-        if state is None:
-            rows.pop()
-            continue
-        floor.settle(state)
-        key = tuple(state.at)
-        if key in seen:
-            continue
-        seen.add(key)
-        budget -= 1
-        over = floor.finished(state)
-        if len(over) > len(best):
-            best = over
-        if goal.isdisjoint(floor.waiting_for_good(state)):
-            rows.append(floor.steps(state, goal))
-    return frozenset(floor.names[vehicle] for vehicle in best)
-
-
-def runs_ahead(ways: Mapping[str, Way], walls: Collection[str], vehicle: str) -> int:
-    """How many nodes the vehicle can go ahead at once to where it is in nobody's way; no release of these takes anything from
-    anybody."""
-    others = [way for name, way in ways.items() if name != vehicle]
-    taken = {way[0] for way in others}.union(walls)
-    wanted: set[str] = set().union(*(way[1:] for way in others))
-    best = 0
-    for index, node in enumerate(ways[vehicle][1:], 1):
-        if node in taken:
-            break
-        if node not in wanted:
-            best = index
-    return best
+    """The vehicles that finish by some order of moves: all of them where the look finds one, else those of the best that it has found."""
+    return look(ways, walls, budget).finishing
 
 
 def after_release(ways: Mapping[str, Way], vehicle: str, nodes: int) -> dict[str, Way]:

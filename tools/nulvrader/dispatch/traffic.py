@@ -4,10 +4,11 @@ from __future__ import annotations
 
 from collections.abc import Collection, Mapping
 from dataclasses import dataclass, field, replace
+from functools import cached_property
 
-from .look import Way, after_release, finishing, runs_ahead
+from .look import Found, Ground, Moves, Way, after_release, along, look
 
-KEPT = 20_000
+KEPT = 2_000
 """So many answers of the look are kept."""
 
 QUICK, DEEP = 50, 300
@@ -34,14 +35,18 @@ class Traffic:
     parked: Mapping[str, frozenset[str]] = field(default_factory=dict)
     out: Mapping[str, Way] = field(default_factory=dict)
 
+    def standing(self) -> dict[str, frozenset[str]]:
+        """The nodes that each vehicle holds that does not go on."""
+        return {**self.parked, **{name: one.held for name, one in self.still.items()}}
+
+    @cached_property
     def walls(self) -> frozenset[str]:
         """The nodes that stay taken as long as those that stand do."""
-        return frozenset().union(*self.parked.values(), *(one.held for one in self.still.values()))
+        return frozenset().union(*self.standing().values())
 
     def is_open(self, vehicle: str, way: Way) -> bool:
-        """Whether no other vehicle that stands holds a node of this way."""
-        standing = (held for name, held in self.parked.items() if name != vehicle)
-        return all(held.isdisjoint(way) for held in (*standing, *(one.held for name, one in self.still.items() if name != vehicle)))
+        """Whether no other vehicle holds a node of this way that stands, as this one does without an order."""
+        return self.walls.intersection(way) <= self.parked[vehicle]
 
     def all_ways(self) -> dict[str, Way]:
         return {**self.ways, **{name: one.way for name, one in self.still.items()}}
@@ -64,42 +69,102 @@ class Traffic:
 
     def in_the_way(self, vehicle: str) -> list[str]:
         """The vehicles that still have to pass a node that this one holds."""
-        held = self.parked.get(vehicle) or {self.all_ways()[vehicle][0]}
-        return sorted(name for name, way in self.all_ways().items() if name != vehicle and not held.isdisjoint(way[1:]))
+        ways = self.all_ways()
+        held = self.parked.get(vehicle) or {ways[vehicle][0]}
+        return sorted(name for name, way in ways.items() if name != vehicle and not held.isdisjoint(way[1:]))
+
+
+@dataclass(frozen=True)
+class Outlook:
+    """Who finishes of a traffic. `now` is what is found where nobody that stands goes away: neither those without an order, nor those
+    that do not go on, nor those that have finished. `later` is what is found where those that do not go on do so again, and all leave
+    a dead end then, also those without an order. `ways` are those of `later`. `ends` and `ends_later` have the node where each vehicle
+    stands behind the moves that were found."""
+
+    now: Found
+    later: Found
+    ways: Mapping[str, Way]
+    ends: Mapping[str, str]
+    ends_later: Mapping[str, str]
+
+    @cached_property
+    def ahead(self) -> frozenset[str]:
+        """The nodes that vehicles still have before them, later."""
+        return frozenset().union(*(way[1:] for way in self.ways.values()))
+
+
+def _ends(ways: Mapping[str, Way], found: Found) -> dict[str, str]:
+    return {name: ways[name][-1 - left] for name, left in found.left.items()}
 
 
 class Judge:
-    """Says what may be released and started. It keeps the answers of the look, which are a function of what is asked.
+    """Says what may be released and started. The moves that were found last are tried first; what has to be looked for is kept.
 
-    What is asked of a traffic as it is gets `deep` states, and of one that would come about `quick` ones: so all that was once seen to
-    be able to finish is seen so again, and what takes long to see is waited with. Where nothing moves the dispatcher asks for more."""
+    What is asked of a traffic as it is gets `deep` states, and of one that would come about `quick` ones. Where nothing moves the
+    dispatcher asks for more. `looks` counts those that were made."""
 
     def __init__(self, quick: int = QUICK, deep: int = DEEP) -> None:
-        self.quick, self.deep, self.times = quick, deep, 1
-        self._kept: dict[object, frozenset[str]] = {}
+        self.quick, self.deep, self.times, self.looks = quick, deep, 1, 0
+        self._ground = Ground()
+        self._kept: dict[object, Found] = {}
+        self._moves: tuple[Moves, Moves] = (), ()  # that were found last, now and later
+        self._granted: tuple[Traffic, Found, Found] | None = None  # what was allowed last, and who finishes then
+        self._last: tuple[Traffic, int, Outlook] | None = None
 
-    def finishing(self, ways: Mapping[str, Way], walls: Collection[str], budget: int) -> frozenset[str]:
-        question = (budget, frozenset((name, tuple(way)) for name, way in ways.items()), frozenset(walls))
-        told = self._kept.get(question)
-        if told is None:
+    def find(self, ways: Mapping[str, Way], walls: Collection[str], budget: int, hint: Moves, wanted: frozenset[str] | None = None) -> Found:
+        """Moves by which all that are wanted finish, or else as many as are found."""
+        told = along(ways, walls, hint, self._ground)
+        if told.finishing >= (ways.keys() if wanted is None else wanted):
+            return told
+        question = (budget, wanted, frozenset((name, tuple(way)) for name, way in ways.items()), frozenset(walls))
+        found = self._kept.get(question)
+        if found is None:
             if len(self._kept) >= KEPT:
                 self._kept.clear()
-            told = self._kept[question] = finishing(ways, walls, budget)
-        return told
+            self.looks += 1
+            found = self._kept[question] = look(ways, walls, budget, wanted, self._ground)
+        return found if found.finishing >= (told.finishing if wanted is None else wanted) else told
 
-    def finish_now(self, traffic: Traffic, deep: bool = True) -> frozenset[str]:
-        """Who finishes though nobody that stands goes away: neither those without an order, nor those that do not go on, nor those
-        that have finished."""
-        return self.finishing(traffic.ways, traffic.walls(), self.times * (self.deep if deep else self.quick))
+    def begin_turn(self) -> None:
+        """From here on who finishes is looked for anew, also where a release or an order was seen to keep who did."""
+        self._granted = None
 
-    def finish_later(self, traffic: Traffic, deep: bool = True) -> frozenset[str]:
-        """Who finishes, and gets out of a dead end then, where those that do not go on do so again, and those without an order leave:
-        whom the vehicles do not shut in for good."""
-        return self.finishing(traffic.ways_later(), (), self.times * (self.deep if deep else self.quick))
+    def outlook(self, traffic: Traffic) -> Outlook:
+        if self._last is None or self._last[0] is not traffic or self._last[1] != self.times:
+            ways, most = traffic.ways_later(), self.times * self.deep
+            if self._granted is not None and self._granted[0] == traffic:
+                _, now, later = self._granted
+            else:
+                now = self.find(traffic.ways, traffic.walls, most, self._moves[0])
+                later = self.find(ways, (), most, self._moves[1])
+            self._moves = now.moves, later.moves
+            self._last = traffic, self.times, Outlook(now, later, ways, _ends(traffic.ways, now), _ends(ways, later))
+        return self._last[2]
 
-    def keeps(self, before: Traffic, after: Traffic) -> bool:
-        """Whether each vehicle that could finish before can after, now and later."""
-        return self.finish_now(before) <= self.finish_now(after, False) and self.finish_later(before) <= self.finish_later(after, False)
+    def finish_now(self, traffic: Traffic) -> frozenset[str]:
+        """Who finishes though nobody that stands goes away."""
+        return self.outlook(traffic).now.finishing
+
+    def finish_later(self, traffic: Traffic) -> frozenset[str]:
+        """Who finishes, and gets out of a dead end then, where all others do too: whom the vehicles do not shut in for good."""
+        return self.outlook(traffic).later.finishing
+
+    def keeps(self, traffic: Traffic, after: Traffic, vehicle: str | None = None, last: bool = False) -> bool:
+        """Whether each vehicle that could finish before can after, now and later, and this one too, which has begun its way. Whether it
+        goes first or last is tried first."""
+        before, most = self.outlook(traffic), self.times * self.quick
+        found = []
+        for ways, walls, told in ((after.ways, after.walls, before.now), (after.ways_later(), (), before.later)):
+            wanted, hint = told.finishing, list(told.moves)
+            if vehicle is not None:
+                wanted, hint = wanted | {vehicle}, [move for move in hint if move[0] != vehicle]
+                hint.insert(len(hint) if last else 0, (vehicle, 0))
+            found.append(self.find(ways, walls, most, hint, wanted))
+            if not wanted <= found[-1].finishing:
+                return False
+        self._moves = found[0].moves, found[1].moves
+        self._granted = after, found[0], found[1]
+        return True
 
     def is_open(self, traffic: Traffic, vehicle: str, way: Way) -> bool:
         """Whether nobody stands on this way of the vehicle who does not go on."""
@@ -111,13 +176,28 @@ class Judge:
         finish = self.finish_now(traffic)
         if vehicle not in finish and finish.isdisjoint(traffic.in_the_way(vehicle)):
             return False
-        if runs_ahead(traffic.ways, traffic.walls(), vehicle) >= nodes and runs_ahead(traffic.ways_later(), (), vehicle) >= nodes:
-            return True
         return self.keeps(traffic, traffic.released(vehicle, nodes))
+
+    def goes_last(self, traffic: Traffic, vehicle: str, way: Way) -> bool:
+        """Whether a vehicle without an order can stay until all others are where they go, and then take this way, on which nobody
+        stands now. So it may be started, which is seen without a look."""
+        outlook = self.outlook(traffic)
+        if way[0] in outlook.ahead or not frozenset(outlook.ends.values()).isdisjoint(way):
+            return False
+        others = frozenset(node for name, node in outlook.ends_later.items() if name != vehicle)
+        return others.isdisjoint(way) and others.isdisjoint(traffic.out.get(way[-1], ()))
+
+    def plainly(self, traffic: Traffic, vehicle: str, way: Way) -> bool | None:
+        """Whether a vehicle without an order may be given one along this way, where that is seen without a look; else None."""
+        if not self.is_open(traffic, vehicle, way):
+            return False
+        if self.goes_last(traffic, vehicle, way):
+            return True
+        outlook = self.outlook(traffic)
+        both_stay_there = any(outlook.ends[name] == way[-1] for name in outlook.now.finishing)
+        return False if both_stay_there else None
 
     def may_start(self, traffic: Traffic, vehicle: str, way: Way) -> bool:
         """Whether a vehicle without an order may be given one along this way: it can finish, and so can all that could before."""
-        after = traffic.started(vehicle, way)
-        if not self.is_open(traffic, vehicle, way) or vehicle not in self.finish_now(after, False):
-            return False
-        return vehicle in self.finish_later(after, False) and self.keeps(traffic, after)
+        told = self.plainly(traffic, vehicle, way)
+        return told is not False and self.keeps(traffic, traffic.started(vehicle, way), vehicle, told is True)
