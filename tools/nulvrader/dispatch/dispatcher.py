@@ -10,7 +10,7 @@ from dataclasses import dataclass, replace
 
 from ..client import Desk, NoAnswer, Refused
 from ..layouts import Layout
-from ..names import new_reference
+from ..names import natural, new_reference
 from .choose import Chooser, Proposal
 from .jobs import JobBook, Waiting
 from .snapshot import Seen, Snapshot, take
@@ -220,8 +220,8 @@ class Dispatcher:
         """Who stands in the way of a vehicle and does not go on."""
         nodes = set(traffic.ways[vehicle.name][1:])
         standing = {**traffic.parked, **{name: one.held for name, one in traffic.still.items()}}
-        found = sorted('%s at %s' % (name, ' '.join(sorted(nodes & at))) for name, at in standing.items() if nodes & at)
-        return ' by ' + ', '.join(found) if found else ''
+        found = ['%s at %s' % (name, ' '.join(sorted(nodes & at, key=natural))) for name, at in standing.items() if nodes & at]
+        return ' by ' + ', '.join(sorted(found, key=natural)) if found else ''
 
     def _advance(self, vehicle: Seen, edges: int, held: dict[str, str]) -> bool:
         assert vehicle.order is not None and vehicle.row.sent is not None
@@ -302,7 +302,7 @@ class Dispatcher:
             for name, at in standing.items()
             if node in at
         ]
-        return '; '.join(sorted(found)) or 'no free vehicle gets there without blocking others, or being blocked'
+        return '; '.join(sorted(found, key=natural)) or 'no free vehicle gets there without blocking others, or being blocked'
 
     # When nothing moves.
 
