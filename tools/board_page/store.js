@@ -87,7 +87,8 @@ export class Store {
   behind(vehicle) {
     const rows = this.once('behind', () => {
       const found = new Map();
-      for (const [name, wait] of this.kind('wait')) {
+      for (const name of ordered(this.kind('wait').keys())) {
+        const wait = this.get('wait', name);
         if (wait.stands) found.set(wait.by, [...(found.get(wait.by) ?? []), name]);
       }
       return found;
