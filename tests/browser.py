@@ -3,10 +3,12 @@ at. It needs Debian's `chromium` and `chromium-driver`, and nothing of Python be
 from __future__ import annotations
 
 import base64
+import contextlib
 import http.client
 import json
 import os
 import shutil
+import signal
 import subprocess
 import time
 from typing import Any
@@ -26,6 +28,19 @@ def missing() -> str | None:
     """What of a browser isn't there; None where all is."""
     lacking = [name for name in ('chromium', 'chromedriver') if shutil.which(name) is None]
     return 'no %s here: apt install chromium chromium-driver' % ', no '.join(lacking) if lacking else None
+
+
+def children(number: int) -> list[int]:
+    """The processes that a process has started, and those that these have started."""
+    parents: dict[int, list[int]] = {}
+    for name in os.listdir('/proc'):
+        with contextlib.suppress(OSError, ValueError):
+            with open('/proc/%d/stat' % int(name)) as file:
+                parents.setdefault(int(file.read().rsplit(')', 1)[1].split()[1]), []).append(int(name))
+    found = [number]
+    for one in found:
+        found += parents.get(one, [])
+    return found[1:]
 
 
 class Failed(AssertionError):
@@ -100,8 +115,17 @@ class Browser:
     def _command(self, name: str, values: dict[str, Any]) -> None:
         self._ask('POST', self.session + '/goog/cdp/execute', {'cmd': name, 'params': values})
 
+    def kill(self) -> None:
+        """Ends the browser and its driver at once, as a crash does."""
+        for number in [*children(self.driver.pid), self.driver.pid]:
+            with contextlib.suppress(ProcessLookupError):
+                os.kill(number, signal.SIGKILL)
+        self.driver.wait(300)
+
     def close(self) -> None:
         """Ends the browser and its driver."""
+        if self.driver.poll() is not None:
+            return
         try:
             self._ask('DELETE', self.session)
         finally:

@@ -10,6 +10,7 @@ from unittest import mock
 import programs
 from programs import ran, within
 from nulvrader import bodies, calls, client, refusals
+from nulvrader.names import natural
 from test_client import told
 from test_program import DESK, Serving, over_sockets
 from test_scripts import LAYOUT
@@ -153,6 +154,16 @@ class Commands(Asking):
         self.assertEqual(self.ask('load L1'), 'load L1: station A, job -\n')
         lines = dict(line.split() for line in self.ask('vehicle KIT/0001').splitlines())
         self.assertEqual([lines[name] for name in ('vehicle', 'node', 'ready', 'order')], ['KIT/0001', 'N1', 'no', '-'])
+
+    def test_the_order_of_names(self):
+        """Numbers in names are compared by their values: L10 comes after L9, though not as a text."""
+        names = ['1', 'L', 'L01', 'L1', 'L2', 'L2-9', 'L2-10', 'L10', 'M1']
+        self.assertEqual(sorted(reversed(names), key=natural), names)
+        for load in ('L10', 'L9'):
+            self.ask('register-load %s --station C' % load)
+        self.assertEqual([line.split()[0] for line in self.ask('loads').splitlines()], ['load', 'L1', 'L9', 'L10'])
+        self.assertEqual([row['load'] for row in self.json('loads --station C')], ['L9', 'L10'])
+        self.assertEqual(self.ask('stations').splitlines()[3].split()[-2:], ['L9', 'L10'])
 
     def test_names_that_the_desk_does_not_have(self):
         """A question about a place that is unknown is told, and not answered by an empty table."""

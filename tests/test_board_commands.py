@@ -200,7 +200,8 @@ class MayAsk(Watching):
         self.assertEqual(self.board.ask('POST', '/do', b'[]', good)[0], 400)
         self.assertEqual(self.board.ask('POST', '/do', b'{', good)[0], 400)
         self.assertEqual(self.board.ask('POST', '/do', b'x' * 262145, good)[0], 413)
-        self.assertEqual(self.board.ask('GET', '/data?since=abc')[0], 200)
+        for query in ('since=abc', 'vehicle=KIT/0001', 'vehicle=%2e%2e'):
+            self.assertEqual(self.board.ask('GET', '/data?' + query)[0], 200, query)
 
 
 class ReadOnly(Watching):

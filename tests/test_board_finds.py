@@ -29,6 +29,17 @@ class Finds(Page):
         until(lambda: not self.browser.text('.detail'), 'it is put away')
         self.assertEqual(self.browser.value('#plan', 'viewBox'), box)
 
+    def test_the_order_of_names(self) -> None:
+        """Numbers in names are compared by their values: L10 comes after L9, though not as a text."""
+        names = ['1', 'L', 'L01', 'L1', 'L2', 'L2-9', 'L2-10', 'L10', 'M1']
+        script = 'return import(`${location.origin}/words.js`).then(({ ordered }) => ordered(arguments[0]))'
+        self.assertEqual(self.browser.run(script, names[::-1]), names)
+        for load in ('L10', 'L9'):
+            self.desk.register_load(load)
+        self.browser.click('#tab-stock')
+        titles = '#stock .rows:last-of-type .title'
+        until(lambda: self.browser.text(titles) == 'L1 | L2 | L9 | L10', 'the loads in their order')
+
     def test_a_vehicle_at_a_station(self) -> None:
         """It does not cover the name of the station, neither near nor from afar."""
         script = '''

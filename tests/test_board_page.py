@@ -20,7 +20,7 @@ LACKING = browser.missing()
 class Page(unittest.TestCase):
     """A desk with two loads and a vehicle at N1, a board, and its page in a browser."""
 
-    words: tuple[str, ...] = ('--silent', '600')
+    words: tuple[str, ...] = ('--silent', '600', '--timeout', '600')
     plant: Plant
     browser: Browser
 
@@ -149,6 +149,14 @@ class AtWork(Page):
         self.on_the_map('station', 'Station C', '1 of 1 taken')
         self.misses('#alarms', 'The desk has not')
 
+    def test_a_desk_that_hangs(self) -> None:
+        """It is connected to, and does not answer: the page says for how long it waits, until the answer has come."""
+        self.plant.served.process.send_signal(signal.SIGSTOP)
+        self.sees('#desk', 'Waiting for the desk for')
+        until(lambda: 'stale' in (self.browser.value('body', 'class') or ''), 'what is seen is old')
+        self.plant.served.process.send_signal(signal.SIGCONT)
+        self.sees('#desk', 'The desk answers')
+
     def test_a_board_that_is_stopped(self) -> None:
         """The page says so, and to commands too; the questions that nobody answers are the only errors of the console.
         Once the board was started again the page goes on, and gives commands."""
@@ -185,7 +193,7 @@ class FallsSilent(Page):
         until(
             lambda: is_heard('MANUAL') and 'Not ready' in self.browser.text('.vehicle-card'), 'not ready'
         )
-        self.sees('.vehicle-card', "it is not under the desk's control")
+        self.sees('.vehicle-card', 'an emergency stop, or an error of the level FATAL: the desk does not keep which')
 
 
 class Gives(Page):

@@ -2,7 +2,7 @@
 
 import { button, el, keyed, part, set, show, text } from './dom.js';
 import { colourOf, tellWhy } from './looks.js';
-import { many, span, targetWords } from './words.js';
+import { many, ordered, span, targetWords } from './words.js';
 
 export class Jobs {
   constructor(root, view) {
@@ -22,7 +22,7 @@ export class Jobs {
       const words = `${many(scan.missing, 'live job')} more: the board asks the loads for them`;
       text(this.scan, `${words}, ${many(scan.left, 'load')} to go.`);
     }
-    const rows = [...store.kind('job')].map(([key, job]) => ({ key, job, store }));
+    const rows = ordered(store.kind('job').keys()).map((key) => ({ key, job: store.get('job', key), store }));
     const rank = ({ job }) => (job.phase === 'riding' ? 0 : 1);
     rows.sort((one, other) => rank(one) - rank(other) || (one.job.added ?? 0) - (other.job.added ?? 0));
     show(this.none, rows.length === 0 && !scan);

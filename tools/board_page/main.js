@@ -9,7 +9,7 @@ import { Plan } from './map.js';
 import { Stock } from './stock.js';
 import { Store } from './store.js';
 import { Vehicles } from './vehicles.js';
-import { clock, day, many, span } from './words.js';
+import { clock, day, many, ordered, span } from './words.js';
 
 const EVERY = 400; // milliseconds from one question to the next
 const HIDDEN = 5000; // while the page is not seen
@@ -104,7 +104,7 @@ function optionsOf(kind) {
   if (kind === 'node') return view.layout.nodes.map(([name]) => name);
   if (kind === 'load') return store.loads();
   if (kind !== 'job' && kind !== 'stops') return [];
-  return [...store.kind('job')].filter(([, job]) => job.phase === 'waiting').map(([name]) => name);
+  return ordered([...store.kind('job')].filter(([, job]) => job.phase === 'waiting').map(([name]) => name));
 }
 
 /** What is marked on the map for what is picked: of a load the place where it is. */
@@ -133,17 +133,20 @@ function openTab(name) {
 function drawHeader() {
   const desk = store.get('desk', '');
   const silent = Date.now() - store.told > 4000;
+  const waiting = silent ? 0 : store.waiting();
   const words = silent
     ? 'The board does not answer'
     : !desk
       ? 'Asking the desk'
-      : desk.up
-        ? 'The desk answers'
-        : `The desk has not answered for ${span(store.now() - desk.since)}`;
-  set(byId('desk'), 'class', `desk ${silent || (desk && !desk.up) ? 'bad' : desk ? 'good' : 'warn'}`);
+      : waiting
+        ? `Waiting for the desk for ${span(waiting)}`
+        : desk.up
+          ? 'The desk answers'
+          : `The desk has not answered for ${span(store.now() - desk.since)}`;
+  set(byId('desk'), 'class', `desk ${silent || (desk && !desk.up) ? 'bad' : desk && !waiting ? 'good' : 'warn'}`);
   text(byId('desk').querySelector('.words'), words);
   set(byId('desk'), 'title', desk ? `${desk.up ? '' : `${desk.fault}; `}since ${day(desk.since)}` : '');
-  document.body.classList.toggle('stale', silent || Boolean(desk && !desk.up));
+  document.body.classList.toggle('stale', silent || waiting > 0 || Boolean(desk && !desk.up));
   text(byId('clock'), clock(store.now()));
   drawCounts();
   drawAlarms(silent, desk);
@@ -197,7 +200,9 @@ let askedOf = ''; // the run of the board that was asked whether commands may be
 
 async function turn() {
   try {
-    const changed = store.take(await answerOf(`data?run=${store.run}&since=${store.version}`));
+    const looks = view.picked?.kind === 'vehicle' && !document.hidden;
+    const vehicle = looks ? `&vehicle=${encodeURIComponent(view.picked.name)}` : '';
+    const changed = store.take(await answerOf(`data?run=${store.run}&since=${store.version}${vehicle}`));
     if (changed.size) view.redraw(changed);
     if (askedOf !== store.run) {
       await askWhether(askedOf !== '');

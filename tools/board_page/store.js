@@ -1,6 +1,9 @@
 // What the board has told: values by kind and name, and what happened.
 
+import { ordered } from './words.js';
+
 const EVENTS = 300;
+const LONG = 2000; // milliseconds, from which on an answer of the desk is waited for long
 
 export class Store {
   constructor() {
@@ -9,6 +12,7 @@ export class Store {
     this.kinds = new Map();
     this.events = [];
     this.offset = 0;
+    this.asking = null;
     this.told = 0;
     this.kept = new Map();
   }
@@ -35,6 +39,12 @@ export class Store {
     return Date.now() + this.offset;
   }
 
+  /** For how many milliseconds the desk, which is up, has let the board wait for an answer; 0 where that is not long. */
+  waiting() {
+    const long = this.asking === null || !this.get('desk', '')?.up ? 0 : this.now() - this.asking;
+    return long > LONG ? long : 0;
+  }
+
   /** Takes an answer of the board. The kinds in which something has changed. */
   take(told) {
     const changed = new Set();
@@ -57,13 +67,14 @@ export class Store {
     this.run = told.run;
     this.version = told.version;
     this.offset = told.now - Date.now();
+    this.asking = told.asking;
     this.told = Date.now();
     return changed;
   }
 
   /** The names of the vehicles in their order. */
   vehicles() {
-    return this.once('vehicles', () => [...this.kind('vehicle').keys()].sort());
+    return this.once('vehicles', () => ordered(this.kind('vehicle').keys()));
   }
 
   /** The number of a vehicle among all, by which it has its colour. */
@@ -76,7 +87,8 @@ export class Store {
   behind(vehicle) {
     const rows = this.once('behind', () => {
       const found = new Map();
-      for (const [name, wait] of this.kind('wait')) {
+      for (const name of ordered(this.kind('wait').keys())) {
+        const wait = this.get('wait', name);
         if (wait.stands) found.set(wait.by, [...(found.get(wait.by) ?? []), name]);
       }
       return found;
@@ -99,7 +111,7 @@ export class Store {
 
   /** The names of the loads in their order. */
   loads() {
-    return this.once('loads', () => [...this.kind('load').keys()].sort());
+    return this.once('loads', () => ordered(this.kind('load').keys()));
   }
 
   /** The live job of a load, or undefined. */

@@ -2,7 +2,7 @@
 
 import { button, el, keyed, part, set, show, text } from './dom.js';
 import { colourOf, statesOf, tellWhy } from './looks.js';
-import { many, span } from './words.js';
+import { many, ordered, span } from './words.js';
 
 const ACTIONS = [
   ['order', 'Start an order'],
@@ -14,7 +14,8 @@ const ACTIONS = [
   ['resync', 'Accept its states'],
 ];
 
-const UNREADY = "By its last state it is not under the desk's control, or can't drive: look at the vehicle.";
+const UNREADY = 'Its last state has an operating mode other than AUTOMATIC or SEMIAUTOMATIC, an emergency stop, or an '
+  + 'error of the level FATAL: the desk does not keep which. Look at the vehicle.';
 
 /** What an order carries, each load with where from, if that is known, and where to: `L1: A → B, on it`. */
 function carriedWords(way, loads) {
@@ -54,7 +55,8 @@ export class Vehicles {
       const words = `${ring}: they wait for one another. Cancel the order of one of them.`;
       rows.push({ key: `circle ${circle}`, level: 'bad', vehicle: circle[0], words });
     }
-    for (const [name, wait] of [...store.kind('wait')].sort()) {
+    for (const name of ordered(store.kind('wait').keys())) {
+      const wait = store.get('wait', name);
       if (!wait.stands) continue;
       const long = span(store.now() - wait.since);
       const words = `${name} waits for ${wait.by}, which holds ${wait.kind} ${wait.name}: ${long}`;

@@ -1,4 +1,15 @@
-// Times and numbers in words.
+// Times and numbers in words, and the order of names.
+
+/** Names in the order in which people look for them: the numbers in them by their values, so that L2 is before L10. */
+export function ordered(names) {
+  const partsOf = (name) => name.split(/([0-9]+)/).map((part, turn) => (turn % 2 ? BigInt(part) : part));
+  return [...names].map((name) => [name, partsOf(name)]).sort(([one, parts], [other, others]) => {
+    for (let turn = 0; turn < parts.length && turn < others.length; turn += 1) {
+      if (parts[turn] !== others[turn]) return parts[turn] < others[turn] ? -1 : 1;
+    }
+    return parts.length - others.length || (one < other ? -1 : 1);
+  }).map(([name]) => name);
+}
 
 /** How long so many milliseconds are: `12 s`, `3 min`, `2 h 5 min`, `4 d 3 h`, in one piece. */
 export function span(milliseconds) {

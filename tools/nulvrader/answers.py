@@ -4,11 +4,12 @@ from __future__ import annotations
 import argparse
 import dataclasses
 import functools
-from collections.abc import Sequence
+from collections.abc import Iterable
 
 from . import arguments, questions, refusals
 from .client import Desk
 from .commands import LOAD, VEHICLE, Command, Told, Wrong, command, named, table, word
+from .names import natural
 
 QUESTIONS: list[Command] = []
 look = functools.partial(command, QUESTIONS)
@@ -24,11 +25,22 @@ def told(heads: str, rows: Rows, none: str) -> Told:
     return Told(text if rows else none, rows)
 
 
-def want(what: str, name: object, known: Sequence[object]) -> None:
+def listed(names: Iterable[str]) -> tuple[str, ...]:
+    """Names in the order in which people look for them."""
+    return tuple(sorted(names, key=natural))
+
+
+def ordered(name: str, rows: Rows) -> Rows:
+    """Rows in the order of the names that they have in this member."""
+    return sorted(rows, key=lambda row: natural(str(row[name])))
+
+
+def want(what: str, name: object, known: Iterable[object]) -> None:
     """`Wrong` where a station or a vehicle is named that the desk doesn't have."""
-    if name is not None and name not in known:
-        listed = ', '.join(map(str, known[:10])) + ', ..' * (len(known) > 10)
-        raise Wrong('there is no %s %s: the desk has %s' % (what, name, listed or 'none'))
+    names = listed(str(one) for one in known)
+    if name is not None and str(name) not in names:
+        told_some = ', '.join(names[:10]) + ', ..' * (len(names) > 10)
+        raise Wrong('there is no %s %s: the desk has %s' % (what, name, told_some or 'none'))
 
 
 @look('PAL-1', LOAD)
@@ -50,7 +62,7 @@ def vehicle(desk: Desk, said: argparse.Namespace) -> Told:
 def vehicle_row(row: questions.VehicleRow) -> dict[str, object]:
     """A vehicle as a row of a table."""
     found = dataclasses.asdict(row.vehicle)
-    return {'vehicle': str(row.vehicle.key), 'node': found.pop('node'), 'loads': row.loads} | {
+    return {'vehicle': str(row.vehicle.key), 'node': found.pop('node'), 'loads': listed(row.loads)} | {
         name: value for name, value in found.items() if name != 'key'
     }
 
@@ -58,7 +70,7 @@ def vehicle_row(row: questions.VehicleRow) -> dict[str, object]:
 @look('', cost='1 + V')
 def vehicles(desk: Desk, said: argparse.Namespace) -> Told:
     """All vehicles, with their orders and loads."""
-    rows = [vehicle_row(row) for row in questions.vehicles(desk)]
+    rows = ordered('vehicle', [vehicle_row(row) for row in questions.vehicles(desk)])
     heads = 'vehicle node order sent confirmed loads capacity ready paused pending astray'
     return told(heads, rows, 'there are no vehicles')
 
@@ -80,8 +92,8 @@ def loads(desk: Desk, said: argparse.Namespace) -> Told:
     stock = questions.stock(desk)
     want('station', said.station, list(stock.stations))
     want('vehicle', said.vehicle, list(stock.vehicles))
-    rows: Rows = [{'load': name, 'place': at} for name, at in sorted(stock.places().items()) if place in (None, at)]
-    return told('load place', rows, 'there are no loads' + (' there' if place else ''))
+    rows: Rows = [{'load': name, 'place': at} for name, at in stock.places().items() if place in (None, at)]
+    return told('load place', ordered('load', rows), 'there are no loads' + (' there' if place else ''))
 
 
 @look('')
@@ -91,14 +103,15 @@ def stations(desk: Desk, said: argparse.Namespace) -> Told:
         {
             'station': one.name,
             'node': one.node,
-            'loads': tuple(one.loads),
+            'loads': listed(one.loads),
             'reserved': one.reserved,
             'capacity': one.capacity,
             'free': max(0, one.capacity - len(one.loads) - one.reserved),
         }
         for one in questions.stock(desk).stations.values()
     ]
-    return told('station node capacity reserved free loads', rows, 'there is no layout')
+    heads = 'station node capacity reserved free loads'
+    return told(heads, ordered('station', rows), 'there is no layout')
 
 
 @look(
@@ -116,7 +129,7 @@ def jobs(desk: Desk, said: argparse.Namespace) -> Told:
         }
         for one in questions.jobs(desk)
     ]
-    return told('job load place order', rows, 'there are no live jobs')
+    return told('job load place order', ordered('job', rows), 'there are no live jobs')
 
 
 @look('', cost='1 + V, and 1 for each order')
@@ -136,7 +149,7 @@ def orders(desk: Desk, said: argparse.Namespace) -> Told:
         for one in questions.orders(desk)
     ]
     heads = 'order vehicle node sent confirmed released_to edges_left stops'
-    return told(heads, rows, 'there are no open orders')
+    return told(heads, ordered('order', rows), 'there are no open orders')
 
 
 @look('--vehicle KIT/0001', BY_VEHICLE)
@@ -144,9 +157,9 @@ def held(desk: Desk, said: argparse.Namespace) -> Told:
     """The nodes and edges that are held."""
     holds = questions.held(desk)
     # each vehicle holds the node where it stands
-    want('vehicle', said.vehicle, sorted(set(holds.nodes.values())))
-    rows: Rows = [{'thing': 'node ' + name, 'vehicle': str(key)} for name, key in holds.nodes.items()]
-    rows += [{'thing': 'edge ' + name, 'vehicle': str(key)} for name, key in holds.edges.items()]
+    want('vehicle', said.vehicle, set(holds.nodes.values()))
+    rows: Rows = [{'thing': 'node ' + name, 'vehicle': str(holds.nodes[name])} for name in listed(holds.nodes)]
+    rows += [{'thing': 'edge ' + name, 'vehicle': str(holds.edges[name])} for name in listed(holds.edges)]
     rows = [row for row in rows if said.vehicle is None or row['vehicle'] == str(said.vehicle)]
     return told('thing vehicle', rows, 'nothing is held')
 
@@ -165,7 +178,8 @@ def who_waits(desk: Desk, said: argparse.Namespace) -> Told:
         }
         for one in questions.who_waits(desk)
     ]
-    found = told('vehicle order at waits_for held_by in_circle', rows, 'no vehicle waits for another one')
+    heads = 'vehicle order at waits_for held_by in_circle'
+    found = told(heads, ordered('vehicle', rows), 'no vehicle waits for another one')
     if any(row['in_circle'] for row in rows):
         more = '\n\nTo free those in a circle, cancel one and move it out of the way (docs/OPERATE.md).'
         return Told(found.text + more, found.value)

@@ -6,7 +6,7 @@ from collections.abc import Mapping
 from dataclasses import dataclass, field
 from typing import NamedTuple
 
-from .names import NAME_RULE, is_name
+from .names import NAME_RULE, is_name, natural
 from .tables import TableFile, records_of, said, shown
 
 HEADER = [b'station', b'load']
@@ -128,7 +128,7 @@ class CountFile(TableFile):
             place, here = records.places.get(load, 'left'), 'station %s' % row.station
             if place != here and (place == 'checking' or place.startswith('station ')):
                 moves.append(Move(row.line, load, place, here))
-        for load, place in sorted(records.places.items()):
+        for load, place in sorted(records.places.items(), key=lambda pair: natural(pair[0])):
             if place.partition(' ')[0] == 'station' and place.partition(' ')[2] in counted and load not in found:
                 moves.append(Move(None, load, place, 'checking'))
         return moves
@@ -141,7 +141,7 @@ class CountFile(TableFile):
         """Adds the faults that the file has by the records of a desk."""
         for station, line in self.stations().items():
             if station not in records.capacities:
-                known = ', '.join(sorted(records.capacities)[:10])
+                known = ', '.join(sorted(records.capacities, key=natural)[:10])
                 more = ', ..' if len(records.capacities) > 10 else ''
                 self.fault(line, 'NoStation', 'there is no station %s: the desk has %s%s' % (station, known, more))
         for load, row in self.found().items():

@@ -10,6 +10,7 @@ from typing import Generic, TypeVar
 from xml.sax.saxutils import escape, quoteattr
 
 from .layouts import Edge
+from .names import natural
 from .positions import LENGTH, Point, positions
 from .warehouse import Warehouse
 
@@ -44,8 +45,8 @@ def labels_of(warehouse: Warehouse) -> dict[str, list[Line]]:
     """The lines beside each node: its stations with their loads, and the vehicles there with theirs."""
     lines: dict[str, list[Line]] = {node: [] for node in warehouse.layout.nodes}
     at = collections.defaultdict(list)
-    for load, place in warehouse.loads.items():
-        at[place].append(load)
+    for load in sorted(warehouse.loads, key=natural):
+        at[warehouse.loads[load]].append(load)
     for station in warehouse.layout.stations.values():
         loads = at['station ' + station.name]
         said = 'station %s: %d of %d' % (station.name, len(loads), station.capacity)
@@ -238,7 +239,7 @@ def drawing(warehouse: Warehouse) -> str:
     corners = boxes + [(x - RADIUS, y - RADIUS - 15, x + RADIUS, y + RADIUS) for x, y in at.values()]
     left, top = min([c[0] for c in corners], default=0) - 20, min([c[1] for c in corners], default=0) - 20
     right, bottom = max([c[2] for c in corners], default=0) + 20, max([c[3] for c in corners], default=0) + 20
-    checking = [load for load, place in warehouse.loads.items() if place == 'checking']
+    checking = sorted((load for load, place in warehouse.loads.items() if place == 'checking'), key=natural)
     foot = ['checking place: ' + (', '.join(checking) or 'no loads')]
     right = max(right, left + 40 + max(len(line) for line in foot) * LETTER)
     height = bottom - top + LINE * len(foot) + 12

@@ -20,6 +20,12 @@ def is_name(text: str) -> bool:
     return NAME.fullmatch(text) is not None
 
 
+def natural(name: str) -> tuple[list[str | int], str]:
+    """What names are sorted by for people: the numbers in them by their values, so that `L2` comes before `L10`."""
+    parts = re.split('([0-9]+)', name)
+    return [int(part) if turn % 2 else part for turn, part in enumerate(parts)], name
+
+
 def checked(text: str, what: str = 'name') -> str:
     """The text itself where it is a name, else `BadName`. `what` says what it should name, as in `load`."""
     if is_name(text):

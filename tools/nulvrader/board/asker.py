@@ -1,5 +1,10 @@
 """Asks the desk in turn, in a thread of its own: the hold report twice a second, the stock report once, and in between
-order messages, vehicles and loads of which something has changed, or that were not asked for long."""
+what single vehicles, orders and loads tell.
+
+No report tells whether a vehicle is ready or has paused, or which action is pending: each vehicle is asked. So of five
+of these requests three go first to what has changed: vehicles, orders and loads of which a report or a command says so.
+One goes first to the vehicles that will probably change soon, and one to all vehicles in turn, or now and then to the
+loads, in search of jobs. Where nothing of a kind is due, a request goes to another kind."""
 from __future__ import annotations
 
 import functools
@@ -23,12 +28,22 @@ SLOT = 0.05  # seconds from one request to the next, at least: at most 20 a seco
 HOLDS_EVERY = 0.5
 STOCK_EVERY = 1.0
 EXPORT_EVERY = 10.0
-VEHICLE_EVERY = 1000  # milliseconds
 SHARE = 10  # times as long as a report took, the board waits until it asks for it again
 AGAIN = 1.0  # seconds from a question that was not answered to the next
 OLD_EVERY = 3600.0
 DAY = 86_400_000
 NO_LOAD = 23
+
+CHANGED, LIKELY, ALL = 0, 1, 2
+# Of one request after another, which kinds have the first, the second and the third choice.
+TURNS = (
+    (CHANGED, LIKELY, ALL),
+    (ALL, CHANGED, LIKELY),
+    (CHANGED, ALL, LIKELY),
+    (LIKELY, CHANGED, ALL),
+    (CHANGED, ALL, LIKELY),
+)
+SEARCH = 4  # of so many requests to all vehicles in turn one goes to a load, as long as jobs are searched for
 
 Question = Callable[[], None]
 T = TypeVar('T')
@@ -62,7 +77,11 @@ class Asker(threading.Thread):
         self.desk, self.news, self.stores, self.fleet, self.days = desk, news, stores, fleet, days
         self.notes = notes
         self.holds, self.stock, self.export = Report(HOLDS_EVERY), Report(STOCK_EVERY), Report(EXPORT_EVERY)
-        self.details = deque((self.vehicle_question, self.load_question))
+        self.turns = deque(TURNS)
+        self.kinds = (self.changed_question, self.likely_question, self.other_question)
+        self.loads_first = False
+        self.others = 0  # how many requests went to all vehicles in turn
+        self.asking: int | None = None  # since when the desk is asked what it has not yet answered
         self.up: bool | None = None
         self.fault: str | None = None
         self.old_due = 0.0
@@ -77,6 +96,12 @@ class Asker(threading.Thread):
         with self._lock:
             self._hurried.append((vehicle, load))
         self._woken.set()
+
+    def look_at(self, vehicle: str) -> None:
+        """A page looks at a vehicle."""
+        seen = self.fleet.seen.get(vehicle)
+        if seen is not None:
+            seen.looked = now()
 
     def stop(self) -> None:
         """Ends the thread, and waits for it."""
@@ -105,8 +130,8 @@ class Asker(threading.Thread):
             hurried, self._hurried = self._hurried, []
         self.stock.due = self.holds.due = 0.0
         for vehicle, load in hurried:
-            if vehicle is not None and str(vehicle) in self.fleet.seen:
-                self.fleet.seen[str(vehicle)].needs_row = True
+            if vehicle is not None:
+                self.fleet.commanded(str(vehicle))
             if load is not None:
                 self.stores.jobs.want(load)
 
@@ -115,12 +140,14 @@ class Asker(threading.Thread):
         question = self.next_question(begun)
         if question is None:
             return SLOT
+        self.asking = now()
         try:
             question()
         except (NoAnswer, Refused, BadReport, BadName) as fault:
             self._fails(str(fault))
             return AGAIN
         finally:
+            self.asking = None
             self.news.record.commit()
         return SLOT
 
@@ -135,22 +162,37 @@ class Asker(threading.Thread):
             return self.ask_stock
         if self.stores.needs_export and at >= self.export.due:
             return self.ask_export
-        order = self.fleet.next_order()
-        if order is not None:
-            return functools.partial(self.ask_order, order)
-        for _ in range(len(self.details)):
-            self.details.rotate()
-            question = self.details[0]()
+        self.turns.rotate(-1)
+        for kind in self.turns[0]:
+            question = self.kinds[kind]()
             if question is not None:
                 return question
         return None
 
-    def vehicle_question(self) -> Question | None:
-        vehicle = self.fleet.next_vehicle(now(), VEHICLE_EVERY)
+    def changed_question(self) -> Question | None:
+        """What has changed: an order message, and in turn a vehicle and a load."""
+        order = self.fleet.next_order()
+        if order is not None:
+            return functools.partial(self.ask_order, order)
+        self.loads_first = not self.loads_first
+        load = self._load(self.stores.jobs.next_wanted) if self.loads_first else None
+        return load or self._vehicle(self.fleet.changed_vehicle()) or self._load(self.stores.jobs.next_wanted)
+
+    def likely_question(self) -> Question | None:
+        """A vehicle that will probably change soon."""
+        return self._vehicle(self.fleet.likely_vehicle(now()))
+
+    def other_question(self) -> Question | None:
+        """The next vehicle of all, or a load."""
+        self.others += 1
+        load = self._load(self.stores.jobs.next_scanned) if self.others % SEARCH == 0 else None
+        return load or self._vehicle(self.fleet.next_vehicle(now())) or self._load(self.stores.jobs.next_scanned)
+
+    def _vehicle(self, vehicle: VehicleKey | None) -> Question | None:
         return None if vehicle is None else functools.partial(self.ask_vehicle, vehicle)
 
-    def load_question(self) -> Question | None:
-        load = self.stores.jobs.next_load()
+    def _load(self, next_load: Callable[[], str | None]) -> Question | None:
+        load = next_load()
         return None if load is None else functools.partial(self.ask_load, load)
 
     def _told(self, question: Callable[[], T]) -> T:

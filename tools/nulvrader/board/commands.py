@@ -37,6 +37,9 @@ class Hurried(Protocol):
     def hurry(self, vehicle: VehicleKey | None, load: str | None) -> None:
         """What a command was about may have changed."""
 
+    def look_at(self, vehicle: str) -> None:
+        """A command to a vehicle is looked at."""
+
 
 @dataclass(frozen=True)
 class Field:
@@ -207,6 +210,7 @@ class Commands:
     def look(self, said: Mapping[str, Any]) -> dict[str, Any]:
         """What a command will do, with the values for `do`."""
         name, values = self._read(said)
+        self.asker.look_at(values.get('vehicle', ''))
         try:
             look = COMMANDS[name].look(Scene(self.layout, self.shown), values)
         except (BadName, order_looks.BadStops) as fault:

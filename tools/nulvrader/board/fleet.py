@@ -2,13 +2,13 @@
 by the hold report and what single vehicles and their order messages tell."""
 from __future__ import annotations
 
-from collections.abc import Mapping
+from collections.abc import Callable, Mapping
 from dataclasses import dataclass, field, replace
 from typing import Any
 
 from ..client import Vehicle
 from ..layouts import Layout
-from ..names import VehicleKey
+from ..names import VehicleKey, natural
 from ..reports import Holds, Stock
 from . import tell
 from .jobs import Jobs
@@ -17,22 +17,54 @@ from .waits import Wait, circles_of, waits_of
 from .ways import Thing, Way, joined, placed
 
 
+CANCEL = 'cancelOrder'
+EVERY = 1000  # milliseconds from one question about a vehicle to the next, at least, where nothing says that it has changed
+OFTEN = 700  # the same, where it will probably change soon
+LOOKED = 2000  # for so long a vehicle will probably change soon after a page has looked at it
+COMMANDED = 10_000  # and after a command
+
+
 @dataclass
 class Seen:
     """What is known of a vehicle. `row` is what the desk tells of it, None until it was asked, which was last at
     `asked`; `way` that of its open order; `held` what it holds. `heard` is when the board last saw that a state had
-    come, and `silent` since when none has come, where that is long. `kept` is the row that the record has."""
+    come, and `silent` since when none has come, where that is long. `kept` is the row that the record has. A page has
+    looked at it last at `looked`, and a command was given to it at `commanded`. `needs_row` says that the row is not any
+    more what it was."""
 
     held: frozenset[Thing] = frozenset()
     loads: tuple[str, ...] = ()
     row: Vehicle | None = None
     way: Way | None = None
     asked: int = 0
+    looked: int = 0
+    commanded: int = 0
     heard: int | None = None
     silent: int | None = None
     needs_row: bool = True
     needs_order: bool = False
     kept: dict[str, Any] = field(default_factory=dict)
+
+    @property
+    def is_at_end(self) -> bool:
+        """Whether it has come to the last node of its order, which then ends with its last act."""
+        return self.way is not None and self.way.seen == self.way.end
+
+    @property
+    def has_begun(self) -> bool:
+        """Whether it had no order, and holds an edge now: so it was ready, and has an order that is new."""
+        idle = self.row is not None and self.row.ready and self.row.order is None and not self.row.astray
+        return idle and self.way is None and any(kind == 'edge' for kind, _ in self.held)
+
+    def is_likely(self, at: int) -> bool:
+        """Whether it will probably change soon. One of which no state comes does not."""
+        if at - self.looked < LOOKED or at - self.commanded < COMMANDED:
+            return True
+        row = self.row
+        if row is None or self.silent is not None:
+            return False
+        is_new = row.order is not None and row.confirmed is None
+        return row.pending is not None or row.paused or is_new or self.is_at_end
 
 
 class Fleet:
@@ -63,8 +95,9 @@ class Fleet:
         """The vehicles of the stock report, with their loads."""
         for key, loads in stock.vehicles.items():
             seen = self.seen.setdefault(str(key), Seen())
-            if seen.loads != tuple(loads):
-                seen.loads, seen.needs_row = tuple(loads), True
+            if seen.loads != tuple(sorted(loads, key=natural)):
+                seen.loads = tuple(sorted(loads, key=natural))
+                seen.needs_row = seen.needs_row or seen.way is None or seen.is_at_end
                 self._show(str(key), seen)
 
     def take_holds(self, holds: Holds) -> None:
@@ -94,7 +127,12 @@ class Fleet:
         if before - held:
             self._hear(name, seen)  # what is freed is freed by a state, or by a person who places the vehicle
         way = placed(seen.way, held) if seen.way else None
-        seen.needs_row = seen.needs_row or way is None or way.seen == way.end
+        # more is released only to a vehicle that is ready and is not told to cancel: else the row is old
+        is_old = bool(held - before) and seen.row is not None and not (seen.row.ready and seen.row.pending != CANCEL)
+        if seen.has_begun:
+            seen.needs_order = True
+        elif way is None or is_old:
+            seen.needs_row = True
         seen.way = way or seen.way
         self._show(name, seen)
 
@@ -141,6 +179,10 @@ class Fleet:
             return
         new = seen.way is None or seen.way.order != message['orderId']
         way = joined(seen.way, message)
+        if seen.has_begun and seen.row is not None and way.update == 0:
+            seen.row = replace(seen.row, order=way.order, sent=0, confirmed=None)
+        elif seen.row is None or seen.row.order != way.order:
+            seen.needs_row = True
         seen.way = placed(way, seen.held) or replace(way, seen=None)
         if new:
             if self.earlier.pop(name, None) != way.order:
@@ -205,13 +247,28 @@ class Fleet:
         self.circles = circles
         self.news.shown.put('circles', '', circles or None)
 
-    def next_vehicle(self, at: int, every: int) -> VehicleKey | None:
-        """The vehicle to ask next: one of which something has changed, else the one that was not asked for longest, if
-        that is so many milliseconds ago."""
-        found = min(self.seen.items(), key=lambda one: (not one[1].needs_row, one[1].asked), default=None)
-        if found is None or not (found[1].needs_row or at - found[1].asked >= every):
-            return None
-        return VehicleKey.parse(found[0])
+    def changed_vehicle(self) -> VehicleKey | None:
+        """Of the vehicles that have changed, the one that was not asked for longest, or None."""
+        return self._longest_unasked(lambda seen: seen.needs_row)
+
+    def likely_vehicle(self, at: int) -> VehicleKey | None:
+        """The same of those that will probably change soon."""
+        return self._longest_unasked(lambda seen: at - seen.asked >= OFTEN and seen.is_likely(at))
+
+    def next_vehicle(self, at: int) -> VehicleKey | None:
+        """The same of all."""
+        return self._longest_unasked(lambda seen: at - seen.asked >= EVERY)
+
+    def _longest_unasked(self, is_due: Callable[[Seen], bool]) -> VehicleKey | None:
+        due = ((seen.asked, name) for name, seen in self.seen.items() if is_due(seen))
+        found = min(due, default=None)
+        return None if found is None else VehicleKey.parse(found[1])
+
+    def commanded(self, name: str) -> None:
+        """A command was given to a vehicle: it is asked at once, and for a while often."""
+        seen = self.seen.get(name)
+        if seen is not None:
+            seen.needs_row, seen.asked, seen.commanded = True, 0, self.news.at
 
     def next_order(self) -> VehicleKey | None:
         """A vehicle whose order message is to be asked for, or None."""

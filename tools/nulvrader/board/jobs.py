@@ -11,6 +11,7 @@ from dataclasses import dataclass, replace
 from typing import Any
 
 from ..client import Load
+from ..names import natural
 from ..notes import Noted
 from .ways import Way
 
@@ -179,7 +180,7 @@ class Jobs:
         while found:
             found = False
             for job in [job for job in self.live.values() if job.target is None]:
-                targets = tuple(sorted(name for name in self._short if name != job.origin))
+                targets = tuple(sorted((name for name in self._short if name != job.origin), key=natural))
                 if len(targets) == 1:
                     self._lead(job, targets[0])
                     found = True
@@ -204,12 +205,15 @@ class Jobs:
         asked = self._asked
         self._scan.extend(sorted(loads, key=lambda load: (load in asked, -often[there[load]], asked.get(load, 0))))
 
-    def next_load(self) -> str | None:
-        """The load to ask next, or None."""
-        if self.wanted:
-            load = next(iter(self.wanted))
+    def next_wanted(self) -> str | None:
+        """The load to ask next of those whose job is new or may have ended, or None."""
+        load = next(iter(self.wanted), None)
+        if load is not None:
             del self.wanted[load]
-            return load
+        return load
+
+    def next_scanned(self) -> str | None:
+        """The load to ask next in the search for jobs, or None."""
         return self._scan.popleft() if self._scan else None
 
     def scan(self) -> dict[str, Any] | None:

@@ -107,7 +107,7 @@ def serve(said: argparse.Namespace) -> bool:
     commands = None if said.read_only else Commands(desks[1], layout, shown, record, asker)
     guard = Guard(server.server_port, said.name)
     places = drawn(layout, places_of(layout, digest, record))
-    server.board = Board(shown, record, guard, places, commands, said.user_header)
+    server.board = Board(shown, record, asker, guard, places, commands, said.user_header)
     over = signalled()
     asker.start()
     threading.Thread(target=server.serve_forever, name='server', daemon=True).start()

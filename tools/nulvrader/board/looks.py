@@ -5,7 +5,7 @@ from collections.abc import Mapping
 from dataclasses import dataclass, field
 from typing import Any
 
-from ..names import new_reference
+from ..names import natural, new_reference
 from .scene import Scene
 from .tell import ACTIONS, place_words
 
@@ -98,7 +98,7 @@ def cancel(scene: Scene, said: Mapping[str, str]) -> Look:
         '%s is told to cancel its order%s, and stops as soon as it can.' % (name, ' %s' % order if order else '')
     )
     if way:
-        loads = sorted({act['load'] for act in way['acts']})
+        loads = sorted({act['load'] for act in way['acts']}, key=natural)
         look.says.append('Its jobs that are not done are stopped: those of %s.' % ', '.join(loads))
     look.says.append('Where it stops before the last released node, a person has to look where it stands and place it.')
     look.warn(vehicle is not None and order is None, 'It has no open order.')

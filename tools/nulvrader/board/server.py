@@ -10,8 +10,9 @@ from http.server import BaseHTTPRequestHandler, ThreadingHTTPServer
 from typing import Any
 
 from ..layouts import Layout
+from ..names import natural
 from ..positions import Point
-from .asker import now
+from .asker import Asker, now
 from .commands import Commands, NoCommand
 from .guard import HEADERS, Guard
 from .record import Record
@@ -29,11 +30,12 @@ MOVES = 50  # of a load, that a page is told
 
 
 def drawn(layout: Layout, places: dict[str, Point]) -> dict[str, Any]:
-    """The layout as the page draws it."""
+    """The layout as the page draws it, each kind in the order of the names."""
+    stations = [layout.stations[name] for name in sorted(layout.stations, key=natural)]
     return {
-        'nodes': [[node, round(places[node][0], 1), round(places[node][1], 1)] for node in layout.nodes],
+        'nodes': [[node, round(places[node][0], 1), round(places[node][1], 1)] for node in sorted(layout.nodes, key=natural)],
         'edges': [[edge.name, edge.start, edge.finish] for edge in layout.edges.values()],
-        'stations': [[station.name, station.node, station.capacity] for station in layout.stations.values()],
+        'stations': [[station.name, station.node, station.capacity] for station in stations],
     }
 
 
@@ -44,6 +46,7 @@ class Board:
 
     shown: Shown
     record: Record
+    asker: Asker
     guard: Guard
     layout: dict[str, Any]
     commands: Commands | None
@@ -128,9 +131,10 @@ class Handler(BaseHTTPRequestHandler):
         self._json(self.server.board.layout)
 
     def _data(self, asked: dict[str, str]) -> None:
-        version = asked.get('since', '0')
-        told = self.server.board.shown.since(asked.get('run', ''), int(version) if version.isdecimal() else 0)
-        self._json({**told, 'now': now()})
+        board, version = self.server.board, asked.get('since', '0')
+        board.asker.look_at(asked.get('vehicle', ''))
+        told = board.shown.since(asked.get('run', ''), int(version) if version.isdecimal() else 0)
+        self._json({**told, 'now': now(), 'asking': board.asker.asking})
 
     def _history(self, asked: dict[str, str]) -> None:
         question = 'SELECT at, from_place, to_place FROM load_moves WHERE load = ? ORDER BY n DESC LIMIT ?'

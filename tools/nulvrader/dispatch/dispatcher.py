@@ -10,7 +10,7 @@ from dataclasses import dataclass, replace
 
 from ..client import Desk, NoAnswer, Refused
 from ..layouts import Layout
-from ..names import new_reference
+from ..names import natural, new_reference
 from .choose import Chooser, Proposal
 from .jobs import JobBook, Waiting
 from .snapshot import Seen, Snapshot, take
@@ -221,8 +221,8 @@ class Dispatcher:
     def _by_whom(self, vehicle: Seen, traffic: Traffic) -> str:
         """Who stands in the way of a vehicle and does not go on."""
         nodes = set(traffic.ways[vehicle.name][1:])
-        found = sorted('%s at %s' % (name, ' '.join(sorted(nodes & at))) for name, at in traffic.standing().items() if nodes & at)
-        return ' by ' + ', '.join(found) if found else ''
+        found = ['%s at %s' % (name, ' '.join(sorted(nodes & at, key=natural))) for name, at in traffic.standing().items() if nodes & at]
+        return ' by ' + ', '.join(sorted(found, key=natural)) if found else ''
 
     def _advance(self, vehicle: Seen, edges: int, held: dict[str, str]) -> bool:
         assert vehicle.order is not None and vehicle.row.sent is not None
@@ -298,7 +298,7 @@ class Dispatcher:
             ends[self.ways.node_of(one.target)] = 'the drop'
         found = ['%s stands at %s, at %s' % (name, what, node) for node, what in ends.items() for name in standing.get(node, ())]
         if found:
-            return '; '.join(sorted(found))
+            return '; '.join(sorted(found, key=natural))
         if self.chooser.is_put_off(one):
             return 'others are looked at first'
         return 'no free vehicle gets there without blocking others, or being blocked'
