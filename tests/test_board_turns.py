@@ -18,6 +18,7 @@ from nulvrader.board.stores import Stores
 from nulvrader.client import Load, Vehicle
 from nulvrader.layouts import read_layout
 from nulvrader.names import VehicleKey
+from nulvrader.reports import Holds, StationStock, Stock
 
 COUNT = 100
 ROUND = 7  # seconds in which each vehicle was asked at least once
@@ -208,6 +209,69 @@ class Turns(Asked):
         names = [name for _, name in self.desk.asked]
         self.assertIn('order KIT/010', names)
         self.assertIn('KIT/010', names[names.index('order KIT/010') :])
+
+
+def message(update: int, first: int) -> dict[str, object]:
+    """An order of L1 from A to B, with a message that begins at its node of this place."""
+    acts = {0: ('pick', 'A'), 1: ('drop', 'B')}
+    return {
+        'orderId': 'O1',
+        'orderUpdateId': update,
+        'manufacturer': ONE.manufacturer,
+        'serialNumber': '000',
+        'nodes': [
+            {
+                'nodeId': 'N%03d' % at,
+                'sequenceId': 2 * at,
+                'released': True,
+                'actions': [
+                    {
+                        'actionId': 'O1.%d' % at,
+                        'actionType': acts[at][0],
+                        'blockingType': 'HARD',
+                        'actionParameters': [
+                            {'key': 'stationType', 'value': 'station'},
+                            {'key': 'stationName', 'value': acts[at][1]},
+                            {'key': 'loadType', 'value': 'load'},
+                            {'key': 'loadId', 'value': 'L1'},
+                        ],
+                    }
+                ],
+            }
+            for at in range(first, 2)
+        ],
+        'edges': [
+            {'edgeId': 'E000', 'sequenceId': 1, 'released': True, 'startNodeId': 'N000', 'endNodeId': 'N001', 'actions': []}
+        ][first:],
+    }
+
+
+class Ends(Asked):
+    def order_after(self, at_end: bool, place: str, first: int = 0) -> object:
+        """The order that the page has of a vehicle with an open order, after the reports say so of it and its load; it
+        is not asked again."""
+        name, key = 'KIT/000', VehicleKey(ONE.manufacturer, '000')
+        track = {'edges': {'E000': key}} if not at_end else {}
+        held = {'N001': key} if at_end else {'N000': key, 'N001': key}
+        row = replace(self.desk.rows[name], order='O1', sent=first, confirmed=first)
+        self.fleet.take_vehicle(row)
+        self.fleet.take_order(key, message(first, first))
+        self.fleet.take_holds(Holds(held, track.get('edges', {}), 2 * COUNT - 1))
+        stock = Stock({one: StationStock(one, 'N000', 9, 0) for one in 'AB'}, [], {key: []})
+        (stock.vehicles[key] if place == name else stock.stations[place].loads).append('L1')
+        self.fleet.take_stock(stock)
+        told = self.fleet.news.shown.get('vehicle', name)
+        return told['order_name']
+
+    def test_an_order_that_ends(self) -> None:
+        """Its vehicle is at the last node, and the load stands where it is to be dropped: by the reports alone it is over.
+        An order of which the board knows a later update alone is asked for."""
+        self.assertEqual(self.order_after(False, 'KIT/000'), 'O1')
+        self.assertEqual(self.order_after(False, 'B'), 'O1')
+        self.assertEqual(self.order_after(True, 'KIT/000'), 'O1')
+        self.assertIsNone(self.order_after(True, 'B'))
+        self.fleet.seen['KIT/000'].way = None
+        self.assertEqual(self.order_after(True, 'B', first=1), 'O1')
 
 
 class Searches(Asked):

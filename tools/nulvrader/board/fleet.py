@@ -98,24 +98,22 @@ class Fleet:
         for key, loads in stock.vehicles.items():
             seen = self.seen.setdefault(str(key), Seen())
             before, seen.loads = seen.loads, tuple(sorted(loads, key=natural))
-            if self._has_ended(seen, stock):
+            if seen.row is not None and self._has_ended(seen, seen.row, stock):
+                seen.row = replace(seen.row, order=None, sent=None, confirmed=None)
                 self._end(str(key), seen)
             elif seen.loads != before and not seen.needs_order:
                 seen.needs_row = seen.needs_row or seen.way is None or seen.is_at_end
             self._show(str(key), seen)
 
     @staticmethod
-    def _has_ended(seen: Seen, stock: Stock) -> bool:
-        """Whether the order of a vehicle has ended: it is at the last node, and what it was to drop is dropped. Its row
-        is brought up to date."""
-        row, way = seen.row, seen.way
-        if row is None or way is None or not seen.is_at_end or way.first or row.order != way.order:
+    def _has_ended(seen: Seen, row: Vehicle, stock: Stock) -> bool:
+        """Whether the open order of a vehicle has ended: it is at the last node, and all that it was to drop stands where
+        it was to drop it. Of an order that the board saw too late not all drops are known, so it is asked for."""
+        way = seen.way
+        if way is None or way.first or row.order != way.order or not seen.is_at_end:
             return False
-        drops = [act for act in way.acts if act.kind == 'drop']
-        if not all(act.load in stock.stations[act.station].loads for act in drops if act.station in stock.stations):
-            return False
-        seen.row = replace(row, order=None, sent=None, confirmed=None)
-        return True
+        drops = [(act.load, stock.stations.get(act.station)) for act in way.acts if act.kind == 'drop']
+        return bool(drops) and all(station is not None and load in station.loads for load, station in drops)
 
     def take_holds(self, holds: Holds) -> None:
         """The hold report."""
