@@ -18,6 +18,7 @@ from nulvrader.board.stores import Stores
 from nulvrader.client import Load, Vehicle
 from nulvrader.layouts import read_layout
 from nulvrader.names import VehicleKey
+from nulvrader.reports import Holds, StationStock, Stock
 
 COUNT = 100
 ROUND = 7  # seconds in which each vehicle was asked at least once
@@ -151,7 +152,7 @@ class Turns(Asked):
         with mock.patch.object(self.asker, 'turn', look):
             self.asks(10)
         self.assertLessEqual(self.longest('KIT/007', 'KIT/050', 'KIT/099'), 1.0)
-        self.assertLessEqual(self.longest(*rows), COUNT / (FREE - 3 / 0.7) + 0.5)
+        self.assertLessEqual(self.longest(*rows), COUNT / (FREE - 3 / 0.8) + 0.5)
         self.fleet.seen['KIT/007'].silent = 1
         with mock.patch.object(self.fleet, '_hear'):
             self.asks(5)
@@ -165,20 +166,19 @@ class Turns(Asked):
         self.assertLessEqual(self.longest(*self.desk.rows), COUNT / FREE + 0.3)
 
     def test_what_changes_all_the_while(self) -> None:
-        """Where more has changed than there are requests, one of five still goes to the vehicles in turn, and one to
-        those that will probably change."""
+        """Where more has changed than there are requests, one of five still goes to the vehicles in turn, and one to those
+        that will probably change."""
         self.desk.rows['KIT/007'] = replace(self.desk.rows['KIT/007'], paused=True)
         self.run_for(ROUND)
-        for number in range(1000):
-            self.asker.stores.jobs.want('X%d' % number)
-        self.asks(10)
+        with mock.patch.object(self.fleet, 'next_order', return_value=VehicleKey(ONE.manufacturer, '000')):
+            self.asks(10)
         in_turn = [name for _, name in self.desk.asked if name in self.desk.rows and name != 'KIT/007']
         self.assertAlmostEqual(len(in_turn), 10 * FREE / 5, delta=4)
         self.assertEqual(len(set(in_turn)), len(in_turn))
         self.assertLessEqual(self.longest('KIT/007'), 1.5)
 
     def test_a_command(self) -> None:
-        """What it was about is asked right after the two reports, and often for ten seconds."""
+        """What it was about is asked right after the two reports, and often for five seconds."""
         self.asks(3)
         self.desk.asked.clear()
         self.asker.hurry(VehicleKey(ONE.manufacturer, '042'), None)
@@ -187,7 +187,7 @@ class Turns(Asked):
         self.run_for(0.3)
         names = [name for _, name in self.desk.asked]
         self.assertEqual(names[:3], ['holds', 'stock', 'KIT/042'])
-        self.run_for(9)
+        self.run_for(4)
         self.assertLessEqual(self.longest('KIT/042'), 1.0)
 
     def test_a_vehicle_that_is_released_more_though_it_was_not_ready(self) -> None:
@@ -211,17 +211,80 @@ class Turns(Asked):
         self.assertIn('KIT/010', names[names.index('order KIT/010') :])
 
 
+def message(update: int, first: int) -> dict[str, object]:
+    """An order of L1 from A to B, with a message that begins at its node of this place."""
+    acts = {0: ('pick', 'A'), 1: ('drop', 'B')}
+    return {
+        'orderId': 'O1',
+        'orderUpdateId': update,
+        'manufacturer': ONE.manufacturer,
+        'serialNumber': '000',
+        'nodes': [
+            {
+                'nodeId': 'N%03d' % at,
+                'sequenceId': 2 * at,
+                'released': True,
+                'actions': [
+                    {
+                        'actionId': 'O1.%d' % at,
+                        'actionType': acts[at][0],
+                        'blockingType': 'HARD',
+                        'actionParameters': [
+                            {'key': 'stationType', 'value': 'station'},
+                            {'key': 'stationName', 'value': acts[at][1]},
+                            {'key': 'loadType', 'value': 'load'},
+                            {'key': 'loadId', 'value': 'L1'},
+                        ],
+                    }
+                ],
+            }
+            for at in range(first, 2)
+        ],
+        'edges': [
+            {'edgeId': 'E000', 'sequenceId': 1, 'released': True, 'startNodeId': 'N000', 'endNodeId': 'N001', 'actions': []}
+        ][first:],
+    }
+
+
+class Ends(Asked):
+    def order_after(self, at_end: bool, place: str, first: int = 0) -> object:
+        """The order that the page has of a vehicle with an open order, after the reports say so of it and its load; it
+        is not asked again."""
+        name, key = 'KIT/000', VehicleKey(ONE.manufacturer, '000')
+        track = {'edges': {'E000': key}} if not at_end else {}
+        held = {'N001': key} if at_end else {'N000': key, 'N001': key}
+        row = replace(self.desk.rows[name], order='O1', sent=first, confirmed=first)
+        self.fleet.take_vehicle(row)
+        self.fleet.take_order(key, message(first, first))
+        self.fleet.take_holds(Holds(held, track.get('edges', {}), 2 * COUNT - 1))
+        stock = Stock({one: StationStock(one, 'N000', 9, 0) for one in 'AB'}, [], {key: []})
+        (stock.vehicles[key] if place == name else stock.stations[place].loads).append('L1')
+        self.fleet.take_stock(stock)
+        told = self.fleet.news.shown.get('vehicle', name)
+        return told['order_name']
+
+    def test_an_order_that_ends(self) -> None:
+        """Its vehicle is at the last node, and the load stands where it is to be dropped: by the reports alone it is over.
+        An order of which the board knows a later update alone is asked for."""
+        self.assertEqual(self.order_after(False, 'KIT/000'), 'O1')
+        self.assertEqual(self.order_after(False, 'B'), 'O1')
+        self.assertEqual(self.order_after(True, 'KIT/000'), 'O1')
+        self.assertIsNone(self.order_after(True, 'B'))
+        self.fleet.seen['KIT/000'].way = None
+        self.assertEqual(self.order_after(True, 'B', first=1), 'O1')
+
+
 class Searches(Asked):
     loads = 900
 
     def test_a_round(self) -> None:
-        """While jobs are searched for, one of four requests that go to nothing that has changed goes to a load."""
+        """While jobs are looked for, one of five requests goes to a load."""
         self.desk.reserved = 3
         self.run_for(3)
         self.asks(12)
-        self.assertLessEqual(self.longest(*self.desk.rows), COUNT / (FREE * 3 / 4) + 0.5)
+        self.assertLessEqual(self.longest(*self.desk.rows), COUNT / (FREE * 4 / 5) + 0.5)
         loads = [name for _, name in self.desk.asked if name.startswith('load ')]
-        self.assertAlmostEqual(len(loads), 12 * FREE / 4, delta=4)
+        self.assertAlmostEqual(len(loads), 12 * FREE / 5, delta=4)
 
 
 if __name__ == '__main__':

@@ -2,9 +2,9 @@
 what single vehicles, orders and loads tell.
 
 No report tells whether a vehicle is ready or has paused, or which action is pending: each vehicle is asked. So of five
-of these requests three go first to what has changed: vehicles, orders and loads of which a report or a command says so.
-One goes first to the vehicles that will probably change soon, and one to all vehicles in turn, or now and then to the
-loads, in search of jobs. Where nothing of a kind is due, a request goes to another kind."""
+of these requests two go first to the vehicles and orders that have changed, as a report or a command says, one to the
+vehicles that will probably change soon, one to all vehicles in turn, and one to the loads whose jobs are looked for.
+Where nothing of a kind is due, a request goes to another kind."""
 from __future__ import annotations
 
 import functools
@@ -34,16 +34,15 @@ OLD_EVERY = 3600.0
 DAY = 86_400_000
 NO_LOAD = 23
 
-CHANGED, LIKELY, ALL = 0, 1, 2
-# Of one request after another, which kinds have the first, the second and the third choice.
+CHANGED, LIKELY, ALL, LOADS = 0, 1, 2, 3
+# Of one request after another, which kinds have the first choice, the second, and so on.
 TURNS = (
-    (CHANGED, LIKELY, ALL),
-    (ALL, CHANGED, LIKELY),
-    (CHANGED, ALL, LIKELY),
-    (LIKELY, CHANGED, ALL),
-    (CHANGED, ALL, LIKELY),
+    (CHANGED, LIKELY, ALL, LOADS),
+    (ALL, CHANGED, LIKELY, LOADS),
+    (LIKELY, CHANGED, ALL, LOADS),
+    (CHANGED, ALL, LIKELY, LOADS),
+    (LOADS, CHANGED, ALL, LIKELY),
 )
-SEARCH = 4  # of so many requests to all vehicles in turn one goes to a load, as long as jobs are searched for
 
 Question = Callable[[], None]
 T = TypeVar('T')
@@ -78,9 +77,7 @@ class Asker(threading.Thread):
         self.notes = notes
         self.holds, self.stock, self.export = Report(HOLDS_EVERY), Report(STOCK_EVERY), Report(EXPORT_EVERY)
         self.turns = deque(TURNS)
-        self.kinds = (self.changed_question, self.likely_question, self.other_question)
-        self.loads_first = False
-        self.others = 0  # how many requests went to all vehicles in turn
+        self.kinds = (self.changed_question, self.likely_question, self.vehicle_question, self.load_question)
         self.asking: int | None = None  # since when the desk is asked what it has not yet answered
         self.up: bool | None = None
         self.fault: str | None = None
@@ -170,30 +167,25 @@ class Asker(threading.Thread):
         return None
 
     def changed_question(self) -> Question | None:
-        """What has changed: an order message, and in turn a vehicle and a load."""
+        """An order that is new or has more, or a vehicle that has changed."""
         order = self.fleet.next_order()
-        if order is not None:
-            return functools.partial(self.ask_order, order)
-        self.loads_first = not self.loads_first
-        load = self._load(self.stores.jobs.next_wanted) if self.loads_first else None
-        return load or self._vehicle(self.fleet.changed_vehicle()) or self._load(self.stores.jobs.next_wanted)
+        return functools.partial(self.ask_order, order) if order else self._vehicle(self.fleet.changed_vehicle())
 
     def likely_question(self) -> Question | None:
         """A vehicle that will probably change soon."""
         return self._vehicle(self.fleet.likely_vehicle(now()))
 
-    def other_question(self) -> Question | None:
-        """The next vehicle of all, or a load."""
-        self.others += 1
-        load = self._load(self.stores.jobs.next_scanned) if self.others % SEARCH == 0 else None
-        return load or self._vehicle(self.fleet.next_vehicle(now())) or self._load(self.stores.jobs.next_scanned)
+    def vehicle_question(self) -> Question | None:
+        """The next vehicle of all."""
+        return self._vehicle(self.fleet.next_vehicle(now()))
+
+    def load_question(self) -> Question | None:
+        """A load whose job is looked for."""
+        load = self.stores.jobs.next_load()
+        return None if load is None else functools.partial(self.ask_load, load)
 
     def _vehicle(self, vehicle: VehicleKey | None) -> Question | None:
         return None if vehicle is None else functools.partial(self.ask_vehicle, vehicle)
-
-    def _load(self, next_load: Callable[[], str | None]) -> Question | None:
-        load = next_load()
-        return None if load is None else functools.partial(self.ask_load, load)
 
     def _told(self, question: Callable[[], T]) -> T:
         """What the desk answers. From now on the news are of this moment."""

@@ -19,9 +19,9 @@ from .ways import Thing, Way, joined, placed
 
 CANCEL = 'cancelOrder'
 EVERY = 1000  # milliseconds from one question about a vehicle to the next, at least, where nothing says that it has changed
-OFTEN = 700  # the same, where it will probably change soon
+OFTEN = 800  # the same, where it will probably change soon
 LOOKED = 2000  # for so long a vehicle will probably change soon after a page has looked at it
-COMMANDED = 10_000  # and after a command
+COMMANDED = 5000  # and after a command
 
 
 @dataclass
@@ -56,15 +56,17 @@ class Seen:
         idle = self.row is not None and self.row.ready and self.row.order is None and not self.row.astray
         return idle and self.way is None and any(kind == 'edge' for kind, _ in self.held)
 
-    def is_likely(self, at: int) -> bool:
-        """Whether it will probably change soon. One of which no state comes does not."""
+    def is_waited_for(self, at: int) -> bool:
+        """Whether a person waits for it to change. One of which no state comes does not change."""
         if at - self.looked < LOOKED or at - self.commanded < COMMANDED:
             return True
-        row = self.row
-        if row is None or self.silent is not None:
-            return False
-        is_new = row.order is not None and row.confirmed is None
-        return row.pending is not None or row.paused or is_new or self.is_at_end
+        return self.row is not None and self.silent is None and (self.row.pending is not None or self.row.paused)
+
+    @property
+    def is_between(self) -> bool:
+        """Whether its order has just begun or is about to end."""
+        is_new = self.row is not None and self.row.order is not None and self.row.confirmed is None
+        return self.silent is None and (is_new or self.is_at_end)
 
 
 class Fleet:
@@ -95,10 +97,23 @@ class Fleet:
         """The vehicles of the stock report, with their loads."""
         for key, loads in stock.vehicles.items():
             seen = self.seen.setdefault(str(key), Seen())
-            if seen.loads != tuple(sorted(loads, key=natural)):
-                seen.loads = tuple(sorted(loads, key=natural))
+            before, seen.loads = seen.loads, tuple(sorted(loads, key=natural))
+            if seen.row is not None and self._has_ended(seen, seen.row, stock):
+                seen.row = replace(seen.row, order=None, sent=None, confirmed=None)
+                self._end(str(key), seen)
+            elif seen.loads != before and not seen.needs_order:
                 seen.needs_row = seen.needs_row or seen.way is None or seen.is_at_end
-                self._show(str(key), seen)
+            self._show(str(key), seen)
+
+    @staticmethod
+    def _has_ended(seen: Seen, row: Vehicle, stock: Stock) -> bool:
+        """Whether the open order of a vehicle has ended: it is at the last node, and all that it was to drop stands where
+        it was to drop it. Of an order that the board saw too late not all drops are known, so it is asked for."""
+        way = seen.way
+        if way is None or way.first or row.order != way.order or not seen.is_at_end:
+            return False
+        drops = [(act.load, stock.stations.get(act.station)) for act in way.acts if act.kind == 'drop']
+        return bool(drops) and all(station is not None and load in station.loads for load, station in drops)
 
     def take_holds(self, holds: Holds) -> None:
         """The hold report."""
@@ -180,7 +195,7 @@ class Fleet:
         new = seen.way is None or seen.way.order != message['orderId']
         way = joined(seen.way, message)
         if seen.has_begun and seen.row is not None and way.update == 0:
-            seen.row = replace(seen.row, order=way.order, sent=0, confirmed=None)
+            seen.row, seen.needs_row = replace(seen.row, order=way.order, sent=0, confirmed=None), False
         elif seen.row is None or seen.row.order != way.order:
             seen.needs_row = True
         seen.way = placed(way, seen.held) or replace(way, seen=None)
@@ -252,8 +267,9 @@ class Fleet:
         return self._longest_unasked(lambda seen: seen.needs_row)
 
     def likely_vehicle(self, at: int) -> VehicleKey | None:
-        """The same of those that will probably change soon."""
-        return self._longest_unasked(lambda seen: at - seen.asked >= OFTEN and seen.is_likely(at))
+        """The same of those that will probably change soon, those first for which a person waits."""
+        waited_for = self._longest_unasked(lambda seen: at - seen.asked >= OFTEN and seen.is_waited_for(at))
+        return waited_for or self._longest_unasked(lambda seen: at - seen.asked >= OFTEN and seen.is_between)
 
     def next_vehicle(self, at: int) -> VehicleKey | None:
         """The same of all."""

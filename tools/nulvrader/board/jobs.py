@@ -205,15 +205,12 @@ class Jobs:
         asked = self._asked
         self._scan.extend(sorted(loads, key=lambda load: (load in asked, -often[there[load]], asked.get(load, 0))))
 
-    def next_wanted(self) -> str | None:
-        """The load to ask next of those whose job is new or may have ended, or None."""
-        load = next(iter(self.wanted), None)
-        if load is not None:
+    def next_load(self) -> str | None:
+        """The load to ask next, or None."""
+        if self.wanted:
+            load = next(iter(self.wanted))
             del self.wanted[load]
-        return load
-
-    def next_scanned(self) -> str | None:
-        """The load to ask next in the search for jobs, or None."""
+            return load
         return self._scan.popleft() if self._scan else None
 
     def scan(self) -> dict[str, Any] | None:
