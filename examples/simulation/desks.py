@@ -19,6 +19,8 @@ from .truth import Wrong
 # How many seconds the desk of a plant has for an answer: a busy machine is no fault.
 PATIENCE = 120.0
 
+LENGTH = re.compile(rb'\r\nContent-Length: (\d+)')
+
 
 class Wire:
     """One connection to a desk for all clients of a plant, since a desk serves one at a time; after a fault the next request makes a
@@ -48,7 +50,7 @@ class Wire:
         while b'\r\n\r\n' not in self._data:
             self._read()
         head, _, self._data = self._data.partition(b'\r\n\r\n')
-        told = re.search(rb'\r\nContent-Length: (\d+)', head)
+        told = LENGTH.search(head)
         length = int(told.group(1)) if told else 0
         while len(self._data) < length:
             self._read()
@@ -57,7 +59,7 @@ class Wire:
 
     def _read(self) -> None:
         assert self._socket is not None
-        data = self._socket.recv(1 << 20)
+        data = self._socket.recv(1 << 16)
         if not data:
             raise ConnectionError('the connection was closed before the answer arrived')
         self._data += data

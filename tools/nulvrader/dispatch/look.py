@@ -178,15 +178,22 @@ class Floor:
                     self.move(state, vehicle, to)
                     moved, shared = True, self.shared(state, left)
 
+    def is_free(self, state: State, vehicle: int, to: int) -> bool:
+        """Whether the nodes ahead of a vehicle are free, to the one of this index."""
+        lane, at = self.lanes[vehicle], state.at[vehicle]
+        taken = lane.rest[at] & self.others(state, vehicle)
+        if taken & ~lane.rest[to]:
+            return False  # one that is not passed again behind it
+        return not taken or not any(bit & taken for bit in lane.bits[at + 1:to + 1])
+
     def follow(self, state: State, moves: Moves) -> None:
         """Makes those of these moves that lead ahead over free nodes."""
         numbers = {name: vehicle for vehicle, name in enumerate(self.names)}
         for name, left in moves:
             vehicle = numbers.get(name)
             if vehicle is not None:
-                lane, at, others = self.lanes[vehicle], state.at[vehicle], self.others(state, vehicle)
-                to = lane.end - left
-                if to > at and (not lane.rest[at] & others or not any(bit & others for bit in lane.bits[at + 1:to + 1])):
+                to = self.lanes[vehicle].end - left
+                if to > state.at[vehicle] and self.is_free(state, vehicle, to):
                     self.move(state, vehicle, to)
 
     def finished(self, state: State) -> frozenset[int]:
