@@ -14,6 +14,9 @@ KEPT = 2_000
 QUICK, DEEP = 50, 300
 """So many states are looked at."""
 
+ANEW = 5
+"""After so many turns it is looked for more vehicles that finish, where some don't."""
+
 
 @dataclass(frozen=True)
 class Still:
@@ -108,6 +111,9 @@ class Judge:
         self._ground = Ground()
         self._kept: dict[object, Found] = {}
         self._moves: tuple[Moves, Moves] = (), ()  # that were found last, now and later
+        self._turn = 0
+        nobody: frozenset[str] = frozenset()
+        self._found = [(-ANEW, 0, nobody), (-ANEW, 0, nobody)]  # in which turn it was looked last, now and later, how far, and who was found
         self._granted: tuple[Traffic, Found, Found] | None = None  # what was allowed last, and who finishes then
         self._last: tuple[Traffic, int, Outlook] | None = None
 
@@ -127,16 +133,30 @@ class Judge:
 
     def begin_turn(self) -> None:
         """From here on who finishes is looked for anew, also where a release or an order was seen to keep who did."""
-        self._granted = None
+        self._granted, self._turn = None, self._turn + 1
+
+    def all_that_finish(self, ways: Mapping[str, Way], walls: Collection[str], later: bool) -> Found:
+        """Moves by which as many finish as are found. Where those that were found last still finish, no look is made for others for
+        some turns, if the dispatcher counts these."""
+        most, hint = self.times * self.deep, self._moves[later]
+        turn, budget, before = self._found[later]
+        if self._turn - turn < ANEW and budget == most:
+            told = along(ways, walls, hint, self._ground)
+            if told.finishing >= before & ways.keys():
+                self._found[later] = turn, budget, told.finishing
+                return told
+        found = self.find(ways, walls, most, hint)
+        self._found[later] = self._turn or -ANEW, most, found.finishing
+        return found
 
     def outlook(self, traffic: Traffic) -> Outlook:
         if self._last is None or self._last[0] is not traffic or self._last[1] != self.times:
-            ways, most = traffic.ways_later(), self.times * self.deep
+            ways = traffic.ways_later()
             if self._granted is not None and self._granted[0] == traffic:
                 _, now, later = self._granted
             else:
-                now = self.find(traffic.ways, traffic.walls, most, self._moves[0])
-                later = self.find(ways, (), most, self._moves[1])
+                now = self.all_that_finish(traffic.ways, traffic.walls, False)
+                later = self.all_that_finish(ways, (), True)
             self._moves = now.moves, later.moves
             self._last = traffic, self.times, Outlook(now, later, ways, _ends(traffic.ways, now), _ends(ways, later))
         return self._last[2]
