@@ -82,8 +82,8 @@ class Building(Tree):
 
     def test_jobs_share_cores_and_memory(self) -> None:
         for memory, first_job, most, wanted in (
-                (24.6e9, 5e9, 4, (4, 9.5e9)), (9.5e9, 5e9, 4, (4, 9.5e9)), (9.4e9, 5e9, 4, (3, 8e9)), (5.6e9, 5e9, 4, (1, 5e9)),
-                (6.5e9, 5e9, 4, (2, 6.5e9)), (4.9e9, 5e9, 4, (0, 0)), (24.6e9, 2e9, 2, (2, 3.5e9)), (24.6e9, 2e9, 1, (1, 2e9))):
+                (24.6e9, 5e9, 4, (4, 8.75e9)), (8.75e9, 5e9, 4, (4, 8.75e9)), (8.7e9, 5e9, 4, (3, 7.5e9)), (5.6e9, 5e9, 4, (1, 5e9)),
+                (6.5e9, 5e9, 4, (2, 6.25e9)), (4.9e9, 5e9, 4, (0, 0)), (24.6e9, 2e9, 2, (2, 3.25e9)), (24.6e9, 2e9, 1, (1, 2e9))):
             self.assertEqual(BUILDER.share(memory, first_job, most), wanted, (memory, first_job, most))
 
     def test_a_crate_over_the_kits_sqlite_takes_more_memory(self) -> None:
@@ -91,13 +91,14 @@ class Building(Tree):
         self.assertEqual([it.first_job for it in BUILDER.read_crates(lines)], [BUILDER.PLAIN_JOB, BUILDER.SQLITE_JOB, BUILDER.SQLITE_JOB])
 
     def test_the_longer_the_chain_the_more_jobs(self) -> None:
-        self.assertEqual([BUILDER.rank(chain, 100, 4) for chain in (100, 91, 90, 51, 50, 1)], [(4, 0), (4, 0), (2, 0), (2, 0), (2, 10), (2, 10)])
-        self.assertEqual([BUILDER.rank(chain, 100, 1) for chain in (100, 1)], [(1, 0), (1, 10)])
+        self.assertEqual([BUILDER.rank(chain, 100, 1, 4) for chain in (100, 91, 90, 71, 70, 1)], [(4, 0), (4, 0), (2, 0), (2, 0), (1, 10), (1, 10)])
+        self.assertEqual([BUILDER.rank(100, 100, urgent, 4) for urgent in (2, 3, 5)], [(2, 0), (1, 0), (1, 0)])
+        self.assertEqual([BUILDER.rank(chain, 100, 1, 1) for chain in (100, 1)], [(1, 0), (1, 10)])
 
     def test_what_little_follows_uses_what_the_others_leave(self) -> None:
-        """A crate of which few bytes follow is built with a higher niceness."""
+        """A crate that few bytes follow is built with a higher niceness."""
         self.set_crates(TWO)
-        self.write('crates/agv_left/src/lib.rt', 'x' * 10000)
+        self.write('crates/agv_left/src/lib.rt', 'x' * 1_000_000)
         self.note('niceness')
         self.assertEqual(self.run_desk('replay')[0], 3)
         own = os.nice(0)
@@ -112,7 +113,9 @@ class Building(Tree):
         setattr(BUILDER, 'TOP', self.top)
         chains = {it.name: it.chain for it in BUILDER.read_crates(lines)}
         parts = len('text') * 2  # of agv_app, whose specs/ and proofs/ are there
-        self.assertEqual(chains, {'agv_small': 7 + parts, 'agv_large': 6 + parts, 'agv_over_small': 6 + parts, 'agv_app': 1 + parts})
+        each = BUILDER.EACH_CRATE
+        self.assertEqual(chains, {'agv_small': 7 + parts + 3 * each, 'agv_large': 6 + parts + 2 * each, 'agv_over_small': 6 + parts + 2 * each,
+                                  'agv_app': 1 + parts + each})
 
     def test_a_terminal_shows_how_far_it_is(self) -> None:
         """The build of each crate ends once the terminal has shown it."""
