@@ -154,8 +154,7 @@ lawful_single twice world lawful = record {
   vehicles = λ key row at.
       let from = spread_from key_cmp-total key_cmp key_cmp-total vehicle_rows world.vehicles key row at in
       let own = own_row key from.0 from.1.row row from.3 in
-      let kept = lawful.vehicles.vehicles from.0 from.1 from.2 in
-      subst (λ (row : VehicleRow). row.capacity ≡ 1) own (squeezed from.1.row.capacity kept.carries kept.seated);
+      subst (λ (row : VehicleRow). row.capacity ≡ 1) own (squeezed from.1.row.capacity (lawful.capacity.carries from.0 from.1 from.2) (lawful.capacity.seated from.0 from.1 from.2));
   trips = λ order row at.
       let from = spread_from key_cmp-total name_cmp nat_list_cmp_total trip_rows world.vehicles order row at in
       trip_at order row from.0 from.1 from.1.trip refl from.2 from.3;
@@ -166,13 +165,12 @@ lawful_single twice world lawful = record {
     trip_at order row key vehicle None is at found = absurd (cc found)
     trip_at order row key vehicle (Some trip) is at found =
         let own = of_one order trip.order (trip_row key trip) row found in
-        let kept = lawful.vehicles.trips key vehicle trip at is in
-        let seats = lawful.vehicles.vehicles key vehicle at in
-        let few : count_by picks trip.acts ≤ 1 = between _ _ kept.picks_fit seats.seated in
+        let kept = lawful.trips.open_trips key vehicle trip at is in
+        let few : count_by picks trip.acts ≤ 1 = between _ _ (lawful.capacity.picks_fit key vehicle trip at is) (lawful.capacity.seated key vehicle at) in
         let pair = pair_of twice trip.acts kept.well_formed.planned.stops few in
         subst (λ q. IsTripOfJob (rows_of world) q row) (sym own.0)
         (subst (IsTripOfJob (rows_of world) trip.order) own.1
-        (trip_single world key trip pair (λ act among. lawful.loads.acts key trip act (record { open_trip = (vehicle, at, is); among = among }))))
+        (trip_single world key trip pair (λ act among. lawful.jobs.acts key trip act (record { open_trip = (vehicle, at, is); among = among }))))
       where
         between : (a b : ℕ) → a ≤ b → b ≤ 1 → a ≤ 1
         between a b p q = omega arith

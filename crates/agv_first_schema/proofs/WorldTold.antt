@@ -51,37 +51,22 @@ more_places n few = omega arith
 
 -- a world that is lawful with one place on each vehicle is one of a desk, whose vehicles have up to four
 pub more_seats : (world : World) → IsLawful 1 world → IsLawful desk_seats world
-more_seats world lawful =
-    let its = lawful.vehicles in
-    record {
-      vehicles = record {
-        laid = its.laid;
-        few_vehicles = its.few_vehicles;
-        few_orders = its.few_orders;
-        few_references = its.few_references;
-        vehicles_named = its.vehicles_named;
-        orders_named = its.orders_named;
-        references_named = its.references_named;
-        vehicles = λ key vehicle at.
-            let kept = its.vehicles key vehicle at in
-            record {
-              carries = kept.carries;
-              seated = more_places vehicle.row.capacity kept.seated;
-              node = kept.node;
-              rest = kept.rest;
-              header = kept.header;
-              reported = kept.reported;
-              orders = kept.orders;
-              instants = kept.instants;
-              pending = kept.pending;
-            };
-        trips = its.trips;
-        used = its.used;
-        one_trip = its.one_trip;
-        apart = its.apart;
-      };
-      loads = lawful.loads;
-    }
+more_seats world lawful = record {
+  limits = lawful.limits;
+  names = lawful.names;
+  track = lawful.track;
+  room = lawful.room;
+  capacity = record {
+    carries = lawful.capacity.carries;
+    seated = λ key vehicle at. more_places vehicle.row.capacity (lawful.capacity.seated key vehicle at);
+    idle = lawful.capacity.idle;
+    within_capacity = lawful.capacity.within_capacity;
+    picks_fit = lawful.capacity.picks_fit;
+  };
+  jobs = lawful.jobs;
+  trips = lawful.trips;
+  rests = lawful.rests;
+}
 
 -- ---- lists
 
@@ -152,10 +137,10 @@ module _ (world : World) (first : IsLawful 1 world) (good : HasConsistentTrips w
         (λ key row at.
         let its = vehicle_value world lawful key row (sym (row_at world key) ∙ at) in
         vehicle_kept key row its.0 its.1 ∙ ap (λ n. Some (key, record row { capacity = n })) (sym (single.vehicles key row at))) _ (shown the.Vehicle);
-    jobs = reads_all nat_list_cmp_total names_apart world.jobs job_columns job_in (λ id x at. job_kept id x (first.loads.jobs_named id x at) (job_value world lawful id x at)) _ (shown the.Job);
+    jobs = reads_all nat_list_cmp_total names_apart world.jobs job_columns job_in (λ id x at. job_kept id x (first.names.jobs_named id x at) (job_value world lawful id x at)) _ (shown the.Job);
     trips = reads_trips (rows_of world) single values _ (shown the.Trip);
     legs = reads_all leg_cmp-total leg_cmp-IsAntisymmetric (rows_of world).legs leg_columns leg_in (λ key id at. let its = leg_value world lawful good key id at in leg_kept key id its.0 its.1) _ (shown the.Leg);
-    loads = reads_all nat_list_cmp_total names_apart world.places load_columns load_in (λ id x at. load_kept id x (first.loads.loads_named id x at) (place_value world lawful id x at)) _ (shown the.Load);
+    loads = reads_all nat_list_cmp_total names_apart world.places load_columns load_in (λ id x at. load_kept id x (first.names.loads_named id x at) (place_value world lawful id x at)) _ (shown the.Load);
     used = reads_members use_cmp-total use_cmp-IsAntisymmetric used_columns used_in (rows_of world).used (λ key there. used_kept key (used_named world lawful key.kind key.name (sym (used_is world key.kind key.name) ∙ there))) _ (shown the.Used);
   }
 

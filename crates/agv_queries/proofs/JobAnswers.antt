@@ -116,7 +116,7 @@ module _ (world : World) (lawful : IsLawful desk_seats world) where
   reserved_in_all station waiting riding one two =
       let below = count_by-le-length (λ (job : List ℕ × JobRow). is_live_to station job.1) (finite.entries world.jobs) in
       let short = finite.len-entries world.jobs in
-      let kept = lawful.loads.few_jobs in
+      let kept = lawful.limits.few_jobs in
       few (reserved world station) waiting riding (at_most _ _ _ below short kept) (counts_reserved station ∙ ap₂ ◌+◌ (sym one) (sym two))
     where
       at_most : (a b c : ℕ) → a ≤ b → c ≡ b → c ≤ 1000000 → a ≤ 1000000
@@ -129,7 +129,7 @@ module _ (world : World) (lawful : IsLawful desk_seats world) where
   unique load p live a b is also one two =
       let first = live a one in
       let second = live b two in
-      lawful.loads.one_job a.0 b.0 a.1 b.1 is also first.0 second.0 (first.1 ∙ sym second.1)
+      lawful.jobs.one_job a.0 b.0 a.1 b.1 is also first.0 second.0 (first.1 ∙ sym second.1)
 
   live_one : (load : List ℕ) (one : Phase) → is_live one ≡ true → (e : List ℕ × JobRow) → is_for load one e ≡ true → (is_live e.1.phase ≡ true) × (e.1.load ≡ load)
   live_one load one live e is =
@@ -147,7 +147,7 @@ module _ (world : World) (lawful : IsLawful desk_seats world) where
       let so : r ≡ Ok (option_map (λ (e : List ℕ × JobRow). e.0) (find (is_for load one) es)) =
       given ∙ ap (first_key_in job_in) alone ∙ first_key job_in columns (find (is_for load one) es) (λ e found.
       let at = (found_entry nat_list_cmp_total world.jobs (is_for load one) e found).0 in
-      job_kept e.0 e.1 (lawful.loads.jobs_named e.0 e.1 at) (job_value world lawful e.0 e.1 at)) in
+      job_kept e.0 e.1 (lawful.names.jobs_named e.0 e.1 at) (job_value world lawful e.0 e.1 at)) in
       subst (λ q. Follows q (λ job. job ≡ option_map (λ (e : List ℕ × JobRow). e.0) (find (is_for load one) es))) (sym so) refl
 
   pub live_job : (load : List ℕ) → job_of world load ≡ option_or (option_map (λ (e : List ℕ × JobRow). e.0) (find (is_for load phase.Waiting) (finite.entries world.jobs))) (option_map (λ (e : List ℕ × JobRow). e.0) (find (is_for load phase.Riding) (finite.entries world.jobs)))

@@ -117,13 +117,13 @@ module _ (world : World) (lawful : IsLawful desk_seats world) where
   pub tells_place : (id : List ℕ) (key : Row) → key ≡ name_key id → (rows : List Row) → IsPermutation (rows_of_key the.Load key lists) rows
       → (r : Result (Option Place) OpenFault) → r ≡ first_in load_in rows → Follows r (λ where_is. where_is ≡ finite.get world.places id)
   tells_place id key is rows shown =
-      tells_it load_in (load_columns id) id (finite.get world.places id) (λ where_is at. load_kept id where_is (lawful.loads.loads_named id where_is at) (place_value world lawful id where_is at))
+      tells_it load_in (load_columns id) id (finite.get world.places id) (λ where_is at. load_kept id where_is (lawful.names.loads_named id where_is at) (place_value world lawful id where_is at))
       (rows_of_key the.Load key lists) rows (ap (λ k. rows_of_key the.Load k lists) is ∙ load_shown lists (rows_of world) its_own id) shown
 
   pub tells_job : (id : List ℕ) (key : Row) → key ≡ name_key id → (rows : List Row) → IsPermutation (rows_of_key the.Job key lists) rows
       → (r : Result (Option JobRow) OpenFault) → r ≡ first_in job_in rows → Follows r (λ job. job ≡ finite.get world.jobs id)
   tells_job id key is rows shown =
-      tells_it job_in (job_columns id) id (finite.get world.jobs id) (λ job at. job_kept id job (lawful.loads.jobs_named id job at) (job_value world lawful id job at))
+      tells_it job_in (job_columns id) id (finite.get world.jobs id) (λ job at. job_kept id job (lawful.names.jobs_named id job at) (job_value world lawful id job at))
       (rows_of_key the.Job key lists) rows (ap (λ k. rows_of_key the.Job k lists) is ∙ job_shown lists (rows_of world) its_own id) shown
 
   pub tells_station : (id : List ℕ) (key : Row) → key ≡ name_key id → (rows : List Row) → IsPermutation (rows_of_key the.Station key lists) rows

@@ -94,7 +94,7 @@ module _ (world : World) (lawful : IsLawful desk_seats world) (station : List �
   -- the rows of the loads at a station give the table of them
   pub reads_there : (rows : List Row) → IsPermutation (loads_shown (filter is_there (finite.entries world.places))) rows → read_rows load_in finite.empty rows ≡ Some loads_there
   reads_there rows shown =
-      reads_all nat_list_cmp_total names_apart loads_there load_columns load_in (λ id where_is at. load_kept id where_is (lawful.loads.loads_named id where_is (place_of id where_is at)) (place_value world lawful id where_is (place_of id where_is at))) rows
+      reads_all nat_list_cmp_total names_apart loads_there load_columns load_in (λ id where_is at. load_kept id where_is (lawful.names.loads_named id where_is (place_of id where_is at)) (place_value world lawful id where_is (place_of id where_is at))) rows
       (subst (λ es. IsPermutation (loads_shown es) rows) (sym (entries-passing is_there world.places)) shown)
 
   pub names_there : keys_of (finite.entries loads_there) ≡ loads_at world station

@@ -46,9 +46,9 @@ module _ (world : World) (lawful : IsLawful desk_seats world) where
 
   few_counted : (query : RowsCounted) (values : Row) → length (rows_counted query values lists) ≤ 1000000
   unfolding row_lists
-  few_counted counted.StationLoads values = few_shown _ _ (finite.entries world.places) _ (finite.len-entries world.places) lawful.loads.few_loads
-  few_counted counted.VehicleLoads values = few_shown _ _ (finite.entries world.places) _ (finite.len-entries world.places) lawful.loads.few_loads
-  few_counted counted.TargetJobs values = few_shown _ _ (finite.entries world.jobs) _ (finite.len-entries world.jobs) lawful.loads.few_jobs
+  few_counted counted.StationLoads values = few_shown _ _ (finite.entries world.places) _ (finite.len-entries world.places) lawful.limits.few_loads
+  few_counted counted.VehicleLoads values = few_shown _ _ (finite.entries world.places) _ (finite.len-entries world.places) lawful.limits.few_loads
+  few_counted counted.TargetJobs values = few_shown _ _ (finite.entries world.jobs) _ (finite.len-entries world.jobs) lawful.limits.few_jobs
 
   pub tells_count : (query : RowsCounted) (values : Row) (rows : List Row) → IsPermutation (count_shown query values lists) rows → (r : Result ℕ OpenFault) → r ≡ first_number_in rows
       → Follows r (λ n. n ≡ length (rows_counted query values lists))

@@ -62,11 +62,11 @@ module _ (world : World) (lawful : IsLawful desk_seats world) (good : HasConsist
 
   named_by : (key : VehicleKey) (vehicle : Vehicle) → finite.get world.vehicles key ≡ Some vehicle → (o : Option Trip) → vehicle.trip ≡ o → AllByRecursion IsThing (things_by vehicle.row.node vehicle.row.rest o)
   named_by key vehicle at None is =
-      let kept = lawful.vehicles.vehicles key vehicle at in
+      let kept = lawful.rests.vehicles key vehicle at in
       (node_named world lawful vehicle.row.node kept.node, named_rest vehicle.row.rest (rest_value world lawful vehicle.row.node vehicle.row.rest kept.rest))
   named_by key vehicle at (Some trip) is =
-      let kept = lawful.vehicles.vehicles key vehicle at in
-      let going = lawful.vehicles.trips key vehicle trip at is in
+      let kept = lawful.rests.vehicles key vehicle at in
+      let going = lawful.trips.open_trips key vehicle trip at is in
       let known = good.known key trip (vehicle, at, is) in
       named_from (node_at trip trip.seen) vehicle.row.node going.stands (node_named world lawful vehicle.row.node kept.node) _
       (named_along _ (all-take (IsEdgeOf world.layout) (trip.base - trip.seen) _ (all-drop (IsEdgeOf world.layout) trip.seen trip.edges known)))

@@ -167,12 +167,12 @@ module _ (world : World) (lawful : IsLawful desk_seats world) (good : HasConsist
       let from = spread_from key_cmp-total leg_cmp leg_cmp-total leg_rows world.vehicles q id at in
       let leg = leg_of world good from.0 from.1 from.1.trip refl from.2 q id from.3 in
       let trip = leg.0 in
-      let kept = lawful.vehicles.trips from.0 from.1 trip from.2 leg.1 in
+      let kept = lawful.trips.open_trips from.0 from.1 trip from.2 leg.1 in
       let short = kept.well_formed.planned.short in
       let edge = leg.4 in
       let ends : EdgeEnds = record { start = edge.start; finish = edge.finish } in
       let there : finite.get world.layout.edges id ≡ Some ends = subst (λ name. finite.get world.layout.edges name ≡ Some ends) leg.5 leg.6 in (
-        (subst IsName (sym leg.2) (lawful.vehicles.orders_named trip.order (lawful.vehicles.used from.0 trip (from.1, from.2, leg.1))), small q.k (length trip.edges) leg.3 short),
+        (subst IsName (sym leg.2) (lawful.names.orders_named trip.order (lawful.names.used from.0 trip (from.1, from.2, leg.1))), small q.k (length trip.edges) leg.3 short),
         edge_named world lawful id ends there,
         ends,
         there,

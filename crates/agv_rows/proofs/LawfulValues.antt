@@ -19,7 +19,7 @@ use Rattle.agv_stock.specs.declared.place.Place.{Place}
 use Rattle.agv_stock.specs.declared.place.Place.TheVariants as place
 use Rattle.agv_world.specs.KeyOrders.{use_cmp-total}
 use Rattle.agv_world.specs.Keys.{use_cmp}
-use Rattle.agv_world.specs.Lawful.{IsKey, IsLawful, IsPlaceIn, IsRestAt, IsVehicleOf}
+use Rattle.agv_world.specs.Lawful.{HasRestAndCounters, IsKey, IsLawful, IsPlaceIn, IsRestAt}
 use Rattle.agv_world.specs.Questions.{is_used, row_of}
 use Rattle.agv_world.specs.Rows.{hold_rows, rows_of, standing_of, used_names, vehicle_rows}
 use Rattle.agv_header.specs.Spread.{spread}
@@ -122,19 +122,19 @@ few_enough n low = omega arith
 
 module _ (world : World) (lawful : IsLawful desk_seats world) where
   pub node_rules : (id : List ℕ) → IsNode world.layout id → KeepsRules world.layout
-  node_rules id is = elim lawful.vehicles.laid [
+  node_rules id is = elim lawful.limits.laid [
     | inl none ↦ absurd (let there = subst (λ (layout : Layout). set.contains layout.nodes id ≡ true) none is in let not = set.contains-empty name_cmp id in cc)
     | inr rules ↦ rules
   ]
 
   station_rules : (id : List ℕ) (site : StationSite) → IsStation world.layout id site → KeepsRules world.layout
-  station_rules id site is = elim lawful.vehicles.laid [
+  station_rules id site is = elim lawful.limits.laid [
     | inl none ↦ absurd (let there = subst (λ (layout : Layout). finite.get layout.stations id ≡ Some site) none is in let not = finite.get-empty {X = StationSite} name_cmp id in cc)
     | inr rules ↦ rules
   ]
 
   edge_rules : (id : List ℕ) (ends : EdgeEnds) → IsEdge world.layout id ends → KeepsRules world.layout
-  edge_rules id ends is = elim lawful.vehicles.laid [
+  edge_rules id ends is = elim lawful.limits.laid [
     | inl none ↦ absurd (let there = subst (λ (layout : Layout). finite.get layout.edges id ≡ Some ends) none is in let not = finite.get-empty {X = EdgeEnds} name_cmp id in cc)
     | inr rules ↦ rules
   ]
@@ -157,18 +157,18 @@ module _ (world : World) (lawful : IsLawful desk_seats world) where
 
   place_in : (where_is : Place) → IsPlaceIn world where_is → IsPlace where_is
   place_in (place.Station id) is = station_named id is.0 is.1
-  place_in (place.Vehicle key) is = lawful.vehicles.vehicles_named key is.0 is.1
+  place_in (place.Vehicle key) is = lawful.names.vehicles_named key is.0 is.1
   place_in place.Checking is = tt
   place_in place.Left is = tt
 
   pub place_value : (id : List ℕ) (where_is : Place) → finite.get world.places id ≡ Some where_is → IsPlace where_is
-  place_value id where_is is = place_in where_is (lawful.loads.places id where_is is)
+  place_value id where_is is = place_in where_is (lawful.names.places id where_is is)
 
   pub job_value : (id : List ℕ) (job : JobRow) → finite.get world.jobs id ≡ Some job → IsJobRow job
   job_value id job is =
-      let known = lawful.loads.jobs id job is in
+      let known = lawful.names.jobs id job is in
       record {
-        load = lawful.loads.loads_named job.load known.load.0 known.load.1;
+        load = lawful.names.loads_named job.load known.load.0 known.load.1;
         origin = station_named job.origin known.origin.0 known.origin.1;
         target = station_named job.target known.target.0 known.target.1;
       }
@@ -179,9 +179,9 @@ module _ (world : World) (lawful : IsLawful desk_seats world) where
       let same : rest ≡ one = cc is in
       subst (λ (r : List ℕ × List ℕ). IsName r.0 × IsName r.1) same (edge_named rest.0 _ at, (ends_value rest.0 _ at).1)
 
-  vehicle_of : (vehicle : VehicleRow) → IsVehicleOf desk_seats world.layout vehicle → IsVehicleRow vehicle
-  vehicle_of vehicle is = record {
-    capacity = few_places vehicle.capacity is.seated;
+  vehicle_of : (vehicle : VehicleRow) → vehicle.capacity ≤ desk_seats → HasRestAndCounters world.layout vehicle → IsVehicleRow vehicle
+  vehicle_of vehicle seated is = record {
+    capacity = few_places vehicle.capacity seated;
     node = node_named vehicle.node is.node;
     rest = at_some vehicle.rest (rest_value vehicle.node vehicle.rest is.rest);
     last_header = at_some vehicle.last_header is.header;
@@ -197,15 +197,15 @@ module _ (world : World) (lawful : IsLawful desk_seats world) where
   pub vehicle_value : (key : VehicleKey) (row : VehicleRow) → row_of world key ≡ Some row → IsKey key × IsVehicleRow row
   vehicle_value key row is =
       let from = row_from (finite.get world.vehicles key) row is in
-      (lawful.vehicles.vehicles_named key from.0 from.1, subst IsVehicleRow from.2 (vehicle_of from.0.row (lawful.vehicles.vehicles key from.0 from.1)))
+      (lawful.names.vehicles_named key from.0 from.1, subst IsVehicleRow from.2 (vehicle_of from.0.row (lawful.capacity.seated key from.0 from.1) (lawful.rests.vehicles key from.0 from.1)))
 
   pub holder_value : (thing : Thing) (key : VehicleKey) → finite.get (rows_of world).holds thing ≡ Some key → IsKey key
   holder_value thing key is =
       let from = spread_from key_cmp-total thing_cmp thing_cmp-total hold_rows world.vehicles thing key is in
-      subst IsKey (holder_found thing from.0 key (footprint_of (standing_of from.1)) from.3) (lawful.vehicles.vehicles_named from.0 from.1 from.2)
+      subst IsKey (holder_found thing from.0 key (footprint_of (standing_of from.1)) from.3) (lawful.names.vehicles_named from.0 from.1 from.2)
 
   -- a used name is a name
   pub used_named : (kind : UseKind) (name : List ℕ) → is_used world kind name ≡ true → IsName name
   unfolding is_used
-  used_named used.Order name is = lawful.vehicles.orders_named name is
-  used_named used.Reference name is = lawful.vehicles.references_named name is
+  used_named used.Order name is = lawful.names.orders_named name is
+  used_named used.Reference name is = lawful.names.references_named name is

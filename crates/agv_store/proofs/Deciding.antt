@@ -4,11 +4,13 @@ use Rattle.sqlite_trees.specs.declared.store.Store.{Ghosts}
 use Rattle.agv_header.specs.Moment.{IsMoment}
 use Rattle.agv_world.specs.Asks.{Answers, IsFaulted, IsStill, Kept, failed_after}
 use Rattle.agv_world.specs.Changes.{changed}
-use Rattle.agv_world.specs.Lawful.{HasLawfulVehicles, IsLawful}
+use Rattle.agv_world.specs.Lawful.{IsLawful}
+use Rattle.agv_world.specs.LawfulParts.{HasLawfulVehicles}
 use Rattle.agv_world.specs.Rows.{rows_of}
 use Rattle.agv_world.specs.Worlds.{World}
 use Rattle.agv_world.specs.declared.fault.Fault.{Fault}
 use Rattle.agv_world.specs.declared.fault.Fault.TheVariants as machine
+use Rattle.agv_world.proofs.LawfulInParts.{vehicles_of}
 use Rattle.agv_world.proofs.lists.Asking.{answers, kept_here, left}
 use Rattle.agv_desk.specs.InOrder.{IsInOrder}
 use Rattle.agv_desk.specs.Outcomes.{after, decided}
@@ -31,8 +33,8 @@ pub decides_in : ((seats : ℕ) (world : World) → HasLawfulVehicles seats worl
     → (IsInOrder world → changed decision.changes (rows_of world) ≡ rows_of (world_after world at call))
     → IsLawful desk_seats world → Decides world at call decision
 decides_in order served keeps at moment call typed world decision decides changes lawful = record {
-  decided_is = decides (served desk_seats world call lawful.vehicles);
-  changes = changes (order desk_seats world lawful.vehicles);
+  decided_is = decides (served desk_seats world call (vehicles_of lawful));
+  changes = changes (order desk_seats world (vehicles_of lawful));
   lawful = keeps desk_seats (omega arith, omega arith) world at call lawful moment typed;
 }
 

@@ -171,7 +171,7 @@ pub few_jobs : (world : World) (station : List ℕ) → IsLawful desk_seats worl
 unfolding reserved
 few_jobs world station lawful =
     let some : reserved world station ≤ length (finite.entries world.jobs) = count_by-le-length (λ (job : List ℕ × JobRow). is_live_to station job.1) (finite.entries world.jobs) in
-    let all : length (finite.entries world.jobs) ≤ 1000000 = subst (λ n. n ≤ 1000000) (finite.len-entries world.jobs) lawful.loads.few_jobs in
+    let all : length (finite.entries world.jobs) ≤ 1000000 = subst (λ n. n ≤ 1000000) (finite.len-entries world.jobs) lawful.limits.few_jobs in
     omega (arith, some, all)
 
 few_laid : (layout : Layout) → (layout ≡ empty_layout) ⊎ KeepsRules layout → set.len layout.nodes + finite.len layout.edges ≤ 2000
@@ -181,7 +181,7 @@ few_laid layout (inl empty) =
 few_laid layout (inr rules) = let nodes = rules.few_nodes in let edges = rules.few_edges in omega (arith, nodes, edges)
 
 pub few_things : (world : World) → IsLawful desk_seats world → set.len world.layout.nodes + finite.len world.layout.edges ≤ 2000
-few_things world lawful = few_laid world.layout lawful.vehicles.laid
+few_things world lawful = few_laid world.layout lawful.limits.laid
 
 -- nodes and edges, counted together
 pub counted : (nodes edges n m sum told : ℕ) → nodes + edges ≤ 2000 → n ≡ nodes → m ≡ edges → sum ≡ min (n + m) (2 ^ 64 - 1) → (sum < 2 ^ 32 → told ≡ sum) → told ≡ nodes + edges

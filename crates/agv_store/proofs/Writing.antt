@@ -6,7 +6,7 @@ use Rattle.sqlite.specs.Effect.{Database, IsDatabase}
 use Rattle.sqlite.specs.Held.{Held, state}
 use Rattle.sqlite.specs.State.{Survives}
 use Rattle.agv_world.specs.Changes.{changed}
-use Rattle.agv_world.specs.Lawful.{HasLawfulLoads}
+use Rattle.agv_world.specs.LawfulParts.{HasLawfulLoads}
 use Rattle.agv_world.specs.Questions.{count_of}
 use Rattle.agv_world.specs.Rows.{Rows, rows_of}
 use Rattle.agv_world.specs.Worlds.{World}
@@ -14,6 +14,7 @@ use Rattle.agv_world.specs.declared.change.Change.{Change}
 use Rattle.agv_world.specs.declared.fault.Fault.{Fault}
 use Rattle.agv_world.specs.declared.fault.Fault.TheVariants as machine
 use Rattle.agv_world.specs.declared.floor.Counted.{Counted}
+use Rattle.agv_world.proofs.LawfulInParts.{loads_of}
 use Rattle.agv_desk.specs.Counts.{added, counted_by, limit_of, one_more}
 use Rattle.agv_desk.specs.Outcomes.{Outcome, Made, Refused, after, answer_of, decided}
 use Rattle.agv_desk.specs.Step.{step}
@@ -128,7 +129,7 @@ module _ {S : Type 0} (g : Ghosts S) (law : DatabaseTells) where
           let added_is : (what : Counted) → one_more more what ≡ added call (answer_of outcome) what = λ what. ap (λ kind. one_more kind what) (more_is ∙ ap (counted_by call) (answer_is clean)) in
           follows (world_at g old) next (rows_next clean)
           (λ what some. below desk_seats (world_at g old) at call what (λ none. some (added_is what ∙ none)))
-          (λ what. counts desk_seats (world_at g old) at call what was.has.lawful.loads ∙ ap (λ n. count_of (world_at g old) what + n) (sym (added_is what)))
+          (λ what. counts desk_seats (world_at g old) at call what (loads_of was.has.lawful) ∙ ap (λ n. count_of (world_at g old) what + n) (sym (added_is what)))
           (is_known (clean_old clean) was.is_open)
 
       pub written_kept : (failed_now in_doubt_now : Bool) → r ≡ Ok tt → IsKept g new known_now failed_now in_doubt_now

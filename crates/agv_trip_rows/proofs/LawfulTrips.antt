@@ -78,7 +78,7 @@ module _ (seats : ℕ) (world : World) (lawful : IsLawful seats world) where
       let has = trip_of_row world order row at in
       subst (λ (r : TripRow). AllByRecursion (IsOfJob (rows_of world).jobs) r.acts) has.row_is
       (each_of (IsOfJob (rows_of world).jobs) has.trip.acts (λ act among.
-      act_of_job act (lawful.loads.acts has.key has.trip act (record { open_trip = (has.vehicle, has.there, has.open_trip); among = among }))))
+      act_of_job act (lawful.jobs.acts has.key has.trip act (record { open_trip = (has.vehicle, has.there, has.open_trip); among = among }))))
 
   pub lawful_trips : AreTripsOf (journeys_of (rows_of world).trips) (acts_of (rows_of world).trips) (rows_of world).jobs (rows_of world).trips
   lawful_trips = record { has_journeys = refl; has_acts = refl; of_jobs = lawful_acts }

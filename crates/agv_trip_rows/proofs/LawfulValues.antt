@@ -75,24 +75,24 @@ on_way place edges low short = omega arith
 
 module _ (joins : JoinsNodes) (seats : ℕ) (world : World) (lawful : IsLawful seats world) where
   node_rules : (id : List ℕ) → IsNode world.layout id → KeepsRules world.layout
-  node_rules id is = elim lawful.vehicles.laid [
+  node_rules id is = elim lawful.limits.laid [
     | inl none ↦ absurd (let there = subst (λ (layout : Layout). set.contains layout.nodes id ≡ true) none is in let not = set.contains-empty name_cmp id in cc)
     | inr rules ↦ rules
   ]
 
   own_order : (order : List ℕ) (row : TripRow) → IsOwn world order row → IsName order
-  own_order order row own = subst IsName (sym own.order_is) (lawful.vehicles.orders_named own.trip.order (lawful.vehicles.used own.key own.trip (own.vehicle, own.there, own.open_trip)))
+  own_order order row own = subst IsName (sym own.order_is) (lawful.names.orders_named own.trip.order (lawful.names.used own.key own.trip (own.vehicle, own.there, own.open_trip)))
 
   journey_value : (order : List ℕ) (row : TripRow) → IsOwn world order row → IsJourneyValue (journey_of row)
   journey_value order row own =
       let trip = own.trip in
-      let kept = lawful.vehicles.trips own.key own.vehicle trip own.there own.open_trip in
+      let kept = lawful.trips.open_trips own.key own.vehicle trip own.there own.open_trip in
       let planned = kept.well_formed.planned in
       let under = kept.well_formed.under_way in
-      let rules = node_rules own.vehicle.row.node (lawful.vehicles.vehicles own.key own.vehicle own.there).node in
+      let rules = node_rules own.vehicle.row.node (lawful.rests.vehicles own.key own.vehicle own.there).node in
       let sent = at_most trip.sent trip.base (length trip.edges) under.sent_released under.on_way planned.short in
       let value : IsJourneyValue (journey_of (trip_row own.key trip)) = record {
-        vehicle = lawful.vehicles.vehicles_named own.key own.vehicle own.there;
+        vehicle = lawful.names.vehicles_named own.key own.vehicle own.there;
         start = rules.nodes_named trip.start (joins world.layout rules trip.start planned.walk.0 _ planned.walk.1).0;
         first = at_most trip.first trip.base (length trip.edges) under.in_base under.on_way planned.short;
         base = at_most trip.base trip.base (length trip.edges) (omega arith) under.on_way planned.short;
@@ -111,12 +111,12 @@ module _ (joins : JoinsNodes) (seats : ℕ) (world : World) (lawful : IsLawful s
   -- the acts of an open trip are few, and on its way
   few : (order : List ℕ) (row : TripRow) → IsOwn world order row → (k : ℕ) → k < length row.acts → k < 8
   few order row own k within =
-      let planned = (lawful.vehicles.trips own.key own.vehicle own.trip own.there own.open_trip).well_formed.planned in
+      let planned = (lawful.trips.open_trips own.key own.vehicle own.trip own.there own.open_trip).well_formed.planned in
       few_acts k (length (map task_of own.trip.acts)) own.trip.acts (subst (λ (r : TripRow). k < length r.acts) (sym own.row_is) within) (length-map own.trip.acts task_of) planned.few
 
   places : (order : List ℕ) (row : TripRow) → IsOwn world order row → (k : ℕ) (act : Act) → slice_get row.acts k ≡ Some act → act.place_at ≤ 200
   places order row own k act at =
-      let planned = (lawful.vehicles.trips own.key own.vehicle own.trip own.there own.open_trip).well_formed.planned in
+      let planned = (lawful.trips.open_trips own.key own.vehicle own.trip own.there own.open_trip).well_formed.planned in
       let low = (places_low 0 (length own.trip.edges) own.trip.acts planned.rising).1 in
       on_way act.place_at (length own.trip.edges) (at_place (λ (a : Act). a.place_at ≤ length own.trip.edges) own.trip.acts k act (subst (λ (r : TripRow). slice_get r.acts k ≡ Some act) (sym own.row_is) at) low) planned.short
 
@@ -128,5 +128,5 @@ module _ (joins : JoinsNodes) (seats : ℕ) (world : World) (lawful : IsLawful s
       let act = found.0 in
       let own = trip_of_row world key.order trip from.1 in
       let of_job = at_place (IsOfJob (rows_of world).jobs) trip.acts key.n act found.1 (lawful_acts seats world lawful key.order trip from.1) in
-      let value : IsActValue (act_row act) = record { job = lawful.loads.jobs_named act.job of_job.job of_job.known; place_at = places key.order trip own key.n act found.1 } in
+      let value : IsActValue (act_row act) = record { job = lawful.names.jobs_named act.job of_job.job of_job.known; place_at = places key.order trip own key.n act found.1 } in
       (record { order = own_order key.order trip own; number = few key.order trip own key.n (slice_get_within trip.acts key.n act found.1) }, subst IsActValue found.2 value)

@@ -1,3 +1,4 @@
+pub mod LawfulInParts
 mod lawful_worlds
 pub mod lists
 mod load_tests

@@ -1,5 +1,5 @@
 -- The joint invariant: what holds of the world of a desk after every list of calls (this project's
--- profile). Each part has a name of its own.
+-- profile). One record for each group of rules, and `IsLawful` has them all.
 use Rattle.std.specs.Prelude.{◌≡◌, ◌↔◌, ◌⊎◌, ℕ, ◌+◌, ◌<◌, ◌≤◌, ◌&&◌, not, nat_eq, Bool, true, false, List, length, count_by, Option, None, Some, Contains}
 use Rattle.std.specs.Cmp.Lexicographic.{pointwise}
 use Rattle.std.specs.FinMap as finite
@@ -7,6 +7,7 @@ use Rattle.std.specs.FinSet as set
 use Rattle.std.specs.List.{list_any}
 use Rattle.agv_header.specs.Limits.{most_records, most_vehicles}
 use Rattle.agv_header.specs.Name.{IsName}
+use Rattle.agv_header.specs.declared.key.Thing.{Thing}
 use Rattle.agv_header.specs.declared.key.VehicleKey.{VehicleKey}
 use Rattle.agv_layout.specs.Layout.{Layout, KeepsRules, IsNode, IsEdge, IsStation}
 use Rattle.agv_layout.specs.declared.station.StationSite.{StationSite}
@@ -24,88 +25,33 @@ use Rattle.agv_stock.specs.Rooms.{is_on}
 use Rattle.agv_stock.specs.declared.job.Phase.TheVariants as phase
 use Rattle.agv_stock.specs.declared.place.Place.{Place}
 use Rattle.agv_stock.specs.declared.place.Place.TheVariants as place
-use Rattle.agv_world.specs.ConsistentTrips.{IsVehicle, HasTrip, HasOneTripAnOrder, SharesNothing}
+use Rattle.agv_track.specs.Footprints.{Occupies}
+use Rattle.agv_world.specs.ConsistentTrips.{IsVehicle, HasTrip, HasOneTripAnOrder}
 use Rattle.agv_world.specs.Questions.{loads_at, loads_on, reserved}
+use Rattle.agv_world.specs.Rows.{standing_of}
 use Rattle.agv_world.specs.Worlds.{Vehicle, World, empty_layout}
 use Rattle.agv_world.specs.declared.row.JobRow.{JobRow}
 use Rattle.agv_world.specs.declared.row.Sent.{Sent}
 use Rattle.agv_world.specs.declared.row.VehicleRow.{VehicleRow}
 
--- ---- a vehicle by itself
+-- ---- the layout, and limits
+
+pub record HasLayoutAndLimits (world : World) : Type 0 where
+  -- the layout is not set yet, or keeps the rules of a layout
+  pub laid : (world.layout ≡ empty_layout) ⊎ KeepsRules world.layout
+  -- at most 100 vehicles, and 1,000,000 orders, references, loads and jobs each, those that are
+  -- over or have left counted
+  pub few_vehicles : finite.len world.vehicles ≤ most_vehicles
+  pub few_orders : set.len world.orders ≤ most_records
+  pub few_references : set.len world.references ≤ most_records
+  pub few_loads : finite.len world.places ≤ most_records
+  pub few_jobs : finite.len world.jobs ≤ most_records
+
+-- ---- names
 
 -- manufacturer and serial number are names
 abbrev pub IsKey : VehicleKey → Type 0
 IsKey key = IsName key.manufacturer × IsName key.serial
-
--- the number and the moment of the last message of a topic: the moment lies before 2100, and is 0
--- where no message was sent
-pub record IsSent (sent : Sent) : Type 0 where
-  pub number : sent.count ≤ 4294967295
-  pub moment : sent.at ≤ 4102444799999
-  pub none : sent.count ≡ 0 → sent.at ≡ 0
-
--- a rest is an edge that begins at the vehicle's node, with the node where it ends
-abbrev pub IsRestAt : Layout → List ℕ → Option (List ℕ × List ℕ) → Type 0
-IsRestAt layout node None = Unit {0}
-IsRestAt layout node (Some rest) = IsEdge layout rest.0 (record { start = node; finish = rest.1 })
-
--- a vehicle has a capacity of 1 to `seats`, stands at a node, may have gone on from there to a
--- rest, and what was sent to it was numbered; an action is pending only where a message was sent
-pub record IsVehicleOf (seats : ℕ) (layout : Layout) (row : VehicleRow) : Type 0 where
-  pub carries : 1 ≤ row.capacity
-  pub seated : row.capacity ≤ seats
-  pub node : IsNode layout row.node
-  pub rest : IsRestAt layout row.node row.rest
-  pub header : (number : ℕ) → row.last_header ≡ Some number → number ≤ 4294967295
-  pub reported : (order : List ℕ) → row.reported ≡ Some order → IsName order
-  pub orders : IsSent row.orders
-  pub instants : IsSent row.instants
-  pub pending : (kind : InstantKind) → row.pending ≡ Some kind → 0 < row.instants.count
-
--- ---- a vehicle and its open trip
-
--- the act picks a load up
-abbrev pub picks : Act → Bool
-picks act = not (is_drop act.kind)
-
--- the trip is well formed, names its vehicle, has no more jobs than the capacity of the vehicle,
--- and was sent; the vehicle stands at the node that it has seen last, and there is no rest
-pub record IsTripOf (layout : Layout) (key : VehicleKey) (row : VehicleRow) (trip : Trip) : Type 0 where
-  pub well_formed : IsWellFormed layout trip
-  pub own : trip.vehicle ≡ key
-  pub picks_fit : count_by picks trip.acts ≤ row.capacity
-  pub sent : 0 < row.orders.count
-  pub stands : node_at trip trip.seen ≡ Some row.node
-  pub no_rest : row.rest ≡ None
-
--- ---- the layout, the vehicles and their trips
-
-pub record HasLawfulVehicles (seats : ℕ) (world : World) : Type 0 where
-  -- the layout is not set yet, or keeps the rules of a layout
-  pub laid : (world.layout ≡ empty_layout) ⊎ KeepsRules world.layout
-  -- at most 100 vehicles, and 1,000,000 orders and references each, that are over counted
-  pub few_vehicles : finite.len world.vehicles ≤ most_vehicles
-  pub few_orders : set.len world.orders ≤ most_records
-  pub few_references : set.len world.references ≤ most_records
-  -- the names of vehicles, orders and references are names
-  pub vehicles_named : (key : VehicleKey) (vehicle : Vehicle)
-      → IsVehicle world key vehicle → IsKey key
-  pub orders_named : (name : List ℕ) → set.contains world.orders name ≡ true → IsName name
-  pub references_named : (name : List ℕ) → set.contains world.references name ≡ true → IsName name
-  -- each vehicle, and each open trip with its vehicle, is as above
-  pub vehicles : (key : VehicleKey) (vehicle : Vehicle)
-      → IsVehicle world key vehicle → IsVehicleOf seats world.layout vehicle.row
-  pub trips : (key : VehicleKey) (vehicle : Vehicle) (trip : Trip)
-      → IsVehicle world key vehicle → vehicle.trip ≡ Some trip
-      → IsTripOf world.layout key vehicle.row trip
-  -- the name of an open trip's order was used, and no order has two trips
-  pub used : (key : VehicleKey) (trip : Trip)
-      → HasTrip world key trip → set.contains world.orders trip.order ≡ true
-  pub one_trip : HasOneTripAnOrder world
-  -- no node or edge is in the footprints of two vehicles
-  pub apart : SharesNothing world
-
--- ---- loads and jobs
 
 -- the station or the vehicle of a place is known
 abbrev pub IsPlaceIn : World → Place → Type 0
@@ -123,6 +69,85 @@ pub record IsJobIn (world : World) (row : JobRow) : Type 0 where
   pub load : (place : Place) × (finite.get world.places row.load ≡ Some place)
   pub origin : (site : StationSite) × IsStation world.layout row.origin site
   pub target : (site : StationSite) × IsStation world.layout row.target site
+
+pub record KnowsItsNames (world : World) : Type 0 where
+  -- the names of vehicles, orders, references, loads and jobs are names
+  pub vehicles_named : (key : VehicleKey) (vehicle : Vehicle)
+      → IsVehicle world key vehicle → IsKey key
+  pub orders_named : (name : List ℕ) → set.contains world.orders name ≡ true → IsName name
+  pub references_named : (name : List ℕ) → set.contains world.references name ≡ true → IsName name
+  pub loads_named : (load : List ℕ) (place : Place)
+      → finite.get world.places load ≡ Some place → IsName load
+  pub jobs_named : (job : List ℕ) (row : JobRow) → IsJob world job row → IsName job
+  -- what a place or a job names is known
+  pub places : (load : List ℕ) (place : Place)
+      → finite.get world.places load ≡ Some place → IsPlaceIn world place
+  pub jobs : (job : List ℕ) (row : JobRow) → IsJob world job row → IsJobIn world row
+  -- the name of an open trip's order was used
+  pub used : (key : VehicleKey) (trip : Trip)
+      → HasTrip world key trip → set.contains world.orders trip.order ≡ true
+
+-- ---- track
+
+-- the vehicle occupies the node or edge: without a trip its node and its rest, with one what the
+-- trip has from the node that it has seen last to the last node that is released
+abbrev pub IsOccupant : World → VehicleKey → Thing → Type 0
+IsOccupant world key thing =
+    (vehicle : Vehicle) × IsVehicle world key vehicle × Occupies (standing_of vehicle) thing
+
+pub record KeepsTrackApart (world : World) : Type 0 where
+  -- vehicles that occupy one node or edge are the same vehicle
+  pub apart : (one other : VehicleKey) (thing : Thing)
+      → IsOccupant world one thing → IsOccupant world other thing → one ≡ other
+
+-- ---- room at stations
+
+pub record KeepsRoom (world : World) : Type 0 where
+  -- the loads at a station and the live jobs to it are together at most its capacity
+  pub room : (station : List ℕ) (site : StationSite)
+      → IsStation world.layout station site
+      → length (loads_at world station) + reserved world station ≤ site.capacity
+
+-- ---- capacity of vehicles
+
+-- the act picks a load up
+abbrev pub picks : Act → Bool
+picks act = not (is_drop act.kind)
+
+-- the act is a drop that is not finished
+abbrev pub is_to_drop : Act → Bool
+is_to_drop act = is_drop act.kind && not (is_finished act.status)
+
+-- the load is one that the trip is still to drop
+abbrev pub is_load_of : Trip → List ℕ → Bool
+is_load_of trip load =
+    list_any (λ (act : Act). is_to_drop act && pointwise nat_eq act.load load) trip.acts
+
+-- how many loads are on the vehicle that belong to none of the trip's live jobs
+abbrev pub other_loads : World → VehicleKey → Trip → ℕ
+other_loads world key trip =
+    count_by (λ (load : List ℕ × Place). is_on key load.1 && not (is_load_of trip load.0))
+    (finite.entries world.places)
+
+pub record KeepsCapacity (seats : ℕ) (world : World) : Type 0 where
+  -- a vehicle has a capacity of 1 to `seats`
+  pub carries : (key : VehicleKey) (vehicle : Vehicle)
+      → IsVehicle world key vehicle → 1 ≤ vehicle.row.capacity
+  pub seated : (key : VehicleKey) (vehicle : Vehicle)
+      → IsVehicle world key vehicle → vehicle.row.capacity ≤ seats
+  -- a vehicle without a trip has at most its capacity of loads; with a trip, its other loads and
+  -- the trip's jobs that are not done are together at most that many, and so are the trip's jobs
+  pub idle : (key : VehicleKey) (vehicle : Vehicle)
+      → IsVehicle world key vehicle → vehicle.trip ≡ None
+      → loads_on world key ≤ vehicle.row.capacity
+  pub within_capacity : (key : VehicleKey) (vehicle : Vehicle) (trip : Trip)
+      → IsVehicle world key vehicle → vehicle.trip ≡ Some trip
+      → other_loads world key trip + count_by is_to_drop trip.acts ≤ vehicle.row.capacity
+  pub picks_fit : (key : VehicleKey) (vehicle : Vehicle) (trip : Trip)
+      → IsVehicle world key vehicle → vehicle.trip ≡ Some trip
+      → count_by picks trip.acts ≤ vehicle.row.capacity
+
+-- ---- jobs and loads
 
 -- the vehicle has a trip open, and this is an act of it
 pub record HasAct (world : World) (key : VehicleKey) (trip : Trip) (act : Act) : Type 0 where
@@ -157,45 +182,7 @@ abbrev pub carried_at : VehicleKey → List ℕ → Bool → Place
 carried_at key origin false = place.Station origin
 carried_at key origin true = place.Vehicle key
 
--- the act is a drop that is not finished
-abbrev pub is_to_drop : Act → Bool
-is_to_drop act = is_drop act.kind && not (is_finished act.status)
-
--- the load is one that the trip is still to drop
-abbrev pub is_load_of : Trip → List ℕ → Bool
-is_load_of trip load =
-    list_any (λ (act : Act). is_to_drop act && pointwise nat_eq act.load load) trip.acts
-
--- how many loads are on the vehicle that belong to none of the trip's live jobs
-abbrev pub other_loads : World → VehicleKey → Trip → ℕ
-other_loads world key trip =
-    count_by (λ (load : List ℕ × Place). is_on key load.1 && not (is_load_of trip load.0))
-    (finite.entries world.places)
-
-pub record HasLawfulLoads (world : World) : Type 0 where
-  -- at most 1,000,000 loads, those that have left counted, and 1,000,000 jobs
-  pub few_loads : finite.len world.places ≤ most_records
-  pub few_jobs : finite.len world.jobs ≤ most_records
-  -- the names of loads and jobs are names
-  pub loads_named : (load : List ℕ) (place : Place)
-      → finite.get world.places load ≡ Some place → IsName load
-  pub jobs_named : (job : List ℕ) (row : JobRow) → IsJob world job row → IsName job
-  -- what a place or a job names is known
-  pub places : (load : List ℕ) (place : Place)
-      → finite.get world.places load ≡ Some place → IsPlaceIn world place
-  pub jobs : (job : List ℕ) (row : JobRow) → IsJob world job row → IsJobIn world row
-  -- the loads at a station and the live jobs to it are together at most its capacity
-  pub room : (station : List ℕ) (site : StationSite)
-      → IsStation world.layout station site
-      → length (loads_at world station) + reserved world station ≤ site.capacity
-  -- a vehicle without a trip has at most its capacity of loads; with a trip, its other
-  -- loads and the trip's jobs that are not done are together at most that many
-  pub idle : (key : VehicleKey) (vehicle : Vehicle)
-      → IsVehicle world key vehicle → vehicle.trip ≡ None
-      → loads_on world key ≤ vehicle.row.capacity
-  pub within_capacity : (key : VehicleKey) (vehicle : Vehicle) (trip : Trip)
-      → IsVehicle world key vehicle → vehicle.trip ≡ Some trip
-      → other_loads world key trip + count_by is_to_drop trip.acts ≤ vehicle.row.capacity
+pub record JoinsJobsAndLoads (world : World) : Type 0 where
   -- a load has at most one live job
   pub one_job : (one other : List ℕ) (row further : JobRow)
       → IsJob world one row → IsJob world other further → is_live row.phase ≡ true
@@ -226,9 +213,64 @@ pub record HasLawfulLoads (world : World) : Type 0 where
   pub acts : (key : VehicleKey) (trip : Trip) (act : Act)
       → HasAct world key trip act → NamesItsJob world act
 
+-- ---- trips
+
+-- the trip is well formed, names its vehicle, and was sent; the vehicle stands at the node that it
+-- has seen last, and there is no rest
+pub record IsOpenTrip (layout : Layout) (key : VehicleKey) (row : VehicleRow) (trip : Trip) : Type 0 where
+  pub well_formed : IsWellFormed layout trip
+  pub own : trip.vehicle ≡ key
+  pub sent : 0 < row.orders.count
+  pub stands : node_at trip trip.seen ≡ Some row.node
+  pub no_rest : row.rest ≡ None
+
+pub record KeepsTrips (world : World) : Type 0 where
+  -- each open trip is as above, with its vehicle
+  pub open_trips : (key : VehicleKey) (vehicle : Vehicle) (trip : Trip)
+      → IsVehicle world key vehicle → vehicle.trip ≡ Some trip
+      → IsOpenTrip world.layout key vehicle.row trip
+  -- no order has two trips
+  pub one_trip : HasOneTripAnOrder world
+
+-- ---- rests and counters
+
+-- the number and the moment of the last message of a topic: the moment lies before 2100, and is 0
+-- where no message was sent
+pub record IsSent (sent : Sent) : Type 0 where
+  pub number : sent.count ≤ 4294967295
+  pub moment : sent.at ≤ 4102444799999
+  pub none : sent.count ≡ 0 → sent.at ≡ 0
+
+-- a rest is an edge that begins at the vehicle's node, with the node where it ends
+abbrev pub IsRestAt : Layout → List ℕ → Option (List ℕ × List ℕ) → Type 0
+IsRestAt layout node None = Unit {0}
+IsRestAt layout node (Some rest) = IsEdge layout rest.0 (record { start = node; finish = rest.1 })
+
+-- a vehicle stands at a node, may have gone on from there to a rest, and what was sent to it was
+-- numbered; an action is pending only where a message was sent
+pub record HasRestAndCounters (layout : Layout) (row : VehicleRow) : Type 0 where
+  pub node : IsNode layout row.node
+  pub rest : IsRestAt layout row.node row.rest
+  pub header : (number : ℕ) → row.last_header ≡ Some number → number ≤ 4294967295
+  pub reported : (order : List ℕ) → row.reported ≡ Some order → IsName order
+  pub orders : IsSent row.orders
+  pub instants : IsSent row.instants
+  pub pending : (kind : InstantKind) → row.pending ≡ Some kind → 0 < row.instants.count
+
+pub record KeepsRestsAndCounters (world : World) : Type 0 where
+  -- each vehicle is as above
+  pub vehicles : (key : VehicleKey) (vehicle : Vehicle)
+      → IsVehicle world key vehicle → HasRestAndCounters world.layout vehicle.row
+
 -- ---- all of it
 
 -- the world is lawful, where the capacity of a vehicle is at most this
 pub record IsLawful (seats : ℕ) (world : World) : Type 0 where
-  pub vehicles : HasLawfulVehicles seats world
-  pub loads : HasLawfulLoads world
+  pub limits : HasLayoutAndLimits world
+  pub names : KnowsItsNames world
+  pub track : KeepsTrackApart world
+  pub room : KeepsRoom world
+  pub capacity : KeepsCapacity seats world
+  pub jobs : JoinsJobsAndLoads world
+  pub trips : KeepsTrips world
+  pub rests : KeepsRestsAndCounters world

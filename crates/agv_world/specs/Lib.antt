@@ -13,6 +13,7 @@ pub mod SameRows
 pub mod VehicleChanges
 pub mod TableChanges
 pub mod Lawful
+pub mod LawfulParts
 pub mod StockInvariant
 pub mod Values
 pub mod LawfulTests

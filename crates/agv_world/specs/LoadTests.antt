@@ -1,4 +1,4 @@
--- Derived, not the promise: tests of the tables of loads and jobs, by look-ups. Where the vehicles are lawful, all of them hold just where the world has the lawful loads (`HasLawfulLoads`) of Lawful.antt (`World::is_lawful`).
+-- Derived, not the promise: tests of the tables of loads and jobs, by look-ups. Where the vehicles are lawful, all of them hold just where the world has the lawful loads (`HasLawfulLoads`) of LawfulParts.antt (`World::is_lawful`).
 use Rattle.std.specs.Prelude.{ℕ, ◌+◌, ◌&&◌, ◌||◌, not, nat_eq, nat_le, nat_lt, Bool, true, false, List, [], ◌∷◌, filter, find, count_by, Option, None, Some, if◌then◌else◌}
 use Rattle.std.specs.Cmp.Lexicographic.{pointwise}
 use Rattle.std.specs.FinMap as finite

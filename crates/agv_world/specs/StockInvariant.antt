@@ -1,4 +1,4 @@
--- Derived, not the promise: what joins the loads, the jobs and the trips, as the proofs take it: over what each vehicle is to carry, and how much it may. Where vehicles are lawful, it says just what `HasLawfulLoads` of Lawful.antt says (`lawful_laws`).
+-- Derived, not the promise: what joins the loads, the jobs and the trips, as the proofs take it: over what each vehicle is to carry, and how much it may. Where vehicles are lawful, it says just what `HasLawfulLoads` of LawfulParts.antt says (`lawful_laws`).
 use Rattle.std.specs.Prelude.{◌≡◌, ◌≢◌, ℕ, ◌+◌, ◌≤◌, ◌&&◌, not, Bool, true, false, List, [], map, count_by, Option, None, Some}
 use Rattle.std.specs.FinMap as finite
 use Rattle.std.specs.List.{slice_get}

@@ -3,7 +3,7 @@ ghost use Rattle.std.specs.Prelude.{◌≡◌, ◌↔◌, ◌⊎◌, ℕ, IsTrue
 ghost use Rattle.agv_layout.specs.Layout.{KeepsRules};
 ghost use Rattle.agv_world.specs.ConsistentTrips.{SharesNothing};
 ghost use Rattle.agv_world.specs.Kept.{Keeps};
-ghost use Rattle.agv_world.specs.Lawful.{HasLawfulVehicles};
+ghost use Rattle.agv_world.specs.LawfulParts.{HasLawfulVehicles};
 ghost use Rattle.agv_world.specs.LawfulTests.{are_apart, are_lawful_vehicles, are_legs, are_trips, is_laid};
 ghost use Rattle.agv_world.specs.Told.{layout_of_tables, world_of};
 ghost use Rattle.agv_world.specs.Values.{HasValues};

@@ -43,11 +43,11 @@ use Rattle.agv_row_reading.proofs.TablesBack.{reads_members}
 module _ (world : World) (lawful : IsLawful desk_seats world) (rows : List Row) where
   pub tells_places : IsPermutation (all_rows_of the.Load (row_lists (rows_of world))) rows → (r : Result (finite.FinMap name_cmp Place) OpenFault) → Reads r (read_rows load_in finite.empty rows) → Follows r (λ table. table ≡ world.places)
   unfolding row_lists
-  tells_places shown r read = reads_it world.places r (read_rows load_in finite.empty rows) read (reads_all nat_list_cmp_total names_apart world.places load_columns load_in (λ id x at. load_kept id x (lawful.loads.loads_named id x at) (place_value world lawful id x at)) rows shown)
+  tells_places shown r read = reads_it world.places r (read_rows load_in finite.empty rows) read (reads_all nat_list_cmp_total names_apart world.places load_columns load_in (λ id x at. load_kept id x (lawful.names.loads_named id x at) (place_value world lawful id x at)) rows shown)
 
   pub tells_jobs : IsPermutation (all_rows_of the.Job (row_lists (rows_of world))) rows → (r : Result (finite.FinMap name_cmp JobRow) OpenFault) → Reads r (read_rows job_in finite.empty rows) → Follows r (λ table. table ≡ world.jobs)
   unfolding row_lists
-  tells_jobs shown r read = reads_it world.jobs r (read_rows job_in finite.empty rows) read (reads_all nat_list_cmp_total names_apart world.jobs job_columns job_in (λ id x at. job_kept id x (lawful.loads.jobs_named id x at) (job_value world lawful id x at)) rows shown)
+  tells_jobs shown r read = reads_it world.jobs r (read_rows job_in finite.empty rows) read (reads_all nat_list_cmp_total names_apart world.jobs job_columns job_in (λ id x at. job_kept id x (lawful.names.jobs_named id x at) (job_value world lawful id x at)) rows shown)
 
   pub tells_stations : IsPermutation (all_rows_of the.Station (row_lists (rows_of world))) rows → (r : Result (finite.FinMap name_cmp StationSite) OpenFault) → Reads r (read_rows station_in finite.empty rows) → Follows r (λ table. table ≡ world.layout.stations)
   unfolding row_lists

@@ -1,7 +1,7 @@
 -- What every call leaves of the history of a world, and which worlds come after others.
 use Rattle.std.proofs.Common.{◌≡◌, ◌≢◌, ℕ, refl, ap}
 use Rattle.agv_header.specs.declared.key.VehicleKey.{VehicleKey}
-use Rattle.agv_world.specs.Lawful.{HasLawfulVehicles}
+use Rattle.agv_world.specs.LawfulParts.{HasLawfulVehicles}
 use Rattle.agv_world.specs.Worlds.{World}
 use Rattle.agv_desk.specs.Outcomes.{Outcome, Refused, Made, after}
 use Rattle.agv_desk.specs.Step.{step}

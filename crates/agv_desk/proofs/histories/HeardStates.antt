@@ -14,6 +14,7 @@ use Rattle.agv_order.specs.declared.trip.Trip.{Trip}
 use Rattle.agv_track.specs.Reached.{reported_node}
 use Rattle.agv_track.specs.Reports.{is_cancelled, told}
 use Rattle.agv_track.specs.declared.pending.Pending.{Pending}
+use Rattle.agv_world.proofs.LawfulInParts.{vehicles_of}
 use Rattle.agv_world.specs.ConsistentTrips.{HasTrip}
 use Rattle.agv_world.specs.Lawful.{IsLawful}
 use Rattle.agv_world.specs.Questions.{row_of}
@@ -122,7 +123,7 @@ module _ (advances : AdvancesTrips) (fits : FitsAsSaid) (seats : ℕ) (keeps : K
       let outcome = step seats world made.0 made.1 in
       let next = after world outcome in
       heard_since next calls (keeps world made.0 made.1 lawful typed.0 typed.1) typed.2 key number none.1
-      (heard_on world next (Forgets made.1 key) key number (row_made world (Forgets made.1) outcome (goes_along advances fits seats world lawful.vehicles made.0 made.1) key)
+      (heard_on world next (Forgets made.1 key) key number (row_made world (Forgets made.1) outcome (goes_along advances fits seats world (vehicles_of lawful) made.0 made.1) key)
       (not_forgotten made.1 key none.0) heard)
 
   pub instructed_since : (world : World) (calls : List (ℕ × Call)) → IsLawful seats world → AreWellTyped calls → (key : VehicleKey) (earlier : VehicleRow)
@@ -132,4 +133,4 @@ module _ (advances : AdvancesTrips) (fits : FitsAsSaid) (seats : ℕ) (keeps : K
       let outcome = step seats world made.0 made.1 in
       let next = after world outcome in
       instructed_since next calls (keeps world made.0 made.1 lawful typed.0 typed.1) typed.2 key earlier
-      (instructed_on world next (Forgets made.1 key) key earlier (row_made world (Forgets made.1) outcome (goes_along advances fits seats world lawful.vehicles made.0 made.1) key) since)
+      (instructed_on world next (Forgets made.1 key) key earlier (row_made world (Forgets made.1) outcome (goes_along advances fits seats world (vehicles_of lawful) made.0 made.1) key) since)

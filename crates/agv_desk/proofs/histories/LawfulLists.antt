@@ -8,6 +8,7 @@ use Rattle.agv_message.specs.declared.status.Status.{Status}
 use Rattle.agv_message.specs.declared.status.Status.TheVariants.{Waiting, Initializing, Running, Paused, Finished, Failed}
 use Rattle.agv_order.specs.Statuses.{is_final, is_finished}
 use Rattle.agv_order.specs.Trips.{Task}
+use Rattle.agv_world.proofs.LawfulInParts.{vehicles_of}
 use Rattle.agv_world.specs.Lawful.{IsLawful}
 use Rattle.agv_world.specs.Worlds.{World}
 use Rattle.agv_desk.specs.Histories.{times}
@@ -80,7 +81,7 @@ module _ (advances : AdvancesTrips) (fits : FitsAsSaid) (seats : ℕ) (keeps : K
   follows_steps world [] lawful typed = world_itself world
   follows_steps world (made ∷ calls) lawful typed =
       let next = after world (step seats world made.0 made.1) in
-      world_through world next (steps seats next calls) (follows_step advances fits seats world lawful.vehicles made.0 made.1)
+      world_through world next (steps seats next calls) (follows_step advances fits seats world (vehicles_of lawful) made.0 made.1)
       (follows_steps next calls (keeps world made.0 made.1 lawful typed.0 typed.1) typed.2)
 
   module _ (kind : ActKind) (order job : List ℕ) where
@@ -90,8 +91,8 @@ module _ (advances : AdvancesTrips) (fits : FitsAsSaid) (seats : ℕ) (keeps : K
     none_more world (made ∷ calls) lawful typed spent =
         let outcome = step seats world made.0 made.1 in
         let next = after world outcome in
-        let rest = none_more next calls (keeps world made.0 made.1 lawful typed.0 typed.1) typed.2 (spent_stays kind order job world next (follows_step advances fits seats world lawful.vehicles made.0 made.1) spent) in
-        elim (once_made world (Forgets made.1) outcome (goes_along advances fits seats world lawful.vehicles made.0 made.1) kind order job) [
+        let rest = none_more next calls (keeps world made.0 made.1 lawful typed.0 typed.1) typed.2 (spent_stays kind order job world next (follows_step advances fits seats world (vehicles_of lawful) made.0 made.1) spent) in
+        elim (once_made world (Forgets made.1) outcome (goes_along advances fits seats world (vehicles_of lawful) made.0 made.1) kind order job) [
           | inl none ↦ times-append kind order job (moves_of outcome) (moves seats next calls) ∙ sum_zero _ _ none rest
           | inr one ↦ absurd (one.1 spent)
         ]
@@ -107,7 +108,7 @@ module _ (advances : AdvancesTrips) (fits : FitsAsSaid) (seats : ℕ) (keeps : K
         let next = after world outcome in
         let lawful_next = keeps world made.0 made.1 lawful typed.0 typed.1 in
         let total = times-append kind order job (moves_of outcome) (moves seats next calls) in
-        elim (once_made world (Forgets made.1) outcome (goes_along advances fits seats world lawful.vehicles made.0 made.1) kind order job) [
+        elim (once_made world (Forgets made.1) outcome (goes_along advances fits seats world (vehicles_of lawful) made.0 made.1) kind order job) [
           | inl none ↦ sum _ _ _ 0 1 total none (once_at_most next calls lawful_next typed.2)
           | inr one ↦ last _ _ _ total one.0 (none_more next calls lawful_next typed.2 one.2)
         ]

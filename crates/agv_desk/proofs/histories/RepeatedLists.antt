@@ -4,6 +4,7 @@ use Rattle.std.specs.Option.{option_map}
 use Rattle.agv_header.specs.declared.key.VehicleKey.{VehicleKey}
 use Rattle.agv_message.specs.declared.state.StateMessage.{StateMessage}
 use Rattle.agv_order.specs.declared.trip.Trip.{Trip}
+use Rattle.agv_world.proofs.LawfulInParts.{vehicles_of}
 use Rattle.agv_world.specs.ConsistentTrips.{HasTrip}
 use Rattle.agv_world.specs.Lawful.{IsLawful}
 use Rattle.agv_world.specs.Questions.{row_of}
@@ -58,13 +59,13 @@ module _ (advances : AdvancesTrips) (fits : FitsAsSaid) (footprints : HoldsAreFo
     -- without a resync since, the message is old
     old_quiet : (exception : Type 0) → HasNoResync key since → IfMade (IsQuiet now exception) (take_state now key state)
     old_quiet exception none =
-        let is_heard = number_after first key state (take_state first key state) (leaves_heard first key state seats first_lawful.vehicles) accepted in
-        quiet_old advances footprints seats now now_lawful.vehicles key state exception state.header_id (omega arith)
+        let is_heard = number_after first key state (take_state first key state) (leaves_heard first key state seats (vehicles_of first_lawful)) accepted in
+        quiet_old advances footprints seats now (vehicles_of now_lawful) key state exception state.header_id (omega arith)
         (heard_since advances fits seats keeps second since second_lawful rest_typed.2 key state.header_id none is_heard)
 
     old_unchanged : HasNoResync key since → after now (take_state now key state) ≡ now
     old_unchanged none =
-        let is_heard = number_after first key state (take_state first key state) (leaves_heard first key state seats first_lawful.vehicles) accepted in
+        let is_heard = number_after first key state (take_state first key state) (leaves_heard first key state seats (vehicles_of first_lawful)) accepted in
         world_unchanged now (take_state now key state) (unchanged_old now key state state.header_id (omega arith)
         (heard_since advances fits seats keeps second since second_lawful rest_typed.2 key state.header_id none is_heard))
 
@@ -72,11 +73,11 @@ module _ (advances : AdvancesTrips) (fits : FitsAsSaid) (footprints : HoldsAreFo
     told_quiet : (there : Option VehicleRow) → row_of first key ≡ there → (trip : Trip) → HasTrip first key trip → trip.order ≡ state.order_id → IfMade (IsQuiet now (CancelsSince first now key state)) (take_state now key state)
     told_quiet None none trip has ours = none_some (sym none ∙ ap (option_map (λ (vehicle : Vehicle). vehicle.row)) has.1)
     told_quiet (Some before) was trip has ours =
-        let told_then = trip_after first key state (take_state first key state) (leaves_heard first key state seats first_lawful.vehicles) accepted before trip was has ours in
+        let told_then = trip_after first key state (take_state first key state) (leaves_heard first key state seats (vehicles_of first_lawful)) accepted before trip was has ours in
         let told_now = told_on state trip.order (pending_of before) second now (follows_steps advances fits seats keeps second since second_lawful rest_typed.2) told_then in
         let instructed : IsInstructedSince key before now =
         instructed_since advances fits seats keeps first ((at, call.State key state) ∷ since) first_lawful rest_typed key before (before, was, omega arith, λ same kind is. is) in
-        quiet_again advances footprints seats now now_lawful.vehicles key state first before was instructed trip.order ours told_now
+        quiet_again advances footprints seats now (vehicles_of now_lawful) key state first before was instructed trip.order ours told_now
 
     again_quiet : HasNoResync key since ⊎ SpeaksOfTrip first key state → IfMade (IsQuiet now (CancelsSince first now key state)) (take_state now key state)
     again_quiet (inl none) = old_quiet (CancelsSince first now key state) none
@@ -115,4 +116,4 @@ module _ (advances : AdvancesTrips) (fits : FitsAsSaid) (footprints : HoldsAreFo
       let now = steps seats world calls in
       let rest = typed_later repeated.earlier ((repeated.at, call.State key state) ∷ repeated.since) (subst AreWellTyped repeated.among typed) in
       let next = keeps now repeated.at (call.State key state) (stays_lawful advances fits seats keeps world calls lawful typed) rest.0 rest.1 in
-      holds_quiet now _ _ (repeated_quiet world calls key state lawful typed repeated) next.vehicles.apart
+      holds_quiet now _ _ (repeated_quiet world calls key state lawful typed repeated) (vehicles_of next).apart

@@ -21,7 +21,7 @@ use Rattle.agv_track.specs.Reports.{is_cancelled, told}
 use Rattle.agv_track.specs.declared.pending.Pending.{Pending}
 use Rattle.agv_track.specs.declared.progress.Progress.{Progress}
 use Rattle.agv_world.specs.ConsistentTrips.{HasTrip, SharesNothing}
-use Rattle.agv_world.specs.Lawful.{HasLawfulVehicles}
+use Rattle.agv_world.specs.LawfulParts.{HasLawfulVehicles}
 use Rattle.agv_world.specs.Questions.{row_of, trip_of}
 use Rattle.agv_world.specs.Rows.{hold_rows, rows_of, standing_of}
 use Rattle.agv_header.specs.Spread.{spread}

@@ -22,7 +22,7 @@ use Rattle.agv_track.specs.Reports.{with_status, renewed}
 use Rattle.agv_track.specs.declared.progress.End.{End}
 use Rattle.agv_track.specs.declared.progress.Progress.{Progress}
 use Rattle.agv_world.specs.ConsistentTrips.{HasTrip, HasOneTripAnOrder}
-use Rattle.agv_world.specs.Lawful.{HasLawfulVehicles, IsTripOf}
+use Rattle.agv_world.specs.LawfulParts.{HasLawfulVehicles, IsTripOf}
 use Rattle.agv_world.specs.Worlds.{Vehicle, World}
 use Rattle.agv_desk.specs.Outcomes.{Effect, Whole, with_touched, with_effect}
 use Rattle.agv_desk.specs.StateSteps.{trip_left}

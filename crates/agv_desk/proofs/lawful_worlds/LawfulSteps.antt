@@ -1,8 +1,10 @@
 -- From a lawful world each call leads to a lawful world, and each act that becomes finished finds its load.
 use Rattle.std.proofs.Common.{◌≡◌, ◌↔◌, ℕ}
 use Rattle.agv_world.specs.StockInvariant.{HasStockInvariant}
-use Rattle.agv_world.specs.Lawful.{HasLawfulVehicles, HasLawfulLoads, IsLawful}
+use Rattle.agv_world.specs.Lawful.{IsLawful}
+use Rattle.agv_world.specs.LawfulParts.{HasLawfulVehicles, HasLawfulLoads}
 use Rattle.agv_world.specs.Worlds.{World}
+use Rattle.agv_world.proofs.LawfulInParts.{lawful_by, loads_of, vehicles_of}
 use Rattle.agv_desk.specs.ActedMoves.{FindsLoads}
 use Rattle.agv_desk.specs.Outcomes.{Effect, Made, after}
 use Rattle.agv_desk.specs.Step.{step}
@@ -31,14 +33,13 @@ ActsFindTheirLoads = (seats : ℕ) (world : World) (at : ℕ) (call : Call) (eff
 pub step_lawful : KeepsVehiclesLawful → KeepsStockInvariant → LoadsMeetInvariant → (seats : ℕ) → IsSeats seats
     → (world : World) (at : ℕ) (call : Call) → IsLawful seats world → IsMoment at → IsWellTyped call → IsLawful seats (after world (step seats world at call))
 step_lawful vehicles stock loads seats is_seats world at call lawful moment typed =
-    let kept = vehicles seats world at call is_seats moment typed lawful.vehicles in
-    let joined = stock seats world at call typed lawful.vehicles ((loads seats world lawful.vehicles).0 lawful.loads) in
-    record {
-      vehicles = kept;
-      loads = (loads seats (after world (step seats world at call)) kept).1 joined;
-    }
+    let now = vehicles_of lawful in
+    let kept = vehicles seats world at call is_seats moment typed now in
+    let joined = stock seats world at call typed now ((loads seats world now).0 (loads_of lawful)) in
+    lawful_by kept ((loads seats (after world (step seats world at call)) kept).1 joined)
 
 pub lawful_finds : ActsFindTheirLoads → LoadsMeetInvariant → (seats : ℕ) (world : World) (at : ℕ) (call : Call) (effect : Effect)
     → IsLawful seats world → step seats world at call ≡ Made effect → FindsLoads world effect
 lawful_finds finds loads seats world at call effect lawful made =
-    finds seats world at call effect lawful.vehicles ((loads seats world lawful.vehicles).0 lawful.loads) made
+    let now = vehicles_of lawful in
+    finds seats world at call effect now ((loads seats world now).0 (loads_of lawful)) made

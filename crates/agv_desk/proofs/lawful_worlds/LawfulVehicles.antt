@@ -1,6 +1,6 @@
 -- Every call keeps the layout, the vehicles and their trips lawful.
 use Rattle.std.proofs.Common.{ℕ}
-use Rattle.agv_world.specs.Lawful.{HasLawfulVehicles}
+use Rattle.agv_world.specs.LawfulParts.{HasLawfulVehicles}
 use Rattle.agv_world.specs.Worlds.{World}
 use Rattle.agv_desk.specs.Outcomes.{Outcome, Refused, Made, after}
 use Rattle.agv_desk.specs.Step.{step}

@@ -17,7 +17,8 @@ use Rattle.agv_order.specs.declared.stop.Stop.{Stop}
 use Rattle.agv_order.specs.declared.trip.Trip.{Trip}
 use Rattle.agv_stock.specs.declared.job.Job.{Job}
 use Rattle.agv_world.specs.ConsistentTrips.{IsVehicle}
-use Rattle.agv_world.specs.Lawful.{HasLawfulVehicles, IsTripOf, picks}
+use Rattle.agv_world.specs.Lawful.{picks}
+use Rattle.agv_world.specs.LawfulParts.{HasLawfulVehicles, IsTripOf}
 use Rattle.agv_world.specs.Questions.{given as set_where, row_of, trip_of, is_used, layout_set, loads_on, count_of}
 use Rattle.agv_world.specs.TableChanges.{with_use}
 use Rattle.agv_world.specs.VehicleChanges.{with_vehicle}

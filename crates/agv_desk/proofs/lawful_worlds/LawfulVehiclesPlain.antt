@@ -12,7 +12,8 @@ use Rattle.agv_message.specs.declared.instant.InstantKind.{InstantKind}
 use Rattle.agv_message.specs.declared.state.StateMessage.{StateMessage}
 use Rattle.agv_track.specs.Footprints.{footprint_of}
 use Rattle.agv_world.specs.ConsistentTrips.{IsVehicle}
-use Rattle.agv_world.specs.Lawful.{HasLawfulVehicles, IsKey, IsVehicleOf}
+use Rattle.agv_world.specs.Lawful.{IsKey}
+use Rattle.agv_world.specs.LawfulParts.{HasLawfulVehicles, IsVehicleOf}
 use Rattle.agv_world.specs.Questions.{row_of, trip_of, count_of}
 use Rattle.agv_world.specs.VehicleChanges.{StandsAsBefore, with_vehicle}
 use Rattle.agv_world.specs.Worlds.{World}

@@ -8,7 +8,8 @@ use Rattle.agv_layout.specs.Layout.{Layout, IsNode}
 use Rattle.agv_message.specs.declared.instant.InstantKind.{InstantKind}
 use Rattle.agv_message.specs.declared.state.StateMessage.{StateMessage}
 use Rattle.agv_order.specs.declared.trip.Trip.{Trip}
-use Rattle.agv_world.specs.Lawful.{IsRestAt, IsSent, IsTripOf, IsVehicleOf, picks}
+use Rattle.agv_world.specs.Lawful.{IsRestAt, IsSent, picks}
+use Rattle.agv_world.specs.LawfulParts.{IsTripOf, IsVehicleOf}
 use Rattle.agv_world.specs.declared.row.Sent.{Sent}
 use Rattle.agv_world.specs.declared.row.VehicleRow.{VehicleRow}
 use Rattle.agv_desk.specs.OrderSteps.{sent_on}

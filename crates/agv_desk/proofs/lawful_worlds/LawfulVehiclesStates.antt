@@ -13,7 +13,8 @@ use Rattle.agv_track.specs.declared.progress.End.{End}
 use Rattle.agv_track.specs.declared.progress.End.TheVariants.{Stopped}
 use Rattle.agv_track.specs.declared.progress.Progress.{Progress}
 use Rattle.agv_world.specs.ConsistentTrips.{IsVehicle}
-use Rattle.agv_world.specs.Lawful.{HasLawfulVehicles, IsRestAt, IsTripOf, IsVehicleOf}
+use Rattle.agv_world.specs.Lawful.{IsRestAt}
+use Rattle.agv_world.specs.LawfulParts.{HasLawfulVehicles, IsTripOf, IsVehicleOf}
 use Rattle.agv_world.specs.Questions.{row_of, trip_of}
 use Rattle.agv_world.specs.VehicleChanges.{with_vehicle}
 use Rattle.agv_world.specs.Worlds.{World}

@@ -16,7 +16,8 @@ use Rattle.agv_order.specs.Trips.{task_of}
 use Rattle.agv_order.specs.declared.trip.Trip.{Trip}
 use Rattle.agv_world.specs.StockInvariant.{Jobs, Places}
 use Rattle.agv_world.specs.ConsistentTrips.{IsVehicle, HasOneTripAnOrder, SharesNothing}
-use Rattle.agv_world.specs.Lawful.{HasLawfulVehicles, IsKey, IsTripOf, IsVehicleOf}
+use Rattle.agv_world.specs.Lawful.{IsKey}
+use Rattle.agv_world.specs.LawfulParts.{HasLawfulVehicles, IsTripOf, IsVehicleOf}
 use Rattle.agv_world.specs.VehicleChanges.{with_vehicle}
 use Rattle.agv_world.specs.TableChanges.{with_use}
 use Rattle.agv_world.specs.Worlds.{Vehicle, World, empty_layout}

@@ -12,7 +12,7 @@ use Rattle.agv_order.specs.declared.act.Act.{Act}
 use Rattle.agv_order.specs.declared.stop.Stop.{Stop}
 use Rattle.agv_order.specs.declared.trip.Trip.{Trip}
 use Rattle.agv_world.specs.ConsistentTrips.{HasTrip}
-use Rattle.agv_world.specs.Lawful.{HasLawfulLoads}
+use Rattle.agv_world.specs.LawfulParts.{HasLawfulLoads}
 use Rattle.agv_world.specs.Questions.{count_of, is_used, row_of, trip_of}
 use Rattle.agv_world.specs.Worlds.{Vehicle, World}
 use Rattle.agv_world.specs.declared.floor.Counted.{Counted}
@@ -75,7 +75,7 @@ module _ (world : World) where
   -- the load of an act of an open trip is known
   load_known : HasLawfulLoads world → (key : VehicleKey) (trip : Trip) → HasTrip world key trip → (act : Act) → Contains trip.acts act → IsKnown world.places act.load
   load_known lawful key trip open_trip act among =
-      let named = lawful.acts key trip act (record { open_trip = open_trip; among = among }) in
+      let named = lawful.joined.acts key trip act (record { open_trip = open_trip; among = among }) in
       let load = (lawful.jobs act.job named.row named.job).load in
       (load.0, ap (finite.get world.places) (sym named.load) ∙ load.1)
 

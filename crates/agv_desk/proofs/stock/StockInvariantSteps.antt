@@ -4,7 +4,7 @@ use Rattle.agv_header.specs.declared.key.VehicleKey.{VehicleKey}
 use Rattle.agv_message.specs.declared.state.StateMessage.{StateMessage}
 use Rattle.agv_order.specs.declared.stop.Stop.{Stop}
 use Rattle.agv_world.specs.StockInvariant.{HasStockInvariant}
-use Rattle.agv_world.specs.Lawful.{HasLawfulVehicles}
+use Rattle.agv_world.specs.LawfulParts.{HasLawfulVehicles}
 use Rattle.agv_world.specs.Worlds.{World}
 use Rattle.agv_desk.specs.OrderSteps.{start_order}
 use Rattle.agv_desk.specs.Outcomes.{Outcome, Refused, Made, after}

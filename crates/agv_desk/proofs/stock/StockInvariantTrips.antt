@@ -17,7 +17,7 @@ use Rattle.agv_track.specs.Progressed.{Advances, progressed}
 use Rattle.agv_track.specs.declared.progress.End.{End}
 use Rattle.agv_track.specs.declared.progress.Progress.{Progress}
 use Rattle.agv_world.specs.StockInvariant.{StockInvariant, ActionView, HasStockInvariant, Jobs, Places, capacity_for, capacity_of, action_views_by, action_views_for, action_views_of}
-use Rattle.agv_world.specs.Lawful.{HasLawfulVehicles, IsTripOf}
+use Rattle.agv_world.specs.LawfulParts.{HasLawfulVehicles, IsTripOf}
 use Rattle.agv_world.specs.Questions.{row_of, trip_of}
 use Rattle.agv_world.specs.TableChanges.{written}
 use Rattle.agv_world.specs.VehicleChanges.{with_vehicle}

@@ -1,7 +1,7 @@
 -- The stock invariant holds after every call, and every act that becomes finished finds its load.
 use Rattle.std.proofs.Common.{◌≡◌, ℕ, subst}
 use Rattle.agv_world.specs.StockInvariant.{HasStockInvariant}
-use Rattle.agv_world.specs.Lawful.{HasLawfulVehicles}
+use Rattle.agv_world.specs.LawfulParts.{HasLawfulVehicles}
 use Rattle.agv_world.specs.Worlds.{World}
 use Rattle.agv_desk.specs.ActedMoves.{FindsLoads}
 use Rattle.agv_desk.specs.Outcomes.{Effect, Made, after}

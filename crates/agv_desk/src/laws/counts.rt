@@ -1,7 +1,7 @@
 //! The counts of vehicles, loads, jobs, orders and references, for every world, moment and call. Each function's
 //! clause says it.
 ghost use Rattle.std.specs.Prelude.{◌≡◌, ◌≢◌, ◌+◌, ◌<◌, ℕ};
-ghost use Rattle.agv_world.specs.Lawful.{HasLawfulLoads};
+ghost use Rattle.agv_world.specs.LawfulParts.{HasLawfulLoads};
 ghost use Rattle.agv_world.specs.Questions.{count_of};
 ghost use Rattle.agv_world.specs.Worlds.{World};
 ghost use Rattle.agv_world.specs.declared.floor.Counted.{Counted};

@@ -1,6 +1,7 @@
 //! The joint invariant, for every lawful world, moment and call. Each function's clause says it.
 ghost use Rattle.std.specs.Prelude.{◌≡◌, ℕ};
-ghost use Rattle.agv_world.specs.Lawful.{HasLawfulVehicles, IsLawful};
+ghost use Rattle.agv_world.specs.Lawful.{IsLawful};
+ghost use Rattle.agv_world.specs.LawfulParts.{HasLawfulVehicles};
 ghost use Rattle.agv_world.specs.Worlds.{World};
 ghost use Rattle.agv_desk.specs.ActedMoves.{FindsLoads};
 ghost use Rattle.agv_desk.specs.InOrder.{IsInOrder};

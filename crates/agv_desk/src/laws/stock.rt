@@ -1,7 +1,7 @@
 //! What holds of the loads and the jobs, for every lawful world and call.
 ghost use Rattle.std.specs.Prelude.{◌≡◌, ℕ};
 ghost use Rattle.agv_world.specs.StockInvariant.{HasStockInvariant};
-ghost use Rattle.agv_world.specs.Lawful.{HasLawfulVehicles};
+ghost use Rattle.agv_world.specs.LawfulParts.{HasLawfulVehicles};
 ghost use Rattle.agv_world.specs.Worlds.{World};
 ghost use Rattle.agv_desk.specs.ActedMoves.{FindsLoads};
 ghost use Rattle.agv_desk.specs.Outcomes.{Effect, Made, after};

@@ -1,6 +1,6 @@
 //! What holds of the vehicles, for every lawful world and call.
 ghost use Rattle.std.specs.Prelude.{ℕ};
-ghost use Rattle.agv_world.specs.Lawful.{HasLawfulVehicles};
+ghost use Rattle.agv_world.specs.LawfulParts.{HasLawfulVehicles};
 ghost use Rattle.agv_world.specs.Worlds.{World};
 ghost use Rattle.agv_desk.specs.Outcomes.{after};
 ghost use Rattle.agv_desk.specs.Step.{step};

@@ -10,7 +10,7 @@ use Rattle.agv_order.specs.WellFormed.{IsEdgeOf}
 use Rattle.agv_order.specs.declared.trip.Trip.{Trip}
 use Rattle.agv_stock.specs.declared.place.Place.{Place}
 use Rattle.agv_world.specs.ConsistentTrips.{HasTrip, HasConsistentTrips, IsVehicle}
-use Rattle.agv_world.specs.Lawful.{HasLawfulLoads, HasLawfulVehicles, IsJob, IsLawful}
+use Rattle.agv_world.specs.Lawful.{IsJob, IsLawful}
 use Rattle.agv_world.specs.Worlds.{Vehicle, World, empty_world}
 use Rattle.agv_world.specs.declared.row.JobRow.{JobRow}
 use Rattle.agv_world.proofs.lists.Entries.{no_more}
@@ -19,9 +19,9 @@ use Rattle.agv_world.proofs.lists.Entries.{no_more}
 
 pub consistent_trips : (seats : ℕ) (world : World) → IsLawful seats world → HasConsistentTrips world
 consistent_trips seats world lawful = record {
-  one_trip = lawful.vehicles.one_trip;
-  own = λ key trip has. (lawful.vehicles.trips key has.0 trip has.1 has.2).own;
-  known = λ key trip has. recursion_from_All (IsEdgeOf world.layout) trip.edges (lawful.vehicles.trips key has.0 trip has.1 has.2).well_formed.planned.edges;
+  one_trip = lawful.trips.one_trip;
+  own = λ key trip has. (lawful.trips.open_trips key has.0 trip has.1 has.2).own;
+  known = λ key trip has. recursion_from_All (IsEdgeOf world.layout) trip.edges (lawful.trips.open_trips key has.0 trip has.1 has.2).well_formed.planned.edges;
 }
 
 -- ---- nothing is known yet
@@ -48,41 +48,47 @@ no_job job row known = not_there name_cmp job row known
 no_load : (load : List ℕ) (where_is : Place) → finite.get empty_world.places load ≡ Some where_is → ⊥
 no_load load where_is at = not_there name_cmp load where_is at
 
-empty_vehicles : (seats : ℕ) → HasLawfulVehicles seats empty_world
-empty_vehicles seats = record {
-  laid = inl refl;
-  few_vehicles = none_few _ _ (finite.len-empty key_cmp Vehicle);
-  few_orders = none_few _ _ (set.len-empty name_cmp);
-  few_references = none_few _ _ (set.len-empty name_cmp);
-  vehicles_named = λ key vehicle known. absurd (no_vehicle key vehicle known);
-  orders_named = λ name used. absurd (not_among name_cmp name used);
-  references_named = λ name used. absurd (not_among name_cmp name used);
-  vehicles = λ key vehicle known. absurd (no_vehicle key vehicle known);
-  trips = λ key vehicle trip known has. absurd (no_vehicle key vehicle known);
-  used = λ key trip has. absurd (no_trip key trip has);
-  one_trip = λ one other trip further has too same. absurd (no_trip one trip has);
-  apart = λ one other thing has too. absurd (no_vehicle one has.0 has.1);
-}
-
-empty_loads : HasLawfulLoads empty_world
-empty_loads = record {
-  few_loads = none_few _ _ (finite.len-empty name_cmp Place);
-  few_jobs = none_few _ _ (finite.len-empty name_cmp JobRow);
-  loads_named = λ load where_is at. absurd (no_load load where_is at);
-  jobs_named = λ job row known. absurd (no_job job row known);
-  places = λ load where_is at. absurd (no_load load where_is at);
-  jobs = λ job row known. absurd (no_job job row known);
-  room = λ station site known. absurd (not_there name_cmp station site known);
-  idle = λ key vehicle known none. absurd (no_vehicle key vehicle known);
-  within_capacity = λ key vehicle trip known has. absurd (no_vehicle key vehicle known);
-  one_job = λ one other row further known too live also same. absurd (no_job one row known);
-  riding = λ job row known. absurd (no_job job row known);
-  done = λ key trip act row has kind finished known. absurd (no_trip key trip has.open_trip);
-  one_vehicle = λ one other trip further act more has too same. absurd (no_trip one trip has.open_trip);
-  waiting = λ job row known waits. absurd (no_job job row known);
-  carried = λ key trip act row has kind known live. absurd (no_trip key trip has.open_trip);
-  acts = λ key trip act has. absurd (no_trip key trip has.open_trip);
-}
-
 pub empty_lawful : (seats : ℕ) → IsLawful seats empty_world
-empty_lawful seats = record { vehicles = empty_vehicles seats; loads = empty_loads }
+empty_lawful seats = record {
+  limits = record {
+    laid = inl refl;
+    few_vehicles = none_few _ _ (finite.len-empty key_cmp Vehicle);
+    few_orders = none_few _ _ (set.len-empty name_cmp);
+    few_references = none_few _ _ (set.len-empty name_cmp);
+    few_loads = none_few _ _ (finite.len-empty name_cmp Place);
+    few_jobs = none_few _ _ (finite.len-empty name_cmp JobRow);
+  };
+  names = record {
+    vehicles_named = λ key vehicle known. absurd (no_vehicle key vehicle known);
+    orders_named = λ name used. absurd (not_among name_cmp name used);
+    references_named = λ name used. absurd (not_among name_cmp name used);
+    loads_named = λ load where_is at. absurd (no_load load where_is at);
+    jobs_named = λ job row known. absurd (no_job job row known);
+    places = λ load where_is at. absurd (no_load load where_is at);
+    jobs = λ job row known. absurd (no_job job row known);
+    used = λ key trip has. absurd (no_trip key trip has);
+  };
+  track = record { apart = λ one other thing has too. absurd (no_vehicle one has.0 has.1) };
+  room = record { room = λ station site known. absurd (not_there name_cmp station site known) };
+  capacity = record {
+    carries = λ key vehicle known. absurd (no_vehicle key vehicle known);
+    seated = λ key vehicle known. absurd (no_vehicle key vehicle known);
+    idle = λ key vehicle known none. absurd (no_vehicle key vehicle known);
+    within_capacity = λ key vehicle trip known has. absurd (no_vehicle key vehicle known);
+    picks_fit = λ key vehicle trip known has. absurd (no_vehicle key vehicle known);
+  };
+  jobs = record {
+    one_job = λ one other row further known too live also same. absurd (no_job one row known);
+    riding = λ job row known. absurd (no_job job row known);
+    done = λ key trip act row has kind finished known. absurd (no_trip key trip has.open_trip);
+    one_vehicle = λ one other trip further act more has too same. absurd (no_trip one trip has.open_trip);
+    waiting = λ job row known waits. absurd (no_job job row known);
+    carried = λ key trip act row has kind known live. absurd (no_trip key trip has.open_trip);
+    acts = λ key trip act has. absurd (no_trip key trip has.open_trip);
+  };
+  trips = record {
+    open_trips = λ key vehicle trip known has. absurd (no_vehicle key vehicle known);
+    one_trip = λ one other trip further has too same. absurd (no_trip one trip has);
+  };
+  rests = record { vehicles = λ key vehicle known. absurd (no_vehicle key vehicle known) };
+}

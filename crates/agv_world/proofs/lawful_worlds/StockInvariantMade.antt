@@ -21,7 +21,8 @@ use Rattle.agv_stock.specs.declared.place.Place.TheVariants as place
 use Rattle.agv_world.specs.Questions.{loads_on_vehicle}
 use Rattle.agv_world.specs.StockInvariant.{ActionView, HasStockInvariant, IsCarried, IsCarriedOn, IsKnownPlace, ActStands, capacity_for, capacity_of, to_pick, action_view, action_views_by, action_views_for, action_views_of}
 use Rattle.agv_world.specs.ConsistentTrips.{HasTrip, IsVehicle}
-use Rattle.agv_world.specs.Lawful.{HasAct, HasLawfulLoads, HasLawfulVehicles, IsJob, IsPlaceIn, carried_at, station_for}
+use Rattle.agv_world.specs.Lawful.{HasAct, IsJob, IsPlaceIn, carried_at, station_for}
+use Rattle.agv_world.specs.LawfulParts.{HasLawfulLoads, HasLawfulVehicles}
 use Rattle.agv_world.specs.Worlds.{Vehicle, World}
 use Rattle.agv_world.specs.declared.row.JobRow.{JobRow}
 use Rattle.agv_world.proofs.lawful_worlds.ActPlaces.{ActAt, among, drop_of, from_mapped, one_place, picked_before, stops_of}
@@ -60,10 +61,10 @@ module _ {seats : ℕ} (laws : StopLaws) (world : World) (vehicles : HasLawfulVe
 
     module _ (k : ℕ) (act : Act) (at : slice_get trip.acts k ≡ Some act) (row : JobRow) (job : IsJob world act.job row) where
       rides : (drop : Act) → HasAct world key trip drop → drop.kind ≡ Drop → drop.job ≡ act.job → is_finished drop.status ≡ false → row.phase ≡ phase.Riding
-      rides drop its kind same unfinished = (loads.riding act.job row job).1 (record { key = key; trip = trip; act = drop; has = its; drop = kind; of_job = same; undone = unfinished })
+      rides drop its kind same unfinished = (loads.joined.riding act.job row job).1 (record { key = key; trip = trip; act = drop; has = its; drop = kind; of_job = same; undone = unfinished })
 
       is_done : (drop : Act) → HasAct world key trip drop → drop.kind ≡ Drop → drop.job ≡ act.job → is_finished drop.status ≡ true → row.phase ≡ phase.Done
-      is_done drop its kind same finished = loads.done key trip drop row its kind finished (ap (finite.get world.jobs) same ∙ job)
+      is_done drop its kind same finished = loads.joined.done key trip drop row its kind finished (ap (finite.get world.jobs) same ∙ job)
 
       -- the phase of a pick's job is that of its drop
       pick_phase : act.kind ≡ Pick → (is_finished act.status ≡ false → row.phase ≡ phase.Riding) × (row.phase ≢ phase.Waiting)
@@ -88,7 +89,7 @@ module _ {seats : ℕ} (laws : StopLaws) (world : World) (vehicles : HasLawfulVe
           let on = (pick_phase kind).0 finished in (
             on,
             ap (finite.get world.places) (sym load)
-                ∙ loads.carried key trip act row (act_in k act at) kind job (ap is_live on)
+                ∙ loads.joined.carried key trip act row (act_in k act at) kind job (ap is_live on)
                 ∙ ap (λ b. Some (carried_at key row.origin b)) finished
                 ∙ ap (λ s. Some (place.Station s)) (sym (origin_of act.kind row act.station kind station)),
           )
@@ -96,7 +97,7 @@ module _ {seats : ℕ} (laws : StopLaws) (world : World) (vehicles : HasLawfulVe
         (pick_phase kind).1,
         λ on.
             ap (finite.get world.places) (sym load)
-            ∙ loads.carried key trip act row (act_in k act at) kind job (ap is_live on)
+            ∙ loads.joined.carried key trip act row (act_in k act at) kind job (ap is_live on)
             ∙ ap (λ b. Some (carried_at key row.origin b)) finished,
       )
       stands load station Drop false kind finished = rides act (act_in k act at) kind refl finished
@@ -104,7 +105,7 @@ module _ {seats : ℕ} (laws : StopLaws) (world : World) (vehicles : HasLawfulVe
 
     carried_act : (k : ℕ) (act : Act) → slice_get trip.acts k ≡ Some act → IsCarried world.places world.jobs key (action_view act)
     carried_act k act at =
-        let its = loads.acts key trip act (act_in k act at) in
+        let its = loads.joined.acts key trip act (act_in k act at) in
         record { row = its.row; here = its.job; load = its.load; station = its.station; stands = stands k act at its.row its.job its.load its.station act.kind (is_finished act.status) refl refl }
 
   -- ---- what a vehicle may carry
@@ -130,7 +131,7 @@ module _ {seats : ℕ} (laws : StopLaws) (world : World) (vehicles : HasLawfulVe
       of_trip vehicle None known none = add_none _ _ _ (on_vehicle_is world key) (loads.idle key vehicle known none)
       of_trip vehicle (Some trip) known is_open =
           let has : HasTrip world key trip = (vehicle, known, is_open) in
-          let alike = within_capacity_alike world.places world.jobs key laws loads.one_job (λ job row at. (loads.jobs job row at).load) trip.acts (fits key trip has) (carried_act key trip has) in
+          let alike = within_capacity_alike world.places world.jobs key laws loads.joined.one_job (λ job row at. (loads.jobs job row at).load) trip.acts (fits key trip has) (carried_act key trip has) in
           subst (λ n. n ≤ vehicle.row.capacity) alike (loads.within_capacity key vehicle trip known is_open)
 
       of_vehicle : (found : Option Vehicle) → finite.get world.vehicles key ≡ found → loads_on_vehicle world.places key + to_pick (action_views_for (finite.get world.vehicles key)) ≤ capacity_for (finite.get world.vehicles key)
@@ -144,7 +145,7 @@ module _ {seats : ℕ} (laws : StopLaws) (world : World) (vehicles : HasLawfulVe
 
   carried_on : (job : List ℕ) (row : JobRow) → IsJob world job row → row.phase ≡ phase.Riding → IsCarriedOn (action_views_of world) job
   carried_on job row known on =
-      let its = (loads.riding job row known).0 on in
+      let its = (loads.joined.riding job row known).0 on in
       let at = action_view_of world its.key its.trip its.act its.has in
       record { key = its.key; k = at.0; action_view = action_view its.act; here = at.1; drop = its.drop; of_job = its.of_job; undone = its.undone }
 
@@ -152,7 +153,7 @@ module _ {seats : ℕ} (laws : StopLaws) (world : World) (vehicles : HasLawfulVe
   once one other i k its more at by same =
       let of = of_act world one i its at in
       let too = of_act world other k more by in
-      let vehicle : one ≡ other = loads.one_vehicle one other of.trip too.trip of.act too.act (has_act world one i its of) (has_act world other k more too)
+      let vehicle : one ≡ other = loads.joined.one_vehicle one other of.trip too.trip of.act too.act (has_act world one i its of) (has_act world other k more too)
       (ap (λ (e : ActionView). e.job) of.is ∙ same ∙ sym (ap (λ (e : ActionView). e.job) too.is)) in (
         vehicle,
         λ kind.
@@ -171,10 +172,10 @@ module _ {seats : ℕ} (laws : StopLaws) (world : World) (vehicles : HasLawfulVe
     jobs_named = loads.jobs_named;
     known_places = λ load where_is at. known_place_of where_is (loads.places load where_is at);
     known = λ job row at. let its = loads.jobs job row at in record { load = its.load; origin = its.origin; target = its.target };
-    room = λ station site known. roomy _ _ _ _ _ (stored_is world station) (reserved_is world station) (loads.room station site known);
+    room = λ station site known. roomy _ _ _ _ _ (stored_is world station) (reserved_is world station) (loads.room.room station site known);
     within_capacity = within_capacity;
-    one_job = loads.one_job;
-    waiting = loads.waiting;
+    one_job = loads.joined.one_job;
+    waiting = loads.joined.waiting;
     riding = carried_on;
     carried = carried;
     once = once;

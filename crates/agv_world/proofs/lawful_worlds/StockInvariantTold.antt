@@ -17,7 +17,8 @@ use Rattle.agv_stock.specs.declared.place.Place.TheVariants as place
 use Rattle.agv_world.specs.Questions.{loads_on_vehicle}
 use Rattle.agv_world.specs.StockInvariant.{ActionView, HasStockInvariant, IsCarried, IsKnownPlace, Places, ActStands, capacity_for, to_pick, action_view, action_views, action_views_by, action_views_for, action_views_of}
 use Rattle.agv_world.specs.ConsistentTrips.{HasTrip, IsVehicle}
-use Rattle.agv_world.specs.Lawful.{HasAct, HasLawfulLoads, HasLawfulVehicles, IsJob, IsPlaceIn, IsToDrop, carried_at, is_to_drop, other_loads, station_for}
+use Rattle.agv_world.specs.Lawful.{HasAct, IsJob, IsPlaceIn, IsToDrop, carried_at, is_to_drop, other_loads, station_for}
+use Rattle.agv_world.specs.LawfulParts.{HasLawfulLoads, HasLawfulVehicles}
 use Rattle.agv_world.specs.Worlds.{Vehicle, World}
 use Rattle.agv_world.specs.declared.row.JobRow.{JobRow}
 use Rattle.agv_world.proofs.lawful_worlds.ActPlaces.{mapped_at, stops_of}
@@ -130,19 +131,21 @@ module _ {seats : ℕ} (laws : StopLaws) (world : World) (vehicles : HasLawfulVe
     jobs_named = stock.jobs_named;
     places = λ load where_is at. place_in load where_is at (stock.known_places load where_is at);
     jobs = λ job row at. let its = stock.known job row at in record { load = its.load; origin = its.origin; target = its.target };
-    room = λ station site known. roomy _ _ _ _ _ (stored_is world station) (reserved_is world station) (stock.room station site known);
+    room = record { room = λ station site known. roomy _ _ _ _ _ (stored_is world station) (reserved_is world station) (stock.room station site known) };
     idle = λ key vehicle known none. subst (λ n. n ≤ vehicle.row.capacity) (sym (on_vehicle_is world key)) (idle _ _ _ (ap (λ trip. to_pick (action_views_by trip)) none) (capacity_by key vehicle known));
     within_capacity = within_capacity;
-    one_job = stock.one_job;
-    riding = λ job row known. (to_drop job row known, rides job row known);
-    done = λ key trip act row has kind finished job. (phase_of key trip act row has kind job).1 finished;
-    one_vehicle = λ one other trip further act more has too same.
-        let at = action_view_of world one trip act has in
-        let by = action_view_of world other further more too in
-        (stock.once one other at.0 by.0 (action_view act) (action_view more) at.1 by.1 same).0;
-    waiting = stock.waiting;
-    carried = pick_at;
-    acts = λ key trip act has. let its = carried_act key trip act has in record { row = its.row; job = its.here; load = its.load; station = its.station };
+    joined = record {
+      one_job = stock.one_job;
+      riding = λ job row known. (to_drop job row known, rides job row known);
+      done = λ key trip act row has kind finished job. (phase_of key trip act row has kind job).1 finished;
+      one_vehicle = λ one other trip further act more has too same.
+          let at = action_view_of world one trip act has in
+          let by = action_view_of world other further more too in
+          (stock.once one other at.0 by.0 (action_view act) (action_view more) at.1 by.1 same).0;
+      waiting = stock.waiting;
+      carried = pick_at;
+      acts = λ key trip act has. let its = carried_act key trip act has in record { row = its.row; job = its.here; load = its.load; station = its.station };
+    };
   }
     where
       idle : (n d c : ℕ) → d ≡ 0 → n + d ≤ c → n ≤ c

@@ -3,13 +3,15 @@ use Rattle.std.proofs.Common.{◌≡◌, ◌↔◌, ℕ, ◌&&◌, true, sym, su
 use Rattle.std.proofs.lemmas.Bool.{and_from, and_parts}
 use Rattle.std.specs.Prelude.{IfOk, Result, Ok, Err}
 use Rattle.agv_world.specs.Kept.{Keeps}
-use Rattle.agv_world.specs.Lawful.{HasLawfulVehicles, IsLawful}
+use Rattle.agv_world.specs.Lawful.{IsLawful}
+use Rattle.agv_world.specs.LawfulParts.{HasLawfulVehicles}
 use Rattle.agv_world.specs.LawfulTests.{are_lawful_vehicles}
 use Rattle.agv_world.specs.LoadTests.{are_lawful_loads}
 use Rattle.agv_world.specs.Told.{world_of}
 use Rattle.agv_world.specs.Values.{HasValues}
 use Rattle.agv_world.specs.Worlds.{World}
 use Rattle.agv_world.specs.declared.world.World.{World as Tables}
+use Rattle.agv_world.proofs.LawfulInParts.{lawful_by, loads_of, vehicles_of}
 use Rattle.agv_world.proofs.load_tests.LoadsTold.{AreNamed, loads_tested}
 
 -- the tables are those of a lawful world
@@ -27,11 +29,11 @@ lawful_told seats tables values tests =
       λ passed.
           let parts = and_parts _ _ passed in
           let told = tests.told parts.0 in
-          (world_of tables, told.0, record { vehicles = told.1; loads = (loads_tested {seats = seats} tables told.0 told.1 named).0 parts.1 }),
+          (world_of tables, told.0, lawful_by told.1 ((loads_tested {seats = seats} tables told.0 told.1 named).0 parts.1)),
       λ is.
-          let same = tests.again is.0 is.1 is.2.vehicles in
+          let same = tests.again is.0 is.1 (vehicles_of is.2) in
           let lawful = subst (IsLawful seats) (sym same.0) is.2 in
-          and_from _ _ same.1 ((loads_tested {seats = seats} tables (subst (Keeps tables) (sym same.0) is.1) lawful.vehicles named).1 lawful.loads),
+          and_from _ _ same.1 ((loads_tested {seats = seats} tables (subst (Keeps tables) (sym same.0) is.1) (vehicles_of lawful) named).1 (loads_of lawful)),
     )
 
 -- what follows of what is returned holds of it too

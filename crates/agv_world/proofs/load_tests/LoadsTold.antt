@@ -11,7 +11,8 @@ use Rattle.agv_stock.specs.Phase.{is_live}
 use Rattle.agv_stock.specs.declared.place.Place.{Place}
 use Rattle.agv_world.specs.ConsistentTrips.{HasConsistentTrips}
 use Rattle.agv_world.specs.Kept.{Keeps}
-use Rattle.agv_world.specs.Lawful.{HasAct, HasLawfulLoads, HasLawfulVehicles, IsJob, carried_at}
+use Rattle.agv_world.specs.Lawful.{HasAct, IsJob, carried_at}
+use Rattle.agv_world.specs.LawfulParts.{HasLawfulLoads, HasLawfulVehicles}
 use Rattle.agv_world.specs.LoadTests.{are_acts, are_jobs, are_jobs_apart, are_within_capacity, are_lawful_loads, are_loads_few, are_places, has_one_job_each, have_room}
 use Rattle.agv_world.specs.Told.{world_of}
 use Rattle.agv_world.specs.declared.row.JobRow.{JobRow}
@@ -80,46 +81,48 @@ module _ {seats : ℕ} (tables : Tables) (keeps : Keeps tables (world_of tables)
         jobs_named = named.jobs;
         places = places;
         jobs = jobs.known;
-        room = (room_told tables vehicles).0 its.room;
+        room = record { room = (room_told tables vehicles).0 its.room };
         idle = within_capacity.idle;
         within_capacity = within_capacity.within_capacity;
-        one_job = (one_job_told tables).0 its.one_job;
-        riding = λ job row known. (
-          (jobs.phases job row known).riding,
-          λ to_drop.
-              let fit = acts to_drop.key to_drop.trip to_drop.act to_drop.has in
-              ap (λ (r : JobRow). r.phase) (same_Some row fit.row (sym known ∙ ap (get tables.jobs) (sym to_drop.of_job) ∙ fit.job)) ∙ fit.acted.to_drop to_drop.drop to_drop.undone,
-        );
-        done = λ key trip act row has kind finished job. ap (λ (r : JobRow). r.phase) (sym (fits key trip act has row job)) ∙ (acts key trip act has).acted.dropped kind finished;
-        one_vehicle = (jobs_apart_told tables keeps good).0 its.apart;
-        waiting = λ job row known. (jobs.phases job row known).waiting;
-        carried = λ key trip act row has kind job live.
-            let same = fits key trip act has row job in
-            subst (λ (r : JobRow). get tables.loads r.load ≡ Some (carried_at key r.origin (is_finished act.status))) same ((acts key trip act has).acted.pick kind (ap (λ (r : JobRow). is_live r.phase) same ∙ live));
-        acts = λ key trip act has. let fit = acts key trip act has in record { row = fit.row; job = fit.job; load = fit.load; station = fit.station };
+        joined = record {
+          one_job = (one_job_told tables).0 its.one_job;
+          riding = λ job row known. (
+            (jobs.phases job row known).riding,
+            λ to_drop.
+                let fit = acts to_drop.key to_drop.trip to_drop.act to_drop.has in
+                ap (λ (r : JobRow). r.phase) (same_Some row fit.row (sym known ∙ ap (get tables.jobs) (sym to_drop.of_job) ∙ fit.job)) ∙ fit.acted.to_drop to_drop.drop to_drop.undone,
+          );
+          done = λ key trip act row has kind finished job. ap (λ (r : JobRow). r.phase) (sym (fits key trip act has row job)) ∙ (acts key trip act has).acted.dropped kind finished;
+          one_vehicle = (jobs_apart_told tables keeps good).0 its.apart;
+          waiting = λ job row known. (jobs.phases job row known).waiting;
+          carried = λ key trip act row has kind job live.
+              let same = fits key trip act has row job in
+              subst (λ (r : JobRow). get tables.loads r.load ≡ Some (carried_at key r.origin (is_finished act.status))) same ((acts key trip act has).acted.pick kind (ap (λ (r : JobRow). is_live r.phase) same ∙ live));
+          acts = λ key trip act has. let fit = acts key trip act has in record { row = fit.row; job = fit.job; load = fit.load; station = fit.station };
+        };
       }
 
   tests : HasLawfulLoads (world_of tables) → Passed tables
   tests loads = record {
     few = (few_told tables).1 (loads.few_loads, loads.few_jobs);
     places = (places_told tables).1 loads.places;
-    jobs = (jobs_told tables keeps good).1 (record { known = loads.jobs; phases = λ job row known. record { waiting = loads.waiting job row known; riding = (loads.riding job row known).0 } });
-    one_job = (one_job_told tables).1 loads.one_job;
+    jobs = (jobs_told tables keeps good).1 (record { known = loads.jobs; phases = λ job row known. record { waiting = loads.joined.waiting job row known; riding = (loads.joined.riding job row known).0 } });
+    one_job = (one_job_told tables).1 loads.joined.one_job;
     acts = (acts_told tables keeps good).1 (λ key trip act has.
-        let its = loads.acts key trip act has in
+        let its = loads.joined.acts key trip act has in
         record {
           row = its.row;
           job = its.job;
           load = its.load;
           station = its.station;
           acted = record {
-            pick = λ kind live. loads.carried key trip act its.row has kind its.job live;
-            to_drop = λ kind unfinished. (loads.riding act.job its.row its.job).1 (record { key = key; trip = trip; act = act; has = has; drop = kind; of_job = refl; undone = unfinished });
-            dropped = λ kind finished. loads.done key trip act its.row has kind finished its.job;
+            pick = λ kind live. loads.joined.carried key trip act its.row has kind its.job live;
+            to_drop = λ kind unfinished. (loads.joined.riding act.job its.row its.job).1 (record { key = key; trip = trip; act = act; has = has; drop = kind; of_job = refl; undone = unfinished });
+            dropped = λ kind finished. loads.joined.done key trip act its.row has kind finished its.job;
           };
         });
-    apart = (jobs_apart_told tables keeps good).1 loads.one_vehicle;
-    room = (room_told tables vehicles).1 loads.room;
+    apart = (jobs_apart_told tables keeps good).1 loads.joined.one_vehicle;
+    room = (room_told tables vehicles).1 loads.room.room;
     within_capacity = (within_capacity_told tables).1 (record { idle = loads.idle; within_capacity = loads.within_capacity });
   }
 

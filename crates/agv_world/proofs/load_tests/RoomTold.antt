@@ -15,7 +15,7 @@ use Rattle.agv_stock.specs.Rooms.{is_at}
 use Rattle.agv_stock.specs.declared.place.Place.{Place}
 use Rattle.agv_stock.specs.declared.place.Place.TheVariants as place
 use Rattle.agv_world.specs.StockInvariant.{stored}
-use Rattle.agv_world.specs.Lawful.{HasLawfulVehicles}
+use Rattle.agv_world.specs.LawfulParts.{HasLawfulVehicles}
 use Rattle.agv_world.specs.LoadTests.{Tally, have_room, one_on, tallied, tally_of, with_job, with_jobs, with_loads, with_one, with_place}
 use Rattle.agv_world.specs.Questions.{is_live_to, loads_at, reserved, reserved_by}
 use Rattle.agv_world.specs.Told.{world_of}

@@ -10,7 +10,8 @@ use Rattle.agv_order.specs.declared.act.Act.{Act}
 use Rattle.agv_order.specs.declared.trip.Trip.{Trip}
 use Rattle.agv_world.specs.ConsistentTrips.{HasTrip, HasConsistentTrips, IsVehicle}
 use Rattle.agv_world.specs.Kept.{Keeps}
-use Rattle.agv_world.specs.Lawful.{HasAct, HasLawfulVehicles}
+use Rattle.agv_world.specs.Lawful.{HasAct}
+use Rattle.agv_world.specs.LawfulParts.{HasLawfulVehicles}
 use Rattle.agv_world.specs.Rows.{rows_of_trip, trip_row}
 use Rattle.agv_world.specs.Told.{open_trip, vehicle_in, world_of}
 use Rattle.agv_world.specs.Worlds.{Vehicle, World}

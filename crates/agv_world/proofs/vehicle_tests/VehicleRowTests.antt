@@ -5,7 +5,8 @@ use Rattle.std.specs.FinMap as finite
 use Rattle.std.specs.Option.{is_none}
 use Rattle.agv_layout.specs.declared.edge.EdgeEnds.{EdgeEnds}
 use Rattle.agv_message.specs.declared.instant.InstantKind.{InstantKind}
-use Rattle.agv_world.specs.Lawful.{IsRestAt, IsSent, IsVehicleOf}
+use Rattle.agv_world.specs.Lawful.{IsRestAt, IsSent}
+use Rattle.agv_world.specs.LawfulParts.{IsVehicleOf}
 use Rattle.agv_world.specs.LawfulTests.{is_counted, is_rest, is_vehicle_row, leads_so}
 use Rattle.agv_world.specs.Told.{layout_of_tables}
 use Rattle.agv_world.specs.Values.{IsSentValue, IsVehicleValue}

@@ -12,7 +12,8 @@ use Rattle.agv_order.specs.WellFormed.{IsWellFormed}
 use Rattle.agv_order.specs.declared.trip.Trip.{Trip}
 use Rattle.agv_world.specs.ConsistentTrips.{HasTrip, IsVehicle}
 use Rattle.agv_world.specs.Kept.{Keeps}
-use Rattle.agv_world.specs.Lawful.{HasLawfulVehicles, IsTripOf, IsVehicleOf, picks}
+use Rattle.agv_world.specs.Lawful.{picks}
+use Rattle.agv_world.specs.LawfulParts.{HasLawfulVehicles, IsTripOf, IsVehicleOf}
 use Rattle.agv_world.specs.LawfulTests.{are_apart, are_few, are_fit, are_lawful_vehicles, are_legs, are_trips, are_vehicles, is_trip_of_row, is_laid, is_name_of, is_vehicle_row}
 use Rattle.agv_world.specs.Told.{layout_of_tables, names_of, trip_in, world_of}
 use Rattle.agv_world.specs.Values.{HasValues}

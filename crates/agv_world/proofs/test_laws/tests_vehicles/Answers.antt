@@ -1,6 +1,6 @@
 use Rattle.std.proofs.Common.{subst, sym}
 use Rattle.agv_world.specs.Kept.{Keeps}
-use Rattle.agv_world.specs.Lawful.{HasLawfulVehicles}
+use Rattle.agv_world.specs.LawfulParts.{HasLawfulVehicles}
 use Rattle.agv_world.proofs.vehicle_tests.FitTests.{Below}
 use Rattle.agv_world.proofs.vehicle_tests.VehicleTests.{each_passed, kept, lawful_vehicles}
 use Rattle.agv_world.proofs.vehicle_tests.LawfulVehiclesPass.{told_again, vehicles_again}
