@@ -8,6 +8,7 @@ pub mod ActSteps
 pub mod InstantSteps
 pub mod VehicleSteps
 pub mod OrderSteps
+pub mod OrderParts
 pub mod StateSteps
 pub mod StocktakeSteps
 pub mod Causes

@@ -89,49 +89,42 @@ sent_on row at number trip = record { row = record row { orders = record { count
 
 -- ---- a new order
 
--- the order is sent with this trip: its jobs ride, and its name is used
-abbrev pub order_sent : ℕ → List ℕ → VehicleKey → VehicleRow → List Stop → List Job → Option Trip → ℕ → Effect
-order_sent at order key row stops jobs trip number = record (answer_only (answer.Update 0)) {
-  touched = Whole key (Some (record { row = row; trip = None })) (sent_on row at number trip);
-  jobs = riding stops jobs;
-  uses = record { kind = used.Order; name = order } ∷ [];
+-- what POST /orders asks for: the order's name, the vehicle that is to get it, its stops, and how many edges are released; and the moment of the call
+pub record AskedOrder : Type 0 where
+  pub at : ℕ
+  pub order : List ℕ
+  pub key : VehicleKey
+  pub stops : List Stop
+  pub edges : ℕ
+
+-- the order is sent with this trip to the vehicle of this row: its jobs ride, and its name is used
+abbrev pub order_sent : AskedOrder → VehicleRow → List Job → Option Trip → ℕ → Effect
+order_sent asked row jobs trip number = record (answer_only (answer.Update 0)) {
+  touched = Whole asked.key (Some (record { row = row; trip = None })) (sent_on row asked.at number trip);
+  jobs = riding asked.stops jobs;
+  uses = record { kind = used.Order; name = asked.order } ∷ [];
 }
 
--- it is sent, where what it is to hold is free: Held, Spent, Limit
-abbrev pub send_trip : World → ℕ → List ℕ → VehicleKey → VehicleRow → List Stop → List Job → Trip → Outcome
-send_trip world at order key row stops jobs trip =
-    if_free world key (footprint_of (record { node = row.node; rest = row.rest; trip = Some trip }))
-    (refuse_if_none (next_number row.orders.count) refusal.Spent (λ number.
-    refuse_unless (nat_lt (count_of world counted.Orders) most_records) refusal.Limit
-    (Made (order_sent at order key row stops jobs (Some trip) number))))
-
--- its trip is planned: NoWalk, TooLong or Beyond; then as above
-abbrev pub send_order : World → ℕ → List ℕ → VehicleKey → VehicleRow → List Stop → List Job → ℕ → Outcome
-send_order world at order key row stops jobs edges =
-    refuse_if_none (layout_set world) refusal.NoWalk (λ layout.
-    if_planned (planned layout key jobs stops order row.node edges)
-    (send_trip world at order key row stops jobs))
-
--- the vehicle can take it: OrderKnown where it reports this name, JobState where a job does not wait, Busy, Astray, Loaded, NotReady, InstantPending where a cancelOrder is pending; then as above
-abbrev pub take_order : World → ℕ → List ℕ → VehicleKey → VehicleRow → List Stop → List Job → ℕ → Outcome
-take_order world at order key row stops jobs edges =
-    refuse_unless (not (is_reported row.reported order)) refusal.OrderKnown
+-- POST /orders; where the trip is planned, NoWalk, TooLong or Beyond, and then Held where what it is to hold is not free
+abbrev pub start_order : World → AskedOrder → Outcome
+start_order world asked =
+    refuse_unless (not (is_used world used.Order asked.order)) refusal.Exists
+    (refuse_if_none (row_of world asked.key) refusal.NoVehicle (λ row.
+    refuse_unless (stops_fit asked.stops) refusal.BadStops
+    (refuse_if_none (jobs_for world asked.stops) refusal.NoJob (λ jobs.
+    refuse_unless (not (is_reported row.reported asked.order)) refusal.OrderKnown
     (refuse_unless (list_all waits jobs) refusal.JobState
-    (refuse_unless (is_none (trip_of world key)) refusal.Busy
+    (refuse_unless (is_none (trip_of world asked.key)) refusal.Busy
     (refuse_unless (is_none row.rest) refusal.Astray
-    (refuse_unless (nat_le (loads_on world key + count_by is_pick stops) row.capacity) refusal.Loaded
+    (refuse_unless (nat_le (loads_on world asked.key + count_by is_pick asked.stops) row.capacity) refusal.Loaded
     (refuse_unless row.ready refusal.NotReady
     (refuse_unless (not (is_cancelling row.pending)) refusal.InstantPending
-    (send_order world at order key row stops jobs edges)))))))
-
--- POST /orders: Exists where the order's name was used, NoVehicle, BadStops, NoJob; then as above
-abbrev pub start_order : World → ℕ → List ℕ → VehicleKey → List Stop → ℕ → Outcome
-start_order world at order key stops edges =
-    refuse_unless (not (is_used world used.Order order)) refusal.Exists
-    (refuse_if_none (row_of world key) refusal.NoVehicle (λ row.
-    refuse_unless (stops_fit stops) refusal.BadStops
-    (refuse_if_none (jobs_for world stops) refusal.NoJob (λ jobs.
-    take_order world at order key row stops jobs edges))))
+    (refuse_if_none (layout_set world) refusal.NoWalk (λ layout.
+    if_planned (planned layout asked.key jobs asked.stops asked.order row.node asked.edges) (λ trip.
+    if_free world asked.key (footprint_of (record { node = row.node; rest = row.rest; trip = Some trip }))
+    (refuse_if_none (next_number row.orders.count) refusal.Spent (λ number.
+    refuse_unless (nat_lt (count_of world counted.Orders) most_records) refusal.Limit
+    (Made (order_sent asked row jobs (Some trip) number)))))))))))))))))
 
 -- ---- an update
 

@@ -25,7 +25,7 @@ step seats world at (call.CorrectLoad load reference station) = correct_load wor
 step seats world at (call.LeaveLoad load reference) = leave_load world load reference
 step seats world at (call.AddJob job load to) = add_job world job load to
 step seats world at (call.StopJob job) = stop_job world job
-step seats world at (call.StartOrder order key stops edges) = start_order world at order key stops edges
+step seats world at (call.StartOrder order key stops edges) = start_order world (record { at = at; order = order; key = key; stops = stops; edges = edges })
 step seats world at (call.Advance key order update edges) = advance world at key order update edges
 step seats world at (call.Cancel key) = cancel world at key
 step seats world at (call.Pause key) = pause world at key

@@ -77,7 +77,7 @@ module _ (advances : AdvancesTrips) (fits : FitsAsSaid) (seats : ℕ) (world : W
   goes_along at (call.LeaveLoad load reference) = lets_load_leave world _ load reference
   goes_along at (call.AddJob job load to) = adds_job world _ job load to
   goes_along at (call.StopJob job) = stops_job world _ job
-  goes_along at (call.StartOrder order key stops edges) = starts_order world _ at order key stops edges
+  goes_along at (call.StartOrder order key stops edges) = starts_order world _ (record { at = at; order = order; key = key; stops = stops; edges = edges })
   goes_along at (call.Advance key order update edges) = advances_trip world _ at key order update edges
   goes_along at (call.Cancel key) = cancels world _ at key
   goes_along at (call.Pause key) = pauses world _ at key

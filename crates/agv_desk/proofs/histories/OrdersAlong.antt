@@ -5,14 +5,14 @@ use Rattle.std.specs.FinSet as set
 use Rattle.agv_header.specs.declared.key.VehicleKey.{VehicleKey}
 use Rattle.agv_order.specs.Releases.{released}
 use Rattle.agv_order.specs.declared.fault.PlanFault.{PlanFault}
-use Rattle.agv_order.specs.declared.stop.Stop.{Stop}
 use Rattle.agv_order.specs.declared.trip.Trip.{Trip}
 use Rattle.agv_stock.specs.declared.job.Job.{Job}
 use Rattle.agv_world.specs.Questions.{row_of, trip_of, is_used}
 use Rattle.agv_world.specs.Worlds.{World}
 use Rattle.agv_world.specs.declared.key.UseKind.TheVariants as used
 use Rattle.agv_world.specs.declared.row.VehicleRow.{VehicleRow}
-use Rattle.agv_desk.specs.OrderSteps.{if_planned, send_trip, start_order, trip_for, send_update, advance}
+use Rattle.agv_desk.specs.OrderParts.{send_trip}
+use Rattle.agv_desk.specs.OrderSteps.{AskedOrder, if_planned, start_order, trip_for, send_update, advance}
 use Rattle.agv_desk.specs.Outcomes.{Effect, Outcome}
 use Rattle.agv_desk.proofs.histories.GoingAlong.{GoesAlong, RowGoesOn}
 use Rattle.agv_desk.proofs.outcomes.Keeping.{Continues}
@@ -54,19 +54,19 @@ module _ (world : World) (forgets : VehicleKey → Type 0) where
   unfolding is_used
   unused_order order unused = unused
 
-  sends_trip : (at : ℕ) (order : List ℕ) (key : VehicleKey) (row : VehicleRow) (stops : List Stop) (jobs : List Job) (trip : Trip)
-      → is_used world used.Order order ≡ false → row_of world key ≡ Some row → trip.order ≡ order → IfMade P (send_trip world at order key row stops jobs trip)
-  sends_trip at order key row stops jobs trip unused there named =
+  sends_trip : (asked : AskedOrder) (row : VehicleRow) (jobs : List Job) (trip : Trip)
+      → is_used world used.Order asked.order ≡ false → row_of world asked.key ≡ Some row → trip.order ≡ asked.order → IfMade P (send_trip world asked row jobs trip)
+  sends_trip asked row jobs trip unused there named =
       made_unheld P _ _ (λ opened. made_found P _ _ _ (λ number next. made_require P _ _ _ (λ few.
-      puts_known world forgets _ key _ _ row refl (record { once = λ kind order job. inl refl }) there (message_sent (forgets key) row at number)
-      (λ new same. inr (ap (λ (one : Trip). set.contains world.orders one.order) (sym (same_some same)) ∙ ap (set.contains world.orders) named ∙ unused_order order unused)))))
+      puts_known world forgets _ asked.key _ _ row refl (record { once = λ kind order job. inl refl }) there (message_sent (forgets asked.key) row asked.at number)
+      (λ new same. inr (ap (λ (one : Trip). set.contains world.orders one.order) (sym (same_some same)) ∙ ap (set.contains world.orders) named ∙ unused_order asked.order unused)))))
 
-  pub starts_order : (at : ℕ) (order : List ℕ) (key : VehicleKey) (stops : List Stop) (edges : ℕ) → IfMade P (start_order world at order key stops edges)
-  starts_order at order key stops edges =
+  pub starts_order : (asked : AskedOrder) → IfMade P (start_order world asked)
+  starts_order asked =
       made_require P _ _ _ (λ unused. made_found P _ _ _ (λ row there. made_require P _ _ _ (λ fit. made_found P _ _ _ (λ jobs are.
       made_require P _ _ _ (λ a. made_require P _ _ _ (λ b. made_require P _ _ _ (λ idle. made_require P _ _ _ (λ c. made_require P _ _ _ (λ d. made_require P _ _ _ (λ e. made_require P _ _ _ (λ f.
       made_found P _ _ _ (λ layout is_set. made_by_plan P _ _ (λ trip is_plan.
-      sends_trip at order key row stops jobs trip (not_true _ unused) there (plan_of_order layout key jobs stops order row.node edges trip is_plan))))))))))))))
+      sends_trip asked row jobs trip (not_true _ unused) there (plan_of_order layout asked.key jobs asked.stops asked.order row.node asked.edges trip is_plan))))))))))))))
 
   sends_update : (at : ℕ) (key : VehicleKey) (row : VehicleRow) (trip : Trip) (update edges : ℕ) → row_of world key ≡ Some row → trip_of world key ≡ Some trip
       → IfMade P (send_update world at key row trip update edges)

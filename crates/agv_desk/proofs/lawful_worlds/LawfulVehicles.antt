@@ -24,7 +24,7 @@ module _ (given : Given) (more : GivenMore) (seats : ℕ) (world : World) (lawfu
   keeps_vehicles at (call.LeaveLoad load reference) is_seats moment typed = lets_load_leave given more seats world lawful load reference typed
   keeps_vehicles at (call.AddJob job load to) is_seats moment typed = adds_job given more seats world lawful job load to
   keeps_vehicles at (call.StopJob job) is_seats moment typed = stops_job given more seats world lawful job
-  keeps_vehicles at (call.StartOrder order key stops edges) is_seats moment typed = starts_order given more seats world lawful at order key stops edges is_seats moment typed
+  keeps_vehicles at (call.StartOrder order key stops edges) is_seats moment typed = starts_order given more seats world lawful (record { at = at; order = order; key = key; stops = stops; edges = edges }) is_seats moment typed
   keeps_vehicles at (call.Advance key order update edges) is_seats moment typed = advances_trip given more seats world lawful at key order update edges moment
   keeps_vehicles at (call.Cancel key) is_seats moment typed = cancels given more seats world lawful at key moment
   keeps_vehicles at (call.Pause key) is_seats moment typed = pauses given more seats world lawful at key moment

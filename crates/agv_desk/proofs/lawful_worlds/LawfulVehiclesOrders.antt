@@ -26,7 +26,8 @@ use Rattle.agv_world.specs.Worlds.{World}
 use Rattle.agv_world.specs.declared.floor.Counted.TheVariants as counted
 use Rattle.agv_world.specs.declared.key.UseKind.TheVariants as used
 use Rattle.agv_world.specs.declared.row.VehicleRow.{VehicleRow}
-use Rattle.agv_desk.specs.OrderSteps.{is_last_confirmed, can_release, sent_on, send_trip, send_order, take_order, start_order, send_update, advance}
+use Rattle.agv_desk.specs.OrderParts.{send_trip, send_order, take_order}
+use Rattle.agv_desk.specs.OrderSteps.{AskedOrder, is_last_confirmed, can_release, sent_on, start_order, send_update, advance}
 use Rattle.agv_desk.specs.Outcomes.{Effect}
 use Rattle.agv_desk.specs.WellTyped.{IsMoment, IsSeats}
 use Rattle.agv_desk.proofs.row_changes.Given.{Given}
@@ -87,67 +88,69 @@ module _ (given : Given) (more : GivenMore) (seats : ℕ) (world : World) (lawfu
   layout_is layout keeps is = same_some (sym is ∙ ap set_where (given.gives world.layout keeps))
 
   -- what is planned may be sent
-  may_be_sent : (order : List ℕ) (key : VehicleKey) (row : VehicleRow) (stops : List Stop) (jobs : List Job) (edges : ℕ) (trip : Trip)
-      → planned world.layout key jobs stops order row.node edges ≡ Ok trip → stops_fit stops ≡ true → length stops ≤ 8 → count_by is_pick stops ≤ row.capacity → row.rest ≡ None
-      → MayBeSent world.layout key row trip
-  may_be_sent order key row stops jobs edges trip plan fit few picks_fit no_rest =
-      let begun = plan_begins world.layout key jobs stops order row.node edges trip plan in
-      let goes = more.goes world.layout jobs key stops order row.node edges trip plan in
+  may_be_sent : (asked : AskedOrder) (row : VehicleRow) (jobs : List Job) (trip : Trip)
+      → planned world.layout asked.key jobs asked.stops asked.order row.node asked.edges ≡ Ok trip
+      → stops_fit asked.stops ≡ true → length asked.stops ≤ 8 → count_by is_pick asked.stops ≤ row.capacity → row.rest ≡ None
+      → MayBeSent world.layout asked.key row trip
+  may_be_sent asked row jobs trip plan fit few picks_fit no_rest =
+      let begun = plan_begins world.layout asked.key jobs asked.stops asked.order row.node asked.edges trip plan in
+      let goes = more.goes world.layout jobs asked.key asked.stops asked.order row.node asked.edges trip plan in
       record {
-        well_formed = more.plans world.layout key jobs stops order row.node edges trip fit few plan;
+        well_formed = more.plans world.layout asked.key jobs asked.stops asked.order row.node asked.edges trip fit few plan;
         own = begun.own;
-        picks_fit = subst (λ n. n ≤ row.capacity) (sym (planned_picks world.layout jobs row.node 0 stops trip.edges trip.acts goes.goes)) picks_fit;
+        picks_fit = subst (λ n. n ≤ row.capacity) (sym (planned_picks world.layout jobs row.node 0 asked.stops trip.edges trip.acts goes.goes)) picks_fit;
         stands = begun.stands;
         no_rest = no_rest;
       }
 
-  sends_trip : (at : ℕ) (order : List ℕ) (key : VehicleKey) (row : VehicleRow) (stops : List Stop) (jobs : List Job) (trip : Trip)
-      → IsMoment at → IsName order → is_used world used.Order order ≡ false → row_of world key ≡ Some row → trip_of world key ≡ None → trip.order ≡ order → MayBeSent world.layout key row trip
-      → IfMade P (send_trip world at order key row stops jobs trip)
-  sends_trip at order key row stops jobs trip moment named unused there idle of_order may =
+  sends_trip : (asked : AskedOrder) (row : VehicleRow) (jobs : List Job) (trip : Trip)
+      → IsMoment asked.at → IsName asked.order → is_used world used.Order asked.order ≡ false → row_of world asked.key ≡ Some row → trip_of world asked.key ≡ None
+      → trip.order ≡ asked.order → MayBeSent world.layout asked.key row trip
+      → IfMade P (send_trip world asked row jobs trip)
+  sends_trip asked row jobs trip moment named unused there idle of_order may =
       made_unheld P _ _ (λ opened. made_found P _ _ _ (λ number next. made_require P _ _ _ (λ few.
       let old = vehicle_with row None in
-      let new = sent_on row at number (Some trip) in
-      let is : IsVehicle world key old = known world key row there ∙ ap (λ trip. Some (vehicle_with row trip)) idle in
-      let noted = with_use world used.Order order in
-      let kept = uses_order seats world lawful order (few_orders world few) named in
-      let noted_now = subst (λ name. set.contains noted.orders name ≡ true) (sym of_order) (used_now world.orders order) in
-      let sent = is_sent_on world.layout key row at number trip may (some_sent row.orders number next) in
-      let written = writes seats noted kept key new (record {
-        few = as_many_vehicles world key old new is lawful.few_vehicles;
-        named = lawful.vehicles_named key old is;
-        vehicle = ordered_row seats world.layout row (lawful.vehicles key old is) number at (Some trip) next moment;
-        trip = λ other e. subst (λ (t : Trip). IsTripOf world.layout key new.row t × (set.contains noted.orders t.order ≡ true)) (same_some e) (sent, noted_now);
-        one_trip = given.new_trip world key new lawful.one_trip trip refl (fresh given world (is_in_order seats world lawful) order trip unused of_order);
-        apart = given.by_claim world key new lawful.apart opened;
+      let new = sent_on row asked.at number (Some trip) in
+      let is : IsVehicle world asked.key old = known world asked.key row there ∙ ap (λ trip. Some (vehicle_with row trip)) idle in
+      let noted = with_use world used.Order asked.order in
+      let kept = uses_order seats world lawful asked.order (few_orders world few) named in
+      let noted_now = subst (λ name. set.contains noted.orders name ≡ true) (sym of_order) (used_now world.orders asked.order) in
+      let sent = is_sent_on world.layout asked.key row asked.at number trip may (some_sent row.orders number next) in
+      let written = writes seats noted kept asked.key new (record {
+        few = as_many_vehicles world asked.key old new is lawful.few_vehicles;
+        named = lawful.vehicles_named asked.key old is;
+        vehicle = ordered_row seats world.layout row (lawful.vehicles asked.key old is) number asked.at (Some trip) next moment;
+        trip = λ other e. subst (λ (t : Trip). IsTripOf world.layout asked.key new.row t × (set.contains noted.orders t.order ≡ true)) (same_some e) (sent, noted_now);
+        one_trip = given.new_trip world asked.key new lawful.one_trip trip refl (fresh given world (is_in_order seats world lawful) asked.order trip unused of_order);
+        apart = given.by_claim world asked.key new lawful.apart opened;
       }) in
-      record { vehicles = moves_loads seats (with_vehicle noted key new) written _ _ })))
+      record { vehicles = moves_loads seats (with_vehicle noted asked.key new) written _ _ })))
 
-  sends_order : (at : ℕ) (order : List ℕ) (key : VehicleKey) (row : VehicleRow) (stops : List Stop) (jobs : List Job) (edges : ℕ)
-      → IsMoment at → IsName order → is_used world used.Order order ≡ false → row_of world key ≡ Some row → trip_of world key ≡ None
-      → stops_fit stops ≡ true → length stops ≤ 8 → count_by is_pick stops ≤ row.capacity → row.rest ≡ None
-      → IfMade P (send_order world at order key row stops jobs edges)
-  sends_order at order key row stops jobs edges moment named unused there idle fit few picks_fit no_rest =
+  sends_order : (asked : AskedOrder) (row : VehicleRow) (jobs : List Job)
+      → IsMoment asked.at → IsName asked.order → is_used world used.Order asked.order ≡ false → row_of world asked.key ≡ Some row → trip_of world asked.key ≡ None
+      → stops_fit asked.stops ≡ true → length asked.stops ≤ 8 → count_by is_pick asked.stops ≤ row.capacity → row.rest ≡ None
+      → IfMade P (send_order world asked row jobs)
+  sends_order asked row jobs moment named unused there idle fit few picks_fit no_rest =
       made_found P _ _ _ (λ layout is_set. made_planned P _ _ (λ trip is_plan.
-      let keeps = keeps_rules seats world lawful key (vehicle_with row (trip_of world key)) (known world key row there) in
-      let plan = subst (λ layout. planned layout key jobs stops order row.node edges ≡ Ok trip) (layout_is layout keeps is_set) is_plan in
-      sends_trip at order key row stops jobs trip moment named unused there idle (plan_of_order layout key jobs stops order row.node edges trip is_plan)
-      (may_be_sent order key row stops jobs edges trip plan fit few picks_fit no_rest)))
+      let keeps = keeps_rules seats world lawful asked.key (vehicle_with row (trip_of world asked.key)) (known world asked.key row there) in
+      let plan = subst (λ layout. planned layout asked.key jobs asked.stops asked.order row.node asked.edges ≡ Ok trip) (layout_is layout keeps is_set) is_plan in
+      sends_trip asked row jobs trip moment named unused there idle (plan_of_order layout asked.key jobs asked.stops asked.order row.node asked.edges trip is_plan)
+      (may_be_sent asked row jobs trip plan fit few picks_fit no_rest)))
 
-  takes_order : (at : ℕ) (order : List ℕ) (key : VehicleKey) (row : VehicleRow) (stops : List Stop) (jobs : List Job) (edges : ℕ)
-      → IsSeats seats → IsMoment at → IsName order → is_used world used.Order order ≡ false → row_of world key ≡ Some row → stops_fit stops ≡ true
-      → IfMade P (take_order world at order key row stops jobs edges)
-  takes_order at order key row stops jobs edges is_seats moment named unused there fit =
+  takes_order : (asked : AskedOrder) (row : VehicleRow) (jobs : List Job)
+      → IsSeats seats → IsMoment asked.at → IsName asked.order → is_used world used.Order asked.order ≡ false → row_of world asked.key ≡ Some row → stops_fit asked.stops ≡ true
+      → IfMade P (take_order world asked row jobs)
+  takes_order asked row jobs is_seats moment named unused there fit =
       made_require P _ _ _ (λ a. made_require P _ _ _ (λ b. made_require P _ _ _ (λ idle. made_require P _ _ _ (λ astray. made_require P _ _ _ (λ within_capacity. made_require P _ _ _ (λ e. made_require P _ _ _ (λ f.
-      let fits = leb-true (loads_on world key + count_by is_pick stops) row.capacity within_capacity in
-      let places = (lawful.vehicles key (vehicle_with row (trip_of world key)) (known world key row there)).seated in
-      let few = few_stops stops (loads_on world key) row.capacity seats (more.twice stops fit) fits places is_seats.1 in
-      sends_order at order key row stops jobs edges moment named unused there (missing _ idle) fit few (omega (arith, fits)) (missing _ astray))))))))
+      let fits = leb-true (loads_on world asked.key + count_by is_pick asked.stops) row.capacity within_capacity in
+      let places = (lawful.vehicles asked.key (vehicle_with row (trip_of world asked.key)) (known world asked.key row there)).seated in
+      let few = few_stops asked.stops (loads_on world asked.key) row.capacity seats (more.twice asked.stops fit) fits places is_seats.1 in
+      sends_order asked row jobs moment named unused there (missing _ idle) fit few (omega (arith, fits)) (missing _ astray))))))))
 
-  pub starts_order : (at : ℕ) (order : List ℕ) (key : VehicleKey) (stops : List Stop) (edges : ℕ) → IsSeats seats → IsMoment at → IsName order → IfMade P (start_order world at order key stops edges)
-  starts_order at order key stops edges is_seats moment named =
+  pub starts_order : (asked : AskedOrder) → IsSeats seats → IsMoment asked.at → IsName asked.order → IfMade P (start_order world asked)
+  starts_order asked is_seats moment named =
       made_require P _ _ _ (λ unused. made_found P _ _ _ (λ row there. made_require P _ _ _ (λ fit. made_found P _ _ _ (λ jobs are.
-      takes_order at order key row stops jobs edges is_seats moment named (not_true _ unused) there fit))))
+      takes_order asked row jobs is_seats moment named (not_true _ unused) there fit))))
 
   -- ---- an update
 

@@ -8,7 +8,6 @@ use Rattle.agv_layout.specs.declared.fault.LayoutFault.{LayoutFault}
 use Rattle.agv_message.specs.declared.instant.InstantKind.{InstantKind}
 use Rattle.agv_message.specs.declared.state.StateMessage.{StateMessage}
 use Rattle.agv_order.specs.declared.fault.PlanFault.{PlanFault}
-use Rattle.agv_order.specs.declared.stop.Stop.{Stop}
 use Rattle.agv_order.specs.declared.trip.Trip.{Trip}
 use Rattle.agv_stock.specs.declared.place.Place.{Place}
 use Rattle.agv_world.specs.Worlds.{World}
@@ -17,7 +16,7 @@ use Rattle.agv_desk.specs.Causes.{is_acted, is_recorded, is_refusal, moves_for}
 use Rattle.agv_desk.specs.ActSteps.{Renewed, becomes_finished, taken_to, act_move, act_moves}
 use Rattle.agv_desk.specs.InstantSteps.{instruct}
 use Rattle.agv_desk.specs.LayoutSteps.{if_given}
-use Rattle.agv_desk.specs.OrderSteps.{if_planned, start_order, advance}
+use Rattle.agv_desk.specs.OrderSteps.{AskedOrder, if_planned, start_order, advance}
 use Rattle.agv_desk.specs.Outcomes.{Acted, Effect, Made, Move, Outcome, Refused, after, answer_of, decided, moves_of}
 use Rattle.agv_desk.specs.ReadSteps.{instant_told, order_told}
 use Rattle.agv_desk.specs.StateSteps.{idle_state, trip_state, fresh_state, take_state}
@@ -83,8 +82,8 @@ module _ (world : World) (made : Call) where
   instructs : (at : ℕ) (key : VehicleKey) (row : VehicleRow) (kind : InstantKind) → IfMade P (instruct at key row kind)
   instructs at key row kind = made_require P _ _ _ (λ a. made_found P _ _ _ (λ number b. record { answered = refl; caused = refl }))
 
-  starts : (at : ℕ) (order : List ℕ) (key : VehicleKey) (stops : List Stop) (edges : ℕ) → IfMade P (start_order world at order key stops edges)
-  starts at order key stops edges =
+  starts : (asked : AskedOrder) → IfMade P (start_order world asked)
+  starts asked =
       made_require P _ _ _ (λ a. made_found P _ _ _ (λ row b. made_require P _ _ _ (λ c. made_found P _ _ _ (λ jobs d.
       made_require P _ _ _ (λ e. made_require P _ _ _ (λ f. made_require P _ _ _ (λ g. made_require P _ _ _ (λ h. made_require P _ _ _ (λ i. made_require P _ _ _ (λ j. made_require P _ _ _ (λ k.
       made_found P _ _ _ (λ layout l. made_by_plan P _ _ (λ trip.
@@ -130,7 +129,7 @@ module _ (world : World) where
   each seats at (call.LeaveLoad load reference) = made_require (IsCaused _) _ _ _ (λ a. made_checked (IsCaused _) _ _ (made_require (IsCaused _) _ _ _ (λ b. record { answered = refl; caused = refl })))
   each seats at (call.AddJob job load to) = made_checked (IsCaused _) _ _ (made_found (IsCaused _) _ _ _ (λ origin a. made_require (IsCaused _) _ _ _ (λ b. record { answered = refl; caused = refl })))
   each seats at (call.StopJob job) = made_found (IsCaused _) _ _ _ (λ row a. made_require (IsCaused _) _ _ _ (λ b. record { answered = refl; caused = refl }))
-  each seats at (call.StartOrder order key stops edges) = starts world _ at order key stops edges
+  each seats at (call.StartOrder order key stops edges) = starts world _ (record { at = at; order = order; key = key; stops = stops; edges = edges })
   each seats at (call.Advance key order update edges) = advances world _ at key order update edges
   each seats at (call.Cancel key) = made_found (IsCaused _) _ _ _ (λ row a. made_require (IsCaused _) _ _ _ (λ b. instructs world _ at key row _))
   each seats at (call.Pause key) = made_found (IsCaused _) _ _ _ (λ row a. instructs world _ at key row _)

@@ -9,7 +9,6 @@ use Rattle.agv_layout.specs.declared.row.LayoutRow.{LayoutRow}
 use Rattle.agv_message.specs.declared.instant.InstantKind.{InstantKind}
 use Rattle.agv_message.specs.declared.state.StateMessage.{StateMessage}
 use Rattle.agv_order.specs.declared.act.Act.{Act}
-use Rattle.agv_order.specs.declared.stop.Stop.{Stop}
 use Rattle.agv_order.specs.declared.trip.Trip.{Trip}
 use Rattle.agv_world.specs.ConsistentTrips.{HasTrip}
 use Rattle.agv_world.specs.LawfulParts.{HasLawfulLoads}
@@ -26,7 +25,7 @@ use Rattle.agv_desk.specs.InstantSteps.{cancel, instruct, pause, resume}
 use Rattle.agv_desk.specs.JobSteps.{add_job, stop_job}
 use Rattle.agv_desk.specs.LayoutSteps.{set_layout}
 use Rattle.agv_desk.specs.LoadSteps.{correct_load, leave_load, place_of, register_load}
-use Rattle.agv_desk.specs.OrderSteps.{advance, start_order}
+use Rattle.agv_desk.specs.OrderSteps.{AskedOrder, advance, start_order}
 use Rattle.agv_desk.specs.Outcomes.{Effect, Made, RowOnly, Outcome, Refused, after, answer_of, answer_only, with_effect}
 use Rattle.agv_desk.specs.Shared.{goal_of, is_in_job, is_new}
 use Rattle.agv_desk.specs.StateSteps.{fresh_state, idle_state, take_state, trip_state}
@@ -173,17 +172,17 @@ module _ (world : World) where
         references = same _ _ refl;
       }))))
 
-  starts_order : (at : ℕ) (order : List ℕ) (key : VehicleKey) (stops : List Stop) (edges : ℕ) → IfMade (IsCounted world (Some counted.Orders)) (start_order world at order key stops edges)
-  starts_order at order key stops edges =
+  starts_order : (asked : AskedOrder) → IfMade (IsCounted world (Some counted.Orders)) (start_order world asked)
+  starts_order asked =
       let One : Effect → Type 0 = IsCounted world (Some counted.Orders) in
       made_require One _ _ _ (λ new. made_found One _ _ _ (λ row there. made_require One _ _ _ (λ c. made_found One _ _ _ (λ jobs read.
       made_require One _ _ _ (λ e. made_require One _ _ _ (λ f. made_require One _ _ _ (λ g. made_require One _ _ _ (λ h. made_require One _ _ _ (λ i. made_require One _ _ _ (λ j. made_require One _ _ _ (λ k.
       made_found One _ _ _ (λ layout l. made_planned One _ _ (λ trip m. made_unheld One _ _ (λ n. made_found One _ _ _ (λ number o. made_require One _ _ _ (λ few.
       counts_one counted.Orders _ (ltb-true _ _ few) (λ lawful. record {
-        vehicles = same _ _ (vehicle_len key row _ there);
+        vehicles = same _ _ (vehicle_len asked.key row _ there);
         loads = same _ _ refl;
-        jobs = same _ _ (len_riding world stops jobs read);
-        orders = order_len order new;
+        jobs = same _ _ (len_riding world asked.stops jobs read);
+        orders = order_len asked.order new;
         references = same _ _ refl;
       })))))))))))))))))
 
@@ -228,7 +227,7 @@ module _ (world : World) where
   each seats at (call.LeaveLoad load reference) = lets_load_leave load reference
   each seats at (call.AddJob job load to) = adds_job job load to
   each seats at (call.StopJob job) = stops_job job
-  each seats at (call.StartOrder order key stops edges) = starts_order at order key stops edges
+  each seats at (call.StartOrder order key stops edges) = starts_order (record { at = at; order = order; key = key; stops = stops; edges = edges })
   each seats at (call.Advance key order update edges) = advances_trip at key order update edges
   each seats at (call.Cancel key) = cancels at key
   each seats at (call.Pause key) = pauses at key

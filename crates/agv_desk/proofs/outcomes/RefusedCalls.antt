@@ -30,7 +30,8 @@ use Rattle.agv_world.specs.Worlds.{World}
 use Rattle.agv_world.specs.declared.row.VehicleRow.{VehicleRow}
 use Rattle.agv_desk.specs.InstantSteps.{instruct}
 use Rattle.agv_desk.specs.LayoutSteps.{if_given, lay}
-use Rattle.agv_desk.specs.OrderSteps.{advance, if_planned, send_trip, start_order}
+use Rattle.agv_desk.specs.OrderParts.{send_trip}
+use Rattle.agv_desk.specs.OrderSteps.{AskedOrder, advance, if_planned, start_order}
 use Rattle.agv_desk.specs.Outcomes.{Effect, Made, Outcome, answer_of, branch, checked, refuse_if_none, refuse_unless, answer_only, unheld}
 use Rattle.agv_desk.specs.ReadSteps.{instant_told, order_told}
 use Rattle.agv_desk.specs.Refusals.{IsOfCall}
@@ -211,13 +212,13 @@ module _ (world : World) where
   instructs : (at : ℕ) (key : VehicleKey) (row : VehicleRow) (kind : InstantKind) → Fits (instruct at key row kind)
   instructs at key row kind = by_require _ refusal.InstantPending _ refl (by_found _ refusal.Spent _ refl (λ number. by_made _ tt))
 
-  starts : (at : ℕ) (order : List ℕ) (key : VehicleKey) (stops : List Stop) (edges : ℕ) → Fits (start_order world at order key stops edges)
-  starts at order key stops edges =
+  starts : (asked : AskedOrder) → Fits (start_order world asked)
+  starts asked =
       by_require _ refusal.Exists _ refl (by_found _ refusal.NoVehicle _ refl (λ row.
       by_require _ refusal.BadStops _ refl (by_found _ refusal.NoJob _ refl (λ jobs.
       by_require _ refusal.OrderKnown _ refl (by_require _ refusal.JobState _ refl (by_require _ refusal.Busy _ refl
       (by_require _ refusal.Astray _ refl (by_require _ refusal.Loaded _ refl (by_require _ refusal.NotReady _ refl
-      (by_require _ refusal.InstantPending _ refl (by_found _ refusal.NoWalk _ refl (λ layout. by_plan layout key jobs stops order row.node edges (send_trip world at order key row stops jobs) (λ trip.
+      (by_require _ refusal.InstantPending _ refl (by_found _ refusal.NoWalk _ refl (λ layout. by_plan layout asked.key jobs asked.stops asked.order row.node asked.edges (send_trip world asked row jobs) (λ trip.
       by_unheld _ _ (by_found _ refusal.Spent _ refl (λ number. by_require _ refusal.Limit _ refl (by_made _ tt))))))))))))))))
 
   advances : (at : ℕ) (key : VehicleKey) (order : List ℕ) (update edges : ℕ) → Fits (advance world at key order update edges)
@@ -261,7 +262,7 @@ module _ (world : World) where
   each seats at (call.LeaveLoad load reference) = by_require _ refusal.RefUsed _ refl (by_checked _ _ (lets_load_leave (finite.get world.places load) (is_in_job world load)) (by_require _ refusal.Limit _ refl (by_made _ tt)))
   each seats at (call.AddJob job load to) = by_checked _ _ (adds_job (goal_of world (Some to)) (is_some (finite.get world.jobs job)) (finite.get world.places load) (is_in_job world load)) (by_found _ refusal.Elsewhere _ refl (λ origin. by_require _ refusal.Limit _ refl (by_made _ tt)))
   each seats at (call.StopJob job) = by_found _ refusal.NoJob _ refl (λ row. by_require _ refusal.JobState _ refl (by_made _ tt))
-  each seats at (call.StartOrder order key stops edges) = starts at order key stops edges
+  each seats at (call.StartOrder order key stops edges) = starts (record { at = at; order = order; key = key; stops = stops; edges = edges })
   each seats at (call.Advance key order update edges) = advances at key order update edges
   each seats at (call.Cancel key) = by_found _ refusal.NoVehicle _ refl (λ row. by_require _ refusal.NoOrder _ refl (instructs at key row _))
   each seats at (call.Pause key) = by_found _ refusal.NoVehicle _ refl (λ row. instructs at key row _)

@@ -26,7 +26,7 @@ module _ (given : Given) (world : World) (in_order : IsInOrder world) where
   each seats at (call.LeaveLoad load reference) = lets_load_leave given world in_order load reference
   each seats at (call.AddJob job load to) = adds_job given world in_order job load to
   each seats at (call.StopJob job) = stops_job given world in_order job
-  each seats at (call.StartOrder order key stops edges) = starts_order given world in_order at order key stops edges
+  each seats at (call.StartOrder order key stops edges) = starts_order given world in_order (record { at = at; order = order; key = key; stops = stops; edges = edges })
   each seats at (call.Advance key order update edges) = advances_trip given world in_order at key order update edges
   each seats at (call.Cancel key) = cancels given world in_order at key
   each seats at (call.Pause key) = pauses given world in_order at key

@@ -18,7 +18,8 @@ use Rattle.agv_world.specs.Worlds.{World}
 use Rattle.agv_world.specs.declared.key.UseKind.TheVariants as used
 use Rattle.agv_world.specs.declared.row.VehicleRow.{VehicleRow}
 use Rattle.agv_desk.specs.InOrder.{IsInOrder}
-use Rattle.agv_desk.specs.OrderSteps.{if_planned, sent_on, send_trip, send_order, take_order, start_order, trip_for, send_update, advance}
+use Rattle.agv_desk.specs.OrderParts.{send_trip, send_order, take_order}
+use Rattle.agv_desk.specs.OrderSteps.{AskedOrder, if_planned, sent_on, start_order, trip_for, send_update, advance}
 use Rattle.agv_desk.specs.Outcomes.{Effect, Outcome}
 use Rattle.agv_desk.proofs.row_changes.Effects.{LeadsTo, lays_none}
 use Rattle.agv_desk.proofs.row_changes.Given.{Given}
@@ -75,36 +76,36 @@ module _ (given : Given) (world : World) (in_order : IsInOrder world) where
   fresh order trip unused named other more has same =
       apart (sym (in_order.used other more has) ∙ ap (set.contains world.orders) (sym same ∙ named) ∙ unused)
 
-  sends_trip : (at : ℕ) (order : List ℕ) (key : VehicleKey) (row : VehicleRow) (stops : List Stop) (jobs : List Job) (trip : Trip)
-      → is_used world used.Order order ≡ false → row_of world key ≡ Some row → trip_of world key ≡ None → trip.order ≡ order
-      → IfMade P (send_trip world at order key row stops jobs trip)
-  sends_trip at order key row stops jobs trip unused there idle named =
+  sends_trip : (asked : AskedOrder) (row : VehicleRow) (jobs : List Job) (trip : Trip)
+      → is_used world used.Order asked.order ≡ false → row_of world asked.key ≡ Some row → trip_of world asked.key ≡ None → trip.order ≡ asked.order
+      → IfMade P (send_trip world asked row jobs trip)
+  sends_trip asked row jobs trip unused there idle named =
       made_unheld P _ _ (λ opened. made_found P _ _ _ (λ number next. made_require P _ _ _ (λ few.
-      let new = sent_on row at number (Some trip) in
+      let new = sent_on row asked.at number (Some trip) in
       leads given world in_order _ (lays_none world)
-      (puts given world in_order key (Some (vehicle_with row None)) new
-      (known world key row there ∙ ap (λ trip. Some (vehicle_with row trip)) idle)
-      (given.new_trip world key new in_order.one_trip trip refl (fresh order trip unused named))
-      (given.by_claim world key new in_order.apart opened)
+      (puts given world in_order asked.key (Some (vehicle_with row None)) new
+      (known world asked.key row there ∙ ap (λ trip. Some (vehicle_with row trip)) idle)
+      (given.new_trip world asked.key new in_order.one_trip trip refl (fresh asked.order trip unused named))
+      (given.by_claim world asked.key new in_order.apart opened)
       tt))))
 
-  sends_order : (at : ℕ) (order : List ℕ) (key : VehicleKey) (row : VehicleRow) (stops : List Stop) (jobs : List Job) (edges : ℕ)
-      → is_used world used.Order order ≡ false → row_of world key ≡ Some row → trip_of world key ≡ None
-      → IfMade P (send_order world at order key row stops jobs edges)
-  sends_order at order key row stops jobs edges unused there idle =
+  sends_order : (asked : AskedOrder) (row : VehicleRow) (jobs : List Job)
+      → is_used world used.Order asked.order ≡ false → row_of world asked.key ≡ Some row → trip_of world asked.key ≡ None
+      → IfMade P (send_order world asked row jobs)
+  sends_order asked row jobs unused there idle =
       made_found P _ _ _ (λ layout is_set. made_planned P _ _ (λ trip is_plan.
-      sends_trip at order key row stops jobs trip unused there idle (plan_of_order layout key jobs stops order row.node edges trip is_plan)))
+      sends_trip asked row jobs trip unused there idle (plan_of_order layout asked.key jobs asked.stops asked.order row.node asked.edges trip is_plan)))
 
-  takes_order : (at : ℕ) (order : List ℕ) (key : VehicleKey) (row : VehicleRow) (stops : List Stop) (jobs : List Job) (edges : ℕ)
-      → is_used world used.Order order ≡ false → row_of world key ≡ Some row → IfMade P (take_order world at order key row stops jobs edges)
-  takes_order at order key row stops jobs edges unused there =
+  takes_order : (asked : AskedOrder) (row : VehicleRow) (jobs : List Job)
+      → is_used world used.Order asked.order ≡ false → row_of world asked.key ≡ Some row → IfMade P (take_order world asked row jobs)
+  takes_order asked row jobs unused there =
       made_require P _ _ _ (λ a. made_require P _ _ _ (λ b. made_require P _ _ _ (λ idle. made_require P _ _ _ (λ c. made_require P _ _ _ (λ d. made_require P _ _ _ (λ e. made_require P _ _ _ (λ f.
-      sends_order at order key row stops jobs edges unused there (missing _ idle))))))))
+      sends_order asked row jobs unused there (missing _ idle))))))))
 
-  pub starts_order : (at : ℕ) (order : List ℕ) (key : VehicleKey) (stops : List Stop) (edges : ℕ) → IfMade P (start_order world at order key stops edges)
-  starts_order at order key stops edges =
+  pub starts_order : (asked : AskedOrder) → IfMade P (start_order world asked)
+  starts_order asked =
       made_require P _ _ _ (λ unused. made_found P _ _ _ (λ row there. made_require P _ _ _ (λ fit. made_found P _ _ _ (λ jobs are.
-      takes_order at order key row stops jobs edges (not_true _ unused) there))))
+      takes_order asked row jobs (not_true _ unused) there))))
 
   -- the trip of an order is the open trip
   pub trip_is : (there : Option Trip) (order : List ℕ) (trip : Trip) → trip_for there order ≡ Some trip → there ≡ Some trip

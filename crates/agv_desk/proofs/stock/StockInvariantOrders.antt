@@ -18,7 +18,8 @@ use Rattle.agv_world.specs.TableChanges.{written}
 use Rattle.agv_world.specs.VehicleChanges.{with_vehicle}
 use Rattle.agv_world.specs.Worlds.{World}
 use Rattle.agv_world.specs.declared.row.VehicleRow.{VehicleRow}
-use Rattle.agv_desk.specs.OrderSteps.{if_planned, jobs_for, send_order, send_trip, sent_on, start_order, waits}
+use Rattle.agv_desk.specs.OrderParts.{send_order, send_trip}
+use Rattle.agv_desk.specs.OrderSteps.{AskedOrder, if_planned, jobs_for, sent_on, start_order, waits}
 use Rattle.agv_desk.specs.Outcomes.{Effect, Outcome}
 use Rattle.agv_desk.proofs.stock.StockInvariantTrips.{FitsAsSaid, depart}
 use Rattle.agv_desk.proofs.outcomes.Keeping.{KeepsStock}
@@ -51,32 +52,34 @@ module _ (fits : FitsAsSaid) (plans : PlansGoByRoutes) (world : World) (stock : 
   abbrev P : Effect → Type 0
   P = KeepsStock world
 
-  module _ (key : VehicleKey) (row : VehicleRow) (there : row_of world key ≡ Some row) (idle : trip_of world key ≡ None)
-      (stops : List Stop) (jobs : List Job) (can : CanBeDone stops) (read : jobs_for world stops ≡ Some jobs) (wait : list_all waits jobs ≡ true)
-      (room : loads_on_vehicle world.places key + count_by is_pick stops ≤ row.capacity) where
-    here : finite.get world.vehicles key ≡ Some (vehicle_with row None)
-    here = known world key row there ∙ ap (λ trip. Some (vehicle_with row trip)) idle
+  module _ (asked : AskedOrder) (row : VehicleRow) (jobs : List Job) (there : row_of world asked.key ≡ Some row) (idle : trip_of world asked.key ≡ None)
+      (can : CanBeDone asked.stops) (read : jobs_for world asked.stops ≡ Some jobs) (wait : list_all waits jobs ≡ true)
+      (room : loads_on_vehicle world.places asked.key + count_by is_pick asked.stops ≤ row.capacity) where
+    here : finite.get world.vehicles asked.key ≡ Some (vehicle_with row None)
+    here = known world asked.key row there ∙ ap (λ trip. Some (vehicle_with row trip)) idle
 
-    trip_keeps : (at : ℕ) (order : List ℕ) (layout : Layout) (edges : ℕ) (trip : Trip) → planned layout key jobs stops order row.node edges ≡ Ok trip → IfMade P (send_trip world at order key row stops jobs trip)
-    trip_keeps at order layout edges trip is =
-        let plan : IsPlanOf layout jobs stops row.node edges trip = plans layout jobs key stops order row.node edges trip is in
+    trip_keeps : (layout : Layout) (trip : Trip) → planned layout asked.key jobs asked.stops asked.order row.node asked.edges ≡ Ok trip → IfMade P (send_trip world asked row jobs trip)
+    trip_keeps layout trip is =
+        let stops = asked.stops in
+        let plan : IsPlanOf layout jobs stops row.node asked.edges trip = plans layout jobs asked.key stops asked.order row.node asked.edges trip is in
         let kept : StockInvariant world.layout _ (capacity_of world) world.places (written world.jobs (filter_map (begins world) stops)) =
-        starts world stock key trip.acts stops (ap action_views_for here) (stops_made world stops jobs read layout row.node 0 stops trip.edges trip.acts plan.goes) can
+        starts world stock asked.key trip.acts stops (ap action_views_for here) (stops_made world stops jobs read layout row.node 0 stops trip.edges trip.acts plan.goes) can
         (acts_begin world stops jobs read layout row.node 0 stops trip.edges trip.acts plan.goes)
-        (stops_wait world stops jobs read wait) (subst (λ n. loads_on_vehicle world.places key + count_by is_pick stops ≤ n) (sym (ap capacity_for here)) room) in
+        (stops_wait world stops jobs read wait) (subst (λ n. loads_on_vehicle world.places asked.key + count_by is_pick stops ≤ n) (sym (ap capacity_for here)) room) in
         made_unheld P _ _ (λ opened. made_found P _ _ _ (λ number next. made_require P _ _ _ (λ few.
+        let after = with_vehicle world asked.key (sent_on row asked.at number (Some trip)) in
         record {
           stock =
-              subst (λ entries. StockInvariant world.layout (action_views_of (with_vehicle world key (sent_on row at number (Some trip)))) (capacity_of (with_vehicle world key (sent_on row at number (Some trip)))) world.places (written world.jobs entries))
+              subst (λ entries. StockInvariant world.layout (action_views_of after) (capacity_of after) world.places (written world.jobs entries))
               (sym (riding_is world stops jobs read))
-              (depart world key (vehicle_with row None) here (sent_on row at number (Some trip)) refl world.places (written world.jobs (filter_map (begins world) stops)) kept);
+              (depart world asked.key (vehicle_with row None) here (sent_on row asked.at number (Some trip)) refl world.places (written world.jobs (filter_map (begins world) stops)) kept);
         })))
 
-    order_keeps : (at : ℕ) (order : List ℕ) (edges : ℕ) → IfMade P (send_order world at order key row stops jobs edges)
-    order_keeps at order edges = made_found P _ _ _ (λ layout is_set. made_planned P _ _ (λ trip is. trip_keeps at order layout edges trip is))
+    order_keeps : IfMade P (send_order world asked row jobs)
+    order_keeps = made_found P _ _ _ (λ layout is_set. made_planned P _ _ (λ trip is. trip_keeps layout trip is))
 
-  pub start_keeps : (at : ℕ) (order : List ℕ) (key : VehicleKey) (stops : List Stop) (edges : ℕ) → IfMade P (start_order world at order key stops edges)
-  start_keeps at order key stops edges =
+  pub start_keeps : (asked : AskedOrder) → IfMade P (start_order world asked)
+  start_keeps asked =
       made_require P _ _ _ (λ unused. made_found P _ _ _ (λ row there. made_require P _ _ _ (λ fit. made_found P _ _ _ (λ jobs read.
       made_require P _ _ _ (λ new. made_require P _ _ _ (λ wait. made_require P _ _ _ (λ idle. made_require P _ _ _ (λ no_rest. made_require P _ _ _ (λ room. made_require P _ _ _ (λ ready. made_require P _ _ _ (λ going.
-      order_keeps key row there (missing _ idle) stops jobs ((fits stops).0 fit) read wait (room_on_vehicle world key (count_by is_pick stops) row.capacity room) at order edges)))))))))))
+      order_keeps asked row jobs there (missing _ idle) ((fits asked.stops).0 fit) read wait (room_on_vehicle world asked.key (count_by is_pick asked.stops) row.capacity room))))))))))))

@@ -2,11 +2,10 @@
 use Rattle.std.proofs.Common.{ℕ, List}
 use Rattle.agv_header.specs.declared.key.VehicleKey.{VehicleKey}
 use Rattle.agv_message.specs.declared.state.StateMessage.{StateMessage}
-use Rattle.agv_order.specs.declared.stop.Stop.{Stop}
 use Rattle.agv_world.specs.StockInvariant.{HasStockInvariant}
 use Rattle.agv_world.specs.LawfulParts.{HasLawfulVehicles}
 use Rattle.agv_world.specs.Worlds.{World}
-use Rattle.agv_desk.specs.OrderSteps.{start_order}
+use Rattle.agv_desk.specs.OrderSteps.{AskedOrder, start_order}
 use Rattle.agv_desk.specs.Outcomes.{Outcome, Refused, Made, after}
 use Rattle.agv_desk.specs.StateSteps.{take_state}
 use Rattle.agv_desk.specs.Step.{step}
@@ -23,7 +22,7 @@ use Rattle.agv_desk.proofs.outcomes.Ladders.{IfMade}
 
 -- the calls that change what a trip carries
 pub record KeepsOnTrips (world : World) : Type 0 where
-  pub start : (at : ℕ) (order : List ℕ) (key : VehicleKey) (stops : List Stop) (edges : ℕ) → IfMade (KeepsStock world) (start_order world at order key stops edges)
+  pub start : (asked : AskedOrder) → IfMade (KeepsStock world) (start_order world asked)
   pub place : (key : VehicleKey) (reference node : List ℕ) → IfMade (KeepsStock world) (place_vehicle world key reference node)
   pub state : (key : VehicleKey) (state : StateMessage) → IfMade (KeepsStock world) (take_state world key state)
 
@@ -37,7 +36,7 @@ module _ (gives : GivesItself) (seats : ℕ) (world : World) (lawful : HasLawful
   step_keeps at (call.LeaveLoad load reference) typed = leave_keeps world stock load reference
   step_keeps at (call.AddJob job load to) typed = add_keeps world stock job load to typed
   step_keeps at (call.StopJob job) typed = stop_keeps world stock job
-  step_keeps at (call.StartOrder order key stops edges) typed = trips.start at order key stops edges
+  step_keeps at (call.StartOrder order key stops edges) typed = trips.start (record { at = at; order = order; key = key; stops = stops; edges = edges })
   step_keeps at (call.Advance key order update edges) typed = advance_keeps world stock at key order update edges
   step_keeps at (call.Cancel key) typed = cancel_keeps world stock at key
   step_keeps at (call.Pause key) typed = pause_keeps world stock at key

@@ -8,7 +8,6 @@ use Rattle.agv_layout.specs.declared.row.LayoutRow.{LayoutRow}
 use Rattle.agv_message.specs.declared.instant.InstantKind.{InstantKind}
 use Rattle.agv_message.specs.declared.state.StateMessage.{StateMessage}
 use Rattle.agv_order.specs.Trips.{task_of}
-use Rattle.agv_order.specs.declared.stop.Stop.{Stop}
 use Rattle.agv_order.specs.declared.trip.Trip.{Trip}
 use Rattle.agv_stock.specs.declared.place.Place.{Place}
 use Rattle.agv_world.specs.StockInvariant.{HasStockInvariant, Places, capacity_of, action_views_of}
@@ -21,7 +20,7 @@ use Rattle.agv_desk.specs.InstantSteps.{cancel, instruct, pause, resume}
 use Rattle.agv_desk.specs.JobSteps.{add_job, stop_job}
 use Rattle.agv_desk.specs.LayoutSteps.{set_layout}
 use Rattle.agv_desk.specs.LoadSteps.{register_load, correct_load, leave_load}
-use Rattle.agv_desk.specs.OrderSteps.{advance, start_order}
+use Rattle.agv_desk.specs.OrderSteps.{AskedOrder, advance, start_order}
 use Rattle.agv_desk.specs.Outcomes.{Acted, Cause, Effect, Move}
 use Rattle.agv_desk.specs.ReadSteps.{get_order, get_instant, get_load, get_vehicle}
 use Rattle.agv_desk.specs.StateSteps.{fresh_state, idle_state, pending_of, take_state, trip_state}
@@ -130,8 +129,8 @@ module _ (world : World) where
       made_require P _ _ _ (λ new. made_found P _ _ _ (λ row there. made_require P _ _ _ (λ known_node. made_unheld P _ _ (λ opened. made_require P _ _ _ (λ few. plain _ tt)))))
 
   -- ---- orders
-  starts_order : (at : ℕ) (order : List ℕ) (key : VehicleKey) (stops : List Stop) (edges : ℕ) → IfMade P (start_order world at order key stops edges)
-  starts_order at order key stops edges =
+  starts_order : (asked : AskedOrder) → IfMade P (start_order world asked)
+  starts_order asked =
       made_require P _ _ _ (λ a. made_found P _ _ _ (λ row b. made_require P _ _ _ (λ c. made_found P _ _ _ (λ jobs d.
       made_require P _ _ _ (λ e. made_require P _ _ _ (λ f. made_require P _ _ _ (λ g. made_require P _ _ _ (λ h. made_require P _ _ _ (λ i. made_require P _ _ _ (λ j. made_require P _ _ _ (λ k.
       made_found P _ _ _ (λ layout l. made_planned P _ _ (λ trip m. made_unheld P _ _ (λ n. made_found P _ _ _ (λ number o. made_require P _ _ _ (λ p.
@@ -181,7 +180,7 @@ module _ (world : World) where
     finds_all at (call.LeaveLoad load reference) = lets_load_leave load reference
     finds_all at (call.AddJob job load to) = adds_job job load to
     finds_all at (call.StopJob job) = stops_job job
-    finds_all at (call.StartOrder order key stops edges) = starts_order at order key stops edges
+    finds_all at (call.StartOrder order key stops edges) = starts_order (record { at = at; order = order; key = key; stops = stops; edges = edges })
     finds_all at (call.Advance key order update edges) = advances_trip at key order update edges
     finds_all at (call.Cancel key) = cancels at key
     finds_all at (call.Pause key) = pauses at key

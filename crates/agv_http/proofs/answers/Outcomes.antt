@@ -5,12 +5,11 @@ use Rattle.agv_header.specs.declared.key.VehicleKey.{VehicleKey}
 use Rattle.agv_header.specs.declared.refusal.Refusal.{Refusal}
 use Rattle.agv_message.specs.declared.instant.InstantKind.{InstantKind}
 use Rattle.agv_message.specs.declared.state.StateMessage.{StateMessage}
-use Rattle.agv_order.specs.declared.stop.Stop.{Stop}
 use Rattle.agv_order.specs.declared.trip.Trip.{Trip}
 use Rattle.agv_world.specs.Worlds.{World}
 use Rattle.agv_world.specs.declared.row.VehicleRow.{VehicleRow}
 use Rattle.agv_desk.specs.InstantSteps.{instruct}
-use Rattle.agv_desk.specs.OrderSteps.{start_order, advance}
+use Rattle.agv_desk.specs.OrderSteps.{AskedOrder, start_order, advance}
 use Rattle.agv_desk.specs.Outcomes.{answer_of}
 use Rattle.agv_desk.specs.StateSteps.{idle_state, trip_state, fresh_state, take_state}
 use Rattle.agv_desk.specs.Step.{step}
@@ -40,8 +39,8 @@ module _ (P : Answer → Type 0) (is : IsOfOutcomes P) (world : World) where
   instructs : (at : ℕ) (key : VehicleKey) (row : VehicleRow) (kind : InstantKind) → P (answer_of (instruct at key row kind))
   instructs at key row kind = of_require P is.refused _ _ _ (of_found P is.refused _ _ _ (λ number. of_made P is.refused _ (is.instructed number)))
 
-  starts : (at : ℕ) (order : List ℕ) (key : VehicleKey) (stops : List Stop) (edges : ℕ) → P (answer_of (start_order world at order key stops edges))
-  starts at order key stops edges =
+  starts : (asked : AskedOrder) → P (answer_of (start_order world asked))
+  starts asked =
       of_require P is.refused _ _ _ (of_found P is.refused _ _ _ (λ row. of_require P is.refused _ _ _ (of_found P is.refused _ _ _ (λ jobs.
       of_require P is.refused _ _ _ (of_require P is.refused _ _ _ (of_require P is.refused _ _ _ (of_require P is.refused _ _ _ (of_require P is.refused _ _ _ (of_require P is.refused _ _ _ (of_require P is.refused _ _ _
       (of_found P is.refused _ _ _ (λ layout. of_planned P is.refused _ _ (λ trip.
@@ -89,7 +88,7 @@ module _ (P : Answer → Type 0) (is : IsOfOutcomes P) (world : World) where
   outcome_of seats at (call.AddJob job load to) more h =
       of_checked P is.refused _ _ (of_found P is.refused _ _ _ (λ origin. of_require P is.refused _ _ _ (of_made P is.refused _ is.done)))
   outcome_of seats at (call.StopJob job) more h = of_found P is.refused _ _ _ (λ row. of_require P is.refused _ _ _ (of_made P is.refused _ is.done))
-  outcome_of seats at (call.StartOrder order key stops edges) more h = starts at order key stops edges
+  outcome_of seats at (call.StartOrder order key stops edges) more h = starts (record { at = at; order = order; key = key; stops = stops; edges = edges })
   outcome_of seats at (call.Advance key order update edges) more h = advances at key order update edges
   outcome_of seats at (call.Cancel key) more h = of_found P is.refused _ _ _ (λ row. of_require P is.refused _ _ _ (instructs at key row _))
   outcome_of seats at (call.Pause key) more h = of_found P is.refused _ _ _ (λ row. instructs at key row _)
