@@ -1,12 +1,12 @@
 -- Words that the calls of several families share: names that are used once, the goal of a load and what a vehicle may hold (this project's profile).
-use Rattle.std.specs.Prelude.{ℕ, not, Bool, true, false, is_some, List, Option, None, Some}
+use Rattle.std.specs.Prelude.{ℕ, min, not, Bool, is_some, List, Option, None, Some}
 use Rattle.agv_header.specs.declared.key.Thing.{Thing}
 use Rattle.agv_header.specs.declared.key.VehicleKey.{VehicleKey}
 use Rattle.agv_stock.specs.declared.goal.Goal.{Goal}
 use Rattle.agv_stock.specs.declared.goal.Goal.TheVariants as goal
 use Rattle.agv_stock.specs.declared.place.Place.{Place}
 use Rattle.agv_track.specs.Holds.{first_held}
-use Rattle.agv_world.specs.Questions.{has_room_at, job_of, is_used}
+use Rattle.agv_world.specs.Questions.{room_at, job_of, is_used}
 use Rattle.agv_world.specs.Rows.{rows_of}
 use Rattle.agv_world.specs.Worlds.{World}
 use Rattle.agv_world.specs.declared.key.UseKey.{UseKey}
@@ -25,16 +25,15 @@ reference_key reference = record { kind = used.Reference; name = reference }
 
 -- ---- loads
 
--- a station as a goal: 1 stands for room for one load or more, 0 for none; unknown where the layout has no such station
-abbrev pub goal_at : List ℕ → Option Bool → Goal
+-- a station as a goal, where so many loads more fit: a call takes one there, so the room for one is what counts; unknown where the layout has no such station
+abbrev pub goal_at : List ℕ → Option ℕ → Goal
 goal_at station None = goal.Unknown
-goal_at station (Some true) = goal.At station 1
-goal_at station (Some false) = goal.At station 0
+goal_at station (Some room) = goal.At station (min room 1)
 
--- where the load is to go: to the checking place, or to this station; no check asks how many loads fit there, only whether one does
+-- where the load is to go: to the checking place, or to this station
 abbrev pub goal_of : World → Option (List ℕ) → Goal
 goal_of world None = goal.Checking
-goal_of world (Some station) = goal_at station (has_room_at world station)
+goal_of world (Some station) = goal_at station (room_at world station)
 
 -- the load is in a live job
 abbrev pub is_in_job : World → List ℕ → Bool

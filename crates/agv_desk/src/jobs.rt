@@ -6,7 +6,7 @@ ghost use Rattle.agv_desk.specs.JobSteps.{station_of_place, is_waiting, add_job,
 ghost use Rattle.agv_desk.specs.Outcomes.{Made, decided};
 
 use crate::decisions::{made_with, refused};
-use crate::shared::{goal_at, is_in_job};
+use crate::shared::{is_in_job, station_goal};
 use crate::{Answer, Decision};
 use agv_header::limits::MAX_RECORDS;
 use agv_header::{Memory, Name, Refusal};
@@ -30,7 +30,7 @@ pub(crate) fn add_job<F: Floor>(
     let Some(place) = floor.place(load)? else {
         return Ok(refused(alloc, Refusal::NoLoad));
     };
-    let goal = goal_at(to, floor.has_room(to)?);
+    let goal = station_goal(floor, to)?;
     if !goal.is_known() {
         return Ok(refused(alloc, Refusal::NoStation));
     }

@@ -7,7 +7,7 @@ ghost use Rattle.agv_desk.specs.Outcomes.{Made, decided};
 ghost use Rattle.agv_desk.specs.Shared.{goal_of};
 
 use crate::decisions::{made_with, refused};
-use crate::shared::{goal_at, is_in_job, is_new, reference_used};
+use crate::shared::{is_in_job, is_new, reference_used, station_goal};
 use crate::{Answer, Decision};
 use agv_header::limits::MAX_RECORDS;
 use agv_header::{Memory, Name, Refusal};
@@ -87,7 +87,7 @@ fn goal_of<F: Floor>(floor: &mut F, station: Option<Name>) -> Result<Goal, Fault
     let Some(station) = station else {
         return Ok(Goal::Checking);
     };
-    Ok(goal_at(station, floor.has_room(station)?))
+    station_goal(floor, station)
 }
 
 // The place that a call names: a station, or else the checking place.

@@ -1,10 +1,11 @@
 //! What the calls of several families share: references, the goals of loads, and what a vehicle is sent and stands on.
-ghost use Rattle.std.specs.Prelude.{◌≡◌, ◌≢◌, not};
+ghost use Rattle.std.specs.Prelude.{◌≡◌, ◌≢◌, not, Bool, OnOk, Some, if◌then◌else◌};
+ghost use Rattle.std.specs.Option.{option_map};
 ghost use Rattle.agv_stock.specs.declared.goal.Goal.TheVariants as goals;
 ghost use Rattle.agv_world.specs.Asks.{Asks};
 ghost use Rattle.agv_world.specs.declared.change.Change.TheVariants as row;
 ghost use Rattle.agv_desk.specs.OrderSteps.{is_cancelling};
-ghost use Rattle.agv_desk.specs.Shared.{goal_at, is_in_job, is_new, reference_key};
+ghost use Rattle.agv_desk.specs.Shared.{goal_at, goal_of, is_in_job, is_new, reference_key};
 
 use agv_header::{Moment, Name, VehicleKey};
 use agv_message::InstantKind;
@@ -39,9 +40,18 @@ pub(crate) fn reference_used(reference: Name) -> Change
     })
 }
 
-/// A station as a goal, with 1 where one load more fits and 0 where none does, or as one that is unknown.
-pub(crate) fn goal_at(station: Name, has_room: Option<bool>) -> Goal
-    ensures is { result ≡ goal_at station has_room }
+/// A station as a goal.
+pub(crate) fn station_goal<F: Floor>(floor: &mut F, station: Name) -> Result<Goal, Fault>
+    ensures is { Asks F.facts floor.old floor.new result (λ world goal. goal ≡ goal_of world (Some station)) }
+    ensures stored { OnOk result (λ goal. goal ≢ goals.Checking) }
+{
+    let has_room = floor.has_room(station)?;
+    Ok(goal_at(station, has_room))
+}
+
+// A station as a goal, with room for one load where one more fits.
+fn goal_at(station: Name, has_room: Option<bool>) -> Goal
+    ensures is { result ≡ goal_at station (option_map (λ (fits : Bool). if fits then 1 else 0) has_room) }
     ensures stored { result ≢ goals.Checking }
 {
     match has_room {

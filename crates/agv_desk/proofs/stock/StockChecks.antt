@@ -1,5 +1,5 @@
 -- What the checks of a load say where they pass: of the load, of the jobs, and of the room at a station.
-use Rattle.std.proofs.Common.{◌≡◌, ◌+◌, ◌<◌, ◌≤◌, ◌==◌, ℕ, Bool, true, false, not, cond, is_some, nat_eq, List, [], ◌∷◌, length, count_by, find, Option, None, Some, Ok, Err, arith, refl, sym, ap, subst, ◌∙◌}
+use Rattle.std.proofs.Common.{◌≡◌, ◌+◌, ◌<◌, ◌≤◌, ◌==◌, ℕ, min, Bool, true, false, not, cond, is_some, nat_eq, List, [], ◌∷◌, length, count_by, find, Option, None, Some, Ok, Err, arith, refl, sym, ap, subst, eqb-true, ◌∙◌}
 use Rattle.std.specs.Cmp.Lexicographic.{pointwise}
 use Rattle.std.specs.FinMap as finite
 use Rattle.std.specs.Option.{option_map}
@@ -17,7 +17,7 @@ use Rattle.agv_stock.specs.declared.goal.Goal.{Goal}
 use Rattle.agv_stock.specs.declared.place.Place.{Place}
 use Rattle.agv_stock.specs.declared.place.Place.TheVariants as place
 use Rattle.agv_world.specs.StockInvariant.{HasStockInvariant, IsKnownPlace, stored}
-use Rattle.agv_world.specs.Questions.{has_room_at, is_live_for, job_of, loads_at, reserved, room_at, reserved_by}
+use Rattle.agv_world.specs.Questions.{is_live_for, job_of, loads_at, reserved, room_at, reserved_by}
 use Rattle.agv_world.specs.Worlds.{World}
 use Rattle.agv_world.specs.declared.row.JobRow.{JobRow}
 use Rattle.agv_world.proofs.lists.Entries.{same_Some}
@@ -117,14 +117,17 @@ mapped : {A B : Type 0} (f : A → B) (there : Option A) (b : B) → option_map 
 mapped f None b e = none_some e
 mapped f (Some a) b e = (a, refl)
 
-at_goal : (station : List ℕ) (fits : Option Bool) → is_known (goal_at station fits) ≡ true → (fit : Bool) × (fits ≡ Some fit)
+at_goal : (station : List ℕ) (there : Option ℕ) → is_known (goal_at station there) ≡ true → (room : ℕ) × (there ≡ Some room)
 at_goal station None known = absurd (false≢true known)
-at_goal station (Some fit) known = (fit, refl)
+at_goal station (Some room) known = (room, refl)
 
-fits_there : (station : List ℕ) (fits : Option Bool) → is_known (goal_at station fits) ≡ true → has_room (goal_at station fits) ≡ true → fits ≡ Some true
-fits_there station None known has = absurd (false≢true known)
-fits_there station (Some true) known has = refl
-fits_there station (Some false) known has = absurd (false≢true has)
+-- where there is room for one load, there is some
+some_room : (room : ℕ) → not (min room 1 == 0) ≡ true → (room == 0) ≡ false
+some_room room has =
+    elim (room == 0) as (λ b. (room == 0) ≡ b → b ≡ false) [
+      | true ↦ λ none. absurd (false≢true (sym (ap (λ (n : ℕ). not (min n 1 == 0)) (eqb-true room 0 none)) ∙ has))
+      | false ↦ λ some. refl
+    ] refl
 
 some_left : (capacity loads jobs room : ℕ) → room_left capacity loads jobs ≡ room → (room == 0) ≡ false → loads + jobs + 1 ≤ capacity
 some_left capacity loads jobs room is some =
@@ -140,12 +143,6 @@ module _ (world : World) where
   unfolding room_at
   site_there station room is = mapped _ (finite.get world.layout.stations station) room is
 
-  room_there : (station : List ℕ) (fit : Bool) → has_room_at world station ≡ Some fit → (room : ℕ) × (room_at world station ≡ Some room)
-  room_there station fit is = mapped (λ (room : ℕ). not (room == 0)) (room_at world station) fit is
-
-  some_room : (station : List ℕ) (room : ℕ) → room_at world station ≡ Some room → has_room_at world station ≡ Some true → (room == 0) ≡ false
-  some_room station room there fits = not-true (room == 0) (same_Some _ _ (sym (ap (option_map (λ (room : ℕ). not (room == 0))) there) ∙ fits))
-
   -- one load more fits where there is room
   one_fits : (station : List ℕ) (site : StationSite) (room : ℕ) → IsStation world.layout station site → room_at world station ≡ Some room → (room == 0) ≡ false
       → stored world.places station + reserved_by world.jobs station + 1 ≤ site.capacity
@@ -160,8 +157,7 @@ module _ (world : World) where
   pub goal_known : (station : Option (List ℕ)) → is_known (goal_of world station) ≡ true → IsKnownPlace world.layout (place_of station)
   goal_known None known = tt
   goal_known (Some station) known =
-      let fit = at_goal station (has_room_at world station) known in
-      let room = room_there station fit.0 fit.1 in
+      let room = at_goal station (room_at world station) known in
       site_there station room.0 room.1
 
   module _ (stock : HasStockInvariant world) where
@@ -169,9 +165,8 @@ module _ (world : World) where
     pub fits_more : (station : List ℕ) → is_known (goal_of world (Some station)) ≡ true → has_room (goal_of world (Some station)) ≡ true
         → (other : List ℕ) (site : StationSite) → IsStation world.layout other site → stored world.places other + reserved_by world.jobs other + one_if (pointwise nat_eq station other) ≤ site.capacity
     fits_more station known has other site there =
-        let fits = fits_there station (has_room_at world station) known has in
-        let room = room_there station true fits in
-        let some = some_room station room.0 room.1 fits in
+        let room = at_goal station (room_at world station) known in
+        let some = some_room room.0 (subst (λ (there : Option ℕ). has_room (goal_at station there) ≡ true) room.1 has) in
         elim (pointwise nat_eq station other) as (λ b. pointwise nat_eq station other ≡ b → stored world.places other + reserved_by world.jobs other + one_if b ≤ site.capacity) [
           | true ↦ λ same. one_fits other site room.0 there (ap (room_at world) (sym (same_name station other same)) ∙ room.1) some
           | false ↦ λ differs. omega (arith, stock.room other site there)
