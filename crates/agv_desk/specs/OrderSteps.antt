@@ -105,7 +105,7 @@ order_sent asked row jobs trip number = record (answer_only (answer.Update 0)) {
   uses = record { kind = used.Order; name = asked.order } ∷ [];
 }
 
--- POST /orders; where the trip is planned, NoWalk, TooLong or Beyond, and then Held where what it is to hold is not free
+-- POST /orders: its checks in order, one a line; without a plan NoWalk, TooLong or Beyond, and Held where what the trip is to hold is not free
 abbrev pub start_order : World → AskedOrder → Outcome
 start_order world asked =
     refuse_unless (not (is_used world used.Order asked.order)) refusal.Exists
