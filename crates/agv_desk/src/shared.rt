@@ -1,5 +1,5 @@
 //! What the calls of several families share: references, the goals of loads, and what a vehicle is sent and stands on.
-ghost use Rattle.std.specs.Prelude.{◌≡◌, ◌≢◌, not, Bool, OnOk, Some, if◌then◌else◌};
+ghost use Rattle.std.specs.Prelude.{◌≡◌, ◌≢◌, not, Bool, IfOk, Some, if◌then◌else◌};
 ghost use Rattle.std.specs.Option.{option_map};
 ghost use Rattle.agv_stock.specs.declared.goal.Goal.TheVariants as goals;
 ghost use Rattle.agv_world.specs.Asks.{Asks};
@@ -43,7 +43,7 @@ pub(crate) fn reference_used(reference: Name) -> Change
 /// A station as a goal.
 pub(crate) fn station_goal<F: Floor>(floor: &mut F, station: Name) -> Result<Goal, Fault>
     ensures is { Asks F.facts floor.old floor.new result (λ world goal. goal ≡ goal_of world (Some station)) }
-    ensures stored { OnOk result (λ goal. goal ≢ goals.Checking) }
+    ensures stored { IfOk result (λ goal. goal ≢ goals.Checking) }
 {
     let has_room = floor.has_room(station)?;
     Ok(goal_at(station, has_room))
