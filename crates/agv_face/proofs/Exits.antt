@@ -4,6 +4,7 @@ use Rattle.std.specs.Io.KnownBytes.{Appends, Keeps}
 use Rattle.sqlite_trees.specs.declared.store.Store.{Ghosts}
 use Rattle.agv_header.specs.declared.refusal.Refusal.{Refusal}
 use Rattle.agv_header.specs.declared.refusal.Refusal.TheVariants as refusal
+use Rattle.agv_desk.specs.DecisionEnds.{failed_by}
 use Rattle.agv_http.specs.request.Lines.{Length, absent, content_length, given, has_line, wrong}
 use Rattle.agv_http.specs.Output.{calls_of}
 use Rattle.agv_http.specs.request.Requests.{IsFault, length_needed, lines_of, most_body, sends_body}
@@ -14,7 +15,7 @@ use Rattle.agv_schema.specs.Connections.{IsClean, IsOpen}
 use Rattle.agv_world.specs.declared.fault.Fault.{Fault}
 use Rattle.agv_world.specs.declared.fault.Fault.TheVariants as machine
 use Rattle.agv_face.specs.Bytes.{IsCut, IsPutWhole, IsRead}
-use Rattle.agv_face.specs.StreamEnd.{IsCounted, IsStreamEnd, failed_by, most_reads}
+use Rattle.agv_face.specs.StreamEnd.{IsCounted, IsStreamEnd, failed_at_end, most_reads}
 use Rattle.sqlite.specs.Held.{state}
 use Rattle.sqlite.specs.State.{Survives}
 use Rattle.agv_http.specs.request.Cut.{Cut, faulty}
@@ -22,7 +23,7 @@ use Rattle.agv_http.specs.request.Fronts.{HasNext}
 use Rattle.agv_face.specs.Nexts.{IsNext, IsNextFault, LeavesNext}
 use Rattle.agv_face.specs.StreamCalls.{AreDone, AreDoneOrNext}
 use Rattle.agv_face.specs.Refusals.{IsRefused, refusal_for}
-use Rattle.agv_face.specs.Replies.{IsLaterDesk, failed_after}
+use Rattle.agv_face.specs.Replies.{IsLaterDesk}
 use Rattle.agv_face.specs.CountingIo.{inner_of, RanOut}
 use Rattle.agv_face.specs.declared.next.Next.{Next}
 use Rattle.agv_face.specs.declared.next.Next.TheVariants as next
@@ -42,7 +43,7 @@ use Rattle.agv_face.proofs.Writing.{failed_then}
 
 abbrev IsKeptBy : Bool → Result ℕ Refusal → Type 0
 IsKeptBy before (Ok n) = Unit {0}
-IsKeptBy before (Err why) = failed_by (ended_by.Refused why) before ≡ before
+IsKeptBy before (Err why) = failed_at_end (ended_by.Refused why) before ≡ before
 
 either_kept : (before b : Bool) (one other : Result ℕ Refusal) → IsKeptBy before one → IsKeptBy before other → IsKeptBy before (if b then one else other)
 either_kept before true one other first second = first
@@ -53,12 +54,12 @@ needed_kept before coded method wrong = refl
 needed_kept before coded method absent = either_kept before coded _ _ refl (either_kept before (sends_body method) _ _ refl tt)
 needed_kept before coded method (given n) = either_kept before coded _ _ refl (either_kept before (nat_lt most_body n) _ _ refl tt)
 
-kept_by : (bytes : List ℕ) (why : Refusal) → IsFault bytes why → (before : Bool) → failed_by (ended_by.Refused why) before ≡ before
-kept_by bytes why (inl none) before = let Kept : Refusal → Type 0 = λ r. failed_by (ended_by.Refused r) before ≡ before in subst Kept (sym none.2) refl
+kept_by : (bytes : List ℕ) (why : Refusal) → IsFault bytes why → (before : Bool) → failed_at_end (ended_by.Refused why) before ≡ before
+kept_by bytes why (inl none) before = let Kept : Refusal → Type 0 = λ r. failed_at_end (ended_by.Refused r) before ≡ before in subst Kept (sym none.2) refl
 kept_by bytes why (inr (inl said)) before =
     let Kept : Result ℕ Refusal → Type 0 = λ r. IsKeptBy before r in
     subst Kept said.3 (needed_kept before (has_line (codes "transfer-encoding") (lines_of said.0)) said.0.method (content_length (lines_of said.0)))
-kept_by bytes why (inr (inr cut)) before = let Kept : Refusal → Type 0 = λ r. failed_by (ended_by.Refused r) before ≡ before in subst Kept (sym cut.6) refl
+kept_by bytes why (inr (inr cut)) before = let Kept : Refusal → Type 0 = λ r. failed_at_end (ended_by.Refused r) before ≡ before in subst Kept (sym cut.6) refl
 
 -- ---- a request more
 
@@ -122,7 +123,7 @@ module _ {S R W : Type 0} (g : Ghosts S) (remaining : R → Option (List ℕ)) (
       reads_on g remaining contents at desk reader writer desk_then reader_now reader_then writer_now ended buf buf_then answers more (same_desk (of next.Need is).1) got
 
   -- there is a fault of HTTP, and so none of the machine
-  pub failed_still : (why : Refusal) → what ≡ next.Fault why → desk_then.failed ≡ failed_by (ended_by.Refused why) desk.failed
+  pub failed_still : (why : Refusal) → what ≡ next.Fault why → desk_then.failed ≡ failed_at_end (ended_by.Refused why) desk.failed
   failed_still why is =
       let found = of (next.Fault why) is in
       ap (λ (d : Keyed S). d.failed) found.2 ∙ so_far.failed ∙ sym (kept_by (buf ++ []) why (found.0 [] (λ _. refl)) desk.failed)
@@ -309,7 +310,7 @@ module _ {S R W : Type 0} (g : Ghosts S) (remaining : R → Option (List ℕ)) (
       )
 
   -- where the store has failed, it has at a call
-  fails : (f : Fault) → HasCause f → desk_then.failed ≡ failed_after {A = Next} (Err f) now.failed → (desk_then.failed ≡ desk.failed) ⊎ HasCallNext all so_far.requests
+  fails : (f : Fault) → HasCause f → desk_then.failed ≡ failed_by {A = Next} (Err f) now.failed → (desk_then.failed ≡ desk.failed) ⊎ HasCallNext all so_far.requests
   fails machine.Memory cause same = inl (same ∙ so_far.failed)
   fails machine.Storage (inl none) same = absurd (let e : machine.Storage ≡ machine.Memory = none.1 in cc)
   fails machine.Storage (inr found) same = inr (of_call machine.Storage found refl)
@@ -330,7 +331,7 @@ module _ {S R W : Type 0} (g : Ghosts S) (remaining : R → Option (List ℕ)) (
       (goes.0, goes.1.is_lent, subst HasNextSo (sym (parts g remaining contents at desk reader writer now reader_now writer_now ended buf answers so_far)) (goes.1.next (more g remaining contents at desk reader writer now reader_now writer_now ended buf answers so_far))))
       (is_begun why has_cause)
 
-  pub machine_counted : desk_then.failed ≡ failed_after {A = Next} (Err why) now.failed → (result : Result Served StreamFault) → IsRefused contents writer_now writer_then why answers result
+  pub machine_counted : desk_then.failed ≡ failed_by {A = Next} (Err why) now.failed → (result : Result Served StreamFault) → IsRefused contents writer_now writer_then why answers result
       → IsCounted g remaining contents at desk desk_then reader reader_now writer writer_then result
   machine_counted same (Ok served) told =
       let Counted : Served → Type 0 = λ s. IsCounted g remaining contents at desk desk_then reader reader_now writer writer_then (Ok s) in

@@ -1,5 +1,5 @@
 -- What a desk makes of one request, and what is written for it.
-use Rattle.std.specs.Prelude.{◌≡◌, ℕ, Bool, true, List, Result, Ok, Err, IsOk}
+use Rattle.std.specs.Prelude.{◌≡◌, ℕ, true, List, Result, Ok, Err, IsOk}
 use Rattle.sqlite_trees.specs.declared.store.Store.{Ghosts}
 use Rattle.agv_header.specs.declared.refusal.Refusal.{Refusal}
 use Rattle.agv_reports.specs.Reports.{report_of}
@@ -63,9 +63,3 @@ LeavesRequest g held at (Err why) trees = ⊥
 abbrev pub ComesOfCall : Result Call Refusal → Fault → Type 0
 ComesOfCall call machine.Memory = Unit {0}
 ComesOfCall call machine.Storage = IsOk call
-
--- whether the store has failed, once a call has ended so
-abbrev pub failed_after : {A : Type 0} → Result A Fault → Bool → Bool
-failed_after (Ok done) before = before
-failed_after (Err machine.Memory) before = before
-failed_after (Err machine.Storage) before = true

@@ -32,13 +32,13 @@ most_reads given = min given reads_at_all
 -- ---- whether the store has failed
 
 -- once a stream has been served to its end: it has failed where that end says so, else as before
-abbrev pub failed_by : Ended → Bool → Bool
-failed_by (ended.Refused refusal.Storage) before = true
-failed_by _ before = before
+abbrev pub failed_at_end : Ended → Bool → Bool
+failed_at_end (ended.Refused refusal.Storage) before = true
+failed_at_end _ before = before
 
 -- as a stream ends; where an answer was cut, that may have been the refusal that says so
 abbrev pub EndsFailed : Bool → Bool → Result Served StreamFault → Type 0
-EndsFailed before then (Ok served) = then ≡ failed_by served.ended before
+EndsFailed before then (Ok served) = then ≡ failed_at_end served.ended before
 EndsFailed before then (Err (fault.Read answers)) = then ≡ before
 EndsFailed before then (Err (fault.Write answers)) = (then ≡ before) ⊎ (then ≡ true)
 

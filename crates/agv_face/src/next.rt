@@ -1,5 +1,6 @@
 //! The next request of a buffer is answered.
 ghost use Rattle.std.specs.Prelude.{◌≡◌, ◌≤◌, [], IfErr, IfOk, OnErr, OnOk, vec_capacity};
+ghost use Rattle.agv_desk.specs.DecisionEnds.{failed_by};
 ghost use Rattle.agv_http.specs.Output.{refusal_text};
 ghost use Rattle.agv_http.specs.answers.Sizes.{most_answer};
 ghost use Rattle.sqlite.specs.Held.{state};
@@ -7,7 +8,7 @@ ghost use Rattle.sqlite.specs.State.{Survives};
 ghost use Rattle.agv_store.specs.Floors.{world_at};
 ghost use Rattle.agv_schema.specs.Connections.{IsClean, IsOpen};
 ghost use Rattle.agv_face.specs.Nexts.{IsNext, IsNextFault, LeavesNext};
-ghost use Rattle.agv_face.specs.Replies.{IsLaterDesk, failed_after};
+ghost use Rattle.agv_face.specs.Replies.{IsLaterDesk};
 
 use crate::reply::answer_request;
 use agv_desk::Answer;
@@ -47,7 +48,7 @@ pub(crate) fn serve_request<S: Alter + Drop>(
     ensures later { IsLaterDesk S.Store desk.old desk.new }
     ensures next { IfOk result (IsNext S.Store at desk.old desk.new buf.now ended out.new.items) }
     ensures unchanged_on_err { IsClean S.Store desk.new.held → IsOpen S.Store desk.new.held → OnErr result (world_at S.Store desk.new.held ≡ world_at S.Store desk.old.held) }
-    ensures failed { desk.new.failed ≡ failed_after result desk.old.failed }
+    ensures failed { desk.new.failed ≡ failed_by result desk.old.failed }
     ensures fault { IfErr result (IsNextFault buf.now ended) }
     ensures grown { vec_capacity out.old ≤ vec_capacity out.new }
     ensures crash { Survives (state S.Store desk.old.held) (state S.Store desk.new.held) (LeavesNext S.Store desk.old.held at buf.now ended) }

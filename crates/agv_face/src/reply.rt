@@ -1,5 +1,6 @@
 //! The answer to one request.
 ghost use Rattle.std.specs.Prelude.{◌≡◌, ◌≤◌, [], true, Err, Ok, IfErr, IfOk, IsErr, OnErr, OnOk, length, vec_capacity};
+ghost use Rattle.agv_desk.specs.DecisionEnds.{failed_by};
 ghost use Rattle.agv_http.specs.request.Requests.{most_body};
 ghost use Rattle.agv_http.specs.answers.Sizes.{most_answer};
 ghost use Rattle.sqlite.specs.Held.{state};
@@ -8,7 +9,7 @@ ghost use Rattle.agv_store.specs.Floors.{world_at};
 ghost use Rattle.agv_store.specs.Serving.{LeavesCall};
 ghost use Rattle.agv_schema.specs.Connections.{IsClean, IsOpen};
 ghost use Rattle.agv_world.specs.declared.fault.Fault.TheVariants as fault;
-ghost use Rattle.agv_face.specs.Replies.{ComesOfCall, IsAnswered, IsLaterDesk, IsCallAnswered, IsReached, LeavesRequest, call_of, failed_after};
+ghost use Rattle.agv_face.specs.Replies.{ComesOfCall, IsAnswered, IsLaterDesk, IsCallAnswered, IsReached, LeavesRequest, call_of};
 
 use crate::call::call_in;
 use agv_desk::laws::calls::tells_without_change;
@@ -47,7 +48,7 @@ pub(crate) fn answer_request<S: Alter + Drop>(
     ensures later { IsLaterDesk S.Store desk.old desk.new }
     ensures answers { IsClean S.Store desk.new.held → OnOk result (IsAnswered (world_at S.Store desk.old.held) (world_at S.Store desk.new.held) at request.now out.new.items) }
     ensures unchanged_on_err { IsClean S.Store desk.new.held → IsOpen S.Store desk.new.held → OnErr result (world_at S.Store desk.new.held ≡ world_at S.Store desk.old.held) }
-    ensures failed { desk.new.failed ≡ failed_after result desk.old.failed }
+    ensures failed { desk.new.failed ≡ failed_by result desk.old.failed }
     ensures stopped { desk.old.failed ≡ true → OnOk result (IsErr (call_of request.now)) }
     ensures fault { IfErr result (ComesOfCall (call_of request.now)) }
     ensures grown { vec_capacity out.old ≤ vec_capacity out.new }
@@ -72,7 +73,7 @@ fn reply_to<S: Alter + Drop>(
     ensures later { IsLaterDesk S.Store desk.old desk.new }
     ensures serves { IsClean S.Store desk.new.held → IfOk result (IsCallAnswered (world_at S.Store desk.old.held) (world_at S.Store desk.new.held) at (call_of request.now)) }
     ensures unchanged_on_err { IsClean S.Store desk.new.held → IsOpen S.Store desk.new.held → OnErr result (world_at S.Store desk.new.held ≡ world_at S.Store desk.old.held) }
-    ensures failed { desk.new.failed ≡ failed_after result desk.old.failed }
+    ensures failed { desk.new.failed ≡ failed_by result desk.old.failed }
     ensures stopped { desk.old.failed ≡ true → OnOk result (IsErr (call_of request.now)) }
     ensures fault { IfErr result (ComesOfCall (call_of request.now)) }
     ensures reached { OnOk result (IsReached S.Store desk.old desk.new (call_of request.now)) }
@@ -93,7 +94,7 @@ fn serve_call<S: Alter + Drop>(desk: &mut Desk<S>, at: Moment, call: &Call) -> R
     ensures later { IsLaterDesk S.Store desk.old desk.new }
     ensures serves { IsClean S.Store desk.new.held → IfOk result (IsCallAnswered (world_at S.Store desk.old.held) (world_at S.Store desk.new.held) at (Ok call.now)) }
     ensures unchanged_on_err { IsClean S.Store desk.new.held → IsOpen S.Store desk.new.held → OnErr result (world_at S.Store desk.new.held ≡ world_at S.Store desk.old.held) }
-    ensures failed { desk.new.failed ≡ failed_after result desk.old.failed }
+    ensures failed { desk.new.failed ≡ failed_by result desk.old.failed }
     ensures stopped { desk.old.failed ≡ true → result ≡ Err fault.Storage }
     ensures reached { OnOk result (IsReached S.Store desk.old desk.new (Ok call.now)) }
     ensures crash { Survives (state S.Store desk.old.held) (state S.Store desk.new.held) (LeavesCall S.Store desk.old.held at call.now) }

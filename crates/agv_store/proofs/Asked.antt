@@ -17,7 +17,8 @@ use Rattle.agv_schema.specs.Connections.{IsClean, IsOpen}
 use Rattle.agv_row_reading.specs.declared.open_fault.OpenFault.{OpenFault}
 use Rattle.agv_row_reading.specs.declared.open_fault.OpenFault.TheVariants as fault
 use Rattle.agv_schema.proofs.Later.{later_by}
-use Rattle.agv_store.specs.Flags.{doubted_by, failed_by, noted}
+use Rattle.agv_desk.specs.DecisionEnds.{failed_by}
+use Rattle.agv_store.specs.Flags.{doubted_by, noted}
 use Rattle.agv_store.specs.Floors.{IsAsked, IsKept, Keyed, Knows, facts_of, world_at}
 use Rattle.agv_store.specs.Known.{IsKnownIn}
 use Rattle.agv_store.specs.declared.known.Known.{Known}

@@ -28,7 +28,8 @@ use Rattle.agv_rows.specs.RowLists.{row_lists}
 use Rattle.agv_schema.specs.SchemaNumbers.{desk_seats}
 use Rattle.agv_schema.specs.Connections.{IsClean, IsOpen}
 use Rattle.agv_schema.proofs.Later.{later_by}
-use Rattle.agv_store.specs.Flags.{doubted_by, failed_by}
+use Rattle.agv_desk.specs.DecisionEnds.{failed_by}
+use Rattle.agv_store.specs.Flags.{doubted_by}
 use Rattle.agv_store.specs.Floors.{IsKept, Keyed, Knows, world_at}
 use Rattle.agv_store.specs.Serving.{Decides, IsServedBy, LeavesCall, outcome_in, world_after}
 use Rattle.agv_store.specs.Known.{Follows, IsKnownIn}

@@ -12,12 +12,6 @@ noted (Err fault.Memory) = Err machine.Memory
 noted (Err fault.Storage) = Err machine.Storage
 noted (Err fault.Damaged) = Err machine.Storage
 
--- whether the store has failed, once a question or a write has ended so
-abbrev pub failed_by : {A : Type 0} → Result A Fault → Bool → Bool
-failed_by (Ok answer) before = before
-failed_by (Err machine.Memory) before = before
-failed_by (Err machine.Storage) before = true
-
 -- whether it is in doubt that the store is open: want of memory may have shut it
 abbrev pub doubted_by : {A : Type 0} → Result A Fault → Bool → Bool
 doubted_by (Ok answer) before = before

@@ -1,6 +1,7 @@
 //! What the faults of questions and writes raise.
 ghost use Rattle.std.specs.Prelude.{◌≡◌};
-ghost use Rattle.agv_store.specs.Flags.{doubted_by, failed_by, noted};
+ghost use Rattle.agv_desk.specs.DecisionEnds.{failed_by};
+ghost use Rattle.agv_store.specs.Flags.{doubted_by, noted};
 
 use agv_row_reading::OpenFault;
 use agv_world::Fault;
