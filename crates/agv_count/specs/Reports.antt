@@ -1,13 +1,12 @@
 -- The reports and the export, to the byte (this project's formats).
-use Rattle.std.specs.Prelude.{ℕ, Bool, false, List, [], ◌∷◌, ◌++◌, length, filter, codes, decimal}
+use Rattle.std.specs.Prelude.{ℕ, Bool, List, [], ◌∷◌, ◌++◌, length, filter, codes, decimal}
 use Rattle.std.specs.List.{count_by, flat_map}
 use Rattle.std.specs.Map.{keys_of}
-use Rattle.agv_header.specs.KeyOrder.{key_eq}
 use Rattle.agv_header.specs.declared.key.Thing.{Thing}
 use Rattle.agv_header.specs.declared.key.Thing.TheVariants as thing
 use Rattle.agv_header.specs.declared.key.VehicleKey.{VehicleKey}
 use Rattle.agv_layout.specs.declared.station.Station.{Station}
-use Rattle.agv_stock.specs.Rooms.{is_at, is_checking, has_left}
+use Rattle.agv_stock.specs.Rooms.{is_at, is_on, is_checking, has_left}
 use Rattle.agv_stock.specs.declared.place.Place.{Place}
 use Rattle.agv_stock.specs.declared.place.Place.TheVariants as place
 
@@ -18,13 +17,6 @@ line text = text ++ 10 ∷ []
 -- `KIT/0001`
 abbrev pub key_text : VehicleKey → List ℕ
 key_text key = key.manufacturer ++ (codes "/" ++ key.serial)
-
--- the load is on the vehicle
-abbrev pub is_on_vehicle : VehicleKey → Place → Bool
-is_on_vehicle key (place.Station id) = false
-is_on_vehicle key (place.Vehicle at) = key_eq at key
-is_on_vehicle key place.Checking = false
-is_on_vehicle key place.Left = false
 
 -- the loads whose place is so, in the order of the list
 abbrev pub loads_where : (Place → Bool) → List (List ℕ × Place) → List (List ℕ)
@@ -57,7 +49,7 @@ unfoldable pub stock_text : List (Station × ℕ) → List (List ℕ × Place) �
 stock_text stations loads vehicles =
     flat_map (λ s. station_part (loads_where (is_at s.0.id) loads) s.0 s.1) stations
     ++ (checking_part (loads_where is_checking loads)
-    ++ (flat_map (λ key. vehicle_part (loads_where (is_on_vehicle key) loads) key) vehicles
+    ++ (flat_map (λ key. vehicle_part (loads_where (is_on key) loads) key) vehicles
     ++ left_part (count_by (λ l. has_left l.1) loads)))
 
 -- `node N2`, or `edge E12`

@@ -4,8 +4,8 @@ ghost use Rattle.std.specs.BTreeMap.{is_at};
 ghost use Rattle.agv_header.specs.Key.{key_cmp};
 ghost use Rattle.agv_header.specs.Name.{name_cmp};
 ghost use Rattle.agv_header.specs.declared.key.VehicleKey.{VehicleKey as Key};
-ghost use Rattle.agv_count.specs.Reports.{is_on_vehicle, loads_where};
-ghost use Rattle.agv_stock.specs.Rooms.{is_at as is_at_station, is_checking};
+ghost use Rattle.agv_count.specs.Reports.{loads_where};
+ghost use Rattle.agv_stock.specs.Rooms.{is_at as is_at_station, is_on, is_checking};
 ghost use Rattle.agv_count.specs.LoadsByPlace.{loads_at, one_if};
 
 use agv_header::{Memory, Name, VehicleKey};
@@ -28,7 +28,7 @@ impl LoadsByPlace {
     /// The loads of a list. One pass over it, and for each load a look-up among the stations or the vehicles.
     pub fn of_loads(alloc: Global, loads: &[(Name, Place)]) -> Result<LoadsByPlace, Memory>
         ensures stations { IfOk result (λ by_place. (id : List ℕ) → loads_at name_cmp by_place.stations id ≡ loads_where (is_at_station id) loads.now) }
-        ensures vehicles { IfOk result (λ by_place. (key : Key) → loads_at key_cmp by_place.vehicles key ≡ loads_where (is_on_vehicle key) loads.now) }
+        ensures vehicles { IfOk result (λ by_place. (key : Key) → loads_at key_cmp by_place.vehicles key ≡ loads_where (is_on key) loads.now) }
         ensures checking { IfOk result (λ by_place. by_place.checking.items ≡ loads_where is_checking loads.now) }
     {
         let mut by_place = LoadsByPlace {
@@ -47,7 +47,7 @@ impl LoadsByPlace {
         ensures stations { OnOk result ((id : List ℕ) → loads_at name_cmp self.new.stations id
             ≡ loads_at name_cmp self.old.stations id ++ one_if (is_at_station id place) load) }
         ensures vehicles { OnOk result ((key : Key) → loads_at key_cmp self.new.vehicles key
-            ≡ loads_at key_cmp self.old.vehicles key ++ one_if (is_on_vehicle key place) load) }
+            ≡ loads_at key_cmp self.old.vehicles key ++ one_if (is_on key place) load) }
         ensures checking { OnOk result (self.new.checking.items ≡ self.old.checking.items ++ one_if (is_checking place) load) }
     {
         match place {

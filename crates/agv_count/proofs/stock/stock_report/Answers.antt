@@ -5,8 +5,8 @@ use Rattle.agv_header.specs.Name.{name_cmp}
 use Rattle.agv_header.specs.declared.key.VehicleKey.{VehicleKey}
 use Rattle.agv_layout.specs.declared.station.Station.{Station}
 use Rattle.agv_stock.specs.declared.place.Place.{Place}
-use Rattle.agv_count.specs.Reports.{checking_part, is_on_vehicle, left_part, loads_where, station_part, stock_text, vehicle_part}
-use Rattle.agv_stock.specs.Rooms.{has_left, is_at as is_at_station, is_checking}
+use Rattle.agv_count.specs.Reports.{checking_part, left_part, loads_where, station_part, stock_text, vehicle_part}
+use Rattle.agv_stock.specs.Rooms.{has_left, is_at as is_at_station, is_on, is_checking}
 use Rattle.agv_count.specs.LoadsByPlace.{loads_at}
 use Rattle.agv_count.specs.declared.loads_by_place.LoadsByPlace.{LoadsByPlace}
 use Rattle.agv_count.proofs.Pieces.{four_parts}
@@ -14,7 +14,7 @@ use Rattle.agv_count.proofs.stock.stock_report.Goals as goal
 
 -- what is written of loads that are kept by where they stand
 of_loads_by_place : (stations : List (Station × ℕ)) (loads : List (List ℕ × Place)) (vehicles : List VehicleKey) (by_place : LoadsByPlace)
-    → ((id : List ℕ) → loads_at name_cmp by_place.stations id ≡ loads_where (is_at_station id) loads) → ((key : VehicleKey) → loads_at key_cmp by_place.vehicles key ≡ loads_where (is_on_vehicle key) loads)
+    → ((id : List ℕ) → loads_at name_cmp by_place.stations id ≡ loads_where (is_at_station id) loads) → ((key : VehicleKey) → loads_at key_cmp by_place.vehicles key ≡ loads_where (is_on key) loads)
     → by_place.checking.items ≡ loads_where is_checking loads
     → (flat_map (λ s. station_part (loads_at name_cmp by_place.stations s.0.id) s.0 s.1) stations ++ (checking_part by_place.checking.items ++ (flat_map (λ key. vehicle_part (loads_at key_cmp by_place.vehicles key) key) vehicles ++ left_part (count_by (λ l. has_left l.1) loads))))
     ≡ stock_text stations loads vehicles

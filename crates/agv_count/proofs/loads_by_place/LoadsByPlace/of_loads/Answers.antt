@@ -1,7 +1,6 @@
 use Rattle.agv_header.specs.Key.{key_cmp}
 use Rattle.agv_header.specs.Name.{name_cmp}
-use Rattle.agv_count.specs.Reports.{is_on_vehicle}
-use Rattle.agv_stock.specs.Rooms.{is_at as is_at_station, is_checking}
+use Rattle.agv_stock.specs.Rooms.{is_at as is_at_station, is_on, is_checking}
 use Rattle.agv_count.proofs.LoadsByPlaceLemmas.{loads_at-empty, one_more_there}
 use Rattle.agv_count.proofs.loads_by_place.LoadsByPlace.of_loads.Goals as goal
 
@@ -20,6 +19,6 @@ loop-load-preserved c =
     let more = c.in_ok-add.ensures in
     record {
       stations = λ id. one_more_there (is_at_station id) loads i c.loop-load-item.result _ _ c.loop-load-test.true c.loop-load-item.is (so_far.stations id) (more.stations id);
-      vehicles = λ key. one_more_there (is_on_vehicle key) loads i c.loop-load-item.result _ _ c.loop-load-test.true c.loop-load-item.is (so_far.vehicles key) (more.vehicles key);
+      vehicles = λ key. one_more_there (is_on key) loads i c.loop-load-item.result _ _ c.loop-load-test.true c.loop-load-item.is (so_far.vehicles key) (more.vehicles key);
       checking = one_more_there is_checking loads i c.loop-load-item.result _ _ c.loop-load-test.true c.loop-load-item.is so_far.checking more.checking;
     }
