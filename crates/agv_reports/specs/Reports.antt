@@ -3,6 +3,7 @@ use Rattle.std.specs.Prelude.{ℕ, ◌+◌, Bool, List, [], map, Option, None, S
 use Rattle.std.specs.FinMap as finite
 use Rattle.std.specs.FinSet as set
 use Rattle.std.specs.Map.{keys_of}
+use Rattle.agv_layout.specs.Layout.{station_of}
 use Rattle.agv_layout.specs.declared.station.StationSite.{StationSite}
 use Rattle.agv_layout.specs.declared.station.Station.{Station}
 use Rattle.agv_count.specs.Reports.{stock_text, hold_text, loads_text}
@@ -14,13 +15,9 @@ use Rattle.agv_desk.specs.declared.answer.Answer.TheVariants as answer
 use Rattle.agv_reports.specs.declared.report.Report.{Report}
 use Rattle.agv_reports.specs.declared.report.Report.TheVariants as report
 
--- a station with its name
-abbrev pub station_named : List ℕ × StationSite → Station
-station_named site = record { id = site.0; node = site.1.node; capacity = site.1.capacity }
-
 -- the stations in the order of their names, each with the number of live jobs to it
 abbrev pub stations_told : World → List (Station × ℕ)
-stations_told world = map (λ (site : List ℕ × StationSite). (station_named site, reserved world site.0)) (finite.entries world.layout.stations)
+stations_told world = map (λ (site : List ℕ × StationSite). (station_of site.0 site.1, reserved world site.0)) (finite.entries world.layout.stations)
 
 -- the text of a report of this world
 abbrev pub report_text : World → Report → List ℕ

@@ -20,7 +20,7 @@ use Rattle.agv_header.specs.ThingOrder.{thing_cmp-IsAntisymmetric, thing_cmp-tot
 use Rattle.agv_header.specs.declared.key.Thing.{Thing}
 use Rattle.agv_header.specs.declared.key.VehicleKey.{VehicleKey}
 use Rattle.agv_header.specs.Name.{name_cmp}
-use Rattle.agv_layout.specs.Layout.{KeepsRules, Layout}
+use Rattle.agv_layout.specs.Layout.{KeepsRules, Layout, station_of}
 use Rattle.agv_layout.specs.declared.edge.EdgeEnds.{EdgeEnds}
 use Rattle.agv_layout.specs.declared.station.StationSite.{StationSite}
 use Rattle.agv_layout.specs.declared.station.Station.{Station}
@@ -32,7 +32,6 @@ use Rattle.agv_header.specs.Spread.{spread}
 use Rattle.agv_world.specs.Worlds.{Vehicle, World, empty_layout}
 use Rattle.agv_world.specs.declared.row.JobRow.{JobRow}
 use Rattle.agv_world.specs.declared.row.VehicleRow.{VehicleRow}
-use Rattle.agv_reports.specs.Reports.{station_named}
 use Rattle.agv_row_reading.specs.HeldThings.{HasEach, are_entries}
 use Rattle.agv_schema.specs.SchemaNumbers.{desk_seats}
 use Rattle.agv_store.specs.ReportLists.{entered}
@@ -194,20 +193,20 @@ counted nodes edges n m sum told few n_is m_is sum_is told_is =
 
 -- a station with its name, and the live jobs to it
 abbrev pub with_jobs_to : World → List ℕ × StationSite → Station × ℕ
-with_jobs_to world site = (station_named site, reserved world site.0)
+with_jobs_to world site = (station_of site.0 site.1, reserved world site.0)
 
 append_one : {A : Type 0} (xs more : List A) (x : A) (rest : List A) → more ≡ xs ++ x ∷ [] → more ++ rest ≡ xs ++ x ∷ rest
 append_one xs more x rest is = ap (λ ys. ys ++ rest) is ∙ append_assoc xs (x ∷ []) rest
 
 -- one station more is listed
 pub one_more_station : (world now : World) (sites : List (List ℕ × StationSite)) (i : ℕ) (site : List ℕ × StationSite) (jobs : ℕ) (so_far more : List (Station × ℕ)) → now ≡ world
-    → i < length sites → site ≡ get_or sites i site → (IsLawful desk_seats now → jobs ≡ reserved now site.0) → more ≡ so_far ++ (station_named site, jobs) ∷ []
+    → i < length sites → site ≡ get_or sites i site → (IsLawful desk_seats now → jobs ≡ reserved now site.0) → more ≡ so_far ++ (station_of site.0 site.1, jobs) ∷ []
     → (IsLawful desk_seats world → so_far ++ map (with_jobs_to world) (drop i sites) ≡ map (with_jobs_to world) sites)
     → IsLawful desk_seats world → more ++ map (with_jobs_to world) (drop (i + 1) sites) ≡ map (with_jobs_to world) sites
 one_more_station world now sites i site jobs so_far more same low is told pushed before lawful =
     let jobs_are : jobs ≡ reserved world site.0 = told (subst (IsLawful desk_seats) (sym same) lawful) ∙ ap (λ (w : World). reserved w site.0) same in
-    append_one so_far more (station_named site, jobs) (map (with_jobs_to world) (drop (i + 1) sites)) pushed
-    ∙ ap (λ (n : ℕ). so_far ++ (station_named site, n) ∷ map (with_jobs_to world) (drop (i + 1) sites)) jobs_are
+    append_one so_far more (station_of site.0 site.1, jobs) (map (with_jobs_to world) (drop (i + 1) sites)) pushed
+    ∙ ap (λ (n : ℕ). so_far ++ (station_of site.0 site.1, n) ∷ map (with_jobs_to world) (drop (i + 1) sites)) jobs_are
     ∙ ap (λ (x : List ℕ × StationSite). so_far ++ with_jobs_to world x ∷ map (with_jobs_to world) (drop (i + 1) sites)) is
     ∙ sym (at_drop_more (λ (xs : List (List ℕ × StationSite)). so_far ++ map (with_jobs_to world) xs) sites i site low)
     ∙ before lawful

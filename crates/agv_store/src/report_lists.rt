@@ -3,12 +3,13 @@ ghost use Rattle.std.specs.Prelude.{◌≡◌, ◌<◌, ◌+◌, ◌^◌, ℕ, L
 ghost use Rattle.std.specs.FinMap as finite;
 ghost use Rattle.std.specs.FinSet as set;
 ghost use Rattle.std.specs.Map.{keys_of};
+ghost use Rattle.agv_layout.specs.Layout.{station_of};
 ghost use Rattle.agv_layout.specs.declared.station.StationSite.{StationSite as SiteOf};
 ghost use Rattle.agv_world.specs.Asks.{Asks};
 ghost use Rattle.agv_world.specs.Lawful.{IsLawful};
 ghost use Rattle.agv_world.specs.Questions.{reserved};
 ghost use Rattle.agv_world.specs.Rows.{rows_of};
-ghost use Rattle.agv_reports.specs.Reports.{station_named, stations_told};
+ghost use Rattle.agv_reports.specs.Reports.{stations_told};
 ghost use Rattle.agv_schema.specs.SchemaNumbers.{desk_seats};
 ghost use Rattle.agv_schema.specs.Connections.{IsClean, IsOpen};
 ghost use Rattle.agv_store.specs.Floors.{facts_of, world_at};
@@ -36,12 +37,12 @@ impl<S: Alter + Drop> KeyedFloor<S> {
 
     // These stations, each with the number of live jobs to it.
     fn with_jobs(&mut self, sites: &[(Name, StationSite)]) -> Result<Vec<(Station, u32)>, Fault>
-        ensures { Asks (facts_of S.Store) self.old self.new result (λ world stations. IsLawful desk_seats world → stations.items ≡ map (λ (site : List ℕ × SiteOf). (station_named site, reserved world site.0)) sites.now) }
+        ensures { Asks (facts_of S.Store) self.old self.new result (λ world stations. IsLawful desk_seats world → stations.items ≡ map (λ (site : List ℕ × SiteOf). (station_of site.0 site.1, reserved world site.0)) sites.now) }
     {
         let mut stations = Vec::new(self.alloc);
         for (id, site) in sites {
             let jobs = self.jobs_to(*id)?;
-            stations.push((station_named(*id, site), jobs))?;
+            stations.push((station_of(*id, site), jobs))?;
         }
         Ok(stations)
     }
@@ -108,9 +109,9 @@ impl<S: Alter + Drop> KeyedFloor<S> {
     }
 }
 
-// A station with its name.
-fn station_named(id: Name, site: &StationSite) -> Station
-    ensures { result ≡ station_named (id, site.now) }
+// The station of this name, at this site.
+fn station_of(id: Name, site: &StationSite) -> Station
+    ensures { result ≡ station_of id site.now }
 {
     Station {
         id,
