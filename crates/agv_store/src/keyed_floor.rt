@@ -9,7 +9,7 @@ ghost use Rattle.agv_store.specs.Floors.{IsKept, Knows, facts_of, world_at};
 use crate::flags::note;
 use crate::known::Known;
 use agv_world::Fault;
-use agv_world_reading::hold_reading::query_meta;
+use agv_world_reading::meta_reading::query_meta;
 use sqlite::{Alter, Connection};
 use std::alloc::Global;
 use std::marker::Model;

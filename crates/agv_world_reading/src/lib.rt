@@ -6,11 +6,12 @@
 //!   lawful world whose rows they have, where they have those of one. [`new_desk_laws`] says it of a new desk's tables.
 //! - [`table_reading`], `trip_reading`, [`hold_reading`] and [`layout_reading`] read the tables of one thing each: what is
 //!   read is what the lawful world has whose rows the tables have. A vehicle is read with its capacity, and an open trip
-//!   with its journey, its acts and the rows of their jobs.
+//!   with its journey, its acts and the rows of their jobs. [`meta_reading`] reads the row of the schema's number.
 #![tactic(auto)]
 
 pub mod hold_reading;
 pub mod layout_reading;
+pub mod meta_reading;
 pub mod new_desk_laws;
 pub mod reading_laws;
 pub mod table_reading;

@@ -10,8 +10,9 @@ ghost use Rattle.agv_rows.specs.RowLists.{rows_for, rows_in};
 ghost use Rattle.agv_row_reading.specs.TablesRead.{HaveAll, HaveTables, TellsAll};
 ghost use Rattle.agv_schema.specs.declared.table_name.TableName.TheVariants as the;
 
-use crate::hold_reading::{query_holds, query_meta};
+use crate::hold_reading::query_holds;
 use crate::layout_reading::query_layout_tables;
+use crate::meta_reading::query_meta;
 use crate::table_reading::{query_legs, query_places, query_used, query_vehicles};
 use crate::trip_reading::query_trips;
 use agv_row_reading::OpenFault;

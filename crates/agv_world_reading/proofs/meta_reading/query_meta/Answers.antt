@@ -2,7 +2,7 @@ use Rattle.std.proofs.Common.{ap, ◌∙◌}
 use Rattle.agv_row_reading.specs.ReadTables.{meta_read}
 use Rattle.agv_row_reading.proofs.AskingAll.{all_follows, all_passes}
 use Rattle.agv_world_reading.proofs.MetaAnswers.{meta_no_storage, shows_meta, tells_meta}
-use Rattle.agv_world_reading.proofs.hold_reading.query_meta.Goals as goal
+use Rattle.agv_world_reading.proofs.meta_reading.query_meta.Goals as goal
 
 pub returns-in_err-rows : goal.returns-in_err-rows
 returns-in_err-rows g c = all_passes g.S.Store c.args.conn.now c.query_all_rows.new.conn c.in_err-rows.field-0.0 _ _ _ _ c.from_residual.result c.from_residual.ensures.1 c.in_err-rows.ensures
