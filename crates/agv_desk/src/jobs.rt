@@ -24,23 +24,16 @@ pub(crate) fn add_job<F: Floor>(
 ) -> Result<Decision, Fault>
     ensures { Asks F.facts floor.old floor.new result (λ world decision. decision ≡ decided (add_job world job load to)) }
 {
-    if floor.job(job)?.is_some() {
-        return Ok(refused(alloc, Refusal::Exists));
-    }
-    let Some(place) = floor.place(load)? else {
-        return Ok(refused(alloc, Refusal::NoLoad));
-    };
+    let known = floor.job(job)?.is_some();
+    let place = floor.place(load)?;
     let goal = station_goal(floor, to)?;
-    if !goal.is_known() {
-        return Ok(refused(alloc, Refusal::NoStation));
-    }
-    let Some(origin) = station_of_place(place) else {
-        return Ok(refused(alloc, Refusal::Elsewhere));
-    };
     let live = is_in_job(floor, load)?;
-    if let Err(why) = can_job(false, Some(place), live, goal) {
+    if let Err(why) = can_job(known, place, live, goal) {
         return Ok(refused(alloc, why));
     }
+    let Some(origin) = place.and_then(station_of_place) else {
+        return Ok(refused(alloc, Refusal::Elsewhere));
+    };
     if floor.count(Counted::Jobs)? >= MAX_RECORDS {
         return Ok(refused(alloc, Refusal::Limit));
     }

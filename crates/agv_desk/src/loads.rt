@@ -1,5 +1,4 @@
-//! The calls of loads. A refusal that shows early is answered before the floor is asked more; `can_register`, `can_correct`
-//! and `can_leave` have all the checks in their order.
+//! The calls of loads. `can_register`, `can_correct` and `can_leave` have their checks in order.
 ghost use Rattle.std.specs.Prelude.{◌≡◌, IfOk};
 ghost use Rattle.agv_world.specs.Asks.{Asks};
 ghost use Rattle.agv_desk.specs.LoadSteps.{place_of, register_load, correct_load, leave_load, recorded, load_registered};
@@ -25,9 +24,6 @@ pub(crate) fn register_load<F: Floor>(
     ensures { Asks F.facts floor.old floor.new result (λ world decision. decision ≡ decided (register_load world load station)) }
 {
     let place = floor.place(load)?;
-    if place.is_some() {
-        return Ok(refused(alloc, Refusal::Exists));
-    }
     let goal = goal_of(floor, station)?;
     if let Err(why) = can_register(place, goal) {
         return Ok(refused(alloc, why));
@@ -60,18 +56,10 @@ pub(crate) fn correct_load<F: Floor>(
     if !is_new(floor, reference)? {
         return Ok(refused(alloc, Refusal::RefUsed));
     }
-    let Some(place) = floor.place(load)? else {
-        return Ok(refused(alloc, Refusal::NoLoad));
-    };
+    let place = floor.place(load)?;
     let goal = goal_of(floor, station)?;
-    if !goal.is_known() {
-        return Ok(refused(alloc, Refusal::NoStation));
-    }
-    if place.has_left() {
-        return Ok(refused(alloc, Refusal::Elsewhere));
-    }
     let live = is_in_job(floor, load)?;
-    if let Err(why) = can_correct(Some(place), live, goal) {
+    if let Err(why) = can_correct(place, live, goal) {
         return Ok(refused(alloc, why));
     }
     if floor.count(Counted::References)? >= MAX_RECORDS {
@@ -112,14 +100,9 @@ pub(crate) fn leave_load<F: Floor>(
     if !is_new(floor, reference)? {
         return Ok(refused(alloc, Refusal::RefUsed));
     }
-    let Some(place) = floor.place(load)? else {
-        return Ok(refused(alloc, Refusal::NoLoad));
-    };
-    if place.has_left() {
-        return Ok(refused(alloc, Refusal::Elsewhere));
-    }
+    let place = floor.place(load)?;
     let live = is_in_job(floor, load)?;
-    if let Err(why) = can_leave(Some(place), live) {
+    if let Err(why) = can_leave(place, live) {
         return Ok(refused(alloc, why));
     }
     if floor.count(Counted::References)? >= MAX_RECORDS {
