@@ -17,7 +17,7 @@ use Rattle.agv_http.specs.declared.request.heard.RequestRef.{RequestRef}
 use Rattle.agv_reports.specs.Reports.{report_of}
 use Rattle.agv_schema.specs.SchemaNumbers.{desk_seats}
 use Rattle.agv_world.specs.Worlds.{World}
-use Rattle.agv_face.specs.Replies.{call_of, outcome_in, text_for}
+use Rattle.agv_face.specs.Replies.{call_of_lent, text_for}
 
 -- ---- the laws that are cited
 
@@ -37,17 +37,17 @@ CallsInTurn = (requests more : List Request) (at : ℕ) → calls_of (requests +
 
 -- ---- a request, by its lent parts
 
-call_is : (request : Request) (lent : RequestRef) → IsLent request lent → call_of lent ≡ call_of_request request
+call_is : (request : Request) (lent : RequestRef) → IsLent request lent → call_of_lent lent ≡ call_of_request request
 unfolding call_of_request
 call_is request lent is =
     ap (λ (body : List ℕ). call_of_routed body (route_at lent.method lent.target.now)) is.body
     ∙ ap (λ (target : List ℕ). call_of_routed request.body (route_at lent.method target)) is.target
     ∙ ap (λ (method : List ℕ). call_of_routed request.body (route_at method request.target)) is.method
 
-pub is_call : (request : Request) (lent : RequestRef) → IsLent request lent → IsOk (call_of lent) → IsOk (call_of_request request)
+pub is_call : (request : Request) (lent : RequestRef) → IsLent request lent → IsOk (call_of_lent lent) → IsOk (call_of_request request)
 is_call request lent is made = let Made : Result Call Refusal → Type 0 = λ read. IsOk read in subst Made (call_is request lent is) made
 
-outcome_is : (world : World) (at : ℕ) (request : Request) (lent : RequestRef) → IsLent request lent → outcome_in world at (call_of lent) ≡ outcome_for desk_seats world at request
+outcome_is : (world : World) (at : ℕ) (request : Request) (lent : RequestRef) → IsLent request lent → outcome_by desk_seats world at (call_of_lent lent) ≡ outcome_for desk_seats world at request
 unfolding call_of_request outcome_for
 outcome_is world at request lent is =
     ap (λ (body : List ℕ). outcome_by desk_seats world at (call_of_routed body (route_at lent.method lent.target.now))) is.body
@@ -85,13 +85,13 @@ none_made at (Err why) is = refl
 
 -- the calls with one request more
 pub calls_more : (at : ℕ) (requests : List Request) (request : Request) (lent : RequestRef) → IsLent request lent → CallsInTurn
-    → calls_of (requests ++ request ∷ []) at ≡ calls_of requests at ++ cons_option (timed_call at (call_of lent)) []
+    → calls_of (requests ++ request ∷ []) at ≡ calls_of requests at ++ cons_option (timed_call at (call_of_lent lent)) []
 calls_more at requests request lent is turn =
     turn requests (request ∷ []) at ∙ ap (λ (read : Result Call Refusal). calls_of requests at ++ cons_option (timed_call at read) []) (sym (call_is request lent is))
 
 -- a request more that is none
 pub next_no_call : (at : ℕ) (requests : List Request) (request : Request) (lent : RequestRef) → IsLent request lent → CallsInTurn
-    → calls_of requests at ≡ [] → IsErr (call_of lent) → calls_of (requests ++ request ∷ []) at ≡ []
+    → calls_of requests at ≡ [] → IsErr (call_of_lent lent) → calls_of (requests ++ request ∷ []) at ≡ []
 next_no_call at requests request lent is turn none refused =
     let Refused : Result Call Refusal → Type 0 = λ read. IsErr read in
     let last : calls_of (request ∷ []) at ≡ [] = none_made at (call_of_request request) (subst Refused (call_is request lent is) refused) in
@@ -107,7 +107,7 @@ module _ (world : World) (at : ℕ) (requests : List Request) (request : Request
   pub next_answers : AnswersInTurn → answers_to desk_seats world at requests ++ text_for reached at lent ≡ answers_to desk_seats world at (requests ++ request ∷ [])
   next_answers turn = sym (turn desk_seats world at requests (request ∷ []) ∙ ap (λ (text : List ℕ). answers_to desk_seats world at requests ++ text) (one_answer reached at request ∙ sym next_text))
 
-  pub next_world : WorldsInTurn → after reached (outcome_in reached at (call_of lent)) ≡ world_after desk_seats world at (requests ++ request ∷ [])
+  pub next_world : WorldsInTurn → after reached (outcome_by desk_seats reached at (call_of_lent lent)) ≡ world_after desk_seats world at (requests ++ request ∷ [])
   next_world turn = ap (λ (o : Outcome). after reached o) (outcome_is reached at request lent is) ∙ sym (one_world reached at request) ∙ sym (turn desk_seats world at requests (request ∷ []))
 
 -- ---- the whole input: what has come of it, and what comes behind

@@ -12,7 +12,7 @@ use Rattle.agv_header.specs.declared.refusal.Refusal.{Refusal}
 use Rattle.agv_http.specs.request.Fronts.{HasNext}
 use Rattle.agv_http.specs.request.Heard.{IsHeard, IsLent}
 use Rattle.agv_http.specs.request.Requests.{Request}
-use Rattle.agv_http.specs.Output.{calls_of, timed_call, world_after}
+use Rattle.agv_http.specs.Output.{calls_of, outcome_by, timed_call, world_after}
 use Rattle.agv_http.specs.StreamEnds.{HasRequestNext}
 use Rattle.agv_http.specs.declared.request.heard.Heard.TheVariants as heard
 use Rattle.agv_http.specs.declared.request.heard.RequestRef.{RequestRef}
@@ -23,7 +23,7 @@ use Rattle.agv_store.specs.Running.{HasDatabase}
 use Rattle.agv_store.specs.Serving.{FoundIn, LeavesCall}
 use Rattle.agv_world.specs.Worlds.{World}
 use Rattle.agv_face.specs.Nexts.{LeavesNext}
-use Rattle.agv_face.specs.Replies.{IsReached, LeavesRequest, call_of, outcome_in}
+use Rattle.agv_face.specs.Replies.{IsReached, LeavesRequest, call_of_lent}
 use Rattle.agv_face.specs.StreamCalls.{AreDone, AreDoneOrNext}
 use Rattle.agv_face.proofs.InTurn.{CallsInTurn, WorldsInTurn, calls_more, next_world, no_calls}
 
@@ -93,15 +93,15 @@ module _ {S : Type 0} (g : Ghosts S) (at : ℕ) (desk : Keyed S) where
       still = λ clean _. (reached clean).1;
     }
 
-    calls_so : (read : Result Call Refusal) → call_of lent ≡ read → calls_of more at ≡ calls_of requests at ++ cons_option (timed_call at read) []
+    calls_so : (read : Result Call Refusal) → call_of_lent lent ≡ read → calls_of more at ≡ calls_of requests at ++ cons_option (timed_call at read) []
     calls_so read is = calls_more at requests request lent lent_is turn ∙ ap (λ (r : Result Call Refusal). calls_of requests at ++ cons_option (timed_call at r) []) is
 
-    kept_by : (read : Result Call Refusal) → call_of lent ≡ read → IsReached g now then read → HasKept then more
+    kept_by : (read : Result Call Refusal) → call_of_lent lent ≡ read → IsReached g now then read → HasKept then more
     kept_by (Err why) is same = kept_same same (calls_so (Err why) is ∙ append-nil (calls_of requests at))
     kept_by (Ok call) is reached = kept_call (λ none. not_nil (calls_of requests at) (at, call) (sym (calls_so (Ok call) is) ∙ none)) reached
 
-    pub kept_on : IsReached g now then (call_of lent) → HasKept then more
-    kept_on reached = kept_by (call_of lent) refl reached
+    pub kept_on : IsReached g now then (call_of_lent lent) → HasKept then more
+    kept_on reached = kept_by (call_of_lent lent) refl reached
 
   -- ---- at an end
 
@@ -129,20 +129,20 @@ module _ {S : Type 0} (g : Ghosts S) (at : ℕ) (desk : Keyed S) where
           ⊎ ((request : Request) × HasNext input requests request × FoundIn found (world_after desk_seats start at (requests ++ request ∷ [])))
 
       found_next : IsClean g now.held → (trees : Trees) → (lent : RequestRef) → (request : Request) × IsLent request lent × HasNext input requests request
-          → (read : Result Call Refusal) → call_of lent ≡ read → LeavesRequest g now.held at read trees → HasDatabase FoundSo trees
+          → (read : Result Call Refusal) → call_of_lent lent ≡ read → LeavesRequest g now.held at read trees → HasDatabase FoundSo trees
       found_next clean trees lent goes (Err why) is leaves = absurd leaves
       found_next clean trees lent goes (Ok call) is leaves =
           let left : LeavesCall g now.held at call trees = leaves in
           let world_then =
-          ap (λ (world : World). after world (outcome_in world at (Ok call))) (world_is clean)
-          ∙ ap (λ (r : Result Call Refusal). after (world_after desk_seats start at requests) (outcome_in (world_after desk_seats start at requests) at r)) (sym is)
+          ap (λ (world : World). after world (outcome_by desk_seats world at (Ok call))) (world_is clean)
+          ∙ ap (λ (r : Result Call Refusal). after (world_after desk_seats start at requests) (outcome_by desk_seats (world_after desk_seats start at requests) at r)) (sym is)
           ∙ next_world start at requests goes.0 lent goes.1 turn in
           let Found : World → Type 0 = λ world. FoundIn left.found world in
           record { found = left.found; listed = left.listed; trees_are = left.trees_are; is_so = inr (goes.0, goes.2, subst Found world_then left.has) }
 
       found_either : IsClean g now.held → Known now → (trees : Trees) → (state g now.held).may_leave trees ⊎ LeavesNext g now.held at buf ended trees → HasDatabase FoundSo trees
       found_either clean knows trees (inl before) = has_weaker (λ found has. inl has) (found_now clean knows trees before)
-      found_either clean knows trees (inr next) = found_next clean trees next.0 (goes next.0 next.1) (call_of next.0) refl next.2
+      found_either clean knows trees (inr next) = found_next clean trees next.0 (goes next.0 next.1) (call_of_lent next.0) refl next.2
 
       pub are_done_or_next : AreDoneOrNext g at desk then input requests
       are_done_or_next = record {

@@ -15,7 +15,7 @@ use Rattle.agv_desk.specs.declared.call.Call.{Call}
 use Rattle.agv_header.specs.declared.refusal.Refusal.{Refusal}
 use Rattle.agv_http.specs.answers.Answers.{answer_text}
 use Rattle.agv_http.specs.bodies.BodyCalls.{call_of_body}
-use Rattle.agv_http.specs.Output.{call_of_routed}
+use Rattle.agv_http.specs.Output.{call_of_routed, outcome_by}
 use Rattle.agv_http.specs.request.Requests.{most_body}
 use Rattle.agv_http.specs.answers.Sizes.{is_outcome, most_answer}
 use Rattle.agv_http.specs.routing.Table.{route_at}
@@ -35,7 +35,7 @@ use Rattle.agv_http.specs.declared.request.heard.Heard.TheVariants as heard
 use Rattle.agv_world.specs.declared.fault.Fault.{Fault}
 use Rattle.agv_world.specs.declared.fault.Fault.TheVariants as machine
 use Rattle.agv_face.specs.Nexts.{IsNextFault}
-use Rattle.agv_face.specs.Replies.{ComesOfCall, IsCallAnswered, IsLaterDesk, IsReached, LeavesRequest, call_of, outcome_in}
+use Rattle.agv_face.specs.Replies.{ComesOfCall, IsCallAnswered, IsLaterDesk, IsReached, LeavesRequest, call_of_lent}
 use Rattle.agv_face.specs.declared.reply.Reply.{Reply}
 
 -- ---- the laws that are cited
@@ -116,20 +116,20 @@ module _ (changes_none : TellsWithoutChange) (told : Answer) (fits : OutcomesFit
   of_call route made is so leads true asks = inl (leads ∙ (changes_none desk_seats world at made asks).0)
   of_call route made is so leads false asks = inr (λ report close. fits desk_seats world at route body made report close is short asks so)
 
-  of_read : (route : Route) (read : Result Call Refusal) → call_of_body route body ≡ read → told ≡ answer_of (outcome_in world at read) → world_then ≡ after world (outcome_in world at read)
+  of_read : (route : Route) (read : Result Call Refusal) → call_of_body route body ≡ read → told ≡ answer_of (outcome_by desk_seats world at read) → world_then ≡ after world (outcome_by desk_seats world at read)
       → (world_then ≡ world) ⊎ FitsBuffer told
   unfolding after
   of_read route (Err why) is so leads = inl leads
   of_read route (Ok made) is so leads = of_call route made is so leads (only_tells made) refl
 
-  of_route : (route : Result Route Refusal) → told ≡ answer_of (outcome_in world at (call_of_routed body route)) → world_then ≡ after world (outcome_in world at (call_of_routed body route))
+  of_route : (route : Result Route Refusal) → told ≡ answer_of (outcome_by desk_seats world at (call_of_routed body route)) → world_then ≡ after world (outcome_by desk_seats world at (call_of_routed body route))
       → (world_then ≡ world) ⊎ FitsBuffer told
   unfolding after
   of_route (Err why) so leads = inl leads
   of_route (Ok route) so leads = of_read route (call_of_body route body) refl so leads
 
 pub stays_or_fits : TellsWithoutChange → (world world_then : World) (at : ℕ) (request : RequestRef) (reply : Reply) → OutcomesFit reply.answer → length request.body.now ≤ most_body
-    → IsCallAnswered world world_then at (call_of request) reply → (world_then ≡ world) ⊎ FitsBuffer reply.answer
+    → IsCallAnswered world world_then at (call_of_lent request) reply → (world_then ≡ world) ⊎ FitsBuffer reply.answer
 stays_or_fits changes_none world world_then at request reply fits short served =
     of_route changes_none reply.answer fits world world_then at request.body.now short (route_at request.method request.target.now) served.answer_is served.world_is
 
@@ -164,7 +164,7 @@ reached_none g desk read why is = let So : Result Call Refusal → Type 0 = λ c
 
 -- ---- a fault before there is an answer
 
-pub comes_of_next : (buf : List ℕ) (ended : Bool) (lent : RequestRef) → IsHeard buf ended (heard.Request lent) → (why : Fault) → ComesOfCall (call_of lent) why → IsNextFault buf ended why
+pub comes_of_next : (buf : List ℕ) (ended : Bool) (lent : RequestRef) → IsHeard buf ended (heard.Request lent) → (why : Fault) → ComesOfCall (call_of_lent lent) why → IsNextFault buf ended why
 comes_of_next buf ended lent told machine.Memory comes = (lent.len, (told.0, told.1, told.2, told.3, tt))
 comes_of_next buf ended lent told machine.Storage comes = (lent, told, comes)
 

@@ -9,7 +9,7 @@ use Rattle.agv_desk.specs.Outcomes.{after}
 use Rattle.agv_http.specs.request.Cut.{Cut, at_end, closed, faulty, no_more}
 use Rattle.agv_http.specs.request.Fronts.{Begins, GoesOnBy, HasNext, IsSoFar}
 use Rattle.agv_http.specs.request.Heard.{HasRequest, IsHeard}
-use Rattle.agv_http.specs.Output.{answers_to, calls_of, refusal_text, world_after}
+use Rattle.agv_http.specs.Output.{answers_to, calls_of, outcome_by, refusal_text, world_after}
 use Rattle.agv_http.specs.request.Requests.{Request}
 use Rattle.agv_http.specs.StreamEnds.{HasCallNext, HasMachineFault, HasRequestNext, IsLastRefusal, IsNextAnswer, IsOfMachine, IsReadFault, IsWriteFault}
 use Rattle.agv_http.specs.declared.request.heard.Heard.TheVariants as heard
@@ -20,7 +20,7 @@ use Rattle.agv_schema.specs.Connections.{IsClean, IsOpen}
 use Rattle.agv_world.specs.Worlds.{World}
 use Rattle.agv_face.specs.Bytes.{IsCut, IsRead}
 use Rattle.agv_face.specs.StreamEnd.{HaveCome, IsEnd, IsInput, Leaves}
-use Rattle.agv_face.specs.Replies.{IsAnswered, IsLaterDesk, call_of, outcome_in, text_for}
+use Rattle.agv_face.specs.Replies.{IsAnswered, IsLaterDesk, call_of_lent, text_for}
 use Rattle.agv_face.specs.CountingIo.{inner_of, FailedNever}
 use Rattle.agv_face.specs.declared.stream_end.Ended.TheVariants as ended_by
 use Rattle.agv_face.specs.declared.counting_io.CountingIo.{CountingIo}
@@ -105,7 +105,7 @@ module _ {S R W : Type 0} (g : Ghosts S) (remaining : R → Option (List ℕ)) (
     begins = record { front = s.front; rest = buf ++ more; parts = parts; cut = s.cut; rest_is = tt }
 
     -- the next request is a call
-    pub has_call : (lent : RequestRef) (request : Request) → GoesOnBy s.front buf s.requests lent request → IsOk (call_of lent) → HasCallNext input s.requests
+    pub has_call : (lent : RequestRef) (request : Request) → GoesOnBy s.front buf s.requests lent request → IsOk (call_of_lent lent) → HasCallNext input s.requests
     has_call lent request goes made = let HasNextSo : List ℕ → Type 0 = λ bytes. HasNext bytes s.requests request in (request, subst HasNextSo (sym parts) (goes.next more), is_call request lent goes.is_lent made)
 
     -- there is a fault of the machine
@@ -297,7 +297,7 @@ module _ {S R W : Type 0} (g : Ghosts S) (remaining : R → Option (List ℕ)) (
 
       pub world_then : IsClean g then.held → world_at g then.held ≡ world_after desk_seats start at (s.requests ++ request ∷ [])
       world_then clean =
-          (answered clean).world_is ∙ ap (λ (world : World). after world (outcome_in world at (call_of lent))) (s.world_is (later clean)) ∙ next_world start at s.requests request lent goes.is_lent worlds_turn
+          (answered clean).world_is ∙ ap (λ (world : World). after world (outcome_by desk_seats world at (call_of_lent lent))) (s.world_is (later clean)) ∙ next_world start at s.requests request lent goes.is_lent worlds_turn
 
       many : answers + 1 ≡ length (s.requests ++ request ∷ [])
       many = omega (arith, s.counted, length-append s.requests (request ∷ []))
@@ -308,7 +308,7 @@ module _ {S R W : Type 0} (g : Ghosts S) (remaining : R → Option (List ℕ)) (
           let Wrote : List ℕ → Type 0 = λ text. Appends (contents (inner_of writer)) (contents (inner_of writer_then)) text in
           subst Wrote (all_written clean) (Appends-trans _ _ _ _ _ (wrote_answers (later clean)) wrote)
 
-      pub no_call_asked : CallsInTurn → (now.failed ≡ true → IsErr (call_of lent)) → desk.failed ≡ true → calls_of (s.requests ++ request ∷ []) at ≡ []
+      pub no_call_asked : CallsInTurn → (now.failed ≡ true → IsErr (call_of_lent lent)) → desk.failed ≡ true → calls_of (s.requests ++ request ∷ []) at ≡ []
       no_call_asked calls_turn no_call was = next_no_call at s.requests request lent goes.is_lent calls_turn (s.none_asked was) (no_call (s.failed ∙ was))
 
       -- the stream goes on

@@ -11,7 +11,7 @@ use Rattle.agv_world.specs.declared.fault.Fault.{Fault}
 use Rattle.agv_world.specs.declared.fault.Fault.TheVariants as machine
 use Rattle.sqlite_trees.specs.Tree.{Trees}
 use Rattle.sqlite.specs.Held.{Held}
-use Rattle.agv_face.specs.Replies.{ComesOfCall, IsAnswered, IsReached, LeavesRequest, call_of}
+use Rattle.agv_face.specs.Replies.{ComesOfCall, IsAnswered, IsReached, LeavesRequest, call_of_lent}
 use Rattle.agv_face.specs.declared.next.Next.{Next}
 use Rattle.agv_face.specs.declared.next.Next.TheVariants as next
 
@@ -23,9 +23,9 @@ module _ {S : Type 0} (g : Ghosts S) (at : ℕ) (desk desk_then : Keyed S) (buf 
     pub len_is : len ≡ request.len
     pub close_is : close ≡ request.close
     -- where the store had failed before, the request is no call
-    pub no_call : desk.failed ≡ true → IsErr (call_of request)
+    pub no_call : desk.failed ≡ true → IsErr (call_of_lent request)
     pub answered : IsClean g desk_then.held → IsAnswered (world_at g desk.held) (world_at g desk_then.held) at request out
-    pub reached : IsReached g desk desk_then (call_of request)
+    pub reached : IsReached g desk desk_then (call_of_lent request)
 
   abbrev pub IsNext : Next → Type 0
   IsNext next.Need = IsHeard buf ended heard.Need × (desk_then ≡ desk)
@@ -35,9 +35,9 @@ module _ {S : Type 0} (g : Ghosts S) (at : ℕ) (desk desk_then : Keyed S) (buf 
 
 -- a crash while the next request of the buffer is served can leave these trees
 abbrev pub LeavesNext : {S : Type 0} → Ghosts S → Held S → ℕ → List ℕ → Bool → Trees → Type 0
-LeavesNext g held at buf ended trees = (request : RequestRef) × IsHeard buf ended (heard.Request request) × LeavesRequest g held at (call_of request) trees
+LeavesNext g held at buf ended trees = (request : RequestRef) × IsHeard buf ended (heard.Request request) × LeavesRequest g held at (call_of_lent request) trees
 
 -- a fault of the machine, before there is an answer to the next request: the buffer begins with one; where the fault is of the store, that is a call
 abbrev pub IsNextFault : List ℕ → Bool → Fault → Type 0
 IsNextFault buf ended machine.Memory = (len : ℕ) × HasRequest buf len (λ request. Unit {0})
-IsNextFault buf ended machine.Storage = (request : RequestRef) × IsHeard buf ended (heard.Request request) × ComesOfCall (call_of request) machine.Storage
+IsNextFault buf ended machine.Storage = (request : RequestRef) × IsHeard buf ended (heard.Request request) × ComesOfCall (call_of_lent request) machine.Storage

@@ -12,7 +12,7 @@ use Rattle.agv_schema.specs.Connections.{IsClean, IsLater, IsOpen}
 use Rattle.agv_world.specs.Worlds.{World}
 use Rattle.agv_world.specs.declared.fault.Fault.{Fault}
 use Rattle.agv_world.specs.declared.fault.Fault.TheVariants as machine
-use Rattle.agv_desk.specs.Outcomes.{Outcome, after, answer_of}
+use Rattle.agv_desk.specs.Outcomes.{after, answer_of}
 use Rattle.agv_desk.specs.declared.call.Call.{Call}
 use Rattle.agv_http.specs.answers.Answers.{answer_text}
 use Rattle.agv_http.specs.Output.{call_of_routed, outcome_by}
@@ -20,28 +20,24 @@ use Rattle.agv_http.specs.routing.Table.{route_at}
 use Rattle.agv_http.specs.declared.request.heard.RequestRef.{RequestRef}
 use Rattle.agv_face.specs.declared.reply.Reply.{Reply}
 
--- the call that a request is, or why it is refused before it is one
-abbrev pub call_of : RequestRef → Result Call Refusal
-call_of request = call_of_routed request.body.now (route_at request.method request.target.now)
-
--- what a call does that comes at a moment, or that a request is refused
-abbrev pub outcome_in : World → ℕ → Result Call Refusal → Outcome
-outcome_in world at call = outcome_by desk_seats world at call
+-- the call that a lent request is, or why it is refused before it is one
+abbrev pub call_of_lent : RequestRef → Result Call Refusal
+call_of_lent request = call_of_routed request.body.now (route_at request.method request.target.now)
 
 -- the reply is the answer of the table of calls and the report that it names, both of the world before the call; and the other world is the one after it
 pub record IsCallAnswered (world world_then : World) (at : ℕ) (call : Result Call Refusal) (reply : Reply) : Type 0 where
-  pub answer_is : reply.answer ≡ answer_of (outcome_in world at call)
+  pub answer_is : reply.answer ≡ answer_of (outcome_by desk_seats world at call)
   pub report_is : reply.report.items ≡ report_of world reply.answer
-  pub world_is : world_then ≡ after world (outcome_in world at call)
+  pub world_is : world_then ≡ after world (outcome_by desk_seats world at call)
 
 -- the bytes of the answer to a request in this world
 abbrev pub text_for : World → ℕ → RequestRef → List ℕ
-text_for world at request = let told = answer_of (outcome_in world at (call_of request)) in answer_text told (report_of world told) request.close
+text_for world at request = let told = answer_of (outcome_by desk_seats world at (call_of_lent request)) in answer_text told (report_of world told) request.close
 
 -- this is to be written for the request, and the other world is the one after it
 pub record IsAnswered (world world_then : World) (at : ℕ) (request : RequestRef) (text : List ℕ) : Type 0 where
   pub text_is : text ≡ text_for world at request
-  pub world_is : world_then ≡ after world (outcome_in world at (call_of request))
+  pub world_is : world_then ≡ after world (outcome_by desk_seats world at (call_of_lent request))
 
 -- a later moment of a desk: only a fault of the disk has shut its store, and where it is open it was; where its store had failed before, the desk is as it was
 pub record IsLaterDesk {S : Type 0} (g : Ghosts S) (desk desk_then : Keyed S) : Type 0 where

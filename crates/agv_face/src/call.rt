@@ -1,7 +1,7 @@
 //! From a request to the call of the desk that it is.
 ghost use Rattle.std.specs.Prelude.{◌≡◌, Ok, IfOk, IfErr};
 ghost use Rattle.agv_message.specs.Body.{IsFaultOf};
-ghost use Rattle.agv_face.specs.Replies.{call_of};
+ghost use Rattle.agv_face.specs.Replies.{call_of_lent};
 
 use agv_desk::Call;
 use agv_http::{RequestRef, Routes};
@@ -14,8 +14,8 @@ pub(crate) fn call_in(
     routes: &Routes,
     request: &RequestRef<'_>,
 ) -> Result<Call, BodyFault>
-    ensures ok { IfOk result (λ call. call_of request.now ≡ Ok call) }
-    ensures err { IfErr result (λ fault. IsFaultOf fault (call_of request.now)) }
+    ensures ok { IfOk result (λ call. call_of_lent request.now ≡ Ok call) }
+    ensures err { IfErr result (λ fault. IsFaultOf fault (call_of_lent request.now)) }
 {
     match routes.route_of(&request.method, request.target) {
         Ok(route) => agv_http::call_of(alloc, &route, request.body),

@@ -9,7 +9,7 @@ ghost use Rattle.agv_store.specs.Floors.{world_at};
 ghost use Rattle.agv_store.specs.Serving.{LeavesCall};
 ghost use Rattle.agv_schema.specs.Connections.{IsClean, IsOpen};
 ghost use Rattle.agv_world.specs.declared.fault.Fault.TheVariants as fault;
-ghost use Rattle.agv_face.specs.Replies.{ComesOfCall, IsAnswered, IsLaterDesk, IsCallAnswered, IsReached, LeavesRequest, call_of};
+ghost use Rattle.agv_face.specs.Replies.{ComesOfCall, IsAnswered, IsLaterDesk, IsCallAnswered, IsReached, LeavesRequest, call_of_lent};
 
 use crate::call::call_in;
 use agv_desk::laws::calls::tells_without_change;
@@ -49,11 +49,11 @@ pub(crate) fn answer_request<S: Alter + Drop>(
     ensures answers { IsClean S.Store desk.new.held → OnOk result (IsAnswered (world_at S.Store desk.old.held) (world_at S.Store desk.new.held) at request.now out.new.items) }
     ensures unchanged_on_err { IsClean S.Store desk.new.held → IsOpen S.Store desk.new.held → OnErr result (world_at S.Store desk.new.held ≡ world_at S.Store desk.old.held) }
     ensures failed { desk.new.failed ≡ failed_by result desk.old.failed }
-    ensures stopped { desk.old.failed ≡ true → OnOk result (IsErr (call_of request.now)) }
-    ensures fault { IfErr result (ComesOfCall (call_of request.now)) }
+    ensures stopped { desk.old.failed ≡ true → OnOk result (IsErr (call_of_lent request.now)) }
+    ensures fault { IfErr result (ComesOfCall (call_of_lent request.now)) }
     ensures grown { vec_capacity out.old ≤ vec_capacity out.new }
-    ensures reached { OnOk result (IsReached S.Store desk.old desk.new (call_of request.now)) }
-    ensures crash { Survives (state S.Store desk.old.held) (state S.Store desk.new.held) (LeavesRequest S.Store desk.old.held at (call_of request.now)) }
+    ensures reached { OnOk result (IsReached S.Store desk.old desk.new (call_of_lent request.now)) }
+    ensures crash { Survives (state S.Store desk.old.held) (state S.Store desk.new.held) (LeavesRequest S.Store desk.old.held at (call_of_lent request.now)) }
 {
     tells_without_change();
     let reply = reply_to(alloc, routes, desk, at, request)?;
@@ -71,13 +71,13 @@ fn reply_to<S: Alter + Drop>(
     request: &RequestRef<'_>,
 ) -> Result<Reply, Fault>
     ensures later { IsLaterDesk S.Store desk.old desk.new }
-    ensures serves { IsClean S.Store desk.new.held → IfOk result (IsCallAnswered (world_at S.Store desk.old.held) (world_at S.Store desk.new.held) at (call_of request.now)) }
+    ensures serves { IsClean S.Store desk.new.held → IfOk result (IsCallAnswered (world_at S.Store desk.old.held) (world_at S.Store desk.new.held) at (call_of_lent request.now)) }
     ensures unchanged_on_err { IsClean S.Store desk.new.held → IsOpen S.Store desk.new.held → OnErr result (world_at S.Store desk.new.held ≡ world_at S.Store desk.old.held) }
     ensures failed { desk.new.failed ≡ failed_by result desk.old.failed }
-    ensures stopped { desk.old.failed ≡ true → OnOk result (IsErr (call_of request.now)) }
-    ensures fault { IfErr result (ComesOfCall (call_of request.now)) }
-    ensures reached { OnOk result (IsReached S.Store desk.old desk.new (call_of request.now)) }
-    ensures crash { Survives (state S.Store desk.old.held) (state S.Store desk.new.held) (LeavesRequest S.Store desk.old.held at (call_of request.now)) }
+    ensures stopped { desk.old.failed ≡ true → OnOk result (IsErr (call_of_lent request.now)) }
+    ensures fault { IfErr result (ComesOfCall (call_of_lent request.now)) }
+    ensures reached { OnOk result (IsReached S.Store desk.old desk.new (call_of_lent request.now)) }
+    ensures crash { Survives (state S.Store desk.old.held) (state S.Store desk.new.held) (LeavesRequest S.Store desk.old.held at (call_of_lent request.now)) }
 {
     match call_in(alloc, routes, request) {
         Ok(call) => serve_call(desk, at, &call),
