@@ -18,7 +18,7 @@ lookup_tied : {K X : Type 0} {R : K → K → Ordering} → IsTotalOrder R → (
 lookup_tied o at q tie [] = refl
 lookup_tied o at q tie (e ∷ es) = λ i. cond (is_eq (o.congr at q e.0 tie i)) (Some e.1) (lookup_tied o at q tie es i)
 
--- nothing is kept at first
+-- nothing is there at first
 pub loads_at-empty : {K A : Type 0} (R : K → K → Ordering) (placed : BTreeMap K (Vec (List ℕ) A)) → placed.entries ≡ [] → (q : K) → loads_at R placed q ≡ []
 loads_at-empty {K} {A} R placed empty q = ap (λ (es : List (K × Vec (List ℕ) A)). unwrap_or (option_map (λ loads. loads.items) (lookup (is_at (R q)) es)) []) empty
 
@@ -26,7 +26,7 @@ module _ {A : Type 0} where
   abbrev pub items_of : Option (Vec (List ℕ) A) → List (List ℕ)
   items_of kept = unwrap_or (option_map (λ loads. loads.items) kept) []
 
-  -- what is kept at a place, or an empty list
+  -- what is at a place, or an empty list
   pub items-kept : (kept : Option (Vec (List ℕ) A)) (fresh : Vec (List ℕ) A) → fresh.items ≡ [] → (unwrap_or kept fresh).items ≡ items_of kept
   items-kept None fresh empty = empty
   items-kept (Some loads) fresh empty = refl

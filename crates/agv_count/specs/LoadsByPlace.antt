@@ -1,4 +1,4 @@
--- The loads of a list, kept by where they stand.
+-- The loads of a list, by where they stand.
 use Rattle.std.specs.Prelude.{ℕ, Bool, List, [], ◌∷◌, if◌then◌else◌}
 use Rattle.std.specs.BTreeMap.{BTreeMap, get}
 use Rattle.std.specs.Option.{option_map, unwrap_or}

@@ -5,7 +5,7 @@ pub mod FitStops
 pub mod FoundActs
 pub mod FoundJobs
 pub mod FoundMoves
-pub mod KeptPlaces
+pub mod ReservedPlaces
 pub mod OffSteps
 pub mod OrderJobs
 pub mod Starts

@@ -25,7 +25,7 @@ abbrev pub taken_from : ActKind → VehicleKey → JobRow → Place
 taken_from Pick key row = place.Station row.origin
 taken_from Drop key row = place.Vehicle key
 
--- a vehicle has a trip of this order open; the job rides, and is for the load that moves, and a place at its target is kept; the load is found as above, and goes to the vehicle, or to the job's target
+-- a vehicle has a trip of this order open; the job rides, and is for the load that moves, and a place at its target is reserved; the load is found as above, and goes to the vehicle, or to the job's target
 pub record FindsItsLoad (world : World) (places : Places) (move : Move) (kind : ActKind) (order job : List ℕ) : Type 0 where
   pub key : VehicleKey
   pub trip : Trip
@@ -34,7 +34,7 @@ pub record FindsItsLoad (world : World) (places : Places) (move : Move) (kind : 
   pub row : JobRow
   pub here : IsJob world job row
   pub rides : row.phase ≡ phase.Riding
-  pub kept : 1 ≤ reserved world row.target
+  pub place_reserved : 1 ≤ reserved world row.target
   pub load : row.load ≡ move.load
   pub from : finite.get places move.load ≡ Some (taken_from kind key row)
   pub to : move.place ≡ taken_to key kind row.target

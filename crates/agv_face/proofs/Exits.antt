@@ -33,7 +33,7 @@ use Rattle.agv_face.specs.declared.stream_end.StreamFault.{StreamFault}
 use Rattle.agv_face.specs.declared.stream_end.StreamFault.TheVariants as fault
 use Rattle.agv_face.specs.declared.counting_io.CountingIo.{CountingIo}
 use Rattle.agv_face.proofs.Counting.{counts_at_end, counts_closed, counts_cut, counts_faulty, counts_refused, counts_unread}
-use Rattle.agv_face.proofs.Kept.{FindsKnown, HasKept, are_done, are_done_or_next, kept_on}
+use Rattle.agv_face.proofs.StaysKnown.{FindsKnown, StaysKnown, are_done, are_done_or_next, known_on}
 use Rattle.agv_face.proofs.Serving.{later_still, survives_still}
 use Rattle.agv_face.proofs.InTurn.{AnswersInTurn, CallsInTurn, GoesOnBehind, WorldsInTurn}
 use Rattle.agv_face.proofs.Streams.{HasServed, cut_answer, cut_faulty, cut_refused, ends_at_end, ends_closed, ends_faulty, ends_refused, ends_unread, follows, has_call, has_request, input, machine_fault, more, no_call_asked, none_served, none_yet, parts, reads_on, serves_on, world_then}
@@ -41,25 +41,25 @@ use Rattle.agv_face.proofs.Writing.{failed_then}
 
 -- ---- a fault of HTTP is none of the machine
 
-abbrev IsKeptBy : Bool → Result ℕ Refusal → Type 0
-IsKeptBy before (Ok n) = Unit {0}
-IsKeptBy before (Err why) = failed_at_end (ended_by.Refused why) before ≡ before
+abbrev IsUnchangedBy : Bool → Result ℕ Refusal → Type 0
+IsUnchangedBy before (Ok n) = Unit {0}
+IsUnchangedBy before (Err why) = failed_at_end (ended_by.Refused why) before ≡ before
 
-either_kept : (before b : Bool) (one other : Result ℕ Refusal) → IsKeptBy before one → IsKeptBy before other → IsKeptBy before (if b then one else other)
-either_kept before true one other first second = first
-either_kept before false one other first second = second
+either_unchanged : (before b : Bool) (one other : Result ℕ Refusal) → IsUnchangedBy before one → IsUnchangedBy before other → IsUnchangedBy before (if b then one else other)
+either_unchanged before true one other first second = first
+either_unchanged before false one other first second = second
 
-needed_kept : (before coded : Bool) (method : List ℕ) (said : Length) → IsKeptBy before (length_needed coded method said)
-needed_kept before coded method wrong = refl
-needed_kept before coded method absent = either_kept before coded _ _ refl (either_kept before (sends_body method) _ _ refl tt)
-needed_kept before coded method (given n) = either_kept before coded _ _ refl (either_kept before (nat_lt most_body n) _ _ refl tt)
+needed_unchanged : (before coded : Bool) (method : List ℕ) (said : Length) → IsUnchangedBy before (length_needed coded method said)
+needed_unchanged before coded method wrong = refl
+needed_unchanged before coded method absent = either_unchanged before coded _ _ refl (either_unchanged before (sends_body method) _ _ refl tt)
+needed_unchanged before coded method (given n) = either_unchanged before coded _ _ refl (either_unchanged before (nat_lt most_body n) _ _ refl tt)
 
-kept_by : (bytes : List ℕ) (why : Refusal) → IsFault bytes why → (before : Bool) → failed_at_end (ended_by.Refused why) before ≡ before
-kept_by bytes why (inl none) before = let Kept : Refusal → Type 0 = λ r. failed_at_end (ended_by.Refused r) before ≡ before in subst Kept (sym none.2) refl
-kept_by bytes why (inr (inl said)) before =
-    let Kept : Result ℕ Refusal → Type 0 = λ r. IsKeptBy before r in
-    subst Kept said.3 (needed_kept before (has_line (codes "transfer-encoding") (lines_of said.0)) said.0.method (content_length (lines_of said.0)))
-kept_by bytes why (inr (inr cut)) before = let Kept : Refusal → Type 0 = λ r. failed_at_end (ended_by.Refused r) before ≡ before in subst Kept (sym cut.6) refl
+unchanged_by : (bytes : List ℕ) (why : Refusal) → IsFault bytes why → (before : Bool) → failed_at_end (ended_by.Refused why) before ≡ before
+unchanged_by bytes why (inl none) before = let Unchanged : Refusal → Type 0 = λ r. failed_at_end (ended_by.Refused r) before ≡ before in subst Unchanged (sym none.2) refl
+unchanged_by bytes why (inr (inl said)) before =
+    let Unchanged : Result ℕ Refusal → Type 0 = λ r. IsUnchangedBy before r in
+    subst Unchanged said.3 (needed_unchanged before (has_line (codes "transfer-encoding") (lines_of said.0)) said.0.method (content_length (lines_of said.0)))
+unchanged_by bytes why (inr (inr cut)) before = let Unchanged : Refusal → Type 0 = λ r. failed_at_end (ended_by.Refused r) before ≡ before in subst Unchanged (sym cut.6) refl
 
 -- ---- a request more
 
@@ -86,7 +86,7 @@ module _ {S R W : Type 0} (g : Ghosts S) (remaining : R → Option (List ℕ)) (
   done_same : desk_then ≡ now → AreDone g at desk desk_then so_far.requests
   done_same same =
       let Done : Keyed S → Type 0 = λ d. AreDone g at desk d so_far.requests in
-      subst Done (sym same) (are_done g at desk finds now so_far.requests so_far.kept so_far.world_is)
+      subst Done (sym same) (are_done g at desk finds now so_far.requests so_far.known so_far.world_is)
 
   -- the input has ended
   pub end_found : what ≡ next.End → IsStreamEnd g remaining contents at reads desk desk_then reader reader_now writer writer_now (Ok (record { answers = answers; ended = ended_by.End }))
@@ -126,7 +126,7 @@ module _ {S R W : Type 0} (g : Ghosts S) (remaining : R → Option (List ℕ)) (
   pub failed_still : (why : Refusal) → what ≡ next.Fault why → desk_then.failed ≡ failed_at_end (ended_by.Refused why) desk.failed
   failed_still why is =
       let found = of (next.Fault why) is in
-      ap (λ (d : Keyed S). d.failed) found.2 ∙ so_far.failed ∙ sym (kept_by (buf ++ []) why (found.0 [] (λ _. refl)) desk.failed)
+      ap (λ (d : Keyed S). d.failed) found.2 ∙ so_far.failed ∙ sym (unchanged_by (buf ++ []) why (found.0 [] (λ _. refl)) desk.failed)
 
   module _ (why : Refusal) (is : what ≡ next.Fault why) (writer_then : CountingIo W) (sent : List ℕ) (sent_is : sent ≡ out) where
     pub fault_told : IsPutWhole contents writer_now writer_then sent true
@@ -182,13 +182,13 @@ module _ {S R W : Type 0} (g : Ghosts S) (remaining : R → Option (List ℕ)) (
           failed_then writer writer_now writer_then so_far.put put.1,
         )
 
-    kept_then : let found = of (next.Request len close) is in
+    known_then : let found = of (next.Request len close) is in
         let goes = hears so_far.front buf ended so_far.requests (heard.Request found.request) so_far.cut found.heard_is in
-        HasKept g at desk desk_then (so_far.requests ++ goes.0 ∷ [])
-    kept_then =
+        StaysKnown g at desk desk_then (so_far.requests ++ goes.0 ∷ [])
+    known_then =
         let found = of (next.Request len close) is in
         let goes = hears so_far.front buf ended so_far.requests (heard.Request found.request) so_far.cut found.heard_is in
-        kept_on g at desk now desk_then so_far.requests so_far.kept step.later.clean found.request goes.0 goes.1.is_lent calls_turn found.reached
+        known_on g at desk now desk_then so_far.requests so_far.known step.later.clean found.request goes.0 goes.1.is_lent calls_turn found.reached
 
     done_then : let found = of (next.Request len close) is in
         let goes = hears so_far.front buf ended so_far.requests (heard.Request found.request) so_far.cut found.heard_is in
@@ -196,7 +196,7 @@ module _ {S R W : Type 0} (g : Ghosts S) (remaining : R → Option (List ℕ)) (
     done_then =
         let found = of (next.Request len close) is in
         let goes = hears so_far.front buf ended so_far.requests (heard.Request found.request) so_far.cut found.heard_is in
-        are_done g at desk finds desk_then (so_far.requests ++ goes.0 ∷ []) kept_then
+        are_done g at desk finds desk_then (so_far.requests ++ goes.0 ∷ []) known_then
         (world_then g remaining contents at desk reader writer now reader_now writer_now ended buf answers so_far desk_then writer_then step failed found.request goes.0 goes.1 out found.answered answers_turn worlds_turn)
 
     pub answer_cut_counted : IsCounted g remaining contents at desk desk_then reader reader_now writer writer_then (Err (fault.Write answers))
@@ -246,7 +246,7 @@ module _ {S R W : Type 0} (g : Ghosts S) (remaining : R → Option (List ℕ)) (
           let goes = hears so_far.front buf ended so_far.requests (heard.Request found.request) so_far.cut found.heard_is in
           let So : ℕ → Type 0 = λ n. HasServed g remaining contents at desk reader writer desk_then reader_now writer_then ended (drop n buf) (answers + 1) in
           subst So (sym found.len_is)
-          (serves_on g remaining contents at desk reader writer now reader_now writer_now ended buf answers so_far desk_then writer_then step failed found.request goes.0 goes.1 out found.answered answers_turn worlds_turn (sym found.close_is ∙ goes_on) wrote put.1 none_asked kept_then)
+          (serves_on g remaining contents at desk reader writer now reader_now writer_now ended buf answers so_far desk_then writer_then step failed found.request goes.0 goes.1 out found.answered answers_turn worlds_turn (sym found.close_is ∙ goes_on) wrote put.1 none_asked known_then)
 
 -- ---- a fault of the machine
 
@@ -324,7 +324,7 @@ module _ {S R W : Type 0} (g : Ghosts S) (remaining : R → Option (List ℕ)) (
   done_or_next : AreDoneOrNext g at desk desk_then all so_far.requests
   done_or_next =
       let Left : List ℕ → Type 0 = λ bytes. Survives (state g now.held) (state g desk_then.held) (LeavesNext g now.held at bytes ended) in
-      are_done_or_next g at desk finds now so_far.requests so_far.kept so_far.world_is desk_then worlds_turn all buf ended (subst Left seen_is crash) step.later.clean
+      are_done_or_next g at desk finds now so_far.requests so_far.known so_far.world_is desk_then worlds_turn all buf ended (subst Left seen_is crash) step.later.clean
       (λ lent told.
       let goes = hears so_far.front buf ended so_far.requests (heard.Request lent) so_far.cut told in
       let HasNextSo : List ℕ → Type 0 = λ bytes. HasNext bytes so_far.requests goes.0 in

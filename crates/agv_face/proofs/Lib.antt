@@ -1,5 +1,5 @@
 pub mod InTurn
-pub mod Kept
+pub mod StaysKnown
 pub mod Serving
 pub mod Streams
 pub mod Writing

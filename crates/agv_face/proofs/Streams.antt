@@ -25,7 +25,7 @@ use Rattle.agv_face.specs.CountingIo.{inner_of, FailedNever}
 use Rattle.agv_face.specs.declared.stream_end.Ended.TheVariants as ended_by
 use Rattle.agv_face.specs.declared.counting_io.CountingIo.{CountingIo}
 use Rattle.agv_face.proofs.Serving.{later_still, later_then}
-use Rattle.agv_face.proofs.Kept.{HasKept, kept_none}
+use Rattle.agv_face.proofs.StaysKnown.{StaysKnown, known_none}
 use Rattle.agv_face.proofs.InTurn.{AnswersInTurn, CallsInTurn, WorldsInTurn, is_call, next_answers, next_no_call, next_text, next_world, no_answer, no_calls, no_change, whole}
 
 -- the desk, the reader and the writer, each at the start and now; whether the input has ended, what has come and isn't served, and how many answers were written
@@ -51,7 +51,7 @@ module _ {S R W : Type 0} (g : Ghosts S) (remaining : R → Option (List ℕ)) (
     pub failed : now.failed ≡ desk.failed
     pub read : FailedNever reader reader_now
     pub put : FailedNever writer writer_now
-    pub kept : HasKept g at desk now requests
+    pub known : StaysKnown g at desk now requests
 
   -- ---- at the start
 
@@ -72,7 +72,7 @@ module _ {S R W : Type 0} (g : Ghosts S) (remaining : R → Option (List ℕ)) (
     failed = refl;
     read = refl;
     put = refl;
-    kept = kept_none g at desk;
+    known = known_none g at desk;
   }
 
   pub none_yet : none_served.requests ≡ []
@@ -313,9 +313,9 @@ module _ {S R W : Type 0} (g : Ghosts S) (remaining : R → Option (List ℕ)) (
 
       -- the stream goes on
       pub serves_on : lent.close ≡ false → Appends (contents (inner_of writer_now)) (contents (inner_of writer_then)) out → FailedNever writer_now writer_then
-          → (desk.failed ≡ true → calls_of (s.requests ++ request ∷ []) at ≡ []) → HasKept g at desk then (s.requests ++ request ∷ [])
+          → (desk.failed ≡ true → calls_of (s.requests ++ request ∷ []) at ≡ []) → StaysKnown g at desk then (s.requests ++ request ∷ [])
           → HasServed then reader_now writer_then ended (drop lent.len buf) (answers + 1)
-      serves_on stays wrote worked none_asked kept =
+      serves_on stays wrote worked none_asked known =
           let here : s.front ++ buf ≡ (s.front ++ take lent.len buf) ++ drop lent.len buf =
           ap (λ (l : List ℕ). s.front ++ l) (sym (take-append-drop lent.len buf)) ∙ sym (append_assoc s.front (take lent.len buf) (drop lent.len buf)) in
           let Come : List ℕ → Type 0 = λ bytes. Consumes (remaining (inner_of reader)) (remaining (inner_of reader_now)) bytes in
@@ -335,7 +335,7 @@ module _ {S R W : Type 0} (g : Ghosts S) (remaining : R → Option (List ℕ)) (
             failed = failed ∙ s.failed;
             read = s.read;
             put = worked ∙ s.put;
-            kept = kept;
+            known = known;
           }
 
       module _ (knows : IsClean g then.held → IsOpen g then.held → Knows g then.held (world_at g then.held)) where
@@ -404,5 +404,5 @@ module _ {S R W : Type 0} (g : Ghosts S) (remaining : R → Option (List ℕ)) (
         failed = s.failed;
         read = r.worked ∙ s.read;
         put = s.put;
-        kept = s.kept;
+        known = s.known;
       }

@@ -60,7 +60,7 @@ pub(crate) fn read_some<R: Read>(
     requires capacity { 73728 ≤ vec_capacity buf.old }
     ensures read { IfOk result (IsRead R.remaining reader.old reader.new buf.old.items buf.new.items) }
     ensures failed { OnErr result (FailedOnce reader.old reader.new × Keeps (R.remaining (inner_of reader.old)) (R.remaining (inner_of reader.new))) }
-    ensures kept { OnErr result (buf.new.items ≡ buf.old.items) }
+    ensures unchanged { OnErr result (buf.new.items ≡ buf.old.items) }
     ensures capacity { vec_capacity buf.old ≤ vec_capacity buf.new }
     ensures calls { HadCall reader.old reader.new }
 {

@@ -1,4 +1,4 @@
-pub mod Kept
+pub mod RouterRows
 pub mod Paths
 pub mod Table
 pub mod Taken

@@ -19,7 +19,7 @@ use Rattle.agv_row_reading.specs.declared.open_fault.OpenFault.TheVariants as fa
 use Rattle.agv_schema.proofs.Later.{later_by}
 use Rattle.agv_desk.specs.DecisionEnds.{failed_by}
 use Rattle.agv_store.specs.Flags.{doubted_by, noted}
-use Rattle.agv_store.specs.Floors.{IsAsked, IsKept, Keyed, Knows, facts_of, world_at}
+use Rattle.agv_store.specs.Floors.{IsAsked, IsConsistent, Keyed, Knows, facts_of, world_at}
 use Rattle.agv_store.specs.Known.{IsKnownIn}
 use Rattle.agv_store.specs.declared.known.Known.{Known}
 use Rattle.agv_store.proofs.KeptLayout.{agrees_with}
@@ -91,7 +91,7 @@ module _ {S : Type 0} (g : Ghosts S) where
 
   -- ---- the invariant
 
-  module _ (old new : Held S) (known : Known) (failed in_doubt : Bool) (asked : IsAsked g old new) (is : IsKept g old known failed in_doubt) where
+  module _ (old new : Held S) (known : Known) (failed in_doubt : Bool) (asked : IsAsked g old new) (is : IsConsistent g old known failed in_doubt) where
     pub knew : IsClean g new → IsOpen g new → Knows g old (world_at g old)
     knew clean still = is.knows (clean_before old new asked clean) (asked.was_open clean still)
 
@@ -101,8 +101,8 @@ module _ {S : Type 0} (g : Ghosts S) where
     knows_new : IsClean g new → IsOpen g new → Knows g new (world_at g new)
     knows_new clean still = subst (λ world. Knows g new world) (sym (world_same clean still)) (knows_still old new asked clean still (world_at g old) (knew clean still))
 
-    pub kept_by : (failed_now in_doubt_now : Bool) → (IsClean g new → failed_now ≡ false → in_doubt_now ≡ false → IsOpen g new) → IsKept g new known failed_now in_doubt_now
-    kept_by failed_now in_doubt_now opens = record {
+    pub consistent_by : (failed_now in_doubt_now : Bool) → (IsClean g new → failed_now ≡ false → in_doubt_now ≡ false → IsOpen g new) → IsConsistent g new known failed_now in_doubt_now
+    consistent_by failed_now in_doubt_now opens = record {
       idle = asked.idle is.idle;
       opens = opens;
       knows = knows_new;
@@ -110,13 +110,13 @@ module _ {S : Type 0} (g : Ghosts S) where
     }
 
   -- what is known is true of the world, to who sees the floor as its value
-  pub known_seen : (held : Held S) (known : Known) (failed in_doubt : Bool) → IsKept g held known failed in_doubt → (seen : Keyed S) → record { held = held; failed = failed } ≡ seen
+  pub known_seen : (held : Held S) (known : Known) (failed in_doubt : Bool) → IsConsistent g held known failed in_doubt → (seen : Keyed S) → record { held = held; failed = failed } ≡ seen
       → IsClean g seen.held → IsOpen g seen.held → IsKnownIn known (world_at g seen.held)
   known_seen held known failed in_doubt is seen view_is = subst (λ (desk : Keyed S). IsClean g desk.held → IsOpen g desk.held → IsKnownIn known (world_at g desk.held)) view_is is.is_known
 
   -- so more can be known, or less
-  pub known_so : (held : Held S) (known more : Known) (failed in_doubt : Bool) → IsKept g held known failed in_doubt
-      → (IsClean g held → IsOpen g held → IsKnownIn known (world_at g held) → IsKnownIn more (world_at g held)) → IsKept g held more failed in_doubt
+  pub known_so : (held : Held S) (known more : Known) (failed in_doubt : Bool) → IsConsistent g held known failed in_doubt
+      → (IsClean g held → IsOpen g held → IsKnownIn known (world_at g held) → IsKnownIn more (world_at g held)) → IsConsistent g held more failed in_doubt
   known_so held known more failed in_doubt is so = record { idle = is.idle; opens = is.opens; knows = is.knows; is_known = λ clean still. so clean still (is.is_known clean still) }
 
   -- a question that raised neither flag was answered by an open store
@@ -136,18 +136,18 @@ module _ {S : Type 0} (g : Ghosts S) where
   -- ---- a question to a floor
 
   -- the floor's connection, what is known beside it and the flags before the question, and the connection after it
-  module _ (old new : Held S) (known : Known) (failed in_doubt : Bool) (is : IsKept g old known failed in_doubt)
+  module _ (old new : Held S) (known : Known) (failed in_doubt : Bool) (is : IsConsistent g old known failed in_doubt)
       {A : Type 0} (r : Result A OpenFault) (says : World → A → Type 0) (tells : AnswersQuery g old new r says) where
     asked : IsAsked g old new
     asked = asked_by old new r says tells
 
-    pub asked_kept : (failed_now in_doubt_now : Bool) → failed_now ≡ failed_by (noted r) failed → in_doubt_now ≡ doubted_by (noted r) in_doubt → IsKept g new known failed_now in_doubt_now
-    asked_kept failed_now in_doubt_now failed_is doubt_is = kept_by old new known failed in_doubt asked is failed_now in_doubt_now
+    pub asked_consistent : (failed_now in_doubt_now : Bool) → failed_now ≡ failed_by (noted r) failed → in_doubt_now ≡ doubted_by (noted r) in_doubt → IsConsistent g new known failed_now in_doubt_now
+    asked_consistent failed_now in_doubt_now failed_is doubt_is = consistent_by old new known failed in_doubt asked is failed_now in_doubt_now
         (λ clean not_failed no_doubt. opens_by old new r tells.answering failed in_doubt clean (sym failed_is ∙ not_failed) (sym doubt_is ∙ no_doubt))
 
     -- an answer leaves no doubt
-    pub asked_settled : (failed_now : Bool) (a : A) → noted r ≡ Ok a → IsKept g new known failed_now false
-    asked_settled failed_now a ok = kept_by old new known failed in_doubt asked is failed_now false (λ clean _ _. open_if_ok old new r tells.answering a ok clean)
+    pub asked_settled : (failed_now : Bool) (a : A) → noted r ≡ Ok a → IsConsistent g new known failed_now false
+    asked_settled failed_now a ok = consistent_by old new known failed in_doubt asked is failed_now false (λ clean _ _. open_if_ok old new r tells.answering a ok clean)
 
     pub asked_knows : (a : A) → noted r ≡ Ok a → IsClean g new → Knows g new (world_at g new)
     asked_knows a ok clean = knows_new old new known failed in_doubt asked is clean (open_if_ok old new r tells.answering a ok clean)
@@ -227,7 +227,7 @@ module _ {S : Type 0} (g : Ghosts S) where
     told_so (Err fault.Storage) answering asked = asked
     told_so (Err fault.Damaged) answering asked = asked
 
-  module _ (old new : Held S) (known : Known) (failed in_doubt : Bool) (is : IsKept g old known failed in_doubt)
+  module _ (old new : Held S) (known : Known) (failed in_doubt : Bool) (is : IsConsistent g old known failed in_doubt)
       {A : Type 0} (r : Result A OpenFault) (says : World → A → Type 0) where
     -- so it is where a kept layout is the world's
     pub asked_agreed : AnswersQuery g old new r (λ world a. AgreesWith known.layout world → says world a) → (failed_now : Bool) → (seen : Keyed S) → record { held = old; failed = failed } ≡ seen

@@ -27,7 +27,7 @@ use Rattle.agv_row_reading.specs.declared.open_fault.OpenFault.{OpenFault}
 use Rattle.agv_row_reading.specs.declared.open_fault.OpenFault.TheVariants as fault
 use Rattle.agv_row_reading.specs.declared.held_things.HeldThings.{HeldThings}
 use Rattle.agv_schema.specs.declared.table_name.TableName.{TableName}
-use Rattle.agv_store.specs.Floors.{IsAsked, IsKept, Knows, world_at}
+use Rattle.agv_store.specs.Floors.{IsAsked, IsConsistent, Knows, world_at}
 use Rattle.agv_store.specs.Opening.{Finds}
 use Rattle.agv_store.specs.Known.{IsKnownIn}
 use Rattle.agv_store.specs.declared.known.Known.{Known}
@@ -171,8 +171,8 @@ module _ {S : Type 0} (g : Ghosts S) where
 
   -- ---- the desk that was found
 
-  pub found_kept : (old new : Held S) (known : Known) → Finds g old new (Ok known) → old.in_transaction ≡ false → IsKept g new known false false
-  found_kept old new known finds idle = record {
+  pub found_consistent : (old new : Held S) (known : Known) → Finds g old new (Ok known) → old.in_transaction ≡ false → IsConsistent g new known false false
+  found_consistent old new known finds idle = record {
     idle = finds.asked.idle idle;
     opens = λ clean _ _. (finds.found clean).1.is_open;
     knows = λ clean _. (finds.found clean).1;

@@ -16,7 +16,7 @@ use Rattle.agv_schema.proofs.Later.{later_by}
 use Rattle.agv_schema.specs.Connections.{IsClean, IsOpen}
 use Rattle.agv_creation.specs.declared.making_fault.MakingFault.{MakingFault}
 use Rattle.agv_creation.specs.declared.making_fault.MakingFault.TheVariants as making
-use Rattle.agv_store.specs.Floors.{IsAsked, IsKept, Knows, world_at}
+use Rattle.agv_store.specs.Floors.{IsAsked, IsConsistent, Knows, world_at}
 use Rattle.agv_store.specs.Migration.{CanBeMigrated, CannotBeMigrated, FindsFirstDesk, FirstFound, LeavesMigrated, Migrates}
 use Rattle.agv_store.specs.Opening.{IsDamaged, IsStorage, Opening, of_making}
 use Rattle.agv_store.specs.Known.{IsKnownIn}
@@ -187,8 +187,8 @@ module _ {S : Type 0} (g : Ghosts S) where
         told : (clean : IsClean g new) → world_at g new ≡ (had (clean_mid clean)).world
         told clean = let it = knows clean in tells_its_world it.at (state g new).now (had (clean_mid clean)).world it.has
 
-        pub moved_kept : IsKept g new known false false
-        moved_kept = record {
+        pub moved_consistent : IsConsistent g new known false false
+        moved_consistent = record {
           idle = idle;
           opens = λ clean _ _. (opens clean).1;
           knows = λ clean _. subst (λ (world : World). Knows g new world) (sym (told clean)) (knows clean);

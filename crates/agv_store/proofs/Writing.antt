@@ -30,7 +30,7 @@ use Rattle.agv_schema.specs.Connections.{IsClean, IsOpen}
 use Rattle.agv_schema.proofs.Later.{later_by}
 use Rattle.agv_desk.specs.DecisionEnds.{failed_by}
 use Rattle.agv_store.specs.Flags.{doubted_by}
-use Rattle.agv_store.specs.Floors.{IsKept, Keyed, Knows, world_at}
+use Rattle.agv_store.specs.Floors.{IsConsistent, Keyed, Knows, world_at}
 use Rattle.agv_store.specs.Serving.{Decides, IsServedBy, LeavesCall, outcome_in, world_after}
 use Rattle.agv_store.specs.Known.{Follows, IsKnownIn}
 use Rattle.agv_store.specs.declared.known.Known.{Known}
@@ -133,8 +133,8 @@ module _ {S : Type 0} (g : Ghosts S) (law : DatabaseTells) where
           (λ what. counts desk_seats (world_at g old) at call what (loads_of was.has.lawful) ∙ ap (λ n. count_of (world_at g old) what + n) (sym (added_is what)))
           (is_known (clean_old clean) was.is_open)
 
-      pub written_kept : (failed_now in_doubt_now : Bool) → r ≡ Ok tt → IsKept g new known_now failed_now in_doubt_now
-      written_kept failed_now in_doubt_now ok = record {
+      pub written_consistent : (failed_now in_doubt_now : Bool) → r ≡ Ok tt → IsConsistent g new known_now failed_now in_doubt_now
+      written_consistent failed_now in_doubt_now ok = record {
         idle = writes.idle;
         opens = λ clean _ _. (knows_next ok clean).is_open;
         knows = λ clean still. subst (λ world. Knows g new world) (sym (world_next ok clean)) (knows_next ok clean);
@@ -169,9 +169,9 @@ module _ {S : Type 0} (g : Ghosts S) (law : DatabaseTells) where
     flags_raised machine.Storage is_err failed in_doubt failed_now in_doubt_now failed_is doubt_is not_failed no_doubt =
         let wrong : true ≡ false = sym (ap (λ (q : Result (Unit {0}) Fault). failed_by q failed) is_err) ∙ sym failed_is ∙ not_failed in cc wrong
 
-    pub refused_kept : (known : Known) → (IsClean g old → IsOpen g old → IsKnownIn known (world_at g old)) → (why : Fault) → r ≡ Err why
-        → (failed in_doubt failed_now in_doubt_now : Bool) → failed_now ≡ failed_by r failed → in_doubt_now ≡ doubted_by r in_doubt → IsKept g new known failed_now in_doubt_now
-    refused_kept known is_known why is_err failed in_doubt failed_now in_doubt_now failed_is doubt_is = record {
+    pub refused_consistent : (known : Known) → (IsClean g old → IsOpen g old → IsKnownIn known (world_at g old)) → (why : Fault) → r ≡ Err why
+        → (failed in_doubt failed_now in_doubt_now : Bool) → failed_now ≡ failed_by r failed → in_doubt_now ≡ doubted_by r in_doubt → IsConsistent g new known failed_now in_doubt_now
+    refused_consistent known is_known why is_err failed in_doubt failed_now in_doubt_now failed_is doubt_is = record {
       idle = writes.idle;
       opens = λ clean not_failed no_doubt. absurd (flags_raised why is_err failed in_doubt failed_now in_doubt_now failed_is doubt_is not_failed no_doubt);
       knows = λ clean still. subst (λ world. Knows g new world) (sym (ap world_in (left_all why is_err clean still))) (knows_still why is_err clean still);
@@ -216,7 +216,7 @@ module _ {S : Type 0} (g : Ghosts S) (law : DatabaseTells) where
 
   -- ---- told of the floor as its callers see it
 
-  module _ (old new : Held S) (known : Known) (failed in_doubt : Bool) (is : IsKept g old known failed in_doubt) (seen : Keyed S) (view_is : record { held = old; failed = failed } ≡ seen)
+  module _ (old new : Held S) (known : Known) (failed in_doubt : Bool) (is : IsConsistent g old known failed in_doubt) (seen : Keyed S) (view_is : record { held = old; failed = failed } ≡ seen)
       (at : ℕ) (call : Call) (decision : Decision)
       (knows : IsClean g seen.held → Knows g seen.held (world_at g seen.held))
       (decides : IsClean g seen.held → Decides (world_at g seen.held) at call decision)
@@ -230,15 +230,15 @@ module _ {S : Type 0} (g : Ghosts S) (law : DatabaseTells) where
     decides_old : IsClean g old → Decides (world_at g old) at call decision
     decides_old = subst (λ (held : Held S). IsClean g held → Decides (world_at g held) at call decision) (sym held_is) decides
 
-    pub kept_refused : (f : Fault) → r ≡ Err f → (failed_now in_doubt_now : Bool) → failed_now ≡ failed_by r failed → in_doubt_now ≡ doubted_by r in_doubt
-        → IsKept g new known failed_now in_doubt_now
-    kept_refused f is_err =
-        refused_kept old new at call decision knows_old decides_old changes changes_are r writes known is.is_known f is_err failed in_doubt
+    pub consistent_refused : (f : Fault) → r ≡ Err f → (failed_now in_doubt_now : Bool) → failed_now ≡ failed_by r failed → in_doubt_now ≡ doubted_by r in_doubt
+        → IsConsistent g new known failed_now in_doubt_now
+    consistent_refused f is_err =
+        refused_consistent old new at call decision knows_old decides_old changes changes_are r writes known is.is_known f is_err failed in_doubt
 
-    pub kept_written : CountsFollow → AddsBelow → (known_now : Known) (more : Option Counted) → more ≡ counted_by call decision.answer → Follows more changes known known_now
-        → (failed_now in_doubt_now : Bool) → r ≡ Ok tt → IsKept g new known_now failed_now in_doubt_now
-    kept_written counts below known_now more more_is follows failed_now in_doubt_now ok =
-        written_kept old new at call decision knows_old decides_old changes changes_are r writes counts below known known_now is.is_known more more_is follows failed_now in_doubt_now ok
+    pub consistent_written : CountsFollow → AddsBelow → (known_now : Known) (more : Option Counted) → more ≡ counted_by call decision.answer → Follows more changes known known_now
+        → (failed_now in_doubt_now : Bool) → r ≡ Ok tt → IsConsistent g new known_now failed_now in_doubt_now
+    consistent_written counts below known_now more more_is follows failed_now in_doubt_now ok =
+        written_consistent old new at call decision knows_old decides_old changes changes_are r writes counts below known known_now is.is_known more more_is follows failed_now in_doubt_now ok
 
     pub serves_written : r ≡ Ok tt → IsClean g new → IsServedBy g seen.held new at call decision.answer
     serves_written ok clean =

@@ -45,7 +45,7 @@ module _ {S : Type 0} (g : Ghosts S) where
 
   -- ---- what it keeps true
 
-  pub record IsKept (held : Held S) (known : Known) (failed in_doubt : Bool) : Type 0 where
+  pub record IsConsistent (held : Held S) (known : Known) (failed in_doubt : Bool) : Type 0 where
     pub idle : held.in_transaction ≡ false
     -- it is open, unless a fault was noted that may have shut it
     pub opens : IsClean g held → failed ≡ false → in_doubt ≡ false → IsOpen g held

@@ -4,7 +4,7 @@ ghost use Rattle.agv_world.specs.Asks.{Asks};
 ghost use Rattle.agv_world.specs.declared.fault.Fault.TheVariants as fault;
 ghost use Rattle.agv_schema.specs.Connections.{IsClean, IsOpen};
 ghost use Rattle.agv_store.specs.Flags.{EndsAs};
-ghost use Rattle.agv_store.specs.Floors.{IsKept, Knows, facts_of, world_at};
+ghost use Rattle.agv_store.specs.Floors.{IsConsistent, Knows, facts_of, world_at};
 
 use crate::flags::note;
 use crate::known::Known;
@@ -30,7 +30,7 @@ pub struct KeyedFloor<S: Alter> {
 }
 
 impl<S: Alter> Model for KeyedFloor<S> {
-    ghost use Rattle.agv_store.specs.Floors.{IsKept, Keyed, keyed_code};
+    ghost use Rattle.agv_store.specs.Floors.{IsConsistent, Keyed, keyed_code};
 
     ghost Value = { Keyed S };
 
@@ -38,13 +38,13 @@ impl<S: Alter> Model for KeyedFloor<S> {
 
     ghost view = { λ floor. record { held = floor.conn; failed = floor.failed } };
 
-    ghost invariant = { λ floor. IsKept S.Store floor.conn floor.known floor.failed floor.in_doubt };
+    ghost invariant = { λ floor. IsConsistent S.Store floor.conn floor.known floor.failed floor.in_doubt };
 }
 
 impl<S: Alter + Drop> KeyedFloor<S> {
     // The floor over this connection, beside which this is known.
     pub(crate) fn new(alloc: Global, conn: Connection<S>, known: Known) -> KeyedFloor<S>
-        requires { IsKept S.Store conn known false false }
+        requires { IsConsistent S.Store conn known false false }
         ensures { result ≡ record { held = conn; failed = false } }
     {
         KeyedFloor {

@@ -25,7 +25,7 @@ use Rattle.agv_desk.specs.ActSteps.{Renewed, act_move, act_moves}
 use Rattle.agv_desk.specs.Outcomes.{Acted, Cause, Move, moved}
 use Rattle.agv_desk.proofs.trip_acts.ActionViews.{AfterPicks, IsPicked, after, all_after, all_before, in_rest, stops_by, whole}
 use Rattle.agv_desk.proofs.trip_acts.FitStops.{Fit}
-use Rattle.agv_desk.proofs.trip_acts.KeptPlaces.{kept_place}
+use Rattle.agv_desk.proofs.trip_acts.ReservedPlaces.{reserved_place}
 use Rattle.agv_desk.proofs.outcomes.Known.{none_some, same_some}
 use Rattle.agv_desk.proofs.trip_acts.WalkHeads.{Untouched, move_by, row_in, untouched_next}
 use Rattle.agv_desk.proofs.trip_acts.WalkSteps.{Fits, Now, an_action_view, fits_here, on_vehicle}
@@ -115,7 +115,7 @@ module _ (layout : Layout) (carries : VehicleKey → List ActionView) (capacity 
         row = row.0;
         here = row.2;
         rides = h.stands.0;
-        kept = kept_place world job row.0 row.2 h.stands.0;
+        place_reserved = reserved_place world job row.0 row.2 h.stands.0;
         load = h.load;
         from = h.stands.1 ∙ ap (λ name. Some (place.Station name)) (sym h.station);
         to = refl;
@@ -138,7 +138,7 @@ module _ (layout : Layout) (carries : VehicleKey → List ActionView) (capacity 
         row = row.0;
         here = row.2;
         rides = h.stands;
-        kept = kept_place world job row.0 row.2 h.stands;
+        place_reserved = reserved_place world job row.0 row.2 h.stands;
         load = h.load;
         from = ap (finite.get places) (sym h.load ∙ p.load) ∙ aboard;
         to = ap place.Station (sym h.station);

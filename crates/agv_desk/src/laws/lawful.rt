@@ -27,7 +27,7 @@ pub fn keeps_lawful()
 }
 
 /// In a lawful world each pick that becomes finished finds its load at the origin of its job, and each drop finds it on
-/// the vehicle; the job rides until then, so its place at the target is kept.
+/// the vehicle; the job rides until then, so its place at the target is reserved.
 pub fn finds_each_load()
     ensures { (seats : ℕ) (world : World) (at : ℕ) (call : Call) (effect : Effect)
         → IsLawful seats world → step seats world at call ≡ Made effect → FindsLoads world effect }

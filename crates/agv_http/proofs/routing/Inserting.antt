@@ -7,16 +7,16 @@ use Rattle.matchit.specs.declared.error.InsertError.{InsertError}
 use Rattle.matchit.specs.declared.error.InsertError.TheVariants.{Conflict, InvalidCatchAll, InvalidParam, InvalidParamSegment, OutOfMemory}
 use Rattle.matchit.proofs.OnLiterals.{matchit_on_literals}
 use Rattle.agv_http.specs.declared.routing.line.Line.{Line}
-use Rattle.agv_http.specs.routing.Kept.{Kept, are_apart, inserted, is_apart, is_apart_from, with_scan}
+use Rattle.agv_http.specs.routing.RouterRows.{RouterRows, are_apart, inserted, is_apart, is_apart_from, with_scan}
 use Rattle.agv_http.specs.routing.Table.{Entry, entries}
 
-scanned : (x : Result Scan InsertError) (line : Line) (old new : Kept) (r : Result (Unit {0}) InsertError) → InsertsRead x line old new r → OnOk r (new ≡ with_scan x line old)
+scanned : (x : Result Scan InsertError) (line : Line) (old new : RouterRows) (r : Result (Unit {0}) InsertError) → InsertsRead x line old new r → OnOk r (new ≡ with_scan x line old)
 scanned (Ok s) line old new (Ok u) h = h.1
 scanned (Ok s) line old new (Err e) h = tt
 scanned (Err f) line old new (Ok u) h = h.0
 scanned (Err f) line old new (Err e) h = tt
 
-pub puts-in : (e : Entry) (old new : Kept) (r : Result (Unit {0}) InsertError) → InsertsRead (parse_route e.0) e.1 old new r → OnOk r (new ≡ inserted e old)
+pub puts-in : (e : Entry) (old new : RouterRows) (r : Result (Unit {0}) InsertError) → InsertsRead (parse_route e.0) e.1 old new r → OnOk r (new ≡ inserted e old)
 unfolding inserted
 puts-in e old new r h = scanned (parse_route e.0) e.1 old new r h
 
@@ -26,7 +26,7 @@ some_near : (n : RouteOf Line) (near : Option (RouteOf Line)) → near ≡ Some 
 some_near n None is none = absurd (cc)
 some_near n (Some m) is none = absurd (cc)
 
-wants_memory : (x : Result Scan InsertError) (line : Line) (old new : Kept) (error : InsertError) → is_apart_from old x ≡ true → InsertsRead x line old new (Err error) → error ≡ OutOfMemory
+wants_memory : (x : Result Scan InsertError) (line : Line) (old new : RouterRows) (error : InsertError) → is_apart_from old x ≡ true → InsertsRead x line old new (Err error) → error ≡ OutOfMemory
 wants_memory (Ok s) line old new (Conflict with) apart h = absurd (some_near h.1.0 (nearest s.pattern old) h.1.1 apart)
 wants_memory (Ok s) line old new InvalidParamSegment apart h = absurd h.1
 wants_memory (Ok s) line old new InvalidParam apart h = absurd h.1
@@ -35,12 +35,12 @@ wants_memory (Ok s) line old new OutOfMemory apart h = refl
 wants_memory (Err e) line old new error apart h = absurd (cc)
 
 -- an insert that fails wants memory
-pub lacks_memory : (e : Entry) (old new : Kept) (error : InsertError) → is_apart e old ≡ true → InsertsRead (parse_route e.0) e.1 old new (Err error) → error ≡ OutOfMemory
+pub lacks_memory : (e : Entry) (old new : RouterRows) (error : InsertError) → is_apart e old ≡ true → InsertsRead (parse_route e.0) e.1 old new (Err error) → error ≡ OutOfMemory
 unfolding is_apart
 lacks_memory e old new error apart h = wants_memory (parse_route e.0) e.1 old new error apart h
 
 -- the first line is apart, and so are the others behind it
-pub first_apart : (e : Entry) (rest : List Entry) (rows : Kept) → are_apart (e ∷ rest) rows ≡ true → (is_apart e rows ≡ true) × (are_apart rest (inserted e rows) ≡ true)
+pub first_apart : (e : Entry) (rest : List Entry) (rows : RouterRows) → are_apart (e ∷ rest) rows ≡ true → (is_apart e rows ≡ true) × (are_apart rest (inserted e rows) ≡ true)
 first_apart e rest rows apart = and_parts (is_apart e rows) (are_apart rest (inserted e rows)) apart
 
 -- the lines of the table are

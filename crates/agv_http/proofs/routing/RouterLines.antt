@@ -13,7 +13,7 @@ use Rattle.matchit.specs.declared.error.InsertError.{InsertError}
 use Rattle.matchit.proofs.OnLiterals.{matchit_on_literals}
 use Rattle.agv_http.specs.routing.Paths.{Part, Word, AName, names_in, pattern_of}
 use Rattle.agv_http.specs.routing.Table.{Row, MethodRoute, with_route, method_route_by, method_route_at, or_next, Entry, entries, route_with, row_of, table}
-use Rattle.agv_http.specs.routing.Kept.{Kept, with_scan, inserted, with_entries}
+use Rattle.agv_http.specs.routing.RouterRows.{RouterRows, with_scan, inserted, with_entries}
 use Rattle.agv_http.specs.declared.routing.line.Line.{Line}
 use Rattle.agv_http.specs.routing.Taken.{all_names}
 use Rattle.agv_http.proofs.routing.Fits.{fits, IsGood}
@@ -117,13 +117,13 @@ pub record IsMade (r : Row) (t : List ℕ) (e : RouteOf Line) : Type 0 where
   pub method : e.value.method ≡ r.method
   pub route : route_with e.value.kind ≡ r.route
 
-abbrev pub AllMade : List Row → Kept → Type 0
+abbrev pub AllMade : List Row → RouterRows → Type 0
 AllMade [] [] = Unit {0}
 AllMade [] (x ∷ l) = ⊥
 AllMade (r ∷ rs) [] = ⊥
 AllMade (r ∷ rs) ((t, e) ∷ l) = IsMade r t e × AllMade rs l
 
-all-made-more : (rs : List Row) (l : Kept) (r : Row) (t : List ℕ) (e : RouteOf Line) → AllMade rs l → IsMade r t e → AllMade (rs ++ r ∷ []) (l ++ (t, e) ∷ [])
+all-made-more : (rs : List Row) (l : RouterRows) (r : Row) (t : List ℕ) (e : RouteOf Line) → AllMade rs l → IsMade r t e → AllMade (rs ++ r ∷ []) (l ++ (t, e) ∷ [])
 all-made-more [] [] r t e h m = (m, tt)
 all-made-more [] (x ∷ l) r t e h m = absurd h
 all-made-more (q ∷ rs) [] r t e h m = absurd h
@@ -156,12 +156,12 @@ good-tokens (Word w ∷ parts) h =
     IsGood-cons 47 (w ++ tokens parts) (omega arith) (good-word w (tokens parts) a.0 (good-tokens parts a.1))
 good-tokens (AName ∷ parts) h = IsGood-cons 47 (256 ∷ tokens parts) (omega arith) (good-param (tokens parts) (AtSlash-tokens parts) (good-tokens parts h))
 
-pub record Covered (rs : List Row) (rows : Kept) : Type 0 where
-  pub list : Kept
+pub record Covered (rs : List Row) (rows : RouterRows) : Type 0 where
+  pub list : RouterRows
   pub made : AllMade rs list
   pub covers : Covers rows list
 
-covered-one : (x : Result Scan InsertError) (r : Row) (line : Line) (done : List Row) (rows : Kept) → Reads x r.pattern → is_fit r.pattern ≡ true → line.method ≡ r.method → route_with line.kind ≡ r.route → Covered done rows → Covered (done ++ r ∷ []) (with_scan x line rows)
+covered-one : (x : Result Scan InsertError) (r : Row) (line : Line) (done : List Row) (rows : RouterRows) → Reads x r.pattern → is_fit r.pattern ≡ true → line.method ≡ r.method → route_with line.kind ≡ r.route → Covered done rows → Covered (done ++ r ∷ []) (with_scan x line rows)
 covered-one (Err e) r line done rows h f m k c = absurd h
 covered-one (Ok s) r line done rows h f m k c =
     record {
@@ -170,11 +170,11 @@ covered-one (Ok s) r line done rows h f m k c =
       covers = covers-more (s.pattern, route_from s line) rows c.list (subst IsGood (sym h.0) (good-tokens r.pattern (tidy-of r.pattern f))) c.covers;
     }
 
-inserted-is : (e : Entry) (rows : Kept) → inserted e rows ≡ with_scan (parse_route e.0) e.1 rows
+inserted-is : (e : Entry) (rows : RouterRows) → inserted e rows ≡ with_scan (parse_route e.0) e.1 rows
 unfolding inserted
 inserted-is e rows = refl
 
-pub covered : (rs : List Row) (es : List Entry) → AllKin rs es → (done : List Row) (rows : Kept) → Covered done rows → Covered (done ++ rs) (with_entries rows es)
+pub covered : (rs : List Row) (es : List Entry) → AllKin rs es → (done : List Row) (rows : RouterRows) → Covered done rows → Covered (done ++ rs) (with_entries rows es)
 covered [] [] h done rows c = subst (λ z. Covered z rows) (sym (append-nil done)) c
 covered [] (e ∷ es) h done rows c = absurd h
 covered (r ∷ rs) [] h done rows c = absurd h
@@ -267,7 +267,7 @@ unserved r p k h f =
     let n : names_in r.pattern (later_segments p) ≡ None = names-law r.pattern p (tidy-of r.pattern k) h ∙ ap (λ v. cond v (all_names (taken_in (tokens r.pattern) p)) None) f in
     ap (λ z. with_route r.method (option_and_then r.route z)) n
 
-pub none-served : (rs : List Row) (l : Kept) (p : List ℕ) → AllMade rs l → AtSlash p → NoneFits l p → method_route_at rs (later_segments p) ≡ None
+pub none-served : (rs : List Row) (l : RouterRows) (p : List ℕ) → AllMade rs l → AtSlash p → NoneFits l p → method_route_at rs (later_segments p) ≡ None
 none-served [] [] p m h n = refl
 none-served [] (x ∷ l) p m h n = absurd m
 none-served (r ∷ rs) [] p m h n = absurd m
@@ -276,7 +276,7 @@ none-served (r ∷ rs) ((t, e) ∷ l) p m h n =
     ∙ none-served rs l p m.1 h n.1
 
 -- where the path fits a row, the rows that are apart from it serve nothing
-others-unserved : (ps : List Part) (rs : List Row) (l : Kept) (p : List ℕ) → is_tidy ps ≡ true → fits (tokens ps) p ≡ true → is_apart ps rs ≡ true → AllMade rs l → AtSlash p → method_route_at rs (later_segments p) ≡ None
+others-unserved : (ps : List Part) (rs : List Row) (l : RouterRows) (p : List ℕ) → is_tidy ps ≡ true → fits (tokens ps) p ≡ true → is_apart ps rs ≡ true → AllMade rs l → AtSlash p → method_route_at rs (later_segments p) ≡ None
 others-unserved ps [] l p k f a m h = refl
 others-unserved ps (r ∷ rs) [] p k f a m h = absurd m
 others-unserved ps (r ∷ rs) ((t, e) ∷ l) p k f a m h =
@@ -303,7 +303,7 @@ pub record HasMatchingRow (rs : List Row) (p : List ℕ) (e : RouteOf Line) : Ty
 made-again : (r : Row) (t : List ℕ) (e k : RouteOf Line) → k ≡ e → IsMade r t k → IsMade r (tokens r.pattern) e
 made-again r t e k s m = subst (λ z. IsMade r (tokens r.pattern) z) s (record { here = refl; pattern = m.pattern; names = m.names; fit = m.fit; method = m.method; route = m.route })
 
-pub one-served : (rs : List Row) (l : Kept) (p : List ℕ) (e : RouteOf Line) → AllMade rs l → AtSlash p → are_apart rs ≡ true → SomeFits l p e → HasMatchingRow rs p e
+pub one-served : (rs : List Row) (l : RouterRows) (p : List ℕ) (e : RouteOf Line) → AllMade rs l → AtSlash p → are_apart rs ≡ true → SomeFits l p e → HasMatchingRow rs p e
 one-served [] [] p e m h a f = absurd f
 one-served [] (x ∷ l) p e m h a f = absurd m
 one-served (r ∷ rs) [] p e m h a f = absurd m

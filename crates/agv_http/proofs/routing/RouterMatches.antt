@@ -15,7 +15,7 @@ use Rattle.matchit.specs.Seek.{first}
 use Rattle.agv_header.specs.Name.{is_name, is_name_byte}
 use Rattle.agv_http.specs.routing.Paths.{Part, Word, AName, names_in}
 use Rattle.agv_http.specs.routing.Table.{Row, MethodRoute, with_route, method_route_by, method_route_at, or_next, at_path, entries, route_with, table}
-use Rattle.agv_http.specs.routing.Kept.{Kept, kept_table}
+use Rattle.agv_http.specs.routing.RouterRows.{RouterRows, router_rows}
 use Rattle.agv_http.specs.routing.Taken.{all_names, AreTexts, IsTaken}
 use Rattle.agv_http.specs.declared.routing.line.Line.{Line}
 use Rattle.agv_http.proofs.routing.Fits.{fits, tail, AreBytes}
@@ -105,19 +105,19 @@ slashes-fit [] p k f = absurd (true≢false (sym k))
 slashes-fit (part ∷ parts) [] k f = absurd (not-nil-fits part parts f)
 slashes-fit (part ∷ parts) (b ∷ p) k f = record { rest = p; is = ap (λ z. z ∷ p) (sym (eqb-true 47 b (and-first _ _ f))) }
 
-slashes-some : (rs : List Row) (l : Kept) (p : List ℕ) (e : RouteOf Line) → AllMade rs l → SomeFits l p e → Slashes p
+slashes-some : (rs : List Row) (l : RouterRows) (p : List ℕ) (e : RouteOf Line) → AllMade rs l → SomeFits l p e → Slashes p
 slashes-some [] [] p e m f = absurd f
 slashes-some [] (x ∷ l) p e m f = absurd m
 slashes-some (r ∷ rs) [] p e m f = absurd m
 slashes-some (r ∷ rs) ((t, k) ∷ l) p e m (inl f) = slashes-fit r.pattern p m.0.fit (sym (ap (λ z. fits z p) m.0.here) ∙ f.1)
 slashes-some (r ∷ rs) ((t, k) ∷ l) p e m (inr f) = slashes-some rs l p e m.1 f
 
-all-covered : Covered table kept_table
-unfolding kept_table
+all-covered : Covered table router_rows
+unfolding router_rows
 all-covered = covered table entries kin [] [] (record { list = []; made = tt; covers = record { good = tt; answers = λ p o h. h } })
 
-router-answers : (p : List ℕ) → AreAscii p → Answers all-covered.list p (first kept_table p)
-router-answers p h = all-covered.covers.answers p (first kept_table p) (answers (length p) kept_table p (omega arith) all-covered.covers.good (bytes-of p h))
+router-answers : (p : List ℕ) → AreAscii p → Answers all-covered.list p (first router_rows p)
+router-answers p h = all-covered.covers.answers p (first router_rows p) (answers (length p) router_rows p (omega arith) all-covered.covers.good (bytes-of p h))
 
 -- what the router found at a path
 pub record IsFound (p : List ℕ) (e : RouteOf Line) : Type 0 where
@@ -151,7 +151,7 @@ found-of p e h sl s =
           ∙ ap (λ z. with_route z (option_and_then (route_with e.value.kind) (all_names (taken_in (tokens s.row.pattern) p)))) (sym m.method);
     }
 
-pub found : (p : List ℕ) (e : RouteOf Line) → IsAscii p → first kept_table p ≡ Some e → IsFound p e
+pub found : (p : List ℕ) (e : RouteOf Line) → IsAscii p → first router_rows p ≡ Some e → IsFound p e
 found p e h f =
     let a = ascii-down p h in
     let s : SomeFits all-covered.list p e = subst (Answers all-covered.list p) f (router-answers p a) in
@@ -161,7 +161,7 @@ found p e h f =
 no-slash-none : (b : ℕ) (p : List ℕ) → (b == 47) ≡ false → at_path (b ∷ p) ≡ None
 no-slash-none b p e = rw e refl
 
-pub missing : (p : List ℕ) → IsAscii p → first kept_table p ≡ None → at_path p ≡ None
+pub missing : (p : List ℕ) → IsAscii p → first router_rows p ≡ None → at_path p ≡ None
 missing [] h f = refl
 missing (b ∷ p) h f = by (b == 47) refl
   where
@@ -225,7 +225,7 @@ ascii-row r p k a h = ascii-names r.pattern p (tidy-of r.pattern k) a (by (names
     by None g = g
     by (Some x) g = refl
 
-ascii-rows : (rs : List Row) (l : Kept) (p : List ℕ) → AllMade rs l → AtSlash p → is_some (method_route_at rs (later_segments p)) ≡ true → AreAscii p
+ascii-rows : (rs : List Row) (l : RouterRows) (p : List ℕ) → AllMade rs l → AtSlash p → is_some (method_route_at rs (later_segments p)) ≡ true → AreAscii p
 ascii-rows [] [] p m a h = absurd (true≢false (sym h))
 ascii-rows [] (x ∷ l) p m a h = absurd m
 ascii-rows (r ∷ rs) [] p m a h = absurd m

@@ -8,7 +8,7 @@ use Rattle.agv_world.specs.declared.row.VehicleRow.{VehicleRow}
 use Rattle.agv_desk.specs.declared.answer.OpenOrder.{OpenOrder}
 use Rattle.agv_http.specs.answers.Bodies.{or_null}
 
--- `headerId` is null where no state's number is kept, `pending` where no instant action is
+-- `headerId` is null where no state's number is known, `pending` where no instant action is
 abbrev pub vehicle_parts : Bool → VehicleKey → VehicleRow → Option (List ℕ) → Option ℕ → Option ℕ → Data
 vehicle_parts astray key row order sent confirmed = object_of (
     field "astray" (truth astray)

@@ -18,7 +18,7 @@ pub fn put_answer(
     out: &mut Vec<u8>,
 ) -> Result<(), Memory>
     ensures text { OnOk result (out.new.items ≡ out.old.items ++ answer_text answer.now report.now close) }
-    ensures kept { OnErr result (out.new.items ≡ out.old.items) }
+    ensures unchanged { OnErr result (out.new.items ≡ out.old.items) }
     ensures fits { vec_len out.old + length (answer_text answer.now report.now close) ≤ vec_capacity out.old → IsOk result }
     ensures grown { vec_capacity out.old ≤ vec_capacity out.new }
 {

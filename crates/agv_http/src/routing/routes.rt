@@ -1,6 +1,6 @@
 //! Which line of the table of routes a request is.
 ghost use Rattle.std.specs.Prelude.{◌≡◌, ℕ, List, [], ◌∷◌, IsAscii, option_and_then, option_map, position};
-ghost use Rattle.agv_http.specs.routing.Kept.{kept_table};
+ghost use Rattle.agv_http.specs.routing.RouterRows.{router_rows};
 ghost use Rattle.agv_http.specs.routing.Paths.{is_question_mark, path_of};
 ghost use Rattle.agv_http.specs.routing.Table.{at_path, if_method, route_at, route_with, with_route};
 ghost use Rattle.agv_header.specs.Refusal.{verb_text};
@@ -28,7 +28,7 @@ impl Model for Routes {
 
     ghost view = { λ _. tt };
 
-    ghost invariant = { λ a. a.router ≡ kept_table };
+    ghost invariant = { λ a. a.router ≡ router_rows };
 }
 
 impl Routes {
@@ -55,7 +55,7 @@ impl Routes {
 
 /// The method and the route that a path has.
 fn method_route_at_path(router: &Router<Line>, path: &[u8]) -> Option<(Verb, Route)>
-    requires { router.now ≡ kept_table }
+    requires { router.now ≡ router_rows }
     ensures { result ≡ at_path path.now }
 {
     if !path.is_ascii() {
@@ -69,7 +69,7 @@ fn method_route_at_path(router: &Router<Line>, path: &[u8]) -> Option<(Verb, Rou
 
 /// What is served at a path of ASCII.
 fn method_route_at_text(router: &Router<Line>, path: &str) -> Option<(Verb, Route)>
-    requires table { router.now ≡ kept_table }
+    requires table { router.now ≡ router_rows }
     requires ascii { IsAscii path.now }
     ensures { result ≡ at_path path.now }
 {

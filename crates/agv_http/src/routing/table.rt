@@ -1,6 +1,6 @@
 //! The table of routes, as it is put into the router.
 ghost use Rattle.std.specs.Prelude.{◌≡◌, true, map, IfOk, OnOk};
-ghost use Rattle.agv_http.specs.routing.Kept.{are_apart, inserted, is_apart, kept_table, with_entries};
+ghost use Rattle.agv_http.specs.routing.RouterRows.{are_apart, inserted, is_apart, router_rows, with_entries};
 ghost use Rattle.agv_http.specs.routing.Table.{entry};
 
 use crate::routing::line::Line;
@@ -88,7 +88,7 @@ const LINES: [(Verb, &str, RouteKind); 23] = [
 
 /// A router of all the lines of the table.
 pub(crate) fn table_of_routes(alloc: Global) -> Result<Router<Line>, Memory>
-    ensures { IfOk result (λ router. router ≡ kept_table) }
+    ensures { IfOk result (λ router. router ≡ router_rows) }
 {
     let mut router = Router::new(alloc);
     add_all(&mut router, &LINES)?;

@@ -12,7 +12,7 @@ use Rattle.agv_count.specs.declared.loads_by_place.LoadsByPlace.{LoadsByPlace}
 use Rattle.agv_count.proofs.Pieces.{four_parts}
 use Rattle.agv_count.proofs.stock.stock_report.Goals as goal
 
--- what is written of loads that are kept by where they stand
+-- what is written of loads by where they stand
 of_loads_by_place : (stations : List (Station × ℕ)) (loads : List (List ℕ × Place)) (vehicles : List VehicleKey) (by_place : LoadsByPlace)
     → ((id : List ℕ) → loads_at name_cmp by_place.stations id ≡ loads_where (is_at_station id) loads) → ((key : VehicleKey) → loads_at key_cmp by_place.vehicles key ≡ loads_where (is_on key) loads)
     → by_place.checking.items ≡ loads_where is_checking loads
@@ -24,10 +24,10 @@ of_loads_by_place stations loads vehicles by_place at on checking = λ i.
 
 pub returns : goal.returns
 returns c =
-    let kept = c.in_ok-by_place.ensures in
+    let its = c.in_ok-by_place.ensures in
     ap (λ (v : Vec ℕ Global). v.items) c.into_bytes.ensures.value
     ∙ four_parts _ _ _ _ _ _ _ _ _ c.new-out.ensures.bytes c.in_ok-write_stations.ensures
     (c.in_ok-write_checking.ensures ∙ ap (λ (here : List (List ℕ)). string_bytes c.write_stations.new.out ++ checking_part here) c.deref.ensures.value)
     c.in_ok-write_vehicles.ensures
     (c.in_ok-write_left.ensures ∙ ap (λ (gone : ℕ). string_bytes c.write_vehicles.new.out ++ left_part gone) c.left_count.ensures)
-    ∙ of_loads_by_place c.args.stations.now c.args.loads.now c.args.vehicles.now c.in_ok-by_place.by_place kept.stations kept.vehicles kept.checking
+    ∙ of_loads_by_place c.args.stations.now c.args.loads.now c.args.vehicles.now c.in_ok-by_place.by_place its.stations its.vehicles its.checking

@@ -1,5 +1,5 @@
 use Rattle.std.proofs.Common.{◌≡◌, true, map, drop}
-use Rattle.agv_http.specs.routing.Kept.{are_apart, with_entries}
+use Rattle.agv_http.specs.routing.RouterRows.{are_apart, with_entries}
 use Rattle.agv_http.specs.routing.Table.{entry}
 use Rattle.agv_http.proofs.routing.table.add_all.Given as goal
 

@@ -3,7 +3,7 @@ use Rattle.sqlite.specs.Held.{Held}
 use Rattle.agv_store.specs.Opening.{IsDamaged, IsStorage, Opening}
 use Rattle.agv_row_reading.specs.declared.open_fault.OpenFault.{OpenFault}
 use Rattle.agv_row_reading.specs.declared.open_fault.OpenFault.TheVariants as fault
-use Rattle.agv_store.proofs.Found.{found_kept}
+use Rattle.agv_store.proofs.Found.{found_consistent}
 use Rattle.agv_store.proofs.desk.Desk.adopt.Goals as goal
 
 abbrev refused : {S : Type 0} → Held S → OpenFault → Opening S
@@ -26,4 +26,4 @@ pub returns-in-Err-clause-damaged : goal.returns-in-Err-clause-damaged
 returns-in-Err-clause-damaged g c clean is = c.in-Err.ensures.damaged clean (damaged_only c.find_desk.new.conn c.in-Err.why is)
 
 pub new-requires : goal.new-requires
-new-requires g c = found_kept g.S.Store c.args.conn c.find_desk.new.conn c.in-Ok.known c.in-Ok.ensures c.requires
+new-requires g c = found_consistent g.S.Store c.args.conn c.find_desk.new.conn c.in-Ok.known c.in-Ok.ensures c.requires

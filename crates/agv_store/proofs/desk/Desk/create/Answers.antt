@@ -10,7 +10,7 @@ use Rattle.agv_creation.specs.DeskTables.{MakesDesk}
 use Rattle.agv_world_reading.specs.NewWorld.{KnowsNothing}
 use Rattle.agv_creation.specs.NewDesk.{AllowsDesk, MadeDesksStand, StandsNew}
 use Rattle.agv_schema.specs.Connections.{IsClean, IsOpen}
-use Rattle.agv_store.specs.Floors.{IsKept, Keyed, Knows, world_at}
+use Rattle.agv_store.specs.Floors.{IsConsistent, Keyed, Knows, world_at}
 use Rattle.agv_store.specs.Known.{IsKnownIn}
 use Rattle.agv_store.specs.Opening.{CanBeMade, Makes}
 use Rattle.agv_store.specs.declared.known.Known.{Known}
@@ -38,8 +38,8 @@ module _ {S : Type 0} (g : Ghosts S) (made_stand : MadeDesksStand) (knows_nothin
     nothing_told : IsClean g new → world_at g new ≡ empty_world
     nothing_told clean = let it = knows clean in tells_its_world it.at (state g new).now empty_world it.has
 
-    new_kept : (known : Known) → IsKnownIn known empty_world → IsKept g new known false false
-    new_kept known is_known = record {
+    new_consistent : (known : Known) → IsKnownIn known empty_world → IsConsistent g new known false false
+    new_consistent known is_known = record {
       idle = idle;
       opens = λ clean _ _. (opens clean).1;
       knows = λ clean _. subst (λ (world : World). Knows g new world) (sym (nothing_told clean)) (knows clean);
@@ -63,7 +63,7 @@ pub new-requires : goal.new-requires
 new-requires g c =
     let its = c.in-Ok.ensures in
     let free = subst AllowsDesk c.schema.ensures.value (c.if-not-allows_desk.ensures.0 refl) in
-    new_kept g.S.Store c.made_desks_stand.ensures c.new_desks_know_nothing.ensures.world c.args.conn c.make_desk_tables.new.conn free its.idle its.open its.all_committed its.made c.a_database_tells_its_world.ensures
+    new_consistent g.S.Store c.made_desks_stand.ensures c.new_desks_know_nothing.ensures.world c.args.conn c.make_desk_tables.new.conn free its.idle its.open its.all_committed its.made c.a_database_tells_its_world.ensures
     c.new-known.result (c.new-known.ensures empty_world c.none.ensures tt)
 
 pub returns-in-Ok-clause-made : goal.returns-in-Ok-clause-made

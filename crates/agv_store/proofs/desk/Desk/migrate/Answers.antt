@@ -5,7 +5,7 @@ use Rattle.agv_first_schema.specs.Moved.{CanBeAdded}
 use Rattle.agv_schema.specs.Connections.{IsClean}
 use Rattle.agv_store.specs.Floors.{Keyed}
 use Rattle.agv_store.specs.Migration.{LeavesMigrated, Migrates}
-use Rattle.agv_store.proofs.Moving.{can_be_migrated, could_be_added, crash_leaves, damaged_only, migrates, moved_kept, none_added, storage_only}
+use Rattle.agv_store.proofs.Moving.{can_be_migrated, could_be_added, crash_leaves, damaged_only, migrates, moved_consistent, none_added, storage_only}
 use Rattle.agv_store.proofs.desk.Desk.migrate.Goals as goal
 
 pub returns-in-Err-clause-damaged : goal.returns-in-Err-clause-damaged
@@ -17,7 +17,7 @@ returns-in-Err-clause-caused g c clean is = inl (c.in-Err.ensures.caused clean (
 pub new-requires : goal.new-requires
 new-requires g c =
     let its = c.in-Ok-move_tables.ensures in
-    moved_kept g.S.Store c.args.conn c.find_first_desk.new.conn c.move_tables.new.conn c.in-Ok.found.0 c.in-Ok.found.1 c.in-Ok.ensures
+    moved_consistent g.S.Store c.args.conn c.find_first_desk.new.conn c.move_tables.new.conn c.in-Ok.found.0 c.in-Ok.found.1 c.in-Ok.ensures
     (c.is_autocommit-settled.ensures.settled (c.is_autocommit-settled.ensures.value ∙ ap not c.requires)) its.crash its.idle its.open its.all_committed its.made c.a_database_tells_its_world.ensures
 
 pub returns-in-Ok-move_tables-clause-migrated : goal.returns-in-Ok-move_tables-clause-migrated

@@ -1,6 +1,6 @@
 use Rattle.std.proofs.Common.{ap, sym, ◌∙◌}
 use Rattle.agv_store.specs.Floors.{Keyed}
-use Rattle.agv_store.proofs.Asked.{asked_done, asked_fault, asked_kept, asked_knows, asked_settled, not_asked}
+use Rattle.agv_store.proofs.Asked.{asked_done, asked_fault, asked_consistent, asked_knows, asked_settled, not_asked}
 use Rattle.agv_store.proofs.Deciding.{err_of}
 use Rattle.agv_store.proofs.keyed_floor.KeyedFloor.settle.Goals as goal
 
@@ -16,7 +16,7 @@ returns-in_ok-note-clause-asks g c =
     asked_done g.S.Store c.self.inside.conn c.query_meta-asked.new.conn c.self.inside.known c.self.inside.failed c.self.inside.in_doubt c.self.invariant c.query_meta-asked.result _ c.query_meta-asked.ensures.tells c.note.new.failed c.args.self.now c.self.view_is c.in_ok-note.field-0 (sym c.note.ensures.is ∙ c.in_ok-note.was) c.note.ensures.failed
 
 pub invariant_of-self : goal.invariant_of-self
-invariant_of-self g c = asked_kept g.S.Store c.self.inside.conn c.query_meta-asked.new.conn c.self.inside.known c.self.inside.failed c.self.inside.in_doubt c.self.invariant c.query_meta-asked.result _ c.query_meta-asked.ensures.tells c.note.new.failed c.note.new.in_doubt c.note.ensures.failed c.note.ensures.in_doubt
+invariant_of-self g c = asked_consistent g.S.Store c.self.inside.conn c.query_meta-asked.new.conn c.self.inside.known c.self.inside.failed c.self.inside.in_doubt c.self.invariant c.query_meta-asked.result _ c.query_meta-asked.ensures.tells c.note.new.failed c.note.new.in_doubt c.note.ensures.failed c.note.ensures.in_doubt
 
 pub invariant_of-self-then-self-2 : goal.invariant_of-self-then-self-2
 invariant_of-self-then-self-2 g c = asked_settled g.S.Store c.self.inside.conn c.query_meta-asked.new.conn c.self.inside.known c.self.inside.failed c.self.inside.in_doubt c.self.invariant c.query_meta-asked.result _ c.query_meta-asked.ensures.tells c.note.new.failed c.in_ok-note.field-0 (sym c.note.ensures.is ∙ c.in_ok-note.was)

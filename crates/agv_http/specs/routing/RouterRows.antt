@@ -1,4 +1,4 @@
--- What the router keeps: the lines of the table, each under the tokens of its pattern.
+-- The rows of the router: the lines of the table, each under the tokens of its pattern.
 use Rattle.std.specs.Prelude.{Bool, true, false, ◌&&◌, List, [], ◌∷◌, Result, Ok, Err, is_none}
 use Rattle.matchit.specs.Rows.{RowsOf}
 use Rattle.matchit.specs.Order.{placed}
@@ -9,37 +9,37 @@ use Rattle.agv_http.specs.declared.routing.line.Line.{Line}
 use Rattle.agv_http.specs.routing.Table.{Entry, entries}
 
 -- the rows of a router
-abbrev pub Kept : Type 0
-Kept = RowsOf (RouteOf Line)
+abbrev pub RouterRows : Type 0
+RouterRows = RowsOf (RouteOf Line)
 
 -- the rows with one more line, where the text of its pattern is read
-abbrev pub with_scan : Result Scan InsertError → Line → Kept → Kept
+abbrev pub with_scan : Result Scan InsertError → Line → RouterRows → RouterRows
 with_scan (Ok s) line rows = placed (s.pattern, route_from s line) rows
 with_scan (Err e) line rows = rows
 
 -- the rows with one more line
-unfoldable pub inserted : Entry → Kept → Kept
+unfoldable pub inserted : Entry → RouterRows → RouterRows
 inserted e rows = with_scan (parse_route e.0) e.1 rows
 
 -- the rows with these lines, put in one after another
-abbrev pub with_entries : Kept → List Entry → Kept
+abbrev pub with_entries : RouterRows → List Entry → RouterRows
 with_entries rows [] = rows
 with_entries rows (e ∷ rest) = with_entries (inserted e rows) rest
 
 -- a text that is read as a pattern conflicts with none of the rows
-abbrev pub is_apart_from : Kept → Result Scan InsertError → Bool
+abbrev pub is_apart_from : RouterRows → Result Scan InsertError → Bool
 is_apart_from rows (Ok s) = is_none (nearest s.pattern rows)
 is_apart_from rows (Err e) = false
 
 -- the pattern of a line is read, and conflicts with none of the rows
-unfoldable pub is_apart : Entry → Kept → Bool
+unfoldable pub is_apart : Entry → RouterRows → Bool
 is_apart e rows = is_apart_from rows (parse_route e.0)
 
 -- so is that of each of these lines, with the rows and those before it
-abbrev pub are_apart : List Entry → Kept → Bool
+abbrev pub are_apart : List Entry → RouterRows → Bool
 are_apart [] rows = true
 are_apart (e ∷ rest) rows = is_apart e rows && are_apart rest (inserted e rows)
 
 -- the rows of the router of all lines
-unfoldable pub kept_table : Kept
-kept_table = with_entries [] entries
+unfoldable pub router_rows : RouterRows
+router_rows = with_entries [] entries

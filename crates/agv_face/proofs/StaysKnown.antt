@@ -48,15 +48,15 @@ module _ {S : Type 0} (g : Ghosts S) (at : ℕ) (desk : Keyed S) where
 
   -- ---- while requests are served
 
-  pub record HasKept (now : Keyed S) (requests : List Request) : Type 0 where
+  pub record StaysKnown (now : Keyed S) (requests : List Request) : Type 0 where
     -- before the first call the desk is as it was
     pub untouched : calls_of requests at ≡ [] → now ≡ desk
     pub knew : IsClean g now.held → calls_of requests at ≢ [] → Knows g desk.held start
     pub known : IsClean g now.held → calls_of requests at ≢ [] → Known now
     pub still : IsClean g now.held → Knows g desk.held start → Known now
 
-  pub kept_none : HasKept desk []
-  kept_none = record {
+  pub known_none : StaysKnown desk []
+  known_none = record {
     untouched = λ _. refl;
     knew = λ _ some. absurd (some (no_calls at));
     known = λ _ some. absurd (some (no_calls at));
@@ -64,29 +64,29 @@ module _ {S : Type 0} (g : Ghosts S) (at : ℕ) (desk : Keyed S) where
   }
 
   -- one request more
-  module _ (now then : Keyed S) (requests : List Request) (kept : HasKept now requests) (later : IsClean g then.held → IsClean g now.held)
+  module _ (now then : Keyed S) (requests : List Request) (stays : StaysKnown now requests) (later : IsClean g then.held → IsClean g now.held)
       (lent : RequestRef) (request : Request) (lent_is : IsLent request lent) (turn : CallsInTurn) where
     abbrev more : List Request
     more = requests ++ request ∷ []
 
     -- that is no call
-    kept_same : then ≡ now → calls_of more at ≡ calls_of requests at → HasKept then more
-    kept_same same none =
+    known_same : then ≡ now → calls_of more at ≡ calls_of requests at → StaysKnown then more
+    known_same same none =
         let Some : List (ℕ × Call) → Type 0 = λ calls. calls ≢ [] in
         record {
-          untouched = λ is. same ∙ kept.untouched (sym none ∙ is);
-          knew = λ clean some. kept.knew (later clean) (subst Some none some);
-          known = λ clean some. subst Known (sym same) (kept.known (later clean) (subst Some none some));
-          still = λ clean knows. subst Known (sym same) (kept.still (later clean) knows);
+          untouched = λ is. same ∙ stays.untouched (sym none ∙ is);
+          knew = λ clean some. stays.knew (later clean) (subst Some none some);
+          known = λ clean some. subst Known (sym same) (stays.known (later clean) (subst Some none some));
+          still = λ clean knows. subst Known (sym same) (stays.still (later clean) knows);
         }
 
     -- that is a call
     knew_start : (calls : List (ℕ × Call)) → calls_of requests at ≡ calls → IsClean g now.held → Known now → Knows g desk.held start
-    knew_start [] none clean knows = subst Known (kept.untouched none) knows
-    knew_start (call ∷ calls) is clean knows = kept.knew clean (λ none. let e : call ∷ calls ≡ [] = sym is ∙ none in absurd (cc))
+    knew_start [] none clean knows = subst Known (stays.untouched none) knows
+    knew_start (call ∷ calls) is clean knows = stays.knew clean (λ none. let e : call ∷ calls ≡ [] = sym is ∙ none in absurd (cc))
 
-    kept_call : calls_of more at ≢ [] → (IsClean g then.held → Known now × Known then) → HasKept then more
-    kept_call some reached = record {
+    known_call : calls_of more at ≢ [] → (IsClean g then.held → Known now × Known then) → StaysKnown then more
+    known_call some reached = record {
       untouched = λ none. absurd (some none);
       knew = λ clean _. knew_start (calls_of requests at) refl (later clean) (reached clean).0;
       known = λ clean _. (reached clean).1;
@@ -96,16 +96,16 @@ module _ {S : Type 0} (g : Ghosts S) (at : ℕ) (desk : Keyed S) where
     calls_so : (read : Result Call Refusal) → call_of_lent lent ≡ read → calls_of more at ≡ calls_of requests at ++ cons_option (timed_call at read) []
     calls_so read is = calls_more at requests request lent lent_is turn ∙ ap (λ (r : Result Call Refusal). calls_of requests at ++ cons_option (timed_call at r) []) is
 
-    kept_by : (read : Result Call Refusal) → call_of_lent lent ≡ read → IsReached g now then read → HasKept then more
-    kept_by (Err why) is same = kept_same same (calls_so (Err why) is ∙ append-nil (calls_of requests at))
-    kept_by (Ok call) is reached = kept_call (λ none. not_nil (calls_of requests at) (at, call) (sym (calls_so (Ok call) is) ∙ none)) reached
+    known_by : (read : Result Call Refusal) → call_of_lent lent ≡ read → IsReached g now then read → StaysKnown then more
+    known_by (Err why) is same = known_same same (calls_so (Err why) is ∙ append-nil (calls_of requests at))
+    known_by (Ok call) is reached = known_call (λ none. not_nil (calls_of requests at) (at, call) (sym (calls_so (Ok call) is) ∙ none)) reached
 
-    pub kept_on : IsReached g now then (call_of_lent lent) → HasKept then more
-    kept_on reached = kept_by (call_of_lent lent) refl reached
+    pub known_on : IsReached g now then (call_of_lent lent) → StaysKnown then more
+    known_on reached = known_by (call_of_lent lent) refl reached
 
   -- ---- at an end
 
-  module _ (finds : FindsKnown g) (now : Keyed S) (requests : List Request) (kept : HasKept now requests) (world_is : IsClean g now.held → world_at g now.held ≡ world_after desk_seats start at requests) where
+  module _ (finds : FindsKnown g) (now : Keyed S) (requests : List Request) (stays : StaysKnown now requests) (world_is : IsClean g now.held → world_at g now.held ≡ world_after desk_seats start at requests) where
     found_now : IsClean g now.held → Known now → (trees : Trees) → (state g now.held).may_leave trees → HasDatabase (λ found. FoundIn found (world_after desk_seats start at requests)) trees
     found_now clean knows trees left =
         let Found : World → Type 0 = λ world. HasDatabase (λ found. FoundIn found world) trees in
@@ -113,10 +113,10 @@ module _ {S : Type 0} (g : Ghosts S) (at : ℕ) (desk : Keyed S) where
 
     pub are_done : AreDone g at desk now requests
     are_done = record {
-      untouched = kept.untouched;
-      knew = kept.knew;
-      knows = λ clean some. let So : World → Type 0 = λ world. Knows g now.held world in subst So (world_is clean) (kept.known clean some);
-      crash = λ clean knew trees left. found_now clean (kept.still clean knew) trees left;
+      untouched = stays.untouched;
+      knew = stays.knew;
+      knows = λ clean some. let So : World → Type 0 = λ world. Knows g now.held world in subst So (world_is clean) (stays.known clean some);
+      crash = λ clean knew trees left. found_now clean (stays.still clean knew) trees left;
     }
 
     -- another request was begun, and has no answer
@@ -147,6 +147,6 @@ module _ {S : Type 0} (g : Ghosts S) (at : ℕ) (desk : Keyed S) where
       pub are_done_or_next : AreDoneOrNext g at desk then input requests
       are_done_or_next = record {
         begun = begun;
-        knew = λ clean some. kept.knew (later clean) some;
-        crash = λ clean knew trees left. found_either (later clean) (kept.still (later clean) knew) trees (crash.crash clean trees left);
+        knew = λ clean some. stays.knew (later clean) some;
+        crash = λ clean knew trees left. found_either (later clean) (stays.still (later clean) knew) trees (crash.crash clean trees left);
       }

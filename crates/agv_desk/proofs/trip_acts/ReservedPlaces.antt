@@ -1,4 +1,4 @@
--- While a job rides, a place at its target is kept for it.
+-- While a job rides, a place at its target is reserved for it.
 use Rattle.std.proofs.Common.{◌≡◌, ◌≤◌, ◌&&◌, ℕ, List, Some, nat_eq, ap, subst, ◌∙◌}
 use Rattle.std.specs.Cmp.Lexicographic.{pointwise}
 use Rattle.std.specs.FinMap as finite
@@ -12,9 +12,9 @@ use Rattle.agv_world.specs.declared.row.JobRow.{JobRow}
 use Rattle.agv_desk.proofs.lists.SameNames.{name_itself}
 use Rattle.agv_desk.proofs.lists.Writes.{one_if, tally, weight, weight-le}
 
-pub kept_place : (world : World) (job : List ℕ) (row : JobRow) → finite.get world.jobs job ≡ Some row → row.phase ≡ Riding → 1 ≤ reserved world row.target
+pub reserved_place : (world : World) (job : List ℕ) (row : JobRow) → finite.get world.jobs job ≡ Some row → row.phase ≡ Riding → 1 ≤ reserved world row.target
 unfolding reserved
-kept_place world job row here rides =
+reserved_place world job row here rides =
     let test = is_live_to row.target in
     let most : weight test (Some row) ≤ tally test world.jobs = subst (λ found. weight test found ≤ tally test world.jobs) here (weight-le names_total test world.jobs job) in
     let live : is_live_to row.target row ≡ is_live Riding = ap (λ (phase : Phase). is_live phase && pointwise nat_eq row.target row.target) rides ∙ name_itself row.target in
