@@ -16,7 +16,7 @@ use Rattle.agv_face.specs.CountingIo.{inner_of}
 use Rattle.agv_face.specs.declared.stream_end.Ended.TheVariants as ended_by
 use Rattle.agv_face.specs.declared.stream_end.StreamFault.TheVariants as fault
 use Rattle.agv_face.specs.declared.counting_io.CountingIo.{CountingIo}
-use Rattle.agv_face.proofs.Streams.{HasServed, begins, follows, input, is_input, more, parts}
+use Rattle.agv_face.proofs.HasServed.{HasServed, begins, follows, input, is_input, more, parts}
 
 module _ {S R W : Type 0} (g : Ghosts S) (remaining : R → Option (List ℕ)) (contents : W → Option (List ℕ)) (at : ℕ) (desk : Keyed S) (reader : CountingIo R) (writer : CountingIo W)
     (now : Keyed S) (reader_now : CountingIo R) (writer_now : CountingIo W) (ended : Bool) (buf : List ℕ) (answers : ℕ)

@@ -36,7 +36,8 @@ use Rattle.agv_face.proofs.Counting.{counts_at_end, counts_closed, counts_cut, c
 use Rattle.agv_face.proofs.StaysKnown.{FindsKnown, StaysKnown, are_done, are_done_or_next, known_on}
 use Rattle.agv_face.proofs.Serving.{later_still, survives_still}
 use Rattle.agv_face.proofs.InTurn.{AnswersInTurn, CallsInTurn, GoesOnBehind, WorldsInTurn}
-use Rattle.agv_face.proofs.Streams.{HasServed, cut_answer, cut_faulty, cut_refused, ends_at_end, ends_closed, ends_faulty, ends_refused, ends_unread, follows, has_call, has_request, input, machine_fault, more, no_call_asked, none_served, none_yet, parts, reads_on, serves_on, world_then}
+use Rattle.agv_face.proofs.HasServed.{HasServed, follows, has_call, has_request, input, machine_fault, more, none_served, none_yet, parts, reads_on}
+use Rattle.agv_face.proofs.Streams.{cut_answer, cut_faulty, cut_refused, ends_at_end, ends_closed, ends_faulty, ends_refused, ends_unread, no_call_asked, serves_on, world_then}
 use Rattle.agv_face.proofs.Writing.{failed_then}
 
 -- ---- a fault of HTTP is none of the machine

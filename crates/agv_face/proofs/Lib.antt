@@ -1,6 +1,7 @@
 pub mod InTurn
 pub mod StaysKnown
 pub mod Serving
+pub mod HasServed
 pub mod Streams
 pub mod Writing
 pub mod Exits

@@ -7,7 +7,7 @@ use Rattle.agv_face.specs.StreamEnd.{most_reads}
 use Rattle.agv_face.specs.CountingIo.{calls_of, counted}
 use Rattle.agv_face.specs.declared.next.Next.TheVariants as next
 use Rattle.agv_face.proofs.Serving.{later_then}
-use Rattle.agv_face.proofs.Streams.{HasServed, none_served}
+use Rattle.agv_face.proofs.HasServed.{HasServed, none_served}
 use Rattle.agv_face.proofs.Exits.{answer_cut, answer_cut_counted, answered_on, cut_counted, end_counted, end_found, failed_still, fault_cut, fault_told, last_answered, last_counted, machine_counted, machine_failed, none_come, none_counted, some_bytes, some_come, told_counted}
 use Rattle.agv_face.proofs.Writing.{failed_then}
 use Rattle.agv_face.proofs.stream.serve_requests.Goals as goal

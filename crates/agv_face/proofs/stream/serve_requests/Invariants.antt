@@ -2,7 +2,7 @@ use Rattle.std.proofs.Common.{◌≡◌, ◌≤◌, ◌+◌, ◌-◌, ◌*◌, d
 use Rattle.agv_http.specs.answers.Sizes.{most_answer}
 use Rattle.agv_face.specs.StreamEnd.{most_reads}
 use Rattle.agv_face.specs.CountingIo.{calls_of, counted}
-use Rattle.agv_face.proofs.Streams.{HasServed}
+use Rattle.agv_face.proofs.HasServed.{HasServed}
 use Rattle.agv_face.proofs.stream.serve_requests.Given as goal
 
 -- the requests so far are served, and what is left of the input is behind them in the buffer, and in the reader
