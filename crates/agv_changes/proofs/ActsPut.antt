@@ -21,7 +21,6 @@ use Rattle.agv_rows.specs.RowKeys.{act_row_key, name_key}
 use Rattle.agv_rows.specs.RowLists.{AreAlike, rows_of_acts, without_acts}
 use Rattle.agv_schema.specs.RowTexts.{columns_deleted}
 use Rattle.agv_statements.specs.RowUpdates.{with_each}
-use Rattle.agv_schema.specs.declared.world_table.WorldTable.TheVariants as table
 use Rattle.agv_schema.specs.declared.table_name.TableName.TheVariants as the
 use Rattle.agv_changes.proofs.ChangesRun.{makes_nothing}
 use Rattle.agv_changes.proofs.RowsStay.{stay-alike}
@@ -78,9 +77,9 @@ later_lack order k n (row ∷ rows) low are =
     (ap (has_number order k) are.0.is ∙ not_another's order k n are.0.told apart, later_lack order k (n + 1) rows (omega (arith, low)) are.1)
 
 -- none of the rows of other orders
-others_lack : (order : List ℕ) (k : ℕ) (rows : List Row) → AllByRecursion (λ r. has_number order k r ≡ false) (filter (λ row. not (has_columns (columns_deleted table.Act) (name_key order) row)) rows)
+others_lack : (order : List ℕ) (k : ℕ) (rows : List Row) → AllByRecursion (λ r. has_number order k r ≡ false) (filter (λ row. not (has_columns (columns_deleted the.Act) (name_key order) row)) rows)
 others_lack order k [] = tt
-others_lack order k (row ∷ rows) = elim (cases_Bool (has_columns (columns_deleted table.Act) (name_key order) row)) [
+others_lack order k (row ∷ rows) = elim (cases_Bool (has_columns (columns_deleted the.Act) (name_key order) row)) [
   | inl its ↦ rw its (others_lack order k rows)
   | inr other ↦
       let differs : is_equal (column row 0) (Text order) ≡ false = sym (and_true _) ∙ other in
@@ -161,14 +160,14 @@ module _ (order : List ℕ) (acts : List Act) (rows : List Row) where
   -- none is written yet
   pub puts_none : (a : State) → IsTrue a.in_transaction → Answers (acts_listed order) a rows → Makes (so_far 0) a a
   puts_none a inside shown =
-      makes_alike (λ lists. lists) (so_far 0) a a (makes_nothing a inside) (λ desk is lists h. stay-alike the.Act (columns_deleted table.Act) (name_key order) rows lists (shown desk is lists h))
+      makes_alike (λ lists. lists) (so_far 0) a a (makes_nothing a inside) (λ desk is lists h. stay-alike the.Act (columns_deleted the.Act) (name_key order) rows lists (shown desk is lists h))
 
   -- one more is
   pub puts_next : (n : ℕ) (act : Act) (a b c : State) → length rows ≡ length acts → AreOfOrder order 0 rows → n < length acts → act ≡ get_or acts n act
       → Makes (so_far n) a b → Makes (with_each the.Act (table_for the.Act).primary (row_of_act order n act)) b c → Makes (so_far (n + 1)) a c
   puts_next n act a b c long are low is p q =
       let at = place_of the.Act in
-      let fails = λ (row : Row). not (has_columns (columns_deleted table.Act) (name_key order) row) in
+      let fails = λ (row : Row). not (has_columns (columns_deleted the.Act) (name_key order) row) in
       let before = put_so_far order 0 n acts rows in
       let after = put_so_far order 0 (suc n) acts rows in
       let next : suc n ≡ n + 1 = omega arith in

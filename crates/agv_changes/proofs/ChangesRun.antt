@@ -12,10 +12,9 @@ use Rattle.agv_changes.specs.ChangesMade.{ChangesWorlds, MakesChanges}
 use Rattle.agv_rows.specs.Columns.{act_columns}
 use Rattle.agv_schema.specs.DeskRows.{FitsTable, Makes, table_for, with_put_by, with_row, with_rows}
 use Rattle.agv_rows.specs.RowLists.{listed, listed_all, rows_of_acts}
-use Rattle.agv_schema.specs.RowTexts.{columns_deleted, table_written}
-use Rattle.agv_statements.specs.RowUpdates.{IsKeyOf, table_updated}
-use Rattle.agv_statements.specs.declared.updated_table.UpdatedTable.{UpdatedTable}
-use Rattle.agv_schema.specs.declared.world_table.WorldTable.{WorldTable}
+use Rattle.agv_schema.specs.RowTexts.{columns_deleted}
+use Rattle.agv_statements.specs.RowUpdates.{IsKeyOf}
+use Rattle.agv_schema.specs.declared.table_name.TableName.{TableName}
 use Rattle.agv_schema.specs.declared.table_name.TableName.TheVariants as the
 use Rattle.agv_statements.proofs.DeskStatements.{keeps_others_as_is, makes_then}
 use Rattle.agv_rows.proofs.ListsFollow.{listed_in_turn}
@@ -33,20 +32,19 @@ makes_nothing a inside = record {
 -- ---- one row
 
 -- what is put as values is the row that these are
-pub puts : (table : WorldTable) (given_key key given row : Row) (a b : State) (r : Result ℕ Error) → given_key ≡ key → given ≡ row → FitsTable (table_written table) row
-    → (FitsTable (table_written table) given → OnOk r (Makes (with_put_by (table_written table) (columns_deleted table) given_key given) a b)) → OnOk r (Makes (with_put_by (table_written table) (columns_deleted table) key row) a b)
-puts table given_key key given row a b r keyed valued fit made =
-    subst (λ (k : Row). OnOk r (Makes (with_put_by (table_written table) (columns_deleted table) k row) a b)) keyed
-    (subst (λ (v : Row). FitsTable (table_written table) v → OnOk r (Makes (with_put_by (table_written table) (columns_deleted table) given_key v) a b)) valued made fit)
+pub puts : (name : TableName) (given_key key given row : Row) (a b : State) (r : Result ℕ Error) → given_key ≡ key → given ≡ row → FitsTable name row
+    → (FitsTable name given → OnOk r (Makes (with_put_by name (columns_deleted name) given_key given) a b)) → OnOk r (Makes (with_put_by name (columns_deleted name) key row) a b)
+puts name given_key key given row a b r keyed valued fit made =
+    subst (λ (k : Row). OnOk r (Makes (with_put_by name (columns_deleted name) k row) a b)) keyed
+    (subst (λ (v : Row). FitsTable name v → OnOk r (Makes (with_put_by name (columns_deleted name) given_key v) a b)) valued made fit)
 
 -- and so is what is written over the row of its key
-pub puts_over : (table : UpdatedTable) (given_key key given row : Row) (a b : State) (r : Result ℕ Error) → given_key ≡ key → given ≡ row → FitsTable (table_written (table_updated table)) row
-    → columns_deleted (table_updated table) ≡ (table_for (table_written (table_updated table))).primary → IsKeyOf (columns_deleted (table_updated table)) key row
-    → (FitsTable (table_written (table_updated table)) given → columns_deleted (table_updated table) ≡ (table_for (table_written (table_updated table))).primary → IsKeyOf (columns_deleted (table_updated table)) given_key given → OnOk r (Makes (with_put_by (table_written (table_updated table)) (columns_deleted (table_updated table)) given_key given) a b))
-    → OnOk r (Makes (with_put_by (table_written (table_updated table)) (columns_deleted (table_updated table)) key row) a b)
-puts_over table given_key key given row a b r keyed valued fit same is_key made =
-    let name = table_written (table_updated table) in
-    let columns = columns_deleted (table_updated table) in
+pub puts_over : (name : TableName) (given_key key given row : Row) (a b : State) (r : Result ℕ Error) → given_key ≡ key → given ≡ row → FitsTable name row
+    → columns_deleted name ≡ (table_for name).primary → IsKeyOf (columns_deleted name) key row
+    → (FitsTable name given → columns_deleted name ≡ (table_for name).primary → IsKeyOf (columns_deleted name) given_key given → OnOk r (Makes (with_put_by name (columns_deleted name) given_key given) a b))
+    → OnOk r (Makes (with_put_by name (columns_deleted name) key row) a b)
+puts_over name given_key key given row a b r keyed valued fit same is_key made =
+    let columns = columns_deleted name in
     subst (λ (k : Row). IsKeyOf columns k row → OnOk r (Makes (with_put_by name columns k row) a b)) keyed
     (subst (λ (v : Row). FitsTable name v → IsKeyOf columns given_key v → OnOk r (Makes (with_put_by name columns given_key v) a b)) valued (λ fits keys. made fits same keys) fit) is_key
 

@@ -7,7 +7,6 @@ use Rattle.agv_rows.specs.Columns.{act_columns}
 use Rattle.agv_schema.specs.DeskRows.{has_columns, place_of, table_at}
 use Rattle.agv_rows.specs.RowKeys.{name_key}
 use Rattle.agv_schema.specs.RowTexts.{columns_deleted}
-use Rattle.agv_schema.specs.declared.world_table.WorldTable.TheVariants as table
 use Rattle.agv_schema.specs.declared.table_name.TableName.TheVariants as the
 
 -- the row is that of the order's act of this number
@@ -22,4 +21,4 @@ AreOfOrder order n (row ∷ rows) = IsOfOrder order n row × AreOfOrder order (n
 
 -- the rows of the acts of an order
 abbrev pub acts_listed : List ℕ → List (List Row) → List Row
-acts_listed order lists = filter (has_columns (columns_deleted table.Act) (name_key order)) (table_at (place_of the.Act) lists)
+acts_listed order lists = filter (has_columns (columns_deleted the.Act) (name_key order)) (table_at (place_of the.Act) lists)

@@ -19,11 +19,10 @@ use agv_order::Act;
 use agv_rows::key_values::name_key_values;
 use agv_rows::row_values::act_values;
 use agv_schema::rows_by::RowsBy;
-use agv_schema::world_table::WorldTable;
+use agv_schema::table_name::TableName;
 use agv_statements::row_finds::find_rows_by_inside;
 use agv_statements::row_updates::update_row;
 use agv_statements::row_writes::{delete_row, insert_row};
-use agv_statements::updated_table::UpdatedTable;
 use agv_trip_rows::{ActKey, ActRow};
 use sqlite::{Alter, Error, Row, Transaction};
 
@@ -31,7 +30,7 @@ use sqlite::{Alter, Error, Row, Transaction};
 pub(crate) fn drop_acts<S: Alter>(tx: &mut Transaction<'_, S>, order: &Name) -> Result<usize, Error>
     ensures { MakesInside S.Store tx.old tx.new result (without_acts order.now) }
 {
-    delete_row(tx, WorldTable::Act, &name_key_values(order))
+    delete_row(tx, TableName::Act, &name_key_values(order))
 }
 
 /// The order has these acts besides, which are numbered from 0 on.
@@ -59,7 +58,7 @@ fn add_act<S: Alter>(
     ensures { MakesInside S.Store tx.old tx.new result (with_row the.Act (act_columns (act_key order.now n) (act_row act.now))) }
 {
     let key = act_key(order, n)?;
-    insert_row(tx, WorldTable::Act, &act_values(&key, &ActRow::of(act)))
+    insert_row(tx, TableName::Act, &act_values(&key, &ActRow::of(act)))
 }
 
 // The key of the order's act of this number. One above 4294967295 has no row.
@@ -118,7 +117,7 @@ fn put_act<S: Alter>(
     ensures { MakesInside S.Store tx.old tx.new result (with_each the.Act (table_for the.Act).primary (act_columns (act_key order.now n) (act_row act.now))) }
 {
     let key = act_key(order, n)?;
-    update_row(tx, UpdatedTable::Act, &act_values(&key, &ActRow::of(act)))
+    update_row(tx, TableName::Act, &act_values(&key, &ActRow::of(act)))
 }
 
 // The order has these acts in place of those that it has.

@@ -10,8 +10,7 @@ use crate::shown_rows::is_only_capacity;
 use agv_header::VehicleKey;
 use agv_rows::key_values::vehicle_key_values;
 use agv_rows::row_values::capacity_values;
-use agv_schema::row_of::RowOf;
-use agv_schema::world_table::WorldTable;
+use agv_schema::table_name::TableName;
 use agv_statements::row_finds::find_rows_inside;
 use agv_statements::row_writes::put_new;
 use agv_world::VehicleRow;
@@ -27,7 +26,7 @@ pub(crate) fn write_capacity<S: Alter>(
     ensures { WritesInside S.Store tx.old tx.new (λ before after. IsTrue before.in_transaction
         → OnOk result (Makes (with_put the.Capacity (vehicle_key key.now) (vehicle_capacity_columns key.now vehicle.now)) before after)) }
 {
-    let rows = find_rows_inside(tx, RowOf::Capacity, &vehicle_key_values(key))?;
+    let rows = find_rows_inside(tx, TableName::Capacity, &vehicle_key_values(key))?;
     if is_only_capacity(rows.as_slice(), key, vehicle) {
         return Ok(0);
     }
@@ -44,7 +43,7 @@ fn put_capacity<S: Alter>(
 {
     put_new(
         tx,
-        WorldTable::Capacity,
+        TableName::Capacity,
         &vehicle_key_values(key),
         &capacity_values(key, vehicle),
     )

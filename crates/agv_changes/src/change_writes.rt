@@ -21,10 +21,9 @@ use agv_rows::row_values::{
     edge_values, hold_values, job_values, journey_values, leg_values, load_values, node_values,
     station_values, used_values, vehicle_values,
 };
-use agv_schema::world_table::WorldTable;
+use agv_schema::table_name::TableName;
 use agv_statements::row_updates::put_over;
 use agv_statements::row_writes::{delete_row, put_new};
-use agv_statements::updated_table::UpdatedTable;
 use agv_stock::Place;
 use agv_trip_rows::JourneyRow;
 use agv_world::{Change, JobRow, LegKey, TripRow, UseKey, VehicleRow};
@@ -55,7 +54,7 @@ pub(crate) fn write_change<S: Alter>(
 fn write_node<S: Alter>(tx: &mut Transaction<'_, S>, id: &Name) -> Result<usize, Error>
     ensures { MakesInside S.Store tx.old tx.new result (listed (row.Node id.now)) }
 {
-    put_new(tx, WorldTable::Node, &name_key_values(id), &node_values(id))
+    put_new(tx, TableName::Node, &name_key_values(id), &node_values(id))
 }
 
 // The edge has these ends.
@@ -68,7 +67,7 @@ fn write_edge<S: Alter>(
 {
     put_new(
         tx,
-        WorldTable::Edge,
+        TableName::Edge,
         &name_key_values(id),
         &edge_values(id, ends),
     )
@@ -84,7 +83,7 @@ fn write_station<S: Alter>(
 {
     put_new(
         tx,
-        WorldTable::Station,
+        TableName::Station,
         &name_key_values(id),
         &station_values(id, site),
     )
@@ -112,7 +111,7 @@ fn put_vehicle<S: Alter>(
 {
     put_over(
         tx,
-        UpdatedTable::Vehicle,
+        TableName::Vehicle,
         &vehicle_key_values(key),
         &vehicle_values(key, vehicle),
     )
@@ -144,7 +143,7 @@ fn drop_trip<S: Alter>(tx: &mut Transaction<'_, S>, order: &Name) -> Result<usiz
 fn drop_journey<S: Alter>(tx: &mut Transaction<'_, S>, order: &Name) -> Result<usize, Error>
     ensures { MakesInside S.Store tx.old tx.new result (without_key the.Journey (name_key order.now)) }
 {
-    delete_row(tx, WorldTable::Journey, &name_key_values(order))
+    delete_row(tx, TableName::Journey, &name_key_values(order))
 }
 
 // The order has this open trip.
@@ -169,7 +168,7 @@ fn put_journey<S: Alter>(
 {
     put_over(
         tx,
-        UpdatedTable::Journey,
+        TableName::Journey,
         &name_key_values(order),
         &journey_values(order, journey),
     )
@@ -187,7 +186,7 @@ fn write_leg<S: Alter>(
         None => drop_leg(tx, key),
         Some(edge) => put_new(
             tx,
-            WorldTable::Leg,
+            TableName::Leg,
             &leg_key_values(key),
             &leg_values(key, edge),
         ),
@@ -198,7 +197,7 @@ fn write_leg<S: Alter>(
 fn drop_leg<S: Alter>(tx: &mut Transaction<'_, S>, key: &LegKey) -> Result<usize, Error>
     ensures { MakesInside S.Store tx.old tx.new result (listed (row.Leg key.now None)) }
 {
-    delete_row(tx, WorldTable::Leg, &leg_key_values(key))
+    delete_row(tx, TableName::Leg, &leg_key_values(key))
 }
 
 // The load is there.
@@ -211,7 +210,7 @@ fn write_load<S: Alter>(
 {
     put_over(
         tx,
-        UpdatedTable::Load,
+        TableName::Load,
         &name_key_values(id),
         &load_values(id, place),
     )
@@ -223,7 +222,7 @@ fn write_job<S: Alter>(tx: &mut Transaction<'_, S>, id: &Name, job: &JobRow) -> 
 {
     put_over(
         tx,
-        UpdatedTable::Job,
+        TableName::Job,
         &name_key_values(id),
         &job_values(id, job),
     )
@@ -241,7 +240,7 @@ fn write_hold<S: Alter>(
         None => drop_hold(tx, thing),
         Some(key) => put_new(
             tx,
-            WorldTable::Hold,
+            TableName::Hold,
             &hold_key_values(thing),
             &hold_values(thing, key),
         ),
@@ -252,5 +251,5 @@ fn write_hold<S: Alter>(
 fn write_used<S: Alter>(tx: &mut Transaction<'_, S>, key: &UseKey) -> Result<usize, Error>
     ensures { MakesInside S.Store tx.old tx.new result (listed (row.Used key.now)) }
 {
-    put_new(tx, WorldTable::Used, &used_values(key), &used_values(key))
+    put_new(tx, TableName::Used, &used_values(key), &used_values(key))
 }

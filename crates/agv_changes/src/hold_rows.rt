@@ -6,7 +6,7 @@ ghost use Rattle.agv_statements.specs.WritesInside.{MakesInside};
 
 use agv_header::Thing;
 use agv_rows::key_values::hold_key_values;
-use agv_schema::world_table::WorldTable;
+use agv_schema::table_name::TableName;
 use agv_statements::row_writes::delete_row;
 use sqlite::{Alter, Error, Transaction};
 
@@ -17,5 +17,5 @@ pub(crate) fn drop_hold<S: Alter>(
 ) -> Result<usize, Error>
     ensures { MakesInside S.Store tx.old tx.new result (without_key the.Hold (hold_key thing.now)) }
 {
-    delete_row(tx, WorldTable::Hold, &hold_key_values(thing))
+    delete_row(tx, TableName::Hold, &hold_key_values(thing))
 }

@@ -14,7 +14,7 @@ ghost use Rattle.agv_statements.specs.WritesInside.{MakesInside, WritesInside};
 use agv_changes::act_writes::add_acts;
 use agv_header::{Name, VehicleKey};
 use agv_rows::row_values::{capacity_values, journey_values};
-use agv_schema::world_table::WorldTable;
+use agv_schema::table_name::TableName;
 use agv_statements::row_writes::insert_row;
 use agv_trip_rows::JourneyRow;
 use agv_world::{ByName, ByVehicle, TripRow, VehicleRow, World};
@@ -93,7 +93,7 @@ fn add_capacity<S: Alter>(
 ) -> Result<usize, Error>
     ensures { MakesInside S.Store tx.old tx.new result (with_row the.Capacity (vehicle_capacity_columns key.now vehicle.now)) }
 {
-    insert_row(tx, WorldTable::Capacity, &capacity_values(key, vehicle))
+    insert_row(tx, TableName::Capacity, &capacity_values(key, vehicle))
 }
 
 // Adds the journey and the acts of each open trip.
@@ -127,5 +127,5 @@ fn add_journey<S: Alter>(
 ) -> Result<usize, Error>
     ensures { MakesInside S.Store tx.old tx.new result (with_row the.Journey (journey_columns order.now journey.now)) }
 {
-    insert_row(tx, WorldTable::Journey, &journey_values(order, journey))
+    insert_row(tx, TableName::Journey, &journey_values(order, journey))
 }

@@ -23,7 +23,7 @@ use agv_rows::decode_row::{
 };
 use agv_rows::key_values::{hold_key_values, name_key_values, vehicle_key_values};
 use agv_rows::row_values::used_values;
-use agv_schema::row_of::RowOf;
+use agv_schema::table_name::TableName;
 use agv_stock::Place;
 use agv_world::{JobRow, UseKey, VehicleRow};
 use sqlite::{Alter, Connection, Row};
@@ -60,7 +60,7 @@ fn query_vehicle_row<S: Alter>(
 ) -> Result<Option<VehicleRow>, OpenFault>
     ensures { AnswersQuery S.Store conn.old conn.new result (λ world row. row ≡ option_map (λ (vehicle : RowOfVehicle). record vehicle { capacity = 1 }) (row_of world key.now)) }
 {
-    let rows = query_rows(conn, RowOf::Vehicle, &vehicle_key_values(key))?;
+    let rows = query_rows(conn, TableName::Vehicle, &vehicle_key_values(key))?;
     vehicle_in_rows(rows.as_slice())
 }
 
@@ -84,7 +84,7 @@ fn query_capacity<S: Alter>(
 ) -> Result<Option<CapacityRow>, OpenFault>
     ensures { AnswersQuery S.Store conn.old conn.new result (λ world room. room ≡ option_map (λ (vehicle : RowOfVehicle). record { capacity = vehicle.capacity }) (row_of world key.now)) }
 {
-    let rows = query_rows(conn, RowOf::Capacity, &vehicle_key_values(key))?;
+    let rows = query_rows(conn, TableName::Capacity, &vehicle_key_values(key))?;
     capacity_in_rows(rows.as_slice())
 }
 
@@ -110,7 +110,7 @@ pub fn query_place<S: Alter>(
 ) -> Result<Option<Place>, OpenFault>
     ensures { AnswersQuery S.Store conn.old conn.new result (λ world place. place ≡ map.get world.places load.now) }
 {
-    let rows = query_rows(conn, RowOf::Load, &name_key_values(load))?;
+    let rows = query_rows(conn, TableName::Load, &name_key_values(load))?;
     place_in_rows(rows.as_slice())
 }
 
@@ -136,7 +136,7 @@ pub fn query_job<S: Alter>(
 ) -> Result<Option<JobRow>, OpenFault>
     ensures { AnswersQuery S.Store conn.old conn.new result (λ world row. row ≡ map.get world.jobs job.now) }
 {
-    let rows = query_rows(conn, RowOf::Job, &name_key_values(job))?;
+    let rows = query_rows(conn, TableName::Job, &name_key_values(job))?;
     job_in_rows(rows.as_slice())
 }
 
@@ -162,7 +162,7 @@ pub fn query_station<S: Alter>(
 ) -> Result<Option<StationSite>, OpenFault>
     ensures { AnswersQuery S.Store conn.old conn.new result (λ world site. site ≡ map.get world.layout.stations id.now) }
 {
-    let rows = query_rows(conn, RowOf::Station, &name_key_values(id))?;
+    let rows = query_rows(conn, TableName::Station, &name_key_values(id))?;
     station_in_rows(rows.as_slice())
 }
 
@@ -188,7 +188,7 @@ pub fn query_edge<S: Alter>(
 ) -> Result<Option<EdgeEnds>, OpenFault>
     ensures { AnswersQuery S.Store conn.old conn.new result (λ world ends. ends ≡ map.get world.layout.edges id.now) }
 {
-    let rows = query_rows(conn, RowOf::Edge, &name_key_values(id))?;
+    let rows = query_rows(conn, TableName::Edge, &name_key_values(id))?;
     ends_in_rows(rows.as_slice())
 }
 
@@ -215,7 +215,7 @@ pub fn query_holder<S: Alter>(
     ensures { AnswersQuery S.Store conn.old conn.new result (λ world key. key ≡ holder_of world thing.now) }
 {
     thing_is_named(thing);
-    let rows = query_rows(conn, RowOf::Hold, &hold_key_values(thing))?;
+    let rows = query_rows(conn, TableName::Hold, &hold_key_values(thing))?;
     holder_in_rows(rows.as_slice())
 }
 
@@ -252,7 +252,7 @@ fn holder_in_rows(rows: &[Row]) -> Result<Option<VehicleKey>, OpenFault>
 pub fn query_node<S: Alter>(conn: &mut Connection<S>, id: &Name) -> Result<bool, OpenFault>
     ensures { AnswersQuery S.Store conn.old conn.new result (λ world known. known ≡ set.contains world.layout.nodes id.now) }
 {
-    let rows = query_rows(conn, RowOf::Node, &name_key_values(id))?;
+    let rows = query_rows(conn, TableName::Node, &name_key_values(id))?;
     Ok(!rows.is_empty())
 }
 
@@ -262,6 +262,6 @@ pub fn query_node<S: Alter>(conn: &mut Connection<S>, id: &Name) -> Result<bool,
 pub fn query_used<S: Alter>(conn: &mut Connection<S>, key: &UseKey) -> Result<bool, OpenFault>
     ensures { AnswersQuery S.Store conn.old conn.new result (λ world known. known ≡ is_used world key.now.kind key.now.name) }
 {
-    let rows = query_rows(conn, RowOf::Used, &used_values(key))?;
+    let rows = query_rows(conn, TableName::Used, &used_values(key))?;
     Ok(!rows.is_empty())
 }

@@ -1,20 +1,19 @@
 //! Rows that are asked for, in the words of the world: those of a key, those with some values or how many these are, and all
 //! of a table.
-ghost use Rattle.std.specs.Prelude.{◌≡◌, length, IsPermutation};
+ghost use Rattle.std.specs.Prelude.{◌≡◌, length, true, IsPermutation};
 ghost use Rattle.sqlite.specs.Values.{bound};
 ghost use Rattle.agv_world.specs.Rows.{rows_of};
 ghost use Rattle.agv_schema.specs.DeskRows.{rows_of_key, table_for};
 ghost use Rattle.agv_rows.specs.RowLists.{row_lists};
 ghost use Rattle.agv_statements.specs.CountQueries.{columns_counted, rows_counted, table_counted};
 ghost use Rattle.agv_statements.specs.RowQueries.{FitsColumns, all_rows_of, columns_asked, rows_asked, table_asked};
-ghost use Rattle.agv_schema.specs.RowTexts.{table_looked_up};
+ghost use Rattle.agv_schema.specs.RowTexts.{is_looked_up};
 ghost use Rattle.agv_row_reading.specs.TablesRead.{TellsAll};
 ghost use Rattle.agv_row_reading.specs.FirstRow.{first_number_in};
 ghost use Rattle.agv_row_reading.specs.WorldAnswers.{AnswersQuery};
 
 use crate::OpenFault;
 use agv_rows::decode_value::number_at;
-use agv_schema::row_of::RowOf;
 use agv_schema::rows_by::RowsBy;
 use agv_schema::rows_counted::RowsCounted;
 use agv_schema::table_name::TableName;
@@ -25,13 +24,14 @@ use sqlite::{Alter, Connection, Row};
 /// The rows of that key.
 pub fn query_rows<S: Alter>(
     conn: &mut Connection<S>,
-    row: RowOf,
+    table: TableName,
     key: &[ValueRef<'_>],
 ) -> Result<Vec<Row>, OpenFault>
-    requires { FitsColumns (table_looked_up row) (table_for (table_looked_up row)).primary (bound key.now) }
-    ensures { AnswersQuery S.Store conn.old conn.new result (λ world rows. IsPermutation (rows_of_key (table_looked_up row) (bound key.now) (row_lists (rows_of world))) rows.items) }
+    requires looked_up { is_looked_up table ≡ true }
+    requires fits { FitsColumns table (table_for table).primary (bound key.now) }
+    ensures { AnswersQuery S.Store conn.old conn.new result (λ world rows. IsPermutation (rows_of_key table (bound key.now) (row_lists (rows_of world))) rows.items) }
 {
-    let rows = find_rows(conn, row, key)?;
+    let rows = find_rows(conn, table, key)?;
     Ok(rows)
 }
 

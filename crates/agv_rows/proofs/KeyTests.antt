@@ -36,7 +36,6 @@ use Rattle.agv_rows.specs.Columns.{meta_columns, node_columns, edge_columns, sta
 use Rattle.agv_schema.specs.DeskRows.{has_columns, has_key, is_equal}
 use Rattle.agv_rows.specs.RowKeys.{name_key, vehicle_key, act_row_key, leg_key, hold_key}
 use Rattle.agv_schema.specs.RowTexts.{columns_deleted}
-use Rattle.agv_schema.specs.declared.world_table.WorldTable.TheVariants as table
 use Rattle.agv_schema.specs.declared.table_name.TableName.TheVariants as the
 
 pub and_true : (b : Bool) → (b && true) ≡ b
@@ -113,7 +112,7 @@ act_tested k q x = both_tied _ _ (name_cmp k.order q.order) (nat_cmp k.n q.n) (t
 pub journey_order_tested : (order q : List ℕ) (x : JourneyRow) → has_key the.Journey (name_key order) (journey_columns q x) ≡ is_journey_of order (q, x)
 journey_order_tested order q x = last_text_is q order
 
-pub act_order_tested : (order : List ℕ) (q : ActKey) (x : ActRow) → has_columns (columns_deleted table.Act) (name_key order) (act_columns q x) ≡ is_of order (q, x)
+pub act_order_tested : (order : List ℕ) (q : ActKey) (x : ActRow) → has_columns (columns_deleted the.Act) (name_key order) (act_columns q x) ≡ is_of order (q, x)
 act_order_tested order q x = last_text_is q.order order
 
 pub leg_tested : (k q : LegKey) (x : List ℕ) → has_key the.Leg (leg_key k) (leg_columns q x) ≡ eq_by_cmp leg_cmp k q

@@ -22,7 +22,6 @@ use Rattle.agv_schema.specs.DeskRows.{on_table, table_at, place_of, has_columns,
 use Rattle.agv_rows.specs.RowKeys.{name_key, vehicle_key, leg_key, hold_key}
 use Rattle.agv_rows.specs.RowLists.{AreAlike, TellRows, row_lists, marked, rows_for, rows_in, rows_of_acts, listed, listed_all}
 use Rattle.agv_schema.specs.RowTexts.{columns_deleted}
-use Rattle.agv_schema.specs.declared.world_table.WorldTable.TheVariants as table
 use Rattle.agv_schema.specs.declared.table_name.TableName.{TableName}
 use Rattle.agv_schema.specs.declared.table_name.TableName.TheVariants as the
 use Rattle.agv_schema.proofs.OnTables.{added, added-permuted, on_table-twice, with_rows-added}
@@ -72,9 +71,9 @@ module _ (laws : FollowTrips) (trips : FinMap name_cmp TripRow) (rows : List Row
       rows-kept journey_columns (journeys_of trips) (journeys_of (remove trips order)) (has_key the.Journey (name_key order)) (is_journey_of order) (journey_order_tested order)
       (laws.journeys_listed (remove trips order) ∙ laws.journeys_removed trips order ∙ ap (filter (λ row. not (is_journey_of order row))) (sym (laws.journeys_listed trips))) rows
 
-  acts-removed : IsPermutation rows (rows_in act_columns (acts_of trips)) → IsPermutation (filter (λ row. not (has_columns (columns_deleted table.Act) (name_key order) row)) rows) (rows_in act_columns (acts_of (remove trips order)))
+  acts-removed : IsPermutation rows (rows_in act_columns (acts_of trips)) → IsPermutation (filter (λ row. not (has_columns (columns_deleted the.Act) (name_key order) row)) rows) (rows_in act_columns (acts_of (remove trips order)))
   acts-removed =
-      rows-kept act_columns (acts_of trips) (acts_of (remove trips order)) (has_columns (columns_deleted table.Act) (name_key order)) (is_of order) (act_order_tested order)
+      rows-kept act_columns (acts_of trips) (acts_of (remove trips order)) (has_columns (columns_deleted the.Act) (name_key order)) (is_of order) (act_order_tested order)
       (laws.acts_listed (remove trips order) ∙ laws.acts_removed trips order ∙ ap (filter (λ row. not (is_of order row))) (sym (laws.acts_listed trips))) rows
 
   module _ (trip : TripRow) where
@@ -86,9 +85,9 @@ module _ (laws : FollowTrips) (trips : FinMap name_cmp TripRow) (rows : List Row
         (laws.journeys_listed trips) (laws.journeys_listed (insert trips order trip)) (laws.journeys_written trips order trip)) rows
 
     acts-written : IsPermutation rows (rows_in act_columns (acts_of trips))
-        → IsPermutation (rows_of_acts (act_rows order trip) ++ filter (λ row. not (has_columns (columns_deleted table.Act) (name_key order) row)) rows) (rows_in act_columns (acts_of (insert trips order trip)))
+        → IsPermutation (rows_of_acts (act_rows order trip) ++ filter (λ row. not (has_columns (columns_deleted the.Act) (name_key order) row)) rows) (rows_in act_columns (acts_of (insert trips order trip)))
     acts-written =
-        rows-kept-more act_columns (acts_of trips) (acts_of (insert trips order trip)) (has_columns (columns_deleted table.Act) (name_key order)) (is_of order) (act_order_tested order) (act_rows order trip)
+        rows-kept-more act_columns (acts_of trips) (acts_of (insert trips order trip)) (has_columns (columns_deleted the.Act) (name_key order)) (is_of order) (act_order_tested order) (act_rows order trip)
         (moved (acts_of trips) (acts_of (insert trips order trip)) (all_act_rows trips) (all_act_rows (insert trips order trip)) (act_rows order trip) (is_of order)
         (laws.acts_listed trips) (laws.acts_listed (insert trips order trip)) (laws.acts_written trips order trip)) rows
 
@@ -118,7 +117,7 @@ follows laws lists rows (row.Vehicle key vehicle) h = put-alike the.Capacity (ve
 follows laws lists rows (row.Trip order None) h = on_table-alike 13 _ _ _ _
     (removed-alike the.Journey (name_key order) _ lists (row_lists rows) h (journeys-removed laws rows.trips (table_at 12 lists) order))
     (acts-removed laws rows.trips _ order)
-follows laws lists rows (row.Trip order (Some trip)) h = renewed-alike the.Act (columns_deleted table.Act) (name_key order) (rows_of_acts (act_rows order trip)) _ _ _
+follows laws lists rows (row.Trip order (Some trip)) h = renewed-alike the.Act (columns_deleted the.Act) (name_key order) (rows_of_acts (act_rows order trip)) _ _ _
     (put-alike the.Journey (name_key order) (journey_columns order (journey_of trip)) _ lists (row_lists rows) h (journeys-written laws rows.trips (table_at 12 lists) order trip))
     (acts-written laws rows.trips _ order trip)
 follows laws lists rows (row.Leg key None) h = removed-alike the.Leg (leg_key key) _ lists (row_lists rows) h

@@ -18,7 +18,6 @@ use Rattle.agv_schema.specs.DeskRows.{Placing, Holds, place_of, table_at, with_p
 use Rattle.agv_rows.specs.RowKeys.{name_key, vehicle_key, leg_key, hold_key}
 use Rattle.agv_schema.specs.RowTexts.{columns_deleted}
 use Rattle.agv_schema.specs.declared.table_name.TableName.TheVariants as the
-use Rattle.agv_schema.specs.declared.world_table.WorldTable.TheVariants as table
 use Rattle.agv_trip_rows.specs.TripRows.{act_rows, acts_of, journey_of, journeys_of}
 use Rattle.agv_trip_rows.specs.TripsTold.{IsOfJob}
 use Rattle.agv_trip_rows.specs.declared.act_key.ActKey.{ActKey}
@@ -101,7 +100,7 @@ with_vehicle key vehicle lists = with_put the.Capacity (vehicle_key key) (vehicl
 
 -- without the acts of an order
 abbrev pub without_acts : List ℕ → List (List Row) → List (List Row)
-without_acts order = without_rows the.Act (columns_deleted table.Act) (name_key order)
+without_acts order = without_rows the.Act (columns_deleted the.Act) (name_key order)
 
 -- the rows of these acts
 abbrev pub rows_of_acts : List (ActKey × ActRow) → List Row

@@ -1,8 +1,8 @@
 //! The schema of the desk's tables: fourteen STRICT tables and four plain indexes (`specs/Schema.antt`).
 //!
 //! - [`table_name`] names the tables, [`schema_numbers`] has the number of the schema and the seats of a vehicle.
-//! - [`world_table`] names a table that is written; [`row_of`] is a look-up by a table's key, [`rows_by`] one by other columns,
-//!   [`rows_counted`] a count by other columns. `specs/RowTexts.antt` has the texts of SQL that write a row.
+//! - [`rows_by`] is a look-up by columns that are not a table's key, [`rows_counted`] a count by such columns.
+//!   `specs/RowTexts.antt` has the texts of SQL on one row, and says which tables have them.
 //! - `specs/DeskRows.antt` says where the tables stand in a database, and which rows they have.
 //! - `specs/Connections.antt` says what holds of a connection and of the next moment; [`laws`] has what follows. What a
 //!   database has is stated for a clean store: one whose disk has so far returned what was written to it. A store in
@@ -14,12 +14,10 @@
 #![tactic(auto)]
 
 pub mod laws;
-pub mod row_of;
 pub mod rows_by;
 pub mod rows_counted;
 pub mod schema_numbers;
 pub mod table_name;
-pub mod world_table;
 
 pub use rows_by::RowsBy;
 pub use rows_counted::RowsCounted;

@@ -13,13 +13,10 @@ use Rattle.sqlite.specs.Effect.{Database}
 use Rattle.sqlite.specs.State.{State, Executes, ExecutesInside, Shown}
 use Rattle.agv_schema.specs.DeskRows.{Placing, IsDesk, KeepsOthers, on_table, table_at, place_of, width_of, has_columns, has_key, with_put_by, with_row, without_rows, rows_of_key, FitsTable, Makes, Answers, AnswersAlone}
 use Rattle.agv_statements.specs.RowQueries.{table_asked, columns_asked, equal_from, rows_asked, all_rows_of, query_text, all_rows_text}
-use Rattle.agv_schema.specs.RowTexts.{insertion_text, deletion_text, look_up_text, table_written, table_looked_up, columns_deleted}
-use Rattle.agv_schema.specs.declared.row_of.RowOf.{RowOf}
+use Rattle.agv_schema.specs.RowTexts.{columns_deleted, deletion_text, insertion_text, is_looked_up, is_written, look_up_text}
 use Rattle.agv_schema.specs.declared.rows_by.RowsBy.{RowsBy}
 use Rattle.agv_schema.specs.declared.table_name.TableName.{TableName}
 use Rattle.agv_schema.specs.declared.table_name.TableName.TheVariants as the
-use Rattle.agv_schema.specs.declared.world_table.WorldTable.{WorldTable}
-use Rattle.agv_schema.specs.declared.world_table.WorldTable.TheVariants as world
 use Rattle.agv_schema.proofs.DeskPlaces.{is_in, is_in_alone}
 use Rattle.agv_statements.proofs.sql.EntryEdits.{filter_nothing}
 use Rattle.agv_statements.proofs.QueryMeanings.{Asks, query_terms, query_passes, query_within, query_asks, all_rows_asked}
@@ -63,33 +60,13 @@ within the.Act = refl
 
 -- ---- columns by which rows are taken out
 
-pub deleted_passes : (table : WorldTable) (key : Row) → passes (deleted_terms table) key ≡ has_columns (columns_deleted table) key
-deleted_passes world.Node key = refl
-deleted_passes world.Edge key = refl
-deleted_passes world.Station key = refl
-deleted_passes world.Vehicle key = refl
-deleted_passes world.Capacity key = refl
-deleted_passes world.Journey key = refl
-deleted_passes world.Act key = refl
-deleted_passes world.Leg key = refl
-deleted_passes world.Load key = refl
-deleted_passes world.Job key = refl
-deleted_passes world.Hold key = refl
-deleted_passes world.Used key = refl
+pub deleted_passes : (name : TableName) (key : Row) → passes (deleted_terms name) key ≡ has_columns (columns_deleted name) key
+deleted_passes the.Act key = refl
+deleted_passes name key = key_passes name key
 
-pub deleted_within : (table : WorldTable) → list_all (reads_within (width_of (table_written table))) (deleted_terms table) ≡ true
-deleted_within world.Node = refl
-deleted_within world.Edge = refl
-deleted_within world.Station = refl
-deleted_within world.Vehicle = refl
-deleted_within world.Capacity = refl
-deleted_within world.Journey = refl
-deleted_within world.Act = refl
-deleted_within world.Leg = refl
-deleted_within world.Load = refl
-deleted_within world.Job = refl
-deleted_within world.Hold = refl
-deleted_within world.Used = refl
+pub deleted_within : (name : TableName) → list_all (reads_within (width_of name)) (deleted_terms name) ≡ true
+deleted_within the.Act = refl
+deleted_within name = within name
 
 -- ---- inside a transaction
 
@@ -113,26 +90,23 @@ makes change sql params old new (Ok count) step ran = elim (cases_Bool old.in_tr
 ]
 
 -- what is left where a row is added
-pub added_one : (table : WorldTable) (desk : Placing) (is : IsDesk desk) (old new : State) (has : old.now.schema ≡ desk.schema) (row : Row) → FitsTable (table_written table) row
-    → (count : ℕ) → Executes (insertion_text table) row old new (Ok count) → Inserted desk is (table_written table) old new has row
-added_one table desk is old new has row fit =
-    let name = table_written table in
-    one_inserted desk is name old new has (insertion_text table) row fit (inserts table desk.schema (is.stands name).at (desk.tree name) (is.stands name).keys (is_in desk is name))
+pub added_one : (name : TableName) → is_written name ≡ true → (desk : Placing) (is : IsDesk desk) (old new : State) (has : old.now.schema ≡ desk.schema) (row : Row) → FitsTable name row
+    → (count : ℕ) → Executes (insertion_text name) row old new (Ok count) → Inserted desk is name old new has row
+added_one name written desk is old new has row fit =
+    one_inserted desk is name old new has (insertion_text name) row fit (inserts name written desk.schema (is.stands name).at (desk.tree name) (is.stands name).keys (is_in desk is name))
 
-pub inserts_row : (table : WorldTable) (sql : List ℕ) → sql ≡ insertion_text table → (row : Row) → FitsTable (table_written table) row → (old new : State) (r : Result ℕ Error) → RunsInside sql row old new r → OnOk r (Makes (with_row (table_written table) row) old new)
-inserts_row table sql text row fit old new r ran =
-    let name = table_written table in
-    makes (with_row name row) (insertion_text table) row old new r
-    (λ desk is has. row_inserted desk is name old new has (insertion_text table) row fit (inserts table desk.schema (is.stands name).at (desk.tree name) (is.stands name).keys (is_in desk is name)))
+pub inserts_row : (name : TableName) → is_written name ≡ true → (sql : List ℕ) → sql ≡ insertion_text name → (row : Row) → FitsTable name row → (old new : State) (r : Result ℕ Error) → RunsInside sql row old new r → OnOk r (Makes (with_row name row) old new)
+inserts_row name written sql text row fit old new r ran =
+    makes (with_row name row) (insertion_text name) row old new r
+    (λ desk is has. row_inserted desk is name old new has (insertion_text name) row fit (inserts name written desk.schema (is.stands name).at (desk.tree name) (is.stands name).keys (is_in desk is name)))
     (subst (λ t. RunsInside t row old new r) text ran)
 
-pub deletes_row : (table : WorldTable) (sql : List ℕ) → sql ≡ deletion_text table → (key : Row) (old new : State) (r : Result ℕ Error) → RunsInside sql key old new r → OnOk r (Makes (without_rows (table_written table) (columns_deleted table) key) old new)
-deletes_row table sql text key old new r ran =
-    let name = table_written table in
-    makes (without_rows name (columns_deleted table) key) (deletion_text table) key old new r
+pub deletes_row : (name : TableName) → is_written name ≡ true → (sql : List ℕ) → sql ≡ deletion_text name → (key : Row) (old new : State) (r : Result ℕ Error) → RunsInside sql key old new r → OnOk r (Makes (without_rows name (columns_deleted name) key) old new)
+deletes_row name written sql text key old new r ran =
+    makes (without_rows name (columns_deleted name) key) (deletion_text name) key old new r
     (λ desk is has count done.
-    subst (λ (p : Row → _). Lands desk old.now new.now (on_table (place_of name) (filter (λ row. not (p row))))) (deleted_passes table key)
-    (rows_deleted desk is name old new has (deletion_text table) key (deleted_terms table) (deleted_within table) (deletes table desk.schema (is.stands name).at (desk.tree name) (is.stands name).keys (is_in desk is name)) count done))
+    subst (λ (p : Row → _). Lands desk old.now new.now (on_table (place_of name) (filter (λ row. not (p row))))) (deleted_passes name key)
+    (rows_deleted desk is name old new has (deletion_text name) key (deleted_terms name) (deleted_within name) (deletes name written desk.schema (is.stands name).at (desk.tree name) (is.stands name).keys (is_in desk is name)) count done))
     (subst (λ t. RunsInside t key old new r) text ran)
 
 -- the other tables stay where nothing is done, and through one change and then another
@@ -196,10 +170,9 @@ on_failed (Err e) f h = f e h
 
 module _ (params : Row) (old new : State) (r : Result (Vec Row Global) Error) (sql : List ℕ) where
   -- by the key
-  pub key_shown : (one : RowOf) → sql ≡ look_up_text one → IfOk r (λ rows. Shown sql params old new rows.items) → IfOk r (λ rows. Answers (rows_of_key (table_looked_up one) params) old rows.items)
-  key_shown one text =
-      let name = table_looked_up one in
-      rw text (asked name (key_terms name) (look_up_text one) (looks_up one) (within name) params (has_key name params) (key_passes name params) old new r)
+  pub key_shown : (name : TableName) → is_looked_up name ≡ true → sql ≡ look_up_text name → IfOk r (λ rows. Shown sql params old new rows.items) → IfOk r (λ rows. Answers (rows_of_key name params) old rows.items)
+  key_shown name looked_up text =
+      rw text (asked name (key_terms name) (look_up_text name) (looks_up name looked_up) (within name) params (has_key name params) (key_passes name params) old new r)
 
   -- by other columns
   pub query_shown : (query : RowsBy) → sql ≡ query_text query → IfOk r (λ rows. Shown sql params old new rows.items) → IfOk r (λ rows. Answers (rows_asked query params) old rows.items)

@@ -31,9 +31,8 @@ use Rattle.sqlite.specs.declared.error.ErrorCode.TheVariants.{ConstraintViolatio
 use Rattle.sqlite.specs.Effect.{Database, IsDatabase}
 use Rattle.sqlite.specs.State.{State, ExecutesIn, Fails, IsNotRun, IsUnchanged, shows_rows, store_error}
 use Rattle.agv_schema.specs.DeskRows.{Placing, AreKeyed, FitsTable, HasKey, Holds, IsDesk, KeepsOthers, Makes, SameColumns, columns_in, has_columns, has_key, place_of, table_at, table_for, table_in, width_of, with_put_by, with_row}
-use Rattle.agv_schema.specs.RowTexts.{insertion_text, table_written}
+use Rattle.agv_schema.specs.RowTexts.{insertion_text, is_written}
 use Rattle.agv_statements.specs.RowUpdates.{Counts, IsBrokenRule, TellsAlike}
-use Rattle.agv_schema.specs.declared.world_table.WorldTable.{WorldTable}
 use Rattle.agv_schema.specs.declared.table_name.TableName.{TableName}
 use Rattle.agv_schema.specs.declared.table_name.TableName.TheVariants as the
 use Rattle.agv_schema.proofs.OnTables.{on_table-same}
@@ -213,14 +212,14 @@ module _ (desk : Placing) (is : IsDesk desk) (name : TableName) (old new : State
       ∙ ap length (filter_of_map p (columns_in (width_of name)) entries) ∙ length-map (filter (λ e. p (columns_in (width_of name) e)) entries) (columns_in (width_of name))
       ∙ ap length (sym (filter_alike (width_of name) (key_terms name) row (within name) entries)) ∙ ap length none)
 
-pub inserts_free : (table : WorldTable) (sql : List ℕ) → sql ≡ insertion_text table → (row : Row) → FitsTable (table_written table) row → (old new : State) (r : Result ℕ Error) → RunsInside sql row old new r
-    → IfOk r (λ _. Counts (table_written table) (table_for (table_written table)).primary row old 0)
-inserts_free table sql text row fit old new r ran = free r (subst (λ t. RunsInside t row old new r) text ran)
+pub inserts_free : (name : TableName) → is_written name ≡ true → (sql : List ℕ) → sql ≡ insertion_text name → (row : Row) → FitsTable name row → (old new : State) (r : Result ℕ Error) → RunsInside sql row old new r
+    → IfOk r (λ _. Counts name (table_for name).primary row old 0)
+inserts_free name written sql text row fit old new r ran = free r (subst (λ t. RunsInside t row old new r) text ran)
   where
-    free : (q : Result ℕ Error) → RunsInside (insertion_text table) row old new q → IfOk q (λ _. Counts (table_written table) (table_for (table_written table)).primary row old 0)
+    free : (q : Result ℕ Error) → RunsInside (insertion_text name) row old new q → IfOk q (λ _. Counts name (table_for name).primary row old 0)
     free (Err e) runs = tt
     free (Ok count) runs = elim (cases_Bool old.in_transaction) [
-      | inl inside ↦ λ desk is lists h. key_was_free desk is (table_written table) old new h.schema_is row (added_one table desk is old new h.schema_is row fit count (runs.1 inside).0) lists h
+      | inl inside ↦ λ desk is lists h. key_was_free desk is name old new h.schema_is row (added_one name written desk is old new h.schema_is row fit count (runs.1 inside).0) lists h
       | inr outside ↦ absurd (let e = runs.0 outside in cc)
     ]
 

@@ -1,5 +1,5 @@
 -- What the texts that write a row over those of its key mean, wherever the desk's tables stand, and what they do.
-use Rattle.std.proofs.Common.{◌≡◌, ◌∙◌, ◌++◌, inl, inr, [], ◌∷◌, ℕ, zero, suc, not, Bool, List, Result, Ok, Err, OnOk, IfOk, codes, filter, length, map, refl, sym, ap, subst}
+use Rattle.std.proofs.Common.{◌≡◌, ◌∙◌, ◌++◌, inl, inr, [], ◌∷◌, ℕ, zero, suc, not, true, Bool, List, Result, Ok, Err, OnOk, IfOk, filter, length, map, refl, sym, ap, subst}
 use Rattle.std.proofs.lemmas.Bool.{cases_Bool}
 use Rattle.std.proofs.lemmas.List.Elements.{filter-append}
 use Rattle.sqlite_value.specs.Order.{Row}
@@ -9,12 +9,9 @@ use Rattle.sqlite_tied.specs.Compute.{everything}
 use Rattle.sqlite.specs.declared.error.Error.{Error}
 use Rattle.sqlite.specs.State.{State, Executes}
 use Rattle.agv_schema.specs.DeskRows.{TableKeys, Placing, FitsTable, Holds, IsDesk, Makes, has_columns, on_table, place_of, table_at, table_for, with_put_by, with_row}
-use Rattle.agv_schema.specs.RowTexts.{table_written}
-use Rattle.agv_statements.specs.RowUpdates.{Counts, IsKeyOf, table_updated, update_text, with_each}
+use Rattle.agv_statements.specs.RowUpdates.{Counts, IsKeyOf, is_updated, update_text, with_each}
 use Rattle.agv_schema.specs.declared.table_name.TableName.{TableName}
 use Rattle.agv_schema.specs.declared.table_name.TableName.TheVariants as the
-use Rattle.agv_statements.specs.declared.updated_table.UpdatedTable.{UpdatedTable}
-use Rattle.agv_statements.specs.declared.updated_table.UpdatedTable.TheVariants as updated
 use Rattle.agv_schema.proofs.OnTables.{on_table-twice}
 use Rattle.agv_schema.proofs.DeskPlaces.{is_in}
 use Rattle.agv_schema.proofs.OneTable.{IsIn, Means, parsed, query_by, update_sets, update_test}
@@ -25,36 +22,28 @@ use Rattle.agv_statements.proofs.RowMeanings.{key_terms, over_terms, with_tree}
 
 -- ---- the texts
 
-abbrev Updates : UpdatedTable → Type 0
-Updates table =
-    let name = table_written (table_updated table) in
-    (s : Schema) (at tree : ℕ) (keys : TableKeys) → IsIn s (table_for name).name (with_tree name tree keys) at → Means s (update_text table) (Update at (record { lets = []; body = query_by tree (key_terms name) (over_terms name) }))
+abbrev Updates : TableName → Type 0
+Updates name = (s : Schema) (at tree : ℕ) (keys : TableKeys) → IsIn s (table_for name).name (with_tree name tree keys) at → Means s (update_text name) (Update at (record { lets = []; body = query_by tree (key_terms name) (over_terms name) }))
 
-updates : (table : UpdatedTable) → Updates table
+updates : (name : TableName) → is_updated name ≡ true → Updates name
 unfolding everything
-updates updated.Vehicle s at tree keys stands =
-    let p = parsed (update_text updated.Vehicle) in
-    update_means s (codes "vehicle") (with_tree the.Vehicle tree keys) at stands (update_text updated.Vehicle) p refl refl (update_sets p.statement) (update_test p.statement) (key_terms the.Vehicle) (over_terms the.Vehicle) refl refl refl refl refl
-updates updated.Journey s at tree keys stands =
-    let p = parsed (update_text updated.Journey) in
-    update_means s (codes "journey") (with_tree the.Journey tree keys) at stands (update_text updated.Journey) p refl refl (update_sets p.statement) (update_test p.statement) (key_terms the.Journey) (over_terms the.Journey) refl refl refl refl refl
-updates updated.Load s at tree keys stands =
-    let p = parsed (update_text updated.Load) in
-    update_means s (codes "load") (with_tree the.Load tree keys) at stands (update_text updated.Load) p refl refl (update_sets p.statement) (update_test p.statement) (key_terms the.Load) (over_terms the.Load) refl refl refl refl refl
-updates updated.Job s at tree keys stands =
-    let p = parsed (update_text updated.Job) in
-    update_means s (codes "job") (with_tree the.Job tree keys) at stands (update_text updated.Job) p refl refl (update_sets p.statement) (update_test p.statement) (key_terms the.Job) (over_terms the.Job) refl refl refl refl refl
-updates updated.Act s at tree keys stands =
-    let p = parsed (update_text updated.Act) in
-    update_means s (codes "act") (with_tree the.Act tree keys) at stands (update_text updated.Act) p refl refl (update_sets p.statement) (update_test p.statement) (key_terms the.Act) (over_terms the.Act) refl refl refl refl refl
+updates the.Meta is s at tree keys stands = absurd (cc is)
+updates the.Node is s at tree keys stands = absurd (cc is)
+updates the.Edge is s at tree keys stands = absurd (cc is)
+updates the.Station is s at tree keys stands = absurd (cc is)
+updates the.Trip is s at tree keys stands = absurd (cc is)
+updates the.Leg is s at tree keys stands = absurd (cc is)
+updates the.Hold is s at tree keys stands = absurd (cc is)
+updates the.Used is s at tree keys stands = absurd (cc is)
+updates the.Capacity is s at tree keys stands = absurd (cc is)
+updates name is s at tree keys stands =
+    let p = parsed (update_text name) in
+    update_means s (table_for name).name (with_tree name tree keys) at stands (update_text name) p refl refl (update_sets p.statement) (update_test p.statement) (key_terms name) (over_terms name) refl refl refl refl refl
 
 -- ---- inside a transaction
 
-module _ (table : UpdatedTable) (sql : List ℕ) (text : sql ≡ update_text table) (row : Row) (fit : FitsTable (table_written (table_updated table)) row)
+module _ (name : TableName) (updated : is_updated name ≡ true) (sql : List ℕ) (text : sql ≡ update_text name) (row : Row) (fit : FitsTable name row)
     (old new : State) (r : Result ℕ Error) (ran : RunsInside sql row old new r) where
-  abbrev name : TableName
-  name = table_written (table_updated table)
-
   abbrev columns : List ℕ
   columns = (table_for name).primary
 
@@ -63,19 +52,19 @@ module _ (table : UpdatedTable) (sql : List ℕ) (text : sql ≡ update_text tab
       Lands desk old.now new.now (on_table (place_of name) (λ rows. map (λ _. row) (filter p rows) ++ filter (λ other. not (p other)) rows))
       × ((lists : List (List Row)) → Holds desk old.now lists → count ≡ length (filter p (table_at (place_of name) lists)))
 
-  sets_rows : (desk : Placing) → IsDesk desk → old.now.schema ≡ desk.schema → (count : ℕ) → Executes (update_text table) row old new (Ok count) → SetsRows desk (has_columns columns row) count
+  sets_rows : (desk : Placing) → IsDesk desk → old.now.schema ≡ desk.schema → (count : ℕ) → Executes (update_text name) row old new (Ok count) → SetsRows desk (has_columns columns row) count
   sets_rows desk is has count done =
       subst (λ p. SetsRows desk p count) (key_passes name row)
-      (rows_updated desk is name old new has (update_text table) row fit (key_terms name) (within name)
-      (updates table desk.schema (is.stands name).at (desk.tree name) (is.stands name).keys (is_in desk is name)) count done)
+      (rows_updated desk is name old new has (update_text name) row fit (key_terms name) (within name)
+      (updates name updated desk.schema (is.stands name).at (desk.tree name) (is.stands name).keys (is_in desk is name)) count done)
 
   pub updates_row : OnOk r (Makes (with_each name columns row) old new)
-  updates_row = makes (with_each name columns row) (update_text table) row old new r (λ desk is has count done. (sets_rows desk is has count done).0) (subst (λ t. RunsInside t row old new r) text ran)
+  updates_row = makes (with_each name columns row) (update_text name) row old new r (λ desk is has count done. (sets_rows desk is has count done).0) (subst (λ t. RunsInside t row old new r) text ran)
 
   pub updates_counted : IfOk r (Counts name columns row old)
   updates_counted = counted r (subst (λ t. RunsInside t row old new r) text ran)
     where
-      counted : (q : Result ℕ Error) → RunsInside (update_text table) row old new q → IfOk q (Counts name columns row old)
+      counted : (q : Result ℕ Error) → RunsInside (update_text name) row old new q → IfOk q (Counts name columns row old)
       counted (Err e) runs = tt
       counted (Ok count) runs = elim (cases_Bool old.in_transaction) [
         | inl inside ↦ λ desk is lists h. (sets_rows desk is h.schema_is count (runs.1 inside).0).1 lists h

@@ -1,5 +1,5 @@
 -- The texts of SQL that write a row over those of its key, what becomes of the rows, and the errors by which a rule refuses one. No public clause cites this.
-use Rattle.std.specs.Prelude.{◌≡◌, ◌++◌, ℕ, List, codes, filter, length, map, not, true}
+use Rattle.std.specs.Prelude.{◌≡◌, ◌++◌, ℕ, Bool, List, [], codes, false, filter, length, map, not, true}
 use Rattle.sqlite_value.specs.Order.{Row}
 use Rattle.sqlite_schema.specs.declared.schema.Constraint.{Constraint}
 use Rattle.sqlite.specs.State.{State}
@@ -7,27 +7,26 @@ use Rattle.sqlite.specs.declared.error.Error.{Error}
 use Rattle.sqlite.specs.declared.error.Error.TheVariants.{SqliteFailure}
 use Rattle.sqlite.specs.declared.error.ErrorCode.TheVariants.{ConstraintViolation}
 use Rattle.agv_schema.specs.DeskRows.{Placing, Holds, IsDesk, has_columns, on_table, place_of, table_at}
-use Rattle.agv_schema.specs.declared.world_table.WorldTable.{WorldTable}
-use Rattle.agv_schema.specs.declared.world_table.WorldTable.TheVariants as world
 use Rattle.agv_schema.specs.declared.table_name.TableName.{TableName}
-use Rattle.agv_statements.specs.declared.updated_table.UpdatedTable.{UpdatedTable}
-use Rattle.agv_statements.specs.declared.updated_table.UpdatedTable.TheVariants as updated
+use Rattle.agv_schema.specs.declared.table_name.TableName.TheVariants as the
 
--- the table whose rows are written over
-abbrev pub table_updated : UpdatedTable → WorldTable
-table_updated updated.Vehicle = world.Vehicle
-table_updated updated.Journey = world.Journey
-table_updated updated.Load = world.Load
-table_updated updated.Job = world.Job
-table_updated updated.Act = world.Act
+-- its rows change while they stay: what a vehicle says, how far it is, where a load is, how far a job and an act are
+abbrev pub is_updated : TableName → Bool
+is_updated the.Vehicle = true
+is_updated the.Journey = true
+is_updated the.Load = true
+is_updated the.Job = true
+is_updated the.Act = true
+is_updated _ = false
 
 -- the parameters are the columns of the row, and those of its key are the first
-abbrev pub update_text : UpdatedTable → List ℕ
-update_text updated.Vehicle = codes "UPDATE vehicle SET manufacturer = ?1, serial = ?2, node = ?3, rest_edge = ?4, rest_node = ?5, last_header = ?6, reported = ?7, ready = ?8, paused = ?9, order_header = ?10, order_at = ?11, instant_header = ?12, instant_at = ?13, pending = ?14 WHERE manufacturer = ?1 AND serial = ?2"
-update_text updated.Journey = codes "UPDATE journey SET order_id = ?1, manufacturer = ?2, serial = ?3, start = ?4, first = ?5, base = ?6, sent = ?7, confirmed = ?8, seen = ?9 WHERE order_id = ?1"
-update_text updated.Load = codes "UPDATE load SET id = ?1, kind = ?2, station = ?3, manufacturer = ?4, serial = ?5 WHERE id = ?1"
-update_text updated.Job = codes "UPDATE job SET id = ?1, load = ?2, origin = ?3, target = ?4, phase = ?5 WHERE id = ?1"
-update_text updated.Act = codes "UPDATE act SET order_id = ?1, n = ?2, job = ?3, kind = ?4, place_at = ?5, status = ?6 WHERE order_id = ?1 AND n = ?2"
+abbrev pub update_text : TableName → List ℕ
+update_text the.Vehicle = codes "UPDATE vehicle SET manufacturer = ?1, serial = ?2, node = ?3, rest_edge = ?4, rest_node = ?5, last_header = ?6, reported = ?7, ready = ?8, paused = ?9, order_header = ?10, order_at = ?11, instant_header = ?12, instant_at = ?13, pending = ?14 WHERE manufacturer = ?1 AND serial = ?2"
+update_text the.Journey = codes "UPDATE journey SET order_id = ?1, manufacturer = ?2, serial = ?3, start = ?4, first = ?5, base = ?6, sent = ?7, confirmed = ?8, seen = ?9 WHERE order_id = ?1"
+update_text the.Load = codes "UPDATE load SET id = ?1, kind = ?2, station = ?3, manufacturer = ?4, serial = ?5 WHERE id = ?1"
+update_text the.Job = codes "UPDATE job SET id = ?1, load = ?2, origin = ?3, target = ?4, phase = ?5 WHERE id = ?1"
+update_text the.Act = codes "UPDATE act SET order_id = ?1, n = ?2, job = ?3, kind = ?4, place_at = ?5, status = ?6 WHERE order_id = ?1 AND n = ?2"
+update_text _ = []
 
 -- with the row in the place of each that is equal to it in these columns
 abbrev pub with_each : TableName → List ℕ → Row → List (List Row) → List (List Row)

@@ -3,7 +3,7 @@
 //!
 //! - [`query_texts`] and `row_texts` have the texts.
 //! - [`row_writes`]: a row is added, taken out, or put in the place of that of its key; [`row_updates`] writes over the row
-//!   that is there, in the tables of [`updated_table`].
+//!   that is there.
 //! - [`row_reads`]: the rows of a table, of a key, by other columns, or their number, outside a transaction; [`row_finds`]
 //!   within one.
 //! - `proofs/sql` proves what a statement of SQL over one table means, whatever the table is.
@@ -15,4 +15,3 @@ pub mod row_reads;
 pub(crate) mod row_texts;
 pub mod row_updates;
 pub mod row_writes;
-pub mod updated_table;

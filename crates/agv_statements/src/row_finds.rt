@@ -3,36 +3,37 @@
 //! The rows that are shown are those of any database in which the desk's tables stand (`DeskRows.antt` of agv_schema), in no
 //! order, as the transaction sees them. Whatever a database has, rows that are shown change nothing. An error changes
 //! nothing either, or it has ended the transaction.
-ghost use Rattle.std.specs.Prelude.{◌≡◌, IfOk, OnOk};
+ghost use Rattle.std.specs.Prelude.{◌≡◌, true, IfOk, OnOk};
 ghost use Rattle.sqlite.specs.State.{HasCleanDisk, IsUnchanged, KeepsCommit, Survives};
 ghost use Rattle.sqlite.specs.Held.{state};
 ghost use Rattle.sqlite.specs.Values.{bound};
 ghost use Rattle.agv_schema.specs.DeskRows.{Answers, rows_of_key};
 ghost use Rattle.agv_statements.specs.RowQueries.{rows_asked};
-ghost use Rattle.agv_schema.specs.RowTexts.{table_looked_up};
+ghost use Rattle.agv_schema.specs.RowTexts.{is_looked_up};
 
 use crate::query_texts::query;
 use crate::row_texts::look_up;
-use agv_schema::row_of::RowOf;
 use agv_schema::rows_by::RowsBy;
+use agv_schema::table_name::TableName;
 use sqlite::types::ValueRef;
 use sqlite::{Alter, Error, Row, Transaction};
 
 /// The rows of that key: one at most, in tables whose keys are kept.
 pub fn find_rows_inside<S: Alter>(
     tx: &mut Transaction<'_, S>,
-    row: RowOf,
+    table: TableName,
     key: &[ValueRef<'_>],
 ) -> Result<Vec<Row>, Error>
+    requires { is_looked_up table ≡ true }
     ensures same_reference { tx.new.conn.ghost_name ≡ tx.old.conn.ghost_name }
     ensures survives { Survives (state S.Store tx.old.conn.now) (state S.Store tx.new.conn.now) (λ _. ⊥) }
     ensures kept { HasCleanDisk (state S.Store tx.new.conn.now) → KeepsCommit (state S.Store tx.old.conn.now) (state S.Store tx.new.conn.now) }
     ensures unchanged { HasCleanDisk (state S.Store tx.new.conn.now)
         → OnOk result (IsUnchanged (state S.Store tx.old.conn.now) (state S.Store tx.new.conn.now)) }
     ensures shown { HasCleanDisk (state S.Store tx.new.conn.now)
-        → IfOk result (λ rows. Answers (rows_of_key (table_looked_up row) (bound key.now)) (state S.Store tx.old.conn.now) rows.items) }
+        → IfOk result (λ rows. Answers (rows_of_key table (bound key.now)) (state S.Store tx.old.conn.now) rows.items) }
 {
-    tx.query_all(look_up(row), key)
+    tx.query_all(look_up(table), key)
 }
 
 /// The rows with these values in the columns that are asked by.

@@ -1,78 +1,83 @@
 //! The texts of SQL on one row: what adds it, what takes it out by its key, and what shows it.
 //!
 //! There is none that nothing asks for: `meta` is written once, by a text of its own, `trip` stays empty, and journeys,
-//! acts and legs are not looked up by their key. So there are 33 here; with the 4 of `row_updates`, the 22 of
-//! `query_texts`, the 19 of `table_texts` and the 14 of `rowid_reading` a desk has 92 texts of SQL. The move from the first
+//! acts and legs are not looked up by their key. So there are 33 here; with the 5 of `row_updates`, the 22 of
+//! `query_texts`, the 19 of `table_texts` and the 14 of `rowid_reading` a desk has 93 texts of SQL. The move from the first
 //! schema has its own.
-ghost use Rattle.std.specs.Prelude.{◌≡◌};
-ghost use Rattle.agv_schema.specs.RowTexts.{insertion_text, deletion_text, look_up_text};
+ghost use Rattle.std.specs.Prelude.{◌≡◌, true};
+ghost use Rattle.agv_schema.specs.RowTexts.{deletion_text, insertion_text, is_looked_up, is_written, look_up_text};
 
-use agv_schema::row_of::RowOf;
-use agv_schema::world_table::WorldTable;
+use agv_schema::table_name::TableName;
 
 /// Adds a row, whose columns are the parameters.
-pub(crate) fn insertion(table: WorldTable) -> &'static str
+pub(crate) fn insertion(table: TableName) -> &'static str
+    requires { is_written table ≡ true }
     ensures { result.now ≡ insertion_text table }
 {
     match table {
-        WorldTable::Node => "INSERT INTO node (id) VALUES (?1)",
-        WorldTable::Edge => "INSERT INTO edge (id, start, finish) VALUES (?1, ?2, ?3)",
-        WorldTable::Station => "INSERT INTO station (id, node, capacity) VALUES (?1, ?2, ?3)",
-        WorldTable::Vehicle =>
+        TableName::Node => "INSERT INTO node (id) VALUES (?1)",
+        TableName::Edge => "INSERT INTO edge (id, start, finish) VALUES (?1, ?2, ?3)",
+        TableName::Station => "INSERT INTO station (id, node, capacity) VALUES (?1, ?2, ?3)",
+        TableName::Vehicle =>
             "INSERT INTO vehicle (manufacturer, serial, node, rest_edge, rest_node, last_header, reported, ready, paused, order_header, order_at, instant_header, instant_at, pending) VALUES (?1, ?2, ?3, ?4, ?5, ?6, ?7, ?8, ?9, ?10, ?11, ?12, ?13, ?14)",
-        WorldTable::Capacity =>
+        TableName::Capacity =>
             "INSERT INTO capacity (manufacturer, serial, capacity) VALUES (?1, ?2, ?3)",
-        WorldTable::Journey =>
+        TableName::Journey =>
             "INSERT INTO journey (order_id, manufacturer, serial, start, first, base, sent, confirmed, seen) VALUES (?1, ?2, ?3, ?4, ?5, ?6, ?7, ?8, ?9)",
-        WorldTable::Act =>
+        TableName::Act =>
             "INSERT INTO act (order_id, n, job, kind, place_at, status) VALUES (?1, ?2, ?3, ?4, ?5, ?6)",
-        WorldTable::Leg => "INSERT INTO leg (order_id, k, edge) VALUES (?1, ?2, ?3)",
-        WorldTable::Load =>
+        TableName::Leg => "INSERT INTO leg (order_id, k, edge) VALUES (?1, ?2, ?3)",
+        TableName::Load =>
             "INSERT INTO load (id, kind, station, manufacturer, serial) VALUES (?1, ?2, ?3, ?4, ?5)",
-        WorldTable::Job =>
+        TableName::Job =>
             "INSERT INTO job (id, load, origin, target, phase) VALUES (?1, ?2, ?3, ?4, ?5)",
-        WorldTable::Hold =>
+        TableName::Hold =>
             "INSERT INTO hold (kind, id, manufacturer, serial) VALUES (?1, ?2, ?3, ?4)",
-        WorldTable::Used => "INSERT INTO used (kind, id) VALUES (?1, ?2)",
+        TableName::Used => "INSERT INTO used (kind, id) VALUES (?1, ?2)",
+        _ => unreachable!(),
     }
 }
 
 /// Takes out the row of a key, whose columns are the parameters; of the acts, all of an order.
-pub(crate) fn deletion(table: WorldTable) -> &'static str
+pub(crate) fn deletion(table: TableName) -> &'static str
+    requires { is_written table ≡ true }
     ensures { result.now ≡ deletion_text table }
 {
     match table {
-        WorldTable::Node => "DELETE FROM node WHERE id = ?1",
-        WorldTable::Edge => "DELETE FROM edge WHERE id = ?1",
-        WorldTable::Station => "DELETE FROM station WHERE id = ?1",
-        WorldTable::Vehicle => "DELETE FROM vehicle WHERE manufacturer = ?1 AND serial = ?2",
-        WorldTable::Capacity => "DELETE FROM capacity WHERE manufacturer = ?1 AND serial = ?2",
-        WorldTable::Journey => "DELETE FROM journey WHERE order_id = ?1",
-        WorldTable::Act => "DELETE FROM act WHERE order_id = ?1",
-        WorldTable::Leg => "DELETE FROM leg WHERE order_id = ?1 AND k = ?2",
-        WorldTable::Load => "DELETE FROM load WHERE id = ?1",
-        WorldTable::Job => "DELETE FROM job WHERE id = ?1",
-        WorldTable::Hold => "DELETE FROM hold WHERE kind = ?1 AND id = ?2",
-        WorldTable::Used => "DELETE FROM used WHERE kind = ?1 AND id = ?2",
+        TableName::Node => "DELETE FROM node WHERE id = ?1",
+        TableName::Edge => "DELETE FROM edge WHERE id = ?1",
+        TableName::Station => "DELETE FROM station WHERE id = ?1",
+        TableName::Vehicle => "DELETE FROM vehicle WHERE manufacturer = ?1 AND serial = ?2",
+        TableName::Capacity => "DELETE FROM capacity WHERE manufacturer = ?1 AND serial = ?2",
+        TableName::Journey => "DELETE FROM journey WHERE order_id = ?1",
+        TableName::Act => "DELETE FROM act WHERE order_id = ?1",
+        TableName::Leg => "DELETE FROM leg WHERE order_id = ?1 AND k = ?2",
+        TableName::Load => "DELETE FROM load WHERE id = ?1",
+        TableName::Job => "DELETE FROM job WHERE id = ?1",
+        TableName::Hold => "DELETE FROM hold WHERE kind = ?1 AND id = ?2",
+        TableName::Used => "DELETE FROM used WHERE kind = ?1 AND id = ?2",
+        _ => unreachable!(),
     }
 }
 
 /// Shows the row of a key, whose columns are the parameters.
-pub(crate) fn look_up(row: RowOf) -> &'static str
-    ensures { result.now ≡ look_up_text row }
+pub(crate) fn look_up(table: TableName) -> &'static str
+    requires { is_looked_up table ≡ true }
+    ensures { result.now ≡ look_up_text table }
 {
-    match row {
-        RowOf::Node => "SELECT id FROM node WHERE id = ?1",
-        RowOf::Edge => "SELECT id, start, finish FROM edge WHERE id = ?1",
-        RowOf::Station => "SELECT id, node, capacity FROM station WHERE id = ?1",
-        RowOf::Vehicle =>
+    match table {
+        TableName::Node => "SELECT id FROM node WHERE id = ?1",
+        TableName::Edge => "SELECT id, start, finish FROM edge WHERE id = ?1",
+        TableName::Station => "SELECT id, node, capacity FROM station WHERE id = ?1",
+        TableName::Vehicle =>
             "SELECT manufacturer, serial, node, rest_edge, rest_node, last_header, reported, ready, paused, order_header, order_at, instant_header, instant_at, pending FROM vehicle WHERE manufacturer = ?1 AND serial = ?2",
-        RowOf::Capacity =>
+        TableName::Capacity =>
             "SELECT manufacturer, serial, capacity FROM capacity WHERE manufacturer = ?1 AND serial = ?2",
-        RowOf::Load => "SELECT id, kind, station, manufacturer, serial FROM load WHERE id = ?1",
-        RowOf::Job => "SELECT id, load, origin, target, phase FROM job WHERE id = ?1",
-        RowOf::Hold =>
+        TableName::Load => "SELECT id, kind, station, manufacturer, serial FROM load WHERE id = ?1",
+        TableName::Job => "SELECT id, load, origin, target, phase FROM job WHERE id = ?1",
+        TableName::Hold =>
             "SELECT kind, id, manufacturer, serial FROM hold WHERE kind = ?1 AND id = ?2",
-        RowOf::Used => "SELECT kind, id FROM used WHERE kind = ?1 AND id = ?2",
+        TableName::Used => "SELECT kind, id FROM used WHERE kind = ?1 AND id = ?2",
+        _ => unreachable!(),
     }
 }

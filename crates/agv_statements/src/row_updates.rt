@@ -2,18 +2,17 @@
 //!
 //! Each clause speaks of any database in which the desk's tables stand, whatever other tables, views and
 //! indexes it has (`DeskRows.antt` of agv_schema). An error changes what the transaction's end undoes.
-ghost use Rattle.std.specs.Prelude.{◌≡◌, IfOk, OnOk};
+ghost use Rattle.std.specs.Prelude.{◌≡◌, true, IfOk, OnOk};
 ghost use Rattle.sqlite.specs.State.{HasCleanDisk};
 ghost use Rattle.sqlite.specs.Held.{state};
 ghost use Rattle.sqlite.specs.Values.{bound};
 ghost use Rattle.agv_schema.specs.DeskRows.{FitsTable, Makes, table_for, with_put_by};
-ghost use Rattle.agv_schema.specs.RowTexts.{columns_deleted, table_written};
-ghost use Rattle.agv_statements.specs.RowUpdates.{Counts, IsKeyOf, table_updated, update_text, with_each};
+ghost use Rattle.agv_schema.specs.RowTexts.{columns_deleted};
+ghost use Rattle.agv_statements.specs.RowUpdates.{Counts, IsKeyOf, is_updated, update_text, with_each};
 ghost use Rattle.agv_statements.specs.WritesInside.{WritesInside};
 
 use crate::row_writes::{insert_row, put_row};
-use crate::updated_table::UpdatedTable;
-use agv_schema::world_table::WorldTable;
+use agv_schema::table_name::TableName;
 use sqlite::types::ValueRef;
 use sqlite::{Alter, Error, Transaction};
 
@@ -21,63 +20,54 @@ use sqlite::{Alter, Error, Transaction};
 /// out by their order.
 pub fn put_over<S: Alter>(
     tx: &mut Transaction<'_, S>,
-    table: UpdatedTable,
+    table: TableName,
     key: &[ValueRef<'_>],
     row: &[ValueRef<'_>],
 ) -> Result<usize, Error>
-    ensures { WritesInside S.Store tx.old tx.new (λ before after. FitsTable (table_written (table_updated table)) (bound row.now) → columns_deleted (table_updated table) ≡ (table_for (table_written (table_updated table))).primary → IsKeyOf (columns_deleted (table_updated table)) (bound key.now) (bound row.now)
-        → OnOk result (Makes (with_put_by (table_written (table_updated table)) (columns_deleted (table_updated table)) (bound key.now) (bound row.now)) before after)) }
+    requires { is_updated table ≡ true }
+    ensures { WritesInside S.Store tx.old tx.new (λ before after. FitsTable table (bound row.now) → columns_deleted table ≡ (table_for table).primary → IsKeyOf (columns_deleted table) (bound key.now) (bound row.now)
+        → OnOk result (Makes (with_put_by table (columns_deleted table) (bound key.now) (bound row.now)) before after)) }
 {
     let count = update_row(tx, table, row)?;
     match count {
-        0 => insert_row(tx, world_table(table), row),
+        0 => insert_row(tx, table, row),
         1 => Ok(1),
-        _ => put_row(tx, world_table(table), key, row),
+        _ => put_row(tx, table, key, row),
     }
 }
 
 /// Writes the row over each of its key, and says how many there were.
 pub fn update_row<S: Alter>(
     tx: &mut Transaction<'_, S>,
-    table: UpdatedTable,
+    table: TableName,
     row: &[ValueRef<'_>],
 ) -> Result<usize, Error>
-    ensures writes { WritesInside S.Store tx.old tx.new (λ before after. FitsTable (table_written (table_updated table)) (bound row.now)
-        → OnOk result (Makes (with_each (table_written (table_updated table)) (table_for (table_written (table_updated table))).primary (bound row.now)) before after)) }
-    ensures counted { HasCleanDisk (state S.Store tx.new.conn.now) → FitsTable (table_written (table_updated table)) (bound row.now)
-        → IfOk result (Counts (table_written (table_updated table)) (table_for (table_written (table_updated table))).primary (bound row.now) (state S.Store tx.old.conn.now)) }
+    requires { is_updated table ≡ true }
+    ensures writes { WritesInside S.Store tx.old tx.new (λ before after. FitsTable table (bound row.now)
+        → OnOk result (Makes (with_each table (table_for table).primary (bound row.now)) before after)) }
+    ensures counted { HasCleanDisk (state S.Store tx.new.conn.now) → FitsTable table (bound row.now)
+        → IfOk result (Counts table (table_for table).primary (bound row.now) (state S.Store tx.old.conn.now)) }
 {
     tx.execute(update(table), row)
 }
 
 // Writes a row over those of its key: the parameters are its columns. The columns of the key are written too, since SQL
 // calls values equal that are not the same.
-fn update(table: UpdatedTable) -> &'static str
+fn update(table: TableName) -> &'static str
+    requires { is_updated table ≡ true }
     ensures { result.now ≡ update_text table }
 {
     match table {
-        UpdatedTable::Vehicle =>
+        TableName::Vehicle =>
             "UPDATE vehicle SET manufacturer = ?1, serial = ?2, node = ?3, rest_edge = ?4, rest_node = ?5, last_header = ?6, reported = ?7, ready = ?8, paused = ?9, order_header = ?10, order_at = ?11, instant_header = ?12, instant_at = ?13, pending = ?14 WHERE manufacturer = ?1 AND serial = ?2",
-        UpdatedTable::Journey =>
+        TableName::Journey =>
             "UPDATE journey SET order_id = ?1, manufacturer = ?2, serial = ?3, start = ?4, first = ?5, base = ?6, sent = ?7, confirmed = ?8, seen = ?9 WHERE order_id = ?1",
-        UpdatedTable::Load =>
+        TableName::Load =>
             "UPDATE load SET id = ?1, kind = ?2, station = ?3, manufacturer = ?4, serial = ?5 WHERE id = ?1",
-        UpdatedTable::Job =>
+        TableName::Job =>
             "UPDATE job SET id = ?1, load = ?2, origin = ?3, target = ?4, phase = ?5 WHERE id = ?1",
-        UpdatedTable::Act =>
+        TableName::Act =>
             "UPDATE act SET order_id = ?1, n = ?2, job = ?3, kind = ?4, place_at = ?5, status = ?6 WHERE order_id = ?1 AND n = ?2",
-    }
-}
-
-// The table whose rows are written over.
-fn world_table(table: UpdatedTable) -> WorldTable
-    ensures { result ≡ table_updated table }
-{
-    match table {
-        UpdatedTable::Vehicle => WorldTable::Vehicle,
-        UpdatedTable::Journey => WorldTable::Journey,
-        UpdatedTable::Load => WorldTable::Load,
-        UpdatedTable::Job => WorldTable::Job,
-        UpdatedTable::Act => WorldTable::Act,
+        _ => unreachable!(),
     }
 }

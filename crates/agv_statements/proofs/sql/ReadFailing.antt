@@ -28,10 +28,8 @@ use Rattle.agv_schema.specs.declared.table_name.TableName.TheVariants as the
 use Rattle.agv_schema.proofs.OneTable.{Means, parsed, query_in, compiled_as}
 use Rattle.agv_schema.proofs.DeskPlaces.{is_in_alone, one_stands}
 use Rattle.agv_statements.proofs.sql.Failing.{IsCaused, IsWhole, caused, is_statement}
-use Rattle.agv_schema.specs.RowTexts.{look_up_text, table_looked_up}
+use Rattle.agv_schema.specs.RowTexts.{is_looked_up, look_up_text}
 use Rattle.agv_statements.specs.RowQueries.{table_asked, columns_asked, columns_at, FitsColumns, query_text, all_rows_text}
-use Rattle.agv_schema.specs.declared.row_of.RowOf.{RowOf}
-use Rattle.agv_schema.specs.declared.row_of.RowOf.TheVariants as keyed
 use Rattle.agv_schema.specs.declared.rows_by.RowsBy.{RowsBy}
 use Rattle.agv_schema.specs.declared.rows_by.RowsBy.TheVariants as by
 use Rattle.agv_statements.proofs.QueryMeanings.{AsksFor, AsksIn, query_terms, query_asks, all_rows_asked}
@@ -209,17 +207,14 @@ read_caused = read_caused_in None (λ all none. none)
 
 -- ---- the texts are one statement each
 
-key_whole : (one : RowOf) → IsWholeText (look_up_text one) (length (columns_at (table_looked_up one) (table_for (table_looked_up one)).primary))
+key_whole : (name : TableName) → is_looked_up name ≡ true → IsWholeText (look_up_text name) (length (columns_at name (table_for name).primary))
 unfolding everything
-key_whole keyed.Node = (lit≤ tt, refl)
-key_whole keyed.Edge = (lit≤ tt, refl)
-key_whole keyed.Station = (lit≤ tt, refl)
-key_whole keyed.Vehicle = (lit≤ tt, refl)
-key_whole keyed.Capacity = (lit≤ tt, refl)
-key_whole keyed.Load = (lit≤ tt, refl)
-key_whole keyed.Job = (lit≤ tt, refl)
-key_whole keyed.Hold = (lit≤ tt, refl)
-key_whole keyed.Used = (lit≤ tt, refl)
+key_whole the.Meta is = absurd (cc is)
+key_whole the.Trip is = absurd (cc is)
+key_whole the.Leg is = absurd (cc is)
+key_whole the.Journey is = absurd (cc is)
+key_whole the.Act is = absurd (cc is)
+key_whole _ is = (lit≤ tt, refl)
 
 query_whole : (query : RowsBy) → IsWholeText (query_text query) (length (columns_at (table_asked query) (columns_asked query)))
 unfolding everything
@@ -254,11 +249,10 @@ on_err_all (Err e) f h = f e h
 
 module _ (params : Row) (old new : State) (r : Result (Vec Row Global) Error) (sql : List ℕ) (fails : IfErr r (FailsToQuery sql params old new)) where
   -- by the key
-  pub key_caused : (one : RowOf) → sql ≡ look_up_text one
-      → IfErr r (λ e. IsOfStore e → (desk : Placing) → IsDesk desk → old.now.schema ≡ desk.schema → FitsColumns (table_looked_up one) (table_for (table_looked_up one)).primary params → IsCaused old new)
-  key_caused one text = on_err_all r (λ e h stored desk is has fit.
-      let name = table_looked_up one in
-      read_caused name (key_terms name) (column_terms name) (column_names name) (look_up_text one) (looks_up one) params (subst (IsWholeText (look_up_text one)) (sym (fits_length _ params fit)) (key_whole one)) (key_typed name params fit) old new e desk (one_stands desk is name) has stored
+  pub key_caused : (name : TableName) → is_looked_up name ≡ true → sql ≡ look_up_text name
+      → IfErr r (λ e. IsOfStore e → (desk : Placing) → IsDesk desk → old.now.schema ≡ desk.schema → FitsColumns name (table_for name).primary params → IsCaused old new)
+  key_caused name looked_up text = on_err_all r (λ e h stored desk is has fit.
+      read_caused name (key_terms name) (column_terms name) (column_names name) (look_up_text name) (looks_up name looked_up) params (subst (IsWholeText (look_up_text name)) (sym (fits_length _ params fit)) (key_whole name looked_up)) (key_typed name params fit) old new e desk (one_stands desk is name) has stored
       (subst (λ t. FailsToQuery t params old new e) text h)) fails
 
   -- by other columns

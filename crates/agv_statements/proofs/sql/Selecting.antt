@@ -18,9 +18,7 @@ use Rattle.sqlite.specs.Listing.{if_select, is_select, listing_schema, reads_lis
 use Rattle.sqlite.specs.State.{CommitsShowing, IsUnchanged, Shown, ShowsRows, State, Survives}
 use Rattle.sqlite.proofs.StateLemmas.{survives_weaker}
 use Rattle.agv_statements.specs.RowQueries.{all_rows_text, query_text}
-use Rattle.agv_schema.specs.RowTexts.{look_up_text}
-use Rattle.agv_schema.specs.declared.row_of.RowOf.{RowOf}
-use Rattle.agv_schema.specs.declared.row_of.RowOf.TheVariants as keyed
+use Rattle.agv_schema.specs.RowTexts.{is_looked_up, look_up_text}
 use Rattle.agv_schema.specs.declared.rows_by.RowsBy.{RowsBy}
 use Rattle.agv_schema.specs.declared.rows_by.RowsBy.TheVariants as by
 use Rattle.agv_schema.specs.declared.table_name.TableName.{TableName}
@@ -106,17 +104,14 @@ module _ (params : Row) (old new : State) (sql : List ℕ) (select : IsSelectTex
 
 -- ---- the texts
 
-look_ups : (one : RowOf) → IsSelectText (look_up_text one)
+look_ups : (name : TableName) → is_looked_up name ≡ true → IsSelectText (look_up_text name)
 unfolding everything
-look_ups keyed.Node = tt
-look_ups keyed.Edge = tt
-look_ups keyed.Station = tt
-look_ups keyed.Vehicle = tt
-look_ups keyed.Capacity = tt
-look_ups keyed.Load = tt
-look_ups keyed.Job = tt
-look_ups keyed.Hold = tt
-look_ups keyed.Used = tt
+look_ups the.Meta is = absurd (cc is)
+look_ups the.Trip is = absurd (cc is)
+look_ups the.Leg is = absurd (cc is)
+look_ups the.Journey is = absurd (cc is)
+look_ups the.Act is = absurd (cc is)
+look_ups _ is = tt
 
 queries : (query : RowsBy) → IsSelectText (query_text query)
 unfolding everything
@@ -143,8 +138,8 @@ whole_tables the.Capacity = tt
 whole_tables the.Journey = tt
 whole_tables the.Act = tt
 
-pub look_up_selects : (one : RowOf) (sql : List ℕ) → sql ≡ look_up_text one → IsSelectText sql
-look_up_selects one sql text = subst IsSelectText (sym text) (look_ups one)
+pub look_up_selects : (name : TableName) → is_looked_up name ≡ true → (sql : List ℕ) → sql ≡ look_up_text name → IsSelectText sql
+look_up_selects name looked_up sql text = subst IsSelectText (sym text) (look_ups name looked_up)
 
 pub query_selects : (query : RowsBy) (sql : List ℕ) → sql ≡ query_text query → IsSelectText sql
 query_selects query sql text = subst IsSelectText (sym text) (queries query)

@@ -6,8 +6,8 @@ use Rattle.agv_row_reading.proofs.Asking.{follows, passes}
 use Rattle.agv_queries.proofs.KeyAnswers.{tells_node}
 use Rattle.agv_queries.proofs.key_queries.query_node.Goals as goal
 
-pub query_rows-requires : goal.query_rows-requires
-query_rows-requires g c = subst (FitsColumns the.Node (table_for the.Node).primary) (sym c.name_key_values.ensures) refl
+pub query_rows-requires-clause-fits : goal.query_rows-requires-clause-fits
+query_rows-requires-clause-fits g c = subst (FitsColumns the.Node (table_for the.Node).primary) (sym c.name_key_values.ensures) refl
 
 pub returns-in_err-rows : goal.returns-in_err-rows
 returns-in_err-rows g c = passes g.S.Store c.args.conn.now c.query_rows.new.conn c.in_err-rows.field-0.0 _ _ c.from_residual.result c.from_residual.ensures.1 c.in_err-rows.ensures

@@ -8,21 +8,21 @@ use Rattle.agv_statements.proofs.row_reads.find_rows.Goals as goal
 
 pub returns-clause-shown : goal.returns-clause-shown
 returns-clause-shown g c clean =
-    key_shown (bound c.args.key.now) (state g.S.Store c.args.conn.now) (state g.S.Store c.query_all.new.self) c.query_all.result c.look_up.result.now c.args.row c.look_up.ensures (c.query_all.ensures.ok clean)
+    key_shown (bound c.args.key.now) (state g.S.Store c.args.conn.now) (state g.S.Store c.query_all.new.self) c.query_all.result c.look_up.result.now c.args.table c.requires c.look_up.ensures (c.query_all.ensures.ok clean)
 
 pub returns-clause-failed : goal.returns-clause-failed
 returns-clause-failed g c clean = on_failed c.query_all.result (λ e. query_fails _ _ _ _ e) (c.query_all.ensures.err clean)
 
 pub returns-clause-kept : goal.returns-clause-kept
 returns-clause-kept g c clean =
-    select_keeps (bound c.args.key.now) (state g.S.Store c.args.conn.now) (state g.S.Store c.query_all.new.self) c.look_up.result.now (look_up_selects c.args.row c.look_up.result.now c.look_up.ensures) c.query_all.result (c.query_all.ensures.ok clean)
+    select_keeps (bound c.args.key.now) (state g.S.Store c.args.conn.now) (state g.S.Store c.query_all.new.self) c.look_up.result.now (look_up_selects c.args.table c.requires c.look_up.result.now c.look_up.ensures) c.query_all.result (c.query_all.ensures.ok clean)
 
 pub returns-clause-survives : goal.returns-clause-survives
 returns-clause-survives g c =
-    select_survives (bound c.args.key.now) (state g.S.Store c.args.conn.now) (state g.S.Store c.query_all.new.self) c.look_up.result.now (look_up_selects c.args.row c.look_up.result.now c.look_up.ensures) c.query_all.ensures.survives
+    select_survives (bound c.args.key.now) (state g.S.Store c.args.conn.now) (state g.S.Store c.query_all.new.self) c.look_up.result.now (look_up_selects c.args.table c.requires c.look_up.result.now c.look_up.ensures) c.query_all.ensures.survives
 
 pub returns-clause-caused : goal.returns-clause-caused
-returns-clause-caused g c clean = key_caused (bound c.args.key.now) (state g.S.Store c.args.conn.now) (state g.S.Store c.query_all.new.self) c.query_all.result c.look_up.result.now (c.query_all.ensures.err clean) c.args.row c.look_up.ensures
+returns-clause-caused g c clean = key_caused (bound c.args.key.now) (state g.S.Store c.args.conn.now) (state g.S.Store c.query_all.new.self) c.query_all.result c.look_up.result.now (c.query_all.ensures.err clean) c.args.table c.requires c.look_up.ensures
 
 pub returns-clause-idle : goal.returns-clause-idle
 returns-clause-idle g c = c.query_all.ensures.mode

@@ -1,10 +1,8 @@
 use Rattle.std.proofs.Common.{ℕ, List, OnOk, subst, sym}
 use Rattle.sqlite.specs.Held.{state}
 use Rattle.sqlite.specs.Values.{bound}
-use Rattle.agv_schema.specs.DeskRows.{FitsTable, Makes, table_for, with_put_by, with_row}
-use Rattle.agv_schema.specs.RowTexts.{columns_deleted, table_written}
-use Rattle.agv_statements.specs.RowUpdates.{Counts, IsKeyOf, table_updated}
-use Rattle.agv_schema.specs.declared.world_table.WorldTable.{WorldTable}
+use Rattle.agv_schema.specs.DeskRows.{Makes, table_for, with_put_by}
+use Rattle.agv_statements.specs.RowUpdates.{Counts, IsKeyOf}
 use Rattle.agv_schema.proofs.StatesKept.{on_ok}
 use Rattle.agv_statements.proofs.UpdateMeanings.{over_more, over_none, over_one}
 use Rattle.agv_statements.proofs.WritesThen.{retold, writes_then}
@@ -12,7 +10,7 @@ use Rattle.agv_statements.proofs.row_updates.put_over.Goals as goal
 
 pub returns-in-0 : goal.returns-in-0
 returns-in-0 g c =
-    let name = table_written (table_updated c.args.table) in
+    let name = c.args.table in
     let columns = (table_for name).primary in
     let key = bound c.args.key.now in
     let row = bound c.args.row.now in
@@ -22,12 +20,11 @@ returns-in-0 g c =
     writes_then g.S.Store c.in_ok-count.ensures.writes c.insert_row.ensures.writes (λ early over added fit same is_key.
     let none : Counts name columns row first 0 = subst (λ (n : ℕ). Counts name columns row first n) c.in-0.is (c.in_ok-count.ensures.counted early fit) in
     subst (λ (cs : List ℕ). OnOk c.insert_row.result (Makes (with_put_by name cs key row) first last)) (sym same)
-    (on_ok c.insert_row.result (over_none name columns key row (subst (λ (cs : List ℕ). IsKeyOf cs key row) same is_key) first mid last none (over fit))
-    (subst (λ (t : WorldTable). FitsTable (table_written t) row → OnOk c.insert_row.result (Makes (with_row (table_written t) row) mid last)) c.world_table.ensures added fit)))
+    (on_ok c.insert_row.result (over_none name columns key row (subst (λ (cs : List ℕ). IsKeyOf cs key row) same is_key) first mid last none (over fit)) (added fit)))
 
 pub returns-in-1 : goal.returns-in-1
 returns-in-1 g c =
-    let name = table_written (table_updated c.args.table) in
+    let name = c.args.table in
     let columns = (table_for name).primary in
     let key = bound c.args.key.now in
     let row = bound c.args.row.now in
@@ -40,7 +37,7 @@ returns-in-1 g c =
 
 pub returns-in_default : goal.returns-in_default
 returns-in_default g c =
-    let name = table_written (table_updated c.args.table) in
+    let name = c.args.table in
     let columns = (table_for name).primary in
     let key = bound c.args.key.now in
     let row = bound c.args.row.now in
@@ -50,5 +47,4 @@ returns-in_default g c =
     writes_then g.S.Store c.in_ok-count.ensures.writes c.put_row.ensures (λ _ over again fit same is_key.
     subst (λ (cs : List ℕ). OnOk c.put_row.result (Makes (with_put_by name cs key row) first last)) (sym same)
     (on_ok c.put_row.result (over_more name columns key row (subst (λ (cs : List ℕ). IsKeyOf cs key row) same is_key) first mid last (over fit))
-    (subst (λ (cs : List ℕ). OnOk c.put_row.result (Makes (with_put_by name cs key row) mid last)) same
-    (subst (λ (t : WorldTable). FitsTable (table_written t) row → OnOk c.put_row.result (Makes (with_put_by (table_written t) (columns_deleted t) key row) mid last)) c.world_table-in_default.ensures again fit))))
+    (subst (λ (cs : List ℕ). OnOk c.put_row.result (Makes (with_put_by name cs key row) mid last)) same (again fit))))

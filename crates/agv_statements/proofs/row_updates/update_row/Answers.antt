@@ -9,10 +9,10 @@ returns-clause-writes g c = record {
   same_reference = search rules;
   survives = search rules;
   kept = search rules;
-  made = λ clean fit. updates_row c.args.table c.update.result.now c.update.ensures (bound c.args.row.now) fit _ _ c.execute.result (λ idle. (c.execute.ensures.ended idle).0, c.execute.ensures.runs clean);
+  made = λ clean fit. updates_row c.args.table c.requires c.update.result.now c.update.ensures (bound c.args.row.now) fit _ _ c.execute.result (λ idle. (c.execute.ensures.ended idle).0, c.execute.ensures.runs clean);
 }
 
 pub returns-clause-counted : goal.returns-clause-counted
 returns-clause-counted g c clean fit =
-    updates_counted c.args.table c.update.result.now c.update.ensures (bound c.args.row.now) fit (state g.S.Store c.args.tx.now.conn.now) (state g.S.Store c.execute.new.self.conn.now) c.execute.result
+    updates_counted c.args.table c.requires c.update.result.now c.update.ensures (bound c.args.row.now) fit (state g.S.Store c.args.tx.now.conn.now) (state g.S.Store c.execute.new.self.conn.now) c.execute.result
     (λ idle. (c.execute.ensures.ended idle).0, c.execute.ensures.runs clean)

@@ -8,5 +8,5 @@ returns g c = record {
   same_reference = search rules;
   survives = search rules;
   kept = search rules;
-  made = λ clean. deletes_row c.args.table c.deletion.result.now c.deletion.ensures (bound c.args.key.now) _ _ c.execute.result (λ idle. (c.execute.ensures.ended idle).0, c.execute.ensures.runs clean);
+  made = λ clean. deletes_row c.args.table c.requires c.deletion.result.now c.deletion.ensures (bound c.args.key.now) _ _ c.execute.result (λ idle. (c.execute.ensures.ended idle).0, c.execute.ensures.runs clean);
 }

@@ -10,12 +10,12 @@ returns-clause-writes g c = record {
   same_reference = search rules;
   survives = search rules;
   kept = search rules;
-  made = λ clean fit. inserts_row c.args.table c.insertion.result.now c.insertion.ensures (bound c.args.row.now) fit _ _ c.execute.result (λ idle. (c.execute.ensures.ended idle).0, c.execute.ensures.runs clean);
+  made = λ clean fit. inserts_row c.args.table c.requires c.insertion.result.now c.insertion.ensures (bound c.args.row.now) fit _ _ c.execute.result (λ idle. (c.execute.ensures.ended idle).0, c.execute.ensures.runs clean);
 }
 
 pub returns-clause-free : goal.returns-clause-free
 returns-clause-free g c clean fit =
-    inserts_free c.args.table c.insertion.result.now c.insertion.ensures (bound c.args.row.now) fit (state g.S.Store c.args.tx.now.conn.now) (state g.S.Store c.execute.new.self.conn.now) c.execute.result
+    inserts_free c.args.table c.requires c.insertion.result.now c.insertion.ensures (bound c.args.row.now) fit (state g.S.Store c.args.tx.now.conn.now) (state g.S.Store c.execute.new.self.conn.now) c.execute.result
     (λ idle. (c.execute.ensures.ended idle).0, c.execute.ensures.runs clean)
 
 pub returns-clause-refused : goal.returns-clause-refused
