@@ -22,19 +22,7 @@ passes_at f (y ∷ xs) (suc at) x there all = passes_at f xs at x there (and_par
 
 name_at : (name : TableName) → slice_get desk_names (place_of name) ≡ Some (table_for name).name
 name_at the.Meta = refl
-name_at the.Node = refl
-name_at the.Edge = refl
-name_at the.Station = refl
-name_at the.Vehicle = refl
-name_at the.Trip = refl
-name_at the.Leg = refl
-name_at the.Load = refl
-name_at the.Job = refl
-name_at the.Hold = refl
-name_at the.Used = refl
-name_at the.Capacity = refl
-name_at the.Journey = refl
-name_at the.Act = refl
+name_at _ = refl
 
 pub told_allows : (s : Schema) → are_unreferred s.tables ≡ true → IsAscending (λ (t u : Table). t.tree ≢ u.tree) s.tables → AllowsDesk s
 told_allows s unreferred apart = record {

@@ -16,19 +16,7 @@ use Rattle.agv_creation.specs.StandingTables.{HasNoRules, HaveNoDefaults, IsPlai
 
 no_rules : (name : TableName) → HasNoRules (table_for name)
 no_rules the.Meta = record { checks = refl; references = refl; computed = refl; stamps = refl; uncounted = refl }
-no_rules the.Node = record { checks = refl; references = refl; computed = refl; stamps = refl; uncounted = refl }
-no_rules the.Edge = record { checks = refl; references = refl; computed = refl; stamps = refl; uncounted = refl }
-no_rules the.Station = record { checks = refl; references = refl; computed = refl; stamps = refl; uncounted = refl }
-no_rules the.Vehicle = record { checks = refl; references = refl; computed = refl; stamps = refl; uncounted = refl }
-no_rules the.Trip = record { checks = refl; references = refl; computed = refl; stamps = refl; uncounted = refl }
-no_rules the.Leg = record { checks = refl; references = refl; computed = refl; stamps = refl; uncounted = refl }
-no_rules the.Load = record { checks = refl; references = refl; computed = refl; stamps = refl; uncounted = refl }
-no_rules the.Job = record { checks = refl; references = refl; computed = refl; stamps = refl; uncounted = refl }
-no_rules the.Hold = record { checks = refl; references = refl; computed = refl; stamps = refl; uncounted = refl }
-no_rules the.Used = record { checks = refl; references = refl; computed = refl; stamps = refl; uncounted = refl }
-no_rules the.Capacity = record { checks = refl; references = refl; computed = refl; stamps = refl; uncounted = refl }
-no_rules the.Journey = record { checks = refl; references = refl; computed = refl; stamps = refl; uncounted = refl }
-no_rules the.Act = record { checks = refl; references = refl; computed = refl; stamps = refl; uncounted = refl }
+no_rules _ = record { checks = refl; references = refl; computed = refl; stamps = refl; uncounted = refl }
 
 no_defaults : (name : TableName) → HaveNoDefaults (table_for name).columns
 no_defaults the.Meta = (refl, (refl, tt))

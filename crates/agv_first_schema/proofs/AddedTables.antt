@@ -87,20 +87,10 @@ trees_with tree capacity journey act the.Act = act
 trees_with tree capacity journey act name = tree name
 
 tree_stays : (tree : TableName → ℕ) (capacity journey act : ℕ) (name : TableName) → is_first name ≡ true → trees_with tree capacity journey act name ≡ tree name
-tree_stays tree capacity journey act the.Meta is = refl
-tree_stays tree capacity journey act the.Node is = refl
-tree_stays tree capacity journey act the.Edge is = refl
-tree_stays tree capacity journey act the.Station is = refl
-tree_stays tree capacity journey act the.Vehicle is = refl
-tree_stays tree capacity journey act the.Trip is = refl
-tree_stays tree capacity journey act the.Leg is = refl
-tree_stays tree capacity journey act the.Load is = refl
-tree_stays tree capacity journey act the.Job is = refl
-tree_stays tree capacity journey act the.Hold is = refl
-tree_stays tree capacity journey act the.Used is = refl
-tree_stays tree capacity journey act the.Capacity is = absurd (cc)
-tree_stays tree capacity journey act the.Journey is = absurd (cc)
-tree_stays tree capacity journey act the.Act is = absurd (cc)
+tree_stays tree capacity journey act the.Capacity is = absurd (cc is)
+tree_stays tree capacity journey act the.Journey is = absurd (cc is)
+tree_stays tree capacity journey act the.Act is = absurd (cc is)
+tree_stays tree capacity journey act _ is = refl
 
 zipped_more : {A B : Type 0} (R : A → B → Type 0) (xs us : List A) (ys vs : List B) → AllZip R xs ys → AllZip R us vs → AllZip R (xs ++ us) (ys ++ vs)
 zipped_more R [] us [] vs p q = q

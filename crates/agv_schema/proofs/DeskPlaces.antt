@@ -71,19 +71,7 @@ own_keys name = record { primary = (table_for name).primary; all = (table_for na
 
 pub as_made : (name : TableName) (tree : ℕ) → record (table_for name) { tree = tree } ≡ with_keys (own_keys name) (record (table_for name) { tree = tree })
 as_made the.Meta tree = refl
-as_made the.Node tree = refl
-as_made the.Edge tree = refl
-as_made the.Station tree = refl
-as_made the.Vehicle tree = refl
-as_made the.Trip tree = refl
-as_made the.Leg tree = refl
-as_made the.Load tree = refl
-as_made the.Job tree = refl
-as_made the.Hold tree = refl
-as_made the.Used tree = refl
-as_made the.Capacity tree = refl
-as_made the.Journey tree = refl
-as_made the.Act tree = refl
+as_made _ tree = refl
 
 -- ---- the desk's tables
 
@@ -133,35 +121,11 @@ once_at name (suc at) (n ∷ names) = not (is_same n name) && once_at name at na
 
 once : (name : TableName) → once_at name (place_of name) table_names ≡ true
 once the.Meta = refl
-once the.Node = refl
-once the.Edge = refl
-once the.Station = refl
-once the.Vehicle = refl
-once the.Trip = refl
-once the.Leg = refl
-once the.Load = refl
-once the.Job = refl
-once the.Hold = refl
-once the.Used = refl
-once the.Capacity = refl
-once the.Journey = refl
-once the.Act = refl
+once _ = refl
 
 in_place : (name : TableName) → slice_get table_names (place_of name) ≡ Some name
 in_place the.Meta = refl
-in_place the.Node = refl
-in_place the.Edge = refl
-in_place the.Station = refl
-in_place the.Vehicle = refl
-in_place the.Trip = refl
-in_place the.Leg = refl
-in_place the.Load = refl
-in_place the.Job = refl
-in_place the.Hold = refl
-in_place the.Used = refl
-in_place the.Capacity = refl
-in_place the.Journey = refl
-in_place the.Act = refl
+in_place _ = refl
 
 abbrev AreRows : (TableName → ℕ) → Trees → List TableName → List (List Row) → Type 0
 AreRows tree db = AllZip (λ name rows. HaveRows (width_of name) (db (tree name)) rows)

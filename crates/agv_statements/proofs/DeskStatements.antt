@@ -28,35 +28,11 @@ use Rattle.agv_statements.proofs.RowMeanings.{key_terms, deleted_terms, column_n
 
 pub key_passes : (name : TableName) (key : Row) → passes (key_terms name) key ≡ has_key name key
 key_passes the.Meta key = refl
-key_passes the.Node key = refl
-key_passes the.Edge key = refl
-key_passes the.Station key = refl
-key_passes the.Vehicle key = refl
-key_passes the.Trip key = refl
-key_passes the.Leg key = refl
-key_passes the.Load key = refl
-key_passes the.Job key = refl
-key_passes the.Hold key = refl
-key_passes the.Used key = refl
-key_passes the.Capacity key = refl
-key_passes the.Journey key = refl
-key_passes the.Act key = refl
+key_passes _ key = refl
 
 pub within : (name : TableName) → list_all (reads_within (width_of name)) (key_terms name) ≡ true
 within the.Meta = refl
-within the.Node = refl
-within the.Edge = refl
-within the.Station = refl
-within the.Vehicle = refl
-within the.Trip = refl
-within the.Leg = refl
-within the.Load = refl
-within the.Job = refl
-within the.Hold = refl
-within the.Used = refl
-within the.Capacity = refl
-within the.Journey = refl
-within the.Act = refl
+within _ = refl
 
 -- ---- columns by which rows are taken out
 

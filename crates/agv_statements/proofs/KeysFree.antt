@@ -71,19 +71,7 @@ none_left p (x ∷ xs) none = rw (none x (inl refl), none_left p xs (λ y there.
 -- the primary key is one of the keys
 primary_is_key : (name : TableName) → Has (table_for name).uniques (table_for name).primary
 primary_is_key the.Meta = inl refl
-primary_is_key the.Node = inl refl
-primary_is_key the.Edge = inl refl
-primary_is_key the.Station = inl refl
-primary_is_key the.Vehicle = inl refl
-primary_is_key the.Trip = inl refl
-primary_is_key the.Leg = inl refl
-primary_is_key the.Load = inl refl
-primary_is_key the.Job = inl refl
-primary_is_key the.Hold = inl refl
-primary_is_key the.Used = inl refl
-primary_is_key the.Capacity = inl refl
-primary_is_key the.Journey = inl refl
-primary_is_key the.Act = inl refl
+primary_is_key _ = inl refl
 
 -- a key with its columns stands somewhere among those that are written
 pub record IsPlaced (keys : List (List ℕ)) (key : List ℕ) : Type 0 where
@@ -141,19 +129,7 @@ agree_alike one other a b same =
 agrees : (name : TableName) (row e : Row) (id : ℤ) → agree plain (table_for name).primary e (table_for name).primary (Int id ∷ row) ≡ entry_passes (key_terms name) row e
 unfolding first_key
 agrees the.Meta row e id = refl
-agrees the.Node row e id = refl
-agrees the.Edge row e id = refl
-agrees the.Station row e id = refl
-agrees the.Vehicle row e id = refl
-agrees the.Trip row e id = refl
-agrees the.Leg row e id = refl
-agrees the.Load row e id = refl
-agrees the.Job row e id = refl
-agrees the.Hold row e id = refl
-agrees the.Used row e id = refl
-agrees the.Capacity row e id = refl
-agrees the.Journey row e id = refl
-agrees the.Act row e id = refl
+agrees _ row e id = refl
 
 module _ (desk : Placing) (is : IsDesk desk) (name : TableName) (old new : State) (has : old.now.schema ≡ desk.schema) (row : Row) (it : Inserted desk is name old new has row) where
   abbrev table : Table

@@ -42,17 +42,11 @@ query_terms by.LoadJobs = is_param 2 0 ∷ is_param 5 1 ∷ []
 
 pub query_passes : (query : RowsBy) (values : Row) → passes (query_terms query) values ≡ equal_from 0 (columns_asked query) values
 query_passes by.VehicleJourney values = refl
-query_passes by.OrderActs values = refl
-query_passes by.OrderLegs values = refl
-query_passes by.StationLoads values = refl
-query_passes by.LoadJobs values = refl
+query_passes _ values = refl
 
 pub query_within : (query : RowsBy) → list_all (reads_within (width_of (table_asked query))) (query_terms query) ≡ true
 query_within by.VehicleJourney = refl
-query_within by.OrderActs = refl
-query_within by.OrderLegs = refl
-query_within by.StationLoads = refl
-query_within by.LoadJobs = refl
+query_within _ = refl
 
 pub query_asks : (query : RowsBy) → Asks (table_asked query) (query_text query) (query_terms query)
 unfolding everything
@@ -63,34 +57,13 @@ query_asks by.VehicleJourney s at tree keys stands =
     (record { with = refl; others = refl; order = refl; limit = refl; offset = refl })
     (record { source = head_of (out-Core (out-Select sel).first).from tt; from = refl; origin = refl; alias = refl; on = refl; using = refl; inner = refl; group = refl; having = refl; repeats = refl })
     (query_terms by.VehicleJourney) (column_terms the.Journey) (column_names the.Journey) (collations the.Journey) refl refl refl refl refl
-query_asks by.OrderActs s at tree keys stands =
-    let p = parsed (query_text by.OrderActs) in
+query_asks query s at tree keys stands =
+    let p = parsed (query_text query) in
     let sel = selection p.statement tt in
-    select_means s (codes "act") (with_tree the.Act tree keys) at stands (query_text by.OrderActs) p refl refl sel refl
+    select_means s (table_for (table_asked query)).name (with_tree (table_asked query) tree keys) at stands (query_text query) p refl refl sel refl
     (record { with = refl; others = refl; order = refl; limit = refl; offset = refl })
     (record { source = head_of (out-Core (out-Select sel).first).from tt; from = refl; origin = refl; alias = refl; on = refl; using = refl; inner = refl; group = refl; having = refl; repeats = refl })
-    (query_terms by.OrderActs) (column_terms the.Act) (column_names the.Act) (collations the.Act) refl refl refl refl refl
-query_asks by.OrderLegs s at tree keys stands =
-    let p = parsed (query_text by.OrderLegs) in
-    let sel = selection p.statement tt in
-    select_means s (codes "leg") (with_tree the.Leg tree keys) at stands (query_text by.OrderLegs) p refl refl sel refl
-    (record { with = refl; others = refl; order = refl; limit = refl; offset = refl })
-    (record { source = head_of (out-Core (out-Select sel).first).from tt; from = refl; origin = refl; alias = refl; on = refl; using = refl; inner = refl; group = refl; having = refl; repeats = refl })
-    (query_terms by.OrderLegs) (column_terms the.Leg) (column_names the.Leg) (collations the.Leg) refl refl refl refl refl
-query_asks by.StationLoads s at tree keys stands =
-    let p = parsed (query_text by.StationLoads) in
-    let sel = selection p.statement tt in
-    select_means s (codes "load") (with_tree the.Load tree keys) at stands (query_text by.StationLoads) p refl refl sel refl
-    (record { with = refl; others = refl; order = refl; limit = refl; offset = refl })
-    (record { source = head_of (out-Core (out-Select sel).first).from tt; from = refl; origin = refl; alias = refl; on = refl; using = refl; inner = refl; group = refl; having = refl; repeats = refl })
-    (query_terms by.StationLoads) (column_terms the.Load) (column_names the.Load) (collations the.Load) refl refl refl refl refl
-query_asks by.LoadJobs s at tree keys stands =
-    let p = parsed (query_text by.LoadJobs) in
-    let sel = selection p.statement tt in
-    select_means s (codes "job") (with_tree the.Job tree keys) at stands (query_text by.LoadJobs) p refl refl sel refl
-    (record { with = refl; others = refl; order = refl; limit = refl; offset = refl })
-    (record { source = head_of (out-Core (out-Select sel).first).from tt; from = refl; origin = refl; alias = refl; on = refl; using = refl; inner = refl; group = refl; having = refl; repeats = refl })
-    (query_terms by.LoadJobs) (column_terms the.Job) (column_names the.Job) (collations the.Job) refl refl refl refl refl
+    (query_terms query) (column_terms (table_asked query)) (column_names (table_asked query)) (collations (table_asked query)) refl refl refl refl refl
 
 pub all_rows_asked : (name : TableName) → Asks name (all_rows_text name) []
 unfolding everything
@@ -101,94 +74,10 @@ all_rows_asked the.Meta s at tree keys stands =
     (record { with = refl; others = refl; order = refl; limit = refl; offset = refl })
     (record { source = head_of (out-Core (out-Select sel).first).from tt; from = refl; origin = refl; alias = refl; on = refl; using = refl; inner = refl; group = refl; having = refl; repeats = refl })
     ([]) (column_terms the.Meta) (column_names the.Meta) (collations the.Meta) refl refl refl refl refl
-all_rows_asked the.Node s at tree keys stands =
-    let p = parsed (all_rows_text the.Node) in
+all_rows_asked name s at tree keys stands =
+    let p = parsed (all_rows_text name) in
     let sel = selection p.statement tt in
-    select_means s (codes "node") (with_tree the.Node tree keys) at stands (all_rows_text the.Node) p refl refl sel refl
+    select_means s (table_for name).name (with_tree name tree keys) at stands (all_rows_text name) p refl refl sel refl
     (record { with = refl; others = refl; order = refl; limit = refl; offset = refl })
     (record { source = head_of (out-Core (out-Select sel).first).from tt; from = refl; origin = refl; alias = refl; on = refl; using = refl; inner = refl; group = refl; having = refl; repeats = refl })
-    ([]) (column_terms the.Node) (column_names the.Node) (collations the.Node) refl refl refl refl refl
-all_rows_asked the.Edge s at tree keys stands =
-    let p = parsed (all_rows_text the.Edge) in
-    let sel = selection p.statement tt in
-    select_means s (codes "edge") (with_tree the.Edge tree keys) at stands (all_rows_text the.Edge) p refl refl sel refl
-    (record { with = refl; others = refl; order = refl; limit = refl; offset = refl })
-    (record { source = head_of (out-Core (out-Select sel).first).from tt; from = refl; origin = refl; alias = refl; on = refl; using = refl; inner = refl; group = refl; having = refl; repeats = refl })
-    ([]) (column_terms the.Edge) (column_names the.Edge) (collations the.Edge) refl refl refl refl refl
-all_rows_asked the.Station s at tree keys stands =
-    let p = parsed (all_rows_text the.Station) in
-    let sel = selection p.statement tt in
-    select_means s (codes "station") (with_tree the.Station tree keys) at stands (all_rows_text the.Station) p refl refl sel refl
-    (record { with = refl; others = refl; order = refl; limit = refl; offset = refl })
-    (record { source = head_of (out-Core (out-Select sel).first).from tt; from = refl; origin = refl; alias = refl; on = refl; using = refl; inner = refl; group = refl; having = refl; repeats = refl })
-    ([]) (column_terms the.Station) (column_names the.Station) (collations the.Station) refl refl refl refl refl
-all_rows_asked the.Vehicle s at tree keys stands =
-    let p = parsed (all_rows_text the.Vehicle) in
-    let sel = selection p.statement tt in
-    select_means s (codes "vehicle") (with_tree the.Vehicle tree keys) at stands (all_rows_text the.Vehicle) p refl refl sel refl
-    (record { with = refl; others = refl; order = refl; limit = refl; offset = refl })
-    (record { source = head_of (out-Core (out-Select sel).first).from tt; from = refl; origin = refl; alias = refl; on = refl; using = refl; inner = refl; group = refl; having = refl; repeats = refl })
-    ([]) (column_terms the.Vehicle) (column_names the.Vehicle) (collations the.Vehicle) refl refl refl refl refl
-all_rows_asked the.Trip s at tree keys stands =
-    let p = parsed (all_rows_text the.Trip) in
-    let sel = selection p.statement tt in
-    select_means s (codes "trip") (with_tree the.Trip tree keys) at stands (all_rows_text the.Trip) p refl refl sel refl
-    (record { with = refl; others = refl; order = refl; limit = refl; offset = refl })
-    (record { source = head_of (out-Core (out-Select sel).first).from tt; from = refl; origin = refl; alias = refl; on = refl; using = refl; inner = refl; group = refl; having = refl; repeats = refl })
-    ([]) (column_terms the.Trip) (column_names the.Trip) (collations the.Trip) refl refl refl refl refl
-all_rows_asked the.Leg s at tree keys stands =
-    let p = parsed (all_rows_text the.Leg) in
-    let sel = selection p.statement tt in
-    select_means s (codes "leg") (with_tree the.Leg tree keys) at stands (all_rows_text the.Leg) p refl refl sel refl
-    (record { with = refl; others = refl; order = refl; limit = refl; offset = refl })
-    (record { source = head_of (out-Core (out-Select sel).first).from tt; from = refl; origin = refl; alias = refl; on = refl; using = refl; inner = refl; group = refl; having = refl; repeats = refl })
-    ([]) (column_terms the.Leg) (column_names the.Leg) (collations the.Leg) refl refl refl refl refl
-all_rows_asked the.Load s at tree keys stands =
-    let p = parsed (all_rows_text the.Load) in
-    let sel = selection p.statement tt in
-    select_means s (codes "load") (with_tree the.Load tree keys) at stands (all_rows_text the.Load) p refl refl sel refl
-    (record { with = refl; others = refl; order = refl; limit = refl; offset = refl })
-    (record { source = head_of (out-Core (out-Select sel).first).from tt; from = refl; origin = refl; alias = refl; on = refl; using = refl; inner = refl; group = refl; having = refl; repeats = refl })
-    ([]) (column_terms the.Load) (column_names the.Load) (collations the.Load) refl refl refl refl refl
-all_rows_asked the.Job s at tree keys stands =
-    let p = parsed (all_rows_text the.Job) in
-    let sel = selection p.statement tt in
-    select_means s (codes "job") (with_tree the.Job tree keys) at stands (all_rows_text the.Job) p refl refl sel refl
-    (record { with = refl; others = refl; order = refl; limit = refl; offset = refl })
-    (record { source = head_of (out-Core (out-Select sel).first).from tt; from = refl; origin = refl; alias = refl; on = refl; using = refl; inner = refl; group = refl; having = refl; repeats = refl })
-    ([]) (column_terms the.Job) (column_names the.Job) (collations the.Job) refl refl refl refl refl
-all_rows_asked the.Hold s at tree keys stands =
-    let p = parsed (all_rows_text the.Hold) in
-    let sel = selection p.statement tt in
-    select_means s (codes "hold") (with_tree the.Hold tree keys) at stands (all_rows_text the.Hold) p refl refl sel refl
-    (record { with = refl; others = refl; order = refl; limit = refl; offset = refl })
-    (record { source = head_of (out-Core (out-Select sel).first).from tt; from = refl; origin = refl; alias = refl; on = refl; using = refl; inner = refl; group = refl; having = refl; repeats = refl })
-    ([]) (column_terms the.Hold) (column_names the.Hold) (collations the.Hold) refl refl refl refl refl
-all_rows_asked the.Used s at tree keys stands =
-    let p = parsed (all_rows_text the.Used) in
-    let sel = selection p.statement tt in
-    select_means s (codes "used") (with_tree the.Used tree keys) at stands (all_rows_text the.Used) p refl refl sel refl
-    (record { with = refl; others = refl; order = refl; limit = refl; offset = refl })
-    (record { source = head_of (out-Core (out-Select sel).first).from tt; from = refl; origin = refl; alias = refl; on = refl; using = refl; inner = refl; group = refl; having = refl; repeats = refl })
-    ([]) (column_terms the.Used) (column_names the.Used) (collations the.Used) refl refl refl refl refl
-all_rows_asked the.Capacity s at tree keys stands =
-    let p = parsed (all_rows_text the.Capacity) in
-    let sel = selection p.statement tt in
-    select_means s (codes "capacity") (with_tree the.Capacity tree keys) at stands (all_rows_text the.Capacity) p refl refl sel refl
-    (record { with = refl; others = refl; order = refl; limit = refl; offset = refl })
-    (record { source = head_of (out-Core (out-Select sel).first).from tt; from = refl; origin = refl; alias = refl; on = refl; using = refl; inner = refl; group = refl; having = refl; repeats = refl })
-    ([]) (column_terms the.Capacity) (column_names the.Capacity) (collations the.Capacity) refl refl refl refl refl
-all_rows_asked the.Journey s at tree keys stands =
-    let p = parsed (all_rows_text the.Journey) in
-    let sel = selection p.statement tt in
-    select_means s (codes "journey") (with_tree the.Journey tree keys) at stands (all_rows_text the.Journey) p refl refl sel refl
-    (record { with = refl; others = refl; order = refl; limit = refl; offset = refl })
-    (record { source = head_of (out-Core (out-Select sel).first).from tt; from = refl; origin = refl; alias = refl; on = refl; using = refl; inner = refl; group = refl; having = refl; repeats = refl })
-    ([]) (column_terms the.Journey) (column_names the.Journey) (collations the.Journey) refl refl refl refl refl
-all_rows_asked the.Act s at tree keys stands =
-    let p = parsed (all_rows_text the.Act) in
-    let sel = selection p.statement tt in
-    select_means s (codes "act") (with_tree the.Act tree keys) at stands (all_rows_text the.Act) p refl refl sel refl
-    (record { with = refl; others = refl; order = refl; limit = refl; offset = refl })
-    (record { source = head_of (out-Core (out-Select sel).first).from tt; from = refl; origin = refl; alias = refl; on = refl; using = refl; inner = refl; group = refl; having = refl; repeats = refl })
-    ([]) (column_terms the.Act) (column_names the.Act) (collations the.Act) refl refl refl refl refl
+    ([]) (column_terms name) (column_names name) (collations name) refl refl refl refl refl

@@ -35,48 +35,12 @@ columns_in_turn k (suc n) params entry = ap₂ ◌∷◌ (column_past k entry) (
 -- the row of an INSERT is the parameters
 pub one_row : (name : TableName) (params : Row) → value_rows params (suc (width_of name)) (length (row_terms name) / suc (width_of name)) (row_terms name) ≡ (Null ∷ eval_all (from_slot 0 0 (width_of name)) (params ∷ [])) ∷ []
 one_row the.Meta params = refl
-one_row the.Node params = refl
-one_row the.Edge params = refl
-one_row the.Station params = refl
-one_row the.Vehicle params = refl
-one_row the.Trip params = refl
-one_row the.Leg params = refl
-one_row the.Load params = refl
-one_row the.Job params = refl
-one_row the.Hold params = refl
-one_row the.Used params = refl
-one_row the.Capacity params = refl
-one_row the.Journey params = refl
-one_row the.Act params = refl
+one_row _ params = refl
 
 pub unstamped : (name : TableName) (tree : ℕ) (params : Row) → stamped (record (table_for name) { tree = tree }) params ≡ params
 unstamped the.Meta tree params = append-nil params
-unstamped the.Node tree params = append-nil params
-unstamped the.Edge tree params = append-nil params
-unstamped the.Station tree params = append-nil params
-unstamped the.Vehicle tree params = append-nil params
-unstamped the.Trip tree params = append-nil params
-unstamped the.Leg tree params = append-nil params
-unstamped the.Load tree params = append-nil params
-unstamped the.Job tree params = append-nil params
-unstamped the.Hold tree params = append-nil params
-unstamped the.Used tree params = append-nil params
-unstamped the.Capacity tree params = append-nil params
-unstamped the.Journey tree params = append-nil params
-unstamped the.Act tree params = append-nil params
+unstamped _ tree params = append-nil params
 
 pub uncounted : (name : TableName) → (table_for name).is_counted ≡ false
 uncounted the.Meta = refl
-uncounted the.Node = refl
-uncounted the.Edge = refl
-uncounted the.Station = refl
-uncounted the.Vehicle = refl
-uncounted the.Trip = refl
-uncounted the.Leg = refl
-uncounted the.Load = refl
-uncounted the.Job = refl
-uncounted the.Hold = refl
-uncounted the.Used = refl
-uncounted the.Capacity = refl
-uncounted the.Journey = refl
-uncounted the.Act = refl
+uncounted _ = refl

@@ -146,19 +146,7 @@ query_typed by.LoadJobs params h =
 
 all_typed : (name : TableName) → IsTypedFor name [] []
 all_typed the.Meta = refl
-all_typed the.Node = refl
-all_typed the.Edge = refl
-all_typed the.Station = refl
-all_typed the.Vehicle = refl
-all_typed the.Trip = refl
-all_typed the.Leg = refl
-all_typed the.Load = refl
-all_typed the.Job = refl
-all_typed the.Hold = refl
-all_typed the.Used = refl
-all_typed the.Capacity = refl
-all_typed the.Journey = refl
-all_typed the.Act = refl
+all_typed _ = refl
 
 -- ---- why it fails
 
@@ -219,27 +207,12 @@ key_whole _ is = (lit≤ tt, refl)
 query_whole : (query : RowsBy) → IsWholeText (query_text query) (length (columns_at (table_asked query) (columns_asked query)))
 unfolding everything
 query_whole by.VehicleJourney = (lit≤ tt, refl)
-query_whole by.OrderActs = (lit≤ tt, refl)
-query_whole by.OrderLegs = (lit≤ tt, refl)
-query_whole by.StationLoads = (lit≤ tt, refl)
-query_whole by.LoadJobs = (lit≤ tt, refl)
+query_whole _ = (lit≤ tt, refl)
 
 all_whole : (name : TableName) → IsWholeText (all_rows_text name) 0
 unfolding everything
 all_whole the.Meta = (lit≤ tt, refl)
-all_whole the.Node = (lit≤ tt, refl)
-all_whole the.Edge = (lit≤ tt, refl)
-all_whole the.Station = (lit≤ tt, refl)
-all_whole the.Vehicle = (lit≤ tt, refl)
-all_whole the.Trip = (lit≤ tt, refl)
-all_whole the.Leg = (lit≤ tt, refl)
-all_whole the.Load = (lit≤ tt, refl)
-all_whole the.Job = (lit≤ tt, refl)
-all_whole the.Hold = (lit≤ tt, refl)
-all_whole the.Used = (lit≤ tt, refl)
-all_whole the.Capacity = (lit≤ tt, refl)
-all_whole the.Journey = (lit≤ tt, refl)
-all_whole the.Act = (lit≤ tt, refl)
+all_whole _ = (lit≤ tt, refl)
 
 -- ---- the look-ups
 

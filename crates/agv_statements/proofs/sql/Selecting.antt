@@ -116,27 +116,12 @@ look_ups _ is = tt
 queries : (query : RowsBy) → IsSelectText (query_text query)
 unfolding everything
 queries by.VehicleJourney = tt
-queries by.OrderActs = tt
-queries by.OrderLegs = tt
-queries by.StationLoads = tt
-queries by.LoadJobs = tt
+queries _ = tt
 
 whole_tables : (name : TableName) → IsSelectText (all_rows_text name)
 unfolding everything
 whole_tables the.Meta = tt
-whole_tables the.Node = tt
-whole_tables the.Edge = tt
-whole_tables the.Station = tt
-whole_tables the.Vehicle = tt
-whole_tables the.Trip = tt
-whole_tables the.Leg = tt
-whole_tables the.Load = tt
-whole_tables the.Job = tt
-whole_tables the.Hold = tt
-whole_tables the.Used = tt
-whole_tables the.Capacity = tt
-whole_tables the.Journey = tt
-whole_tables the.Act = tt
+whole_tables _ = tt
 
 pub look_up_selects : (name : TableName) → is_looked_up name ≡ true → (sql : List ℕ) → sql ≡ look_up_text name → IsSelectText sql
 look_up_selects name looked_up sql text = subst IsSelectText (sym text) (look_ups name looked_up)
