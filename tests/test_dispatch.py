@@ -1,14 +1,16 @@
 """The dispatcher: what it gives and releases, over a stand-in of a desk and over the built program, and its words."""
 import os
+import signal
 import subprocess
 import sys
 import tempfile
 import unittest
+from unittest import mock
 
-from programs import PATIENCE, TOOLS, ran
+from programs import PATIENCE, TOOLS, module, ran, within
 from test_program import Serving, over_sockets
 
-from nulvrader.client import Desk
+from nulvrader.client import Answer, Desk, Refused
 from nulvrader.dispatch.dispatcher import Dispatcher, Settings
 from nulvrader.dispatch.snapshot import take
 from nulvrader.dispatch.traffic import Judge, Still, Traffic
@@ -236,7 +238,57 @@ class OverTheProgram(unittest.TestCase):
         self.told(ONE, 'b', 4, 'f')
         self.turn()
         self.told(ONE, 'bb', 6, 'fx')
-        self.assertRegex(self.turn()[0], r'has ended at bb; J1 is stopped: its load L1 is now at vehicle KIT/0001$')
+        self.assertRegex(self.turn()[0], r'has ended at bb; J1 is stopped, since its drop failed: its load L1 is now at vehicle KIT/0001$')
+
+    def test_a_failed_pick_is_told(self):
+        self.turn()
+        self.desk.add_job('J1', 'L1', 'B')
+        self.turn()
+        self.told(ONE, 'b', 4, 'x')
+        self.turn()
+        self.told(ONE, 'bb', 6, 'xx')
+        self.assertRegex(self.turn()[0], r'has ended at bb; J1 is stopped, since its pick failed: its load L1 is now at station A$')
+
+    def test_a_vehicle_that_is_placed(self):
+        self.turn()
+        self.desk.add_job('J1', 'L1', 'B')
+        self.turn()
+        self.told(ONE, 'a', 2, 'f')
+        self.turn()
+        self.desk.place(ONE, 'R1', 'a')
+        line = r'has ended at a; J1 is stopped, since the vehicle was placed: its load L1 is now at vehicle KIT/0001$'
+        self.assertRegex(self.turn()[0], line)
+
+    def test_a_load_that_is_carried_on(self):
+        """An order takes L1 to D and L2 to B on the way. L2 is carried on from B before the order ends: its job is done, if the dispatcher
+        has seen the load at B; else that is not known."""
+        for case, (first, second) in enumerate((('J1', 'J2'), ('J3', 'J4'))):
+            with self.subTest(case):
+                self.told(ONE, 'ab', mode='MANUAL')
+                self.told(TWO, 'cb', mode='MANUAL')
+                self.turn()
+                self.desk.add_job(first, 'L1', 'D')
+                self.turn()
+                self.desk.add_job(second, 'L2', 'B')
+                self.turn()
+                self.dispatcher.chooser.detour = 4
+                self.told(ONE, 'ab')
+                self.assertRegex(self.turn()[0], 'takes %s .*, %s .*, 7 edges' % (first, second))
+                self.told(ONE, 'b', 4, 'ff')
+                self.turn()
+                self.told(ONE, 'bb', 6, 'fff')
+                if case == 0:
+                    self.turn()
+                self.desk.correct_load('L2', 'R%d' % case, 'C')
+                self.turn()
+                self.told(ONE, 'c', 10, 'fff')
+                self.turn()
+                self.told(ONE, 'db', 14, 'ffff')
+                end = '' if case == 0 else '; J4 is done or stopped: its load L2 is now at station C'
+                self.assertRegex(self.turn()[0], r'^KIT/0001: order \S+ has ended at db%s$' % end)
+                self.desk.place(ONE, 'P%d' % case, 'ab')
+                self.desk.correct_load('L1', 'Q%d' % case, 'A')
+                self.desk.correct_load('L2', 'S%d' % case, 'A')
 
     def test_a_cancel_by_a_person(self):
         self.turn()
@@ -247,7 +299,7 @@ class OverTheProgram(unittest.TestCase):
         self.assertIn('KIT/0001: its order is being cancelled', self.turn())
         self.told(ONE, 'ab', 0, 'x', instant=[name])
         lines = self.turn()
-        self.assertRegex(lines[0], r'^KIT/0001: order \S+ has ended at ab; J1 is stopped: its load L1 is now at station A$')
+        self.assertRegex(lines[0], r'^KIT/0001: order \S+ has ended at ab; J1 is stopped, since its order was cancelled: its load L1 is now at station A$')
         self.assertEqual(lines[1:], ['KIT/0001: left its order on the way; look where it stands, and place it'])
         self.desk.add_job('J2', 'L3', 'B')
         self.assertEqual(self.turn(), [])  # KIT/0002 would have to pass the node that KIT/0001 holds
@@ -267,6 +319,85 @@ class OverTheProgram(unittest.TestCase):
         self.told(ONE, 'a', 2, 'f')
         self.assertEqual(self.turn(), ['KIT/0001: goes on'])
         self.assertEqual(self.held(ONE), ['a', 'b', 'bb'])
+
+    def test_no_vehicle_is_free(self):
+        """It is said once that jobs wait, and of each vehicle without an order why it gets none; again where that changes, and after a
+        restart."""
+        self.turn()
+        for key, node in ((ONE, 'ab'), (TWO, 'cb')):
+            self.told(key, node, mode='MANUAL')
+        self.desk.add_job('J1', 'L1', 'B')
+        self.assertEqual(self.turn(), [])
+        self.assertEqual(self.turn(20), ['1 job waits, no vehicle is free: KIT/0001 is not ready; KIT/0002 is not ready'])
+        self.assertEqual([line for _ in range(60) for line in self.turn(60)], [])
+        self.desk.add_job('J3', 'L3', 'D')
+        self.assertEqual(self.turn() + self.turn(60), [])
+        self.told(TWO, 'cb')
+        self.assertRegex(self.turn()[0], '^KIT/0002: takes J3')
+        self.told(TWO, 'd', 4, 'f')
+        self.assertEqual(self.turn() + self.turn(20), ['1 job waits, no vehicle is free: KIT/0001 is not ready'])
+        self.told(TWO, 'db', 6, 'fx')
+        self.assertRegex(self.turn()[0], 'J3 is stopped')
+        line = '1 job waits, no vehicle is free: KIT/0001 is not ready; KIT/0002 carries L3 in no job'
+        self.assertEqual(self.turn(20), [line])
+        self.begin()
+        self.assertEqual([self.turn(), self.turn(20)], [[], [line]])
+        self.desk.stop_job('J1')
+        self.turn()
+        self.desk.add_job('J2', 'L2', 'B')
+        self.told(TWO, 'db')
+        self.assertEqual([self.turn(), self.turn(20)], [[], [line]])
+
+    def test_a_refusal_is_told_once(self):
+        refused = Refused('Spent', 44, 409, {}, 'It is spent', 'Nothing helps.')
+        self.turn()
+        self.told(TWO, 'cb', mode='MANUAL')
+        self.desk.add_job('J1', 'L1', 'B')
+        with mock.patch.object(self.dispatcher.desk, 'start_order', side_effect=refused):
+            self.assertEqual(self.turn(), ['KIT/0001: no order for J1: It is spent'])
+            line = '1 job waits, no vehicle is free: KIT/0001 was refused its order; KIT/0002 is not ready'
+            self.assertEqual(self.turn() + self.turn(20), [line])
+        self.turn()
+        self.told(ONE, 'a', 2, 'f')
+        with mock.patch.object(self.dispatcher.desk, 'advance', side_effect=refused):
+            self.assertRegex(self.turn()[0], r'^KIT/0001: 1 edges of \S+ are refused: It is spent$')
+            self.assertEqual(self.turn(), [])
+        self.assertEqual(self.turn(), [])
+        self.assertEqual(self.held(ONE), ['a', 'b', 'bb'])
+
+    def test_a_fault_of_the_desk(self):
+        """A request is answered 503, whichever it is: the turn ends there, and another one begins. A turn has the two reports, two
+        vehicles, a load while the job is not known, and the order."""
+        real, left = self.dispatcher.desk.ask, 0
+
+        def ask(*words):
+            nonlocal left
+            left -= 1
+            return real(*words) if left else Answer(503, b'{"name":"Storage","refusal":91}')
+
+        self.desk.add_job('J1', 'L1', 'B')
+        answered = []
+        with mock.patch.object(self.dispatcher.desk, 'ask', ask):
+            for left in range(1, 8):
+                self.now += 1
+                answered.append(self.dispatcher.turn())
+        self.assertEqual(answered, [False] * 6 + [True])
+        self.assertRegex(self.lines[0], '^the desk does not answer: .*store')
+        self.assertRegex(self.lines[1], '^KIT/0001: takes J1')
+        self.assertEqual(self.lines[2:], ['the desk answers again'])
+
+    def test_notes_that_are_not_written(self):
+        """It is said once, and the dispatcher goes on."""
+        folder = os.path.join(self.folder.name, 'later')
+        notes = os.path.join(folder, 'notes')
+        self.dispatcher = Dispatcher(self.desk, read_layout(LAYOUT), notes=notes, say=self.lines.append, clock=lambda: self.now)
+        self.assertRegex(self.turn()[0], '^the notes are not written: .*No such file or directory')
+        self.desk.add_job('J1', 'L1', 'B')
+        lines = self.turn()
+        self.assertRegex(lines[0], '^KIT/0001: takes J1')
+        os.mkdir(folder)
+        self.assertEqual(lines[1:] + self.turn(), ['the notes are written again'])
+        self.assertEqual(read_notes(notes), Notes())
 
     def test_a_desk_that_is_away(self):
         self.turn()
@@ -294,6 +425,36 @@ class OverTheProgram(unittest.TestCase):
         self.assertRegex(lines[0], r'^\d\d:\d\d:\d\d gives orders at ')
         self.assertRegex(lines[1], r'^\d\d:\d\d:\d\d KIT/0001: takes J1 \(L1 from A to B\)')
         self.assertIsNotNone(self.desk.vehicle(ONE).order)
+
+    def test_the_program_and_faults(self):
+        """Faults of the desk and of the notes, at its start and later, do not end the program."""
+        layout = os.path.join(self.folder.name, 'layout.csv')
+        with open(layout, 'wb') as file:
+            file.write(LAYOUT)
+        program, real, asked, slept = module('dispatch'), Desk.ask, [], []
+
+        def ask(*words):
+            asked.append(words)
+            return Answer(503, b'{"name":"Memory","refusal":90}') if len(asked) in (1, 3, 6) else real(*words)
+
+        def sleep(_):
+            slept.append(0)
+            if len(slept) == 5:
+                raise KeyboardInterrupt
+
+        self.desk.add_job('J1', 'L1', 'B')
+        handler = signal.getsignal(signal.SIGTERM)
+        self.addCleanup(signal.signal, signal.SIGTERM, handler)
+        words = ['--desk', self.address, '--layout', layout, '--notes', os.path.join(self.folder.name, 'no', 'notes')]
+        with mock.patch.object(Desk, 'ask', ask), mock.patch.object(program.time, 'sleep', sleep):
+            status, out, said = within(program, *words)
+        self.assertEqual((status, said), (0, ''))
+        found = [line.partition(' ')[2] for line in out.splitlines()]
+        for line, wanted in zip(found, (
+                'waits for the desk: ', 'gives orders at ', 'the desk does not answer: ', 'KIT/0001: takes J1 ', 'the notes are not written: ',
+                'the desk answers again')):
+            self.assertTrue(line.startswith(wanted), out)
+        self.assertEqual(len(found), 6, out)
 
     def test_another_layout(self):
         layout = os.path.join(self.folder.name, 'layout.csv')

@@ -45,6 +45,10 @@ class Refused(Exception):
         number = ' (%d)' % self.number if self.number else ''
         return '%s%s: %s. %s' % (self.name, number, self, self.advice)
 
+    def is_fault(self) -> bool:
+        """Whether it is a fault of the machine, so that the same request may be answered later."""
+        return self.status >= 500
+
 
 def told(fault: Exception) -> str:
     """What a person is told of a refusal or of another fault."""

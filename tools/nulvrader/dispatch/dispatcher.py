@@ -4,21 +4,27 @@ It keeps nothing that the desk does not know. What it remembers from turn to tur
 heard, is for its lines and for the turn in which vehicles are served; after a start it begins anew."""
 from __future__ import annotations
 
+import re
 import time
 from collections.abc import Callable, Mapping, Sequence
-from dataclasses import dataclass, replace
+from dataclasses import dataclass
 
 from ..client import Desk, NoAnswer, Refused
 from ..layouts import Layout
 from ..names import natural, new_reference
+from ..reports import BadReport
 from .choose import Chooser, Proposal
 from .jobs import JobBook, Waiting
+from .lines import Lines
+from .memory import Memory
 from .snapshot import Seen, Snapshot, take
 from .traffic import Judge, Still, Traffic
 from .ways import Ways
 
 MOST_TIMES = 64
 """The look is given more states where nothing moves, up to so many times as many."""
+
+NONE_FREE = 'no vehicle is free'
 
 
 @dataclass(frozen=True)
@@ -31,18 +37,6 @@ class Settings:
     detour: int = 0
     silent: float = 30.0
     told: float = 15.0
-
-
-@dataclass
-class Memory:
-    """What is remembered of a vehicle: the number of its last state and since when that is, since when it waits for its next edge, and
-    its jobs while it has an order."""
-
-    header: int | None = None
-    heard: float = 0.0
-    waits: float | None = None
-    order: str | None = None
-    jobs: tuple[Waiting, ...] = ()
 
 
 class Dispatcher:
@@ -61,6 +55,7 @@ class Dispatcher:
         clock: Callable[[], float] = time.monotonic,
     ) -> None:
         self.desk, self.layout, self.settings, self.say, self.clock = desk, layout, settings, say, clock
+        self.lines = Lines(say, settings.told)
         self.ways = Ways(layout)
         self._out = {node: self.ways.way_out(node) for node in layout.nodes}
         self.judge = judge or Judge()
@@ -69,18 +64,15 @@ class Dispatcher:
         self._waits: Mapping[str, str] = {}
         self._last: Snapshot | None = None
         self._memory: dict[str, Memory] = {}
-        self._said: dict[str, str] = {}  # what was said last of each name
-        self._since: dict[str, tuple[str, float]] = {}  # of each name why it waits, and since when
 
     def turn(self) -> bool:
-        """One look at the desk, and what follows. Whether the desk answered."""
+        """One look at the desk, and what follows. Whether the desk answered; where it did not, or has a fault, the next turn may."""
         try:
-            with self.desk.kept():
-                self._turn()
-        except NoAnswer as fault:
-            self._say_once('desk', 'the desk does not answer: %s' % fault)
+            self._turn()
+        except (NoAnswer, Refused, BadReport) as fault:
+            self.lines.once('desk', 'the desk does not answer: %s' % fault)
             return False
-        self._say_once('desk', None)
+        self.lines.once('desk', None, over='the desk answers again')
         return True
 
     def waits(self) -> Mapping[str, str]:
@@ -89,10 +81,11 @@ class Dispatcher:
 
     def _turn(self) -> None:
         now = self.clock()
-        seen = self._last = take(self.desk, self._last)
-        self.book.look(self.desk, seen, now)
-        for vehicle in seen.vehicles.values():
-            self._remember(vehicle, seen, now)
+        with self.desk.kept():
+            seen = self._last = take(self.desk, self._last)
+            self.book.look(self.desk, seen, now)
+            for vehicle in seen.vehicles.values():
+                self._remember(vehicle, seen, now)
         traffic = self._traffic(seen, now)
         held = {**{'node ' + node: str(key) for node, key in seen.holds.nodes.items()},
                 **{'edge ' + edge: str(key) for edge, key in seen.holds.edges.items()}}
@@ -100,29 +93,32 @@ class Dispatcher:
         self.judge.begin_turn()
         self.chooser.begin_turn()
         released, traffic = self._release(seen, traffic, held, reasons, now)
-        started, traffic = self._start(seen, traffic, held, reasons, now)
+        idle = {name: one for name, one in seen.vehicles.items() if one.order is None and self._out_of_use(one, now) is None}
+        started, traffic = self._start(idle, traffic, held, reasons)
         self._look_deeper(seen, traffic, bool(released or started))
         self._untangle(seen, traffic)
         self._tell_waits(reasons, now)
+        self._tell_none_free(seen, idle, now)
         self.book.note(reasons)
+        fault = self.book.fault
+        self.lines.once('notes', 'the notes are not written: %s' % fault if fault else None, over='the notes are written again')
 
     # What is remembered and told of the vehicles.
 
     def _remember(self, seen: Seen, all_seen: Snapshot, now: float) -> None:
         memory = self._memory.setdefault(seen.name, Memory(seen.row.header, now))
-        if memory.header != seen.row.header:
-            memory.header, memory.heard = seen.row.header, now
-        if seen.order is not None and memory.order == seen.row.order:
-            drops = {act.load: (act.station,) for act in seen.order.acts() if act.kind == 'drop'}
-            memory.jobs = tuple(replace(one, targets=drops.get(one.load, one.targets)) for one in memory.jobs)
+        memory.hear(seen.row.header, now)
         if memory.order != seen.row.order:
             if memory.order is not None:
-                self._tell_end(seen, memory, all_seen)
-            memory.order, memory.waits = seen.row.order, None
-            if seen.row.order is not None and not memory.jobs:
-                memory.jobs = self._jobs_of(seen)
+                what = 'order %s has ended at %s' % (memory.order, seen.row.node)
+                self.say('%s: %s' % (seen.name, '; '.join([what, *memory.not_done(seen, all_seen.places)])))
+            memory.begin(None)
+            if seen.row.order is not None:
+                memory.begin(seen.row.order, self._jobs_of(seen))
                 told = ', '.join(one.job for one in memory.jobs) or 'jobs that are not known'
                 self.say('%s: has order %s, of %s' % (seen.name, seen.row.order, told))
+        if seen.order is not None:
+            memory.follow(seen, all_seen.places)
 
     def _jobs_of(self, seen: Seen) -> tuple[Waiting, ...]:
         """The jobs of an order that this dispatcher has not given, as far as its last message tells."""
@@ -133,16 +129,6 @@ class Dispatcher:
             if act.kind == 'drop' and told.job is not None and told.place != 'station ' + act.station:
                 found.append(Waiting(told.job, act.load, told.place, (act.station,)))
         return tuple(found)
-
-    def _tell_end(self, seen: Seen, memory: Memory, all_seen: Snapshot) -> None:
-        """Says how an order ended that was open in the last turn."""
-        not_done = []
-        for one in memory.jobs:
-            if one.target is None or all_seen.places.get(one.load) != 'station ' + one.target:
-                not_done.append('%s is stopped: its load %s is now at %s' % (one.job, one.load, all_seen.places.get(one.load, 'left')))
-        what = 'order %s has ended at %s' % (memory.order, seen.row.node)
-        self.say('%s: %s' % (seen.name, '; '.join([what, *not_done])))
-        memory.jobs = ()
 
     def _why_still(self, seen: Seen, now: float) -> str | None:
         """Why a vehicle does not go on, or None."""
@@ -159,6 +145,13 @@ class Dispatcher:
             return 'is paused'
         return None
 
+    def _out_of_use(self, seen: Seen, now: float) -> str | None:
+        """Why a vehicle without an order gets none, in short, or None."""
+        why = self._why_still(seen, now)
+        if why is not None:
+            return re.split('[:;]', why)[0]
+        return None if seen.room() > 0 else 'carries %s in no job' % ' '.join(seen.loads)
+
     def _traffic(self, seen: Snapshot, now: float) -> Traffic:
         ways, still, parked = {}, {}, {}
         for name, vehicle in seen.vehicles.items():
@@ -169,7 +162,8 @@ class Dispatcher:
                 still[name] = Still(vehicle.nodes, vehicle.rest())
             else:
                 ways[name] = vehicle.rest()
-            self._say_once(name, why if vehicle.order is not None or vehicle.row.astray else None)
+            is_told = why is not None and (vehicle.order is not None or vehicle.row.astray)
+            self.lines.once(name, '%s: %s' % (name, why) if is_told else None, over='%s: goes on' % name)
         return Traffic(ways, still, parked, self._out)
 
     # Releasing.
@@ -229,23 +223,19 @@ class Dispatcher:
         try:
             self.desk.advance(vehicle.row.key, vehicle.order.name, vehicle.row.sent + 1, edges)
         except Refused as refusal:
-            self.say('%s: %d edges of %s are refused: %s' % (vehicle.name, edges, vehicle.order.name, refusal))
+            self._tell_refusal(vehicle, '%d edges of %s are refused' % (edges, vehicle.order.name), refusal)
             return False
+        self.lines.once('refusal ' + vehicle.name, None)
+        self._memory[vehicle.name].left -= edges
         for edge in [edge for edge in vehicle.order.edges if not edge.released][:edges]:
             held['edge ' + edge.name] = held['node ' + edge.finish] = vehicle.name
         return True
 
     # Giving orders.
 
-    def _start(
-        self, seen: Snapshot, traffic: Traffic, held: dict[str, str], reasons: dict[str, str], now: float
-    ) -> tuple[int, Traffic]:
-        """Gives orders for jobs that wait, as long as there is one that may be started."""
-        idle = {
-            vehicle.name: vehicle
-            for vehicle in seen.vehicles.values()
-            if vehicle.order is None and vehicle.room() > 0 and self._why_still(vehicle, now) is None
-        }
+    def _start(self, idle: dict[str, Seen], traffic: Traffic, held: dict[str, str], reasons: dict[str, str]) -> tuple[int, Traffic]:
+        """Gives orders for jobs that wait to these vehicles, as long as there is one that may be started, and takes away those that have
+        one then."""
         count = 0
         while idle and self.book.waiting:
             found = self.chooser.propose(list(idle.values()), list(self.book.waiting.values()), traffic)
@@ -259,7 +249,7 @@ class Dispatcher:
                 count += 1
         standing = _standing(traffic) if idle else {}
         for job, one in self.book.waiting.items():
-            reasons['job ' + job] = self._why_job_waits(one, standing) if idle else 'no vehicle is free'
+            reasons['job ' + job] = self._why_job_waits(one, standing) if idle else NONE_FREE
         return count, traffic
 
     def _first_edges(self, found: Proposal, traffic: Traffic, held: dict[str, str]) -> int:
@@ -278,15 +268,16 @@ class Dispatcher:
         try:
             self.desk.start_order(order, vehicle.row.key, stops=found.stops, edges=edges)
         except Refused as refusal:
-            self.say('%s: no order for %s: %s' % (vehicle.name, ', '.join(one.job for one in found.jobs), refusal))
+            self._tell_refusal(vehicle, 'no order for %s' % ', '.join(one.job for one in found.jobs), refusal)
             if refusal.name in ('JobState', 'NoJob'):
                 for one in found.jobs:
                     self.book.is_taken(one.job)
             return False
+        self.lines.once('refusal ' + vehicle.name, None)
         told = ', '.join('%s (%s from %s to %s)' % (one.job, one.load, one.origin, one.target or 'where the order says') for one in found.jobs)
         self.say('%s: takes %s, %d edges from %s, by order %s' % (vehicle.name, told, len(found.way) - 1, vehicle.row.node, order))
-        memory = self._memory[vehicle.name]
-        memory.order, memory.jobs, memory.waits = order, found.jobs, None
+        left, end = len(found.way) - 1 - edges, found.way[-1] if found.is_whole else None
+        self._memory[vehicle.name].begin(order, found.jobs, left, end)
         for one in found.jobs:
             self.book.forget(one.job)
         return True
@@ -326,7 +317,7 @@ class Dispatcher:
             try:
                 self.desk.cancel(vehicle.row.key)
             except Refused as refusal:
-                self.say('%s: its order is not cancelled: %s' % (vehicle.name, refusal))
+                self._tell_refusal(vehicle, 'its order is not cancelled', refusal)
                 continue
             told = ', '.join(one.job for one in self._memory[vehicle.name].jobs)
             self.say('%s: cancels order %s, of %s: it and others block one another' % (vehicle.name, vehicle.row.order, told))
@@ -335,27 +326,41 @@ class Dispatcher:
 
     # Lines.
 
-    def _say_once(self, name: str, what: str | None) -> None:
-        """Says something of a name where it is not what was said of it last."""
-        if what is None:
-            if self._said.pop(name, None) is not None:
-                self.say('%s: goes on' % name if name != 'desk' else 'the desk answers again')
-        elif self._said.get(name) != what:
-            self._said[name] = what
-            self.say(what if name == 'desk' else '%s: %s' % (name, what))
+    def _tell_refusal(self, vehicle: Seen, what: str, refusal: Refused) -> None:
+        """Says that the desk refuses something, or raises the refusal again if it is a fault of the desk."""
+        if refusal.is_fault():
+            raise refusal
+        self.lines.once('refusal ' + vehicle.name, '%s: %s: %s' % (vehicle.name, what, refusal))
 
     def _tell_waits(self, reasons: dict[str, str], now: float) -> None:
         """Says why a vehicle or a job waits, once it has waited for a while for the same reason."""
+        for name in self._waits.keys() - reasons.keys():
+            self.lines.lasts(name, None, now)
         self._waits = reasons
-        for name in [name for name in self._since if name not in reasons]:
-            del self._since[name]
         for name, why in reasons.items():
-            before, since = self._since.setdefault(name, (why, now))
-            if before != why:
-                self._since[name] = (why, now)
-            elif since is not None and now - since >= self.settings.told and why != 'no vehicle is free':
+            if self.lines.lasts(name, why, now) and why != NONE_FREE:
                 self.say('%s %s' % (name, why) if not name.startswith('job ') else '%s waits: %s' % (name, why))
-                self._since[name] = (why, float('inf'))
+
+    def _tell_none_free(self, seen: Snapshot, idle: Mapping[str, Seen], now: float) -> None:
+        """Says that jobs wait and no vehicle is free, and why not, once it has been so for a while: again where that changes, or where
+        no job has waited in between."""
+        count = len(self.book.waiting)
+        why = self._why_none_free(seen, now) if count and not idle else None
+        if self.lines.lasts(NONE_FREE, why, now):
+            jobs = '1 job waits' if count == 1 else '%d jobs wait' % count
+            self.lines.once(NONE_FREE, why, '%s, %s: %s' % (jobs, NONE_FREE, why))
+        elif count == 0:
+            self.lines.once(NONE_FREE, None)
+
+    def _why_none_free(self, seen: Snapshot, now: float) -> str:
+        """Why each vehicle without an order is of no use."""
+        vehicles = sorted(seen.vehicles.values(), key=lambda one: natural(one.name))
+        found = [
+            '%s %s' % (one.name, self._out_of_use(one, now) or 'was refused its order')
+            for one in vehicles
+            if one.order is None and self._memory[one.name].order is None
+        ]
+        return '; '.join(found) or 'each has an order'
 
 
 def _standing(traffic: Traffic) -> dict[str, list[str]]:

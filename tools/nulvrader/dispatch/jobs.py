@@ -49,6 +49,7 @@ class JobBook:
         self.known: dict[str, str] = {}  # by job its target
         self._turn, self._now, self._found = 0, 0.0, False
         self._last = ''  # the load that was asked for last
+        self.fault: str | None = None  # why the notes could not be written last
 
     def look(self, desk: Desk, seen: Snapshot, now: float = 0.0) -> None:
         """Brings the book up to date, at this moment in seconds. `ASKED` requests at most, and at times once more for what is known."""
@@ -78,8 +79,12 @@ class JobBook:
         jobs = {one.job: Noted(one.load, self.known.get(one.job)) for one in self.waiting.values()}
         noted = Notes(jobs, self._noted.waits if waits is None else dict(waits))
         if waits is not None or noted != self._noted:  # a file that is written in each turn shows that the dispatcher runs
-            write_notes(self.notes, noted)
-            self._noted = noted
+            try:
+                write_notes(self.notes, noted)
+            except OSError as fault:
+                self.fault = str(fault)
+            else:
+                self._noted, self.fault = noted, None
 
     def forget(self, job: str) -> None:
         """The job does not wait any more."""
@@ -99,7 +104,9 @@ class JobBook:
                 return
             try:
                 told = desk.load(load)
-            except Refused:
+            except Refused as refusal:
+                if refusal.is_fault():
+                    raise
                 continue
             if until is not None:
                 self._last = load
