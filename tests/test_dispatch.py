@@ -1,5 +1,6 @@
 """The dispatcher: what it gives and releases, over a stand-in of a desk and over the built program, and its words."""
 import os
+import re
 import signal
 import subprocess
 import sys
@@ -205,31 +206,81 @@ class OverTheProgram(unittest.TestCase):
         self.turn()
         self.assertEqual((self.held(ONE), self.held(TWO)), (['a', 'ab', 'b'], ['c', 'cb', 'd']))
 
+    def line(self, *more):
+        """A desk on whose line a, b, c, d one vehicle is at either end, with its dispatcher, its vehicles' states and its lines. Of three
+        jobs that were there before no target is known: one leads from A to D, and one from D to A. `more` are further rows of the
+        layout."""
+        serving = Serving(os.path.join(self.folder.name, 'line.db'), 10 ** 6)
+        self.addCleanup(serving.__exit__)
+        line = ['edge,%s%s,%s,%s' % (x, y, x, y) for x, y in ('ab', 'ba', 'bc', 'cb', 'cd', 'dc')]
+        stations = ['station,%s,%s,3' % (name.upper(), name) for name in 'abd']
+        layout = '\n'.join(['kind,id,from,to', *('node,%s,,' % name for name in 'abcd'), *line, *stations, *more]).encode() + b'\n'
+        desk = Desk('127.0.0.1:%d' % serving.port, timeout=PATIENCE)
+        told = Told(desk)
+        desk.set_layout(layout)
+        for key, node in ((ONE, 'a'), (TWO, 'd')):
+            desk.register_vehicle(key, node)
+            told(key, node)
+        for job, load, start, target in (('J1', 'L1', 'A', 'D'), ('J2', 'L2', 'D', 'A'), ('J3', 'L3', 'A', 'B')):
+            desk.register_load(load, start)
+            desk.add_job(job, load, target)
+        lines = []
+        return desk, Dispatcher(desk, read_layout(layout), say=lines.append, clock=lambda: self.now), told, lines
+
     def test_orders_that_shut_one_another_in(self):
-        """On the line a, b, c, d one vehicle is at either end, and of three jobs that were there before no target is known: one leads
-        from A to D, and one from D to A. Once nothing moves one of the orders is cancelled."""
-        with Serving(os.path.join(self.folder.name, 'line.db'), 10 ** 6) as serving:
-            line = ['edge,%s%s,%s,%s' % (x, y, x, y) for x, y in ('ab', 'ba', 'bc', 'cb', 'cd', 'dc')]
-            stations = ['station,%s,%s,3' % (name.upper(), name) for name in 'abd']
-            layout = '\n'.join(['kind,id,from,to', *('node,%s,,' % name for name in 'abcd'), *line, *stations]).encode() + b'\n'
-            desk = Desk('127.0.0.1:%d' % serving.port, timeout=PATIENCE)
-            told = Told(desk)
-            desk.set_layout(layout)
+        """Once nothing moves one of the orders is cancelled."""
+        desk, dispatcher, told, lines = self.line()
+        for _ in range(8):
+            self.assertTrue(dispatcher.turn())
             for key, node in ((ONE, 'a'), (TWO, 'd')):
-                desk.register_vehicle(key, node)
                 told(key, node)
-            for job, load, start, target in (('J1', 'L1', 'A', 'D'), ('J2', 'L2', 'D', 'A'), ('J3', 'L3', 'A', 'B')):
-                desk.register_load(load, start)
-                desk.add_job(job, load, target)
-            lines = []
-            dispatcher = Dispatcher(desk, read_layout(layout), say=lines.append, clock=lambda: self.now)
-            for _ in range(8):
-                self.assertTrue(dispatcher.turn())
-                for key, node in ((ONE, 'a'), (TWO, 'd')):
-                    told(key, node)
-            self.assertRegex(lines[2], r'^KIT/0001: cancels order \S+, of J1: it and others block one another$')
-            self.assertEqual((desk.vehicle(ONE).pending, desk.vehicle(TWO).pending), ('cancelOrder', None))
-            self.assertEqual({node: str(key) for node, key in held(desk).nodes.items()}, {'a': 'KIT/0001', 'd': 'KIT/0002'})
+        self.assertRegex(lines[2], r'^KIT/0001: cancels order \S+, of J1: it and others block one another$')
+        self.assertEqual((desk.vehicle(ONE).pending, desk.vehicle(TWO).pending), ('cancelOrder', None))
+        self.assertEqual({node: str(key) for node, key in held(desk).nodes.items()}, {'a': 'KIT/0001', 'd': 'KIT/0002'})
+        name = desk.instant_actions(ONE)['actions'][0]['actionId']
+        told(ONE, 'a', 0, 'x', instant=[name])
+        dispatcher.turn()
+        self.assertRegex('\n'.join(lines), r'\nKIT/0001: order \S+ has ended at a; J1 is stopped, since its order was cancelled: its load L1 ')
+
+    def test_orders_that_shut_one_another_in_while_others_move(self):
+        """A third vehicle goes round a ring beside the line all the while. One of the orders is cancelled after a minute, and only one."""
+        ring = ['edge,%s%s,%s,%s' % (x, y, x, y) for x, y in ('pq', 'qr', 'rs', 'sp')]
+        desk, dispatcher, told, lines = self.line(*('node,%s,,' % name for name in 'pqrs'), *ring, 'station,P,p,9', 'station,R,r,9')
+        third = VehicleKey('KIT', '0003')
+        desk.register_vehicle(third, 'p')
+        told(third, 'p')
+        desk.register_load('M', 'P')
+        order, reasons, moves, at = None, set(), 0, 0
+        while self.now < 150:
+            self.now += 1
+            self.assertTrue(dispatcher.turn())
+            reasons.add(dispatcher.waits().get('KIT/0001'))
+            order = order or desk.vehicle(TWO).order
+            at = at or self.now * any('cancels' in line for line in lines)
+            for key, node in ((ONE, 'a'), (TWO, 'd')):
+                pending = desk.instant_actions(key)
+                told(key, node, instant=[pending['actions'][0]['actionId']] if pending else ())
+            moves += self.go_round(desk, told, third)
+        self.assertGreater(moves, 50)
+        self.assertIn('waits at a, since its way is blocked by KIT/0002 (with an order at d)', reasons)
+        self.assertEqual([re.sub(' order.*:', '', line) for line in lines if 'cancels' in line], ['KIT/0001: cancels it and others block one another'])
+        self.assertIn(at, range(61, 75))
+        self.assertEqual(desk.vehicle(TWO).order, order)
+
+    def go_round(self, desk, told, key):
+        """Lets a vehicle drive to the end of what is released to it and do there what is to be done, and gives it the next job where it
+        has none. Whether it drove."""
+        message, row = desk.order_message(key), desk.vehicle(key)
+        if message is None:
+            load = desk.load('M')
+            if load.job is None:
+                self.jobs = getattr(self, 'jobs', 0) + 1
+                desk.add_job('M%d' % self.jobs, 'M', 'R' if load.place == 'station P' else 'P')
+            return False
+        last = [node for node in message['nodes'] if node['released']][-1]
+        left = [act for node in message['nodes'] if not node['released'] for act in node['actions']]
+        told(key, last['nodeId'], last['sequenceId'], 'f' * (2 - len(left)))
+        return last['nodeId'] != row.node
 
     def test_a_failed_drop_is_told(self):
         self.turn()

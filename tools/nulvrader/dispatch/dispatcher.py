@@ -24,6 +24,12 @@ from .ways import Ways
 MOST_TIMES = 64
 """The look is given more states where nothing moves, up to so many times as many."""
 
+SHUT_IN = 60.0
+"""An order that has not left its first node, and can't finish for so many seconds, is cancelled, though others move."""
+
+LONGER = 4
+"""The look that has to find this too has so many times as many states."""
+
 NONE_FREE = 'no vehicle is free'
 
 
@@ -96,7 +102,7 @@ class Dispatcher:
         idle = {name: one for name, one in seen.vehicles.items() if one.order is None and self._out_of_use(one, now) is None}
         started, traffic = self._start(idle, traffic, held, reasons)
         self._look_deeper(seen, traffic, bool(released or started))
-        self._untangle(seen, traffic)
+        self._untangle(seen, traffic, now)
         self._tell_waits(reasons, now)
         self._tell_none_free(seen, idle, now)
         self.book.note(reasons)
@@ -213,9 +219,13 @@ class Dispatcher:
         return min(most, len(ahead)), ''
 
     def _by_whom(self, vehicle: Seen, traffic: Traffic) -> str:
-        """Who stands in the way of a vehicle and does not go on."""
+        """Who stands in the way of a vehicle and does not go on, or goes to where it is in the way."""
         nodes = set(traffic.ways[vehicle.name][1:])
         found = ['%s at %s' % (name, ' '.join(sorted(nodes & at, key=natural))) for name, at in traffic.standing().items() if nodes & at]
+        finish = self.judge.finish_now(traffic)
+        for name, way in traffic.ways.items():
+            if name != vehicle.name and (way[-1] if name in finish else way[0]) in nodes:
+                found.append('%s (with an order %s)' % (name, 'to ' + way[-1] if name in finish else 'at ' + way[0]))
         return ' by ' + ', '.join(sorted(found, key=natural)) if found else ''
 
     def _advance(self, vehicle: Seen, edges: int, held: dict[str, str]) -> bool:
@@ -304,25 +314,45 @@ class Dispatcher:
         elif moved:
             self.judge.times = 1
 
-    def _untangle(self, seen: Snapshot, traffic: Traffic) -> None:
-        """Where nothing moves, and vehicles with orders shut one another in, cancels an order of these that has not left its first
-        node. It comes to that by orders alone whose targets were not known when they were given."""
-        if self.judge.times < MOST_TIMES:
-            return
-        shut_in = set(traffic.ways) - self.judge.finish_later(traffic)
+    def _untangle(self, seen: Snapshot, traffic: Traffic, now: float) -> None:
+        """Where vehicles with orders shut one another in, cancels an order of these that has not left its first node: at once where
+        nothing moves, else where it has been so for a while. It comes to that by orders alone whose targets were not known when they
+        were given."""
+        shut_in = traffic.ways.keys() - self.judge.finish_later(traffic)
+        for name, memory in self._memory.items():
+            memory.shut_in = None if name not in shut_in else now if memory.shut_in is None else memory.shut_in
         for vehicle in sorted(seen.vehicles.values(), key=lambda one: one.name):
             fresh = vehicle.row.sent == vehicle.row.confirmed == 0 and vehicle.edges == 0 and not vehicle.loads
-            if vehicle.name not in shut_in or not fresh or vehicle.row.pending is not None:
-                continue
-            try:
-                self.desk.cancel(vehicle.row.key)
-            except Refused as refusal:
-                self._tell_refusal(vehicle, 'its order is not cancelled', refusal)
-                continue
-            told = ', '.join(one.job for one in self._memory[vehicle.name].jobs)
-            self.say('%s: cancels order %s, of %s: it and others block one another' % (vehicle.name, vehicle.row.order, told))
-            self.judge.times = 1
-            return
+            if vehicle.name in shut_in and fresh and vehicle.row.pending is None and self._stays_so(vehicle.name, traffic, now):
+                if self._cancel(vehicle):
+                    return
+
+    def _stays_so(self, name: str, traffic: Traffic, now: float) -> bool:
+        """Whether a vehicle that is shut in does not get free: nothing moves, or it has been so for a while, by a longer look too."""
+        if self.judge.times >= MOST_TIMES:
+            return True
+        since = self._memory[name].shut_in
+        if since is None or now - since < SHUT_IN:
+            return False
+        if name not in self.judge.look_longer(traffic, LONGER):
+            return True
+        self._memory[name].shut_in = None
+        return False
+
+    def _cancel(self, vehicle: Seen) -> bool:
+        """Cancels an order. The others may get free by it."""
+        try:
+            self.desk.cancel(vehicle.row.key)
+        except Refused as refusal:
+            self._tell_refusal(vehicle, 'its order is not cancelled', refusal)
+            return False
+        told = ', '.join(one.job for one in self._memory[vehicle.name].jobs)
+        self.say('%s: cancels order %s, of %s: it and others block one another' % (vehicle.name, vehicle.row.order, told))
+        self._memory[vehicle.name].cancelled = True
+        self.judge.times = 1
+        for memory in self._memory.values():
+            memory.shut_in = None
+        return True
 
     # Lines.
 

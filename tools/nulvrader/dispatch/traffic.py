@@ -169,6 +169,13 @@ class Judge:
         """Who finishes, and gets out of a dead end then, where all others do too: whom the vehicles do not shut in for good."""
         return self.outlook(traffic).later.finishing
 
+    def look_longer(self, traffic: Traffic, times: int) -> frozenset[str]:
+        """Who finishes later, by looks of so many times as many states."""
+        before, self.times, self._granted = self.times, max(self.times, times), None
+        found = self.finish_later(traffic)
+        self.times = before
+        return found
+
     def keeps(self, traffic: Traffic, after: Traffic, vehicle: str | None = None, last: bool = False) -> bool:
         """Whether each vehicle that could finish before can after, now and later, and this one too, which has begun its way. Whether it
         goes first or last is tried first."""
