@@ -75,9 +75,10 @@ class OverTheProgram(unittest.TestCase):
         self.now, self.lines = 0.0, []
         self.begin()
 
-    def begin(self):
+    def begin(self, notes=None):
         self.dispatcher = Dispatcher(
-            Desk(self.address, timeout=PATIENCE), read_layout(LAYOUT), Settings(ahead=2), say=self.lines.append, clock=lambda: self.now)
+            Desk(self.address, timeout=PATIENCE), read_layout(LAYOUT), Settings(ahead=2), notes=notes, say=self.lines.append,
+            clock=lambda: self.now)
 
     def turn(self, seconds=1.0):
         """A turn, and what it has said."""
@@ -195,6 +196,29 @@ class OverTheProgram(unittest.TestCase):
             file.write('no notes')
         self.assertEqual(book().book.known, {})
 
+    def test_age_after_a_restart(self):
+        """Of two jobs from A the older one goes first, also by a dispatcher that was started anew and has the notes; by one without them
+        that of the load with the lesser name does. The desk's calls tell no age."""
+        notes = os.path.join(self.folder.name, 'notes')
+        for key, node in ((ONE, 'ab'), (TWO, 'cb')):
+            self.told(key, node, mode='MANUAL')
+        self.begin(notes)
+        for job, load, target in (('J2', 'L2', 'B'), ('J1', 'L1', 'D')):
+            self.desk.add_job(job, load, target)
+            self.turn()
+            self.turn(100)
+        self.assertEqual({job: noted.age for job, noted in read_notes(notes).jobs.items()}, {'J2': 201, 'J1': 100})
+        self.now = 0.0
+        for kept, order in ((notes, ['J2', 'J1']), (None, ['J1', 'J2'])):
+            self.begin(kept)
+            self.turn()
+            self.assertEqual(list(self.dispatcher.book.waiting), order)
+        self.assertEqual({job: noted.age for job, noted in read_notes(notes).jobs.items()}, {'J2': 201, 'J1': 100})
+        self.begin(notes)
+        self.turn()
+        self.told(ONE, 'ab')
+        self.assertRegex(self.turn()[0], '^KIT/0001: takes J2')
+
     def test_jobs_from_before_its_start(self):
         """Two jobs wait whose targets it can't tell apart: it gives the order with no edge, and learns them by it."""
         self.desk.add_job('J1', 'L1', 'B')
@@ -263,7 +287,8 @@ class OverTheProgram(unittest.TestCase):
             moves += self.go_round(desk, told, third)
         self.assertGreater(moves, 50)
         self.assertIn('waits at a, since its way is blocked by KIT/0002 (with an order at d)', reasons)
-        self.assertEqual([re.sub(' order.*:', '', line) for line in lines if 'cancels' in line], ['KIT/0001: cancels it and others block one another'])
+        cancels = [re.sub(' order.*:', '', line) for line in lines if 'cancels' in line]
+        self.assertEqual(cancels, ['KIT/0001: cancels it and others block one another'])
         self.assertIn(at, range(61, 75))
         self.assertEqual(desk.vehicle(TWO).order, order)
 
@@ -350,7 +375,8 @@ class OverTheProgram(unittest.TestCase):
         self.assertIn('KIT/0001: its order is being cancelled', self.turn())
         self.told(ONE, 'ab', 0, 'x', instant=[name])
         lines = self.turn()
-        self.assertRegex(lines[0], r'^KIT/0001: order \S+ has ended at ab; J1 is stopped, since its order was cancelled: its load L1 is now at station A$')
+        line = r'^KIT/0001: order \S+ has ended at ab; J1 is stopped, since its order was cancelled: its load L1 is now at station A$'
+        self.assertRegex(lines[0], line)
         self.assertEqual(lines[1:], ['KIT/0001: left its order on the way; look where it stands, and place it'])
         self.desk.add_job('J2', 'L3', 'B')
         self.assertEqual(self.turn(), [])  # KIT/0002 would have to pass the node that KIT/0001 holds
@@ -441,7 +467,7 @@ class OverTheProgram(unittest.TestCase):
         """It is said once, and the dispatcher goes on."""
         folder = os.path.join(self.folder.name, 'later')
         notes = os.path.join(folder, 'notes')
-        self.dispatcher = Dispatcher(self.desk, read_layout(LAYOUT), notes=notes, say=self.lines.append, clock=lambda: self.now)
+        self.begin(notes)
         self.assertRegex(self.turn()[0], '^the notes are not written: .*No such file or directory')
         self.desk.add_job('J1', 'L1', 'B')
         lines = self.turn()

@@ -7,6 +7,7 @@ import os
 import time
 from collections.abc import Mapping
 from dataclasses import dataclass, field
+from typing import Any
 
 OLD = 10.0
 """A file that was not touched for so many seconds is of a dispatcher that does not run: why something waited then is not told."""
@@ -14,10 +15,12 @@ OLD = 10.0
 
 @dataclass(frozen=True)
 class Noted:
-    """A job that waits: its load, and the station where it leads, None where that is not known."""
+    """A job that waits: its load, the station where it leads, None where that is not known, and for how many seconds it has waited,
+    which does not count where two are compared."""
 
     load: str
     to: str | None
+    age: float = field(default=0.0, compare=False)
 
 
 @dataclass(frozen=True)
@@ -30,7 +33,7 @@ class Notes:
 
 def write_notes(path: str, notes: Notes) -> None:
     """Writes notes in place of what is there."""
-    jobs = {job: {'load': noted.load, 'to': noted.to} for job, noted in notes.jobs.items()}
+    jobs = {job: {'load': noted.load, 'to': noted.to, 'age': round(noted.age, 1)} for job, noted in notes.jobs.items()}
     with open(path + '.new', 'w') as file:
         file.write(json.dumps({'jobs': jobs, 'waits': dict(notes.waits)}))  # much quicker than `json.dump`
     os.replace(path + '.new', path)
@@ -41,8 +44,14 @@ def read_notes(path: str | None) -> Notes:
     try:
         with open(path or os.devnull) as file:
             told, touched = json.load(file), os.fstat(file.fileno()).st_mtime
-        jobs = {str(job): Noted(str(row['load']), None if row['to'] is None else str(row['to'])) for job, row in told['jobs'].items()}
+        jobs = {str(job): read_job(row) for job, row in told['jobs'].items()}
         waits = {str(name): str(why) for name, why in told['waits'].items()}
     except (OSError, ValueError, AttributeError, TypeError, KeyError):
         return Notes()
     return Notes(jobs, waits if time.time() - touched < OLD else {})
+
+
+def read_job(row: Mapping[str, Any]) -> Noted:
+    """A job of the notes. Notes may be without ages."""
+    target = None if row['to'] is None else str(row['to'])
+    return Noted(str(row['load']), target, max(0.0, float(row.get('age', 0))))

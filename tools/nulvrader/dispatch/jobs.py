@@ -4,7 +4,7 @@ No call of the desk lists jobs. A load tells its live job, but not where that le
 not which. So the jobs are found by asking for loads, and their targets by what is left over: the places that stations keep, less those
 of the jobs whose target is known. Where jobs are seen one after another as they are added, that leaves one station. Where several were
 added between two looks, as before a start of the dispatcher, it leaves some: the `targets` of a job are those that it may have. What
-was found is noted in a file, if there is one, for the next start and for the board."""
+was found is noted in a file, if there is one, for the next start and for the board, with how long the jobs have waited."""
 from __future__ import annotations
 
 from collections import Counter
@@ -39,7 +39,8 @@ class Waiting:
 
 
 class JobBook:
-    """The jobs that wait, the one that was seen first in front. What it knows it has from the desk, and finds again after a start."""
+    """The jobs that wait, the one that was seen first in front. What it knows it has from the desk, and finds again after a start; only
+    since when they wait is in the notes alone."""
 
     def __init__(self, notes: str | None = None) -> None:
         self.notes = notes
@@ -68,6 +69,7 @@ class JobBook:
             loads = sorted(load for load, place in seen.places.items() if place.startswith('station ') and load not in known)
             first = next((n for n, load in enumerate(loads) if load > self._last), 0)
             self._ask(desk, seen, loads[first:] + loads[:first], expected)
+        self.waiting = dict(sorted(self.waiting.items(), key=lambda item: item[1].since))
         self._find_targets(seen)
         self._found = len(self.waiting) + len(self.taken) >= expected
         self.note()
@@ -76,7 +78,7 @@ class JobBook:
         """Writes the jobs that wait, and why these and vehicles do, once all jobs are found."""
         if self.notes is None or not self._found:
             return
-        jobs = {one.job: Noted(one.load, self.known.get(one.job)) for one in self.waiting.values()}
+        jobs = {one.job: Noted(one.load, self.known.get(one.job), self._now - one.since) for one in self.waiting.values()}
         noted = Notes(jobs, self._noted.waits if waits is None else dict(waits))
         if waits is not None or noted != self._noted:  # a file that is written in each turn shows that the dispatcher runs
             try:
@@ -115,7 +117,13 @@ class JobBook:
             if self.taken.get(load) not in (None, told.job):
                 del self.taken[load]
             if told.job is not None and told.place.startswith('station ') and load not in self.taken and told.job not in self.waiting:
-                self.waiting[told.job] = Waiting(told.job, load, told.place.removeprefix('station '), (), self._now)
+                since = self._now - self._age(told.job, load)
+                self.waiting[told.job] = Waiting(told.job, load, told.place.removeprefix('station '), (), since)
+
+    def _age(self, job: str, load: str) -> float:
+        """For how long a job has waited already that is seen now, as the notes say."""
+        noted = self._noted.jobs.get(job)
+        return noted.age if noted is not None and noted.load == load else 0.0
 
     def _find_targets(self, seen: Snapshot) -> None:
         """Which stations are left over for each job."""
