@@ -37,7 +37,7 @@ class Told:
     def __init__(self, desk):
         self.desk, self.headers = desk, {}
 
-    def __call__(self, key, node, sequence=0, acts='', *, mode='AUTOMATIC', instant=(), fresh=True):
+    def __call__(self, key, node, sequence=0, acts='', *, mode='AUTOMATIC', paused=False, instant=(), fresh=True):
         """A state of a vehicle that has its last order with its last update. `acts` has a letter for each action that has ended: f for
         finished, x for failed."""
         message = self.desk.order_message(key) if fresh else None
@@ -48,7 +48,7 @@ class Told:
         return self.desk.post_state(key, {
             'headerId': self.headers[key], 'timestamp': '2026-01-01T00:00:00.00Z', 'version': '2.0.0',
             'manufacturer': key.manufacturer, 'serialNumber': key.serial, 'orderId': order, 'orderUpdateId': update,
-            'lastNodeId': node, 'lastNodeSequenceId': sequence, 'driving': False, 'nodeStates': [], 'edgeStates': [],
+            'lastNodeId': node, 'lastNodeSequenceId': sequence, 'driving': False, 'paused': paused, 'nodeStates': [], 'edgeStates': [],
             'actionStates': listed + [{'actionId': name, 'actionStatus': 'FINISHED'} for name in instant], 'operatingMode': mode,
             'errors': [], 'safetyState': {'eStop': 'NONE', 'fieldViolation': False}})
 
@@ -386,16 +386,68 @@ class OverTheProgram(unittest.TestCase):
         self.assertRegex(lines[1], r'^KIT/0002: takes J2')
 
     def test_a_silent_vehicle(self):
+        """KIT/0001 waits at b until KIT/0002 has left c, and is silent by then: it is released nothing until it is heard again."""
         self.turn()
-        self.desk.add_job('J1', 'L1', 'B')
+        self.desk.add_job('J1', 'L1', 'C')
         self.turn()
-        self.told(ONE, 'ab', 0)
+        self.desk.add_job('J3', 'L3', 'D')
         self.turn()
-        lines = self.turn(40)
-        self.assertEqual(lines, ['KIT/0001: has sent no state for 30 seconds'])
-        self.told(ONE, 'a', 2, 'f')
+        self.told(ONE, 'b', 4, 'f')
+        self.told(TWO, 'c', 2, 'f')
+        self.turn()
+        self.told(TWO, 'c', 2, 'f')
+        self.assertEqual(self.turn(20), ['KIT/0001 waits at b for node c, which KIT/0002 holds'])
+        self.told(TWO, 'd', 4, 'f')
+        self.assertEqual(self.turn(20), ['KIT/0001: has sent no state for 30 seconds'])
+        self.assertEqual((self.held(ONE), self.held(TWO)), (['b'], ['d', 'db']))
+        self.told(ONE, 'b', 4, 'f')
         self.assertEqual(self.turn(), ['KIT/0001: goes on'])
-        self.assertEqual(self.held(ONE), ['a', 'b', 'bb'])
+        self.assertEqual(self.held(ONE), ['b', 'c', 'cb'])
+
+    def test_a_vehicle_that_does_not_go_on(self):
+        """Nothing is released to one that is not ready, or paused, until it is again."""
+        self.turn()
+        self.desk.add_job('J1', 'L1', 'D')
+        self.turn()
+        why = 'KIT/0001: is not ready: it is not in automatic mode, has an emergency stop or an error'
+        self.told(ONE, 'a', 2, 'f', mode='MANUAL')
+        self.assertEqual((self.turn(), self.turn(20), self.held(ONE)), ([why], [], ['a', 'b']))
+        self.told(ONE, 'a', 2, 'f')
+        self.assertEqual((self.turn(), self.held(ONE)), (['KIT/0001: goes on'], ['a', 'b', 'c']))
+        self.told(ONE, 'b', 4, 'f', paused=True)
+        self.assertEqual((self.turn(), self.turn(20), self.held(ONE)), (['KIT/0001: is paused'], [], ['b', 'c']))
+        self.told(ONE, 'b', 4, 'f')
+        self.assertEqual((self.turn(), self.held(ONE)), (['KIT/0001: goes on'], ['b', 'c', 'd']))
+
+    def test_a_way_that_is_blocked(self):
+        """A person puts KIT/0002 on the way of the other one, two nodes ahead: that one stays where it is."""
+        self.turn()
+        self.desk.add_job('J1', 'L1', 'D')
+        self.turn()
+        self.desk.place(TWO, 'R', 'd')
+        self.told(ONE, 'b', 4, 'f')
+        self.turn()
+        self.told(ONE, 'b', 4, 'f')
+        self.assertEqual(self.turn(20), ['KIT/0001 waits at b, since its way is blocked by KIT/0002 at d'])
+        self.assertEqual(self.held(ONE), ['b'])
+
+    def test_one_that_would_block_another(self):
+        """Both have orders whose targets were not known, so with no edge. KIT/0001 is to go to where KIT/0002 stands, and that one has
+        not confirmed its order yet. It could not leave its bay if the first one stood before it."""
+        for job, load, target in (('J1', 'L1', 'C'), ('J2', 'L2', 'B'), ('J3', 'L3', 'D')):
+            self.desk.add_job(job, load, target)
+        self.turn()
+        self.told(ONE, 'ab')
+        self.turn()
+        self.told(ONE, 'b', 4, 'f')
+        self.turn()
+        lines = self.turn(15)
+        self.assertIn('KIT/0002 has not confirmed its order', lines)
+        self.assertIn('KIT/0001 waits at b, since on b-c it would block others, or be blocked', lines)
+        self.assertEqual((self.held(ONE), self.held(TWO)), (['b'], ['cb']))
+        self.told(TWO, 'cb')
+        self.turn()
+        self.assertEqual((self.held(ONE), self.held(TWO)), (['b'], ['c', 'cb', 'd']))
 
     def test_no_vehicle_is_free(self):
         """It is said once that jobs wait, and of each vehicle without an order why it gets none; again where that changes, and after a
