@@ -87,6 +87,27 @@ class Judged(unittest.TestCase):
         for kind in (True, False, 'all'):
             self.assertGreater(counts[kind], CASES // 60, kind)
 
+    def test_with_the_states_of_the_program(self):
+        """What a judge with its own numbers of states allows is right by looks with states enough. These cases are small, so it allows
+        nearly all that may be."""
+        chance, judge, counts = random.Random(75), Judge(), collections.Counter()
+        for case in range(CASES // 6):
+            traffic, idle, way = random_traffic(chance)
+            judge.begin_turn()
+            told = judge.may_start(traffic, idle, way)
+            true = traffic.is_open(idle, way) and keeps(judge, traffic, traffic.started(idle, way), (idle,))
+            self.assertTrue(true or not told, (case, traffic, way))
+            counts['start: %s, in truth %s' % (told, true)] += 1
+            could = judge.finish_now(traffic)
+            for name in [name for name in traffic.ways if self.is_free(traffic, name)]:
+                if self.is_free(traffic, name) and judge.may_release(traffic, name, 1):
+                    traffic = traffic.released(name, 1)
+                    counts['released'] += 1
+            self.assertLessEqual(could, look(traffic.ways, traffic.walls, PLENTY, could).finishing, (case, traffic))
+        print('the states of the program: ' + ', '.join('%s: %d' % one for one in counts.items()))
+        self.assertGreater(counts['released'], CASES // 40)
+        self.assertGreater(counts['start: True, in truth True'], 20 * counts['start: False, in truth True'])
+
     def is_free(self, traffic, name):
         """Whether the next node of a vehicle is."""
         way = traffic.ways[name]
