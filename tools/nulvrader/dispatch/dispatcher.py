@@ -1,7 +1,7 @@
 """The dispatcher: in each turn it looks at the desk, releases what may be released, and gives orders for jobs that wait.
 
-It keeps nothing that the desk does not know. What it remembers from turn to turn, how long a vehicle has waited or when it was last
-heard, is for its lines and for the turn in which vehicles are served; after a start it begins anew."""
+All that it needs is in the desk. What it remembers from turn to turn, how long a vehicle has waited or when it was last heard, is for its
+lines and for the turn in which vehicles are served; after a start it begins anew. Its notes have what the desk does not tell of jobs."""
 from __future__ import annotations
 
 import re
@@ -47,7 +47,7 @@ class Settings:
 
 class Dispatcher:
     """A dispatcher over a desk and its layout. `say` takes its lines, and `clock` tells seconds that only grow. In the file `notes` it
-    writes where jobs lead that wait."""
+    writes where jobs lead that wait, and since when they do."""
 
     def __init__(
         self,
