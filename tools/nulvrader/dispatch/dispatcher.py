@@ -230,13 +230,13 @@ class Dispatcher:
 
     def _advance(self, vehicle: Seen, edges: int, held: dict[str, str]) -> bool:
         assert vehicle.order is not None and vehicle.row.sent is not None
+        self._memory[vehicle.name].left -= edges  # also where no answer comes: the next message tells
         try:
             self.desk.advance(vehicle.row.key, vehicle.order.name, vehicle.row.sent + 1, edges)
         except Refused as refusal:
             self._tell_refusal(vehicle, '%d edges of %s are refused' % (edges, vehicle.order.name), refusal)
             return False
         self.lines.once('refusal ' + vehicle.name, None)
-        self._memory[vehicle.name].left -= edges
         for edge in [edge for edge in vehicle.order.edges if not edge.released][:edges]:
             held['edge ' + edge.name] = held['node ' + edge.finish] = vehicle.name
         return True
