@@ -156,6 +156,17 @@ class Orders(OverADesk):
         self.turn()
         self.assertEqual((self.held(ONE), self.held(TWO)), (['a', 'ab', 'b'], ['c', 'cb', 'd']))
 
+    def test_a_job_beside_some_from_before_its_start(self):
+        """Of two jobs the targets can't be told apart; that of a third one is known as soon as it is added."""
+        for key, node in ((ONE, 'ab'), (TWO, 'cb')):
+            self.told(key, node, mode='MANUAL')
+        self.desk.add_job('J1', 'L1', 'B')
+        self.desk.add_job('J2', 'L3', 'D')
+        self.turn()
+        self.desk.add_job('J3', 'L2', 'B')
+        self.turn()
+        self.assertEqual(self.dispatcher.book.known, {'J3': 'B'})
+
     def line(self, *more):
         """A desk on whose line a, b, c, d one vehicle is at either end, with its dispatcher, its vehicles' states and its lines. Of three
         jobs that were there before no target is known: one leads from A to D, and one from D to A. `more` are further rows of the

@@ -2,9 +2,10 @@
 
 No call of the desk lists jobs. A load tells its live job, but not where that leads; a station tells how many live jobs lead there, but
 not which. So the jobs are found by asking for loads, and their targets by what is left over: the places that stations keep, less those
-of the jobs whose target is known. Where jobs are seen one after another as they are added, that leaves one station. Where several were
-added between two looks, as before a start of the dispatcher, it leaves some: the `targets` of a job are those that it may have. What
-was found is noted in a file, if there is one, for the next start and for the board, with how long the jobs have waited."""
+of the jobs whose target is known. Where one job is seen that was added since the look before, its target is the station for which more
+is left over than then. Where several were added between two looks, as before a start of the dispatcher, some stations are left over: the
+`targets` of a job are those that it may have. What was found is noted in a file, if there is one, for the next start and for the board,
+with how long the jobs have waited."""
 from __future__ import annotations
 
 from collections import Counter
@@ -49,6 +50,8 @@ class JobBook:
         self.taken: dict[str, str] = {}  # by load the job that the desk says does not wait
         self.known: dict[str, str] = {}  # by job its target
         self._turn, self._now, self._found = 0, 0.0, False
+        # The loads of the jobs whose target was not known after the look before, and the places left over for them; none if not all were seen.
+        self._unknown: tuple[set[str], Counter[str]] | None = None
         self._last = ''  # the load that was asked for last
         self.fault: str | None = None  # why the notes could not be written last
 
@@ -70,7 +73,7 @@ class JobBook:
             first = next((n for n, load in enumerate(loads) if load > self._last), 0)
             self._ask(desk, seen, loads[first:] + loads[:first], expected)
         self.waiting = dict(sorted(self.waiting.items(), key=lambda item: item[1].since))
-        self._find_targets(seen)
+        self._find_targets(seen, len(self.waiting) + len(self.taken) == expected)
         self._found = len(self.waiting) + len(self.taken) >= expected
         self.note()
 
@@ -125,7 +128,7 @@ class JobBook:
         noted = self._noted.jobs.get(job)
         return noted.age if noted is not None and noted.load == load else 0.0
 
-    def _find_targets(self, seen: Snapshot) -> None:
+    def _find_targets(self, seen: Snapshot, all_seen: bool) -> None:
         """Which stations are left over for each job."""
         left = Counter({station.name: station.reserved for station in seen.stock.stations.values()})
         left.subtract(act.station for _, act in seen.riding().values())
@@ -136,6 +139,8 @@ class JobBook:
                 self._know(one, target)
                 left[target] -= 1
         open_jobs = [one for one in self.waiting.values() if one.job not in self.known]
+        if all_seen:
+            self._find_new_target(seen, open_jobs, left)
         found, roomy = True, [name for name, count in left.items() if count > 0]
         while found:
             found = False
@@ -147,6 +152,22 @@ class JobBook:
                     left[targets[0]] -= 1
                     open_jobs.remove(one)
                     found, roomy = True, [name for name, count in left.items() if count > 0]
+
+        self._unknown = ({one.load for one in open_jobs} | set(self.taken), left) if all_seen else None
+
+    def _find_new_target(self, seen: Snapshot, open_jobs: list[Waiting], left: Counter[str]) -> None:
+        """If one job was added since the look before, and each that is no longer among those of unknown target has an order, which tells its
+        target: the station for which more is left over than then."""
+        loads = {one.load for one in open_jobs} | set(self.taken)
+        before, left_before = self._unknown or (loads, left)
+        riding = {load: act.station for load, (_, act) in seen.riding().items() if load in before - loads}
+        given = Counter(riding.values())
+        grown = [name for name in left if left[name] > left_before[name] - given[name]]
+        new = [one for one in open_jobs if one.load not in before]
+        if len(new) == len(loads - before) == len(grown) == 1 and before - loads == set(riding) and grown[0] != new[0].origin:
+            self._know(new[0], grown[0])
+            left[grown[0]] -= 1
+            open_jobs.remove(new[0])
 
     def _know(self, one: Waiting, target: str) -> None:
         self.known[one.job] = target
