@@ -1,6 +1,6 @@
 """The simulated plant over the built program: a part of a day, in which the desk, the dispatcher and gateways are killed and people
-cancel, count and carry; the same plant with a dispatcher that does not look, which comes to stand; and one that releases whole ways,
-which does less. And what the plant calls wrong. PLANT_JOBS sets the jobs of the part of a day."""
+cancel, count and carry; a small one with a dispatcher that does not look, in which vehicles come to wait for each other; and one that
+releases whole ways, which does less. And what the plant calls wrong. PLANT_JOBS sets the jobs of the part of a day."""
 import dataclasses
 import os
 import subprocess
@@ -15,15 +15,20 @@ if os.path.join(ROOT, 'examples') not in sys.path:
     sys.path.insert(0, os.path.join(ROOT, 'examples'))
 assert TOOLS in sys.path
 
+from nulvrader.names import VehicleKey  # noqa: E402
+from nulvrader.questions import Wait  # noqa: E402
 from simulation.floors import FLOORS  # noqa: E402
 from simulation.plan import CALM, Habits, Line, Nature, Plan, Trouble  # noqa: E402
 from simulation.plant import Plant  # noqa: E402
 from simulation.truth import Given, Goods, Track, Wrong  # noqa: E402
 from simulation.vehicles import Vehicle  # noqa: E402
+from simulation.watch import Circles, circles  # noqa: E402
 from simulation.words import run, told  # noqa: E402
 
 JOBS = int(os.environ.get('PLANT_JOBS', '200'))
 SMALL = Plan('small', 7, 40, 40, 1, CALM, Nature(failing=0, battery=1e9), Line(0, 0, 0.4, 0.4), Habits(backlog=8), stands=300.0)
+SEEDS = 1, 2
+CIRCLE = r'^a circle since 1[23]\d s: (KIT/\d+ waits at \S+ for (node|edge) \S+, which KIT/\d+ holds(; )?){2,}$'
 
 
 @over_sockets
@@ -48,16 +53,18 @@ class APartOfADay(unittest.TestCase):
 class Compared(unittest.TestCase):
     """The same jobs in the same plant, in which nothing else goes wrong."""
 
-    def test_without_the_look_vehicles_stand_for_good(self):
-        day = run(DESK, SMALL, 'free')
-        self.assertIsNotNone(day.stands)
-        self.assertRegex(day.stands, r'^\d+ jobs are live, and nothing moves: .*which KIT/\d+ holds')
-        self.assertLess(day.done, SMALL.jobs)
+    def test_without_the_look_vehicles_wait_for_each_other(self):
+        """The look alone is left out: whatever is seen without one holds there too."""
+        for seed in SEEDS:
+            with self.subTest(seed=seed), self.assertRaisesRegex(Wrong, CIRCLE):
+                run(DESK, dataclasses.replace(SMALL, seed=seed), 'free')
 
     def test_with_it_they_do_not(self):
-        day = run(DESK, SMALL, 'look')
-        self.assertIsNone(day.stands)
-        self.assertEqual((day.done, day.stopped), (SMALL.jobs, {}))
+        for seed in SEEDS:
+            with self.subTest(seed=seed):
+                day = run(DESK, dataclasses.replace(SMALL, seed=seed), 'look')
+                self.assertIsNone(day.stands)
+                self.assertEqual((day.done, day.stopped), (SMALL.jobs, {}))
 
     def test_whole_ways_at_once(self):
         """In the same time fewer jobs are done where each order has its whole way from the beginning."""
@@ -156,6 +163,52 @@ class WhatIsWrong(unittest.TestCase):
         self.wrong('was not given', given.check, 'a', 'one', 1, 'N01.N02')
         self.wrong('was not given', given.check, 'a', 'two', 1, 'N00.N01')
         self.wrong('was not given', given.check, 'b', 'one', 1, 'N00.N01')
+
+
+class WaitsInCircles(unittest.TestCase):
+    """At first a waits for b, b for c and c for b."""
+
+    A, B, C = (VehicleKey('KIT', name) for name in 'abc')
+
+    def setUp(self):
+        self.circles = Circles(120.0)
+        self.b, self.c = Wait(self.B, 'o2', 'N2', 'node N3', self.C, True), Wait(self.C, 'o3', 'N3', 'edge E', self.B, True)
+        self.waits = [Wait(self.A, 'o1', 'N1', 'node N2', self.B, False), self.b, self.c]
+
+    def look(self, now, excused=()):
+        self.circles.look(self.waits, excused, now)
+
+    def test_one_that_lasts(self):
+        self.look(10.0, ['KIT/a'])
+        self.look(130.0)
+        text = '^a circle since 121 s: KIT/b waits at N2 for node N3, which KIT/c holds; KIT/c waits at N3 for edge E, which KIT/b holds$'
+        with self.assertRaisesRegex(Wrong, text):
+            self.look(131.0)
+
+    def test_one_that_is_excused(self):
+        """As long as one in it is paused; then its time begins."""
+        self.look(0.0)
+        self.look(100.0, ['KIT/c'])
+        self.look(110.0)
+        self.look(230.0)
+        self.assertEqual(self.circles.longest, 120.0)
+        with self.assertRaises(Wrong):
+            self.look(231.0)
+
+    def test_one_that_ends(self):
+        """Between the two c does not wait, so b does not wait for itself."""
+        self.look(0.0)
+        self.waits = [self.waits[0], dataclasses.replace(self.b, in_circle=False)]
+        self.look(100.0)
+        self.waits = [self.b, self.c]
+        self.look(110.0)
+        self.look(230.0)
+        self.assertEqual(self.circles.longest, 120.0)
+
+    def test_two(self):
+        d, e = (VehicleKey('KIT', name) for name in 'de')
+        others = [Wait(e, 'o5', 'N5', 'node N4', d, True), Wait(d, 'o4', 'N4', 'node N5', e, True)]
+        self.assertEqual(circles([*self.waits, *others]), [(self.b, self.c), tuple(others[::-1])])
 
 
 class TheFloors(unittest.TestCase):

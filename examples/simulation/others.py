@@ -15,20 +15,24 @@ from nulvrader.layouts import Layout
 from nulvrader.names import new_reference
 
 
-class FreeTrack(Judge):
-    """Releases whatever is free, without the look. Vehicles that are released so come to stand for good."""
+class NoLook(Judge):
+    """Makes no look, and keeps to all else: an order is given where nobody stands on its way and nobody else's ends where it does, and
+    track is released as soon as it is free. So vehicles come to wait for each other, and nobody finds out."""
 
-    def is_open(self, traffic: Traffic, vehicle: str, way: Way) -> bool:
-        return True
+    def finish_now(self, traffic: Traffic) -> frozenset[str]:
+        return frozenset(traffic.all_ways())
+
+    def finish_later(self, traffic: Traffic) -> frozenset[str]:
+        return frozenset(traffic.ways_later())
 
     def may_release(self, traffic: Traffic, vehicle: str, nodes: int) -> bool:
         return True
 
     def plainly(self, traffic: Traffic, vehicle: str, way: Way) -> bool | None:
-        return True
+        return self.is_open(traffic, vehicle, way) and all(other[-1] != way[-1] for other in traffic.ways.values())
 
     def may_start(self, traffic: Traffic, vehicle: str, way: Way) -> bool:
-        return True
+        return bool(self.plainly(traffic, vehicle, way))
 
 
 class FirstCome:

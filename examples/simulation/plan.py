@@ -71,6 +71,7 @@ class Plan:
     every: float = 1.0  # seconds between two turns of the dispatcher
     audit: float = 5.0  # seconds between two looks at what the desk holds
     stands: float = 1800.0  # where no vehicle has moved for so many seconds although there are jobs, the plant stands for good
+    circle: float = 120.0  # where vehicles have waited for each other for longer, it is wrong
     limit: float = 200_000.0  # seconds until the plant is given up
     pace: float | None = None
 

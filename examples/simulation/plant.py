@@ -6,24 +6,24 @@ import random
 import re
 import sqlite3
 import time
-from collections import Counter
 from collections.abc import Callable, Mapping
-from dataclasses import dataclass, field
 from typing import Protocol
 
-from nulvrader.client import Answer, Desk, NoAnswer
+from nulvrader.client import Desk, NoAnswer
 from nulvrader.names import VehicleKey
+from nulvrader.questions import who_waits
 from nulvrader.reports import read_holds, read_loads
 
 from .clock import Clock
-from .desks import PATIENCE, Served, Wire, Wired
+from .day import TIME_OVER, Day
+from .desks import PATIENCE, Killed, Mortal, Served, Wired
 from .floors import FLOORS
 from .gateways import Gateway
 from .people import People
 from .plan import Plan
 from .truth import Given, Goods, Track, Wrong
 from .vehicles import Vehicle
-
+from .watch import Circles
 
 
 class Dispatching(Protocol):
@@ -32,50 +32,6 @@ class Dispatching(Protocol):
     def turn(self) -> bool: ...
 
     def waits(self) -> Mapping[str, str]: ...
-
-
-@dataclass
-class Day:
-    """What a run has shown. Times are in seconds of the plant, but `real`."""
-
-    seconds: float = 0.0
-    real: float = 0.0
-    done: int = 0
-    stopped: dict[str, str] = field(default_factory=dict)  # by job why
-    stands: str | None = None  # where the plant stood for good: who waits for what
-    waited: dict[str, float] = field(default_factory=dict)  # by vehicle, with an order and nothing to do
-    ordered: dict[str, float] = field(default_factory=dict)  # by vehicle, with an order
-    longest: float = 0.0
-    counts: Counter[str] = field(default_factory=Counter)
-
-    def per_hour(self) -> float:
-        return self.done * 3600 / self.seconds
-
-    def waiting(self) -> float:
-        """Which part of the time with an order the vehicles waited, from 0 to 1."""
-        return sum(self.waited.values()) / (sum(self.ordered.values()) or 1)
-
-
-class Killed(Exception):
-    """The dispatcher was killed amid its turn."""
-
-
-class Mortal(Wired):
-    """The client of a dispatcher that may be killed: before a request is sent, or before its answer has come."""
-
-    def __init__(self, wire: Wire) -> None:
-        super().__init__(wire)
-        self.left: int | None = None
-
-    def ask(self, method: str, target: str, body: bytes | None = None) -> Answer:
-        if self.left is not None:
-            self.left -= 1
-            if self.left < 0:
-                raise Killed
-        told = super().ask(method, target, body)
-        if self.left == 0:
-            raise Killed
-        return told
 
 
 class Plant:
@@ -103,7 +59,9 @@ class Plant:
         self.dispatcher: Dispatching | None = None
         self.mortal: Mortal | None = None
         self.day = Day()
+        self.circles = Circles(plan.circle)
         self.since: dict[str, float] = {}  # since when each vehicle waits
+        self.heard: dict[str, str] = {}  # by vehicle the last line of the dispatcher
         self.over, self.fetches = False, 0
         self.cancelled: set[str] = set()  # the orders that the dispatcher has cancelled
         self.people = People(
@@ -162,7 +120,7 @@ class Plant:
             self.begin()
             self.clock.run(lambda: self.over or self.clock.now > self.plan.limit)
             if not self.over:
-                self.day.stands = 'the time was over'
+                self.day.stands = TIME_OVER
             self.day.seconds = self.clock.now
             self.day.real = time.monotonic() - begun
             self.served.settle()
@@ -179,6 +137,7 @@ class Plant:
         clock.every(1.0, self.fetch)
         clock.every(1.0, self.measure)
         clock.every(self.plan.audit, self.audit, self.plan.audit)
+        clock.every(10.0, self.look_for_circles, 10.0)
         clock.every(10.0, self.look_for_end, 60.0)
         clock.every(2.0, self.served.supervise)
         if self.make is not None:
@@ -205,6 +164,10 @@ class Plant:
         said = re.search(r': cancels order (\S+), of ', line)
         if said:
             self.cancelled.add(said.group(1))
+            self.day.counts['orders cancelled by the dispatcher'] += 1
+        about = re.match(r'(\S+/\S+?):? (.*)', line)
+        if about:
+            self.heard[about.group(1)] = about.group(2)
         self.say(line)
 
     def kill_dispatcher(self) -> None:
@@ -241,7 +204,12 @@ class Plant:
                 continue
             self.day.waited[name] = self.day.waited.get(name, 0.0) + 1
             since = self.since.setdefault(name, self.clock.now)
-            self.day.longest = max(self.day.longest, self.clock.now - since)
+            self.day.has_waited(name, since, self.clock.now, self.why_waits(name))
+
+    def why_waits(self, name: str) -> str:
+        """Why a vehicle waits, as the dispatcher says, or what it has said of it last."""
+        told = self.waits() or {}
+        return told[name] if name in told else self.heard.get(name, 'nobody says why')
 
     def audit(self) -> None:
         """Each vehicle is on what the desk holds for it, and each load in one place."""
@@ -258,6 +226,15 @@ class Plant:
             if str(holds.edges.get(edge)) != name or str(holds.nodes.get(ahead)) != name:
                 raise Wrong('%s drives along %s, and the desk does not hold it and %s for it' % (name, edge, ahead))
         self.day.counts['audits'] += 1
+
+    def look_for_circles(self) -> None:
+        """No vehicles wait for each other for long. One that is paused, not ready or silent goes on for no other."""
+        excused = {name for name, one in self.vehicles.items() if one.paused or one.in_service or one.by_hand or not self.gateways[name].up}
+        try:
+            waits = who_waits(self.desk)
+        except NoAnswer:
+            return
+        self.circles.look(waits, excused, self.clock.now)
 
     def look_for_end(self) -> None:
         """Whether all jobs have ended, or nothing has moved for long."""
@@ -305,6 +282,7 @@ class Plant:
         for job, (load, target, phase) in jobs.items():
             if phase == 'stopped':
                 self.day.stopped[job] = self.why_stopped(job, load, target)
+        self.day.circle = self.circles.longest
         self.day.counts.update(self.people.counts)
         self.day.counts['starts of the desk'] = self.served.starts
         self.day.counts['states posted'] = sum(gateway.posted for gateway in self.gateways.values())

@@ -12,11 +12,12 @@ from nulvrader.dispatch.dispatcher import Dispatcher, Settings
 from nulvrader.dispatch.traffic import Judge
 from nulvrader.layouts import Layout
 
+from .day import Day
 from .desks import Served
 from .floors import FLOORS
-from .others import FirstCome, FreeTrack
+from .others import FirstCome, NoLook
 from .plan import Plan
-from .plant import Day, Dispatching, Plant
+from .plant import Dispatching, Plant
 
 DISPATCHERS = {
     'look': 'that of tools/dispatch',
@@ -34,7 +35,7 @@ def maker(kind: str, layout: Layout, notes: str) -> Maker:
     def make(desk: Desk, say: Callable[[str], None], clock: Callable[[], float]) -> Dispatching:
         if kind == 'whole':
             return FirstCome(desk, layout, say=say, clock=clock)
-        judge = FreeTrack() if kind == 'free' else Judge()
+        judge = NoLook() if kind == 'free' else Judge()
         return Dispatcher(desk, layout, Settings(silent=SILENT), judge=judge, notes=notes, say=say, clock=clock)
 
     return make
@@ -71,6 +72,7 @@ def told(day: Day) -> list[str]:
         '%.0f jobs an hour; vehicles with an order waited for %.0f %% of that time, the longest wait was %.0f s' % (
             day.per_hour(), 100 * day.waiting(), day.longest),
     ]
+    lines += ['vehicles waited for each other for %.0f s at most' % day.circle, *day.longest_waits()]
     lines += ['stopped: %d because %s' % (count, why) for why, count in sorted(reasons.items())]
     lines += ['%s: %d' % one for one in sorted(day.counts.items())]
     return lines if day.stands is None else [*lines, 'it stands: %s' % day.stands]

@@ -1,0 +1,46 @@
+"""What a run of a plant has shown."""
+from __future__ import annotations
+
+from collections import Counter
+from dataclasses import dataclass, field
+
+LONG = 300.0
+"""A wait of more seconds is kept with its reason."""
+
+TIME_OVER = 'the time was over'
+"""Why a plant stands that has only run as long as it was to."""
+
+
+@dataclass
+class Day:
+    """What a run has shown. Times are in seconds of the plant, but `real`."""
+
+    seconds: float = 0.0
+    real: float = 0.0
+    done: int = 0
+    stopped: dict[str, str] = field(default_factory=dict)  # by job why
+    stands: str | None = None  # where the plant stood for good: who waits for what
+    waited: dict[str, float] = field(default_factory=dict)  # by vehicle, with an order and nothing to do
+    ordered: dict[str, float] = field(default_factory=dict)  # by vehicle, with an order
+    longest: float = 0.0
+    long: dict[tuple[str, float], tuple[float, str]] = field(default_factory=dict)  # by vehicle and beginning how long, and why at last
+    circle: float = 0.0  # how long vehicles waited for each other at most
+    counts: Counter[str] = field(default_factory=Counter)
+
+    def per_hour(self) -> float:
+        return self.done * 3600 / self.seconds
+
+    def waiting(self) -> float:
+        """Which part of the time with an order the vehicles waited, from 0 to 1."""
+        return sum(self.waited.values()) / (sum(self.ordered.values()) or 1)
+
+    def has_waited(self, vehicle: str, since: float, now: float, why: str) -> None:
+        """A vehicle with an order still waits, and that is why."""
+        self.longest = max(self.longest, now - since)
+        if now - since > LONG:
+            self.long[vehicle, since] = now - since, why
+
+    def longest_waits(self, count: int = 5) -> list[str]:
+        """The longest of the waits that were kept, in lines."""
+        rows = sorted(self.long.items(), key=lambda row: -row[1][0])[:count]
+        return ['%s waited for %.0f s from %.0f s on: %s' % (vehicle, seconds, since, why) for (vehicle, since), (seconds, why) in rows]

@@ -1,0 +1,43 @@
+"""What is watched while a plant runs: circles of vehicles that wait for each other's track."""
+from __future__ import annotations
+
+from collections.abc import Collection, Sequence
+
+from nulvrader.questions import Wait
+
+from .truth import Wrong
+
+Circle = tuple[Wait, ...]
+"""Vehicles each of which waits for track that the next one holds, and the last for the first: none of them gets free by itself."""
+
+
+def circles(waits: Sequence[Wait]) -> list[Circle]:
+    """The circles among what the desk shows, each from the vehicle of the least name on."""
+    left = {wait.vehicle: wait for wait in waits if wait.in_circle}
+    found = []
+    while left:
+        circle = [left.pop(min(left))]
+        while circle[-1].by in left:
+            circle.append(left.pop(circle[-1].by))
+        found.append(tuple(circle))
+    return found
+
+
+class Circles:
+    """The circles of a plant, and since when each lasts. One that lasts longer than `most` seconds is `Wrong`: orders and released track
+    alone have made it, and nothing but a cancel ends it."""
+
+    def __init__(self, most: float) -> None:
+        self.most, self.longest = most, 0.0
+        self._since: dict[Circle, float] = {}
+
+    def look(self, waits: Sequence[Wait], excused: Collection[str], now: float) -> None:
+        """Takes who waits for whom in this moment. The time of a circle begins anew where one in it is excused: it does not go on for
+        another reason."""
+        found = [circle for circle in circles(waits) if not any(str(wait.vehicle) in excused for wait in circle)]
+        self._since = {circle: self._since.get(circle, now) for circle in found}
+        for circle, since in self._since.items():
+            self.longest = max(self.longest, now - since)
+            if now - since > self.most:
+                told = ('%s waits at %s for %s, which %s holds' % (wait.vehicle, wait.at, wait.what, wait.by) for wait in circle)
+                raise Wrong('a circle since %.0f s: %s' % (now - since, '; '.join(told)))
